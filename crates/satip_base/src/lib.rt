@@ -3,8 +3,10 @@
 
 mod identity;
 mod network;
+mod numbers;
 mod outcomes;
 
 pub use identity::{Draw, SessionId};
 pub use network::{Address, Peer, Ports};
+pub use numbers::{read_ip, read_number};
 pub use outcomes::{Failed, Spent, Want};
