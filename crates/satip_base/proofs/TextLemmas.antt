@@ -94,3 +94,6 @@ id_of-id_text id small_count small_word =
 
 -- what printing an id needs
 pub ruleset printed_ids = (id_of-id_text, length-id_text)
+
+-- the bounds of these texts, for a writer that needs room
+pub ruleset text_bounds = (length-address_text-le, length-address_text-ge, length-id_text)
