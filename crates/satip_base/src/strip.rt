@@ -1,0 +1,65 @@
+//! A short text on the stack.
+
+ghost use Rattle.std.specs.Prelude.{◌≡◌, ◌+◌, ◌≤◌, [], length, decimal};
+ghost use Rattle.satip_base.specs.Printed.{Printed};
+ghost use Rattle.satip_base.specs.Texts.{address_text};
+
+use itoa::Buffer;
+use std::marker::Model;
+
+const ROOM: usize = 1600;
+
+/// A list of at most 1600 bytes. It takes no memory beside its own.
+#[derive(Drop)]
+pub struct Strip {
+    room: [u8; ROOM],
+    count: usize,
+}
+
+impl Model for Strip {
+    ghost use Rattle.std.specs.Prelude.{List, ℕ, take, ◌≤◌};
+
+    ghost Value = { List ℕ };
+
+    ghost view = { λ s. take s.count s.room };
+
+    ghost invariant = { λ s. s.count ≤ 1600 };
+}
+
+impl Strip {
+    /// An empty strip.
+    pub fn new() -> Strip
+        ensures empty { result ≡ [] }
+    {
+        Strip {
+            room: [0; ROOM],
+            count: 0,
+        }
+    }
+
+    /// What is printed onto it.
+    pub fn bytes(&self) -> &[u8]
+        ensures bytes { result.now ≡ self.now }
+        ensures limit { length self.now ≤ 1600 }
+    {
+        &self.room[..self.count]
+    }
+
+    /// Appends bytes.
+    pub fn write(&mut self, bytes: &[u8])
+        requires room { length self.old + length bytes.now ≤ 1600 }
+        ensures printed { Printed self.old bytes.now self.new }
+    {
+        let end = self.count + bytes.len();
+        self.room[self.count..end].copy_from_slice(bytes);
+        self.count = end;
+    }
+
+    /// Appends a number, in decimal.
+    pub fn write_number(&mut self, number: u64)
+        requires room { length self.old + length (decimal number) ≤ 1600 }
+        ensures printed { Printed self.old (decimal number) self.new }
+    {
+        self.write(Buffer::new().format(number).as_bytes());
+    }
+}
