@@ -2,3 +2,4 @@ pub mod NumberLemmas
 pub mod TextLemmas
 pub mod OutLemmas
 pub mod Writing
+pub mod StreamLemmas

@@ -3,3 +3,4 @@ pub mod Texts
 pub mod Output
 pub mod OutFields
 pub mod Printed
+pub mod Streams

@@ -1,0 +1,142 @@
+//! Sources and sinks over the standard streams and files. They tell nothing of content.
+
+ghost use Rattle.std.specs.Prelude.{◌≡◌, ◌≤◌, length, IfSome};
+
+use crate::streams::{Put, Sink, Source, Taken};
+use crate::tally::Tally;
+use std::io::{ErrorKind, Read, Write};
+use std::marker::Model;
+
+// How often a call that a signal interrupts is tried again.
+const TRIES: u32 = 1000;
+
+/// What a reader gives: standard input, or a file.
+#[derive(Drop)]
+pub struct ReadSource<R: Read + Drop> {
+    reader: R,
+    ended: bool,
+    faults: u64,
+    tally: Tally,
+}
+
+impl<R: Read + Drop> Model for ReadSource<R> {
+    ghost use Rattle.std.specs.Prelude.{[]};
+    ghost use Rattle.satip_base.specs.Streams.{Feed};
+
+    ghost Value = { Feed };
+
+    ghost view = { λ s. record { left = []; ended = s.ended; faults = s.faults; taken = s.tally.bytes } };
+}
+
+impl<R: Read + Drop> ReadSource<R> {
+    ghost use Rattle.std.specs.Prelude.{[]};
+    ghost use Rattle.satip_base.specs.Streams.{fresh_feed};
+
+    /// A source of what the reader has left.
+    pub fn new(reader: R) -> ReadSource<R>
+        ensures fresh { result ≡ fresh_feed [] }
+    {
+        ReadSource {
+            reader,
+            ended: false,
+            faults: 0,
+            tally: Tally::new(),
+        }
+    }
+}
+
+impl<R: Read + Drop> Source for ReadSource<R> {
+    ghost use Rattle.std.specs.Prelude.{[]};
+
+    ghost tells = { ⊥ };
+
+    ghost left = { λ _. [] };
+
+    ghost ended = { λ s. s.ended };
+
+    ghost faults = { λ s. s.faults };
+
+    ghost taken = { λ s. s.taken };
+
+    fn take(&mut self, buf: &mut [u8]) -> Taken {
+        if self.ended {
+            return Taken::End;
+        }
+        match read_some(&mut self.reader, buf) {
+            Some(0) => {
+                self.ended = true;
+                Taken::End
+            }
+            Some(count) => {
+                self.tally = Tally::with(&self.tally, &(count as u64));
+                Taken::Got(count)
+            }
+            None => {
+                self.faults = self.faults.saturating_add(1);
+                Taken::Failed
+            }
+        }
+    }
+}
+
+// How many bytes a read gave, or `None` where it failed.
+fn read_some<R: Read>(reader: &mut R, buf: &mut [u8]) -> Option<usize>
+    ensures within { IfSome result (λ count. count ≤ length buf.new) }
+{
+    for _ in 0..TRIES {
+        match reader.read(buf) {
+            Ok(count) => return Some(count),
+            Err(error) => {
+                if error.kind() != ErrorKind::Interrupted {
+                    return None;
+                }
+            }
+        }
+    }
+    None
+}
+
+/// What a writer is given: standard output, or standard error.
+#[derive(Drop)]
+pub struct WriteSink<W: Write + Drop> {
+    writer: W,
+    faults: u64,
+}
+
+impl<W: Write + Drop> Model for WriteSink<W> {
+    ghost use Rattle.std.specs.Prelude.{[]};
+    ghost use Rattle.satip_base.specs.Streams.{Drain};
+
+    ghost Value = { Drain };
+
+    ghost view = { λ s. record { sent = []; faults = s.faults } };
+}
+
+impl<W: Write + Drop> WriteSink<W> {
+    ghost use Rattle.satip_base.specs.Streams.{fresh_drain};
+
+    /// A sink that hands on to the writer.
+    pub fn new(writer: W) -> WriteSink<W>
+        ensures fresh { result ≡ fresh_drain }
+    {
+        WriteSink { writer, faults: 0 }
+    }
+}
+
+impl<W: Write + Drop> Sink for WriteSink<W> {
+    ghost use Rattle.std.specs.Prelude.{[]};
+
+    ghost tells = { ⊥ };
+
+    ghost sent = { λ _. [] };
+
+    ghost faults = { λ s. s.faults };
+
+    fn put(&mut self, bytes: &[u8]) -> Put {
+        if self.writer.write_all(bytes).is_ok() && self.writer.flush().is_ok() {
+            return Put::Whole;
+        }
+        self.faults = self.faults.saturating_add(1);
+        Put::Failed
+    }
+}

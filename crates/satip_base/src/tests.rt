@@ -1,0 +1,122 @@
+//! Each public function once, on values from outside.
+
+use crate::*;
+use std::test::Fail;
+
+#[test]
+fn numbers_have_one_to_twenty_digits(rt: HostRuntime) {
+    assert_eq!(rt; read_number(b"0070", 70), Some(70));
+    assert_eq!(rt; read_number(b"71", 70), None);
+    assert_eq!(rt;
+        read_number(b"18446744073709551615", u64::MAX),
+        Some(u64::MAX)
+    );
+    assert_eq!(rt; read_number(b"18446744073709551616", u64::MAX), None);
+    assert_eq!(rt; read_number(b"000000000000000000001", u64::MAX), None);
+    assert_eq!(rt; read_number(b"", 9), None);
+    assert_eq!(rt; read_number(b"+1", 9), None);
+}
+
+#[test]
+fn addresses_have_four_numbers(rt: HostRuntime) {
+    assert_eq!(rt; read_ip(b"127.0.0.1"), Some(0x7f00_0001));
+    assert_eq!(rt; read_ip(b"192.168.001.254"), Some(0xc0a8_01fe));
+    assert_eq!(rt; read_ip(b"256.0.0.1"), None);
+    assert_eq!(rt; read_ip(b"1.2.3"), None);
+    assert_eq!(rt; read_ip(b"1.2.3.4.5"), None);
+    assert_eq!(rt; read_ip(b"1..3.4"), None);
+    assert_eq!(rt; read_ip(b"0001.2.3.4"), None);
+}
+
+#[test]
+fn session_ids_are_sixteen_lower_case_digits(rt: HostRuntime) {
+    let id = SessionId {
+        count: 1,
+        word: 0xdead_beef,
+    };
+    assert!(rt; id.text() == *b"00000001deadbeef");
+    assert_eq!(rt; SessionId::read(b"00000001deadbeef"), Some(id));
+    assert_eq!(rt; SessionId::read(b"00000001DEADBEEF"), None);
+    assert_eq!(rt; SessionId::read(b"1deadbeef"), None);
+}
+
+#[test]
+fn an_out_keeps_a_reply_and_datagrams(rt: HostRuntime) -> Result<(), Fail> {
+    let mut out = Out::make(rt.alloc())?;
+    let to = Address {
+        ip: 0x7f00_0001,
+        port: 5000,
+    };
+    out.write(b"CSeq: ");
+    out.write_number(7);
+    out.write(b" ");
+    out.write_address(0xc0a8_0102);
+    out.begin(to);
+    out.extend(b"abc");
+    out.extend(b"def");
+    out.begin(to);
+    assert_eq!(rt; out.reply(), b"CSeq: 7 192.168.1.2".as_slice());
+    assert_eq!(rt; out.count(), 2);
+    let Some((address, bytes)) = out.datagram(0) else {
+        return Err(Fail::from("no datagram"));
+    };
+    assert!(rt; address == to);
+    assert_eq!(rt; bytes, b"abcdef".as_slice());
+    assert!(rt; out.datagram(2).is_none());
+    out.clear();
+    assert_eq!(rt; out.count(), 0);
+    out.write_id(SessionId { count: 2, word: 3 });
+    assert_eq!(rt; out.reply(), b"0000000200000003".as_slice());
+    Ok(())
+}
+
+#[test]
+fn a_strip_keeps_what_is_printed(rt: HostRuntime) {
+    let mut strip = Strip::new();
+    strip.write(b"src=");
+    strip.write_number(12);
+    assert_eq!(rt; strip.bytes(), b"src=12".as_slice());
+}
+
+#[test]
+fn a_text_keeps_its_bytes(rt: HostRuntime) -> Result<(), Fail> {
+    let text = Text::of(rt.alloc(), "talk")?;
+    assert_eq!(rt; text.bytes(), b"talk".as_slice());
+    Ok(())
+}
+
+#[test]
+fn a_memory_source_gives_pieces_and_fails_when_told(rt: HostRuntime) -> Result<(), Fail> {
+    let mut source = MemorySource::make(rt.alloc(), b"abcdef", &[2], &[2])?;
+    let mut buf = [0u8; 3];
+    assert_eq!(rt; source.take(&mut buf), Taken::Got(2));
+    assert_eq!(rt; source.take(&mut buf), Taken::Failed);
+    assert_eq!(rt; source.take(&mut buf), Taken::Got(3));
+    assert!(rt; buf == *b"cde");
+    assert_eq!(rt; source.take(&mut buf), Taken::Got(1));
+    assert_eq!(rt; source.take(&mut buf), Taken::End);
+    assert_eq!(rt; source.take(&mut buf), Taken::End);
+    Ok(())
+}
+
+#[test]
+fn a_memory_sink_keeps_what_is_put_and_fails_when_told(rt: HostRuntime) -> Result<(), Fail> {
+    let mut sink = MemorySink::make(rt.alloc(), &[2], 1)?;
+    assert_eq!(rt; sink.put(b"ab"), Put::Whole);
+    assert_eq!(rt; sink.put(b"cd"), Put::Failed);
+    assert_eq!(rt; sink.put(b"ef"), Put::Whole);
+    assert_eq!(rt; sink.sent(), b"abcef".as_slice());
+    Ok(())
+}
+
+#[test]
+fn the_adapters_read_and_write(rt: HostRuntime) -> Result<(), Fail> {
+    let mut source = ReadSource::new(b"ab".as_slice());
+    let mut buf = [0u8; 4];
+    assert_eq!(rt; source.take(&mut buf), Taken::Got(2));
+    assert!(rt; buf == *b"ab\0\0");
+    assert_eq!(rt; source.take(&mut buf), Taken::End);
+    let mut sink = WriteSink::new(std::io::sink());
+    assert_eq!(rt; sink.put(b"ab"), Put::Whole);
+    Ok(())
+}
