@@ -1,5 +1,5 @@
 -- Pieces of a text.
-use Rattle.std.proofs.Common.{◌≡◌, ℕ, ◌+◌, ◌-◌, ◌<◌, ◌≤◌, List, ◌++◌, length, length-take, length-drop, take, drop, slice_range, arith, sym, ◌∙◌, ap}
+use Rattle.std.proofs.Common.{◌≡◌, ℕ, ◌+◌, ◌≤◌, List, ◌++◌, length, length-take, length-drop, take, drop, slice_range, arith, sym, ◌∙◌, ap}
 use Rattle.std.proofs.lemmas.List.{take_at, take-append-drop, drop-drop}
 
 -- a piece in front of the buffer, and what is left behind it

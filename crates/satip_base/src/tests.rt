@@ -41,6 +41,7 @@ fn session_ids_are_sixteen_lower_case_digits(rt: HostRuntime) {
 }
 
 #[test]
+#[tactic(auto, using(crate::proofs::NumberLemmas::digit_bounds, crate::proofs::TextLemmas::text_bounds))]
 fn an_out_keeps_a_reply_and_datagrams(rt: HostRuntime) -> Result<(), Fail> {
     let mut out = Out::make(rt.alloc())?;
     let to = Address {
@@ -71,6 +72,7 @@ fn an_out_keeps_a_reply_and_datagrams(rt: HostRuntime) -> Result<(), Fail> {
 }
 
 #[test]
+#[tactic(auto, using(crate::proofs::NumberLemmas::digit_bounds, crate::proofs::TextLemmas::text_bounds))]
 fn a_strip_keeps_what_is_printed(rt: HostRuntime) {
     let mut strip = Strip::new();
     strip.write(b"src=");

@@ -1,4 +1,4 @@
-use Rattle.std.proofs.Common.{arith, refl, ◌∙◌, ap, ◌≡◌, ◌≤◌, ◌+◌, ◌-◌, length, length-append, drop, take, slice_range, ℕ, List}
+use Rattle.std.proofs.Common.{arith, refl, ◌≡◌, ◌≤◌, ◌+◌, length, length-append, drop, slice_range, ℕ}
 use Rattle.satip_base.proofs.StreamLemmas.{piece_taken}
 use Rattle.satip_base.proofs.memory.MemorySourceSource.take.Goals as goal
 
