@@ -1,0 +1,4 @@
+pub mod Packing
+pub mod PidTexts
+pub mod RisingLists
+pub mod Sets

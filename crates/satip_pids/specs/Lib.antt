@@ -1,0 +1,6 @@
+pub mod Packed
+pub mod Pids
+pub mod Rising
+pub mod Texts
+pub mod Unpacked
+pub mod Which

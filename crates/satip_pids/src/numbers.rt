@@ -1,0 +1,80 @@
+//! A list of numbers in a fixed array.
+
+ghost use Rattle.std.specs.Prelude.{◌≡◌, ◌+◌, ◌<◌, ◌≤◌, ◌↔◌, ℕ, List, [], ◌∷◌, ◌++◌, length, insert, IsTrue};
+
+use std::marker::Model;
+
+/// Up to `ROOM` numbers, kept at the front of an array; the places behind them hold zero.
+#[derive(Clone, Copy, Debug, PartialEq, Eq)]
+pub struct Numbers<const ROOM: usize> {
+    places: [u16; ROOM],
+    count: usize,
+}
+
+impl<const ROOM: usize> Model for Numbers<ROOM> {
+    ghost use Rattle.std.specs.Prelude.{ℕ, List, take, ◌++◌, ◌-◌, length, replicate};
+    ghost use Rattle.satip_pids.specs.Packed.{IsPacked};
+
+    ghost Value = { List ℕ };
+
+    ghost view = { λ s. take s.count s.places };
+
+    ghost invariant = { λ s. IsPacked ROOM s.places s.count };
+
+    ghost inverse = { λ xs. record { places = xs ++ replicate (ROOM - length xs) 0; count = length xs } };
+
+    ghost use Rattle.satip_pids.specs.Unpacked.{unpacked};
+
+    ghost inverse_ok = { λ s packed. unpacked ROOM s packed };
+}
+
+impl<const ROOM: usize> Numbers<ROOM> {
+    pub fn new() -> Self
+        ensures empty { result ≡ [] }
+    {
+        Numbers {
+            places: [0; ROOM],
+            count: 0,
+        }
+    }
+
+    pub fn as_slice(&self) -> &[u16]
+        ensures numbers { result.now ≡ self.now }
+        ensures within { length self.now ≤ ROOM }
+    {
+        &self.places[..self.count]
+    }
+
+    pub fn is_full(&self) -> bool
+        ensures full { IsTrue result ↔ (length self.now ≡ ROOM) }
+        ensures within { length self.now ≤ ROOM }
+    {
+        self.count == ROOM
+    }
+
+    pub fn push(&mut self, number: u16)
+        requires room { length self.old < ROOM }
+        ensures added { self.new ≡ self.old ++ number ∷ [] }
+    {
+        self.places[self.count] = number;
+        self.count += 1;
+    }
+
+    /// Puts a number at a place; those from there on move up by one.
+    pub fn insert(&mut self, place: usize, number: u16)
+        requires within { place ≤ length self.old }
+        requires room { length self.old < ROOM }
+        ensures added { self.new ≡ insert self.old place number }
+    {
+        self.push(number);
+        last_to(&mut self.places[..self.count], place);
+    }
+}
+
+// Moves the last number to a place, and the numbers from there on up by one.
+fn last_to(numbers: &mut [u16], place: usize)
+    requires { place < length numbers.old }
+    ensures { (front : List ℕ) (last : ℕ) → numbers.old ≡ front ++ last ∷ [] → numbers.new ≡ insert front place last }
+{
+    numbers[place..].rotate_right(1);
+}

@@ -1,0 +1,90 @@
+ghost use Rattle.std.specs.Prelude.{◌≡◌, ◌≤◌, [], ◌∷◌, Ok, Err, Some, None};
+ghost use Rattle.satip_pids.specs.Pids.{Pids, Every, Only, AllPids, Unsaid, Listed, set_pids, apply};
+
+use crate::{PidFault, PidList, PidSet};
+use satip_base::Strip;
+
+// The PIDs below a number, and in front of them those that are given.
+fn pids_below(end: u16, front: &[u16]) -> PidList
+    requires below { end ≤ 8192 }
+{
+    let mut list = PidList::new();
+    for pid in front {
+        list.push(*pid % 8192);
+    }
+    for pid in 0..end {
+        list.push(pid);
+    }
+    list
+}
+
+// Numbers go into their places, each once; the first fault counts.
+fn changes_go_in_order()
+    ensures sorted { set_pids (17 ∷ 0 ∷ 16 ∷ 17 ∷ []) ≡ Ok (Only (0 ∷ 16 ∷ 17 ∷ [])) }
+    ensures all_three { apply Every (Listed (16 ∷ 0 ∷ [])) (Some (18 ∷ 17 ∷ [])) (Some (0 ∷ 18 ∷ 9 ∷ [])) ≡ Ok (Only (16 ∷ 17 ∷ [])) }
+    ensures all_with_remove { apply (Only (1 ∷ [])) AllPids None (Some (16 ∷ [])) ≡ Err PidFault.UnderAll }
+    ensures none_said { apply (Only (1 ∷ [])) Unsaid None None ≡ Ok (Only (1 ∷ [])) }
+    ensures none_listed { apply Every (Listed []) None None ≡ Ok (Only []) }
+{}
+
+#[test]
+fn a_set_has_what_was_listed(rt: HostRuntime) {
+    changes_go_in_order();
+    let mut set = PidSet::new();
+    assert_eq!(rt; set.set(&[17, 0, 16, 17]), Ok(()));
+    assert_eq!(rt; set.add(&[100, 16]), Ok(()));
+    assert_eq!(rt; set.remove(&[0, 101]), Ok(()));
+    assert!(rt; set.has(16) && set.has(17) && set.has(100));
+    assert!(rt; !set.has(0) && !set.has(18) && !set.has(101));
+}
+
+#[test]
+fn a_set_of_all_refuses_to_remove(rt: HostRuntime) {
+    let mut set = PidSet::new();
+    set.set_all();
+    assert_eq!(rt; set.add(&[16]), Ok(()));
+    assert_eq!(rt; set.remove(&[16]), Err(PidFault::UnderAll));
+    assert!(rt; set.has(16) && set.has(8191));
+    assert_eq!(rt; set.set(&[]), Ok(()));
+    assert_eq!(rt; set, PidSet::new());
+}
+
+#[test]
+fn a_set_lists_256_pids_and_no_more(rt: HostRuntime) {
+    let mut set = PidSet::new();
+    assert_eq!(rt; set.set(pids_below(256, &[255, 3]).as_slice()), Ok(()));
+    let before = set;
+    assert_eq!(rt; set.add(&[256]), Err(PidFault::TooMany));
+    assert_eq!(rt;
+        set.set(pids_below(257, &[]).as_slice()),
+        Err(PidFault::TooMany)
+    );
+    assert_eq!(rt; set, before);
+    assert_eq!(rt; set.add(&[0, 255]), Ok(()));
+    assert_eq!(rt; set, before);
+}
+
+#[test]
+fn a_list_has_room_for_512(rt: HostRuntime) {
+    let mut list = pids_below(511, &[]);
+    assert!(rt; list.push(8191));
+    assert!(rt; !list.push(7));
+    assert_eq!(rt; list.as_slice().len(), 512);
+    assert_eq!(rt; list.as_slice()[511], 8191);
+}
+
+fn printed(set: &PidSet) -> Strip {
+    let mut strip = Strip::new();
+    set.print(&mut strip);
+    strip
+}
+
+#[test]
+fn a_set_is_printed_in_rising_order(rt: HostRuntime) {
+    let mut set = PidSet::new();
+    assert_eq!(rt; printed(&set).bytes(), b"none".as_slice());
+    assert_eq!(rt; set.set(&[400, 8191, 0]), Ok(()));
+    assert_eq!(rt; printed(&set).bytes(), b"0,400,8191".as_slice());
+    set.set_all();
+    assert_eq!(rt; printed(&set).bytes(), b"all".as_slice());
+}

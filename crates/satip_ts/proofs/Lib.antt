@@ -1,0 +1,4 @@
+pub mod Sync
+pub mod Packets
+pub mod Places
+pub mod Runs

@@ -1,0 +1,3 @@
+pub mod Packet
+pub mod Recording
+pub mod Calls
