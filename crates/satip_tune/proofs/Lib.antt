@@ -1,0 +1,4 @@
+pub mod WordLaws
+pub mod Places
+pub mod FrequencyLemmas
+pub mod Printed

@@ -1,0 +1,6 @@
+pub mod Signal
+pub mod Tunings
+pub mod Frontends
+pub mod Words
+pub mod Pieces
+pub mod Frequency

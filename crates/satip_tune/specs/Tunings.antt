@@ -1,0 +1,73 @@
+-- The tuning that a change makes, of an old tuning or of none.
+use Rattle.std.specs.Prelude.{ℕ, Bool, false, not, [], ◌∷◌, Option, None, Some, Result, Ok, Err, unwrap_or, is_some, find}
+use Rattle.std.specs.List.{list_any}
+use Rattle.std.specs.Option.{option_or}
+use Rattle.satip_tune.specs.Words.{all_keys}
+use Rattle.satip_tune.specs.declared.keys.Key.{Key}
+use Rattle.satip_tune.specs.declared.keys.Key.TheVariants.{Fe, Src, Freq, Pol as PolKey, Ro, Msys, Mtype, Plts, Sr, Fec as FecKey, Pids, Addpids, Delpids}
+use Rattle.satip_tune.specs.declared.signal.Pol.{Pol}
+use Rattle.satip_tune.specs.declared.signal.System.{System}
+use Rattle.satip_tune.specs.declared.tunings.Tuning.{Tuning}
+use Rattle.satip_tune.specs.declared.tunings.Change.{Change}
+
+-- the old tuning with each given field replaced by that of the change
+abbrev pub merge : Tuning → Change → Tuning
+merge old change = record {
+  fe = option_or change.fe old.fe;
+  src = unwrap_or change.src old.src;
+  freq = unwrap_or change.freq old.freq;
+  pol = unwrap_or change.pol old.pol;
+  ro = option_or change.ro old.ro;
+  msys = unwrap_or change.msys old.msys;
+  mtype = option_or change.mtype old.mtype;
+  plts = option_or change.plts old.plts;
+  sr = unwrap_or change.sr old.sr;
+  fec = option_or change.fec old.fec;
+}
+
+-- whether a change gives the key's field; the keys of PIDs have none
+abbrev pub gives : Change → Key → Bool
+gives change Fe = is_some change.fe
+gives change Src = is_some change.src
+gives change Freq = is_some change.freq
+gives change PolKey = is_some change.pol
+gives change Ro = is_some change.ro
+gives change Msys = is_some change.msys
+gives change Mtype = is_some change.mtype
+gives change Plts = is_some change.plts
+gives change Sr = is_some change.sr
+gives change FecKey = is_some change.fec
+gives change Pids = false
+gives change Addpids = false
+gives change Delpids = false
+
+-- whether a change gives anything
+abbrev pub gives_any : Change → Bool
+gives_any change = list_any (gives change) all_keys
+
+-- the first needed key that a change doesn't give
+abbrev pub missing : Change → Option Key
+missing change = find (λ key. not (gives change key)) (Freq ∷ PolKey ∷ Msys ∷ Sr ∷ [])
+
+-- the tuning of the given fields, where the needed ones are these; the first needed one that is absent, else
+abbrev pub founded : Change → Option ℕ → Option Pol → Option System → Option ℕ → Result Tuning Key
+founded change None pol msys sr = Err Freq
+founded change (Some freq) None msys sr = Err PolKey
+founded change (Some freq) (Some pol) None sr = Err Msys
+founded change (Some freq) (Some pol) (Some msys) None = Err Sr
+founded change (Some freq) (Some pol) (Some msys) (Some sr) = Ok (record {
+  fe = change.fe;
+  src = unwrap_or change.src 1;
+  freq = freq;
+  pol = pol;
+  ro = change.ro;
+  msys = msys;
+  mtype = change.mtype;
+  plts = change.plts;
+  sr = sr;
+  fec = change.fec;
+})
+
+-- the first tuning of a stream, made of a change alone
+abbrev pub first : Change → Result Tuning Key
+first change = founded change change.freq change.pol change.msys change.sr
