@@ -1,0 +1,2 @@
+pub mod CseqLemmas
+pub mod ReplyLemmas
