@@ -1,0 +1,291 @@
+-- Replies one after another, and what was sent of them.
+use Rattle.std.proofs.Common.{◌≡◌, ℕ, ◌+◌, ◌<◌, ◌≤◌, List, [], ◌∷◌, ◌++◌, length, map, append_assoc, append-nil, refl, sym, ◌∙◌, ap, subst, Some, Option, IsSomeAnd, None, arith, zero, suc, cond, Bool, true, false, length-drop, take, drop}
+use Rattle.std.proofs.lemmas.List.{map_push, map-append, take-append-drop}
+use Rattle.satip_base.specs.Streams.{Drain, Began, PutAll, FailedToPut}
+use Rattle.satip_frame.specs.declared.framing.Break.{Break}
+use Rattle.satip_frame.specs.Said.{Said}
+use Rattle.satip_frame.specs.Head.{IsHeadEnd}
+use Rattle.satip_frame.specs.Held.{Held}
+use Rattle.satip_frame.specs.Stream.{Tail, Unfinished, Broken, Messages, Leads, AreFirst, Begins, skip_newlines}
+use Rattle.satip_frame.proofs.StreamLemmas.{leads-append, leads_first, all_lead, broken_stays}
+use Rattle.satip_frame.proofs.ReadingLemmas.{reading_of}
+use Rattle.satip_rtsp.specs.declared.requests.Request.{Request}
+use Rattle.satip_rtsp.specs.Asked.{asked, broken}
+use Rattle.satip_core.specs.State.{State}
+use Rattle.satip_core.specs.Plain.{step}
+use Rattle.satip_program.specs.Talk.{start, replies, after, requests_of, talk_replies, tail_requests, PartlyAnswered}
+use Rattle.satip_program.specs.Hearing.{Stands, HasClosed, HasFailed}
+
+-- the replies to one list of requests after another
+replies-append : (state : State) (xs ys : List Request) → replies state (xs ++ ys) ≡ replies state xs ++ replies (after state xs) ys
+replies-append state [] ys = refl
+replies-append state (x ∷ xs) ys =
+    ap (λ (rest : List ℕ). (step state x).reply ++ rest) (replies-append (step state x).state xs ys)
+    ∙ sym (append_assoc (step state x).reply (replies (step state x).state xs) (replies (after (step state x).state xs) ys))
+
+-- the state after one list of requests after another
+after-append : (state : State) (xs ys : List Request) → after state (xs ++ ys) ≡ after (after state xs) ys
+after-append state [] ys = refl
+after-append state (x ∷ xs) ys = after-append (step state x).state xs ys
+
+-- the replies to one more request
+replies_push : (state : State) (xs : List Request) (x : Request)
+    → replies state (xs ++ x ∷ []) ≡ replies state xs ++ (step (after state xs) x).reply
+replies_push state xs x =
+    replies-append state xs (x ∷ []) ∙ ap (λ (rest : List ℕ). replies state xs ++ rest) (append-nil (step (after state xs) x).reply)
+
+-- one more request was answered
+sent_one : (tells : Type 0) (o m n : Drain) (xs : List Request) (x : Request) (state : State) → state ≡ after start xs
+    → (tells → m.sent ≡ o.sent ++ replies start xs) → PutAll tells m n (step state x).reply
+    → tells → n.sent ≡ o.sent ++ replies start (xs ++ x ∷ [])
+sent_one tells o m n xs x state served before put told =
+    put.content told
+    ∙ ap (λ (front : List ℕ). front ++ (step state x).reply) (before told)
+    ∙ append_assoc o.sent (replies start xs) (step state x).reply
+    ∙ ap (λ (s : State). o.sent ++ (replies start xs ++ (step s x).reply)) served
+    ∙ ap (λ (all : List ℕ). o.sent ++ all) (sym (replies_push start xs x))
+
+-- one more request was answered in part
+sent_part : (tells : Type 0) (o m n : Drain) (xs : List Request) (x : Request) (state : State) → state ≡ after start xs
+    → (tells → m.sent ≡ o.sent ++ replies start xs) → FailedToPut tells m n (step state x).reply
+    → tells → Began o.sent n.sent (replies start (xs ++ x ∷ []))
+sent_part tells o m n xs x state served before put told =
+    let began = put.content told in
+    let whole : replies start (xs ++ x ∷ []) ≡ (replies start xs ++ began.part) ++ began.rest =
+    replies_push start xs x
+    ∙ ap (λ (s : State). replies start xs ++ (step s x).reply) (sym served)
+    ∙ ap (λ (reply : List ℕ). replies start xs ++ reply) began.whole
+    ∙ sym (append_assoc (replies start xs) began.part began.rest) in
+    record {
+      part = replies start xs ++ began.part;
+      rest = began.rest;
+      whole = whole;
+      sent = began.sent ∙ ap (λ (front : List ℕ). front ++ began.part) (before told)
+          ∙ append_assoc o.sent (replies start xs) began.part;
+    }
+
+-- more bytes came
+pub stands_fed : (tells : Type 0) (o n : Drain) (text piece : List ℕ) (messages : List Said) (framer fed : Held) (state : State)
+    → Stands tells o n text messages framer state → fed.bytes ≡ framer.bytes ++ piece
+    → Stands tells o n (text ++ piece) messages fed state
+stands_fed tells o n text piece messages framer fed state stands bytes = record {
+  leads = rw bytes (leads-append text piece messages framer.bytes stands.leads);
+  served = stands.served;
+  faults = stands.faults;
+  sent = stands.sent;
+}
+
+-- one more message was answered
+pub stands_next : (tells : Type 0) (o m n : Drain) (text : List ℕ) (messages : List Said) (said : Said) (framer next : Held) (state : State)
+    → Stands tells o m text messages framer state → Leads text (messages ++ said ∷ []) next.bytes
+    → PutAll tells m n (step state (asked said)).reply
+    → Stands tells o n text (messages ++ said ∷ []) next (step state (asked said)).state
+stands_next tells o m n text messages said framer next state stands leads put =
+    let pushed = map_push asked messages said in
+    record {
+      leads = leads;
+      served = rw (pushed, after-append start (map asked messages) (asked said ∷ []), ← stands.served) refl;
+      faults = put.faults ∙ stands.faults;
+      sent = λ told. rw pushed (sent_one tells o m n (map asked messages) (asked said) state stands.served stands.sent put told);
+    }
+
+-- a beginning stays one when more is to come
+began_longer : (before now all more : List ℕ) → Began before now all → Began before now (all ++ more)
+began_longer before now all more began = record {
+  part = began.part;
+  rest = began.rest ++ more;
+  whole = ap (λ (a : List ℕ). a ++ more) began.whole ∙ append_assoc began.part began.rest more;
+  sent = began.sent;
+}
+
+-- the full list begins with the requests of the first messages
+first_requests : (messages first others : List Said) (tail : Tail) → messages ≡ first ++ others
+    → requests_of messages tail ≡ map asked first ++ (map asked others ++ tail_requests tail)
+first_requests messages first others tail is =
+    ap (λ (ms : List Said). map asked ms ++ tail_requests tail) is
+    ∙ ap (λ (rs : List Request). rs ++ tail_requests tail) (map-append asked first others)
+    ∙ append_assoc (map asked first) (map asked others) (tail_requests tail)
+
+-- a beginning of the replies to the first messages is one of the replies to all
+pub part_of_first : (tells : Type 0) (before now text : List ℕ) (first : List Said) → AreFirst first text
+    → (tells → Began before now (replies start (map asked first))) → PartlyAnswered tells before now text
+part_of_first tells before now text first are began =
+    let reading = reading_of text in
+    let others = leads_first text first reading.0 are.0 reading.1 are.1 reading.2 in
+    let rest = map asked others.0 ++ tail_requests reading.1 in
+    let all : talk_replies reading.0 reading.1 ≡ replies start (map asked first) ++ replies (after start (map asked first)) rest =
+    ap (λ (rs : List Request). replies start rs) (first_requests reading.0 first others.0 reading.1 others.1)
+    ∙ replies-append start (map asked first) rest in
+    let P : List ℕ → Type 0 = λ rs. Began before now rs in
+    record {
+      messages = reading.0;
+      tail = reading.1;
+      read = reading.2;
+      sent = λ told. subst P (sym all)
+          (began_longer before now (replies start (map asked first)) (replies (after start (map asked first)) rest) (began told));
+    }
+
+-- the reply to one more message failed
+pub stands_failed : (tells : Type 0) (o m n : Drain) (text : List ℕ) (messages : List Said) (said : Said) (framer : Held) (rest : List ℕ) (state : State)
+    → Stands tells o m text messages framer state → Leads text (messages ++ said ∷ []) rest
+    → FailedToPut tells m n (step state (asked said)).reply → HasFailed tells o n text
+stands_failed tells o m n text messages said framer rest state stands leads put =
+    let P : List Request → Type 0 = λ rs. Began o.sent n.sent (replies start rs) in
+    record {
+      faults = rw (← stands.faults) put.faults;
+      part = part_of_first tells o.sent n.sent text (messages ++ said ∷ []) (rest, leads)
+          (λ told. subst P (sym (map_push asked messages said))
+          (sent_part tells o m n (map asked messages) (asked said) state stands.served stands.sent put told));
+    }
+
+-- what holds of the value that is there
+some_both : {A : Type 0} (found : Option A) (P Q : A → Type 0) → IsSomeAnd found P → IsSomeAnd found Q → (x : A) × P x × Q x
+some_both None P Q p q = absurd p
+some_both (Some x) P Q p q = (x, p, q)
+
+-- the message that was found was answered
+pub found_answered : (tells : Type 0) (o m n : Drain) (text : List ℕ) (messages : List Said) (framer next : Held) (request : Request) (state : State)
+    → Stands tells o m text messages framer state
+    → IsSomeAnd next.found (λ said. Leads text (messages ++ said ∷ []) next.bytes)
+    → IsSomeAnd next.found (λ said. request ≡ asked said)
+    → PutAll tells m n (step state request).reply
+    → (answered : List Said) × Stands tells o n text answered next (step state request).state
+found_answered tells o m n text messages framer next request state stands leads is put =
+    let found = some_both next.found _ _ leads is in
+    let Q : Request → Type 0 = λ r. PutAll tells m n (step state r).reply in
+    let put_asked = subst Q found.2 put in
+    let P : Request → Type 0 = λ r. (answered : List Said) × Stands tells o n text answered next (step state r).state in
+    subst P (sym found.2) (messages ++ found.0 ∷ [], stands_next tells o m n text messages found.0 framer next state stands found.1 put_asked)
+
+-- the reply to the message that was found failed
+pub found_failed : (tells : Type 0) (o m n : Drain) (text : List ℕ) (messages : List Said) (framer next : Held) (request : Request) (state : State)
+    → Stands tells o m text messages framer state
+    → IsSomeAnd next.found (λ said. Leads text (messages ++ said ∷ []) next.bytes)
+    → IsSomeAnd next.found (λ said. request ≡ asked said)
+    → FailedToPut tells m n (step state request).reply → HasFailed tells o n text
+found_failed tells o m n text messages framer next request state stands leads is put =
+    let found = some_both next.found _ _ leads is in
+    let Q : Request → Type 0 = λ r. FailedToPut tells m n (step state r).reply in
+    let put_asked = subst Q found.2 put in
+    stands_failed tells o m n text messages found.0 framer next.bytes state stands found.1 put_asked
+
+-- a head isn't empty
+head_some : (text : List ℕ) (n : ℕ) → IsHeadEnd text n → 0 < n
+head_some text zero x = absurd (cc x.ends)
+head_some text (suc n) x = omega arith
+
+-- a message takes its head
+begins_shorter : (text : List ℕ) (said : Said) (rest : List ℕ) → Begins text said rest → length rest < length text
+begins_shorter text said rest x =
+    let some = head_some text x.head x.has_head.end in
+    omega (arith, ap (λ (t : List ℕ). length t) x.rest_is, length-drop (x.head + x.body) text, x.whole)
+
+-- line ends in front count
+skip_shorter : (text : List ℕ) → length (skip_newlines text) ≤ length text
+skip_shorter [] = omega arith
+skip_shorter (b ∷ text) = skip_shorter_by _ b text (skip_shorter text)
+  where
+    skip_shorter_by : (r : Bool) (b : ℕ) (text : List ℕ) → length (skip_newlines text) ≤ length text
+        → length (cond r (skip_newlines text) (b ∷ text)) ≤ length (b ∷ text)
+    skip_shorter_by true b text rest = omega arith
+    skip_shorter_by false b text rest = omega arith
+
+message_takes_from : (framer next : Held) (found : Option Said) → IsSomeAnd found (λ said. Leads framer.bytes ([] ++ said ∷ []) next.bytes)
+    → length (skip_newlines next.bytes) < length (skip_newlines framer.bytes)
+message_takes_from framer next None told = absurd told
+message_takes_from framer next (Some said) told =
+    let behind : length told.0 < length (skip_newlines framer.bytes) = begins_shorter _ _ _ told.1 in
+    let same : length (skip_newlines told.0) ≡ length (skip_newlines next.bytes) = ap (λ (t : List ℕ). length t) told.2 in
+    omega (arith, skip_shorter told.0)
+
+-- a message takes some of the bytes
+pub message_takes : (framer next : Held) → IsSomeAnd next.found (λ said. Leads framer.bytes ([] ++ said ∷ []) next.bytes)
+    → length (skip_newlines next.bytes) < length (skip_newlines framer.bytes)
+message_takes framer next told = message_takes_from framer next next.found told
+
+-- the closing reply was sent
+pub closes : (tells : Type 0) (o m n : Drain) (text : List ℕ) (messages : List Said) (cause : Break) (framer : Held) (state : State)
+    → Stands tells o m text messages framer state → Messages text messages (Broken cause)
+    → PutAll tells m n (step state (broken cause)).reply → HasClosed tells o n text
+closes tells o m n text messages cause framer state stands read put = record {
+  messages = messages;
+  cause = cause;
+  read = read;
+  faults = put.faults ∙ stands.faults;
+  sent = sent_one tells o m n (map asked messages) (broken cause) state stands.served stands.sent put;
+}
+
+-- the closing reply failed
+pub close_failed : (tells : Type 0) (o m n : Drain) (text : List ℕ) (messages : List Said) (cause : Break) (framer : Held) (state : State)
+    → Stands tells o m text messages framer state → Messages text messages (Broken cause)
+    → FailedToPut tells m n (step state (broken cause)).reply → HasFailed tells o n text
+close_failed tells o m n text messages cause framer state stands read put = record {
+  faults = rw (← stands.faults) put.faults;
+  part = record {
+    messages = messages;
+    tail = Broken cause;
+    read = read;
+    sent = sent_part tells o m n (map asked messages) (broken cause) state stands.served stands.sent put;
+  };
+}
+
+-- what was sent stays a beginning of the replies
+part_stays_by : (tells : Type 0) (before now text more : List ℕ) (messages : List Said) (tail : Tail) → Messages text messages tail
+    → (tells → Began before now (talk_replies messages tail)) → PartlyAnswered tells before now (text ++ more)
+part_stays_by tells before now text more messages Unfinished read began =
+    let first = all_lead text messages Unfinished read in
+    let P : List Request → Type 0 = λ rs. Began before now (replies start rs) in
+    part_of_first tells before now (text ++ more) messages (first.0 ++ more, leads-append text more messages first.0 first.1)
+    (λ told. subst P (append-nil (map asked messages)) (began told))
+part_stays_by tells before now text more messages (Broken cause) read began = record {
+  messages = messages;
+  tail = Broken cause;
+  read = broken_stays text more messages cause read;
+  sent = began;
+}
+
+pub part_stays : (tells : Type 0) (before now text more : List ℕ) → PartlyAnswered tells before now text
+    → PartlyAnswered tells before now (text ++ more)
+part_stays tells before now text more part = part_stays_by tells before now text more part.messages part.tail part.read part.sent
+
+-- all replies are a beginning of them
+pub part_of_stands : (tells : Type 0) (o n : Drain) (text : List ℕ) (messages : List Said) (framer : Held) (state : State)
+    → Stands tells o n text messages framer state → PartlyAnswered tells o.sent n.sent text
+part_of_stands tells o n text messages framer state stands =
+    part_of_first tells o.sent n.sent text messages (framer.bytes, stands.leads) (λ told. record {
+      part = replies start (map asked messages);
+      rest = [];
+      whole = sym (append-nil (replies start (map asked messages)));
+      sent = stands.sent told;
+    })
+
+-- a broken text stays broken
+pub closed_stays : (tells : Type 0) (o n : Drain) (text more : List ℕ) → HasClosed tells o n text → HasClosed tells o n (text ++ more)
+closed_stays tells o n text more closed = record {
+  messages = closed.messages;
+  cause = closed.cause;
+  read = broken_stays text more closed.messages closed.cause closed.read;
+  faults = closed.faults;
+  sent = closed.sent;
+}
+
+-- what failed in a text failed in a longer one
+pub failed_stays : (tells : Type 0) (o n : Drain) (text more : List ℕ) → HasFailed tells o n text → HasFailed tells o n (text ++ more)
+failed_stays tells o n text more failed = record {
+  faults = failed.faults;
+  part = part_stays tells o.sent n.sent text more failed.part;
+}
+
+-- a piece in its parts
+pub piece_parts : (heard rest piece : List ℕ) (count : ℕ) → piece ≡ heard ++ rest → piece ≡ (heard ++ take count rest) ++ drop count rest
+piece_parts heard rest piece count whole =
+    whole ∙ ap (λ (r : List ℕ). heard ++ r) (sym (take-append-drop count rest)) ∙ sym (append_assoc heard (take count rest) (drop count rest))
+
+-- a text and the piece behind it, in its parts
+pub text_parts : (text heard rest piece : List ℕ) (count : ℕ) → piece ≡ heard ++ rest
+    → ((text ++ heard) ++ take count rest) ++ drop count rest ≡ text ++ piece
+text_parts text heard rest piece count whole =
+    append_assoc (text ++ heard) (take count rest) (drop count rest)
+    ∙ ap (λ (r : List ℕ). (text ++ heard) ++ r) (take-append-drop count rest)
+    ∙ append_assoc text heard rest
+    ∙ ap (λ (p : List ℕ). text ++ p) (sym whole)

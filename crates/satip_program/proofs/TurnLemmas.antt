@@ -1,0 +1,196 @@
+-- The turns of a talk: what was read so far was answered.
+use Rattle.std.proofs.Common.{◌≡◌, ℕ, ◌+◌, ◌<◌, ◌≤◌, List, [], ◌++◌, length, take, map, append_assoc, append-nil, length-append, length-take, refl, sym, ◌∙◌, ap, subst, None, inl, inr, arith, zero, suc, lit<}
+use Rattle.satip_base.specs.Streams.{Feed, Drain, TookBytes, MetEnd, FailedToTake}
+use Rattle.satip_frame.specs.Head.{HasNoEmptyLine}
+use Rattle.satip_frame.specs.Held.{Held, capacity, new_framer}
+use Rattle.satip_frame.specs.Stream.{Unfinished, Broken}
+use Rattle.satip_frame.proofs.StreamLemmas.{broken_stays}
+use Rattle.satip_rtsp.specs.Asked.{asked}
+use Rattle.satip_core.specs.State.{State}
+use Rattle.satip_program.specs.Talk.{start, replies, Answered}
+use Rattle.satip_program.specs.Hearing.{Listens, HasClosed, HasFailed}
+use Rattle.satip_program.specs.Outcomes.{Read, EndsWell, EndsByInput, EndsByOutput, EndsByLength, input_limit}
+use Rattle.satip_program.proofs.TalkLemmas.{part_stays, part_of_stands}
+
+-- the framer takes more
+pub record IsOpen (framer : Held) : Type 0 where
+  pub goes_on : framer.ended ≡ None
+  pub room : length framer.bytes < capacity
+
+-- what was taken so far was answered
+pub record Goes (in_tells out_tells : Type 0) (i j : Feed) (o n : Drain) (count : ℕ) (framer : Held) (state : State) : Type 0 where
+  pub text : List ℕ
+  pub read : Read in_tells i j text
+  pub counted : length text ≡ count
+  pub short : count ≤ input_limit
+  pub in_faults : j.faults ≡ i.faults
+  pub listens : Listens out_tells o n text framer state
+
+no_empty_line : HasNoEmptyLine 0 []
+no_empty_line zero within ends = cc ends
+no_empty_line (suc k) within ends = absurd (omega arith)
+
+-- nothing was taken yet
+pub goes_from : (in_tells out_tells : Type 0) (i : Feed) (o : Drain) (framer : Held) (state : State) → framer ≡ new_framer → state ≡ start
+    → Goes in_tells out_tells i i o o 0 framer state
+goes_from in_tells out_tells i o framer state new_one begins = record {
+  text = [];
+  read = record { taken = omega arith; content = λ _. refl };
+  counted = refl;
+  short = omega arith;
+  in_faults = refl;
+  listens = record {
+    messages = [];
+    stands = record { leads = rw new_one refl; served = begins; faults = refl; sent = λ _. sym (append-nil o.sent) };
+    read = inl (lit< tt, no_empty_line);
+  };
+}
+
+-- a piece was taken behind the text
+read_more : (in_tells : Type 0) (i j k : Feed) (text buf : List ℕ) (count : ℕ) → Read in_tells i j text → TookBytes in_tells j k buf count
+    → Read in_tells i k (text ++ take count buf)
+read_more in_tells i j k text buf count read took = record {
+  taken = omega (arith, read.taken, took.taken, took.within, length-append text (take count buf), length-take count buf);
+  content = λ told.
+      read.content told ∙ ap (λ (left : List ℕ). text ++ left) (took.content told) ∙ sym (append_assoc text (take count buf) k.left);
+}
+
+-- how long the text is then
+length-more : (text buf : List ℕ) (count : ℕ) → count ≤ length buf → length (text ++ take count buf) ≡ length text + count
+length-more text buf count within = omega (arith, length-append text (take count buf), length-take count buf)
+
+-- the piece was answered too
+pub goes_more : (in_tells out_tells : Type 0) (i j k : Feed) (o m n : Drain) (taken count : ℕ) (framer next : Held) (state state' : State) (buf : List ℕ)
+    → (goes : Goes in_tells out_tells i j o m taken framer state) → TookBytes in_tells j k buf count → taken + count ≤ input_limit
+    → Listens out_tells o n (goes.text ++ take count buf) next state'
+    → Goes in_tells out_tells i k o n (taken + count) next state'
+goes_more in_tells out_tells i j k o m n taken count framer next state state' buf goes took short listens = record {
+  text = goes.text ++ take count buf;
+  read = read_more in_tells i j k goes.text buf count goes.read took;
+  counted = length-more goes.text buf count took.within ∙ ap (λ (c : ℕ). c + count) goes.counted;
+  short = short;
+  in_faults = took.faults ∙ goes.in_faults;
+  listens = listens;
+}
+
+-- all messages of the text were answered
+answered_all : (tells : Type 0) (o n : Drain) (text : List ℕ) (framer : Held) (state : State) → Listens tells o n text framer state
+    → Answered tells o.sent n.sent text
+answered_all tells o n text framer state listens = record {
+  messages = listens.messages;
+  tail = Unfinished;
+  read = listens.read;
+  sent = λ told. listens.stands.sent told
+      ∙ ap (λ (rs : List _). o.sent ++ replies start rs) (sym (append-nil (map asked listens.messages)));
+}
+
+-- the input came to its end
+pub ends_at_end : (in_tells out_tells : Type 0) (i j k : Feed) (o n : Drain) (taken : ℕ) (framer : Held) (state : State)
+    → Goes in_tells out_tells i j o n taken framer state → MetEnd in_tells j k → EndsWell in_tells out_tells i k o n
+ends_at_end in_tells out_tells i j k o n taken framer state goes met =
+    let answered = answered_all out_tells o n goes.text framer state goes.listens in
+    let P : List ℕ → Type 0 = λ text. Answered out_tells o.sent n.sent text in
+    record {
+      text = goes.text;
+      read = record {
+        taken = met.taken ∙ goes.read.taken;
+        content = λ told. goes.read.content told ∙ ap (λ (left : List ℕ). goes.text ++ left) (met.nothing_left told ∙ sym (met.content told));
+      };
+      short = omega (arith, goes.counted, goes.short);
+      in_faults = met.faults ∙ goes.in_faults;
+      out_faults = goes.listens.stands.faults;
+      answered = answered;
+      whole = λ told. subst P (sym (goes.read.content told ∙ ap (λ (left : List ℕ). goes.text ++ left) (met.nothing_left told) ∙ append-nil goes.text)) answered;
+      ending = inl met.after;
+      in_time = record {
+        earlier = goes.text;
+        piece = [];
+        whole = sym (append-nil goes.text);
+        short = omega arith;
+        messages = goes.listens.messages;
+        unbroken = goes.listens.read;
+      };
+    }
+
+-- the last reply was a closing one
+pub ends_closed : (in_tells out_tells : Type 0) (i j k : Feed) (o m n : Drain) (taken count : ℕ) (framer : Held) (state : State) (buf : List ℕ)
+    → (goes : Goes in_tells out_tells i j o m taken framer state) → TookBytes in_tells j k buf count → taken + count ≤ input_limit → count ≤ 4096
+    → HasClosed out_tells o n (goes.text ++ take count buf) → EndsWell in_tells out_tells i k o n
+ends_closed in_tells out_tells i j k o m n taken count framer state buf goes took short small closed =
+    let text = goes.text ++ take count buf in
+    let read = read_more in_tells i j k goes.text buf count goes.read took in
+    let answered : Answered out_tells o.sent n.sent text =
+    record { messages = closed.messages; tail = Broken closed.cause; read = closed.read; sent = closed.sent } in
+    let longer : Answered out_tells o.sent n.sent (text ++ k.left) = record {
+      messages = closed.messages;
+      tail = Broken closed.cause;
+      read = broken_stays text k.left closed.messages closed.cause closed.read;
+      sent = closed.sent;
+    } in
+    let P : List ℕ → Type 0 = λ t. Answered out_tells o.sent n.sent t in
+    record {
+      text = text;
+      read = read;
+      short = omega (arith, goes.counted, length-more goes.text buf count took.within);
+      in_faults = took.faults ∙ goes.in_faults;
+      out_faults = closed.faults;
+      answered = answered;
+      whole = λ told. subst P (sym (read.content told)) longer;
+      ending = inr (record { messages = closed.messages; cause = closed.cause; read = closed.read });
+      in_time = record {
+        earlier = goes.text;
+        piece = take count buf;
+        whole = refl;
+        short = omega (arith, length-take count buf, took.within);
+        messages = goes.listens.messages;
+        unbroken = goes.listens.read;
+      };
+    }
+
+-- the output failed
+pub ends_by_output : (in_tells out_tells : Type 0) (i j k : Feed) (o m n : Drain) (taken count : ℕ) (framer : Held) (state : State) (buf : List ℕ)
+    → (goes : Goes in_tells out_tells i j o m taken framer state) → TookBytes in_tells j k buf count → taken + count ≤ input_limit
+    → HasFailed out_tells o n (goes.text ++ take count buf) → EndsByOutput in_tells out_tells i k o n
+ends_by_output in_tells out_tells i j k o m n taken count framer state buf goes took short failed = record {
+  early = record {
+    text = goes.text ++ take count buf;
+    read = read_more in_tells i j k goes.text buf count goes.read took;
+    part = failed.part;
+  };
+  short = omega (arith, goes.counted, length-more goes.text buf count took.within);
+  in_faults = took.faults ∙ goes.in_faults;
+  rose = failed.faults;
+}
+
+-- the input failed
+pub ends_by_input : (in_tells out_tells : Type 0) (i j k : Feed) (o n : Drain) (taken : ℕ) (framer : Held) (state : State)
+    → Goes in_tells out_tells i j o n taken framer state → FailedToTake in_tells j k → EndsByInput in_tells out_tells i k o n
+ends_by_input in_tells out_tells i j k o n taken framer state goes failed = record {
+  early = record {
+    text = goes.text;
+    read = record {
+      taken = failed.taken ∙ goes.read.taken;
+      content = λ told. goes.read.content told ∙ ap (λ (left : List ℕ). goes.text ++ left) (sym (failed.content told));
+    };
+    part = part_of_stands out_tells o n goes.text goes.listens.messages framer state goes.listens.stands;
+  };
+  short = omega (arith, goes.counted, goes.short);
+  rose = rw (← goes.in_faults) failed.faults;
+  out_faults = goes.listens.stands.faults;
+}
+
+-- one byte too many was taken
+pub ends_by_length : (in_tells out_tells : Type 0) (i j k : Feed) (o n : Drain) (taken count : ℕ) (framer : Held) (state : State) (buf : List ℕ)
+    → Goes in_tells out_tells i j o n taken framer state → TookBytes in_tells j k buf count → taken + count ≡ input_limit + 1
+    → EndsByLength in_tells out_tells i k o n
+ends_by_length in_tells out_tells i j k o n taken count framer state buf goes took long = record {
+  early = record {
+    text = goes.text ++ take count buf;
+    read = read_more in_tells i j k goes.text buf count goes.read took;
+    part = part_stays out_tells o.sent n.sent goes.text (take count buf)
+        (part_of_stands out_tells o n goes.text goes.listens.messages framer state goes.listens.stands);
+  };
+  long = length-more goes.text buf count took.within ∙ ap (λ (c : ℕ). c + count) goes.counted ∙ long;
+  in_faults = took.faults ∙ goes.in_faults;
+  out_faults = goes.listens.stands.faults;
+}

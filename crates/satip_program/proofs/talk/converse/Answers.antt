@@ -1,0 +1,42 @@
+use Rattle.std.proofs.Common.{arith, refl, lit<, ◌∙◌}
+use Rattle.satip_program.proofs.TurnLemmas.{goes_from, goes_more, ends_closed, ends_by_output, ends_by_input, ends_by_length}
+use Rattle.satip_program.proofs.talk.converse.Goals as goal
+
+pub input-init : goal.input-init
+input-init g c = (
+  record { goes_on = rw c.requires.framer refl; room = rw c.requires.framer (lit< tt) },
+  refl,
+  goes_from _ _ _ _ _ _ c.requires.framer c.requires.server,
+)
+
+pub returns-then-taken-gt-LIMIT : goal.returns-then-taken-gt-LIMIT
+returns-then-taken-gt-LIMIT g c = record {
+  ends = ends_by_length _ _ _ _ _ _ _ _ _ _ _ _ c.input.invariant.2 c.in-Got.ensures.takes
+      (omega (arith, c.room_for.ensures.limit, c.in-Got.ensures.room, c.if-taken-gt-LIMIT.true));
+}
+
+pub input-preserved : goal.input-preserved
+input-preserved g c = (
+  record { goes_on = c.in-All.ensures.goes_on refl; room = c.in-All.ensures.room refl },
+  c.take_some.auto.buf ∙ c.input.invariant.1,
+  goes_more _ _ _ _ _ _ _ _ _ _ _ _ _ _ _ c.input.invariant.2 c.in-Got.ensures.takes c.if-taken-gt-LIMIT.false
+      (c.in-All.ensures.hears _ _ c.input.invariant.2.listens),
+)
+
+pub returns-in-Closed : goal.returns-in-Closed
+returns-in-Closed g c = record {
+  ends = ends_closed _ _ _ _ _ _ _ _ _ _ _ _ _ c.input.invariant.2 c.in-Got.ensures.takes c.if-taken-gt-LIMIT.false
+      (omega (arith, c.in-Got.ensures.room, c.room_for.ensures.within))
+      (c.in-Closed.ensures.hears _ _ c.input.invariant.2.listens);
+}
+
+pub returns-in-Failed-hear : goal.returns-in-Failed-hear
+returns-in-Failed-hear g c = record {
+  ends = ends_by_output _ _ _ _ _ _ _ _ _ _ _ _ _ c.input.invariant.2 c.in-Got.ensures.takes c.if-taken-gt-LIMIT.false
+      (c.in-Failed-hear.ensures.hears _ _ c.input.invariant.2.listens);
+}
+
+pub returns-in-Failed : goal.returns-in-Failed
+returns-in-Failed g c = record {
+  ends = ends_by_input _ _ _ _ _ _ _ _ _ _ c.input.invariant.2 c.in-Failed.ensures.takes;
+}

@@ -1,0 +1,5 @@
+pub mod Seen
+pub mod Commands
+pub mod Talk
+pub mod Hearing
+pub mod Outcomes

@@ -1,0 +1,148 @@
+-- How a run ends.
+use Rattle.std.specs.Prelude.{◌≡◌, ℕ, ◌+◌, ◌≤◌, ◌⊎◌, true, Option, Some, None, List, ◌++◌, length}
+use Rattle.satip_base.specs.Streams.{Feed, Drain, Rose, PutAll, FailedToPut}
+use Rattle.satip_base.specs.declared.streams.Taken.{Taken}
+use Rattle.satip_base.specs.declared.streams.Taken.TheVariants.{Got, End, Failed as TakeFault}
+use Rattle.satip_frame.specs.Said.{Said}
+use Rattle.satip_frame.specs.Stream.{Unfinished, Broken, Messages}
+use Rattle.satip_frame.specs.declared.framing.Break.{Break}
+use Rattle.satip_program.specs.Talk.{Answered, PartlyAnswered}
+use Rattle.satip_program.specs.Commands.{help, version}
+use Rattle.satip_program.specs.declared.commands.Command.{Command}
+use Rattle.satip_program.specs.declared.commands.Command.TheVariants.{Talk, Help, Version}
+use Rattle.satip_program.specs.declared.outcomes.Outcome.{Outcome}
+use Rattle.satip_program.specs.declared.outcomes.Outcome.TheVariants.{Done, Usage, InputFault, OutputFault, TooLong, OutOfMemory}
+
+-- the status of an outcome
+abbrev pub status_of : Outcome → ℕ
+status_of Done = 0
+status_of Usage = 2
+status_of InputFault = 5
+status_of OutputFault = 6
+status_of TooLong = 8
+status_of OutOfMemory = 70
+
+-- the most bytes of input that are answered
+abbrev pub input_limit : ℕ
+input_limit = 67108864
+
+-- a take gives so many bytes at most
+abbrev pub GetsAtMost : ℕ → Taken → Type 0
+GetsAtMost room (Got count) = count ≤ room
+GetsAtMost room End = Unit {0}
+GetsAtMost room TakeFault = Unit {0}
+
+-- the text was taken from a source
+pub record Read (tells : Type 0) (o n : Feed) (text : List ℕ) : Type 0 where
+  pub taken : n.taken ≡ o.taken + length text
+  pub content : tells → o.left ≡ text ++ n.left
+
+-- the text is broken
+pub record IsBroken (text : List ℕ) : Type 0 where
+  pub messages : List Said
+  pub cause : Break
+  pub read : Messages text messages (Broken cause)
+
+-- nothing is taken behind a broken text: it wasn't broken before the last piece that was taken
+pub record StopsInTime (text : List ℕ) : Type 0 where
+  pub earlier : List ℕ
+  pub piece : List ℕ
+  pub whole : text ≡ earlier ++ piece
+  pub short : length piece ≤ 4096
+  pub messages : List Said
+  pub unbroken : Messages earlier messages Unfinished
+
+-- the input was read to its end, or to a closing reply, and all of it was answered
+pub record EndsWell (in_tells out_tells : Type 0) (i j : Feed) (o n : Drain) : Type 0 where
+  pub text : List ℕ
+  pub read : Read in_tells i j text
+  pub short : length text ≤ input_limit
+  pub in_faults : j.faults ≡ i.faults
+  pub out_faults : n.faults ≡ o.faults
+  pub answered : Answered out_tells o.sent n.sent text
+  pub whole : in_tells → Answered out_tells o.sent n.sent i.left
+  pub ending : (j.ended ≡ true) ⊎ IsBroken text
+  pub in_time : StopsInTime text
+
+-- the run ended before that, with a beginning of the replies to what was taken
+pub record EndsEarly (in_tells out_tells : Type 0) (i j : Feed) (o n : Drain) : Type 0 where
+  pub text : List ℕ
+  pub read : Read in_tells i j text
+  pub part : PartlyAnswered out_tells o.sent n.sent text
+
+-- the input failed
+pub record EndsByInput (in_tells out_tells : Type 0) (i j : Feed) (o n : Drain) : Type 0 where
+  pub early : EndsEarly in_tells out_tells i j o n
+  pub short : length early.text ≤ input_limit
+  pub rose : Rose i.faults j.faults
+  pub out_faults : n.faults ≡ o.faults
+
+-- the output failed
+pub record EndsByOutput (in_tells out_tells : Type 0) (i j : Feed) (o n : Drain) : Type 0 where
+  pub early : EndsEarly in_tells out_tells i j o n
+  pub short : length early.text ≤ input_limit
+  pub in_faults : j.faults ≡ i.faults
+  pub rose : Rose o.faults n.faults
+
+-- one byte too many was taken
+pub record EndsByLength (in_tells out_tells : Type 0) (i j : Feed) (o n : Drain) : Type 0 where
+  pub early : EndsEarly in_tells out_tells i j o n
+  pub long : length early.text ≡ input_limit + 1
+  pub in_faults : j.faults ≡ i.faults
+  pub out_faults : n.faults ≡ o.faults
+
+-- nothing was done
+pub record NothingDone (i j : Feed) (o n : Drain) : Type 0 where
+  pub input : j ≡ i
+  pub output : n ≡ o
+
+-- how a talk ends
+abbrev pub TalkEnds : (in_tells out_tells : Type 0) (i j : Feed) (o n : Drain) → Outcome → Type 0
+TalkEnds in_tells out_tells i j o n Done = EndsWell in_tells out_tells i j o n
+TalkEnds in_tells out_tells i j o n Usage = ⊥
+TalkEnds in_tells out_tells i j o n InputFault = EndsByInput in_tells out_tells i j o n
+TalkEnds in_tells out_tells i j o n OutputFault = EndsByOutput in_tells out_tells i j o n
+TalkEnds in_tells out_tells i j o n TooLong = EndsByLength in_tells out_tells i j o n
+TalkEnds in_tells out_tells i j o n OutOfMemory = NothingDone i j o n
+
+-- a text was written to the output, and nothing was taken
+pub record Prints (put : Type 0) (i j : Feed) : Type 0 where
+  pub input : j ≡ i
+  pub output : put
+
+-- how the writing of a text ends
+abbrev pub PrintEnds : (tells : Type 0) (i j : Feed) (o n : Drain) (text : List ℕ) → Outcome → Type 0
+PrintEnds tells i j o n text Done = Prints (PutAll tells o n text) i j
+PrintEnds tells i j o n text Usage = ⊥
+PrintEnds tells i j o n text InputFault = ⊥
+PrintEnds tells i j o n text OutputFault = Prints (FailedToPut tells o n text) i j
+PrintEnds tells i j o n text TooLong = ⊥
+PrintEnds tells i j o n text OutOfMemory = ⊥
+
+-- the words were refused
+pub record IsRefused (i j : Feed) (o n : Drain) (outcome : Outcome) : Type 0 where
+  pub usage : outcome ≡ Usage
+  pub nothing : NothingDone i j o n
+
+-- how the run of a command ends
+abbrev pub RunEnds : (in_tells out_tells : Type 0) (i j : Feed) (o n : Drain) → Option Command → Outcome → Type 0
+RunEnds in_tells out_tells i j o n None outcome = IsRefused i j o n outcome
+RunEnds in_tells out_tells i j o n (Some Talk) outcome = TalkEnds in_tells out_tells i j o n outcome
+RunEnds in_tells out_tells i j o n (Some Help) outcome = PrintEnds out_tells i j o n help outcome
+RunEnds in_tells out_tells i j o n (Some Version) outcome = PrintEnds out_tells i j o n version outcome
+
+-- the input was read to its end, or to the piece that has the message to which the closing reply answers
+pub record ReadsInTime (tells : Type 0) (i j : Feed) : Type 0 where
+  pub text : List ℕ
+  pub read : Read tells i j text
+  pub ending : (j.ended ≡ true) ⊎ IsBroken text
+  pub in_time : StopsInTime text
+
+-- a text was written as a whole, or in part where the output failed; and nothing was taken
+abbrev pub Shows : (tells : Type 0) (i j : Feed) (o n : Drain) (text : List ℕ) (status : ℕ) → Type 0
+Shows tells i j o n text status =
+    (j ≡ i) × (((status ≡ 0) × PutAll tells o n text) ⊎ ((status ≡ 6) × FailedToPut tells o n text))
+
+-- a line was sent, or a beginning of it where the sink failed; an empty one isn't sent
+abbrev pub Says : (tells : Type 0) (o n : Drain) (line : List ℕ) → Type 0
+Says tells o n line = PutAll tells o n line ⊎ FailedToPut tells o n line

@@ -1,0 +1,140 @@
+//! One RTSP connection: the bytes that come in are answered as they come.
+
+ghost use Rattle.std.specs.Prelude.{◌≡◌, ◌<◌, ℕ, List, ◌++◌, None, IsSome, IsSomeAnd, IfOk, length};
+ghost use Rattle.satip_base.specs.Streams.{Drain, Puts};
+ghost use Rattle.satip_frame.specs.Said.{Said};
+ghost use Rattle.satip_frame.specs.Stream.{Broken, Messages};
+ghost use Rattle.satip_frame.specs.Held.{capacity, new_framer};
+ghost use Rattle.satip_rtsp.specs.Asked.{asked};
+ghost use Rattle.satip_core.specs.Plain.{step};
+ghost use Rattle.satip_program.specs.Seen.{feed, drain};
+ghost use Rattle.satip_program.specs.Talk.{start};
+ghost use Rattle.satip_program.specs.Hearing.{Stands, Listens, HasClosed, HasFailed, Hears};
+
+use satip_base::{Out, Put, Sink, Want};
+use satip_core::Server;
+use satip_frame::{Break, Framer, Step};
+use satip_rtsp::Request;
+use std::alloc::Global;
+
+/// What hearing some bytes came to.
+#[derive(Clone, Copy, Debug, PartialEq, Eq)]
+pub(crate) enum Heard {
+    /// All whole messages were answered.
+    All,
+    /// The last reply was a closing one.
+    Closed,
+    /// The output failed.
+    Failed,
+}
+
+/// A server, and the connection that it answers.
+#[derive(Drop)]
+pub(crate) struct Conversation {
+    pub(crate) server: Server,
+    pub(crate) framer: Framer,
+    out: Out,
+}
+
+impl Conversation {
+    /// A new connection to a new server. All memory is taken here.
+    pub(crate) fn make(alloc: Global) -> Result<Conversation, Want>
+        ensures new { IfOk result (λ made. (made.framer ≡ new_framer) × (made.server ≡ start)) }
+    {
+        Ok(Conversation {
+            server: Server::make(0),
+            framer: Framer::make(alloc)?,
+            out: Out::make(alloc)?,
+        })
+    }
+
+    // Answers one request.
+    fn reply<O: Sink>(&mut self, request: &Request, output: &mut O) -> Put
+        ensures framer { self.new.framer ≡ self.old.framer }
+        ensures server { self.new.server ≡ (step self.old.server request.now).state }
+        ensures puts { Puts O.tells
+            (drain O.sent O.faults output.old) (drain O.sent O.faults output.new)
+            (step self.old.server request.now).reply result }
+    {
+        self.server.request(request, &mut self.out);
+        output.put(self.out.reply())
+    }
+
+    // Answers what is no message.
+    fn close<O: Sink>(&mut self, cause: Break, output: &mut O) -> Heard
+        ensures closes { (o : Drain) (text : List ℕ) (messages : List Said)
+            → Stands O.tells o (drain O.sent O.faults output.old)
+            text messages self.old.framer self.old.server
+            → Messages text messages (Broken cause)
+            → Hears O.tells o (drain O.sent O.faults output.new)
+            text self.new.framer self.new.server result }
+        ensures over { result ≡ Heard.All → ⊥ }
+    {
+        match self.reply(&Request::broken(cause), output) {
+            Put::Whole => Heard::Closed,
+            Put::Failed => Heard::Failed,
+        }
+    }
+
+    // Answers all whole messages that the framer holds.
+    fn answer<O: Sink>(&mut self, output: &mut O) -> Heard
+        ensures hears { (o : Drain) (text : List ℕ) (messages : List Said)
+            → Stands O.tells o (drain O.sent O.faults output.old)
+            text messages self.old.framer self.old.server
+            → Hears O.tells o (drain O.sent O.faults output.new)
+            text self.new.framer self.new.server result }
+        ensures goes_on { result ≡ Heard.All → self.new.framer.ended ≡ None }
+        ensures room { result ≡ Heard.All → length self.new.framer.bytes < capacity }
+    {
+        'messages: loop {
+            match self.framer.next() {
+                Step::Message => {
+                    let request = found_request(&self.framer);
+                    match self.reply(&request, output) {
+                        Put::Whole => {}
+                        Put::Failed => return Heard::Failed,
+                    }
+                }
+                Step::More => return Heard::All,
+                Step::Bad => return self.close(Break::Bad, output),
+                Step::TooLong => return self.close(Break::TooLong, output),
+            }
+        }
+    }
+
+    /// Takes in bytes behind those that came before, and answers all whole messages.
+    pub(crate) fn hear<O: Sink>(&mut self, piece: &[u8], output: &mut O) -> Heard
+        requires goes_on { self.old.framer.ended ≡ None }
+        requires room { length self.old.framer.bytes < capacity }
+        ensures hears { (o : Drain) (text : List ℕ)
+            → Listens O.tells o (drain O.sent O.faults output.old)
+            text self.old.framer self.old.server
+            → Hears O.tells o (drain O.sent O.faults output.new)
+            (text ++ piece.now) self.new.framer self.new.server result }
+        ensures goes_on { result ≡ Heard.All → self.new.framer.ended ≡ None }
+        ensures room { result ≡ Heard.All → length self.new.framer.bytes < capacity }
+    {
+        let mut rest = piece;
+        'piece: while !rest.is_empty() {
+            let count = self.framer.feed(rest);
+            rest = rest.split_at(count).1;
+            match self.answer(output) {
+                Heard::All => {}
+                Heard::Closed => return Heard::Closed,
+                Heard::Failed => return Heard::Failed,
+            }
+        }
+        Heard::All
+    }
+}
+
+// The request of the message that was found.
+fn found_request(framer: &Framer) -> Request
+    requires { IsSome framer.now.found }
+    ensures asked { IsSomeAnd framer.now.found (λ message. result ≡ asked message) }
+{
+    match framer.message() {
+        Some(message) => Request::of(&message),
+        None => unreachable!(),
+    }
+}

@@ -1,0 +1,87 @@
+//! `talk`: one RTSP connection from the input to the output.
+
+ghost use Rattle.std.specs.Prelude.{◌≡◌, ◌<◌, ◌≤◌, ◌+◌, None, length};
+ghost use Rattle.satip_base.specs.Streams.{Feed, Drain, Takes};
+ghost use Rattle.satip_frame.specs.Held.{new_framer};
+ghost use Rattle.satip_program.specs.Seen.{feed, drain};
+ghost use Rattle.satip_program.specs.Talk.{start};
+ghost use Rattle.satip_program.specs.Outcomes.{TalkEnds, GetsAtMost, input_limit};
+
+use crate::conversation::{Conversation, Heard};
+use crate::outcomes::Outcome;
+use satip_base::{Sink, Source, Taken};
+use std::alloc::Global;
+
+const LIMIT: u64 = 67108864;
+
+const PIECE: usize = 4096;
+
+/// Answers what comes in until the input ends, a closing reply was sent, or something fails. All memory
+/// is taken before any input.
+pub(crate) fn talk<I: Source, O: Sink>(alloc: Global, input: &mut I, output: &mut O) -> Outcome
+    ensures ends { TalkEnds I.tells O.tells
+        (feed I.left I.ended I.faults I.taken input.old) (feed I.left I.ended I.faults I.taken input.new)
+        (drain O.sent O.faults output.old) (drain O.sent O.faults output.new)
+        result }
+{
+    match Conversation::make(alloc) {
+        Ok(mut conversation) => converse(&mut conversation, input, output),
+        Err(_) => Outcome::OutOfMemory,
+    }
+}
+
+fn converse<I: Source, O: Sink>(
+    conversation: &mut Conversation,
+    input: &mut I,
+    output: &mut O,
+) -> Outcome
+    requires framer { conversation.old.framer ≡ new_framer }
+    requires server { conversation.old.server ≡ start }
+    ensures ends { TalkEnds I.tells O.tells
+        (feed I.left I.ended I.faults I.taken input.old) (feed I.left I.ended I.faults I.taken input.new)
+        (drain O.sent O.faults output.old) (drain O.sent O.faults output.new)
+        result }
+{
+    let mut buf = [0; PIECE];
+    let mut taken: u64 = 0;
+    'input: loop {
+        match take_some(input, &mut buf, room_for(taken)) {
+            Taken::Got(count) => {
+                taken += count as u64;
+                if taken > LIMIT {
+                    return Outcome::TooLong;
+                }
+                match conversation.hear(&buf[..count], output) {
+                    Heard::All => {}
+                    Heard::Closed => return Outcome::Done,
+                    Heard::Failed => return Outcome::OutputFault,
+                }
+            }
+            Taken::End => return Outcome::Done,
+            Taken::Failed => return Outcome::InputFault,
+        }
+    }
+}
+
+// How many bytes the next take may give: one at the limit, which tells whether the input is too long.
+fn room_for(taken: u64) -> usize
+    requires { taken ≤ input_limit }
+    ensures some { 1 ≤ result }
+    ensures within { result ≤ 4096 }
+    ensures limit { taken + result ≤ input_limit + 1 }
+    ensures below { taken < input_limit → taken + result ≤ input_limit }
+{
+    let left = (LIMIT - taken).min(PIECE as u64) as usize;
+    left.max(1)
+}
+
+fn take_some<I: Source>(input: &mut I, buf: &mut [u8], room: usize) -> Taken
+    requires some { 1 ≤ room }
+    requires within { room ≤ length buf.old }
+    ensures takes { Takes I.tells
+        (feed I.left I.ended I.faults I.taken input.old) (feed I.left I.ended I.faults I.taken input.new)
+        buf.new result }
+    ensures room { GetsAtMost room result }
+{
+    input.take(&mut buf[..room])
+}
