@@ -1,0 +1,9 @@
+pub mod Measures
+pub mod PidLists
+pub mod Decimals
+pub mod Clean
+pub mod ListPrinted
+pub mod ValuePrinted
+pub mod QueryPrinted
+pub mod PrintLemmas
+pub mod GivenKeys

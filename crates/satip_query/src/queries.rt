@@ -1,0 +1,85 @@
+//! What a query gives.
+
+ghost use Rattle.std.specs.Prelude.{◌≡◌};
+ghost use Rattle.satip_query.specs.Queries.{are_given as are_given_by, gives_key, is_given, new_query};
+
+use satip_pids::PidList;
+use satip_tune::{Change, Key};
+
+/// A query: the fields of a tuning that it gives, the PIDs that it asks for, and those that it adds
+/// and takes away.
+#[derive(Clone, Copy, Debug, PartialEq, Eq)]
+pub struct Query {
+    pub change: Change,
+    pub pids: PidsGiven,
+    pub addpids: Option<PidList>,
+    pub delpids: Option<PidList>,
+}
+
+/// What a query asks for by `pids`: nothing, `all`, `none`, or a list.
+#[derive(Clone, Copy, Debug, PartialEq, Eq)]
+pub enum PidsGiven {
+    Absent,
+    All,
+    Empty,
+    List(PidList),
+}
+
+impl Query {
+    /// The query that gives nothing.
+    pub fn new() -> Query
+        ensures empty { result ≡ new_query }
+    {
+        Query {
+            change: Change {
+                fe: None,
+                src: None,
+                freq: None,
+                pol: None,
+                ro: None,
+                msys: None,
+                mtype: None,
+                plts: None,
+                sr: None,
+                fec: None,
+            },
+            pids: PidsGiven::Absent,
+            addpids: None,
+            delpids: None,
+        }
+    }
+
+    /// Whether a key is given.
+    pub fn gives(&self, key: Key) -> bool
+        ensures given { result ≡ is_given self.now key }
+    {
+        match key {
+            Key::Pids => self.pids.are_given(),
+            Key::Addpids => self.addpids.is_some(),
+            Key::Delpids => self.delpids.is_some(),
+            _ => self.change.gives(key),
+        }
+    }
+
+    /// Whether at least one known key is given.
+    pub fn any(&self) -> bool
+        ensures given { result ≡ gives_key self.now }
+    {
+        self.change.any()
+            || self.gives(Key::Pids)
+            || self.gives(Key::Addpids)
+            || self.gives(Key::Delpids)
+    }
+}
+
+impl PidsGiven {
+    /// Whether anything is asked for.
+    pub fn are_given(&self) -> bool
+        ensures given { result ≡ are_given_by self.now }
+    {
+        match *self {
+            PidsGiven::Absent => false,
+            _ => true,
+        }
+    }
+}
