@@ -1,0 +1,4 @@
+pub mod Writing
+pub mod CutLemmas
+pub mod PackingLemmas
+pub mod PickedLemmas

@@ -1,0 +1,7 @@
+use Rattle.std.proofs.Common.{refl}
+use Rattle.satip_rtp.specs.Bytes.{rtp_header}
+use Rattle.satip_rtp.proofs.tests.worked_cuts.Goals as goal
+
+pub returns : goal.returns
+unfolding rtp_header
+returns c = record { held = refl; seventh = refl; flushed = refl; nothing = refl; header = refl }

@@ -1,0 +1,5 @@
+pub mod Cut
+pub mod Bytes
+pub mod Sending
+pub mod Packing
+pub mod Picked
