@@ -1,0 +1,2 @@
+pub mod Ses1
+pub mod Reports

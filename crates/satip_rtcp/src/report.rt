@@ -1,0 +1,152 @@
+//! RTCP reports (RFC 3550, 6).
+
+ghost use Rattle.std.specs.Prelude.{◌≡◌, ◌≢◌, ◌+◌, ◌<◌, ◌≤◌, length, replicate};
+ghost use Rattle.std.specs.Int.{to_be_bytes, w16, w32};
+ghost use Rattle.satip_base.specs.Output.{Extended, Sends};
+ghost use Rattle.satip_rtcp.specs.Reports.{application, header, ntp_fraction as fraction_of, ntp_seconds as seconds_of, report, rtp_time as time_of, sender_report, source_description};
+
+use crate::address::write_address;
+use crate::ses1::ses1_text;
+use crate::views::{Sender, StreamView};
+use satip_base::{Out, Strip};
+
+// Version 2 in the first two bits of a part (RFC 3550, 6.4.1); a count stands in the last five.
+const VERSION: u8 = 0x80;
+
+// The types of the parts (RFC 3550, 12.1).
+const SENDER_REPORT: u8 = 200;
+
+const SOURCE_DESCRIPTION: u8 = 202;
+
+const APPLICATION: u8 = 204;
+
+/// Appends one datagram: a sender report, a source description whose canonical name is the server's
+/// address, and an application-defined part with the SES1 text (RFC 3550, 6.4.1, 6.5 and 6.7; SAT>IP
+/// 1.2.2, 3.5.13).
+
+pub fn write_report(view: &StreamView, sender: &Sender, out: &mut Out)
+    requires count_room { out.old.count_spare ≢ 0 }
+    requires room { 1600 ≤ out.old.datagram_spare }
+    ensures sent { Sends out.old sender.now.to (report view.now sender.now) out.new }
+    ensures bound { length (report view.now sender.now) ≤ 1600 }
+{
+    let mut text = Strip::new();
+    ses1_text(view, &mut text);
+    let mut address = Strip::new();
+    write_address(sender.address, &mut address);
+    out.begin(sender.to);
+    extend_sender_report(sender, out);
+    extend_description(sender.ssrc, address.bytes(), out);
+    extend_application(sender.ssrc, text.bytes(), out);
+}
+
+fn extend_sender_report(sender: &Sender, out: &mut Out)
+    requires begun { 0 < length out.old.datagrams }
+    requires room { 28 ≤ out.old.datagram_spare }
+    ensures extended { Extended out.old (sender_report sender.now) out.new }
+    ensures spare { out.new.datagram_spare + 28 ≡ out.old.datagram_spare }
+{
+    extend_header(VERSION, SENDER_REPORT, 28, out);
+    extend_word(sender.ssrc, out);
+    extend_word(ntp_seconds(sender.clock), out);
+    extend_word(ntp_fraction(sender.clock), out);
+    extend_word(rtp_time(sender.clock), out);
+    extend_word(sender.datagrams, out);
+    extend_word(sender.octets, out);
+}
+
+fn extend_description(ssrc: u32, name: &[u8], out: &mut Out)
+    requires short { length name.now ≤ 15 }
+    requires begun { 0 < length out.old.datagrams }
+    requires room { 29 ≤ out.old.datagram_spare }
+    ensures extended { Extended out.old (source_description ssrc name.now) out.new }
+    ensures spare { out.old.datagram_spare ≤ out.new.datagram_spare + 29 }
+{
+    let zeros = 4 - (2 + name.len()) % 4;
+    extend_header(
+        VERSION + 1,
+        SOURCE_DESCRIPTION,
+        10 + name.len() + zeros,
+        out,
+    );
+    extend_word(ssrc, out);
+    out.extend(&[1, name.len() as u8]);
+    out.extend(name);
+    extend_zeros(zeros, out);
+}
+
+fn extend_application(ssrc: u32, text: &[u8], out: &mut Out)
+    requires short { length text.now ≤ 1430 }
+    requires begun { 0 < length out.old.datagrams }
+    requires room { 1449 ≤ out.old.datagram_spare }
+    ensures extended { Extended out.old (application ssrc text.now) out.new }
+    ensures spare { out.old.datagram_spare ≤ out.new.datagram_spare + 1449 }
+{
+    let zeros = (4 - text.len() % 4) % 4;
+    extend_header(VERSION, APPLICATION, 16 + text.len() + zeros, out);
+    extend_word(ssrc, out);
+    out.extend(b"SES1");
+    extend_half(0, out);
+    extend_half(text.len() as u16, out);
+    out.extend(text);
+    extend_zeros(zeros, out);
+}
+
+// The first four bytes of a part of so many bytes.
+
+fn extend_header(first: u8, kind: u8, length_of_part: usize, out: &mut Out)
+    requires some { 4 ≤ length_of_part }
+    requires few { length_of_part ≤ 1600 }
+    requires begun { 0 < length out.old.datagrams }
+    requires room { 4 ≤ out.old.datagram_spare }
+    ensures extended { Extended out.old (header first kind length_of_part) out.new }
+{
+    out.extend(&[first, kind]);
+    extend_half((length_of_part / 4 - 1) as u16, out);
+}
+
+fn extend_half(half: u16, out: &mut Out)
+    requires begun { 0 < length out.old.datagrams }
+    requires room { 2 ≤ out.old.datagram_spare }
+    ensures extended { Extended out.old (to_be_bytes w16 half) out.new }
+{
+    out.extend(&half.to_be_bytes());
+}
+
+fn extend_word(word: u32, out: &mut Out)
+    requires begun { 0 < length out.old.datagrams }
+    requires room { 4 ≤ out.old.datagram_spare }
+    ensures extended { Extended out.old (to_be_bytes w32 word) out.new }
+{
+    out.extend(&word.to_be_bytes());
+}
+
+fn extend_zeros(count: usize, out: &mut Out)
+    requires few { count ≤ 4 }
+    requires begun { 0 < length out.old.datagrams }
+    requires room { count ≤ out.old.datagram_spare }
+    ensures extended { Extended out.old (replicate count 0) out.new }
+{
+    out.extend([0u8; 4].split_at(count).0);
+}
+
+// The seconds since 1900 (RFC 3550, 4), modulo 2^32.
+fn ntp_seconds(clock: u64) -> u32
+    ensures seconds { result ≡ seconds_of clock }
+{
+    ((clock / 1000 + 2208988800) % 0x1_0000_0000) as u32
+}
+
+// The rest of a second in units of 2^-32 seconds, rounded down.
+fn ntp_fraction(clock: u64) -> u32
+    ensures fraction { result ≡ fraction_of clock }
+{
+    (clock % 1000 * 0x1_0000_0000 / 1000) as u32
+}
+
+// The clock in units of 90 kHz (RFC 2250, 2), modulo 2^32.
+fn rtp_time(clock: u64) -> u32
+    ensures time { result ≡ time_of clock }
+{
+    (clock as u128 * 90 % 0x1_0000_0000) as u32
+}
