@@ -1,0 +1,5 @@
+pub mod Choosing
+pub mod Finding
+pub mod MapOver
+pub mod Numbers
+pub mod Soundness

@@ -1,0 +1,33 @@
+-- What a front end is doing, and how that changes.
+use Rattle.std.specs.Prelude.{ℕ, ◌+◌, ◌%◌, ◌^◌, ◌==◌, Bool, true, false, if◌then◌else◌, List, Option, None, Some}
+use Rattle.std.specs.List.{list_any}
+use Rattle.satip_fronts.specs.declared.rows.FrontRow.{FrontRow}
+
+-- whether a stream with this place is at the front end of this number
+abbrev pub is_at : ℕ → Option ℕ → Bool
+is_at front None = false
+is_at front (Some number) = number == front
+
+-- whether the row is that of this front end
+abbrev pub is_row : ℕ → FrontRow → Bool
+is_row front row = row.number == front
+
+-- the row once its front end was tuned anew: another tune number, and the recording isn't ended
+unfoldable pub tuned_row : Option ℕ → FrontRow → FrontRow
+tuned_row mux row = record { number = row.number; mux = mux; tune = (row.tune + 1) % 2 ^ 64; ended = false }
+
+-- the row once this front end was tuned anew
+unfoldable pub tuned_at : ℕ → Option ℕ → FrontRow → FrontRow
+tuned_at front mux row = if is_row front row then tuned_row mux row else row
+
+-- the row of a free front end: no multiplex, not ended, its tune number kept
+unfoldable pub free_row : FrontRow → FrontRow
+free_row row = record { number = row.number; mux = None; tune = row.tune; ended = false }
+
+-- the row with these places of streams: free where its front end serves none
+unfoldable pub freed : List (Option ℕ) → FrontRow → FrontRow
+freed places row = if list_any (is_at row.number) places then row else free_row row
+
+-- the row once this front end's recording ended
+unfoldable pub ended_at : ℕ → FrontRow → FrontRow
+ended_at front row = if is_row front row then record row { ended = true } else row

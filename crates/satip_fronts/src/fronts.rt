@@ -1,0 +1,239 @@
+//! All front ends, and which stream is at which.
+
+ghost use Rattle.std.specs.Prelude.{◌≡◌, ◌≤◌, None, find, is_some, not, map, replicate, length, vec_len, IfNone, if◌then◌else◌};
+ghost use Rattle.std.specs.List.{list_any};
+ghost use Rattle.std.specs.Option.{option_map};
+ghost use Rattle.satip_fronts.specs.Rows.{is_at};
+ghost use Rattle.satip_fronts.specs.Choice.{choose, least, suits};
+ghost use Rattle.satip_fronts.specs.FrontEnds.{IsNumbered, Sound, all_free, blocked, choice, ended, front_of, is_current, is_front, left, moved, mux_at, new_row, outlook, placed_at, state_of, taken};
+
+use crate::choice::{Case, Place, is_tuned, may_take, place_at};
+use crate::rows::{
+    FrontRow, FrontState, count_at, end_front, free_unserved, front_of_stream, is_at_front,
+    is_current_row, move_stream, row_at, serves_any, tune_front,
+};
+use arrayvec::ArrayVec;
+use satip_tune::{Front, Mux, Tuning, fits, mux_of};
+use std::marker::Model;
+
+/// The front ends, numbered from 1. A contract sees their descriptions, the multiplexes, what each
+/// front end is doing, and the front end of each stream.
+#[derive(Drop)]
+pub struct Fronts {
+    fronts: Vec<Front>,
+    muxes: Vec<Mux>,
+    rows: ArrayVec<FrontRow, 16>,
+    places: [Option<u16>; 64],
+}
+
+impl Model for Fronts {
+    ghost use Rattle.satip_fronts.specs.FrontEnds.{FrontEnds};
+
+    ghost Value = { FrontEnds };
+
+    ghost use Rattle.satip_fronts.specs.FrontEnds.{Sound};
+    ghost use Rattle.satip_fronts.specs.View.{front_ends};
+
+    ghost view = { front_ends };
+
+    ghost invariant = { λ a. Sound (front_ends a) };
+}
+
+impl Fronts {
+    /// Front ends that serve no stream; none was tuned yet.
+    pub fn make(fronts: Vec<Front>, muxes: Vec<Mux>) -> Fronts
+        requires few { vec_len fronts ≤ 16 }
+        requires numbered { IsNumbered 1 fronts.items }
+        requires received { vec_len muxes ≤ 256 }
+        ensures free { result ≡ all_free fronts.items muxes.items }
+    {
+        let rows = new_rows(&fronts);
+        let places = no_places();
+        Fronts {
+            fronts,
+            muxes,
+            rows,
+            places,
+        }
+    }
+
+    /// Does nothing: tells a caller's proof what holds of the front ends at all times.
+    pub fn known(&self)
+        ensures sound { Sound self.now }
+    {
+        let _ = &self.rows;
+    }
+
+    /// What this front end is doing; None where no front end has that number.
+    #[tactic(auto, unfolding(crate::specs::FrontEnds::state_of))]
+    pub fn state(&self, front: u16) -> Option<FrontState>
+        ensures state { result ≡ state_of self.now front }
+        ensures none { is_some result ≡ list_any (is_front front) self.now.fronts }
+    {
+        let streams = count_at(front, &self.places);
+        match row_at(front, &self.rows) {
+            None => None,
+            Some(row) => Some(FrontState {
+                streams,
+                mux: row.mux,
+                tune: row.tune,
+                ended: row.ended,
+            }),
+        }
+    }
+
+    /// The front end of this number; None where there is none.
+    pub fn front(&self, number: u16) -> Option<&Front>
+        ensures front { option_map (λ f. f.now) result ≡ find (is_front number) self.now.fronts }
+    {
+        self.fronts.iter().find(|front| front.number == number)
+    }
+
+    /// Whether the stream is at this front end.
+    pub fn serves(&self, front: u16, stream: u16) -> bool
+        ensures serves { result ≡ is_at front (front_of self.now.places stream) }
+    {
+        is_at_front(front, front_of_stream(&self.places, stream))
+    }
+
+    /// Brings the stream to a front end for this tuning, and answers its number. The first of these
+    /// applies, where the wanted multiplex is that of the tuning: its own front end fits and is tuned to
+    /// it; the least other that does; its own fits and serves no other stream, and is tuned anew; the
+    /// least free one that fits, which is tuned. None where no front end is to be had.
+    pub fn take(&mut self, stream: u16, tuning: &Tuning) -> Option<u16>
+        requires from_one { 1 ≤ stream }
+        requires to_64 { stream ≤ 64 }
+        ensures chosen { result ≡ option_map (λ place. place.front) (choice self.old stream tuning.now) }
+        ensures none { is_some result ≡ not (blocked self.old stream tuning.now) }
+        ensures moved { self.new ≡ taken self.old stream tuning.now }
+        ensures unchanged { IfNone result (self.new ≡ self.old) }
+    {
+        let mux = mux_of(&self.muxes, tuning);
+        match self.place_for(stream, mux, tuning) {
+            None => None,
+            Some(place) => {
+                move_stream(&mut self.rows, &mut self.places, stream, place, mux);
+                Some(place.front)
+            }
+        }
+    }
+
+    /// Takes the stream from its front end, where it has one; that is then free, if the stream was its last.
+    pub fn leave(&mut self, stream: u16)
+        requires from_one { 1 ≤ stream }
+        requires to_64 { stream ≤ 64 }
+        ensures left { self.new ≡ left self.old stream }
+    {
+        self.places[stream as usize - 1] = None;
+        free_unserved(&mut self.rows, &self.places);
+    }
+
+    /// Marks that the recording with this tune number ended at a front end; false where there is no such
+    /// front end, it serves no stream or has another tune number.
+    pub fn end(&mut self, front: u16, tune: u64) -> bool
+        ensures current { result ≡ is_current self.old front tune }
+        ensures ended { self.new ≡ (if result then ended self.old front else self.old) }
+    {
+        let current = is_current_row(front, tune, &self.rows, &self.places);
+        if current {
+            end_front(&mut self.rows, front);
+        }
+        current
+    }
+
+    /// Whether the front end serves a stream other than this one.
+    fn is_shared(&self, front: u16, stream: u16) -> bool
+        requires from_one { 1 ≤ stream }
+        requires to_64 { stream ≤ 64 }
+        ensures shared { result ≡ list_any (is_at front) (placed_at self.now.places stream None) }
+    {
+        let mut others = self.places;
+        others[stream as usize - 1] = None;
+        serves_any(front, &others)
+    }
+
+    /// The multiplex of a front end, where it has one.
+    #[tactic(auto, unfolding(crate::specs::FrontEnds::mux_at))]
+    fn mux_of_front(&self, front: u16) -> Option<u16>
+        ensures mux { result ≡ mux_at self.now.rows front }
+    {
+        match row_at(front, &self.rows) {
+            None => None,
+            Some(row) => row.mux,
+        }
+    }
+
+    /// Whether the front end fits and may be taken in this case.
+    #[tactic(auto, unfolding(crate::specs::FrontEnds::outlook, crate::specs::Choice::may_take))]
+    fn is_suited(
+        &self,
+        case: Case,
+        stream: u16,
+        mux: Option<u16>,
+        tuning: &Tuning,
+        front: &Front,
+    ) -> bool
+        requires from_one { 1 ≤ stream }
+        requires to_64 { stream ≤ 64 }
+        ensures suited { result ≡ suits case (outlook self.now stream) mux tuning.now front.now }
+    {
+        let own = self.serves(front.number, stream);
+        let tuned = is_tuned(mux, self.mux_of_front(front.number));
+        let shared = self.is_shared(front.number, stream);
+        fits(front, tuning) && may_take(case, own, tuned, shared)
+    }
+
+    /// The least front end that fits and may be taken in this case.
+    #[tactic(auto, unfolding(crate::specs::Choice::least))]
+    fn least_of(&self, case: Case, stream: u16, mux: Option<u16>, tuning: &Tuning) -> Option<u16>
+        requires from_one { 1 ≤ stream }
+        requires to_64 { stream ≤ 64 }
+        ensures least { result ≡ least case (outlook self.now stream) mux tuning.now }
+    {
+        for front in &self.fronts {
+            if self.is_suited(case, stream, mux, tuning, front) {
+                return Some(front.number);
+            }
+        }
+        None
+    }
+
+    /// Where the stream comes to be that wants a multiplex by this tuning.
+    #[tactic(auto, unfolding(crate::specs::Choice::choose))]
+    fn place_for(&self, stream: u16, mux: Option<u16>, tuning: &Tuning) -> Option<Place>
+        requires from_one { 1 ≤ stream }
+        requires to_64 { stream ≤ 64 }
+        ensures place { result ≡ choose (outlook self.now stream) mux tuning.now }
+    {
+        let kept = place_at(false, self.least_of(Case::Keep, stream, mux, tuning));
+        let shared = place_at(false, self.least_of(Case::Share, stream, mux, tuning));
+        let retuned = place_at(true, self.least_of(Case::Retune, stream, mux, tuning));
+        let started = place_at(true, self.least_of(Case::Start, stream, mux, tuning));
+        kept.or(shared).or(retuned).or(started)
+    }
+}
+
+/// The places of streams that are at no front end.
+fn no_places() -> [Option<u16>; 64]
+    ensures places { result ≡ replicate 64 None }
+{
+    [None; 64]
+}
+
+/// What front ends are doing that were never tuned.
+#[tactic(auto, unfolding(crate::specs::FrontEnds::new_row))]
+fn new_rows(fronts: &[Front]) -> ArrayVec<FrontRow, 16>
+    requires few { length fronts.now ≤ 16 }
+    ensures rows { result.items ≡ map new_row fronts.now }
+{
+    let mut rows = ArrayVec::new();
+    for front in fronts {
+        rows.push(FrontRow {
+            number: front.number,
+            mux: None,
+            tune: 0,
+            ended: false,
+        });
+    }
+    rows
+}

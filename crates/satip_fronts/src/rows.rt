@@ -1,0 +1,191 @@
+//! What each front end is doing.
+
+ghost use Rattle.std.specs.Prelude.{◌≡◌, ◌≤◌, Some, count_by, find, length, map};
+ghost use Rattle.std.specs.List.{list_any};
+ghost use Rattle.satip_fronts.specs.FrontEnds.{front_of, is_current_in, placed_at, tuned_rows};
+ghost use Rattle.satip_fronts.specs.Rows.{ended_at, freed, is_at, is_row, tuned_at};
+
+use crate::choice::Place;
+
+/// What a front end is doing, with its number: how a contract sees it.
+#[derive(Clone, Copy, Debug, Default, PartialEq, Eq)]
+pub struct FrontRow {
+    pub number: u16,
+    pub mux: Option<u16>,
+    pub tune: u64,
+    pub ended: bool,
+}
+
+/// What a front end is doing: how many streams it serves, the number of its multiplex, its tune
+/// number, and whether that recording has ended.
+#[derive(Clone, Copy, Debug, PartialEq, Eq)]
+pub struct FrontState {
+    pub streams: u16,
+    pub mux: Option<u16>,
+    pub tune: u64,
+    pub ended: bool,
+}
+
+/// Whether a stream is at this front end.
+pub fn is_at_front(front: u16, place: Option<u16>) -> bool
+    ensures at { result ≡ is_at front place }
+{
+    match place {
+        None => false,
+        Some(number) => number == front,
+    }
+}
+
+/// Whether a stream is at this front end, of streams that are at these.
+pub fn serves_any(front: u16, places: &[Option<u16>]) -> bool
+    ensures served { result ≡ list_any (is_at front) places.now }
+{
+    places.iter().any(|place| is_at_front(front, *place))
+}
+
+/// The front end of a stream, of streams that are at these.
+#[tactic(auto, unfolding(crate::specs::FrontEnds::front_of))]
+pub fn front_of_stream(places: &[Option<u16>], stream: u16) -> Option<u16>
+    ensures front { result ≡ front_of places.now stream }
+{
+    if stream == 0 {
+        return None;
+    }
+    match places.get(stream as usize - 1) {
+        None => None,
+        Some(place) => *place,
+    }
+}
+
+/// The row of this front end.
+pub fn row_at(front: u16, rows: &[FrontRow]) -> Option<FrontRow>
+    ensures row { result ≡ find (is_row front) rows.now }
+{
+    for row in rows {
+        if row.number == front {
+            return Some(*row);
+        }
+    }
+    None
+}
+
+/// The row, where its front end was tuned anew.
+#[tactic(auto, unfolding(crate::specs::Rows::tuned_at, crate::specs::Rows::tuned_row))]
+fn tuned_row(front: u16, mux: Option<u16>, row: FrontRow) -> FrontRow
+    ensures tuned { result ≡ tuned_at front mux row }
+{
+    if row.number == front {
+        FrontRow {
+            mux,
+            tune: row.tune.wrapping_add(1),
+            ended: false,
+            ..row
+        }
+    } else {
+        row
+    }
+}
+
+/// Tunes a front end anew.
+pub fn tune_front(rows: &mut [FrontRow], front: u16, mux: Option<u16>)
+    ensures tuned { rows.new ≡ map (tuned_at front mux) rows.old }
+{
+    for i in 0..rows.len() {
+        rows[i] = tuned_row(front, mux, rows[i]);
+    }
+}
+
+/// The row of a front end that is free where no stream is at it.
+#[tactic(auto, unfolding(crate::specs::Rows::freed, crate::specs::Rows::free_row))]
+fn freed_row(places: &[Option<u16>], row: FrontRow) -> FrontRow
+    ensures freed { result ≡ freed places.now row }
+{
+    if serves_any(row.number, places) {
+        row
+    } else {
+        FrontRow {
+            mux: None,
+            ended: false,
+            ..row
+        }
+    }
+}
+
+/// Tunes the place's front end anew, where the place says so.
+#[tactic(auto, unfolding(crate::specs::FrontEnds::tuned_rows))]
+fn tune_place(rows: &mut [FrontRow], place: Place, mux: Option<u16>)
+    ensures tuned { rows.new ≡ tuned_rows place mux rows.old }
+{
+    if place.anew {
+        tune_front(rows, place.front, mux);
+    }
+}
+
+/// Brings a stream to this place, and frees its former front end where it was the last there.
+pub fn move_stream(
+    rows: &mut [FrontRow],
+    places: &mut [Option<u16>],
+    stream: u16,
+    place: Place,
+    mux: Option<u16>,
+)
+    requires from_one { 1 ≤ stream }
+    requires within { stream ≤ length places.old }
+    ensures places { places.new ≡ placed_at places.old stream (Some place.front) }
+    ensures rows { rows.new ≡ map (freed places.new) (tuned_rows place mux rows.old) }
+{
+    tune_place(rows, place, mux);
+    places[stream as usize - 1] = Some(place.front);
+    free_unserved(rows, places);
+}
+
+/// Frees each front end that serves no stream.
+pub fn free_unserved(rows: &mut [FrontRow], places: &[Option<u16>])
+    ensures freed { rows.new ≡ map (freed places.now) rows.old }
+{
+    for i in 0..rows.len() {
+        rows[i] = freed_row(places, rows[i]);
+    }
+}
+
+/// The row, where its recording ended.
+#[tactic(auto, unfolding(crate::specs::Rows::ended_at))]
+fn ended_row(front: u16, row: FrontRow) -> FrontRow
+    ensures ended { result ≡ ended_at front row }
+{
+    if row.number == front {
+        FrontRow { ended: true, ..row }
+    } else {
+        row
+    }
+}
+
+/// Marks the recording of a front end as ended.
+pub fn end_front(rows: &mut [FrontRow], front: u16)
+    ensures ended { rows.new ≡ map (ended_at front) rows.old }
+{
+    for i in 0..rows.len() {
+        rows[i] = ended_row(front, rows[i]);
+    }
+}
+
+/// How many streams are at this front end, of streams that are at these.
+pub fn count_at(front: u16, places: &[Option<u16>]) -> u16
+    requires few { length places.now ≤ 64 }
+    ensures count { result ≡ count_by (is_at front) places.now }
+{
+    places
+        .iter()
+        .filter(|place| is_at_front(front, **place))
+        .count() as u16
+}
+
+/// Whether the front end serves a stream and has this tune number.
+pub fn is_current_row(front: u16, tune: u64, rows: &[FrontRow], places: &[Option<u16>]) -> bool
+    ensures current { result ≡ is_current_in rows.now places.now front tune }
+{
+    match row_at(front, rows) {
+        None => false,
+        Some(row) => serves_any(front, places) && row.tune == tune,
+    }
+}

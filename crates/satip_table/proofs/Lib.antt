@@ -1,0 +1,4 @@
+pub mod Listing
+pub mod SeatLaws
+pub mod StreamLaws
+pub mod TableLaws

@@ -1,0 +1,5 @@
+pub mod Sessions
+pub mod Changes
+pub mod Streams
+pub mod Living
+pub mod View

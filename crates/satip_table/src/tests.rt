@@ -1,0 +1,137 @@
+//! Tables of a few sessions, and a full one.
+
+use crate::{NewSession, Session, Table};
+use satip_base::{Draw, Peer, Ports, SessionId, Want};
+use satip_pids::PidSet;
+use std::process::Abort;
+
+/// A session that is made of this drawn word.
+fn drawn(word: u32) -> NewSession {
+    NewSession {
+        http: false,
+        peer: Peer { ip: 3232235796 },
+        ports: Ports {
+            rtp: 1400,
+            rtcp: 1401,
+        },
+        draw: Draw {
+            word,
+            ssrc: 287454020,
+            first: 65535,
+        },
+        heard: 1000,
+    }
+}
+
+fn found(rt: &impl Abort, table: &mut Table, word: u32) -> (SessionId, u16) {
+    assert!(rt; !table.full());
+    table.found(drawn(word))
+}
+
+/// Joins stream 1.
+fn joined(rt: &impl Abort, table: &mut Table, word: u32) -> SessionId {
+    assert!(rt; !table.full());
+    assert!(rt; table.find_stream(1).is_some());
+    table.join(drawn(word), 1)
+}
+
+#[test]
+fn the_earliest_joined_session_becomes_the_owner(rt: HostRuntime) -> Result<(), Want> {
+    let mut table = Table::make(rt.alloc())?;
+    let (first, number) = found(&rt, &mut table, 10);
+    assert_eq!(rt; first, SessionId { count: 1, word: 10 });
+    assert_eq!(rt; number, 1);
+    let second = joined(&rt, &mut table, 11);
+    let third = joined(&rt, &mut table, 12);
+    assert_eq!(rt; table.joined(1, 0), Some(second));
+    assert_eq!(rt; table.joined(1, 1), Some(third));
+    assert_eq!(rt; table.joined(1, 2), None);
+    assert!(rt; table.leave(first));
+    assert!(rt;
+        table
+            .find_stream(1)
+            .is_some_and(|stream| stream.owner == second)
+    );
+    assert_eq!(rt; table.joined(1, 0), Some(third));
+    assert!(rt; table.leave(third) && !table.leave(third) && table.leave(second));
+    assert!(rt; table.find_stream(1).is_none() && table.session(0).is_none());
+    Ok(())
+}
+
+#[test]
+fn the_least_free_number_is_used_again(rt: HostRuntime) -> Result<(), Want> {
+    let mut table = Table::make(rt.alloc())?;
+    let (first, _) = found(&rt, &mut table, 10);
+    let (second, _) = found(&rt, &mut table, 11);
+    let (third, number) = found(&rt, &mut table, 12);
+    assert_eq!(rt; number, 3);
+    assert!(rt; table.leave(second));
+    let (fourth, number) = found(&rt, &mut table, 13);
+    assert_eq!(rt; fourth.count, 4);
+    assert_eq!(rt; number, 2);
+    for (place, id) in [first, third, fourth].iter().enumerate() {
+        assert!(rt;
+            table
+                .session(place)
+                .is_some_and(|session| session.id == *id)
+        );
+        assert!(rt;
+            table
+                .stream(place)
+                .is_some_and(|stream| stream.number as usize == place + 1)
+        );
+    }
+    assert!(rt; table.session(3).is_none() && table.stream(3).is_none());
+    Ok(())
+}
+
+#[test]
+fn a_full_table_has_64_slots(rt: HostRuntime) -> Result<(), Want> {
+    let mut table = Table::make(rt.alloc())?;
+    for _ in 0..64 {
+        let _ = found(&rt, &mut table, 10);
+    }
+    assert!(rt; table.full());
+    let mut taken = [false; 64];
+    for place in 0..64 {
+        let id = table.session(place).map(|session| session.id);
+        let slot = id.and_then(|id| table.slot(id)).expect(&rt, "lives") as usize;
+        assert!(rt; slot < 64 && !taken[slot]);
+        taken[slot] = true;
+    }
+    assert!(rt; table.leave(SessionId { count: 7, word: 10 }) && !table.full());
+    assert_eq!(rt; found(&rt, &mut table, 11).1, 7);
+    Ok(())
+}
+
+#[test]
+fn fields_change_and_the_others_stay(rt: HostRuntime) -> Result<(), Want> {
+    let mut table = Table::make(rt.alloc())?;
+    let (id, number) = found(&rt, &mut table, 10);
+    let before = *table.find(id).expect(&rt, "lives");
+    assert!(rt; !before.playing && before.reported.is_none() && before.heard == 1000);
+    assert!(rt; table.heard(id, 2000) && table.play(id) && table.reported(id, 1500));
+    let ports = Ports { rtp: 5, rtcp: 6 };
+    assert!(rt; table.move_to(id, Peer { ip: 7 }, ports));
+    let after = Session {
+        peer: Peer { ip: 7 },
+        ports,
+        playing: true,
+        heard: 2000,
+        reported: Some(1500),
+        ..before
+    };
+    let slot = table.slot(id).expect(&rt, "lives");
+    assert!(rt; table.at(slot).is_some_and(|session| *session == after));
+    let mut pids = PidSet::new();
+    pids.set_all();
+    assert!(rt; table.change(number, None, Some(2), pids) && !table.change(2, None, None, pids));
+    assert!(rt;
+        table
+            .find_stream(number)
+            .is_some_and(|s| s.front == Some(2) && s.owner == id)
+    );
+    let other = SessionId { count: 1, word: 11 };
+    assert!(rt; !table.heard(other, 0) && !table.play(other) && table.find(other).is_none());
+    Ok(())
+}
