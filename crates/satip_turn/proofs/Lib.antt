@@ -1,0 +1,12 @@
+pub mod Counts
+pub mod Known
+pub mod Moves
+pub mod Held
+pub mod Turning
+pub mod Telling
+pub mod Sounds
+pub mod Drawing
+pub mod Joining
+pub mod Bursts
+pub mod Crossing
+pub mod Counting

@@ -1,0 +1,108 @@
+//! Many calls under one turn.
+ghost use Rattle.std.specs.Prelude.{◌≡◌, ◌≢◌, ◌⊎◌, ℕ, ◌+◌, ◌^◌, ◌<◌, ◌≤◌, Bool, true, false, [], ◌∷◌, length, None, IsSome, ◌↔◌, IsTrue};
+ghost use Rattle.satip_history.specs.History.{entries};
+ghost use Rattle.satip_turn.specs.declared.view.View.{View};
+ghost use Rattle.satip_turn.specs.Seats.{IsTurnTable, IsHolding, IsServed, IsUnderWay};
+ghost use Rattle.satip_turn.specs.Fed.{MatchFed};
+
+use crate::cell::Burst;
+use crate::feed::Feed;
+use crate::seat::{TurnSeat, TurnTable, commit};
+use satip_history::Served;
+
+// The most entries of a burst.
+const MOST: u32 = 64;
+
+// What one step of a burst did.
+pub(crate) enum Fed {
+    // It made an entry.
+    Made,
+    // The feed gave no event.
+    Ended,
+    // The feed gave an event, and the history is full.
+    Full,
+}
+
+// Asks the feed for an event, serves it, commits it and hands over the answer.
+pub(crate) fn feed_one<S: Served, F: Feed<S>>(
+    table: &TurnTable<S>,
+    seat: &mut TurnSeat<S>,
+    place: &mut u64,
+    served: &mut S,
+    feed: &mut F,
+    out: &mut S::Out,
+) -> Fed
+    requires cell { (seat.old.table_id ≡ table.now.table_id) × IsTurnTable table.now.table_id }
+    requires holds { IsHolding seat.old.me }
+    requires served { IsServed S.setting S.stands_for seat.old.me.0 served.old }
+    requires seen { seat.old.me.0.seen ≡ seat.old.me.0.whole }
+    requires place { place.old ≡ length seat.old.me.0.whole }
+    requires open { F.ended feed.old ≡ false }
+    requires none { F.given feed.old ≡ None }
+    ensures cell { seat.new.table_id ≡ seat.old.table_id }
+    ensures going { (first : F) (v : View S.Event S.Answer S.Out S.Setting) (made : ℕ)
+        → IsUnderWay S.setting S.stands_for (F.has_taken first feed.old) v made
+        seat.old.me served.old place.old
+        → MatchFed result
+        (IsUnderWay S.setting S.stands_for (F.has_taken first feed.new) v (made + 1)
+        seat.new.me served.new place.new)
+        (IsUnderWay S.setting S.stands_for (F.has_taken first feed.new) v made
+        seat.new.me served.new place.new)
+        (IsUnderWay S.setting S.stands_for (F.has_taken first feed.new) v made
+        seat.new.me served.new place.new) }
+    ensures ended { MatchFed result
+        (F.ended feed.new ≡ false) (F.ended feed.new ≡ true) (Unit {0}) }
+    ensures given { MatchFed result
+        (F.given feed.new ≡ None) (F.given feed.new ≡ None) (IsSome (F.given feed.new)) }
+    ensures full { MatchFed result
+        (Unit {0}) (Unit {0}) (place.new ≡ 18446744073709551615) }
+{
+    let Some(event) = feed.next() else {
+        return Fed::Ended;
+    };
+    if *place == u64::MAX {
+        return Fed::Full;
+    }
+    let answer = served.serve(&event, out);
+    commit(table, seat, &event, &answer, out);
+    feed.took(&answer, out);
+    *place += 1;
+    Fed::Made
+}
+
+// Up to 64 steps, after the look.
+pub(crate) fn feed_many<S: Served, F: Feed<S>>(
+    table: &TurnTable<S>,
+    seat: &mut TurnSeat<S>,
+    place: &mut u64,
+    served: &mut S,
+    feed: &mut F,
+    out: &mut S::Out,
+) -> Burst
+    requires cell { (seat.old.table_id ≡ table.now.table_id) × IsTurnTable table.now.table_id }
+    requires holds { IsHolding seat.old.me }
+    requires served { IsServed S.setting S.stands_for seat.old.me.0 served.old }
+    requires seen { seat.old.me.0.seen ≡ seat.old.me.0.whole }
+    requires place { place.old ≡ length seat.old.me.0.whole }
+    requires open { F.ended feed.old ≡ false }
+    requires none { F.given feed.old ≡ None }
+    ensures cell { seat.new.table_id ≡ seat.old.table_id }
+    ensures made { IsUnderWay S.setting S.stands_for (F.has_taken feed.old feed.new) seat.old.me.0
+        result.made seat.new.me served.new place.new }
+    ensures most { result.made ≤ 64 }
+    ensures few { result.made < 64 → (F.ended feed.new ≡ true) ⊎ (result.spent ≡ true) }
+    ensures spent { IsTrue result.spent ↔ IsSome (F.given feed.new) }
+    ensures full { result.spent ≡ true → place.new ≡ 18446744073709551615 }
+{
+    for made in 0..MOST {
+        match feed_one(table, seat, place, served, feed, out) {
+            Fed::Made => {}
+            Fed::Ended => return Burst { made, spent: false },
+            Fed::Full => return Burst { made, spent: true },
+        }
+    }
+    Burst {
+        made: MOST,
+        spent: false,
+    }
+}

@@ -1,0 +1,146 @@
+//! The calls of a cell that make entries or look at the history.
+ghost use Rattle.std.specs.Prelude.{◌≡◌, ◌+◌, ◌<◌, ◌≤◌, ◌⊎◌, ◌↔◌, true, false, [], ◌∷◌, length, None, IsTrue, IsSome, IsErr, OnErr, MatchResult};
+ghost use Rattle.satip_history.specs.History.{entry};
+ghost use Rattle.satip_turn.specs.Shown.{IsOf, Keeps, Knows, Turned, Looked, Bursts, met_once};
+ghost use Rattle.satip_turn.specs.Tried.{MatchTried, OnDone, OnSpent, OnUndone, busy_count};
+
+use crate::burst::feed_many;
+use crate::cell::{Burst, Pass, Tried, TurnCell};
+use crate::feed::Feed;
+use crate::seat::{give, look, take};
+use crate::turns::{serve_turn, wait_turn};
+use satip_base::Spent;
+use satip_history::Served;
+use std::sync::Wait;
+
+impl<S: Served> TurnCell<S> {
+    /// Makes one call, unless another caller holds the turn or the history is full. The place of
+    /// the call's entry in the history is the single addition to the cell's count word.
+    pub fn try_call(
+        &self,
+        pass: &mut Pass<S>,
+        event: &S::Event,
+        out: &mut S::Out,
+    ) -> Tried<S::Answer>
+        requires { IsOf pass.old self.now }
+        ensures of { IsOf pass.new self.now }
+        ensures rests { pass.new.turn ≡ false }
+        ensures keeps { Keeps pass.old pass.new }
+        ensures knows { Knows (S.legal self.now.setting) pass.new }
+        ensures history { MatchTried result
+            (λ answer. Turned pass.old pass.new
+            (entry pass.old.number event.now answer out.new ∷ []))
+            (pass.new ≡ met_once pass.old)
+            (Looked pass.old pass.new) }
+
+        // Busy exactly where the one try found the turn taken, and Spent where the history is full
+        ensures met { pass.new.met ≡ pass.old.met + busy_count result }
+        ensures room { OnDone result (length pass.new.looked < 18446744073709551615) }
+        ensures full { OnSpent result (length pass.new.seen ≡ 18446744073709551615) }
+        ensures out { OnUndone result (out.new ≡ out.old) }
+    {
+        match take(&self.table.shared, &mut pass.seat) {
+            None => Tried::Busy,
+            Some(served) => match serve_turn(
+                &self.table.shared,
+                &mut pass.seat,
+                &mut pass.place,
+                served,
+                event,
+                out,
+            ) {
+                Ok(answer) => Tried::Done(answer),
+                Err(Spent) => Tried::Spent,
+            },
+        }
+    }
+
+    /// Makes one call, once no other caller holds the turn. It waits.
+    pub fn call<R: Wait + Sync>(
+        &self,
+        rt: &R,
+        pass: &mut Pass<S>,
+        event: &S::Event,
+        out: &mut S::Out,
+    ) -> Result<S::Answer, Spent>
+        requires { IsOf pass.old self.now }
+        ensures of { IsOf pass.new self.now }
+        ensures rests { pass.new.turn ≡ false }
+        ensures keeps { Keeps pass.old pass.new }
+        ensures knows { Knows (S.legal self.now.setting) pass.new }
+        ensures history { MatchResult result
+            (λ answer. Turned pass.old pass.new
+            (entry pass.old.number event.now answer out.new ∷ []))
+            (λ _. Looked pass.old pass.new) }
+        ensures spent { IsErr result ↔ (length pass.new.looked ≡ 18446744073709551615) }
+        ensures full { OnErr result (length pass.new.seen ≡ 18446744073709551615) }
+        ensures out { OnErr result (out.new ≡ out.old) }
+        ensures met { pass.old.met ≤ pass.new.met }
+    {
+        let served = wait_turn(rt, &self.table.shared, &mut pass.seat);
+        serve_turn(
+            &self.table.shared,
+            &mut pass.seat,
+            &mut pass.place,
+            served,
+            event,
+            out,
+        )
+    }
+
+    /// Looks at the whole history, once no other caller holds the turn. It waits.
+    pub fn refresh<R: Wait + Sync>(&self, rt: &R, pass: &mut Pass<S>)
+        requires { IsOf pass.old self.now }
+        ensures of { IsOf pass.new self.now }
+        ensures rests { pass.new.turn ≡ false }
+        ensures keeps { Keeps pass.old pass.new }
+        ensures knows { Knows (S.legal self.now.setting) pass.new }
+        ensures history { Looked pass.old pass.new }
+        ensures looks { pass.old.looks < pass.new.looks }
+        ensures met { pass.old.met ≤ pass.new.met }
+    {
+        let value = wait_turn(rt, &self.table.shared, &mut pass.seat);
+        pass.place = look(&self.table.shared, &mut pass.seat);
+        give(&self.table.shared, &mut pass.seat, value);
+    }
+
+    /// Makes the feed's events one after another under one turn, each one entry: until the feed
+    /// gives none, 64 entries were made, or the history is full. It waits for the turn. No other
+    /// caller's entry stands between those of a burst.
+    pub fn burst<R: Wait + Sync, F: Feed<S>>(
+        &self,
+        rt: &R,
+        pass: &mut Pass<S>,
+        feed: &mut F,
+        out: &mut S::Out,
+    ) -> Burst
+        requires of { IsOf pass.old self.now }
+        requires open { F.ended feed.old ≡ false }
+        requires none { F.given feed.old ≡ None }
+        ensures of { IsOf pass.new self.now }
+        ensures rests { pass.new.turn ≡ false }
+        ensures keeps { Keeps pass.old pass.new }
+        ensures knows { Knows (S.legal self.now.setting) pass.new }
+        ensures history { Bursts (F.has_taken feed.old feed.new) pass.old pass.new result.made }
+        ensures most { result.made ≤ 64 }
+        ensures few { result.made < 64 → (F.ended feed.new ≡ true) ⊎ (result.spent ≡ true) }
+
+        // an event that the feed gave has no entry
+        ensures spent { IsTrue result.spent ↔ IsSome (F.given feed.new) }
+        ensures full { result.spent ≡ true → length pass.new.seen ≡ 18446744073709551615 }
+        ensures met { pass.old.met ≤ pass.new.met }
+    {
+        let mut served = wait_turn(rt, &self.table.shared, &mut pass.seat);
+        pass.place = look(&self.table.shared, &mut pass.seat);
+        let burst = feed_many(
+            &self.table.shared,
+            &mut pass.seat,
+            &mut pass.place,
+            &mut served,
+            feed,
+            out,
+        );
+        give(&self.table.shared, &mut pass.seat, served);
+        burst
+    }
+}

@@ -1,0 +1,79 @@
+//! The rule of the cell's table, and what each of its steps tells.
+ghost use Rattle.std.specs.Prelude.{◌≡◌};
+ghost use Rattle.satip_turn.specs.Views.{opening_view, spent_view};
+ghost use Rattle.satip_turn.specs.Rule.{Kept};
+ghost use Rattle.satip_turn.specs.Steps.{Tries, Looks, Gives, Draws, Hears, spoken, parting, newcomer, joining};
+
+use crate::view::{Sight, Slot, View};
+use atomic_table::{Join, Play, Split, TableRule};
+use satip_history::Served;
+use std::snapshot::Snapshot;
+
+/// Word 0 is the turn, word 1 the length of the history, and the slot holds the served value.
+pub struct Turns;
+
+impl<S: Served> TableRule<Slot<S>, Sight<S>, Snapshot<S>> for Turns {
+    ghost holds = { λ k s. Kept S.setting S.legal S.stands_for (S.setting k.value) s };
+
+    ghost first = { λ k. opening_view (S.setting k.value) };
+}
+
+// The turn word from 0 to 1, and the slot out.
+pub(crate) struct Take;
+
+impl<S: Served> Play<Slot<S>, Sight<S>> for Take {
+    ghost then = { λ _ me found after. Tries S.setting S.stands_for me found after };
+}
+
+// The length is read under the turn.
+pub(crate) struct Look;
+
+impl<S: Served> Play<Slot<S>, Sight<S>> for Look {
+    ghost then = { λ _ me found after. Looks me found after };
+}
+
+// One is added to the length: what the slot says is an entry.
+pub(crate) struct Commit;
+
+impl<S: Served> Play<Slot<S>, Sight<S>> for Commit {
+    ghost then = { λ _ me _ after. after ≡ (spoken me.0 me.1, me.1) };
+}
+
+// The turn word to 0, and the slot home.
+pub(crate) struct Give;
+
+impl<S: Served> Play<Slot<S>, Sight<S>> for Give {
+    ghost then = { λ _ me _ after. Gives S.legal me after };
+}
+
+// A new number is drawn.
+pub(crate) struct Draw;
+
+impl<S: Served> Play<Slot<S>, Sight<S>> for Draw {
+    ghost then = { λ _ me _ after. Draws S.legal me after };
+}
+
+// What was joined is told to be one history.
+pub(crate) struct Hear;
+
+impl<S: Served> Play<Slot<S>, Sight<S>> for Hear {
+    ghost then = { λ _ me _ after. Hears S.legal me after };
+}
+
+// A seat with the drawn number.
+pub(crate) struct SplitOff;
+
+impl<E, A, O, C> Split<View<E, A, O, C>> for SplitOff {
+    ghost left = { parting };
+
+    ghost right = { newcomer };
+}
+
+// A seat takes in another.
+pub(crate) struct JoinIn;
+
+impl<E, A, O, C> Join<View<E, A, O, C>> for JoinIn {
+    ghost both = { joining };
+
+    ghost spent = { spent_view };
+}
