@@ -1,0 +1,10 @@
+pub mod Listed
+pub mod Printing
+pub mod Wholes
+pub mod Lists
+pub mod Numbered
+pub mod Texts
+pub mod Inverses
+pub mod TextRanges
+pub mod LimitLemmas
+pub mod KeyFaults

@@ -1,0 +1,42 @@
+//! What a configuration is.
+use satip_base::Text;
+use satip_tune::{Front, Mux};
+use std::marker::Model;
+
+/// The server's configuration. Contracts see its eight values, each vector as a list.
+#[derive(Drop)]
+pub struct Config {
+    /// The IPv4 address that the server gives as its own, in host order.
+    pub address: u32,
+    /// The TCP port for RTSP.
+    pub rtsp_port: u16,
+    /// The TCP port for HTTP.
+    pub http_port: u16,
+    /// After how many seconds a session that wasn't heard of ends.
+    pub timeout: u32,
+    /// How many connections are served at a time.
+    pub workers: u16,
+    /// The front ends, numbered from 1 in order.
+    pub fronts: Vec<Front>,
+    /// The multiplexes that can be received, numbered from 1 by their places.
+    pub muxes: Vec<Mux>,
+    /// The name of each multiplex's recording.
+    pub files: Vec<Text>,
+}
+
+impl Model for Config {
+    ghost use Rattle.satip_config.specs.Configuration.{Configuration};
+
+    ghost Value = { Configuration };
+
+    ghost view = { λ c. record {
+      address = c.address;
+      rtsp_port = c.rtsp_port;
+      http_port = c.http_port;
+      timeout = c.timeout;
+      workers = c.workers;
+      fronts = c.fronts.items;
+      muxes = c.muxes.items;
+      files = c.files.items;
+    } };
+}
