@@ -1,0 +1,34 @@
+use Rattle.std.proofs.Common.{◌≡◌, ◌+◌, ◌<◌, false, cond, [], vec_len, sym, ap, subst, ◌∙◌, arith}
+use Rattle.std.proofs.lemmas.List.Elements.{All-pop}
+use Rattle.std.specs.List.{list_any}
+use Rattle.circular_buffer.specs.Buffer.{buffer}
+use Rattle.satip_flow.specs.Subscription.{has_slot}
+use Rattle.satip_flow.specs.Queues.{has_queue}
+use Rattle.satip_flow.proofs.RoomLemmas.{sound_put, queue_left}
+use Rattle.satip_flow.proofs.flow.Flow.add_http.Goals as goal
+
+pub unwrap-queue-requires : goal.unwrap-queue-requires
+unwrap-queue-requires c =
+    let free = rw (← c.self.view_is) at c.requires.free in
+    c.pop.ensures.variant.1 (queue_left c.self.inside c.args.place.slot c.requires.slot free c.self.invariant)
+
+pub insert_ordered-requires-clause-slot : goal.insert_ordered-requires-clause-slot
+insert_ordered-requires-clause-slot c = subst (λ s. s.place.slot < 64) (sym c.queued.ensures.subscription) c.requires.slot
+
+pub insert_ordered-requires-clause-free : goal.insert_ordered-requires-clause-free
+insert_ordered-requires-clause-free c =
+    let free = rw (← c.self.view_is) at c.requires.free in
+    subst (λ s. list_any (has_slot s.place.slot) c.self.inside.subscribers.items ≡ false) (sym c.queued.ensures.subscription) free
+
+pub invariant_of-self : goal.invariant_of-self
+invariant_of-self c =
+    let s = c.queued.result in
+    let is = c.queued.ensures.subscription in
+    let free = rw (← c.self.view_is) at c.requires.free in
+    let left = rw c.unwrap-queue.ensures at c.pop.ensures.len in
+    let rest = All-pop (λ queue. queue ≡ buffer [] 4096) c.self.inside.spare_queues.items c.pop.new.self.items c.pop.result c.pop.ensures.items c.self.invariant.queues in
+    sound_put c.self.inside (record { subscribers = c.insert_ordered.new.subscribers; spare_queues = c.pop.new.self }) s
+    (subst (λ s. s.place.slot < 64) (sym is) c.requires.slot)
+    (subst (λ s. list_any (has_slot s.place.slot) c.self.inside.subscribers.items ≡ false) (sym is) free)
+    c.insert_ordered.ensures.added c.insert_ordered.ensures.capacity c.pop.ensures.capacity rest.0
+    (ap (λ s. vec_len c.pop.new.self + cond (has_queue s) 1 0) is ∙ omega (arith, left)) c.self.invariant

@@ -1,0 +1,400 @@
+//! `Flow`, which a clause sees as the list of its subscribers.
+ghost use Rattle.std.specs.Prelude.{◌≡◌, ◌≢◌, ℕ, ◌+◌, ◌<◌, ◌≤◌, ◌==◌, ◌&&◌, true, false, [], length, map, insert, All, vec_len, vec_capacity, is_some, IfOk, IfNone, IfSome, if◌then◌else◌};
+ghost use Rattle.std.specs.List.{list_any, flat_map};
+ghost use Rattle.std.specs.Int.{bit_at};
+ghost use Rattle.circular_buffer.specs.Buffer.{buffer};
+ghost use Rattle.satip_rtp.specs.Sending.{SendsAll};
+ghost use Rattle.satip_rtp.specs.Packing.{packing};
+ghost use Rattle.satip_flow.specs.Subscription.{sender_state, pulled_bytes, WrotePulled, subscription, Subscription, ToAddress, ToQueue, has_slot, given, given_datagrams, flushed, flush_datagrams, holds, readdressed, pulled, changed, meets_full, packing_of, queue_of};
+ghost use Rattle.satip_flow.specs.Standing.{IsNowhere, StandsAt, HoldsOfAt, ChangesAt};
+ghost use Rattle.satip_flow.specs.Queues.{has_queue};
+ghost use Rattle.satip_flow.specs.Subscriptions.{put, comes_before, change_slot, without, feed_of_slot, packing_of_slot, queue_of_slot, holds_any, flushed_datagrams, is_overrun, IsFrontOrNone, SlotsApart};
+
+use crate::place::{Place, SenderState};
+use crate::sink::Queue;
+use crate::subscriber::Subscriber;
+use satip_base::{Address, Out, Want};
+use satip_pids::PidSet;
+use satip_rtp::Packer;
+use satip_ts::Packet;
+use std::alloc::Global;
+use std::marker::Model;
+
+const SUBSCRIBERS: usize = 64;
+
+const QUEUE_PACKETS: usize = 4096;
+
+/// The sessions that get packets, in order of their stream's number and then of their id's count.
+/// All memory is taken when it is made: room for 64 subscribers, and 64 queues of 4096 packets.
+#[derive(Drop)]
+pub struct Flow {
+    subscribers: Vec<Subscriber>,
+    spare_queues: Vec<Queue>,
+}
+
+impl Model for Flow {
+    ghost use Rattle.std.specs.Prelude.{List};
+    ghost use Rattle.satip_flow.specs.Subscription.{Subscription};
+
+    ghost Value = { List Subscription };
+
+    ghost use Rattle.satip_flow.specs.Rooms.{IsSound};
+
+    ghost view = { λ f. f.subscribers.items };
+
+    ghost invariant = { IsSound };
+}
+
+impl Flow {
+    /// Takes all memory. There are no subscribers.
+    pub fn make(alloc: Global) -> Result<Flow, Want>
+        ensures ok { IfOk result (λ flow. flow ≡ []) }
+    {
+        let (Ok(subscribers), Ok(spare_queues)) = (
+            Vec::with_capacity(alloc, SUBSCRIBERS),
+            make_queues(alloc),
+        ) else {
+            return Err(Want);
+        };
+        Ok(Flow {
+            subscribers,
+            spare_queues,
+        })
+    }
+
+    /// A session begins to play, with a new packer.
+    pub fn add_rtp(
+        &mut self,
+        place: Place,
+        front: Option<u16>,
+        pids: &PidSet,
+        to: Address,
+        ssrc: u32,
+        first: u16,
+    )
+        requires slot { place.slot < 64 }
+        requires free { list_any (has_slot place.slot) self.old ≡ false }
+        requires count { list_any (λ s. s.place.count == place.count) self.old ≡ false }
+        requires front { IsFrontOrNone front }
+        ensures added { self.new
+            ≡ put (subscription place front pids.now (ToAddress to (packing ssrc first))) self.old }
+    {
+        let subscriber = Subscriber::packed(place, front, pids, to, Packer::new(ssrc, first));
+        insert_ordered(&mut self.subscribers, subscriber);
+    }
+
+    /// A session over HTTP begins, with an empty queue.
+    pub fn add_http(&mut self, place: Place, front: Option<u16>, pids: &PidSet)
+        requires slot { place.slot < 64 }
+        requires free { list_any (has_slot place.slot) self.old ≡ false }
+        requires count { list_any (λ s. s.place.count == place.count) self.old ≡ false }
+        requires front { IsFrontOrNone front }
+        ensures added { self.new ≡ put (subscription place front pids.now (ToQueue [])) self.old }
+    {
+        let queue = self.spare_queues.pop().unwrap();
+        insert_ordered(
+            &mut self.subscribers,
+            Subscriber::queued(place, front, pids, queue),
+        );
+    }
+
+    /// Each subscriber of this stream has this front and these PIDs from now on. What is held or
+    /// queued stays.
+    pub fn change(&mut self, stream: u16, front: Option<u16>, pids: &PidSet)
+        requires front { IsFrontOrNone front }
+        ensures changed { self.new ≡ map (changed stream front pids.now) self.old }
+    {
+        change_all(&mut self.subscribers, stream, front, pids);
+    }
+
+    /// The slot's subscriber sends its datagrams to this address from now on. False exactly where
+    /// the slot has no subscriber that gets datagrams.
+    pub fn address(&mut self, slot: u16, to: Address) -> bool
+        ensures found { result ≡ is_some (packing_of_slot slot self.old) }
+        ensures readdressed { self.new ≡ change_slot slot (readdressed to) self.old }
+    {
+        let Some(at) = place_of(&self.subscribers, slot) else {
+            return false;
+        };
+        readdress_at(&mut self.subscribers, at, to)
+    }
+
+    /// Gives a packet of a front to each subscriber that stands there and selects it. Bit k of the
+    /// answer is set exactly where the packet met the full queue of the subscriber in slot k.
+    pub fn packet(&mut self, front: u16, packet: &Packet, clock: u64, out: &mut Out) -> u64
+        requires bytes { 84992 ≤ out.old.datagram_spare }
+        requires count { 64 ≤ out.old.count_spare }
+        ensures given { self.new ≡ map (given front packet.now) self.old }
+        ensures sent { SendsAll out.old
+            (flat_map (given_datagrams front packet.now clock) self.old) out.new }
+        ensures overrun { (slot : ℕ)
+            → bit_at result slot ≡ (if is_overrun front packet.now self.old slot then 1 else 0) }
+        ensures bytes_spare { out.old.datagram_spare ≤ out.new.datagram_spare + 84992 }
+        ensures count_spare { out.old.count_spare ≤ out.new.count_spare + 64 }
+    {
+        give_all(&mut self.subscribers, front, packet, clock, out)
+    }
+
+    /// What the packer of the slot's subscriber holds leaves. False exactly where the slot has no
+    /// subscriber that gets datagrams, or its packer holds nothing.
+    pub fn flush(&mut self, slot: u16, clock: u64, out: &mut Out) -> bool
+        requires bytes { 1328 ≤ out.old.datagram_spare }
+        requires count { out.old.count_spare ≢ 0 }
+        ensures held { result ≡ holds_any (feed_of_slot slot self.old) }
+        ensures flushed { self.new ≡ change_slot slot flushed self.old }
+        ensures sent { SendsAll out.old
+            (flushed_datagrams clock (feed_of_slot slot self.old)) out.new }
+        ensures bytes_spare { out.old.datagram_spare ≤ out.new.datagram_spare + 1328 }
+        ensures count_spare { out.old.count_spare ≤ out.new.count_spare + 1 }
+    {
+        let Some(at) = place_of(&self.subscribers, slot) else {
+            return false;
+        };
+        flush_at(&mut self.subscribers, at, clock, out)
+    }
+
+    /// Moves the first packets of the slot's queue, at most 64, to the reply, and answers the
+    /// number of their bytes. None exactly where the slot has no subscriber with a queue.
+    pub fn pull(&mut self, slot: u16, out: &mut Out) -> Option<usize>
+        requires room { 12032 ≤ out.old.reply_spare }
+        ensures bytes { result ≡ pulled_bytes (queue_of_slot slot self.old) }
+        ensures pulled { self.new ≡ change_slot slot pulled self.old }
+        ensures wrote { WrotePulled (queue_of_slot slot self.old) out.old out.new }
+    {
+        let Some(at) = place_of(&self.subscribers, slot) else {
+            return None;
+        };
+        pull_at(&mut self.subscribers, at, out)
+    }
+
+    /// What the packer of the slot's subscriber tells. None exactly where the slot has no
+    /// subscriber that gets datagrams.
+    pub fn state(&self, slot: u16) -> Option<SenderState>
+        ensures state { result ≡ sender_state (packing_of_slot slot self.now) }
+    {
+        let Some(at) = place_of(&self.subscribers, slot) else {
+            return None;
+        };
+        self.subscribers[at].state()
+    }
+
+    /// The slot's subscriber is gone, with what it held or queued. False exactly where the slot has
+    /// none.
+    pub fn end(&mut self, slot: u16) -> bool
+        ensures found { result ≡ list_any (has_slot slot) self.old }
+        ensures gone { self.new ≡ without slot self.old }
+    {
+        let Some(at) = place_of(&self.subscribers, slot) else {
+            return false;
+        };
+        give_back(&mut self.spare_queues, self.subscribers.remove(at));
+        true
+    }
+}
+
+// As many empty queues as there may be subscribers.
+fn make_queues(alloc: Global) -> Result<Vec<Queue>, Want>
+    ensures queues { IfOk result (λ queues. All (λ queue. queue ≡ buffer [] 4096) queues.items) }
+    ensures count { IfOk result (λ queues. vec_len queues ≡ 64) }
+    ensures room { IfOk result (λ queues. 64 ≤ vec_capacity queues) }
+{
+    let Ok(mut queues) = Vec::with_capacity(alloc, SUBSCRIBERS) else {
+        return Err(Want);
+    };
+    for _made in 0..SUBSCRIBERS {
+        let Ok(queue) = Queue::with_capacity(alloc, QUEUE_PACKETS) else {
+            return Err(Want);
+        };
+        queues.push_reserved(queue);
+    }
+    Ok(queues)
+}
+
+// Puts a subscriber in order, within the memory that the list has.
+fn insert_ordered(subscribers: &mut Vec<Subscriber>, subscriber: Subscriber)
+    requires slot { subscriber.place.slot < 64 }
+    requires free { list_any (has_slot subscriber.place.slot) subscribers.old.items ≡ false }
+    requires apart { SlotsApart subscribers.old.items }
+    requires room { 64 ≤ vec_capacity subscribers.old }
+    ensures added { subscribers.new.items ≡ put subscriber subscribers.old.items }
+    ensures capacity { vec_capacity subscribers.old ≤ vec_capacity subscribers.new }
+{
+    let at = place_for(subscribers, subscriber.place());
+    subscribers.insert(at, subscriber).unwrap();
+}
+
+// Where a subscriber of this place goes.
+fn place_for(subscribers: &[Subscriber], place: Place) -> usize
+    ensures within { result ≤ length subscribers.now }
+    ensures ordered { (s : Subscription) → s.place ≡ place
+        → put s subscribers.now ≡ insert subscribers.now result s }
+{
+    for (at, subscriber) in subscribers.iter().enumerate() {
+        if comes_before(place, subscriber.place()) {
+            return at;
+        }
+    }
+    subscribers.len()
+}
+
+// Streams come in rising number, and the subscribers of a stream in order of count.
+fn comes_before(a: Place, b: Place) -> bool
+    ensures before { result ≡ comes_before a b }
+{
+    a.stream < b.stream || (a.stream == b.stream && a.count < b.count)
+}
+
+// Where the subscriber of a slot stands.
+fn place_of(subscribers: &[Subscriber], slot: u16) -> Option<usize>
+    requires apart { SlotsApart subscribers.now }
+    ensures none { IfNone result (IsNowhere slot subscribers.now) }
+    ensures found { IfSome result (StandsAt slot subscribers.now) }
+{
+    for (at, subscriber) in subscribers.iter().enumerate() {
+        if subscriber.place().slot == slot {
+            return Some(at);
+        }
+    }
+    None
+}
+
+fn change_all(subscribers: &mut Vec<Subscriber>, stream: u16, front: Option<u16>, pids: &PidSet)
+    ensures changed { subscribers.new.items
+        ≡ map (changed stream front pids.now) subscribers.old.items }
+    ensures capacity { vec_capacity subscribers.new ≡ vec_capacity subscribers.old }
+{
+    for at in 0..subscribers.len() {
+        change_at(subscribers, at, stream, front, pids);
+    }
+}
+
+fn change_at(
+    subscribers: &mut Vec<Subscriber>,
+    at: usize,
+    stream: u16,
+    front: Option<u16>,
+    pids: &PidSet,
+)
+    requires within { at < vec_len subscribers.old }
+    ensures changed { ChangesAt subscribers.old.items at
+        (changed stream front pids.now) subscribers.new.items }
+    ensures capacity { vec_capacity subscribers.new ≡ vec_capacity subscribers.old }
+{
+    subscribers[at].change(stream, front, pids);
+}
+
+fn readdress_at(subscribers: &mut Vec<Subscriber>, at: usize, to: Address) -> bool
+    requires within { at < vec_len subscribers.old }
+    ensures changed { ChangesAt subscribers.old.items at (readdressed to) subscribers.new.items }
+    ensures found { HoldsOfAt subscribers.old.items at (λ s. result ≡ is_some (packing_of s.feed)) }
+    ensures capacity { vec_capacity subscribers.new ≡ vec_capacity subscribers.old }
+{
+    subscribers[at].readdress(to)
+}
+
+fn flush_at(subscribers: &mut Vec<Subscriber>, at: usize, clock: u64, out: &mut Out) -> bool
+    requires within { at < vec_len subscribers.old }
+    requires bytes { 1328 ≤ out.old.datagram_spare }
+    requires count { out.old.count_spare ≢ 0 }
+    ensures changed { ChangesAt subscribers.old.items at flushed subscribers.new.items }
+    ensures sent { HoldsOfAt subscribers.old.items at
+        (λ s. SendsAll out.old (flush_datagrams clock s.feed) out.new) }
+    ensures held { HoldsOfAt subscribers.old.items at (λ s. result ≡ holds s.feed) }
+    ensures bytes_spare { out.old.datagram_spare ≤ out.new.datagram_spare + 1328 }
+    ensures count_spare { out.old.count_spare ≤ out.new.count_spare + 1 }
+    ensures capacity { vec_capacity subscribers.new ≡ vec_capacity subscribers.old }
+{
+    subscribers[at].flush(clock, out)
+}
+
+fn pull_at(subscribers: &mut Vec<Subscriber>, at: usize, out: &mut Out) -> Option<usize>
+    requires within { at < vec_len subscribers.old }
+    requires room { 12032 ≤ out.old.reply_spare }
+    ensures changed { ChangesAt subscribers.old.items at pulled subscribers.new.items }
+    ensures wrote { HoldsOfAt subscribers.old.items at
+        (λ s. WrotePulled (queue_of s.feed) out.old out.new) }
+    ensures bytes { HoldsOfAt subscribers.old.items at
+        (λ s. result ≡ pulled_bytes (queue_of s.feed)) }
+    ensures capacity { vec_capacity subscribers.new ≡ vec_capacity subscribers.old }
+{
+    subscribers[at].pull(out)
+}
+
+// Gives a packet to each subscriber, and marks the slots of those whose full queue it met.
+fn give_all(
+    subscribers: &mut Vec<Subscriber>,
+    front: u16,
+    packet: &Packet,
+    clock: u64,
+    out: &mut Out,
+) -> u64
+    requires apart { SlotsApart subscribers.old.items }
+    requires bytes { 84992 ≤ out.old.datagram_spare }
+    requires count { 64 ≤ out.old.count_spare }
+    ensures given { subscribers.new.items ≡ map (given front packet.now) subscribers.old.items }
+    ensures sent { SendsAll out.old
+        (flat_map (given_datagrams front packet.now clock) subscribers.old.items) out.new }
+    ensures overrun { (slot : ℕ)
+        → bit_at result slot
+        ≡ (if is_overrun front packet.now subscribers.old.items slot then 1 else 0) }
+    ensures capacity { vec_capacity subscribers.new ≡ vec_capacity subscribers.old }
+    ensures bytes_spare { out.old.datagram_spare ≤ out.new.datagram_spare + 84992 }
+    ensures count_spare { out.old.count_spare ≤ out.new.count_spare + 64 }
+{
+    let mut overrun = 0;
+    for at in 0..subscribers.len() {
+        overrun |= give_at(subscribers, at, front, packet, clock, out);
+    }
+    overrun
+}
+
+// Gives a packet to one subscriber, and marks its slot where the packet met its full queue.
+fn give_at(
+    subscribers: &mut Vec<Subscriber>,
+    at: usize,
+    front: u16,
+    packet: &Packet,
+    clock: u64,
+    out: &mut Out,
+) -> u64
+    requires within { at < vec_len subscribers.old }
+    requires slot { HoldsOfAt subscribers.old.items at (λ s. s.place.slot < 64) }
+    requires bytes { 1328 ≤ out.old.datagram_spare }
+    requires count { out.old.count_spare ≢ 0 }
+    ensures changed { ChangesAt subscribers.old.items at
+        (given front packet.now) subscribers.new.items }
+    ensures sent { HoldsOfAt subscribers.old.items at
+        (λ s. SendsAll out.old (given_datagrams front packet.now clock s) out.new) }
+    ensures overrun { HoldsOfAt subscribers.old.items at (λ s. (slot : ℕ)
+        → bit_at result slot ≡ (if meets_full front packet.now slot s then 1 else 0)) }
+    ensures capacity { vec_capacity subscribers.new ≡ vec_capacity subscribers.old }
+    ensures bytes_spare { out.old.datagram_spare ≤ out.new.datagram_spare + 1328 }
+    ensures count_spare { out.old.count_spare ≤ out.new.count_spare + 1 }
+{
+    let slot = subscribers[at].place().slot;
+    let is_overrun = subscribers[at].give(front, packet, clock, out);
+    slot_bit(slot, is_overrun)
+}
+
+// The bit of a slot, or none.
+fn slot_bit(slot: u16, is_set: bool) -> u64
+    requires slot { slot < 64 }
+    ensures bits { (other : ℕ) → bit_at result other ≡ (if is_set && slot == other then 1 else 0) }
+{
+    if is_set { 1 << slot } else { 0 }
+}
+
+// Takes the queue of a subscriber that is gone, if it has one.
+fn give_back(spare_queues: &mut Vec<Queue>, subscriber: Subscriber)
+    requires room { has_queue subscriber ≡ true
+        → vec_len spare_queues.old < vec_capacity spare_queues.old }
+    requires queues { All (λ queue. queue ≡ buffer [] 4096) spare_queues.old.items }
+    ensures queues { All (λ queue. queue ≡ buffer [] 4096) spare_queues.new.items }
+    ensures count { vec_len spare_queues.new
+        ≡ vec_len spare_queues.old + (if has_queue subscriber then 1 else 0) }
+    ensures capacity { vec_capacity spare_queues.new ≡ vec_capacity spare_queues.old }
+{
+    if let Some(queue) = subscriber.into_queue() {
+        spare_queues.push_reserved(queue);
+    }
+}

@@ -1,0 +1,15 @@
+//! The path of packets: which session gets which packet, and what its packer holds or its queue
+//! has.
+#![tactic(auto)]
+
+mod flow;
+mod laws;
+mod place;
+mod sink;
+mod subscriber;
+#[cfg(test)]
+mod tests;
+
+pub use flow::Flow;
+pub use laws::each_call_keeps_rest;
+pub use place::{Place, SenderState};

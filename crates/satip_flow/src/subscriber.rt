@@ -1,0 +1,186 @@
+//! One subscriber, which a clause sees as a `Subscription`.
+ghost use Rattle.std.specs.Prelude.{◌≡◌, ◌≢◌, ◌+◌, ◌≤◌, [], is_some, option_map};
+ghost use Rattle.circular_buffer.specs.Buffer.{buffer};
+ghost use Rattle.satip_rtp.specs.Sending.{SendsAll};
+ghost use Rattle.satip_flow.specs.Subscription.{sender_state, pulled_bytes, WrotePulled, subscription, ToAddress, ToQueue, selects, given, given_datagrams, overruns, flushed, flush_datagrams, holds, readdressed, pulled, changed, packing_of, queue_of};
+
+use crate::place::{Place, SenderState};
+use crate::sink::{Queue, Sink, feed, flush_sink, pull_sink};
+use satip_base::{Address, Out};
+use satip_pids::PidSet;
+use satip_rtp::Packer;
+use satip_ts::Packet;
+use std::marker::Model;
+
+/// A session that gets packets.
+#[derive(Drop)]
+pub(crate) struct Subscriber {
+    place: Place,
+    front: Option<u16>,
+    pids: PidSet,
+    sink: Sink,
+}
+
+impl Model for Subscriber {
+    ghost use Rattle.satip_flow.specs.Subscription.{Subscription};
+
+    ghost Value = { Subscription };
+
+    ghost use Rattle.satip_flow.specs.Subscription.{subscription};
+    ghost use Rattle.satip_flow.specs.Sinks.{feed_of, IsSink};
+
+    ghost view = { λ s. subscription s.place s.front s.pids (feed_of s.sink) };
+
+    ghost invariant = { λ s. IsSink s.sink };
+}
+
+impl Subscriber {
+    /// A session that gets datagrams, with a new packer.
+    pub(crate) fn packed(
+        place: Place,
+        front: Option<u16>,
+        pids: &PidSet,
+        to: Address,
+        packer: Packer,
+    ) -> Subscriber
+        ensures subscription { result ≡ subscription place front pids.now (ToAddress to packer) }
+    {
+        Subscriber {
+            place,
+            front,
+            pids: *pids,
+            sink: Sink::Packed(to, packer),
+        }
+    }
+
+    /// A session that pulls, with an empty queue.
+    pub(crate) fn queued(
+        place: Place,
+        front: Option<u16>,
+        pids: &PidSet,
+        queue: Queue,
+    ) -> Subscriber
+        requires empty { queue ≡ buffer [] 4096 }
+        ensures subscription { result ≡ subscription place front pids.now (ToQueue []) }
+    {
+        Subscriber {
+            place,
+            front,
+            pids: *pids,
+            sink: Sink::Queued(queue),
+        }
+    }
+
+    pub(crate) fn place(&self) -> Place
+        ensures place { result ≡ self.now.place }
+    {
+        self.place
+    }
+
+    /// Whether a packet of a front is for this subscriber.
+    pub(crate) fn selects(&self, front: u16, packet: &Packet) -> bool
+        ensures selected { result ≡ selects front packet.now self.now }
+    {
+        match self.front {
+            Some(own) => own == front && self.pids.has(packet.pid()),
+            None => false,
+        }
+    }
+
+    /// Gives it a packet of a front, if it selects the packet. True where the packet met a full
+    /// queue.
+    pub(crate) fn give(&mut self, front: u16, packet: &Packet, clock: u64, out: &mut Out) -> bool
+        requires bytes { 1328 ≤ out.old.datagram_spare }
+        requires count { out.old.count_spare ≢ 0 }
+        ensures given { self.new ≡ given front packet.now self.old }
+        ensures sent { SendsAll out.old (given_datagrams front packet.now clock self.old) out.new }
+        ensures overrun { result ≡ overruns front packet.now self.old }
+        ensures bytes_spare { out.old.datagram_spare ≤ out.new.datagram_spare + 1328 }
+        ensures count_spare { out.old.count_spare ≤ out.new.count_spare + 1 }
+    {
+        if !self.selects(front, packet) {
+            return false;
+        }
+        feed(&mut self.sink, packet, clock, out)
+    }
+
+    /// Sends what its packer holds. False where that is nothing, and where it has a queue.
+    pub(crate) fn flush(&mut self, clock: u64, out: &mut Out) -> bool
+        requires bytes { 1328 ≤ out.old.datagram_spare }
+        requires count { out.old.count_spare ≢ 0 }
+        ensures flushed { self.new ≡ flushed self.old }
+        ensures sent { SendsAll out.old (flush_datagrams clock self.old.feed) out.new }
+        ensures held { result ≡ holds self.old.feed }
+        ensures bytes_spare { out.old.datagram_spare ≤ out.new.datagram_spare + 1328 }
+        ensures count_spare { out.old.count_spare ≤ out.new.count_spare + 1 }
+    {
+        flush_sink(&mut self.sink, clock, out)
+    }
+
+    /// If it is of this stream, the stream has this front and these PIDs from now on.
+    pub(crate) fn change(&mut self, stream: u16, front: Option<u16>, pids: &PidSet)
+        ensures changed { self.new ≡ changed stream front pids.now self.old }
+    {
+        if self.place.stream == stream {
+            self.front = front;
+            self.pids = *pids;
+        }
+    }
+
+    /// Its datagrams go to this address from now on. False where it has a queue.
+    pub(crate) fn readdress(&mut self, to: Address) -> bool
+        ensures readdressed { self.new ≡ readdressed to self.old }
+        ensures is_packed { result ≡ is_some (packing_of self.old.feed) }
+    {
+        match &mut self.sink {
+            Sink::Packed(address, _) => {
+                *address = to;
+                true
+            }
+            Sink::Queued(_) => false,
+        }
+    }
+
+    /// Moves at most 64 packets of its queue to the reply, and answers the number of their bytes.
+    pub(crate) fn pull(&mut self, out: &mut Out) -> Option<usize>
+        requires room { 12032 ≤ out.old.reply_spare }
+        ensures pulled { self.new ≡ pulled self.old }
+        ensures wrote { WrotePulled (queue_of self.old.feed) out.old out.new }
+        ensures bytes { result ≡ pulled_bytes (queue_of self.old.feed) }
+    {
+        pull_sink(&mut self.sink, out)
+    }
+
+    /// What its packer tells.
+    pub(crate) fn state(&self) -> Option<SenderState>
+        ensures state { result ≡ sender_state (packing_of self.now.feed) }
+    {
+        match &self.sink {
+            Sink::Packed(_, packer) => Some(SenderState {
+                next: packer.next(),
+                datagrams: packer.datagrams(),
+                octets: packer.octets(),
+            }),
+            Sink::Queued(_) => None,
+        }
+    }
+
+    /// Ends it. Its queue, if it has one, is given back empty.
+    pub(crate) fn into_queue(self) -> Option<Queue>
+        ensures emptied { result ≡ option_map (λ packets. buffer [] 4096) (queue_of self.feed) }
+    {
+        let Subscriber {
+            place: _,
+            front: _,
+            pids: _,
+            sink,
+        } = self;
+        match sink {
+            Sink::Packed(_, _) => None,
+            Sink::Queued(mut queue) => {
+                queue.clear();
+                Some(queue)
+            }
+        }
+    }
+}
