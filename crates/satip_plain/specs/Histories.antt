@@ -1,0 +1,54 @@
+-- Histories: what the server was asked, and what it answered and sent, one entry after another.
+use Rattle.std.specs.Prelude.{◌≡◌, false, List, [], ◌∷◌, map, None}
+use Rattle.satip_history.specs.declared.entry.Entry.{Entry}
+use Rattle.satip_base.specs.Output.{Datagram, Output}
+use Rattle.satip_rtp.specs.Bytes.{rtp_datagram}
+use Rattle.satip_rtcp.specs.Reports.{report}
+use Rattle.satip_plain.specs.declared.answers.Answer.{Answer}
+use Rattle.satip_plain.specs.declared.events.Event.{Event}
+use Rattle.satip_plain.specs.Types.{Config, Front}
+use Rattle.satip_plain.specs.declared.setting.Setting.{Setting}
+use Rattle.satip_plain.specs.State.{State, Row}
+use Rattle.satip_plain.specs.Sending.{Sent, Rtp, Report}
+use Rattle.satip_plain.specs.Steps.{Outcome, step, capped}
+
+-- an entry: its caller's number, the event, the answer, and the reply and datagrams written
+abbrev pub Item : Type 0
+Item = Entry Event Answer Output
+
+-- the bytes that leave
+abbrev pub datagram : Sent → Datagram
+datagram (Rtp id to number clock ssrc packets) = record { to = to; bytes = rtp_datagram number clock ssrc packets }
+datagram (Report id to view sender) = record { to = to; bytes = report view sender }
+
+abbrev pub untuned : Front → Row
+untuned front = record { number = front.number; mux = None; tune = 0; ended = false }
+
+-- the server before its first event
+abbrev pub opening : Setting → State
+opening c = record {
+  clock = capped c.start;
+  made = 0;
+  stopped = false;
+  sessions = [];
+  streams = [];
+  rows = map untuned c.config.fronts;
+}
+
+abbrev pub after_from : Config → State → List Item → State
+after_from c st [] = st
+after_from c st (e ∷ es) = after_from c (step c st e.event).state es
+
+-- the state after a history
+abbrev pub after : Setting → List Item → State
+after c h = after_from c.config (opening c) h
+
+-- an entry has the answer, the reply and the datagrams that its event has here
+pub record Fits (o : Outcome) (e : Item) : Type 0 where
+  pub answer : e.answer ≡ o.answer
+  pub reply : e.out.reply ≡ o.reply
+  pub datagrams : e.out.datagrams ≡ map datagram o.sent
+
+abbrev pub LegalFrom : Config → State → List Item → Type 0
+LegalFrom c st [] = Unit {0}
+LegalFrom c st (e ∷ es) = Fits (step c st e.event) e × LegalFrom c (step c st e.event).state es

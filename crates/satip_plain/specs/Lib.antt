@@ -1,0 +1,14 @@
+pub mod Types
+pub mod SameTuning
+pub mod State
+pub mod Sending
+pub mod Fronts
+pub mod Streams
+pub mod Replies
+pub mod Refusals
+pub mod Steps
+pub mod Histories
+pub mod Readings
+pub mod Packets
+pub mod Laws
+pub mod Examples

@@ -1,0 +1,197 @@
+-- Which requests are refused, and why: one line for each cause, in the order in which they count.
+use Rattle.std.specs.Prelude.{ℕ, ◌==◌, ◌&&◌, ◌||◌, not, nat_le, Bool, true, false, List, [], ◌∷◌, length, Option, None, Some, option_map, option_and_then, is_some, is_none, Result, Ok, Err, if◌then◌else◌}
+use Rattle.std.specs.Option.{option_map_or}
+use Rattle.satip_pids.specs.declared.fault.PidFault.{PidFault}
+use Rattle.satip_pids.specs.declared.fault.PidFault.TheVariants.{TooMany, UnderAll}
+use Rattle.satip_pids.specs.Pids.{Pids, Only}
+use Rattle.satip_query.specs.Queries.{gives_key}
+use Rattle.satip_tune.specs.Tunings.{gives_any}
+use Rattle.satip_query.specs.declared.faults.QueryFault.{QueryFault}
+use Rattle.satip_query.specs.declared.faults.QueryFault.TheVariants.{Syntax, Range}
+use Rattle.satip_plain.specs.declared.requests.Refusal.{Refusal}
+use Rattle.satip_plain.specs.declared.requests.Refusal.TheVariants.{Broken, TooLong, NoCseq, Version, Method as BadMethod, Require, Target, Query as QueryAt}
+use Rattle.satip_plain.specs.declared.requests.HttpRefusal.{HttpRefusal}
+use Rattle.satip_plain.specs.declared.requests.HttpRefusal.TheVariants.{Broken as HttpBroken, TooLong as HttpTooLong, Version as HttpVersion, Method as HttpMethod, Target as HttpTarget, NotFound, Query as HttpQuery}
+use Rattle.satip_query.specs.declared.bodies.RefusalBody.TheVariants.{CheckSyntax, OutOfRange, NotOwner, NoMorePids, NoMoreSessions, NoMoreFrontends}
+use Rattle.satip_plain.specs.declared.requests.Method.{Method}
+use Rattle.satip_plain.specs.declared.requests.Method.TheVariants.{Options, Describe, Setup, Play, Teardown}
+use Rattle.satip_plain.specs.declared.requests.SessionName.{SessionName}
+use Rattle.satip_plain.specs.declared.requests.SessionName.TheVariants.{Absent, Named, Other}
+use Rattle.satip_tune.specs.declared.keys.Key.TheVariants.{Delpids}
+use Rattle.satip_plain.specs.Types.{Tuning, Change, Key, Query, RefusalBody, Request, HttpRequest, Config}
+use Rattle.satip_plain.specs.State.{Session, Stream, State, same_id, rtsp_session, stream_of, owner, most_sessions, most_made}
+use Rattle.satip_plain.specs.Fronts.{Site, first_given, blocked}
+use Rattle.satip_plain.specs.Streams.{changed_tuning, to_set, site_of, asked_pids}
+
+-- the status of a refusal, and its body if it has one
+pub record Refused : Type 0 where
+  pub status : ℕ
+  pub body : Option RefusalBody
+
+abbrev pub plainly : ℕ → Refused
+plainly status = record { status = status; body = None }
+
+abbrev pub telling : ℕ → RefusalBody → Refused
+telling status body = record { status = status; body = Some body }
+
+abbrev pub where_true : Bool → Refused → Option Refused
+where_true b refused = if b then Some refused else None
+
+abbrev pub of_query_fault : QueryFault → Refused
+of_query_fault (Syntax key) = telling 400 (CheckSyntax key)
+of_query_fault (Range key) = telling 403 (OutOfRange key)
+
+-- what is wrong with the message itself
+abbrev pub of_message : Refusal → Refused
+of_message Broken = plainly 400
+of_message TooLong = plainly 413
+of_message NoCseq = plainly 400
+of_message Version = plainly 505
+of_message BadMethod = plainly 501
+of_message (Require kept) = plainly 551
+of_message Target = plainly 400
+of_message (QueryAt fault) = of_query_fault fault
+
+-- what is wrong with an HTTP message itself
+abbrev pub of_http_message : HttpRefusal → Refused
+of_http_message HttpBroken = plainly 400
+of_http_message HttpTooLong = plainly 413
+of_http_message HttpVersion = plainly 505
+of_http_message HttpMethod = plainly 501
+of_http_message HttpTarget = plainly 400
+of_http_message NotFound = plainly 404
+of_http_message (HttpQuery fault) = of_query_fault fault
+
+-- the session that a request names, where it lives and isn't an HTTP session
+abbrev pub session_named : State → SessionName → Option Session
+session_named st Absent = None
+session_named st (Named id) = rtsp_session st id
+session_named st Other = None
+
+abbrev pub names_none : SessionName → Bool
+names_none Absent = true
+names_none (Named id) = false
+names_none Other = false
+
+abbrev pub needs_session : Method → Bool
+needs_session Options = false
+needs_session Describe = false
+needs_session Setup = false
+needs_session Play = true
+needs_session Teardown = true
+
+abbrev pub is_setup : Method → Bool
+is_setup Setup = true
+is_setup _ = false
+
+abbrev pub is_describe : Method → Bool
+is_describe Describe = true
+is_describe _ = false
+
+-- whether the method's query changes a stream
+abbrev pub changes : Method → Bool
+changes Setup = true
+changes Play = true
+changes _ = false
+
+-- whether the method looks at the stream that the target names
+abbrev pub looks_at_stream : Method → Bool
+looks_at_stream Options = false
+looks_at_stream _ = true
+
+-- a session is named that doesn't live, or none is named where one is needed
+abbrev pub session_missing : State → Request → Bool
+session_missing st r = if names_none r.session then needs_session r.method else is_none (session_named st r.session)
+
+-- the named stream doesn't live, or DESCRIBE names none and none lives
+abbrev pub stream_missing : State → Request → Bool
+stream_missing st r =
+    looks_at_stream r.method
+    && option_map_or (λ number. is_none (stream_of st number)) r.stream (is_describe r.method && length st.streams == 0)
+
+-- a session and a stream are named, and the stream isn't the session's
+abbrev pub stream_of_another : State → Request → Bool
+stream_of_another st r =
+    (is_setup r.method || needs_session r.method)
+    && option_map_or (λ s. option_map_or (λ number. not (s.stream == number)) r.stream false) (session_named st r.session) false
+
+-- the number of the stream that a request is about: the named one, in PLAY and TEARDOWN else the session's
+abbrev pub number_meant : State → Request → Option ℕ
+number_meant st r =
+    if is_some r.stream then r.stream
+    else (if needs_session r.method then option_map (λ s. s.stream) (session_named st r.session) else None)
+
+abbrev pub stream_meant : State → Request → Option Stream
+stream_meant st r = option_and_then (stream_of st) (number_meant st r)
+
+abbrev pub owns : State → ℕ → Option Session → Bool
+owns st number None = false
+owns st number (Some s) = option_map_or (λ o. same_id o.id s.id) (owner st number) false
+
+-- a known key is given for a living stream by another than its owner
+abbrev pub not_owner : State → Request → Bool
+not_owner st r =
+    changes r.method && gives_key r.query
+    && option_map_or (λ t. not (owns st t.number (session_named st r.session))) (stream_meant st r) false
+
+abbrev pub of_tuning : Result Tuning Key → Option Refused
+of_tuning (Ok tuning) = None
+of_tuning (Err key) = Some (telling 400 (CheckSyntax key))
+
+-- a tuning key is given where there is no tuning yet, and not all that are needed
+abbrev pub key_missing : Option Tuning → Change → Option Refused
+key_missing old change = if gives_any change then of_tuning (changed_tuning old change) else None
+
+abbrev pub of_pids : Result Pids PidFault → Option Refused
+of_pids (Ok pids) = None
+of_pids (Err UnderAll) = Some (telling 403 (OutOfRange Delpids))
+of_pids (Err TooMany) = Some (telling 503 NoMorePids)
+
+abbrev pub is_full : State → Bool
+is_full st = nat_le most_sessions (length st.sessions) || nat_le most_made st.made
+
+-- a tuning is to be set, and each fitting front end is taken
+abbrev pub front_missing : Config → Site → Option Tuning → Change → Bool
+front_missing c site old change = option_map_or (blocked c.fronts c.muxes site) (to_set old change) false
+
+-- what refuses a query for a stream that had this tuning and these PIDs; `makes` where it also makes a session
+abbrev pub of_change : Config → State → Site → Option Tuning → Pids → Bool → Query → List (Option Refused)
+of_change c st site tuning pids makes query =
+    key_missing tuning query.change
+    ∷ of_pids (asked_pids pids query)
+    ∷ where_true (makes && is_full st) (telling 503 NoMoreSessions)
+    ∷ where_true (front_missing c site tuning query.change) (telling 503 NoMoreFrontends)
+    ∷ []
+
+-- a stream that isn't founded yet
+abbrev pub new_site : State → Site
+new_site st = record (site_of st 0) { own = None }
+
+-- whether a SETUP makes a session
+abbrev pub makes_session : Request → Bool
+makes_session r = is_setup r.method && names_none r.session
+
+abbrev pub of_query : Config → State → Request → Option Stream → List (Option Refused)
+of_query c st r None = of_change c st (new_site st) None (Only []) (makes_session r) r.query
+of_query c st r (Some t) = of_change c st (site_of st t.number) t.tuning t.pids (makes_session r) r.query
+
+-- the cause for which a request is refused; None where it is accepted
+abbrev pub decide : Config → State → Request → Option Refused
+decide c st r =
+    first_given
+    (option_map of_message r.refusal
+    ∷ where_true (session_missing st r) (plainly 454)
+    ∷ where_true (stream_missing st r) (plainly 404)
+    ∷ where_true (stream_of_another st r) (plainly 454)
+    ∷ where_true (not_owner st r) (telling 403 NotOwner)
+    ∷ where_true (is_setup r.method && not (names_none r.session) && is_none r.stream) (plainly 455)
+    ∷ where_true (is_setup r.method && is_none r.ports) (plainly 461)
+    ∷ (if changes r.method then of_query c st r (stream_meant st r) else []))
+
+-- the same of an HTTP request, which always asks for a tuning of a new stream
+abbrev pub decide_get : Config → State → HttpRequest → Option Refused
+decide_get c st r =
+    first_given
+    (option_map of_http_message r.refusal
+    ∷ of_tuning (changed_tuning None r.query.change)
+    ∷ of_change c st (new_site st) None (Only []) true r.query)

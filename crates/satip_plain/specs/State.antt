@@ -1,0 +1,92 @@
+-- The plain server's state: what a person would write down of it, every packet included.
+use Rattle.std.specs.Prelude.{ℕ, ◌==◌, ◌&&◌, not, Bool, false, List, map, filter, find, Option, None, Some, sum, drop, if◌then◌else◌}
+use Rattle.satip_plain.specs.Types.{SessionId, Peer, Ports, Tuning, Pids}
+
+-- a session: `picked` has all packets ever given to it, `sizes` the number of packets of each
+-- datagram that it sent, or of each answered pull, oldest first
+pub record Session : Type 0 where
+  pub id : SessionId
+  pub http : Bool
+  pub peer : Peer
+  pub ports : Ports
+  pub stream : ℕ
+  pub playing : Bool
+  pub heard : ℕ
+  pub reported : Option ℕ
+  pub ssrc : ℕ
+  pub first : ℕ
+  pub picked : List (List ℕ)
+  pub sizes : List ℕ
+
+-- a stream: its number, what it is tuned to, the front end that serves it, and its PIDs
+pub record Stream : Type 0 where
+  pub number : ℕ
+  pub tuning : Option Tuning
+  pub front : Option ℕ
+  pub pids : Pids
+
+-- a front end: the multiplex that it is tuned to, how often it was tuned, and whether the
+-- recording that plays in place of its signal is exhausted
+pub record Row : Type 0 where
+  pub number : ℕ
+  pub mux : Option ℕ
+  pub tune : ℕ
+  pub ended : Bool
+
+-- the server: sessions stand in order of making, streams and front ends in rising number
+pub record State : Type 0 where
+  pub clock : ℕ
+  pub made : ℕ
+  pub stopped : Bool
+  pub sessions : List Session
+  pub streams : List Stream
+  pub rows : List Row
+
+abbrev pub same_id : SessionId → SessionId → Bool
+same_id a b = a.count == b.count && a.word == b.word
+
+abbrev pub is_at : Option ℕ → ℕ → Bool
+is_at None n = false
+is_at (Some m) n = m == n
+
+abbrev pub rtsp_session : State → SessionId → Option Session
+rtsp_session st id = find (λ s. same_id s.id id && not s.http) st.sessions
+
+abbrev pub http_session : State → SessionId → Option Session
+http_session st id = find (λ s. same_id s.id id && s.http) st.sessions
+
+abbrev pub stream_of : State → ℕ → Option Stream
+stream_of st number = find (λ t. t.number == number) st.streams
+
+abbrev pub row_of : State → ℕ → Option Row
+row_of st front = find (λ r. r.number == front) st.rows
+
+-- the sessions of a stream: the owner first, then the joined ones in order of joining
+abbrev pub members : State → ℕ → List Session
+members st number = filter (λ s. s.stream == number) st.sessions
+
+-- the owner of a stream: its earliest session
+abbrev pub owner : State → ℕ → Option Session
+owner st number = find (λ s. s.stream == number) st.sessions
+
+-- the streams that a front end serves
+abbrev pub served_by : State → ℕ → List Stream
+served_by st front = filter (λ t. is_at t.front front) st.streams
+
+-- the packets that a session was given and that haven't left yet
+abbrev pub held : Session → List (List ℕ)
+held s = drop (sum s.sizes) s.picked
+
+-- each x of which p holds is changed by f
+abbrev pub change_where : {X : Type 0} → (X → Bool) → (X → X) → List X → List X
+change_where p f xs = map (λ x. if p x then f x else x) xs
+
+-- the number of seconds, packets and so on that the rules name
+abbrev pub most_sessions : ℕ
+most_sessions = 64
+
+abbrev pub most_made : ℕ
+most_made = 4294967295
+
+abbrev pub last_moment : ℕ
+last_moment = 281474976710655

@@ -1,0 +1,97 @@
+-- How a query changes a stream, and how streams and front ends are given back.
+use Rattle.std.specs.Prelude.{ℕ, ◌==◌, ◌&&◌, ◌+◌, ◌%◌, ◌^◌, not, true, false, [], filter, Option, None, Some, option_and_then, Result, Ok, Err, if◌then◌else◌}
+use Rattle.std.specs.List.{list_any}
+use Rattle.std.specs.Option.{option_map_or}
+use Rattle.satip_tune.specs.Tunings.{merge, first, gives_any}
+use Rattle.satip_tune.specs.Frontends.{mux_of}
+use Rattle.satip_pids.specs.declared.fault.PidFault.{PidFault}
+use Rattle.satip_pids.specs.Pids.{Choice, Unsaid, AllPids, Listed as ListedPids, apply}
+use Rattle.satip_query.specs.declared.queries.PidsGiven.{PidsGiven}
+use Rattle.satip_query.specs.declared.queries.PidsGiven.TheVariants.{Absent, All, Empty, List as Listed}
+use Rattle.satip_plain.specs.Types.{Tuning, Change, Key, Query, Config, Pids}
+use Rattle.satip_plain.specs.State.{Stream, Row, State, is_at, stream_of, row_of, served_by, change_where}
+use Rattle.satip_plain.specs.Sending.{Move, settle, then_move, each_of, let_go}
+use Rattle.satip_plain.specs.Fronts.{Site, Place, choose}
+use Rattle.satip_plain.specs.SameTuning.{tuning_eq}
+
+-- the tuning that a change with at least one key makes, of the old one or of none
+abbrev pub changed_tuning : Option Tuning → Change → Result Tuning Key
+changed_tuning None change = first change
+changed_tuning (Some old) change = Ok (merge old change)
+
+abbrev pub other_than : Option Tuning → Tuning → Option Tuning
+other_than None new = Some new
+other_than (Some old) new = if tuning_eq old new then None else Some new
+
+abbrev pub to_set_of : Option Tuning → Result Tuning Key → Option Tuning
+to_set_of old (Ok new) = other_than old new
+to_set_of old (Err key) = None
+
+-- the tuning that is to be set: one that is asked for, and isn't the old one
+abbrev pub to_set : Option Tuning → Change → Option Tuning
+to_set old change = if gives_any change then to_set_of old (changed_tuning old change) else None
+
+-- what a choice for this stream looks at
+abbrev pub site_of : State → ℕ → Site
+site_of st number = record {
+  own = option_and_then (λ t. t.front) (stream_of st number);
+  others = λ f. list_any (λ t. not (t.number == number)) (served_by st f);
+  tuned_to = λ f. option_and_then (λ r. r.mux) (row_of st f);
+}
+
+-- a front end that serves no stream is tuned to no multiplex
+abbrev pub freed : Row → Row
+freed r = record r { mux = None; ended = false }
+
+-- streams without sessions are gone, and front ends without streams are free
+abbrev pub sweep : State → State
+sweep st =
+    let streams = filter (λ t. list_any (λ s. s.stream == t.number) st.sessions) st.streams in
+    record st {
+      streams = streams;
+      rows = change_where (λ r. not (list_any (λ t. is_at t.front r.number) streams)) freed st.rows;
+    }
+
+-- a front end that is tuned has one tuning more, and plays its recording from the beginning
+abbrev pub tuned : Option ℕ → Row → Row
+tuned mux r = record r { mux = mux; tune = (r.tune + 1) % 2 ^ 64; ended = false }
+
+abbrev pub change_stream : ℕ → (Stream → Stream) → State → State
+change_stream number f st = record st { streams = change_where (λ t. t.number == number) f st.streams }
+
+-- the stream has this tuning and this place
+abbrev pub put_at : Config → ℕ → Tuning → State → Place → State
+put_at c number tuning st place =
+    let placed = change_stream number (λ t. record t { tuning = Some tuning; front = Some place.front }) st in
+    sweep (record placed { rows = change_where (λ r. place.anew && r.number == place.front) (tuned (mux_of c.muxes tuning)) placed.rows })
+
+-- what the sessions of the stream hold leaves, then the stream gets its place
+abbrev pub retune : Config → ℕ → State → Tuning → Move
+retune c number st tuning =
+    then_move (each_of (λ s. s.stream == number && not s.http) (let_go true st.clock) st) (λ now.
+    settle (option_map_or (put_at c number tuning now) (choose c.fronts c.muxes (site_of now number) tuning) now))
+
+abbrev pub choice_of : PidsGiven → Choice
+choice_of Absent = Unsaid
+choice_of All = AllPids
+choice_of Empty = ListedPids []
+choice_of (Listed pids) = ListedPids pids
+
+-- the PIDs that a query makes of these, or the first fault
+abbrev pub asked_pids : Pids → Query → Result Pids PidFault
+asked_pids old query = apply old (choice_of query.pids) query.addpids query.delpids
+
+abbrev pub pids_or : Pids → Result Pids PidFault → Pids
+pids_or old (Ok new) = new
+pids_or old (Err fault) = old
+
+-- the PIDs of a stream after an accepted query
+abbrev pub new_pids : Pids → Query → Pids
+new_pids old query = pids_or old (asked_pids old query)
+
+-- a stream is changed by a query: tuning first, then PIDs
+abbrev pub change_by : Config → ℕ → Query → State → Move
+change_by c number query st =
+    let old = option_and_then (λ t. t.tuning) (stream_of st number) in
+    then_move (option_map_or (retune c number st) (to_set old query.change) (settle st)) (λ now.
+    settle (change_stream number (λ t. record t { pids = new_pids t.pids query }) now))

@@ -1,0 +1,18 @@
+//! The plain server: what each event does, said over lists, and what histories are legal.
+#![tactic(auto)]
+
+mod answers;
+mod events;
+mod laws;
+mod requests;
+mod setting;
+mod short;
+#[cfg(test)]
+mod tests;
+
+pub use answers::{Answer, Beat, Closed, GetAnswer, Pulled, Replied, Work};
+pub use events::Event;
+pub use laws::{prefix_is_legal, refused_changes_nothing};
+pub use requests::{HttpRefusal, HttpRequest, Method, Refusal, Request, SessionName};
+pub use setting::Setting;
+pub use short::Short;

@@ -1,0 +1,10 @@
+//! What a server is made with.
+
+use satip_config::Config;
+
+/// A configuration, and the moment at which the server starts, in milliseconds of Unix time.
+#[derive(Drop)]
+pub struct Setting {
+    pub config: Config,
+    pub start: u64,
+}

@@ -1,0 +1,87 @@
+//! Worked runs of the plain server, each computed from the definitions.
+ghost use Rattle.std.specs.Prelude.{◌≡◌, List, [], ◌∷◌, ◌++◌, Option, Some, None, true, false, map};
+ghost use Rattle.satip_query.specs.declared.bodies.RefusalBody.TheVariants.{OutOfRange, NotOwner, NoMorePids, NoMoreSessions, NoMoreFrontends};
+ghost use Rattle.satip_query.specs.Queries.{new_query};
+ghost use Rattle.satip_tune.specs.declared.keys.Key.TheVariants.{Delpids};
+ghost use Rattle.satip_plain.specs.declared.events.Event.TheVariants.{Tick, Ask, Ended, Pull, Close, Stop};
+ghost use Rattle.satip_plain.specs.Examples.{Media, Told, Ok200, Refuses, Works, Idles, Beats, Starts, Pulls, Other, added_pids, answers_of, get_second, held_after_one_more, id_of, join_of, kept_pids, listed_pids, options_in, packet, packet_on, packets, play, play_in, play_of_two, pulled_first, run, sent_last, setup, setup_with, streams_of, tally, teardown_in, to_unknown, to_second, two_setup, wanted_second, with_change, without_pids};
+
+// Six packets leave at the tick, before the report; seven leave at once, and the next number wraps.
+fn held_packets_leave()
+    ensures at_the_tick { sent_last (run (setup ∷ Tick 1000 ∷ play ∷ (packets 6 16 ++ Tick 1040 ∷ []))) ≡ Media 1400 65535 1040 6 ∷ Told 1401 ∷ [] }
+    ensures at_the_seventh { sent_last (run (setup ∷ Tick 1000 ∷ play ∷ packets 7 16)) ≡ Media 1400 65535 1000 7 ∷ [] }
+    ensures at_the_end { sent_last (run (setup ∷ Tick 1000 ∷ play ∷ (packets 8 16 ++ teardown_in (id_of 1 10) 1 ∷ []))) ≡ Media 1400 0 1000 1 ∷ [] }
+{}
+
+// Only what comes after PIDs were added is sent.
+fn pids_added_count_from_then_on()
+    ensures sent { sent_last (run (setup ∷ play ∷ packet 100 ∷ play_in (id_of 1 10) 1 (added_pids (100 ∷ [])) ∷ packet 100 ∷ Tick 40 ∷ [])) ≡ Media 1400 65535 40 1 ∷ Told 1401 ∷ [] }
+{}
+
+// A packet of the old tuning is stale after a retune.
+fn packet_across_a_retune_is_dropped()
+    ensures answers { answers_of (run (setup ∷ play ∷ Ask 1 ∷ play_in (id_of 1 10) 1 (with_change to_second) ∷ packet 16 ∷ [])) ≡ Ok200 ∷ Ok200 ∷ Works 1 1 ∷ Ok200 ∷ Works 2 2 ∷ [] }
+    ensures sent { sent_last (run (setup ∷ play ∷ play_in (id_of 1 10) 1 (with_change to_second) ∷ packet 16 ∷ Tick 40 ∷ [])) ≡ Told 1401 ∷ [] }
+{}
+
+// A joined session plays, and changes nothing.
+fn joined_session_may_not_change_pids()
+    ensures answers { answers_of (run (setup ∷ play ∷ join_of 1 ∷ play_of_two 1 (added_pids (18 ∷ [])) ∷ play_of_two 1 new_query ∷ [])) ≡ Ok200 ∷ Ok200 ∷ Ok200 ∷ Refuses 403 (Some NotOwner) ∷ Ok200 ∷ [] }
+    ensures sent { sent_last (run (setup ∷ play ∷ join_of 1 ∷ play_of_two 1 new_query ∷ packet 16 ∷ Tick 40 ∷ []))
+        ≡ Media 1400 65535 40 1 ∷ Media 1500 0 40 1 ∷ Told 1401 ∷ Told 1501 ∷ [] }
+{}
+
+// Two front ends serve two tunings; the third finds none until one is given back.
+fn third_tuning_finds_no_front_end()
+    ensures answers { answers_of (run (setup ∷ setup_with (with_change to_second) ∷ setup_with (with_change to_unknown) ∷ teardown_in (id_of 1 10) 1 ∷ setup_with (with_change to_unknown) ∷ []))
+        ≡ Ok200 ∷ Ok200 ∷ Refuses 503 (Some NoMoreFrontends) ∷ Ok200 ∷ Ok200 ∷ [] }
+    ensures after { streams_of (run (setup ∷ setup_with (with_change to_second) ∷ teardown_in (id_of 1 10) 1 ∷ setup_with (with_change to_unknown) ∷ []))
+        ≡ tally 1 (Some 1) 3 ∷ tally 2 (Some 2) 2 ∷ [] }
+    ensures wanted { answers_of (run (setup_with wanted_second ∷ setup_with (record wanted_second { change = record to_unknown { fe = Some 2 } }) ∷ []))
+        ≡ Ok200 ∷ Refuses 503 (Some NoMoreFrontends) ∷ [] }
+{}
+
+// A session that wasn't heard of for 60 seconds ends.
+fn session_expires()
+    ensures ended { answers_of (run (setup ∷ Tick 59999 ∷ Tick 60000 ∷ options_in (id_of 1 10) ∷ [])) ≡ Ok200 ∷ Beats ∷ Beats ∷ Refuses 454 None ∷ [] }
+    ensures lives { answers_of (run (setup ∷ Tick 59999 ∷ options_in (id_of 1 10) ∷ [])) ≡ Ok200 ∷ Beats ∷ Ok200 ∷ [] }
+{}
+
+// At most 256 PIDs are selected, and none is taken from all of them; a refused change leaves the old ones.
+fn pids_have_limits()
+    ensures under_all { answers_of (run (setup_with without_pids ∷ [])) ≡ Refuses 403 (Some (OutOfRange Delpids)) ∷ [] }
+    ensures most { answers_of (run (setup_with (listed_pids 256) ∷ [])) ≡ Ok200 ∷ [] }
+    ensures too_many { answers_of (run (setup ∷ play_in (id_of 1 10) 1 (listed_pids 257) ∷ [])) ≡ Ok200 ∷ Refuses 503 (Some NoMorePids) ∷ [] }
+    ensures unchanged { kept_pids (run (setup ∷ play_in (id_of 1 10) 1 (listed_pids 257) ∷ [])) ≡ 0 ∷ 16 ∷ 17 ∷ [] }
+{}
+
+// The next session in order of joining owns the stream of an owner that ended.
+fn ownership_passes_on()
+    ensures by_teardown { answers_of (run (setup ∷ join_of 1 ∷ play_of_two 1 new_query ∷ teardown_in (id_of 1 10) 1 ∷ play_of_two 1 (added_pids (18 ∷ [])) ∷ []))
+        ≡ Ok200 ∷ Ok200 ∷ Ok200 ∷ Ok200 ∷ Ok200 ∷ [] }
+    ensures sent { sent_last (run (setup ∷ join_of 1 ∷ play_of_two 1 new_query ∷ teardown_in (id_of 1 10) 1 ∷ play_of_two 1 (added_pids (18 ∷ [])) ∷ packet 18 ∷ Tick 40 ∷ []))
+        ≡ Media 1500 0 40 1 ∷ Told 1501 ∷ [] }
+    ensures by_timeout { answers_of (run (setup ∷ Tick 30000 ∷ join_of 1 ∷ Tick 60000 ∷ options_in (id_of 1 10) ∷ Ask 1 ∷ Tick 90000 ∷ options_in (id_of 2 11) ∷ Ask 1 ∷ []))
+        ≡ Ok200 ∷ Beats ∷ Ok200 ∷ Beats ∷ Refuses 454 None ∷ Works 1 1 ∷ Beats ∷ Refuses 454 None ∷ Idles ∷ [] }
+{}
+
+// Two streams of one multiplex share a front end.
+fn streams_share_a_front_end()
+    ensures answers { answers_of (run (setup ∷ two_setup ∷ setup_with (with_change to_second) ∷ setup_with (with_change to_unknown) ∷ Ask 1 ∷ Ask 2 ∷ []))
+        ≡ Ok200 ∷ Ok200 ∷ Ok200 ∷ Refuses 503 (Some NoMoreFrontends) ∷ Works 1 1 ∷ Works 2 1 ∷ [] }
+    ensures sent { sent_last (run (setup ∷ two_setup ∷ play ∷ play_of_two 2 new_query ∷ packet 16 ∷ Tick 40 ∷ []))
+        ≡ Media 1400 65535 40 1 ∷ Media 1500 0 40 1 ∷ Told 1401 ∷ Told 1501 ∷ [] }
+    ensures leaving { answers_of (run (setup ∷ two_setup ∷ play ∷ play_of_two 2 new_query ∷ play_in (id_of 1 10) 1 (with_change to_second) ∷ Ask 1 ∷ Ask 2 ∷ []))
+        ≡ Ok200 ∷ Ok200 ∷ Ok200 ∷ Ok200 ∷ Ok200 ∷ Works 1 1 ∷ Works 2 1 ∷ [] }
+    ensures left { sent_last (run (setup ∷ two_setup ∷ play ∷ play_of_two 2 new_query ∷ play_in (id_of 1 10) 1 (with_change to_second) ∷ packet 16 ∷ Tick 40 ∷ []))
+        ≡ Media 1500 0 40 1 ∷ Told 1401 ∷ Told 1501 ∷ [] }
+{}
+
+// An HTTP session has its packets pulled, 64 at a time; a packet that meets its full queue ends it.
+fn queue_has_limits()
+    ensures pulls { answers_of (run (get_second ∷ Pull (id_of 1 10) ∷ packet_on 1 1 400 ∷ packet_on 1 1 401 ∷ Pull (id_of 1 10) ∷ Pull (id_of 1 10) ∷ Close (id_of 1 10) ∷ Pull (id_of 1 10) ∷ []))
+        ≡ Starts (id_of 1 10) ∷ Pulls 0 ∷ Works 2 1 ∷ Works 2 1 ∷ Pulls 376 ∷ Pulls 0 ∷ Other ∷ Other ∷ [] }
+    ensures fills { held_after_one_more 4095 ≡ 4096 ∷ [] }
+    ensures overruns { held_after_one_more 4096 ≡ [] }
+    ensures pulled { pulled_first 4096 ≡ 12032 }
+{}
