@@ -1,5 +1,5 @@
 -- A small server, its clients and their requests, for worked runs.
-use Rattle.std.specs.Prelude.{ℕ, ◌+◌, ◌/◌, ◌%◌, ◌==◌, if◌then◌else◌, flat_map, true, false, List, [], ◌∷◌, map, length, replicate, Option, None, Some}
+use Rattle.std.specs.Prelude.{codes, ℕ, ◌+◌, ◌/◌, ◌%◌, ◌==◌, if◌then◌else◌, flat_map, true, false, List, [], ◌∷◌, map, length, replicate, option_and_then, Option, None, Some, Bool}
 use Rattle.satip_query.specs.declared.queries.PidsGiven.TheVariants.{All as AllPids, List as ThesePids}
 use Rattle.satip_plain.specs.declared.requests.Method.TheVariants.{Options, Setup, Play, Teardown}
 use Rattle.satip_plain.specs.declared.requests.SessionName.TheVariants.{Absent, Named}
@@ -22,14 +22,15 @@ use Rattle.satip_pids.specs.Pids.{Pids, Every, Only}
 use Rattle.std.specs.List.{range_with_len}
 use Rattle.std.specs.Option.{option_map_or}
 use Rattle.satip_plain.specs.Types.{SessionId, RefusalBody, Draw, Peer, Ports, Config, Request, Query, Change, Front}
-use Rattle.satip_plain.specs.State.{State, Session, owner, held}
+use Rattle.satip_plain.specs.State.{State, Session, owner, held, row_of, stream_of}
 use Rattle.satip_plain.specs.Sending.{Sent, Rtp, Report}
 use Rattle.satip_plain.specs.Steps.{Outcome, step}
-use Rattle.satip_plain.specs.Histories.{opening}
+use Rattle.satip_plain.specs.Histories.{Item, opening, datagram}
+use Rattle.satip_plain.specs.Readings.{Readings, Made, readings, living, plays}
 
 -- two front ends that reach position 1, and two multiplexes there
 abbrev pub front_end : ℕ → Front
-front_end number = record { number = number; sources = false ∷ true ∷ []; systems = true ∷ true ∷ [] }
+front_end number = record { number = number; sources = false ∷ true ∷ replicate 254 false; systems = true ∷ true ∷ [] }
 
 abbrev pub config : Config
 config = record {
@@ -38,7 +39,7 @@ config = record {
   http_port = 8875;
   timeout = 60;
   workers = 8;
-  files = [] ∷ [] ∷ [];
+  files = codes "a.ts" ∷ codes "b.ts" ∷ [];
   fronts = front_end 1 ∷ front_end 2 ∷ [];
   muxes = record { src = 1; freq = 11361750; pol = H; msys = Dvbs2; sr = 22000 }
       ∷ record { src = 1; freq = 12402000; pol = V; msys = Dvbs; sr = 27500 } ∷ [];
@@ -153,6 +154,23 @@ get_second = Got one draw_one (record { refusal = None; query = record (with_cha
 abbrev pub options_in : SessionId → Event
 options_in id = Asked one draw_one (record request { session = Named id })
 
+-- a SETUP of the first session that moves it and retunes its stream
+abbrev pub moved_setup : Event
+moved_setup = Asked two draw_one (record request {
+  method = Setup;
+  stream = Some 1;
+  session = Named (id_of 1 10);
+  query = with_change to_second;
+  ports = Some (ports 1600);
+})
+
+-- a SETUP in the first session that names no stream, and one that asks for no ports that will do
+abbrev pub setup_without_stream : Event
+setup_without_stream = Asked one draw_one (record request { method = Setup; session = Named (id_of 1 10); query = added_pids (18 ∷ []); ports = Some (ports 1400) })
+
+abbrev pub setup_without_ports : Event
+setup_without_ports = Asked one draw_one (record request { method = Setup; stream = Some 1; session = Named (id_of 1 10) })
+
 -- a packet of this PID
 abbrev pub packet_of : ℕ → List ℕ
 packet_of pid = 71 ∷ pid / 256 ∷ pid % 256 ∷ replicate 185 0
@@ -188,7 +206,7 @@ pub data Short : Type 0 where
 
 abbrev pub in_short : Sent → Short
 in_short (Rtp id to number clock ssrc sent) = Media to.port number clock (length sent)
-in_short (Report id to view sender) = Told to.port
+in_short (Report id view sender) = Told sender.to.port
 
 -- what the last event sent
 abbrev pub sent_last : List Ran → List Short
@@ -266,3 +284,50 @@ held_after_one_more n = map (λ s. length (held s)) (step config (queued n) (pac
 -- what a pull then gives
 abbrev pub pulled_first : ℕ → ℕ
 pulled_first n = length (step config (queued n) (Pull (id_of 1 10))).reply
+
+-- what is told of a living session, by the state or by the readings
+pub record Account : Type 0 where
+  pub count : ℕ
+  pub stream : ℕ
+  pub front : Option ℕ
+  pub tune : ℕ
+  pub playing : Bool
+  pub heard : ℕ
+  pub packets : ℕ
+
+abbrev pub tune_at : State → Option ℕ → ℕ
+tune_at st None = 0
+tune_at st (Some front) = option_map_or (λ r. r.tune) (row_of st front) 0
+
+abbrev pub told_by_state : State → Session → Account
+told_by_state st s =
+    let front = option_and_then (λ t. t.front) (stream_of st s.stream) in
+    record { count = s.id.count; stream = s.stream; front = front; tune = tune_at st front; playing = s.playing; heard = s.heard; packets = length s.picked }
+
+abbrev pub told_by_readings : Readings → Made → Account
+told_by_readings g m = record {
+  count = m.id.count;
+  stream = g.number m.home;
+  front = g.front m.home;
+  tune = option_map_or g.tune (g.front m.home) 0;
+  playing = plays g m;
+  heard = g.heard m.id;
+  packets = length (g.selected m.id);
+}
+
+-- the entries of a run by caller 0
+abbrev pub entry_of : Ran → Item
+entry_of r = record {
+  caller = 0;
+  event = r.event;
+  answer = r.outcome.answer;
+  out = record { reply = r.outcome.reply; datagrams = map datagram r.outcome.sent; reply_spare = 0; datagram_spare = 0; count_spare = 0 };
+}
+
+abbrev pub state_tells : List Ran → List Account
+state_tells rs = map (told_by_state (state_last rs)) (state_last rs).sessions
+
+abbrev pub readings_tell : List Ran → List Account
+readings_tell rs =
+    let g = readings (record { config = config; start = 0 }) (map entry_of rs) in
+    map (told_by_readings g) (living g)

@@ -11,6 +11,8 @@ use Rattle.satip_plain.specs.declared.setting.Setting.{Setting}
 use Rattle.satip_plain.specs.State.{State, Row}
 use Rattle.satip_plain.specs.Sending.{Sent, Rtp, Report}
 use Rattle.satip_plain.specs.Steps.{Outcome, step, capped}
+use Rattle.satip_plain.specs.Values.{IsServable, IsSetting, IsEvent}
+use Rattle.satip_history.specs.Lists.{Each}
 
 -- an entry: its caller's number, the event, the answer, and the reply and datagrams written
 abbrev pub Item : Type 0
@@ -19,7 +21,7 @@ Item = Entry Event Answer Output
 -- the bytes that leave
 abbrev pub datagram : Sent → Datagram
 datagram (Rtp id to number clock ssrc packets) = record { to = to; bytes = rtp_datagram number clock ssrc packets }
-datagram (Report id to view sender) = record { to = to; bytes = report view sender }
+datagram (Report id view sender) = record { to = sender.to; bytes = report view sender }
 
 abbrev pub untuned : Front → Row
 untuned front = record { number = front.number; mux = None; tune = 0; ended = false }
@@ -52,3 +54,10 @@ pub record Fits (o : Outcome) (e : Item) : Type 0 where
 abbrev pub LegalFrom : Config → State → List Item → Type 0
 LegalFrom c st [] = Unit {0}
 LegalFrom c st (e ∷ es) = Fits (step c st e.event) e × LegalFrom c (step c st e.event).state es
+
+-- a legal history: its values are of their types, and each entry is what its event does there
+pub record Legal (c : Setting) (h : List Item) : Type 0 where
+  pub servable : IsServable c.config
+  pub setting : IsSetting c
+  pub events : Each (λ e. IsEvent e.event) h
+  pub entries : LegalFrom c.config (opening c) h

@@ -1,26 +1,48 @@
 -- First consequences of the definitions, each the contract of a public function.
-use Rattle.std.specs.Prelude.{◌≡◌, List, [], ◌++◌, map, Some}
-use Rattle.satip_plain.specs.declared.events.Event.TheVariants.{Request as Asked}
-use Rattle.satip_plain.specs.Types.{Config, Peer, Draw, Request}
-use Rattle.satip_plain.specs.State.{State, Session}
-use Rattle.satip_plain.specs.Refusals.{Refused, decide}
-use Rattle.satip_plain.specs.Steps.{step}
-use Rattle.satip_plain.specs.Histories.{Item, LegalFrom}
+use Rattle.std.specs.Prelude.{ℕ, ◌≡◌, false, List, [], ◌++◌, Some, None}
+use Rattle.satip_plain.specs.declared.events.Event.TheVariants.{Request as Asked, Get as Got, Packet, Pull, Close}
+use Rattle.satip_plain.specs.declared.setting.Setting.{Setting}
+use Rattle.satip_plain.specs.Types.{Config, Peer, Draw, Request, HttpRequest, SessionId}
+use Rattle.satip_plain.specs.State.{State, Session, http_session, held}
+use Rattle.satip_plain.specs.Refusals.{Refused, decide, decide_get}
+use Rattle.satip_plain.specs.Steps.{Outcome, step, heard_by, hear, is_current}
+use Rattle.satip_plain.specs.Histories.{Item, Legal}
 
--- a session, whenever it was last heard of
-abbrev pub unheard : Session → Session
-unheard s = record s { heard = 0 }
+-- what an event leaves and sends, where it does nothing but leave this state
+pub record Leaves (o : Outcome) (st : State) : Type 0 where
+  pub state : o.state ≡ st
+  pub sent : o.sent ≡ []
 
--- a state, whenever its sessions were last heard of
-abbrev pub but_for_heard : State → State
-but_for_heard st = record st { sessions = map unheard st.sessions }
-
--- a refused request changes nothing but when a session was last heard of, and sends nothing
+-- a refused request leaves the state as it was, but that its session was heard of where the message itself is right
 abbrev pub RefusedChangesNothing : Type 0
 RefusedChangesNothing =
-    (c : Config) (st : State) (peer : Peer) (draw : Draw) (r : Request) (refused : Refused) → decide c st r ≡ Some refused →
-    (but_for_heard (step c st (Asked peer draw r)).state ≡ but_for_heard st) × ((step c st (Asked peer draw r)).sent ≡ [])
+    (c : Config) (st : State) (peer : Peer) (draw : Draw) (r : Request) (refused : Refused) → decide c st r ≡ Some refused
+    → Leaves (step c st (Asked peer draw r)) (heard_by r st)
+
+-- a refused GET leaves the state as it was
+abbrev pub RefusedGetChangesNothing : Type 0
+RefusedGetChangesNothing =
+    (c : Config) (st : State) (peer : Peer) (draw : Draw) (r : HttpRequest) (refused : Refused) → decide_get c st r ≡ Some refused
+    → Leaves (step c st (Got peer draw r)) st
+
+-- a stale packet leaves the state as it was
+abbrev pub StaleChangesNothing : Type 0
+StaleChangesNothing =
+    (c : Config) (st : State) (front tune : ℕ) (packet : List ℕ) → is_current st front tune ≡ false
+    → Leaves (step c st (Packet front tune packet)) st
+
+-- a pull or a close of a session that doesn't live leaves the state as it was
+abbrev pub GoneChangesNothing : Type 0
+GoneChangesNothing =
+    (c : Config) (st : State) (id : SessionId) → http_session st id ≡ None
+    → Leaves (step c st (Pull id)) st × Leaves (step c st (Close id)) st
+
+-- a pull of an empty queue leaves the state as it was, but that its session was heard of
+abbrev pub EmptyOnlyHears : Type 0
+EmptyOnlyHears =
+    (c : Config) (st : State) (id : SessionId) (s : Session) → http_session st id ≡ Some s → held s ≡ []
+    → Leaves (step c st (Pull id)) (hear s.id st)
 
 -- each beginning of a legal history is legal
 abbrev pub PrefixIsLegal : Type 0
-PrefixIsLegal = (c : Config) (h k : List Item) (st : State) → LegalFrom c st (h ++ k) → LegalFrom c st h
+PrefixIsLegal = (c : Setting) (h k : List Item) → Legal c (h ++ k) → Legal c h

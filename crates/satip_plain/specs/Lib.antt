@@ -2,11 +2,11 @@ pub mod Types
 pub mod SameTuning
 pub mod State
 pub mod Sending
-pub mod Fronts
 pub mod Streams
 pub mod Replies
 pub mod Refusals
 pub mod Steps
+pub mod Values
 pub mod Histories
 pub mod Readings
 pub mod Packets

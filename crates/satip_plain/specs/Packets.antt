@@ -10,7 +10,7 @@ use Rattle.satip_plain.specs.Histories.{Item, opening}
 -- the transport packets inside a datagram that is the session's
 abbrev pub packets_for : SessionId → Sent → List (List ℕ)
 packets_for s (Rtp id to number clock ssrc packets) = if same_id id s then packets else []
-packets_for s (Report id to view sender) = []
+packets_for s (Report id view sender) = []
 
 -- all that the entries sent, in order
 abbrev pub sent_from : Config → State → List Item → List Sent

@@ -16,20 +16,22 @@ use Rattle.satip_plain.specs.declared.answers.GetAnswer.TheVariants.{Started}
 use Rattle.satip_plain.specs.declared.answers.Pulled.TheVariants.{Bytes}
 use Rattle.satip_plain.specs.declared.events.Event.{Event}
 use Rattle.satip_plain.specs.declared.events.Event.TheVariants.{Request as Asked, Get as Got, Tick, Packet, Pull, Close}
-use Rattle.satip_plain.specs.Types.{SessionId, Tuning, Config, Query}
+use Rattle.satip_plain.specs.Types.{SessionId, Draw, Tuning, Config, Query}
 use Rattle.satip_plain.specs.declared.setting.Setting.{Setting}
 use Rattle.satip_plain.specs.State.{same_id, is_at}
-use Rattle.satip_plain.specs.Fronts.{Site, Place, choose}
+use Rattle.satip_fronts.specs.declared.choice.Place.{Place}
+use Rattle.satip_fronts.specs.Choice.{Outlook, choose}
 use Rattle.satip_plain.specs.Streams.{to_set, new_pids}
 use Rattle.satip_plain.specs.Refusals.{names_none, is_setup, changes}
 use Rattle.satip_plain.specs.Steps.{capped, most_queued}
 use Rattle.satip_plain.specs.Histories.{Item}
 
--- a session that was made: `home` names its stream
+-- a session that was made: `home` names its stream, and `draw` is that of its request
 pub record Made : Type 0 where
   pub id : SessionId
   pub http : Bool
   pub home : SessionId
+  pub draw : Draw
 
 -- what is read of a history; of an id that names nothing a reading says nothing
 pub record Readings : Type 0 where
@@ -104,9 +106,9 @@ abbrev pub made_by : Readings → Event → Option Made
 made_by g (Asked peer draw r) =
     let id = next_made g draw.word in
     if is_setup r.method && names_none r.session
-    then Some (record { id = id; http = false; home = unwrap_or (option_and_then (home_of_number g) r.stream) id })
+    then Some (record { id = id; http = false; home = unwrap_or (option_and_then (home_of_number g) r.stream) id; draw = draw })
     else None
-made_by g (Got peer draw r) = let id = next_made g draw.word in Some (record { id = id; http = true; home = id })
+made_by g (Got peer draw r) = let id = next_made g draw.word in Some (record { id = id; http = true; home = id; draw = draw })
 made_by g _ = None
 
 abbrev pub makes : Readings → Item → Option Made
@@ -203,16 +205,13 @@ pulled_by e s = in_answer e.event e.answer
 abbrev pub put : {X : Type 0} → SessionId → X → (SessionId → X) → SessionId → X
 put id x f s = if same_id id s then x else f s
 
-abbrev pub put_some : {X : Type 0} → Option SessionId → X → (SessionId → X) → SessionId → X
-put_some None x f = f
-put_some (Some id) x f = put id x f
-
 -- what a choice for this stream looks at, as read
-abbrev pub site_in : Readings → SessionId → Site
-site_in g home = record {
+abbrev pub outlook_in : Config → Readings → SessionId → Outlook
+outlook_in c g home = record {
+  fronts = c.fronts;
+  mux_at = g.mux;
   own = g.front home;
-  others = λ f. list_any (λ m. not (same_id m.home home) && is_at (g.front m.home) f) (living g);
-  tuned_to = g.mux;
+  shared = λ f. list_any (λ m. not (same_id m.home home) && is_at (g.front m.home) f) (living g);
 }
 
 -- a stream that gets a tuning that it didn't have, and its place
@@ -223,11 +222,21 @@ pub record Placing : Type 0 where
 
 abbrev pub placing_of : Config → Readings → Asking → Option Placing
 placing_of c g a = option_and_then (λ tuning.
-    option_map (λ place. record { home = a.home; tuning = tuning; place = place }) (choose c.fronts c.muxes (site_in g a.home) tuning))
+    option_map (λ place. record { home = a.home; tuning = tuning; place = place }) (choose (outlook_in c g a.home) (mux_of c.muxes tuning) tuning))
     (to_set (g.tuned a.home) a.query.change)
 
 abbrev pub placing : Config → Readings → Item → Option Placing
 placing c g e = option_and_then (placing_of c g) (asking g e)
+
+-- the tunings once an entry asked for one
+abbrev pub with_tuning : Readings → Option Asking → SessionId → Option Tuning
+with_tuning g None = g.tuned
+with_tuning g (Some a) = option_map_or (λ tuning. put a.home (Some tuning) g.tuned) (to_set (g.tuned a.home) a.query.change) g.tuned
+
+-- the front ends of streams once one was placed
+abbrev pub with_place : Readings → Option Placing → SessionId → Option ℕ
+with_place g None = g.front
+with_place g (Some p) = put p.home (Some p.place.front) g.front
 
 abbrev pub tunes_front : Option Placing → ℕ → Bool
 tunes_front None f = false
@@ -275,9 +284,9 @@ read_one c g e =
       played = λ s. g.played s || (of_living (λ m. not m.http) s && starts_playing e s);
       heard = λ s. if any_where (λ m. same_id m.id s) new || of_living (keeps_alive e.event) s then clock else g.heard s;
       number = numbered g new;
-      tuned = put_some (option_map (λ p. p.home) placed) (option_map (λ p. p.tuning) placed) g.tuned;
+      tuned = with_tuning g (asking g e);
       pids = with_asked g (asking g e);
-      front = put_some (option_map (λ p. p.home) placed) (option_map (λ p. p.place.front) placed) g.front;
+      front = with_place g placed;
       tune = λ f. if tunes_front placed f then (g.tune f + 1) % 2 ^ 64 else g.tune f;
       mux = λ f. if tunes_front placed f then mux_in c placed else g.mux f;
       selected = λ s. g.selected s ++ (if of_living (is_selected g e.event) s then packet_in e.event else []);

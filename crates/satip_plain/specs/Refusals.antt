@@ -20,8 +20,15 @@ use Rattle.satip_plain.specs.declared.requests.SessionName.TheVariants.{Absent, 
 use Rattle.satip_tune.specs.declared.keys.Key.TheVariants.{Delpids}
 use Rattle.satip_plain.specs.Types.{Tuning, Change, Key, Query, RefusalBody, Request, HttpRequest, Config}
 use Rattle.satip_plain.specs.State.{Session, Stream, State, same_id, rtsp_session, stream_of, owner, most_sessions, most_made}
-use Rattle.satip_plain.specs.Fronts.{Site, first_given, blocked}
-use Rattle.satip_plain.specs.Streams.{changed_tuning, to_set, site_of, asked_pids}
+use Rattle.satip_fronts.specs.Choice.{Outlook, blocked}
+use Rattle.satip_tune.specs.Frontends.{mux_of}
+use Rattle.satip_plain.specs.Streams.{changed_tuning, to_set, outlook_of, asked_pids}
+
+-- the first that is given
+abbrev pub first_given : {X : Type 0} → List (Option X) → Option X
+first_given [] = None
+first_given (None ∷ more) = first_given more
+first_given (Some x ∷ more) = Some x
 
 -- the status of a refusal, and its body if it has one
 pub record Refused : Type 0 where
@@ -151,29 +158,29 @@ abbrev pub is_full : State → Bool
 is_full st = nat_le most_sessions (length st.sessions) || nat_le most_made st.made
 
 -- a tuning is to be set, and each fitting front end is taken
-abbrev pub front_missing : Config → Site → Option Tuning → Change → Bool
-front_missing c site old change = option_map_or (blocked c.fronts c.muxes site) (to_set old change) false
+abbrev pub front_missing : Config → Outlook → Option Tuning → Change → Bool
+front_missing c outlook old change = option_map_or (λ tuning. blocked outlook (mux_of c.muxes tuning) tuning) (to_set old change) false
 
 -- what refuses a query for a stream that had this tuning and these PIDs; `makes` where it also makes a session
-abbrev pub of_change : Config → State → Site → Option Tuning → Pids → Bool → Query → List (Option Refused)
-of_change c st site tuning pids makes query =
+abbrev pub of_change : Config → State → Outlook → Option Tuning → Pids → Bool → Query → List (Option Refused)
+of_change c st outlook tuning pids makes query =
     key_missing tuning query.change
     ∷ of_pids (asked_pids pids query)
     ∷ where_true (makes && is_full st) (telling 503 NoMoreSessions)
-    ∷ where_true (front_missing c site tuning query.change) (telling 503 NoMoreFrontends)
+    ∷ where_true (front_missing c outlook tuning query.change) (telling 503 NoMoreFrontends)
     ∷ []
 
 -- a stream that isn't founded yet
-abbrev pub new_site : State → Site
-new_site st = record (site_of st 0) { own = None }
+abbrev pub new_outlook : Config → State → Outlook
+new_outlook c st = record (outlook_of c st 0) { own = None }
 
 -- whether a SETUP makes a session
 abbrev pub makes_session : Request → Bool
 makes_session r = is_setup r.method && names_none r.session
 
 abbrev pub of_query : Config → State → Request → Option Stream → List (Option Refused)
-of_query c st r None = of_change c st (new_site st) None (Only []) (makes_session r) r.query
-of_query c st r (Some t) = of_change c st (site_of st t.number) t.tuning t.pids (makes_session r) r.query
+of_query c st r None = of_change c st (new_outlook c st) None (Only []) (makes_session r) r.query
+of_query c st r (Some t) = of_change c st (outlook_of c st t.number) t.tuning t.pids (makes_session r) r.query
 
 -- the cause for which a request is refused; None where it is accepted
 abbrev pub decide : Config → State → Request → Option Refused
@@ -194,4 +201,4 @@ decide_get c st r =
     first_given
     (option_map of_http_message r.refusal
     ∷ of_tuning (changed_tuning None r.query.change)
-    ∷ of_change c st (new_site st) None (Only []) true r.query)
+    ∷ of_change c st (new_outlook c st) None (Only []) true r.query)

@@ -9,11 +9,11 @@ use Rattle.satip_rtp.specs.Cut.{cut}
 -- a datagram, with the session that it is of
 pub data Sent : Type 0 where
   Rtp : SessionId → Address → ℕ → ℕ → ℕ → List (List ℕ) → Sent  -- to, number, clock, ssrc, packets
-  Report : SessionId → Address → StreamView → Sender → Sent
+  Report : SessionId → StreamView → Sender → Sent
 
 abbrev pub marked_with : Sent → SessionId
 marked_with (Rtp id to number clock ssrc packets) = id
-marked_with (Report id to view sender) = id
+marked_with (Report id view sender) = id
 
 -- what becomes of the state, and what was sent on the way, in order
 pub record Move : Type 0 where

@@ -81,12 +81,13 @@ held s = drop (sum s.sizes) s.picked
 abbrev pub change_where : {X : Type 0} → (X → Bool) → (X → X) → List X → List X
 change_where p f xs = map (λ x. if p x then f x else x) xs
 
--- the number of seconds, packets and so on that the rules name
+-- so many sessions live at most, and so many are made
 abbrev pub most_sessions : ℕ
 most_sessions = 64
 
 abbrev pub most_made : ℕ
 most_made = 4294967295
 
+-- later moments count as this one
 abbrev pub last_moment : ℕ
 last_moment = 281474976710655

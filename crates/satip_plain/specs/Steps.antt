@@ -1,4 +1,4 @@
--- The step of the plain server: what each event does.
+-- The step of the plain server: what each event does. Cases that a refusal or the order of making rules out have any value.
 use Rattle.std.specs.Prelude.{ℕ, ◌==◌, ◌&&◌, ◌+◌, ◌*◌, ◌%◌, ◌^◌, not, nat_le, min, max, Bool, true, false, List, [], ◌∷◌, ◌++◌, map, filter, flat_map, length, sum, take, find, Option, None, Some, option_map, option_and_then, is_some, is_none, unwrap_or, if◌then◌else◌}
 use Rattle.std.specs.List.{list_any, concat, range_with_len}
 use Rattle.std.specs.Option.{option_map_or}
@@ -136,10 +136,11 @@ break_of _ = None
 abbrev pub closes : Refusal → Bool
 closes refusal = is_some (break_of refusal)
 
--- the reply to a refused request: a closing one has no CSeq, and an option that is required is named
+-- the reply to a refused request that is a whole message
 abbrev pub refused_reply : Option ℕ → Refused → List ℕ
 refused_reply cseq refused = option_map_or (text_reply cseq refused.status) refused.body (plain_reply cseq refused.status)
 
+-- the reply to what a message is refused for: a closing one has no CSeq, and an option that is required is named
 abbrev pub message_reply : Option ℕ → Refused → Refusal → List ℕ
 message_reply cseq refused (Require kept) = unsupported_reply cseq kept
 message_reply cseq refused refusal = option_map_or closing_reply (break_of refusal) (refused_reply cseq refused)
@@ -252,6 +253,10 @@ capped moment = min moment last_moment
 abbrev pub is_expired : Config → ℕ → Session → Bool
 is_expired c clock s = nat_le (s.heard + c.timeout * 1000) clock
 
+-- the sessions that weren't heard of for too long
+abbrev pub expired : Config → State → List Session
+expired c st = filter (is_expired c st.clock) st.sessions
+
 abbrev pub is_due : ℕ → Session → Bool
 is_due clock s = s.playing && not s.http && option_map_or (λ at. nat_le (at + 200) clock) s.reported true
 
@@ -267,7 +272,7 @@ sender_of c st s = record {
 
 abbrev pub report_of : Config → State → Session → List Sent
 report_of c st s = option_map_or
-    (λ t. Report s.id (record { ip = s.peer.ip; port = s.ports.rtcp }) (view_of st t) (sender_of c st s) ∷ [])
+    (λ t. Report s.id (view_of st t) (sender_of c st s) ∷ [])
     (stream_of st s.stream) []
 
 -- each session that is due gets a report
@@ -290,8 +295,9 @@ on_tick c now st = outcome (tick c now st) (beat_of st) []
 
 -- packets
 
-abbrev pub is_recording : State → ℕ → ℕ → Bool
-is_recording st front tune =
+-- whether the front end serves a stream and has this tuning number; a packet of another is stale
+abbrev pub is_current : State → ℕ → ℕ → Bool
+is_current st front tune =
     option_map_or (λ r. r.tune == tune) (row_of st front) false && list_any (λ t. true) (served_by st front)
 
 -- whether a session of the stream is to have the packet
@@ -338,11 +344,11 @@ worked front m = outcome m (WorkIs (work m.state front)) []
 
 -- a packet of another tuning is stale, and is dropped
 abbrev pub on_packet : ℕ → ℕ → List ℕ → State → Outcome
-on_packet front tune packet st = worked front (if is_recording st front tune then deliver front packet st else settle st)
+on_packet front tune packet st = worked front (if is_current st front tune then deliver front packet st else settle st)
 
 abbrev pub on_ended : ℕ → ℕ → State → Outcome
 on_ended front tune st =
-    let ending = is_recording st front tune in
+    let ending = is_current st front tune in
     worked front (settle (record st { rows = change_where (λ r. ending && r.number == front) (λ r. record r { ended = true }) st.rows }))
 
 -- the step

@@ -11,7 +11,8 @@ use Rattle.satip_query.specs.declared.queries.PidsGiven.TheVariants.{Absent, All
 use Rattle.satip_plain.specs.Types.{Tuning, Change, Key, Query, Config, Pids}
 use Rattle.satip_plain.specs.State.{Stream, Row, State, is_at, stream_of, row_of, served_by, change_where}
 use Rattle.satip_plain.specs.Sending.{Move, settle, then_move, each_of, let_go}
-use Rattle.satip_plain.specs.Fronts.{Site, Place, choose}
+use Rattle.satip_fronts.specs.declared.choice.Place.{Place}
+use Rattle.satip_fronts.specs.Choice.{Outlook, choose}
 use Rattle.satip_plain.specs.SameTuning.{tuning_eq}
 
 -- the tuning that a change with at least one key makes, of the old one or of none
@@ -32,11 +33,12 @@ abbrev pub to_set : Option Tuning → Change → Option Tuning
 to_set old change = if gives_any change then to_set_of old (changed_tuning old change) else None
 
 -- what a choice for this stream looks at
-abbrev pub site_of : State → ℕ → Site
-site_of st number = record {
+abbrev pub outlook_of : Config → State → ℕ → Outlook
+outlook_of c st number = record {
+  fronts = c.fronts;
+  mux_at = λ f. option_and_then (λ r. r.mux) (row_of st f);
   own = option_and_then (λ t. t.front) (stream_of st number);
-  others = λ f. list_any (λ t. not (t.number == number)) (served_by st f);
-  tuned_to = λ f. option_and_then (λ r. r.mux) (row_of st f);
+  shared = λ f. list_any (λ t. not (t.number == number)) (served_by st f);
 }
 
 -- a front end that serves no stream is tuned to no multiplex
@@ -69,7 +71,7 @@ put_at c number tuning st place =
 abbrev pub retune : Config → ℕ → State → Tuning → Move
 retune c number st tuning =
     then_move (each_of (λ s. s.stream == number && not s.http) (let_go true st.clock) st) (λ now.
-    settle (option_map_or (put_at c number tuning now) (choose c.fronts c.muxes (site_of now number) tuning) now))
+    settle (option_map_or (put_at c number tuning now) (choose (outlook_of c now number) (mux_of c.muxes tuning) tuning) now))
 
 abbrev pub choice_of : PidsGiven → Choice
 choice_of Absent = Unsaid

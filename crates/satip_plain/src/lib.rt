@@ -12,7 +12,10 @@ mod tests;
 
 pub use answers::{Answer, Beat, Closed, GetAnswer, Pulled, Replied, Work};
 pub use events::Event;
-pub use laws::{prefix_is_legal, refused_changes_nothing};
+pub use laws::{
+    empty_only_hears, gone_changes_nothing, prefix_is_legal, refused_changes_nothing,
+    refused_get_changes_nothing, stale_changes_nothing,
+};
 pub use requests::{HttpRefusal, HttpRequest, Method, Refusal, Request, SessionName};
 pub use setting::Setting;
 pub use short::Short;
