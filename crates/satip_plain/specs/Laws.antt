@@ -2,7 +2,9 @@
 use Rattle.std.specs.Prelude.{ℕ, ◌≡◌, false, List, [], ◌++◌, Some, None}
 use Rattle.satip_plain.specs.declared.events.Event.TheVariants.{Request as Asked, Get as Got, Packet, Pull, Close}
 use Rattle.satip_plain.specs.declared.setting.Setting.{Setting}
-use Rattle.satip_plain.specs.Types.{Config, Peer, Draw, Request, HttpRequest, SessionId}
+use Rattle.std.specs.Bool.{Decides}
+use Rattle.satip_plain.specs.SameTuning.{tuning_eq}
+use Rattle.satip_plain.specs.Types.{Tuning, Config, Peer, Draw, Request, HttpRequest, SessionId}
 use Rattle.satip_plain.specs.State.{State, Session, http_session, held}
 use Rattle.satip_plain.specs.Refusals.{Refused, decide, decide_get}
 use Rattle.satip_plain.specs.Steps.{Outcome, step, heard_by, hear, is_current}
@@ -46,3 +48,7 @@ EmptyOnlyHears =
 -- each beginning of a legal history is legal
 abbrev pub PrefixIsLegal : Type 0
 PrefixIsLegal = (c : Setting) (h k : List Item) → Legal c (h ++ k) → Legal c h
+
+-- the comparison of tunings is equality
+abbrev pub TuningEqIsEquality : Type 0
+TuningEqIsEquality = (a b : Tuning) → Decides (tuning_eq a b) (a ≡ b)

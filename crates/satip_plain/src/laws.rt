@@ -1,6 +1,6 @@
 //! First consequences of the definitions. Each function does nothing; its contract is the law.
 
-ghost use Rattle.satip_plain.specs.Laws.{RefusedChangesNothing, RefusedGetChangesNothing, StaleChangesNothing, GoneChangesNothing, EmptyOnlyHears, PrefixIsLegal};
+ghost use Rattle.satip_plain.specs.Laws.{RefusedChangesNothing, RefusedGetChangesNothing, StaleChangesNothing, GoneChangesNothing, EmptyOnlyHears, PrefixIsLegal, TuningEqIsEquality};
 
 /// A refused request changes nothing but, where the message itself is right, when its session was last heard of.
 pub fn refused_changes_nothing()
@@ -30,4 +30,9 @@ pub fn empty_only_hears()
 /// Each beginning of a legal history is legal.
 pub fn prefix_is_legal()
     ensures law { PrefixIsLegal }
+{}
+
+/// Two tunings compare as the same exactly where they are.
+pub fn tuning_eq_is_equality()
+    ensures law { TuningEqIsEquality }
 {}
