@@ -1,2 +1,6 @@
 mod LawProofs
 mod TuningLaw
+mod Rounds
+mod Moves
+mod EventMoves
+mod NumberLaw

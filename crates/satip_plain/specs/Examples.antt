@@ -24,7 +24,7 @@ use Rattle.std.specs.Option.{option_map_or}
 use Rattle.satip_plain.specs.Types.{SessionId, RefusalBody, Draw, Peer, Ports, Config, Request, Query, Change, Front}
 use Rattle.satip_plain.specs.State.{State, Session, owner, held, row_of, stream_of}
 use Rattle.satip_plain.specs.Sending.{Sent, Rtp, Report}
-use Rattle.satip_plain.specs.Steps.{Outcome, step}
+use Rattle.satip_plain.specs.Steps.{Outcome, step, description}
 use Rattle.satip_plain.specs.Histories.{Item, opening, datagram}
 use Rattle.satip_plain.specs.Readings.{Readings, Made, readings, living, plays}
 
@@ -331,3 +331,11 @@ abbrev pub readings_tell : List Ran → List Account
 readings_tell rs =
     let g = readings (record { config = config; start = 0 }) (map entry_of rs) in
     map (told_by_readings g) (living g)
+
+-- the description of all streams in the end
+abbrev pub description_last : List Ran → List ℕ
+description_last rs = description config (state_last rs) None
+
+-- that of one stream without a tuning, on two front ends
+abbrev pub described : List ℕ
+described = codes "v=0\r\no=- 1 1 IN IP4 192.168.1.10\r\ns=SatIPServer:1 2\r\nt=0 0\r\nm=video 0 RTP/AVP 33\r\nc=IN IP4 0.0.0.0\r\na=control:stream=1\r\na=fmtp:33 ver=1.0;src=1;tuner=0,0,0,0,,,,,,,,;pids=none\r\na=inactive\r\n"

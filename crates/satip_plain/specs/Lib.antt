@@ -12,3 +12,4 @@ pub mod Readings
 pub mod Packets
 pub mod Laws
 pub mod Examples
+pub mod Numbering

@@ -1,10 +1,10 @@
 //! Worked runs of the plain server, each computed from the definitions.
-ghost use Rattle.std.specs.Prelude.{◌≡◌, List, [], ◌∷◌, ◌++◌, Option, Some, None, true, false, map};
+ghost use Rattle.std.specs.Prelude.{◌≡◌, List, [], ◌∷◌, ◌++◌, Option, Some, None, true, false, map, length};
 ghost use Rattle.satip_query.specs.declared.bodies.RefusalBody.TheVariants.{OutOfRange, NotOwner, NoMorePids, NoMoreSessions, NoMoreFrontends};
 ghost use Rattle.satip_query.specs.Queries.{new_query};
 ghost use Rattle.satip_tune.specs.declared.keys.Key.TheVariants.{Delpids};
 ghost use Rattle.satip_plain.specs.declared.events.Event.TheVariants.{Tick, Ask, Ended, Pull, Close, Stop};
-ghost use Rattle.satip_plain.specs.Examples.{Media, Told, Ok200, Refuses, Works, Idles, Beats, Starts, Pulls, Other, added_pids, first_query, moved_setup, answers_of, get_second, held_after_one_more, id_of, join_of, kept_pids, listed_pids, options_in, packet, packet_on, packets, play, play_in, play_of_two, pulled_first, readings_tell, run, setup_without_ports, setup_without_stream, state_tells, sent_last, setup, setup_with, streams_of, tally, teardown_in, to_unknown, to_second, two_setup, wanted_second, with_change, without_pids};
+ghost use Rattle.satip_plain.specs.Examples.{Media, Told, Ok200, Refuses, Works, Idles, Beats, Starts, Pulls, Other, added_pids, first_query, moved_setup, answers_of, get_second, held_after_one_more, id_of, join_of, kept_pids, listed_pids, options_in, packet, packet_on, packets, play, play_in, play_of_two, pulled_first, readings_tell, run, setup_without_ports, setup_without_stream, state_tells, sent_last, setup, setup_with, streams_of, tally, teardown_in, to_unknown, to_second, two_setup, wanted_second, with_change, without_pids, described, description_last};
 
 // Six packets leave at the tick, before the report; seven leave at once, and the next number wraps.
 #[tactic(auto, unfolding(satip_fronts::specs::Choice::choose, satip_fronts::specs::Choice::blocked, satip_fronts::specs::Choice::least, satip_fronts::specs::Choice::placed, satip_fronts::specs::Choice::may_take))]
@@ -125,4 +125,10 @@ fn readings_tell_the_state()
         ≡ state_tells (run (setup ∷ two_setup ∷ play_in (id_of 1 10) 1 (with_change to_second) ∷ [])) }
     ensures handed_over { readings_tell (run (setup ∷ join_of 1 ∷ teardown_in (id_of 1 10) 1 ∷ [])) ≡ state_tells (run (setup ∷ join_of 1 ∷ teardown_in (id_of 1 10) 1 ∷ [])) }
     ensures expired { readings_tell (run (setup ∷ Tick 5000 ∷ get_second ∷ Tick 60000 ∷ [])) ≡ state_tells (run (setup ∷ Tick 5000 ∷ get_second ∷ Tick 60000 ∷ [])) }
+{}
+
+// DESCRIBE of a stream that isn't tuned, with two front ends: 189 bytes.
+fn untuned_stream_is_described()
+    ensures text { description_last (run (setup_with new_query ∷ [])) ≡ described }
+    ensures size { length described ≡ 189 }
 {}
