@@ -9,6 +9,9 @@ use Rattle.satip_tune.specs.declared.signal.System.TheVariants.{Dvbs, Dvbs2}
 use Rattle.satip_tune.specs.declared.signal.Modulation.TheVariants.{Psk8}
 use Rattle.satip_tune.specs.declared.signal.RollOff.TheVariants.{R35}
 use Rattle.satip_tune.specs.declared.signal.Fec.TheVariants.{F23}
+use Rattle.satip_plain.specs.declared.requests.Refusal.TheVariants.{Query as QueryAt}
+use Rattle.satip_query.specs.declared.faults.QueryFault.TheVariants.{Range}
+use Rattle.satip_tune.specs.declared.keys.Key.TheVariants.{Pids}
 use Rattle.satip_query.specs.Queries.{new_query}
 use Rattle.satip_plain.specs.declared.events.Event.{Event}
 use Rattle.satip_plain.specs.declared.events.Event.TheVariants.{Request as Asked, Get as Got, Packet, Pull}
@@ -18,7 +21,7 @@ use Rattle.satip_plain.specs.declared.answers.Work.TheVariants.{Tune, Nothing}
 use Rattle.satip_plain.specs.declared.answers.GetAnswer.TheVariants.{Started}
 use Rattle.satip_plain.specs.declared.answers.Pulled.TheVariants.{Bytes, Empty}
 use Rattle.satip_plain.specs.Refusals.{Refused, decide}
-use Rattle.satip_pids.specs.Pids.{Pids, Every, Only}
+use Rattle.satip_pids.specs.Pids.{Pids as PidValue, Every, Only}
 use Rattle.std.specs.List.{range_with_len}
 use Rattle.std.specs.Option.{option_map_or}
 use Rattle.satip_plain.specs.Types.{SessionId, RefusalBody, Draw, Peer, Ports, Config, Request, Query, Change, Front}
@@ -97,6 +100,10 @@ wanted_second = with_change (record to_first { fe = Some 2 })
 abbrev pub without_pids : Query
 without_pids = record first_query { pids = AllPids; delpids = Some (16 ∷ []) }
 
+-- the greatest PID
+abbrev pub greatest_pid : Query
+greatest_pid = record first_query { pids = ThesePids (8191 ∷ []) }
+
 -- as many PIDs, from 0 on
 abbrev pub listed_pids : ℕ → Query
 listed_pids n = record new_query { pids = ThesePids (range_with_len 0 n) }
@@ -153,6 +160,10 @@ get_second = Got one draw_one (record { refusal = None; query = record (with_cha
 
 abbrev pub options_in : SessionId → Event
 options_in id = Asked one draw_one (record request { session = Named id })
+
+-- a SETUP whose query names a PID above it
+abbrev pub setup_above : Event
+setup_above = Asked one draw_one (record request { method = Setup; refusal = Some (QueryAt (Range Pids)) })
 
 -- a SETUP of the first session that moves it and retunes its stream
 abbrev pub moved_setup : Event
@@ -262,7 +273,7 @@ streams_of rs =
     let st = state_last rs in
     map (λ t. tally t.number t.front (option_map_or (λ s. s.id.count) (owner st t.number) 0)) st.streams
 
-abbrev pub numbers_in : Pids → List ℕ
+abbrev pub numbers_in : PidValue → List ℕ
 numbers_in Every = []
 numbers_in (Only pids) = pids
 

@@ -2,9 +2,9 @@
 ghost use Rattle.std.specs.Prelude.{◌≡◌, List, [], ◌∷◌, ◌++◌, Option, Some, None, true, false, map, length};
 ghost use Rattle.satip_query.specs.declared.bodies.RefusalBody.TheVariants.{OutOfRange, NotOwner, NoMorePids, NoMoreSessions, NoMoreFrontends};
 ghost use Rattle.satip_query.specs.Queries.{new_query};
-ghost use Rattle.satip_tune.specs.declared.keys.Key.TheVariants.{Delpids};
+ghost use Rattle.satip_tune.specs.declared.keys.Key.TheVariants.{Delpids, Pids};
 ghost use Rattle.satip_plain.specs.declared.events.Event.TheVariants.{Tick, Ask, Ended, Pull, Close, Stop};
-ghost use Rattle.satip_plain.specs.Examples.{Media, Told, Ok200, Refuses, Works, Idles, Beats, Starts, Pulls, Other, added_pids, first_query, moved_setup, answers_of, get_second, held_after_one_more, id_of, join_of, kept_pids, listed_pids, options_in, packet, packet_on, packets, play, play_in, play_of_two, pulled_first, readings_tell, run, setup_without_ports, setup_without_stream, state_tells, sent_last, setup, setup_with, streams_of, tally, teardown_in, to_unknown, to_second, two_setup, wanted_second, with_change, without_pids, described, description_last};
+ghost use Rattle.satip_plain.specs.Examples.{Media, Told, Ok200, Refuses, Works, Idles, Beats, Starts, Pulls, Other, added_pids, first_query, greatest_pid, moved_setup, setup_above, answers_of, get_second, held_after_one_more, id_of, join_of, kept_pids, listed_pids, options_in, packet, packet_on, packets, play, play_in, play_of_two, pulled_first, readings_tell, run, setup_without_ports, setup_without_stream, state_tells, sent_last, setup, setup_with, streams_of, tally, teardown_in, to_unknown, to_second, two_setup, wanted_second, with_change, without_pids, described, description_last};
 
 // Six packets leave at the tick, before the report; seven leave at once, and the next number wraps.
 #[tactic(auto, unfolding(satip_fronts::specs::Choice::choose, satip_fronts::specs::Choice::blocked, satip_fronts::specs::Choice::least, satip_fronts::specs::Choice::placed, satip_fronts::specs::Choice::may_take))]
@@ -57,6 +57,8 @@ fn session_expires()
 #[tactic(auto, unfolding(satip_fronts::specs::Choice::choose, satip_fronts::specs::Choice::blocked, satip_fronts::specs::Choice::least, satip_fronts::specs::Choice::placed, satip_fronts::specs::Choice::may_take))]
 fn pids_have_limits()
     ensures under_all { answers_of (run (setup_with without_pids ∷ [])) ≡ Refuses 403 (Some (OutOfRange Delpids)) ∷ [] }
+    ensures greatest { answers_of (run (setup_with greatest_pid ∷ [])) ≡ Ok200 ∷ [] }
+    ensures above { answers_of (run (setup_above ∷ [])) ≡ Refuses 403 (Some (OutOfRange Pids)) ∷ [] }
     ensures most { answers_of (run (setup_with (listed_pids 256) ∷ [])) ≡ Ok200 ∷ [] }
     ensures too_many { answers_of (run (setup ∷ play_in (id_of 1 10) 1 (listed_pids 257) ∷ [])) ≡ Ok200 ∷ Refuses 503 (Some NoMorePids) ∷ [] }
     ensures unchanged { kept_pids (run (setup ∷ play_in (id_of 1 10) 1 (listed_pids 257) ∷ [])) ≡ 0 ∷ 16 ∷ 17 ∷ [] }
