@@ -2,8 +2,8 @@
 use Rattle.std.proofs.Common.{arith, ◌≡◌, ◌⊎◌, inl, inr, ℕ, ◌+◌, ◌<◌, ◌≤◌, ◌&&◌, Bool, true, false, List, [], ◌∷◌, ◌++◌, length, find, Option, Some, None, refl, ap, subst, sym, ◌∙◌, if◌then◌else◌, is_none, unwrap_or, append-nil, take}
 use Rattle.std.specs.Option.{option_map_or}
 use Rattle.std.proofs.lemmas.Bool.{and_parts}
-use Rattle.satip_plain.specs.declared.requests.Method.{Method}
-use Rattle.satip_plain.specs.declared.requests.Method.TheVariants.{Options, Describe, Setup, Play, Teardown}
+use Rattle.satip_rtsp.specs.declared.requests.Method.{Method}
+use Rattle.satip_rtsp.specs.declared.requests.Method.TheVariants.{Options, Describe, Setup, Play, Teardown}
 use Rattle.satip_plain.specs.declared.events.Event.{Event}
 use Rattle.satip_plain.specs.declared.events.Event.TheVariants.{Request as Asked, Get as Got, Tick, Packet, Ended, Ask, Pull, Close, Stop}
 use Rattle.satip_plain.specs.Types.{SessionId, Config, Peer, Draw, Ports, Request, HttpRequest}
@@ -12,7 +12,7 @@ use Rattle.satip_plain.specs.Sending.{Move, settle}
 use Rattle.satip_plain.specs.Streams.{change_by}
 use Rattle.satip_plain.specs.Refusals.{Refused, session_named, decide, decide_get}
 use Rattle.satip_plain.specs.Steps
-use Rattle.satip_plain.specs.Replies.{http_refusal}
+use Rattle.satip_http.specs.Heads.{http_refusal}
 use Rattle.satip_plain.specs.declared.answers.Answer.TheVariants.{Get, Pulled, Closed}
 use Rattle.satip_plain.specs.declared.answers.GetAnswer.TheVariants.{Refused as GetRefused}
 use Rattle.satip_plain.specs.declared.answers.Pulled.TheVariants.{Gone as PulledGone}

@@ -1,15 +1,15 @@
 -- A small server, its clients and their requests, for worked runs.
 use Rattle.std.specs.Prelude.{codes, ℕ, ◌+◌, ◌/◌, ◌%◌, ◌==◌, if◌then◌else◌, flat_map, true, false, List, [], ◌∷◌, map, length, replicate, option_and_then, Option, None, Some, Bool}
 use Rattle.satip_query.specs.declared.queries.PidsGiven.TheVariants.{All as AllPids, List as ThesePids}
-use Rattle.satip_plain.specs.declared.requests.Method.TheVariants.{Options, Setup, Play, Teardown}
-use Rattle.satip_plain.specs.declared.requests.SessionName.TheVariants.{Absent, Named}
+use Rattle.satip_rtsp.specs.declared.requests.Method.TheVariants.{Options, Setup, Play, Teardown}
+use Rattle.satip_rtsp.specs.declared.requests.SessionName.TheVariants.{Absent, Named}
 use Rattle.satip_tune.specs.declared.signal.Pol.{Pol}
 use Rattle.satip_tune.specs.declared.signal.Pol.TheVariants.{H, V}
 use Rattle.satip_tune.specs.declared.signal.System.TheVariants.{Dvbs, Dvbs2}
 use Rattle.satip_tune.specs.declared.signal.Modulation.TheVariants.{Psk8}
 use Rattle.satip_tune.specs.declared.signal.RollOff.TheVariants.{R35}
 use Rattle.satip_tune.specs.declared.signal.Fec.TheVariants.{F23}
-use Rattle.satip_plain.specs.declared.requests.Refusal.TheVariants.{Query as QueryAt}
+use Rattle.satip_rtsp.specs.declared.requests.Refusal.TheVariants.{Query as QueryAt}
 use Rattle.satip_query.specs.declared.faults.QueryFault.TheVariants.{Range}
 use Rattle.satip_tune.specs.declared.keys.Key.TheVariants.{Pids}
 use Rattle.satip_query.specs.Queries.{new_query}

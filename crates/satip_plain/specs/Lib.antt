@@ -3,7 +3,6 @@ pub mod SameTuning
 pub mod State
 pub mod Sending
 pub mod Streams
-pub mod Replies
 pub mod Refusals
 pub mod Steps
 pub mod Values

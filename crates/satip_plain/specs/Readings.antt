@@ -6,10 +6,10 @@ use Rattle.std.specs.Option.{option_map_or}
 use Rattle.satip_tune.specs.Frontends.{mux_of}
 use Rattle.satip_pids.specs.Pids.{Pids, Only, has_pid}
 use Rattle.satip_ts.specs.Packet.{pid_of}
-use Rattle.satip_plain.specs.declared.requests.Method.{Method}
-use Rattle.satip_plain.specs.declared.requests.Method.TheVariants.{Play, Teardown}
-use Rattle.satip_plain.specs.declared.requests.SessionName.{SessionName}
-use Rattle.satip_plain.specs.declared.requests.SessionName.TheVariants.{Absent, Named, Other}
+use Rattle.satip_rtsp.specs.declared.requests.Method.{Method}
+use Rattle.satip_rtsp.specs.declared.requests.Method.TheVariants.{Play, Teardown}
+use Rattle.satip_rtsp.specs.declared.requests.SessionName.{SessionName}
+use Rattle.satip_rtsp.specs.declared.requests.SessionName.TheVariants.{Absent, Named, Other}
 use Rattle.satip_plain.specs.declared.answers.Answer.{Answer}
 use Rattle.satip_plain.specs.declared.answers.Answer.TheVariants.{Replied, Get, Pulled}
 use Rattle.satip_plain.specs.declared.answers.GetAnswer.TheVariants.{Started}

@@ -8,15 +8,15 @@ use Rattle.satip_query.specs.Queries.{gives_key}
 use Rattle.satip_tune.specs.Tunings.{gives_any}
 use Rattle.satip_query.specs.declared.faults.QueryFault.{QueryFault}
 use Rattle.satip_query.specs.declared.faults.QueryFault.TheVariants.{Syntax, Range}
-use Rattle.satip_plain.specs.declared.requests.Refusal.{Refusal}
-use Rattle.satip_plain.specs.declared.requests.Refusal.TheVariants.{Broken, TooLong, NoCseq, Version, Method as BadMethod, Require, Target, Query as QueryAt}
-use Rattle.satip_plain.specs.declared.requests.HttpRefusal.{HttpRefusal}
-use Rattle.satip_plain.specs.declared.requests.HttpRefusal.TheVariants.{Broken as HttpBroken, TooLong as HttpTooLong, Version as HttpVersion, Method as HttpMethod, Target as HttpTarget, NotFound, Query as HttpQuery}
+use Rattle.satip_rtsp.specs.declared.requests.Refusal.{Refusal}
+use Rattle.satip_rtsp.specs.declared.requests.Refusal.TheVariants.{Broken, TooLong, NoCseq, Version, Method as BadMethod, Require, Target, Query as QueryAt}
+use Rattle.satip_http.specs.declared.requests.HttpRefusal.{HttpRefusal}
+use Rattle.satip_http.specs.declared.requests.HttpRefusal.TheVariants.{Broken as HttpBroken, TooLong as HttpTooLong, Version as HttpVersion, Method as HttpMethod, Target as HttpTarget, NotFound, Query as HttpQuery}
 use Rattle.satip_query.specs.declared.bodies.RefusalBody.TheVariants.{CheckSyntax, OutOfRange, NotOwner, NoMorePids, NoMoreSessions, NoMoreFrontends}
-use Rattle.satip_plain.specs.declared.requests.Method.{Method}
-use Rattle.satip_plain.specs.declared.requests.Method.TheVariants.{Options, Describe, Setup, Play, Teardown}
-use Rattle.satip_plain.specs.declared.requests.SessionName.{SessionName}
-use Rattle.satip_plain.specs.declared.requests.SessionName.TheVariants.{Absent, Named, Other}
+use Rattle.satip_rtsp.specs.declared.requests.Method.{Method}
+use Rattle.satip_rtsp.specs.declared.requests.Method.TheVariants.{Options, Describe, Setup, Play, Teardown}
+use Rattle.satip_rtsp.specs.declared.requests.SessionName.{SessionName}
+use Rattle.satip_rtsp.specs.declared.requests.SessionName.TheVariants.{Absent, Named, Other}
 use Rattle.satip_tune.specs.declared.keys.Key.TheVariants.{Delpids}
 use Rattle.satip_plain.specs.Types.{Tuning, Change, Key, Query, RefusalBody, Request, HttpRequest, Config}
 use Rattle.satip_plain.specs.State.{Session, Stream, State, same_id, rtsp_session, stream_of, owner, most_sessions, most_made}

@@ -7,14 +7,14 @@ use Rattle.satip_ts.specs.Packet.{pid_of}
 use Rattle.satip_rtcp.specs.declared.views.StreamView.{StreamView}
 use Rattle.satip_rtcp.specs.declared.views.Sender.{Sender}
 use Rattle.satip_sdp.specs.Sdp.{sdp}
-use Rattle.satip_rtsp.specs.Replies.{options_reply, closing_reply, plain_reply}
+use Rattle.satip_rtsp.specs.Replies.{options_reply, closing_reply, plain_reply, describe_head, setup_reply, play_reply, unsupported_reply, text_reply}
 use Rattle.satip_frame.specs.declared.framing.Break.{Break}
 use Rattle.satip_frame.specs.declared.framing.Break.TheVariants.{Bad, TooLong as too_long}
-use Rattle.satip_plain.specs.Replies.{describe_reply, setup_reply, play_reply, unsupported_reply, text_reply, http_start, http_refusal}
-use Rattle.satip_plain.specs.declared.requests.Refusal.{Refusal}
-use Rattle.satip_plain.specs.declared.requests.Refusal.TheVariants.{Broken, TooLong, Require}
-use Rattle.satip_plain.specs.declared.requests.Method.{Method}
-use Rattle.satip_plain.specs.declared.requests.Method.TheVariants.{Options, Describe, Setup, Play, Teardown}
+use Rattle.satip_http.specs.Heads.{start_head, http_refusal}
+use Rattle.satip_rtsp.specs.declared.requests.Refusal.{Refusal}
+use Rattle.satip_rtsp.specs.declared.requests.Refusal.TheVariants.{Broken, TooLong, Require}
+use Rattle.satip_rtsp.specs.declared.requests.Method.{Method}
+use Rattle.satip_rtsp.specs.declared.requests.Method.TheVariants.{Options, Describe, Setup, Play, Teardown}
 use Rattle.satip_plain.specs.declared.answers.Answer.{Answer}
 use Rattle.satip_plain.specs.declared.answers.Answer.TheVariants.{Replied, Get, Beat, Work as WorkIs, Pulled, Closed}
 use Rattle.satip_plain.specs.declared.answers.Beat.TheVariants.{Going, Stopping as BeatStopping}
@@ -197,7 +197,7 @@ teardown_of r st s = accepted (end_where (is_session s.id) st) (plain_reply r.cs
 -- what an accepted request does, by its method
 abbrev pub done_by : Method → Config → Peer → Draw → Request → State → Outcome
 done_by Options c peer draw r st = accepted (settle st) (options_reply r.cseq (option_map (λ s. s.id) (session_named st r.session)))
-done_by Describe c peer draw r st = let body = description c st r.stream in accepted (settle st) (describe_reply r.cseq c.address (length body) ++ body)
+done_by Describe c peer draw r st = let body = description c st r.stream in accepted (settle st) (describe_head r.cseq c.address (length body) ++ body)
 done_by Setup c peer draw r st = setup c peer draw r st
 done_by Play c peer draw r st = option_map_or (play_of c r st) (session_named st r.session) (accepted (settle st) [])
 done_by Teardown c peer draw r st = option_map_or (teardown_of r st) (session_named st r.session) (accepted (settle st) [])
@@ -220,7 +220,7 @@ most_pulled = 64
 
 abbrev pub start : Config → Peer → Draw → HttpRequest → State → Outcome
 start c peer draw r st =
-    outcome (change_by c (least_free st.streams) r.query (found true peer draw no_ports st)) (Get (Started (next_id st draw))) http_start
+    outcome (change_by c (least_free st.streams) r.query (found true peer draw no_ports st)) (Get (Started (next_id st draw))) start_head
 
 abbrev pub on_get : Config → Peer → Draw → HttpRequest → State → Outcome
 on_get c peer draw r st = option_map_or

@@ -11,7 +11,7 @@ pub use Rattle.satip_tune.specs.declared.frontends.Front.{Front}
 pub use Rattle.satip_tune.specs.declared.frontends.Mux.{Mux}
 pub use Rattle.satip_query.specs.declared.queries.Query.{Query}
 pub use Rattle.satip_query.specs.declared.bodies.RefusalBody.{RefusalBody}
-pub use Rattle.satip_plain.specs.declared.requests.Request.{Request}
-pub use Rattle.satip_plain.specs.declared.requests.HttpRequest.{HttpRequest}
+pub use Rattle.satip_rtsp.specs.declared.requests.Request.{Request}
+pub use Rattle.satip_http.specs.declared.requests.HttpRequest.{HttpRequest}
 pub use Rattle.satip_pids.specs.Pids.{Pids}
 pub use Rattle.satip_config.specs.Configuration.{Configuration as Config}

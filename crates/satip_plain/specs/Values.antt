@@ -6,12 +6,11 @@ use Rattle.satip_pids.specs.Pids.{IsPidList}
 use Rattle.satip_ts.specs.Packet.{IsPacket}
 use Rattle.satip_query.specs.declared.queries.PidsGiven.{PidsGiven}
 use Rattle.satip_query.specs.declared.queries.PidsGiven.TheVariants.{List as ThesePids}
-use Rattle.satip_plain.specs.declared.short.Short.{Short}
 use Rattle.satip_plain.specs.declared.setting.Setting.{Setting}
-use Rattle.satip_plain.specs.declared.requests.Refusal.{Refusal}
-use Rattle.satip_plain.specs.declared.requests.Refusal.TheVariants.{Require}
-use Rattle.satip_plain.specs.declared.requests.SessionName.{SessionName}
-use Rattle.satip_plain.specs.declared.requests.SessionName.TheVariants.{Named}
+use Rattle.satip_rtsp.specs.declared.requests.Refusal.{Refusal}
+use Rattle.satip_rtsp.specs.declared.requests.Refusal.TheVariants.{Require}
+use Rattle.satip_rtsp.specs.declared.requests.SessionName.{SessionName}
+use Rattle.satip_rtsp.specs.declared.requests.SessionName.TheVariants.{Named}
 use Rattle.satip_plain.specs.declared.events.Event.{Event}
 use Rattle.satip_plain.specs.declared.events.Event.TheVariants.{Request as Asked, Get as Got, Tick, Packet, Ended, Ask, Pull, Close, Stop}
 use Rattle.satip_plain.specs.Types.{SessionId, Draw, Ports, Change, Query, Request, Config, Front, Mux}
@@ -45,12 +44,8 @@ pub record IsQuery (query : Query) : Type 0 where
   pub addpids : IfSome query.addpids IsPidList
   pub delpids : IfSome query.delpids IsPidList
 
-pub record IsShort (kept : Short) : Type 0 where
-  pub places : length kept.places ≡ 128
-  pub count : kept.count ≤ 128
-
 abbrev pub IsRefusal : Refusal → Type 0
-IsRefusal (Require kept) = IsShort kept
+IsRefusal (Require kept) = length kept ≤ 128
 IsRefusal _ = Unit {0}
 
 abbrev pub IsName : SessionName → Type 0

@@ -1,7 +1,8 @@
 //! What happens to the server, one at a time.
 
-use crate::requests::{HttpRequest, Request};
 use satip_base::{Draw, Peer, SessionId};
+use satip_http::HttpRequest;
+use satip_rtsp::Request;
 use satip_ts::Packet;
 
 /// An event: an RTSP request, an HTTP request, a tick of the clock (a moment in milliseconds), a

@@ -4,9 +4,7 @@
 mod answers;
 mod events;
 mod laws;
-mod requests;
 mod setting;
-mod short;
 #[cfg(test)]
 mod tests;
 
@@ -16,6 +14,4 @@ pub use laws::{
     empty_only_hears, gone_changes_nothing, numbers_count_up, prefix_is_legal,
     refused_changes_nothing, refused_get_changes_nothing, stale_changes_nothing,
 };
-pub use requests::{HttpRefusal, HttpRequest, Method, Refusal, Request, SessionName};
 pub use setting::Setting;
-pub use short::Short;

@@ -1,8 +1,8 @@
 -- How large a number is that was read.
-use Rattle.std.proofs.Common.{◌≡◌, ℕ, ◌≤◌, ◌&&◌, Bool, true, false, cond, leb, List, Option, Some, None, refl, arith}
+use Rattle.std.proofs.Common.{◌≡◌, ℕ, ◌≤◌, ◌&&◌, Bool, true, false, cond, leb, List, Some, None, refl, arith}
 use Rattle.std.specs.Str.Parse.{digits_value}
 use Rattle.std.proofs.lemmas.Bool.Decides.{nat_tests}
-use Rattle.satip_base.specs.Numbers.{number_of, number_within, are_digits}
+use Rattle.satip_base.specs.Numbers.{number_of, are_digits}
 
 within_by : (digits fits : Bool) (max value n : ℕ) → fits ≡ leb value max → cond (digits && fits) (Some value) None ≡ Some n → n ≤ max
 within_by true true max value n fits e = let same : value ≡ n = cc in let le : leb value max ≡ true = cc in grind (arith, nat_tests)

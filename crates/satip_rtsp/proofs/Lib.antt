@@ -1,2 +1,5 @@
+pub mod Causes
 pub mod CseqLemmas
+pub mod Measures
 pub mod ReplyLemmas
+pub mod ShortLemmas

@@ -1,18 +1,25 @@
 -- How long replies are.
-use Rattle.std.proofs.Common.{◌≡◌, ℕ, ◌+◌, ◌<◌, ◌≤◌, ◌^◌, ◌==◌, Bool, true, false, cond, List, [], ◌∷◌, ◌++◌, length, Option, Some, None, IfSome, codes, decimal, arith, length-append}
-use Rattle.satip_base.proofs.NumberLemmas.{length-decimal_u16, length-decimal_u32}
+use Rattle.std.proofs.Common.{ℕ, ◌+◌, ◌<◌, ◌≤◌, ◌^◌, ◌==◌, ◌/◌, ◌%◌, Bool, true, false, cond, List, length, Option, Some, None, IfSome, arith, length-append}
+use Rattle.satip_base.proofs.NumberLemmas.{length-decimal_u8, length-decimal_u16, length-decimal_u32, length-decimal_u64}
 use Rattle.satip_base.proofs.TextLemmas.{length-id_text}
-use Rattle.satip_base.specs.Texts.{id_text}
+use Rattle.satip_base.specs.Texts.{address_text}
+use Rattle.satip_base.specs.declared.network.Ports.{Ports}
 use Rattle.satip_base.specs.declared.identity.SessionId.{SessionId}
 use Rattle.satip_frame.specs.declared.framing.Break.{Break}
 use Rattle.satip_frame.specs.declared.framing.Break.TheVariants.{Bad, TooLong}
-use Rattle.satip_rtsp.specs.Replies.{line_end, phrase_of, status_line, cseq_line, session_line, options_reply, closing_status, closing_reply, plain_reply}
+use Rattle.satip_query.specs.Bodies.{body_text}
+use Rattle.satip_query.specs.declared.bodies.RefusalBody.{RefusalBody}
+use Rattle.satip_query.specs.declared.bodies.RefusalBody.TheVariants.{CheckSyntax, OutOfRange, NotOwner, NoMorePids, NoMoreSessions, NoMoreFrontends}
+use Rattle.satip_tune.specs.Words.{key_text}
+use Rattle.satip_tune.specs.declared.keys.Key.{Key}
+use Rattle.satip_tune.specs.declared.keys.Key.TheVariants.{Fe, Src, Freq, Pol, Ro, Msys, Mtype, Plts, Sr, Fec, Pids, Addpids, Delpids}
+use Rattle.satip_rtsp.specs.Replies.{phrase_of, status_line, cseq_line, session_line, options_reply, closing_reply, plain_reply, describe_head, setup_reply, play_reply, unsupported_reply, body_part, text_reply}
 
 either : {n : ℕ} (b : Bool) (x y : List ℕ) → length x ≤ n → length y ≤ n → length (cond b x y) ≤ n
 either true x y a b = a
 either false x y a b = b
 
-length-phrase_of-le : (status : ℕ) → length (phrase_of status) ≤ 30
+pub length-phrase_of-le : (status : ℕ) → length (phrase_of status) ≤ 30
 length-phrase_of-le status =
     either (status == 200) _ _ (omega arith) (either (status == 400) _ _ (omega arith) (either (status == 403) _ _ (omega arith)
     (either (status == 404) _ _ (omega arith) (either (status == 413) _ _ (omega arith) (either (status == 454) _ _ (omega arith)
@@ -51,4 +58,82 @@ unfolding plain_reply
 length-plain_reply-le cseq status code small =
     simp length-append (omega (arith, length-status_line-le status code, length-cseq_line-le cseq small))
 
-pub ruleset reply_bounds = (length-options_reply-le, length-closing_reply-le, length-plain_reply-le)
+length-address_text-le : (ip : ℕ) → ip < 2 ^ 32 → length (address_text ip) ≤ 15
+unfolding address_text
+length-address_text-le ip small =
+    simp length-append (omega (
+      arith,
+      length-decimal_u8 (ip / 16777216) (omega arith),
+      length-decimal_u8 (ip / 65536 % 256) (omega arith),
+      length-decimal_u8 (ip / 256 % 256) (omega arith),
+      length-decimal_u8 (ip % 256) (omega arith),
+    ))
+
+pub length-describe_head-le : (cseq : Option ℕ) (address size : ℕ) → IsCseq cseq → address < 2 ^ 32 → size < 2 ^ 64 → length (describe_head cseq address size) ≤ 256
+unfolding describe_head
+length-describe_head-le cseq address size small host few =
+    simp length-append (omega (arith, length-status_line-le 200 (omega arith), length-cseq_line-le cseq small, length-address_text-le address host, length-decimal_u64 size few))
+
+pub length-setup_reply-le : (cseq : Option ℕ) (id : SessionId) (seconds : ℕ) (ports : Ports) (stream : ℕ) → IsCseq cseq → seconds < 2 ^ 32 → ports.rtp < 2 ^ 16 → ports.rtcp < 2 ^ 16 → stream < 2 ^ 16
+    → length (setup_reply cseq id seconds ports stream) ≤ 256
+unfolding setup_reply
+length-setup_reply-le cseq id seconds ports stream small s a b n =
+    simp length-append (omega (arith, length-status_line-le 200 (omega arith), length-cseq_line-le cseq small, length-id_text id, length-decimal_u32 seconds s, length-decimal_u16 ports.rtp a, length-decimal_u16 ports.rtcp b, length-decimal_u16 stream n))
+
+pub length-play_reply-le : (cseq : Option ℕ) (id : SessionId) (address stream seq : ℕ) → IsCseq cseq → address < 2 ^ 32 → stream < 2 ^ 16 → seq < 2 ^ 16
+    → length (play_reply cseq id address stream seq) ≤ 256
+unfolding play_reply
+length-play_reply-le cseq id address stream seq small host n s =
+    simp length-append (omega (arith, length-status_line-le 200 (omega arith), length-cseq_line-le cseq small, length-id_text id, length-address_text-le address host, length-decimal_u16 stream n, length-decimal_u16 seq s))
+
+pub length-unsupported_reply-le : (cseq : Option ℕ) (kept : List ℕ) → IsCseq cseq → length kept ≤ 128 → length (unsupported_reply cseq kept) ≤ 256
+unfolding unsupported_reply
+length-unsupported_reply-le cseq kept small few =
+    simp length-append (omega (arith, length-status_line-le 551 (omega arith), length-cseq_line-le cseq small))
+
+length-key_text-le : (key : Key) → length (key_text key) ≤ 7
+unfolding key_text
+length-key_text-le Fe = omega arith
+length-key_text-le Src = omega arith
+length-key_text-le Freq = omega arith
+length-key_text-le Pol = omega arith
+length-key_text-le Ro = omega arith
+length-key_text-le Msys = omega arith
+length-key_text-le Mtype = omega arith
+length-key_text-le Plts = omega arith
+length-key_text-le Sr = omega arith
+length-key_text-le Fec = omega arith
+length-key_text-le Pids = omega arith
+length-key_text-le Addpids = omega arith
+length-key_text-le Delpids = omega arith
+
+pub length-body_text-le : (body : RefusalBody) → length (body_text body) ≤ 20
+unfolding body_text
+length-body_text-le (CheckSyntax key) = simp length-append (omega (arith, length-key_text-le key))
+length-body_text-le (OutOfRange key) = simp length-append (omega (arith, length-key_text-le key))
+length-body_text-le NotOwner = omega arith
+length-body_text-le NoMorePids = omega arith
+length-body_text-le NoMoreSessions = omega arith
+length-body_text-le NoMoreFrontends = omega arith
+
+pub length-body_part-le : (body : RefusalBody) → length (body_part body) ≤ 128
+unfolding body_part
+length-body_part-le body =
+    let few : length (body_text body) ≤ 20 = length-body_text-le body in
+    simp length-append (omega (arith, length-decimal_u16 (length (body_text body) + 2) (omega arith)))
+
+pub length-text_reply-le : (cseq : Option ℕ) (status : ℕ) (body : RefusalBody) → status < 2 ^ 16 → IsCseq cseq → length (text_reply cseq status body) ≤ 256
+unfolding text_reply
+length-text_reply-le cseq status body code small =
+    simp length-append (omega (arith, length-status_line-le status code, length-cseq_line-le cseq small, length-body_part-le body))
+
+pub ruleset reply_bounds = (
+  length-options_reply-le,
+  length-closing_reply-le,
+  length-plain_reply-le,
+  length-describe_head-le,
+  length-setup_reply-le,
+  length-play_reply-le,
+  length-unsupported_reply-le,
+  length-text_reply-le,
+)

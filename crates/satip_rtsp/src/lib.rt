@@ -3,8 +3,17 @@
 
 mod replies;
 mod requests;
+mod short;
+mod targets;
 #[cfg(test)]
 mod tests;
+mod texts;
+mod transports;
 
-pub use replies::{write_closing, write_options, write_plain};
-pub use requests::{Method, Refusal, Request};
+pub use replies::{
+    phrase, write_body, write_closing, write_describe, write_options, write_plain, write_play,
+    write_setup, write_text, write_unsupported,
+};
+pub use requests::{Method, Refusal, Request, SessionName};
+pub use short::Short;
+pub use targets::behind_front;

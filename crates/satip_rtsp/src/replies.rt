@@ -1,11 +1,13 @@
 //! The texts of the replies: the status line, the number of the request, further lines, an empty
 //! line.
-ghost use Rattle.std.specs.Prelude.{◌≡◌, ◌≤◌, length, decimal};
+ghost use Rattle.std.specs.Prelude.{◌≡◌, ◌≤◌, length};
 ghost use Rattle.satip_base.specs.Output.{Wrote};
-ghost use Rattle.satip_rtsp.specs.Replies.{IsStatus, phrase_of, status_line, cseq_line, session_line, options_reply, closing_status, closing_reply, plain_reply};
+ghost use Rattle.satip_rtsp.specs.Replies.{IsStatus, base_line, body_part, closing_reply, closing_status, cseq_line, describe_head, lasting_session_line, number_line, options_reply, phrase_of, plain_reply, play_reply, rtp_info_line, session_line, setup_reply, status_line, text_reply, transport_line, unsupported_reply};
 
-use satip_base::{Out, SessionId};
+use crate::short::Short;
+use satip_base::{Out, Ports, SessionId};
 use satip_frame::Break;
+use satip_query::RefusalBody;
 
 /// Appends the reply to OPTIONS, with the methods that are served (RFC 2326, section 10.1), and
 /// with the session that the request named.
@@ -18,6 +20,104 @@ pub fn write_options(cseq: Option<u32>, session: Option<SessionId>, out: &mut Ou
     write_cseq(cseq, out);
     out.write(b"Public: OPTIONS, DESCRIBE, SETUP, PLAY, TEARDOWN\r\n");
     write_session(session, out);
+    out.write(b"\r\n");
+}
+
+/// Appends the reply to DESCRIBE up to its empty line, for a body of this size (RFC 2326, section 10.2).
+#[tactic(auto, unfolding(crate::specs::Replies::describe_head))]
+pub fn write_describe(cseq: Option<u32>, address: u32, size: usize, out: &mut Out)
+    requires room { length (describe_head cseq address size) ≤ out.old.reply_spare }
+    ensures wrote { Wrote out.old (describe_head cseq address size) out.new }
+{
+    write_status(200, out);
+    write_cseq(cseq, out);
+    out.write(b"Content-Type: application/sdp\r\n");
+    write_base(address, out);
+    write_number_line(b"Content-Length: ", size as u64, out);
+    out.write(b"\r\n");
+}
+
+/// Appends the reply to SETUP (RFC 2326, section 10.4): the session and the seconds after which it
+/// ends unheard, the client's ports, and the number of the stream (SAT>IP 1.2.2, 3.5.3).
+#[tactic(auto, unfolding(crate::specs::Replies::setup_reply))]
+pub fn write_setup(
+    cseq: Option<u32>,
+    session: SessionId,
+    timeout: u32,
+    ports: Ports,
+    stream: u16,
+    out: &mut Out,
+)
+    requires room { length (setup_reply cseq session timeout ports stream) ≤ out.old.reply_spare }
+    ensures wrote { Wrote out.old (setup_reply cseq session timeout ports stream) out.new }
+{
+    write_status(200, out);
+    write_cseq(cseq, out);
+    write_lasting_session(session, timeout, out);
+    write_transport(ports, out);
+    write_number_line(b"com.ses.streamID: ", stream as u64, out);
+    out.write(b"\r\n");
+}
+
+/// Appends the reply to PLAY (RFC 2326, sections 10.5 and 12.33), with the sequence number of the
+/// next datagram.
+#[tactic(auto, unfolding(crate::specs::Replies::play_reply))]
+pub fn write_play(
+    cseq: Option<u32>,
+    session: SessionId,
+    address: u32,
+    stream: u16,
+    seq: u16,
+    out: &mut Out,
+)
+    requires room { length (play_reply cseq session address stream seq) ≤ out.old.reply_spare }
+    ensures wrote { Wrote out.old (play_reply cseq session address stream seq) out.new }
+{
+    write_status(200, out);
+    write_cseq(cseq, out);
+    write_session(Some(session), out);
+    write_rtp_info(address, stream, seq, out);
+    out.write(b"\r\n");
+}
+
+/// Appends the refusal of an option that the client requires, with the first bytes of its value
+/// (RFC 2326, section 12.32).
+#[tactic(auto, unfolding(crate::specs::Replies::unsupported_reply))]
+pub fn write_unsupported(cseq: Option<u32>, kept: &Short, out: &mut Out)
+    requires room { length (unsupported_reply cseq kept.now) ≤ out.old.reply_spare }
+    ensures wrote { Wrote out.old (unsupported_reply cseq kept.now) out.new }
+{
+    write_status(551, out);
+    write_cseq(cseq, out);
+    out.write(b"Unsupported: ");
+    out.write(kept.bytes());
+    out.write(b"\r\n\r\n");
+}
+
+/// Appends a refusal that says why (SAT>IP 1.2.2, 3.5.9). The status is one of those that have a
+/// phrase.
+#[tactic(auto, unfolding(crate::specs::Replies::text_reply))]
+pub fn write_text(cseq: Option<u32>, status: u16, body: RefusalBody, out: &mut Out)
+    requires status { IsStatus status }
+    requires room { length (text_reply cseq status body) ≤ out.old.reply_spare }
+    ensures wrote { Wrote out.old (text_reply cseq status body) out.new }
+{
+    write_status(status, out);
+    write_cseq(cseq, out);
+    write_body(body, out);
+}
+
+/// Appends what follows the first lines of a refusal that says why: the lines that announce its
+/// text, an empty line, and the text in a line.
+#[tactic(auto, unfolding(crate::specs::Replies::body_part))]
+pub fn write_body(body: RefusalBody, out: &mut Out)
+    requires room { length (body_part body) ≤ out.old.reply_spare }
+    ensures wrote { Wrote out.old (body_part body) out.new }
+{
+    out.write(b"Content-Type: text/parameters\r\n");
+    write_number_line(b"Content-Length: ", body.size() as u64 + 2, out);
+    out.write(b"\r\n");
+    body.write(out);
     out.write(b"\r\n");
 }
 
@@ -80,6 +180,57 @@ fn write_session(session: Option<SessionId>, out: &mut Out)
     }
 }
 
+fn write_number_line(name: &[u8], number: u64, out: &mut Out)
+    requires room { length (number_line name.now number) ≤ out.old.reply_spare }
+    ensures wrote { Wrote out.old (number_line name.now number) out.new }
+{
+    out.write(name);
+    out.write_number(number);
+    out.write(b"\r\n");
+}
+
+fn write_base(address: u32, out: &mut Out)
+    requires room { length (base_line address) ≤ out.old.reply_spare }
+    ensures wrote { Wrote out.old (base_line address) out.new }
+{
+    out.write(b"Content-Base: rtsp://");
+    out.write_address(address);
+    out.write(b"/\r\n");
+}
+
+fn write_lasting_session(id: SessionId, seconds: u32, out: &mut Out)
+    requires room { length (lasting_session_line id seconds) ≤ out.old.reply_spare }
+    ensures wrote { Wrote out.old (lasting_session_line id seconds) out.new }
+{
+    out.write(b"Session: ");
+    out.write_id(id);
+    out.write(b";timeout=");
+    out.write_number(seconds as u64);
+    out.write(b"\r\n");
+}
+
+fn write_transport(ports: Ports, out: &mut Out)
+    requires room { length (transport_line ports) ≤ out.old.reply_spare }
+    ensures wrote { Wrote out.old (transport_line ports) out.new }
+{
+    out.write(b"Transport: RTP/AVP;unicast;client_port=");
+    out.write_number(ports.rtp as u64);
+    out.write(b"-");
+    out.write_number(ports.rtcp as u64);
+    out.write(b"\r\n");
+}
+
+fn write_rtp_info(address: u32, stream: u16, seq: u16, out: &mut Out)
+    requires room { length (rtp_info_line address stream seq) ≤ out.old.reply_spare }
+    ensures wrote { Wrote out.old (rtp_info_line address stream seq) out.new }
+{
+    out.write(b"RTP-Info: url=rtsp://");
+    out.write_address(address);
+    out.write(b"/stream=");
+    out.write_number(stream as u64);
+    write_number_line(b";seq=", seq as u64, out);
+}
+
 fn closing_status(cause: Break) -> u16
     ensures status { result ≡ closing_status cause }
 {
@@ -89,9 +240,9 @@ fn closing_status(cause: Break) -> u16
     }
 }
 
-// The phrases of RFC 2326, section 7.1.1.
-fn phrase(status: u16) -> &'static [u8]
-    requires { IsStatus status }
+/// The phrase of a status that has one (RFC 2326, section 7.1.1).
+pub fn phrase(status: u16) -> &'static [u8]
+    requires status { IsStatus status }
     ensures phrase { result.now ≡ phrase_of status }
 {
     match status {

@@ -1,7 +1,12 @@
 //! Requests out of whole messages, and the replies' texts.
-use crate::{Method, Refusal, Request, write_closing, write_options, write_plain};
-use satip_base::{Out, SessionId};
+use crate::{
+    Method, Refusal, Request, SessionName, Short, write_closing, write_describe, write_options,
+    write_plain, write_play, write_setup, write_text, write_unsupported,
+};
+use satip_base::{Out, Ports, SessionId};
 use satip_frame::{Break, Framer, Step};
+use satip_query::{QueryFault, RefusalBody};
+use satip_tune::Key;
 use std::alloc::Global;
 use std::test::Fail;
 
@@ -30,33 +35,151 @@ fn options_is_asked(rt: HostRuntime) -> Result<(), Fail> {
     Ok(())
 }
 
+// The first refusal counts where a request has two faults.
 #[test]
-fn other_requests_are_refused(rt: HostRuntime) -> Result<(), Fail> {
-    for text in [
-        b"GET_PARAMETER rtsp://192.168.1.10/ RTSP/1.0\r\nCSeq: 4\r\n\r\n".as_slice(),
-        b"OPTIONS /stream=1 RTSP/1.0\r\nCSeq: 4\r\n\r\n".as_slice(),
-        b"OPTIONS * RTSP/2.0\r\nCSeq: 4\r\n\r\n".as_slice(),
-        b"OPTIONS * RTSP/1.0\r\nCSeq: 4\r\nSession: 1\r\n\r\n".as_slice(),
-        b"OPTIONS * RTSP/1.0\r\nCSeq: 4\r\nRequire: x.y\r\n\r\n".as_slice(),
+fn first_refusal_counts(rt: HostRuntime) -> Result<(), Fail> {
+    for (text, refusal) in [
+        (b"PAUSE /x RTSP/2.0\r\n\r\n".as_slice(), Refusal::NoCseq),
+        (
+            b"PAUSE / RTSP/2.0\r\nCSeq: 4294967296\r\n\r\n".as_slice(),
+            Refusal::NoCseq,
+        ),
+        (
+            b"PAUSE / RTSP/2.0\r\nCSeq: 4294967295\r\n\r\n".as_slice(),
+            Refusal::Version,
+        ),
+        (
+            b"play / RTSP/1.0\r\nCSeq: 4\r\nRequire: x\r\n\r\n".as_slice(),
+            Refusal::Method,
+        ),
+        (
+            b"SETUP * RTSP/1.0\r\nCSeq: 4\r\nRequire: x\r\n\r\n".as_slice(),
+            Refusal::Require(Short::of(b"x")),
+        ),
+        (
+            b"SETUP * RTSP/1.0\r\nCSeq: 4\r\nRequire:\r\nRequire: x\r\n\r\n".as_slice(),
+            Refusal::Target,
+        ),
+        (
+            b"SETUP /x?pol=n RTSP/1.0\r\nCSeq: 4\r\n\r\n".as_slice(),
+            Refusal::Target,
+        ),
+        (
+            b"PLAY /?pol=n&pol=h RTSP/1.0\r\nCSeq: 4\r\n\r\n".as_slice(),
+            Refusal::Query(QueryFault::Range(Key::Pol)),
+        ),
     ] {
         let request = request_of(rt.alloc(), text).ok_or("message")?;
-        assert_eq!(rt; request.cseq, Some(4));
-        assert_eq!(rt; request.refusal, Some(Refusal::Method));
-    }
-    for text in [
-        b"OPTIONS * RTSP/1.0\r\n\r\n".as_slice(),
-        b"OPTIONS * RTSP/1.0\r\nCSeq: x\r\nCSeq: 1\r\n\r\n".as_slice(),
-        b"OPTIONS * RTSP/1.0\r\nCSeq: 4294967296\r\n\r\n".as_slice(),
-    ] {
-        let request = request_of(rt.alloc(), text).ok_or("message")?;
-        assert_eq!(rt; request.cseq, None);
-        assert_eq!(rt; request.refusal, Some(Refusal::NoCseq));
+        assert_eq!(rt; request.refusal, Some(refusal));
     }
     assert_eq!(rt; Request::broken(Break::Bad).refusal, Some(Refusal::Broken));
     assert_eq!(rt;
         Request::broken(Break::TooLong).refusal,
         Some(Refusal::TooLong)
     );
+    Ok(())
+}
+
+#[test]
+fn targets_name_streams(rt: HostRuntime) -> Result<(), Fail> {
+    for (text, stream) in [
+        (
+            b"OPTIONS rtsp://h RTSP/1.0\r\nCSeq: 4\r\n\r\n".as_slice(),
+            None,
+        ),
+        (
+            b"DESCRIBE rtsp://h?x RTSP/1.0\r\nCSeq: 4\r\n\r\n".as_slice(),
+            None,
+        ),
+        (
+            b"TEARDOWN /stream=1/ RTSP/1.0\r\nCSeq: 4\r\n\r\n".as_slice(),
+            Some(1),
+        ),
+        (
+            b"PLAY RTSP://H/stream=07?pids=all RTSP/1.0\r\nCSeq: 4\r\n\r\n".as_slice(),
+            Some(7),
+        ),
+    ] {
+        let request = request_of(rt.alloc(), text).ok_or("message")?;
+        assert_eq!(rt; request.refusal, None);
+        assert_eq!(rt; request.stream, stream);
+    }
+    for text in [
+        b"PLAY /stream=65536 RTSP/1.0\r\nCSeq: 4\r\n\r\n".as_slice(),
+        b"PLAY stream=1 RTSP/1.0\r\nCSeq: 4\r\n\r\n".as_slice(),
+        b"PLAY rtsp:///stream=1 RTSP/1.0\r\nCSeq: 4\r\n\r\n".as_slice(),
+        b"PLAY ?pids=all RTSP/1.0\r\nCSeq: 4\r\n\r\n".as_slice(),
+    ] {
+        let request = request_of(rt.alloc(), text).ok_or("message")?;
+        assert_eq!(rt; request.refusal, Some(Refusal::Target));
+    }
+    Ok(())
+}
+
+#[test]
+fn transports_give_ports(rt: HostRuntime) -> Result<(), Fail> {
+    for (text, ports) in [
+        (
+            b"SETUP / RTSP/1.0\r\nCSeq: 4\r\nTransport: RTP/AVP;unicast;client_port=0-1 , rtp/avp/udp ;\tUNICAST; Client_Port=65535-1,x\r\n\r\n".as_slice(),
+            Some(Ports {
+                rtp: 65535,
+                rtcp: 1,
+            }),
+        ),
+        (
+            b"SETUP / RTSP/1.0\r\nCSeq: 4\r\nTransport: RTP/AVP;client_port=65534;client_port=1;unicast\r\n\r\n".as_slice(),
+            Some(Ports {
+                rtp: 65534,
+                rtcp: 65535,
+            }),
+        ),
+        (
+            b"SETUP / RTSP/1.0\r\nCSeq: 4\r\nTransport: RTP/AVP;unicast;client_port=65535\r\n\r\n".as_slice(),
+            None,
+        ),
+        (
+            b"SETUP / RTSP/1.0\r\nCSeq: 4\r\nTransport: RTP/AVP;unicast;client_port=1400-\r\n\r\n".as_slice(),
+            None,
+        ),
+        (
+            b"SETUP / RTSP/1.0\r\nCSeq: 4\r\nTransport: RTP/AVP;multicast;client_port=2\r\n\r\n".as_slice(),
+            None,
+        ),
+        (
+            b"PLAY / RTSP/1.0\r\nCSeq: 4\r\nTransport: RTP/AVP;unicast;client_port=2\r\n\r\n".as_slice(),
+            None,
+        ),
+    ] {
+        let request = request_of(rt.alloc(), text).ok_or("message")?;
+        assert_eq!(rt; request.ports, ports);
+    }
+    Ok(())
+}
+
+#[test]
+fn sessions_are_named(rt: HostRuntime) -> Result<(), Fail> {
+    let id = SessionId { count: 1, word: 10 };
+    for (text, session) in [
+        (
+            b"PLAY / RTSP/1.0\r\nCSeq: 4\r\n\r\n".as_slice(),
+            SessionName::Absent,
+        ),
+        (
+            b"PLAY / RTSP/1.0\r\nCSeq: 4\r\nSession: 000000010000000a\t; timeout=60\r\n\r\n".as_slice(),
+            SessionName::Named(id),
+        ),
+        (
+            b"PLAY / RTSP/1.0\r\nCSeq: 4\r\nSession: 000000010000000A\r\n\r\n".as_slice(),
+            SessionName::Other,
+        ),
+        (
+            b"PLAY / RTSP/1.0\r\nCSeq: 4\r\nSession: 0000000010000000a\r\n\r\n".as_slice(),
+            SessionName::Other,
+        ),
+    ] {
+        let request = request_of(rt.alloc(), text).ok_or("message")?;
+        assert_eq!(rt; request.session, session);
+    }
     Ok(())
 }
 
@@ -86,6 +209,52 @@ fn replies_have_these_texts(rt: HostRuntime) -> Result<(), Fail> {
     out.clear();
     write_plain(Some(4294967295), 501, &mut out);
     let text = b"RTSP/1.0 501 Not Implemented\r\nCSeq: 4294967295\r\n\r\n";
+    assert_eq!(rt; out.reply(), text.as_slice());
+    Ok(())
+}
+
+#[test]
+#[tactic(auto, using(crate::proofs::ReplyLemmas::reply_bounds))]
+fn replies_to_sessions_have_these_texts(rt: HostRuntime) -> Result<(), Fail> {
+    let mut out = Out::make(rt.alloc()).ok().ok_or("memory")?;
+    let id = SessionId { count: 1, word: 10 };
+    let ports = Ports {
+        rtp: 1400,
+        rtcp: 1401,
+    };
+    write_setup(Some(2), id, 60, ports, 1, &mut out);
+    let text =
+        b"RTSP/1.0 200 OK\r\nCSeq: 2\r\nSession: 000000010000000a;timeout=60\r\nTransport: RTP/AVP;unicast;client_port=1400-1401\r\ncom.ses.streamID: 1\r\n\r\n";
+    assert_eq!(rt; out.reply(), text.as_slice());
+    out.clear();
+    write_play(Some(3), id, 3232235786, 1, 65535, &mut out);
+    let text =
+        b"RTSP/1.0 200 OK\r\nCSeq: 3\r\nSession: 000000010000000a\r\nRTP-Info: url=rtsp://192.168.1.10/stream=1;seq=65535\r\n\r\n";
+    assert_eq!(rt; out.reply(), text.as_slice());
+    out.clear();
+    write_describe(Some(4), 3232235786, 189, &mut out);
+    let text =
+        b"RTSP/1.0 200 OK\r\nCSeq: 4\r\nContent-Type: application/sdp\r\nContent-Base: rtsp://192.168.1.10/\r\nContent-Length: 189\r\n\r\n";
+    assert_eq!(rt; out.reply(), text.as_slice());
+    Ok(())
+}
+
+#[test]
+#[tactic(auto, using(crate::proofs::ReplyLemmas::reply_bounds))]
+fn refusals_have_these_texts(rt: HostRuntime) -> Result<(), Fail> {
+    let mut out = Out::make(rt.alloc()).ok().ok_or("memory")?;
+    write_text(Some(5), 403, RefusalBody::NotOwner, &mut out);
+    let text =
+        b"RTSP/1.0 403 Forbidden\r\nCSeq: 5\r\nContent-Type: text/parameters\r\nContent-Length: 18\r\n\r\nNot-Owner:stream\r\n";
+    assert_eq!(rt; out.reply(), text.as_slice());
+    out.clear();
+    write_text(None, 400, RefusalBody::CheckSyntax(Key::Pol), &mut out);
+    let text =
+        b"RTSP/1.0 400 Bad Request\r\nContent-Type: text/parameters\r\nContent-Length: 18\r\n\r\nCheck-Syntax:pol\r\n";
+    assert_eq!(rt; out.reply(), text.as_slice());
+    out.clear();
+    write_unsupported(Some(6), &Short::of(b"a.b"), &mut out);
+    let text = b"RTSP/1.0 551 Option not supported\r\nCSeq: 6\r\nUnsupported: a.b\r\n\r\n";
     assert_eq!(rt; out.reply(), text.as_slice());
     Ok(())
 }

@@ -1,0 +1,10 @@
+//! HTTP requests out of messages, and the heads of what is answered (RFC 9110, RFC 9112).
+#![tactic(auto)]
+
+mod heads;
+mod requests;
+#[cfg(test)]
+mod tests;
+
+pub use heads::{write_refusal, write_start};
+pub use requests::{HttpRefusal, HttpRequest};

@@ -1,0 +1,9 @@
+use Rattle.satip_base.proofs.Writing.{◌then◌}
+use Rattle.satip_rtsp.proofs.replies.write_rtp_info.Goals as goal
+
+pub returns : goal.returns
+returns c = record {
+  wrote =
+      c.write.ensures.wrote then c.write_address.ensures.wrote then c.write-2.ensures.wrote
+      then c.write_number.ensures.wrote then c.write_number_line.ensures.wrote;
+}

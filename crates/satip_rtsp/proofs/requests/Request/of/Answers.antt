@@ -1,0 +1,17 @@
+use Rattle.std.proofs.Common.{subst, sym}
+use Rattle.satip_rtsp.specs.declared.requests.Request.{Request}
+use Rattle.satip_rtsp.proofs.Causes.{Causes, causes}
+use Rattle.satip_rtsp.proofs.requests.Request.of.Goals as goal
+
+pub returns : goal.returns
+returns c =
+    let of_this : Request → Type 0 = λ r. Causes c.args.message.now r.refusal in
+    let found : Causes c.args.message.now c.read_request.result.refusal = subst of_this (sym c.read_request.ensures.asked) (causes c.args.message.now) in
+    record {
+      asked = c.read_request.ensures.asked;
+      no_cseq = found.no_cseq;
+      version = found.version;
+      method = found.method;
+      not_broken = found.not_broken;
+      not_too_long = found.not_too_long;
+    }

@@ -1,0 +1,19 @@
+-- The session that a request names (RFC 2326, 12.37).
+use Rattle.std.specs.Prelude.{ℕ, List, Option, Some, None}
+use Rattle.std.specs.List.{before_first}
+use Rattle.satip_base.specs.declared.identity.SessionId.{SessionId}
+use Rattle.satip_base.specs.Texts.{id_of}
+use Rattle.satip_tune.specs.Pieces.{is_byte}
+use Rattle.satip_rtsp.specs.Blanks.{trimmed}
+use Rattle.satip_rtsp.specs.declared.requests.SessionName.{SessionName}
+use Rattle.satip_rtsp.specs.declared.requests.SessionName.TheVariants.{Absent, Named, Other}
+
+-- a text that is no id names a session that doesn't live
+abbrev pub name_of : Option SessionId → SessionName
+name_of None = Other
+name_of (Some id) = Named id
+
+-- the id stands before the first ; of the first Session header
+abbrev pub session_in : Option (List ℕ) → SessionName
+session_in None = Absent
+session_in (Some value) = name_of (id_of (trimmed (before_first (is_byte 59) value)))

@@ -1,0 +1,147 @@
+//! Targets of requests: an optional front, a path and an optional query (RFC 2326, section 3.2).
+ghost use Rattle.std.specs.Prelude.{◌≡◌};
+ghost use Rattle.std.specs.Option.{option_copied};
+ghost use Rattle.satip_rtsp.specs.Targets.{behind_front as front_left, behind_host as host_left, host_length as host_size, parts_behind, parts_of, stream_in, target_of, without_slash as slash_left};
+
+use crate::texts::{begins_like, begins_with, behind, text_of};
+use satip_base::read_number;
+use satip_tune::{cut, same_bytes};
+use std::marker::Model;
+
+/// What a target names.
+#[derive(Drop)]
+pub struct Target<'a> {
+    stream: Option<u16>,
+    query: &'a [u8],
+}
+
+impl<'a> Model for Target<'a> {
+    ghost use Rattle.satip_rtsp.specs.Targets.{TargetParts};
+
+    ghost Value = { TargetParts };
+
+    ghost view = { λ t. record { stream = t.stream; query = t.query.now } };
+}
+
+impl<'a> Target<'a> {
+    /// The target that a text writes. `*` is one where the whole server may be meant.
+    #[tactic(auto, unfolding(crate::specs::Targets::target_of))]
+    pub fn of(text: &'a [u8], star: bool) -> Option<Target<'a>>
+        ensures target { result ≡ target_of star text.now }
+    {
+        if star && same_bytes(text, b"*") {
+            return Some(Target {
+                stream: None,
+                query: b"",
+            });
+        }
+        match behind_front(b"rtsp://", text) {
+            None => read_parts(text),
+            Some(rest) => read_parts_behind(rest),
+        }
+    }
+
+    /// The number of the stream that the target names.
+    pub fn stream(&self) -> Option<u16>
+        ensures stream { result ≡ self.now.stream }
+    {
+        self.stream
+    }
+
+    /// The text of the query.
+    pub fn query(&self) -> &'a [u8]
+        ensures query { result.now ≡ self.now.query }
+    {
+        self.query
+    }
+}
+
+/// What stands behind the front of a target: the scheme, whose letters may be of either case, and a
+/// host of one or more bytes up to the next `/`, `?` or the end. None where the target has no such
+/// front.
+#[tactic(auto, unfolding(crate::specs::Targets::behind_front))]
+pub fn behind_front<'a>(scheme: &[u8], text: &'a [u8]) -> Option<&'a [u8]>
+    ensures rest { option_copied result ≡ front_left scheme.now text.now }
+{
+    if begins_like(scheme, text) {
+        behind_host(behind(text, scheme.len()))
+    } else {
+        None
+    }
+}
+
+fn behind_host(text: &[u8]) -> Option<&[u8]>
+    ensures rest { option_copied result ≡ host_left text.now }
+{
+    let host = host_length(text);
+    if host == 0 {
+        None
+    } else {
+        Some(behind(text, host))
+    }
+}
+
+fn host_length(text: &[u8]) -> usize
+    ensures length { result ≡ host_size text.now }
+{
+    let mut count = 0;
+    for byte in text {
+        if *byte == b'/' || *byte == b'?' {
+            return count;
+        }
+        count += 1;
+    }
+    count
+}
+
+fn read_parts_behind(text: &[u8]) -> Option<Target<'_>>
+    ensures target { result ≡ parts_behind text.now }
+{
+    let (path, rest) = cut(text, b'?');
+    if path.is_empty() {
+        return Some(Target {
+            stream: None,
+            query: text_of(rest),
+        });
+    }
+    read_parts(text)
+}
+
+fn read_parts(text: &[u8]) -> Option<Target<'_>>
+    ensures target { result ≡ parts_of text.now }
+{
+    let (path, rest) = cut(text, b'?');
+    match read_stream(path) {
+        None => None,
+        Some(stream) => Some(Target {
+            stream,
+            query: text_of(rest),
+        }),
+    }
+}
+
+#[tactic(auto, using(crate::proofs::CseqLemmas::cseq_bounds), unfolding(crate::specs::Targets::stream_in))]
+fn read_stream(path: &[u8]) -> Option<Option<u16>>
+    ensures stream { result ≡ stream_in path.now }
+{
+    if same_bytes(path, b"/") {
+        return Some(None);
+    }
+    if !begins_with(b"/stream=", path) {
+        return None;
+    }
+    match read_number(without_slash(behind(path, 8)), 65535) {
+        None => None,
+        Some(number) => Some(Some(number as u16)),
+    }
+}
+
+fn without_slash(path: &[u8]) -> &[u8]
+    ensures path { result.now ≡ slash_left path.now }
+{
+    if path.ends_with(b"/") {
+        &path[..path.len() - 1]
+    } else {
+        path
+    }
+}

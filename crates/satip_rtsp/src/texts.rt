@@ -1,0 +1,92 @@
+//! Texts without the blanks at their ends, and how texts begin and go on.
+ghost use Rattle.std.specs.Prelude.{◌≡◌, ◌==◌, ◌||◌, length, take, drop};
+ghost use Rattle.satip_tune.specs.Pieces.{text_left};
+ghost use Rattle.satip_rtsp.specs.Blanks.{is_blank as is_space_or_tab, trimmed as text_trimmed, trimmed_start as start_trimmed, trimmed_end as end_trimmed};
+ghost use Rattle.satip_rtsp.specs.Targets.{begins_like as is_begun_like, begins_with as is_begun_with};
+
+use satip_tune::same_bytes;
+
+/// The text without the spaces and tabs at its ends.
+#[tactic(auto, unfolding(crate::specs::Blanks::trimmed))]
+pub fn trimmed(text: &[u8]) -> &[u8]
+    ensures trimmed { result.now ≡ text_trimmed text.now }
+{
+    trimmed_end(trimmed_start(text))
+}
+
+fn trimmed_start(text: &[u8]) -> &[u8]
+    ensures trimmed { result.now ≡ start_trimmed text.now }
+{
+    let mut rest = text;
+    while let Some((first, others)) = rest.split_first() {
+        if !is_blank(*first) {
+            return rest;
+        }
+        rest = others;
+    }
+    rest
+}
+
+fn trimmed_end(text: &[u8]) -> &[u8]
+    ensures trimmed { result.now ≡ end_trimmed text.now }
+{
+    let mut rest = text;
+    while let Some((last, others)) = rest.split_last() {
+        if !is_blank(*last) {
+            return rest;
+        }
+        rest = others;
+    }
+    rest
+}
+
+fn is_blank(byte: u8) -> bool
+    ensures test { result ≡ is_space_or_tab byte }
+{
+    byte == b' ' || byte == b'\t'
+}
+
+fn first_bytes(text: &[u8], count: usize) -> &[u8]
+    ensures front { result.now ≡ take count text.now }
+{
+    if count < text.len() {
+        &text[..count]
+    } else {
+        text
+    }
+}
+
+/// The text behind its first bytes.
+pub fn behind(text: &[u8], count: usize) -> &[u8]
+    ensures rest { result.now ≡ drop count text.now }
+{
+    if count < text.len() {
+        &text[count..]
+    } else {
+        b""
+    }
+}
+
+/// Whether a text begins with another; the case of ASCII letters doesn't matter.
+pub fn begins_like(start: &[u8], text: &[u8]) -> bool
+    ensures test { result ≡ is_begun_like start.now text.now }
+{
+    first_bytes(text, start.len()).eq_ignore_ascii_case(start)
+}
+
+/// Whether a text begins with another, byte for byte.
+pub fn begins_with(start: &[u8], text: &[u8]) -> bool
+    ensures test { result ≡ is_begun_with start.now text.now }
+{
+    same_bytes(first_bytes(text, start.len()), start)
+}
+
+/// What is left of a text, as a text.
+pub fn text_of(left: Option<&[u8]>) -> &[u8]
+    ensures text { result.now ≡ text_left left.entry }
+{
+    match left {
+        None => b"",
+        Some(text) => text,
+    }
+}
