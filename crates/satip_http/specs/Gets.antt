@@ -1,5 +1,5 @@
 -- The GET that a message is.
-use Rattle.std.specs.Prelude.{ℕ, ◌||◌, nat_eq, Bool, List, drop, Some, None, Result, Ok, Err, unwrap_or, codes, if◌then◌else◌}
+use Rattle.std.specs.Prelude.{◌≡◌, ℕ, ◌||◌, nat_eq, Bool, true, List, drop, Option, Some, None, Result, Ok, Err, unwrap_or, codes, if◌then◌else◌}
 use Rattle.std.specs.List.{starts_with}
 use Rattle.std.specs.Str.{bytes_eq}
 use Rattle.satip_frame.specs.declared.framing.Break.{Break}
@@ -48,6 +48,27 @@ asked m =
     if is_served m.version then
     (if bytes_eq m.method (codes "GET") then with_rest (rest_of m.target) else refused Method)
     else refused Version
+
+-- the message has a version that is served, and is a GET
+pub record IsGet (m : Said) : Type 0 where
+  pub version : is_served m.version ≡ true
+  pub method : bytes_eq m.method (codes "GET") ≡ true
+
+-- whether what a target says behind its front begins with a path
+abbrev pub is_path : List ℕ → Bool
+is_path rest = starts_with nat_eq rest (codes "/")
+
+-- the text of the query that follows the front, or the path `/`, if one does
+abbrev pub query_in : List ℕ → Option (List ℕ)
+query_in rest =
+    if starts_with nat_eq rest (codes "?") then Some (drop 1 rest)
+    else if starts_with nat_eq rest (codes "/?") then Some (drop 2 rest)
+    else None
+
+-- there is a query, with this first fault
+abbrev pub AsksAtFault : QueryFault → Option (List ℕ) → Type 0
+AsksAtFault fault None = ⊥
+AsksAtFault fault (Some text) = query_of text ≡ Err fault
 
 -- the request of what is no message
 abbrev pub broken : Break → HttpRequest

@@ -1,8 +1,8 @@
 //! What a message asks for over HTTP.
-ghost use Rattle.std.specs.Prelude.{◌≡◌, ◌≢◌, ◌↔◌, Some, true, false, codes};
+ghost use Rattle.std.specs.Prelude.{◌≡◌, ◌≢◌, ◌↔◌, Some, None, true, false, codes};
 ghost use Rattle.std.specs.Str.{bytes_eq};
 ghost use Rattle.satip_query.specs.Reading.{query_of};
-ghost use Rattle.satip_http.specs.Gets.{asked, broken as broken_request, is_served as is_served_text, refused as refused_request, rest_of as rest_text, with_path as of_path, with_query as of_query, with_rest as of_rest};
+ghost use Rattle.satip_http.specs.Gets.{AsksAtFault, IsGet, asked, broken as broken_request, is_path, is_served as is_served_text, query_in, refused as refused_request, rest_of as rest_text, with_path as of_path, with_query as of_query, with_rest as of_rest};
 
 use satip_frame::{Break, Message};
 use satip_query::{Query, QueryFault, read};
@@ -42,6 +42,12 @@ impl HttpRequest {
         ensures version { (result.refusal ≡ Some HttpRefusal.Version) ↔ (is_served_text message.now.version ≡ false) }
         ensures method { (result.refusal ≡ Some HttpRefusal.Method)
             ↔ ((is_served_text message.now.version ≡ true) × (bytes_eq message.now.method (codes "GET") ≡ false)) }
+        ensures target { (result.refusal ≡ Some HttpRefusal.Target)
+            ↔ (IsGet message.now × (is_path (rest_text message.now.target) ≡ false) × (query_in (rest_text message.now.target) ≡ None)) }
+        ensures not_found { (result.refusal ≡ Some HttpRefusal.NotFound)
+            ↔ (IsGet message.now × (is_path (rest_text message.now.target) ≡ true) × (query_in (rest_text message.now.target) ≡ None)) }
+        ensures query { (fault : QueryFault) → (result.refusal ≡ Some (HttpRefusal.Query fault))
+            ↔ (IsGet message.now × AsksAtFault fault (query_in (rest_text message.now.target))) }
         ensures not_broken { result.refusal ≢ Some HttpRefusal.Broken }
         ensures not_too_long { result.refusal ≢ Some HttpRefusal.TooLong }
     {

@@ -1,5 +1,5 @@
 -- The request of a message.
-use Rattle.std.specs.Prelude.{ℕ, Bool, true, false, List, [], ◌∷◌, take, Option, Some, None, Result, Ok, Err, option_and_then, codes, if◌then◌else◌}
+use Rattle.std.specs.Prelude.{◌≡◌, ℕ, Bool, true, false, List, [], ◌∷◌, take, Option, Some, None, Result, Ok, Err, option_and_then, codes, if◌then◌else◌}
 use Rattle.std.specs.Str.{bytes_eq}
 use Rattle.satip_base.specs.Numbers.{number_of}
 use Rattle.satip_base.specs.declared.network.Ports.{Ports}
@@ -109,6 +109,17 @@ asked_with (Some n) m = with_version n m (bytes_eq m.version (codes "RTSP/1.0"))
 -- the request of a message
 unfoldable pub asked : Said → Request
 asked m = asked_with (cseq_of m) m
+
+-- the message has a number, the version that is served, and this method
+pub record IsServed (m : Said) (method : Method) : Type 0 where
+  pub number : ℕ
+  pub cseq : cseq_of m ≡ Some number
+  pub version : bytes_eq m.version (codes "RTSP/1.0") ≡ true
+  pub named : method_named m.method ≡ Some method
+
+-- the option that a message requires, where it names one
+abbrev pub required_in : Said → Option (List ℕ)
+required_in m = required (first_value (codes "Require") m.headers)
 
 -- the request of what is no message
 abbrev pub broken : Break → Request

@@ -1,8 +1,9 @@
 //! What a message asks for.
-ghost use Rattle.std.specs.Prelude.{◌≡◌, ◌≢◌, ◌↔◌, Some, None, IsSome, true, false, codes};
+ghost use Rattle.std.specs.Prelude.{◌≡◌, ◌≢◌, ◌↔◌, ℕ, List, Some, None, Err, IsSome, true, false, codes};
 ghost use Rattle.std.specs.Option.{option_copied};
 ghost use Rattle.std.specs.Str.{bytes_eq};
-ghost use Rattle.satip_rtsp.specs.Asked.{asked, broken as broken_request, cseq_of, is_options as is_options_method, method_named, ports_asked, query_read, refused as refused_request, required as requirement, with_method, with_required, with_target, with_version};
+ghost use Rattle.satip_rtsp.specs.Asked.{IsServed, asked, broken as broken_request, cseq_of, is_options as is_options_method, method_named, ports_asked, query_read, refused as refused_request, required as requirement, required_in, with_method, with_required, with_target, with_version};
+ghost use Rattle.satip_rtsp.specs.Targets.{TargetParts, target_of};
 
 use crate::short::Short;
 use crate::targets::Target;
@@ -98,6 +99,13 @@ impl Request {
         ensures method { (result.refusal ≡ Some Refusal.Method)
             ↔ (IsSome (cseq_of message.now) × (bytes_eq message.now.version (codes "RTSP/1.0") ≡ true)
             × (method_named message.now.method ≡ None)) }
+        ensures require { (method : Method) (kept : List ℕ) → IsServed message.now method
+            → (result.refusal ≡ Some (Refusal.Require kept)) ↔ (required_in message.now ≡ Some kept) }
+        ensures target { (method : Method) → IsServed message.now method → required_in message.now ≡ None
+            → (result.refusal ≡ Some Refusal.Target) ↔ (target_of (is_options_method method) message.now.target ≡ None) }
+        ensures query { (method : Method) (target : TargetParts) (fault : QueryFault) → IsServed message.now method
+            → required_in message.now ≡ None → target_of (is_options_method method) message.now.target ≡ Some target
+            → (result.refusal ≡ Some (Refusal.Query fault)) ↔ (query_read method target.query ≡ Err fault) }
         ensures not_broken { result.refusal ≢ Some Refusal.Broken }
         ensures not_too_long { result.refusal ≢ Some Refusal.TooLong }
     {

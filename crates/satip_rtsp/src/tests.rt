@@ -3,6 +3,7 @@ use crate::{
     Method, Refusal, Request, SessionName, Short, write_closing, write_describe, write_options,
     write_plain, write_play, write_setup, write_text, write_unsupported,
 };
+use crate::targets::Target;
 use satip_base::{Out, Ports, SessionId};
 use satip_frame::{Break, Framer, Step};
 use satip_query::{QueryFault, RefusalBody};
@@ -92,6 +93,26 @@ fn targets_name_streams(rt: HostRuntime) -> Result<(), Fail> {
             None,
         ),
         (
+            b"SETUP rtsp://h/ RTSP/1.0\r\nCSeq: 4\r\n\r\n".as_slice(),
+            None,
+        ),
+        (
+            b"SETUP / RTSP/1.0\r\nCSeq: 4\r\n\r\n".as_slice(),
+            None,
+        ),
+        (
+            b"OPTIONS * RTSP/1.0\r\nCSeq: 4\r\n\r\n".as_slice(),
+            None,
+        ),
+        (
+            b"PLAY /stream=1 RTSP/1.0\r\nCSeq: 4\r\n\r\n".as_slice(),
+            Some(1),
+        ),
+        (
+            b"PLAY rtsp://h/stream=65535 RTSP/1.0\r\nCSeq: 4\r\n\r\n".as_slice(),
+            Some(65535),
+        ),
+        (
             b"TEARDOWN /stream=1/ RTSP/1.0\r\nCSeq: 4\r\n\r\n".as_slice(),
             Some(1),
         ),
@@ -109,10 +130,64 @@ fn targets_name_streams(rt: HostRuntime) -> Result<(), Fail> {
         b"PLAY stream=1 RTSP/1.0\r\nCSeq: 4\r\n\r\n".as_slice(),
         b"PLAY rtsp:///stream=1 RTSP/1.0\r\nCSeq: 4\r\n\r\n".as_slice(),
         b"PLAY ?pids=all RTSP/1.0\r\nCSeq: 4\r\n\r\n".as_slice(),
+        b"DESCRIBE * RTSP/1.0\r\nCSeq: 4\r\n\r\n".as_slice(),
+        b"OPTIONS /x RTSP/1.0\r\nCSeq: 4\r\n\r\n".as_slice(),
+        b"OPTIONS ** RTSP/1.0\r\nCSeq: 4\r\n\r\n".as_slice(),
     ] {
         let request = request_of(rt.alloc(), text).ok_or("message")?;
         assert_eq!(rt; request.refusal, Some(Refusal::Target));
     }
+    assert!(rt; Target::of(b"", false).is_none());
+    assert!(rt; Target::of(b"", true).is_none());
+    Ok(())
+}
+
+// Of two faults in a request the earlier place counts, whatever comes first in the text.
+#[test]
+fn earlier_place_counts_for_each_method(rt: HostRuntime) -> Result<(), Fail> {
+    for (text, refusal) in [
+        (
+            b"TEARDOWN /x RTSP/1.0\r\nRequire: y\r\nCSeq: 4\r\n\r\n".as_slice(),
+            Refusal::Require(Short::of(b"y")),
+        ),
+        (
+            b"TEARDOWN * RTSP/1.1\r\nCSeq: 4\r\n\r\n".as_slice(),
+            Refusal::Version,
+        ),
+        (
+            b"DESCRIBE * RTSP/1.0\r\nRequire: y\r\nCSeq: x\r\n\r\n".as_slice(),
+            Refusal::NoCseq,
+        ),
+        (
+            b"DESCRIBE /x RTSP/1.0\r\nCSeq: 4\r\nRequire: y\r\n\r\n".as_slice(),
+            Refusal::Require(Short::of(b"y")),
+        ),
+        (
+            b"PLAY /stream=x?pids=8192 RTSP/1.0\r\nCSeq: 4\r\n\r\n".as_slice(),
+            Refusal::Target,
+        ),
+        (
+            b"OPTIONS /x RTSP/1.0\r\nRequire: y\r\nCSeq: 4\r\n\r\n".as_slice(),
+            Refusal::Require(Short::of(b"y")),
+        ),
+        (
+            b"SETUP /?pids=8192&fe=0 RTSP/1.0\r\nCSeq: 4\r\n\r\n".as_slice(),
+            Refusal::Query(QueryFault::Range(Key::Pids)),
+        ),
+    ] {
+        let request = request_of(rt.alloc(), text).ok_or("message")?;
+        assert_eq!(rt; request.refusal, Some(refusal));
+    }
+    Ok(())
+}
+
+// Of what a message requires 128 bytes are kept.
+#[test]
+fn long_requirement_is_cut(rt: HostRuntime) -> Result<(), Fail> {
+    let text = b"OPTIONS * RTSP/1.0\r\nCSeq: 4\r\nRequire: aaaaaaaaaaaaaaaaaaaaaaaaaaaaaaaaaaaaaaaaaaaaaaaaaaaaaaaaaaaaaaaaaaaaaaaaaaaaaaaaaaaaaaaaaaaaaaaaaaaaaaaaaaaaaaaaaaaaaaaaaaaaaaaab\r\n\r\n";
+    let request = request_of(rt.alloc(), text).ok_or("message")?;
+    let kept = Short::of(&[b'a'; 128]);
+    assert_eq!(rt; request.refusal, Some(Refusal::Require(kept)));
     Ok(())
 }
 
@@ -146,6 +221,29 @@ fn transports_give_ports(rt: HostRuntime) -> Result<(), Fail> {
             None,
         ),
         (
+            b"SETUP / RTSP/1.0\r\nCSeq: 4\r\nTransport: RTP/AVP/TCP;unicast;client_port=2,RTP/AVP/UDP;unicast;client_port=3\r\n\r\n".as_slice(),
+            Some(Ports { rtp: 3, rtcp: 4 }),
+        ),
+        (
+            b"SETUP / RTSP/1.0\r\nCSeq: 4\r\nTransport: RTP/AVP;unicast;client_port=1400-1401\r\nTransport: RTP/AVP;unicast;client_port=8\r\n\r\n".as_slice(),
+            Some(Ports {
+                rtp: 1400,
+                rtcp: 1401,
+            }),
+        ),
+        (
+            b"SETUP / RTSP/1.0\r\nCSeq: 4\r\nTransport: RTP/AVP;unicast;client_port=7-7\r\n\r\n".as_slice(),
+            Some(Ports { rtp: 7, rtcp: 7 }),
+        ),
+        (
+            b"SETUP / RTSP/1.0\r\nCSeq: 4\r\nTransport: RTP/AVP;client_port=2-3\r\n\r\n".as_slice(),
+            None,
+        ),
+        (
+            b"SETUP / RTSP/1.0\r\nCSeq: 4\r\n\r\n".as_slice(),
+            None,
+        ),
+        (
             b"PLAY / RTSP/1.0\r\nCSeq: 4\r\nTransport: RTP/AVP;unicast;client_port=2\r\n\r\n".as_slice(),
             None,
         ),
@@ -175,6 +273,18 @@ fn sessions_are_named(rt: HostRuntime) -> Result<(), Fail> {
         (
             b"PLAY / RTSP/1.0\r\nCSeq: 4\r\nSession: 0000000010000000a\r\n\r\n".as_slice(),
             SessionName::Other,
+        ),
+        (
+            b"PLAY / RTSP/1.0\r\nCSeq: 4\r\nSession: 00000001000000a\r\n\r\n".as_slice(),
+            SessionName::Other,
+        ),
+        (
+            b"PLAY / RTSP/1.0\r\nCSeq: 4\r\nSession:\r\n\r\n".as_slice(),
+            SessionName::Other,
+        ),
+        (
+            b"PLAY / RTSP/1.0\r\nCSeq: 4\r\nSession: 000000010000000a\r\nSession: 000000020000000b\r\n\r\n".as_slice(),
+            SessionName::Named(id),
         ),
     ] {
         let request = request_of(rt.alloc(), text).ok_or("message")?;
@@ -251,6 +361,16 @@ fn refusals_have_these_texts(rt: HostRuntime) -> Result<(), Fail> {
     write_text(None, 400, RefusalBody::CheckSyntax(Key::Pol), &mut out);
     let text =
         b"RTSP/1.0 400 Bad Request\r\nContent-Type: text/parameters\r\nContent-Length: 18\r\n\r\nCheck-Syntax:pol\r\n";
+    assert_eq!(rt; out.reply(), text.as_slice());
+    out.clear();
+    write_text(Some(8), 403, RefusalBody::OutOfRange(Key::Pids), &mut out);
+    let text =
+        b"RTSP/1.0 403 Forbidden\r\nCSeq: 8\r\nContent-Type: text/parameters\r\nContent-Length: 19\r\n\r\nOut-of-Range:pids\r\n";
+    assert_eq!(rt; out.reply(), text.as_slice());
+    out.clear();
+    write_text(Some(9), 503, RefusalBody::NoMoreFrontends, &mut out);
+    let text =
+        b"RTSP/1.0 503 Service Unavailable\r\nCSeq: 9\r\nContent-Type: text/parameters\r\nContent-Length: 19\r\n\r\nNo-More:frontends\r\n";
     assert_eq!(rt; out.reply(), text.as_slice());
     out.clear();
     write_unsupported(Some(6), &Short::of(b"a.b"), &mut out);
