@@ -121,7 +121,7 @@ later_causes m = record {
       (target_by is.number m method (target_of (is_options method) m.target));
   query = λ method target fault is none named.
       let reached : asked m ≡ with_query is.number m method target (query_read method target.query) =
-          cc (served m method is, ap (with_required is.number m method) none, ap (with_target is.number m method) named) in
+      cc (served m method is, ap (with_required is.number m method) none, ap (with_target is.number m method) named) in
       refused_as (asked m) (QueryAt fault) (query_read method target.query ≡ Err fault) (with_query is.number m method target (query_read method target.query)) reached
       (query_by is.number m method target fault (query_read method target.query));
 }

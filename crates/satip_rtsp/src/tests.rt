@@ -1,9 +1,9 @@
 //! Requests out of whole messages, and the replies' texts.
+use crate::targets::Target;
 use crate::{
     Method, Refusal, Request, SessionName, Short, write_closing, write_describe, write_options,
     write_plain, write_play, write_setup, write_text, write_unsupported,
 };
-use crate::targets::Target;
 use satip_base::{Out, Ports, SessionId};
 use satip_frame::{Break, Framer, Step};
 use satip_query::{QueryFault, RefusalBody};
@@ -96,14 +96,8 @@ fn targets_name_streams(rt: HostRuntime) -> Result<(), Fail> {
             b"SETUP rtsp://h/ RTSP/1.0\r\nCSeq: 4\r\n\r\n".as_slice(),
             None,
         ),
-        (
-            b"SETUP / RTSP/1.0\r\nCSeq: 4\r\n\r\n".as_slice(),
-            None,
-        ),
-        (
-            b"OPTIONS * RTSP/1.0\r\nCSeq: 4\r\n\r\n".as_slice(),
-            None,
-        ),
+        (b"SETUP / RTSP/1.0\r\nCSeq: 4\r\n\r\n".as_slice(), None),
+        (b"OPTIONS * RTSP/1.0\r\nCSeq: 4\r\n\r\n".as_slice(), None),
         (
             b"PLAY /stream=1 RTSP/1.0\r\nCSeq: 4\r\n\r\n".as_slice(),
             Some(1),
@@ -184,7 +178,8 @@ fn earlier_place_counts_for_each_method(rt: HostRuntime) -> Result<(), Fail> {
 // Of what a message requires 128 bytes are kept.
 #[test]
 fn long_requirement_is_cut(rt: HostRuntime) -> Result<(), Fail> {
-    let text = b"OPTIONS * RTSP/1.0\r\nCSeq: 4\r\nRequire: aaaaaaaaaaaaaaaaaaaaaaaaaaaaaaaaaaaaaaaaaaaaaaaaaaaaaaaaaaaaaaaaaaaaaaaaaaaaaaaaaaaaaaaaaaaaaaaaaaaaaaaaaaaaaaaaaaaaaaaaaaaaaaaab\r\n\r\n";
+    let text =
+        b"OPTIONS * RTSP/1.0\r\nCSeq: 4\r\nRequire: aaaaaaaaaaaaaaaaaaaaaaaaaaaaaaaaaaaaaaaaaaaaaaaaaaaaaaaaaaaaaaaaaaaaaaaaaaaaaaaaaaaaaaaaaaaaaaaaaaaaaaaaaaaaaaaaaaaaaaaaaaaaaaaab\r\n\r\n";
     let request = request_of(rt.alloc(), text).ok_or("message")?;
     let kept = Short::of(&[b'a'; 128]);
     assert_eq!(rt; request.refusal, Some(Refusal::Require(kept)));
@@ -239,10 +234,7 @@ fn transports_give_ports(rt: HostRuntime) -> Result<(), Fail> {
             b"SETUP / RTSP/1.0\r\nCSeq: 4\r\nTransport: RTP/AVP;client_port=2-3\r\n\r\n".as_slice(),
             None,
         ),
-        (
-            b"SETUP / RTSP/1.0\r\nCSeq: 4\r\n\r\n".as_slice(),
-            None,
-        ),
+        (b"SETUP / RTSP/1.0\r\nCSeq: 4\r\n\r\n".as_slice(), None),
         (
             b"PLAY / RTSP/1.0\r\nCSeq: 4\r\nTransport: RTP/AVP;unicast;client_port=2\r\n\r\n".as_slice(),
             None,
