@@ -9,8 +9,10 @@ use Rattle.satip_tune.specs.declared.tunings.Tuning.{Tuning}
 use Rattle.satip_fronts.specs.declared.choice.Place.{Place}
 use Rattle.satip_fronts.specs.declared.choice.Case.{Case}
 use Rattle.satip_fronts.specs.declared.choice.Case.TheVariants.{Keep, Share, Retune, Start}
-use Rattle.satip_fronts.specs.Choice.{Outlook, blocked, choose, first_placed, is_empty, is_own, is_tuned, least, may_take, placed, suits}
-use Rattle.satip_fronts.specs.FrontEnds.{is_front}
+use Rattle.satip_fronts.specs.Choice.{Outlook, blocked, choose, first_placed, is_empty, is_occupied, is_own, is_tuned, least, may_take, placed, suits}
+use Rattle.satip_fronts.specs.FrontEnds.{FrontEnds, is_front, outlook}
+use Rattle.satip_fronts.specs.Openings.{blocked_for, is_open, new_outlook, other_places, outlook_for}
+use Rattle.satip_tune.specs.Frontends.{mux_of}
 
 module _ {X : Type 0} where
   -- tests of one list
@@ -148,3 +150,31 @@ pub chosen_known : (o : Outlook) (wanted : Option ℕ) (tuning : Tuning) (place 
 unfolding choose IsKnown
 chosen_known o wanted tuning place chosen =
     first_known o.fronts _ _ _ _ (least_known false Keep o wanted tuning) (least_known false Share o wanted tuning) (least_known true Retune o wanted tuning) (least_known true Start o wanted tuning) place chosen
+
+not_not : (b : Bool) → not (not b) ≡ b
+not_not true = refl
+not_not false = refl
+
+-- none is to be had exactly where none that fits is tuned as wanted or unshared
+blocked_unless : (o : Outlook) (wanted : Option ℕ) (tuning : Tuning) → blocked o wanted tuning ≡ not (is_some (find (λ front. fits front tuning && not (is_occupied o wanted front)) o.fronts))
+unfolding blocked
+blocked_unless o wanted tuning =
+    let passes : Front → Bool = λ front. fits front tuning in
+    let occupied : Front → Bool = is_occupied o wanted in
+    empty_all occupied (filter passes o.fronts)
+    ∙ sym (not_not (list_all occupied (filter passes o.fronts)))
+    ∙ ap not (sym (any_all passes occupied o.fronts) ∙ sym (find_any (λ front. passes front && not (occupied front)) o.fronts))
+
+-- the same with the places of all other streams
+pub blocked_open : (v : FrontEnds) (stream : Option ℕ) (tuning : Tuning) → blocked_for v stream tuning ≡ not (is_some (find (is_open v.rows (mux_of v.muxes tuning) (other_places v.places stream) tuning) v.fronts))
+unfolding blocked_for new_outlook outlook
+blocked_open v None tuning = blocked_unless (outlook_for v None) (mux_of v.muxes tuning) tuning
+blocked_open v (Some stream) tuning = blocked_unless (outlook_for v (Some stream)) (mux_of v.muxes tuning) tuning
+
+pub blocked_where : (v : FrontEnds) (stream wanted : Option ℕ) (others : List (Option ℕ)) (tuning : Tuning) (found : Bool) → wanted ≡ mux_of v.muxes tuning → others ≡ other_places v.places stream
+    → found ≡ is_some (find (is_open v.rows wanted others tuning) v.fronts) → not found ≡ blocked_for v stream tuning
+blocked_where v stream wanted others tuning found w o is =
+    ap not (is
+    ∙ ap (λ m. is_some (find (is_open v.rows m others tuning) v.fronts)) w
+    ∙ ap (λ ps. is_some (find (is_open v.rows (mux_of v.muxes tuning) ps tuning) v.fronts)) o)
+    ∙ sym (blocked_open v stream tuning)

@@ -2,3 +2,4 @@ pub mod Rows
 pub mod Choice
 pub mod FrontEnds
 pub mod View
+pub mod Openings

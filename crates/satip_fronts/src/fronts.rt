@@ -5,6 +5,7 @@ ghost use Rattle.std.specs.List.{list_any};
 ghost use Rattle.std.specs.Option.{option_map};
 ghost use Rattle.satip_fronts.specs.Rows.{is_at};
 ghost use Rattle.satip_fronts.specs.Choice.{choose, least, suits};
+ghost use Rattle.satip_fronts.specs.Openings.{IsStreamOrNone, blocked_for, is_open, other_places};
 ghost use Rattle.satip_fronts.specs.FrontEnds.{IsNumbered, Sound, all_free, blocked, choice, ended, front_of, is_current, is_front, left, moved, mux_at, new_row, outlook, placed_at, state_of, taken};
 
 use crate::choice::{Case, Place, is_tuned, may_take, place_at};
@@ -96,6 +97,18 @@ impl Fronts {
         is_at_front(front, front_of_stream(&self.places, stream))
     }
 
+    /// Whether no front end is to be had for a stream with this tuning: none fits, or each that fits serves
+    /// another stream and isn't tuned to the multiplex that the tuning means. `None` is a stream that is
+    /// yet to be founded.
+    pub fn is_blocked(&self, stream: Option<u16>, tuning: &Tuning) -> bool
+        requires known { IsStreamOrNone stream }
+        ensures blocked { result ≡ blocked_for self.now stream tuning.now }
+    {
+        let mux = mux_of(&self.muxes, tuning);
+        let others = self.others(stream);
+        !self.has_open(mux, &others, tuning)
+    }
+
     /// Brings the stream to a front end for this tuning, and answers its number. The first of these
     /// applies, where the wanted multiplex is that of the tuning: its own front end fits and is tuned to
     /// it; the least other that does; its own fits and serves no other stream, and is tuned anew; the
@@ -150,6 +163,47 @@ impl Fronts {
         let mut others = self.places;
         others[stream as usize - 1] = None;
         serves_any(front, &others)
+    }
+
+    /// The front ends of all other streams.
+    fn others(&self, stream: Option<u16>) -> [Option<u16>; 64]
+        requires known { IsStreamOrNone stream }
+        ensures places { result ≡ other_places self.now.places stream }
+    {
+        match stream {
+            None => self.places,
+            Some(number) => {
+                let mut others = self.places;
+                others[number as usize - 1] = None;
+                others
+            }
+        }
+    }
+
+    /// Whether the front end fits, and is tuned to the wanted multiplex or at none of these places.
+    fn is_open_at(
+        &self,
+        mux: Option<u16>,
+        others: &[Option<u16>],
+        tuning: &Tuning,
+        front: &Front,
+    ) -> bool
+        ensures opening { result ≡ is_open self.now.rows mux others.now tuning.now front.now }
+    {
+        let tuned = is_tuned(mux, self.mux_of_front(front.number));
+        fits(front, tuning) && !(serves_any(front.number, others) && !tuned)
+    }
+
+    /// Whether there is such a front end.
+    fn has_open(&self, mux: Option<u16>, others: &[Option<u16>], tuning: &Tuning) -> bool
+        ensures found { result ≡ is_some (find (is_open self.now.rows mux others.now tuning.now) self.now.fronts) }
+    {
+        for front in &self.fronts {
+            if self.is_open_at(mux, others, tuning, front) {
+                return true;
+            }
+        }
+        false
     }
 
     /// The multiplex of a front end, where it has one.
