@@ -1,0 +1,93 @@
+-- When a request is told that no front end is to be had.
+use Rattle.std.specs.Prelude.{ℕ, ◌≡◌, ◌&&◌, Bool, true, List, [], ◌∷◌, ◌++◌, not, is_none, Option, Some, None, option_map, option_and_then, unwrap_or}
+use Rattle.std.specs.Option.{option_map_or}
+use Rattle.satip_pids.specs.Pids.{Pids, Only}
+use Rattle.satip_tune.specs.Frontends.{mux_of}
+use Rattle.satip_fronts.specs.Choice.{blocked}
+use Rattle.satip_query.specs.declared.bodies.RefusalBody.TheVariants.{NotOwner, NoMoreSessions, NoMoreFrontends}
+use Rattle.satip_rtsp.specs.Replies.{text_reply}
+use Rattle.satip_http.specs.Heads.{http_refusal}
+use Rattle.satip_plain.specs.Types.{SessionId, Config, Draw, Tuning, Query, Request, HttpRequest}
+use Rattle.satip_plain.specs.declared.setting.Setting.{Setting}
+use Rattle.satip_plain.specs.declared.events.Event.{Event}
+use Rattle.satip_plain.specs.declared.events.Event.TheVariants.{Request as Asked, Get as Got}
+use Rattle.satip_plain.specs.State.{State, Stream}
+use Rattle.satip_plain.specs.Streams.{to_set, asked_pids, changed_tuning}
+use Rattle.satip_plain.specs.Refusals.{Refused, first_given, where_true, plainly, telling, of_message, of_http_message, of_tuning, of_pids, key_missing, is_full, session_missing, stream_missing, stream_of_another, not_owner, stream_meant, names_none, is_setup, changes, makes_session}
+use Rattle.satip_plain.specs.Histories.{Item, Legal, after}
+use Rattle.satip_plain.specs.Readings.{Readings, home_of_number, named_in, next_made, outlook_in, readings}
+
+-- the causes before this one, in their order, for a query of a stream that had this tuning and these PIDs
+abbrev pub change_before : State → Option Tuning → Pids → Bool → Query → List (Option Refused)
+change_before st tuning pids makes query =
+    key_missing tuning query.change
+    ∷ of_pids (asked_pids pids query)
+    ∷ where_true (makes && is_full st) (telling 503 NoMoreSessions)
+    ∷ []
+
+abbrev pub query_before : State → Request → Option Stream → List (Option Refused)
+query_before st r None = change_before st None (Only []) (makes_session r) r.query
+query_before st r (Some t) = change_before st t.tuning t.pids (makes_session r) r.query
+
+-- those of any request
+abbrev pub message_before : State → Request → List (Option Refused)
+message_before st r =
+    option_map of_message r.refusal
+    ∷ where_true (session_missing st r) (plainly 454)
+    ∷ where_true (stream_missing st r) (plainly 404)
+    ∷ where_true (stream_of_another st r) (plainly 454)
+    ∷ where_true (not_owner st r) (telling 403 NotOwner)
+    ∷ where_true (is_setup r.method && not (names_none r.session) && is_none r.stream) (plainly 455)
+    ∷ where_true (is_setup r.method && is_none r.ports) (plainly 461)
+    ∷ []
+
+abbrev pub all_before : State → Request → List (Option Refused)
+all_before st r = message_before st r ++ query_before st r (stream_meant st r)
+
+-- and those of an HTTP request
+abbrev pub get_before : State → HttpRequest → List (Option Refused)
+get_before st r =
+    option_map of_http_message r.refusal
+    ∷ of_tuning (changed_tuning None r.query.change)
+    ∷ change_before st None (Only []) true r.query
+
+-- the stream that a SETUP or PLAY is about, as read: that of the named number, else that of the named session, else
+-- the one that it would found
+abbrev pub home_meant : Readings → Draw → Request → SessionId
+home_meant g draw r = unwrap_or (option_and_then (home_of_number g) r.stream) (option_map_or (λ m. m.home) (named_in g r.session) (next_made g draw.word))
+
+-- a tuning is to be set for this stream, and each front end that fits is taken, by the readings
+pub record IsBlocked (c : Config) (g : Readings) (home : SessionId) (query : Query) : Type 0 where
+  pub tuning : Tuning
+  pub set : to_set (g.tuned home) query.change ≡ Some tuning
+  pub taken : blocked (outlook_in c g home) (mux_of c.muxes tuning) tuning ≡ true
+
+-- a SETUP or PLAY that nothing refuses before, and for which no front end is to be had
+pub record IsBlockedRequest (c : Config) (st : State) (g : Readings) (draw : Draw) (r : Request) : Type 0 where
+  pub changes_stream : changes r.method ≡ true
+  pub before : first_given (all_before st r) ≡ None
+  pub blocked : IsBlocked c g (home_meant g draw r) r.query
+
+-- a GET of that kind
+pub record IsBlockedGet (c : Config) (st : State) (g : Readings) (draw : Draw) (r : HttpRequest) : Type 0 where
+  pub before : first_given (get_before st r) ≡ None
+  pub blocked : IsBlocked c g (next_made g draw.word) r.query
+
+abbrev pub IsBlockedHere : Config → State → Readings → Event → Type 0
+IsBlockedHere c st g (Asked peer draw r) = IsBlockedRequest c st g draw r
+IsBlockedHere c st g (Got peer draw r) = IsBlockedGet c st g draw r
+IsBlockedHere c st g _ = ⊥
+
+-- the reply to the event says `No-More:frontends`
+abbrev pub IsToldBusy : Event → List ℕ → Type 0
+IsToldBusy (Asked peer draw r) reply = reply ≡ text_reply r.cseq 503 NoMoreFrontends
+IsToldBusy (Got peer draw r) reply = reply ≡ http_refusal 503 (Some NoMoreFrontends)
+IsToldBusy _ reply = ⊥
+
+-- the busy law: the reply of a legal entry says `No-More:frontends` exactly where nothing refuses the request before, a
+-- tuning is to be set, and no front end is to be had for it, by what is read of the entries before
+abbrev pub BusyWhereBlocked : Type 0
+BusyWhereBlocked =
+    (c : Setting) (h : List Item) (e : Item) → Legal c (h ++ e ∷ [])
+    → (IsToldBusy e.event e.out.reply → IsBlockedHere c.config (after c h) (readings c h) e.event)
+    × (IsBlockedHere c.config (after c h) (readings c h) e.event → IsToldBusy e.event e.out.reply)
