@@ -24,3 +24,4 @@ pub mod PullLaw
 pub mod OwnerLaw
 pub mod BusyTexts
 pub mod BusyLaw
+pub mod Runs

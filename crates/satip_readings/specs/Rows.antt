@@ -1,5 +1,6 @@
 -- What worked runs show of the words of this crate.
 use Rattle.std.specs.Prelude.{ℕ, Bool, false, List, map}
+use Rattle.satip_history.specs.Lists.{Each}
 use Rattle.satip_ts.specs.Packet.{pid_of}
 use Rattle.satip_plain.specs.Types.{SessionId}
 use Rattle.satip_plain.specs.declared.setting.Setting.{Setting}
@@ -7,7 +8,8 @@ use Rattle.satip_plain.specs.declared.events.Event.{Event}
 use Rattle.satip_plain.specs.declared.events.Event.TheVariants.{Request as Asked}
 use Rattle.satip_plain.specs.Refusals.{front_missing}
 use Rattle.satip_plain.specs.Steps.{step}
-use Rattle.satip_plain.specs.Histories.{Item}
+use Rattle.satip_plain.specs.Histories.{Item, Legal}
+use Rattle.satip_plain.specs.Values.{IsEvent}
 use Rattle.satip_plain.specs.Readings.{Readings, outlook_in, readings}
 use Rattle.satip_plain.specs.Examples.{config, run, state_last, entry_of, id_of}
 use Rattle.satip_readings.specs.Given.{given}
@@ -49,3 +51,7 @@ finds_none es (Asked peer draw r) =
     let home = home_meant g draw r in
     front_missing config (outlook_in config g home) (g.tuned home) r.query.change
 finds_none es _ = false
+
+-- the entries of a run are a legal history, where its events are of their types
+abbrev pub RunsAreLegal : Type 0
+RunsAreLegal = (es : List Event) → Each IsEvent es → Legal setting (entries es)

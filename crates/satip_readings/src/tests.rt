@@ -3,7 +3,7 @@ ghost use Rattle.std.specs.Prelude.{◌≡◌, List, [], ◌∷◌, true, false}
 ghost use Rattle.satip_query.specs.Queries.{new_query};
 ghost use Rattle.satip_plain.specs.declared.events.Event.TheVariants.{Tick};
 ghost use Rattle.satip_plain.specs.Examples.{added_pids, id_of, join_of, packet, packet_on, play, play_in, play_of_two, setup, setup_with, teardown_in, to_second, to_unknown, with_change};
-ghost use Rattle.satip_readings.specs.Rows.{given_pids, ends_session, asks_as_owner, is_about, finds_none};
+ghost use Rattle.satip_readings.specs.Rows.{RunsAreLegal, given_pids, ends_session, asks_as_owner, is_about, finds_none};
 
 // A session is given what it selects while it plays, of its stream's tuning alone.
 #[tactic(auto, unfolding(satip_fronts::specs::Choice::choose, satip_fronts::specs::Choice::blocked, satip_fronts::specs::Choice::least, satip_fronts::specs::Choice::placed, satip_fronts::specs::Choice::may_take))]
@@ -41,4 +41,9 @@ fn third_tuning_is_blocked()
     ensures founds { is_about (setup ∷ []) (setup_with (with_change to_second)) ≡ id_of 2 10 }
     ensures joins { is_about (setup ∷ []) (join_of 1) ≡ id_of 1 10 }
     ensures of_session { is_about (setup ∷ []) play ≡ id_of 1 10 }
+{}
+
+// The entries of a run are a legal history, so the laws speak of each of these.
+fn runs_are_legal()
+    ensures law { RunsAreLegal }
 {}

@@ -1,0 +1,76 @@
+-- Worked histories of the small server of satip_plain, told in short.
+use Rattle.std.specs.Prelude.{ℕ, Bool, List, map}
+use Rattle.satip_ts.specs.Packet.{pid_of}
+use Rattle.satip_plain.specs.declared.events.Event.{Event}
+use Rattle.satip_plain.specs.declared.setting.Setting.{Setting}
+use Rattle.satip_plain.specs.Types.{SessionId}
+use Rattle.satip_plain.specs.Histories.{Item, after}
+use Rattle.satip_plain.specs.Packets.{payload}
+use Rattle.satip_plain.specs.Numbering.{numbers_for}
+use Rattle.satip_plain.specs.Examples.{config, entry_of, run}
+use Rattle.satip_readings.specs.Given.{given}
+use Rattle.satip_laws.specs.Makings.{made}
+use Rattle.satip_laws.specs.Payload.{held_of}
+use Rattle.satip_laws.specs.Pulls.{taken}
+use Rattle.satip_laws.specs.Flushes.{retunes}
+use Rattle.satip_laws.specs.Numbers.{sent_in, shares_ssrc}
+use Rattle.satip_laws.specs.Recorded.{current}
+use Rattle.satip_laws.specs.ReadRecording.{fresh_packets}
+
+abbrev pub setting : Setting
+setting = record { config = config; start = 0 }
+
+-- the history that these events make
+abbrev pub history : List Event → List Item
+history es = map entry_of (run es)
+
+abbrev pub pids : List (List ℕ) → List ℕ
+pids packets = map pid_of packets
+
+-- the PIDs of what a session is given, of its payload, of what it holds and of what its pulls took
+pub record Flow : Type 0 where
+  pub given : List ℕ
+  pub sent : List ℕ
+  pub held : List ℕ
+  pub taken : List ℕ
+
+abbrev pub flow : List ℕ → List ℕ → List ℕ → List ℕ → Flow
+flow given sent held taken = record { given = given; sent = sent; held = held; taken = taken }
+
+abbrev pub flow_of : List Event → SessionId → Flow
+flow_of es s = record {
+  given = pids (given setting (history es) s);
+  sent = pids (payload setting (history es) s);
+  held = pids (held_of (after setting (history es)) s);
+  taken = pids (taken setting (history es) s);
+}
+
+-- a session as it is made, in short
+pub record Newcomer : Type 0 where
+  pub count : ℕ
+  pub http : Bool
+  pub stream : ℕ
+  pub first : ℕ
+
+abbrev pub newcomer : ℕ → Bool → ℕ → ℕ → Newcomer
+newcomer count http stream first = record { count = count; http = http; stream = stream; first = first }
+
+abbrev pub newcomers : List Event → List Newcomer
+newcomers es = map (λ x. newcomer x.id.count x.http x.stream x.first) (made setting (history es))
+
+-- whether one more event retunes the stream of this number, by the state and by what is read of the first session
+abbrev pub retunes_next : List Event → Event → ℕ → Bool
+retunes_next es e number = retunes config (after setting (history es)) e number
+
+abbrev pub numbers_of : List Event → SessionId → List ℕ
+numbers_of es s = numbers_for s (sent_in setting (history es))
+
+abbrev pub shared_by : List Event → SessionId → ℕ → Bool
+shared_by es s ssrc = shares_ssrc setting (history es) s ssrc
+
+-- the PIDs of the packets of a front end and a tuning number that weren't stale, by the state and as read
+abbrev pub current_pids : List Event → ℕ → ℕ → List ℕ
+current_pids es front tune = pids (current setting (history es) front tune)
+
+abbrev pub fresh_pids : List Event → ℕ → ℕ → List ℕ
+fresh_pids es front tune = pids (fresh_packets setting (history es) front tune)

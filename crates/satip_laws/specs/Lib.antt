@@ -1,0 +1,10 @@
+pub mod Makings
+pub mod Pulls
+pub mod Payload
+pub mod Numbers
+pub mod Flushes
+pub mod Pumping
+pub mod Recorded
+pub mod OverReadings
+pub mod ReadRecording
+pub mod Examples

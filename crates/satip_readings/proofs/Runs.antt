@@ -1,0 +1,36 @@
+-- The entries of a run are a legal history.
+use Rattle.std.proofs.Common.{arith, List, [], ◌∷◌, map, refl}
+use Rattle.satip_history.specs.Lists.{Each}
+use Rattle.satip_plain.specs.declared.events.Event.{Event}
+use Rattle.satip_plain.specs.State.{State}
+use Rattle.satip_plain.specs.Steps.{step}
+use Rattle.satip_plain.specs.Values.{IsEvent, IsServable, IsSetting}
+use Rattle.satip_plain.specs.Histories.{LegalFrom, opening}
+use Rattle.satip_plain.specs.Examples.{config, run_from, entry_of}
+use Rattle.satip_readings.specs.Rows.{setting, RunsAreLegal}
+
+legal_from : (es : List Event) (st : State) → LegalFrom config st (map entry_of (run_from st es))
+legal_from [] st = tt
+legal_from (e ∷ es) st = (record { answer = refl; reply = refl; datagrams = refl }, legal_from es (step config st e).state)
+
+events_from : (es : List Event) (st : State) → Each IsEvent es → Each (λ e. IsEvent e.event) (map entry_of (run_from st es))
+events_from [] st each = tt
+events_from (e ∷ es) st each = (each.0, events_from es (step config st e).state each.1)
+
+is_servable : IsServable config
+is_servable = record { numbered = refl; few = omega arith; muxes = omega arith }
+
+is_setting : IsSetting setting
+is_setting = record {
+  start = omega arith;
+  address = omega arith;
+  rtsp_port = omega arith;
+  http_port = omega arith;
+  timeout = omega arith;
+  workers = omega arith;
+  fronts = (record { number = omega arith; sources = refl; systems = refl }, (record { number = omega arith; sources = refl; systems = refl }, tt));
+  muxes = (record { src = omega arith; freq = omega arith; sr = omega arith }, (record { src = omega arith; freq = omega arith; sr = omega arith }, tt));
+}
+
+pub runs_are_legal : RunsAreLegal
+runs_are_legal es each = record { servable = is_servable; setting = is_setting; events = events_from es (opening setting) each; entries = legal_from es (opening setting) }

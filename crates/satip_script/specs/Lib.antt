@@ -1,0 +1,10 @@
+pub mod Lines
+pub mod Parts
+pub mod Forms
+pub mod Texts
+pub mod Reading
+pub mod Scripts
+pub mod Runs
+pub mod Printed
+pub mod Inner
+pub mod Laws

@@ -1,0 +1,34 @@
+-- What a text of bytes says to a server, where it has to say one thing and nothing more.
+use Rattle.std.specs.Prelude.{ℕ, List, []}
+use Rattle.satip_frame.specs.declared.framing.Break.{Break}
+use Rattle.satip_frame.specs.Said.{Said}
+use Rattle.satip_frame.specs.Stream.{Broken, Begins, Messages}
+use Rattle.satip_rtsp.specs.declared.requests.Request.{Request}
+use Rattle.satip_rtsp.specs.Asked.{asked, broken}
+use Rattle.satip_http.specs.declared.requests.HttpRequest.{HttpRequest}
+use Rattle.satip_http.specs.Gets.{asked as asked_over_http, broken as broken_over_http}
+
+-- one whole message, or what is none
+pub data Told : Type 0 where
+  Whole : Said → Told
+  NotWhole : Break → Told
+
+-- the text is this message, with nothing before it and nothing behind it; or it is broken at its first message, of any
+-- length, where CR and LF may stand before
+abbrev pub Tells : List ℕ → Told → Type 0
+Tells text (Whole m) = Begins text m []
+Tells text (NotWhole cause) = Messages text [] (Broken cause)
+
+-- the text says neither
+abbrev pub TellsNothing : List ℕ → Type 0
+TellsNothing text = (told : Told) → Tells text told → ⊥
+
+-- the request that is told
+abbrev pub request_of : Told → Request
+request_of (Whole m) = asked m
+request_of (NotWhole cause) = broken cause
+
+-- the request that is told over HTTP
+abbrev pub get_of : Told → HttpRequest
+get_of (Whole m) = asked_over_http m
+get_of (NotWhole cause) = broken_over_http cause

@@ -1,0 +1,17 @@
+//! Event scripts: the lines of a text as events of the server, and the printed run.
+#![tactic(auto)]
+
+mod events;
+mod laws;
+mod lines;
+mod messages;
+mod printing;
+mod scripts;
+#[cfg(test)]
+mod tests;
+mod words;
+
+pub use laws::{one_line, one_run, one_script, run_grows};
+pub use lines::{Line, read_line};
+pub use printing::print_entry;
+pub use scripts::{Script, check_script};

@@ -1,0 +1,89 @@
+//! A whole script: checked first, and then read again, event by event.
+ghost use Rattle.std.specs.Prelude.{◌≡◌, ℕ, ◌∷◌, ◌<◌, [], List, length, Ok, Err, IsNone, IsSome, IfNone, IfSome, MatchOption};
+ghost use Rattle.satip_plain.specs.declared.events.Event.{Event as EventValue};
+ghost use Rattle.satip_script.specs.Lines.{lines_of};
+ghost use Rattle.satip_script.specs.Scripts.{IsScript, Gives, IsOver, HasNext, GivenAfter};
+
+use crate::lines::{Line, read_line};
+use satip_frame::Framer;
+use satip_plain::Event;
+use satip_tune::cut;
+use std::marker::Model;
+
+/// The number of the first wrong line of a script, from 1; None where each line is right.
+pub fn check_script(text: &[u8], framer: &mut Framer) -> Option<u64>
+    ensures right { IfNone result ((events : List EventValue) × IsScript text.now (Ok events)) }
+    ensures wrong { IfSome result (λ number. IsScript text.now (Err number)) }
+{
+    let mut script = Script::of(text);
+    let mut number = 1;
+    'lines: while let Some(line) = script.next_line() {
+        match read_line(line, framer) {
+            Line::Skip => {}
+            Line::Event(_) => {}
+            Line::Wrong => return Some(number),
+        }
+        number += 1;
+    }
+    None
+}
+
+/// The lines of a script that were not read yet.
+#[derive(Drop)]
+pub struct Script<'a> {
+    rest: Option<&'a [u8]>,
+}
+
+impl<'a> Model for Script<'a> {
+    ghost use Rattle.std.specs.Prelude.{List, ℕ};
+    ghost use Rattle.satip_tune.specs.Pieces.{pieces_left};
+
+    ghost Value = { List (List ℕ) };
+
+    ghost view = { λ s. pieces_left 10 s.rest };
+}
+
+impl<'a> Script<'a> {
+    /// All lines of a text.
+    pub fn of(text: &'a [u8]) -> Script<'a>
+        ensures lines { result ≡ lines_of text.now }
+    {
+        Script { rest: Some(text) }
+    }
+
+    fn next_line(&mut self) -> Option<&'a [u8]>
+        ensures line { MatchOption result ((self.old ≡ []) × (self.new ≡ [])) (λ line. self.old ≡ line.now ∷ self.new) }
+    {
+        let Some(rest) = self.rest else {
+            return None;
+        };
+        let (line, more) = cut(rest, b'\n');
+        self.rest = more;
+        Some(line)
+    }
+
+    /// The next event. None at the end, and at a wrong line, behind which nothing more is read. The
+    /// framer's bytes are lost.
+    pub fn next(&mut self, framer: &mut Framer) -> Option<Event>
+        ensures over { IfNone result (IsOver self.old) }
+        ensures next { IfSome result (λ event. HasNext self.old event self.new) }
+
+        // Where no line is wrong, the events are those of the lines, in their order.
+        ensures given { (events : List EventValue) → Gives self.old events → GivenAfter events self.new result }
+
+        ensures shorter { IsSome result → length self.new < length self.old }
+        ensures ended { IsNone result → self.new ≡ [] }
+    {
+        'lines: while let Some(line) = self.next_line() {
+            match read_line(line, framer) {
+                Line::Skip => {}
+                Line::Event(event) => return Some(event),
+                Line::Wrong => {
+                    self.rest = None;
+                    return None;
+                }
+            }
+        }
+        None
+    }
+}

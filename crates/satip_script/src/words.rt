@@ -1,0 +1,141 @@
+//! The words of a line, and what single words write.
+ghost use Rattle.std.specs.Prelude.{◌≡◌, IsOk, None, option_map};
+ghost use Rattle.std.specs.Option.{option_copied};
+ghost use Rattle.std.specs.Bool.{OnTrue, OnFalse};
+ghost use Rattle.std.specs.Char.{is_ascii_hexdigit};
+ghost use Rattle.std.specs.List.{list_all};
+ghost use Rattle.hex.specs.Hex.{decode_of};
+ghost use Rattle.satip_tune.specs.Pieces.{pieces_left};
+ghost use Rattle.satip_script.specs.Lines.{one_word as only_word, two_words as only_two, three_words as only_three};
+ghost use Rattle.std.specs.Int.{from_be_bytes, w16, w32};
+ghost use Rattle.satip_script.specs.Parts.{bytes_of, draw_of, packet_of, sized_bytes};
+ghost use Rattle.satip_script.specs.Inner.{pair_now, triple_now};
+
+use satip_base::Draw;
+use satip_ts::Packet;
+use satip_tune::cut;
+
+const SPACE: u8 = b' ';
+
+/// The only word of what is left of a line.
+#[tactic(auto, using(crate::proofs::WordLemmas::word_counts), unfolding(crate::specs::Lines::one_word))]
+pub(crate) fn one_word<'a>(rest: Option<&'a [u8]>) -> Option<&'a [u8]>
+    ensures word { option_copied result ≡ only_word (pieces_left 32 rest.entry) }
+{
+    let Some(rest) = rest else {
+        return None;
+    };
+    let (first, None) = cut(rest, SPACE) else {
+        return None;
+    };
+    Some(first)
+}
+
+/// The only two words of what is left of a line.
+#[tactic(auto, using(crate::proofs::WordLemmas::word_counts), unfolding(crate::specs::Lines::two_words))]
+pub(crate) fn two_words<'a>(rest: Option<&'a [u8]>) -> Option<(&'a [u8], &'a [u8])>
+    ensures words { pair_now result ≡ only_two (pieces_left 32 rest.entry) }
+{
+    let Some(rest) = rest else {
+        return None;
+    };
+    let (first, Some(rest)) = cut(rest, SPACE) else {
+        return None;
+    };
+    let (second, None) = cut(rest, SPACE) else {
+        return None;
+    };
+    Some((first, second))
+}
+
+/// The only three words of what is left of a line.
+#[tactic(auto, using(crate::proofs::WordLemmas::word_counts), unfolding(crate::specs::Lines::three_words))]
+pub(crate) fn three_words<'a>(rest: Option<&'a [u8]>) -> Option<(&'a [u8], &'a [u8], &'a [u8])>
+    ensures words { triple_now result ≡ only_three (pieces_left 32 rest.entry) }
+{
+    let Some(rest) = rest else {
+        return None;
+    };
+    let (first, Some(rest)) = cut(rest, SPACE) else {
+        return None;
+    };
+    let (second, Some(rest)) = cut(rest, SPACE) else {
+        return None;
+    };
+    let (third, None) = cut(rest, SPACE) else {
+        return None;
+    };
+    Some((first, second, third))
+}
+
+/// Whether a text is an even number of hexadecimal digits, of either case.
+#[tactic(auto, using(crate::proofs::HexDigits::digit_tests))]
+pub(crate) fn are_digits(text: &[u8]) -> bool
+    ensures yes { OnTrue result (IsOk (decode_of text.now)) }
+    ensures no { OnFalse result (bytes_of text.now ≡ None) }
+{
+    if text.len() % 2 != 0 {
+        return false;
+    }
+    are_all_digits(text)
+}
+
+fn are_all_digits(text: &[u8]) -> bool
+    ensures test { result ≡ list_all is_ascii_hexdigit text.now }
+{
+    text.iter().all(|byte| byte.is_ascii_hexdigit())
+}
+
+/// A draw of 20 digits: 8 of its word, 8 of its SSRC, 4 of its first number.
+#[tactic(auto, unfolding(crate::specs::Parts::draw_of))]
+pub(crate) fn read_draw(digits: &[u8]) -> Option<Draw>
+    ensures draw { result ≡ draw_of digits.now }
+{
+    if digits.len() != 20 {
+        return None;
+    }
+    let (word, rest) = digits.split_at(8);
+    let (ssrc, first) = rest.split_at(8);
+    let Some(word) = read_u32(word) else {
+        return None;
+    };
+    let Some(ssrc) = read_u32(ssrc) else {
+        return None;
+    };
+    let Some(first) = read_u16(first) else {
+        return None;
+    };
+    Some(Draw { word, ssrc, first })
+}
+
+fn read_u32(digits: &[u8]) -> Option<u32>
+    ensures value { result ≡ option_map (from_be_bytes w32) (sized_bytes 4 digits.now) }
+{
+    let mut bytes = [0u8; 4];
+    match hex::decode_to_slice(digits, &mut bytes) {
+        Ok(()) => Some(u32::from_be_bytes(bytes)),
+        Err(_) => None,
+    }
+}
+
+fn read_u16(digits: &[u8]) -> Option<u16>
+    ensures value { result ≡ option_map (from_be_bytes w16) (sized_bytes 2 digits.now) }
+{
+    let mut bytes = [0u8; 2];
+    match hex::decode_to_slice(digits, &mut bytes) {
+        Ok(()) => Some(u16::from_be_bytes(bytes)),
+        Err(_) => None,
+    }
+}
+
+/// The packet of 376 digits, of which the first two are 47.
+#[tactic(auto, unfolding(crate::specs::Parts::packet_of))]
+pub(crate) fn read_packet(digits: &[u8]) -> Option<Packet>
+    ensures packet { result ≡ packet_of digits.now }
+{
+    let mut bytes = [0u8; 188];
+    match hex::decode_to_slice(digits, &mut bytes) {
+        Ok(()) => Packet::of(&bytes),
+        Err(_) => None,
+    }
+}
