@@ -1,19 +1,19 @@
-mod Ids
-mod Told
-mod Evolving
-mod Rounds
-mod Turns
-mod Single
-mod Moves
-mod Delivery
-mod Events
-mod Over
-mod PayloadLaws
-mod Flushing
-mod Fronts
-mod FrontEvents
-mod Recording
-mod Making
-mod Asked
-mod ReadLaws
-mod ReadRecording
+pub mod Ids
+pub mod Told
+pub mod Evolving
+pub mod Rounds
+pub mod Turns
+pub mod Single
+pub mod Moves
+pub mod Delivery
+pub mod Events
+pub mod Over
+pub mod PayloadLaws
+pub mod Flushing
+pub mod Fronts
+pub mod FrontEvents
+pub mod Recording
+pub mod Making
+pub mod Asked
+pub mod ReadLaws
+pub mod ReadRecording

@@ -1,5 +1,6 @@
 -- Worked histories of the small server of satip_plain, told in short.
-use Rattle.std.specs.Prelude.{ℕ, Bool, List, map}
+use Rattle.std.specs.Prelude.{ℕ, Bool, false, List, [], ◌∷◌, ◌++◌, map, Option, Some, None}
+use Rattle.std.specs.Option.{option_map_or}
 use Rattle.satip_ts.specs.Packet.{pid_of}
 use Rattle.satip_plain.specs.declared.events.Event.{Event}
 use Rattle.satip_plain.specs.declared.setting.Setting.{Setting}
@@ -14,6 +15,8 @@ use Rattle.satip_laws.specs.Payload.{held_of}
 use Rattle.satip_laws.specs.Pulls.{taken}
 use Rattle.satip_laws.specs.Flushes.{retunes}
 use Rattle.satip_laws.specs.Numbers.{sent_in, shares_ssrc}
+use Rattle.satip_laws.specs.OverReadings.{gives_tuning}
+use Rattle.satip_plain.specs.Readings.{readings}
 use Rattle.satip_laws.specs.Recorded.{current}
 use Rattle.satip_laws.specs.ReadRecording.{fresh_packets}
 
@@ -58,9 +61,18 @@ newcomer count http stream first = record { count = count; http = http; stream =
 abbrev pub newcomers : List Event → List Newcomer
 newcomers es = map (λ x. newcomer x.id.count x.http x.stream x.first) (made setting (history es))
 
--- whether one more event retunes the stream of this number, by the state and by what is read of the first session
+-- whether one more event retunes the stream of this number
 abbrev pub retunes_next : List Event → Event → ℕ → Bool
 retunes_next es e number = retunes config (after setting (history es)) e number
+
+abbrev pub last_item : List Item → Option Item
+last_item [] = None
+last_item (e ∷ []) = Some e
+last_item (e ∷ f ∷ es) = last_item (f ∷ es)
+
+-- whether one more event gives the stream of this home another tuning, as read
+abbrev pub gives_next : List Event → Event → SessionId → Bool
+gives_next es e home = option_map_or (λ i. gives_tuning (readings setting (history es)) i home) (last_item (history (es ++ e ∷ []))) false
 
 abbrev pub numbers_of : List Event → SessionId → List ℕ
 numbers_of es s = numbers_for s (sent_in setting (history es))

@@ -3,7 +3,7 @@ ghost use Rattle.std.specs.Prelude.{◌≡◌, List, [], ◌∷◌, ◌++◌, So
 ghost use Rattle.satip_query.specs.Queries.{new_query};
 ghost use Rattle.satip_plain.specs.declared.events.Event.TheVariants.{Tick, Ask, Pull, Close};
 ghost use Rattle.satip_plain.specs.Examples.{added_pids, first_query, get_second, id_of, join_of, packet, packet_on, packets, play, play_in, play_of_two, setup, setup_with, teardown_in, to_second, two_setup, with_change};
-ghost use Rattle.satip_laws.specs.Examples.{current_pids, flow, flow_of, fresh_pids, newcomer, newcomers, numbers_of, retunes_next, shared_by};
+ghost use Rattle.satip_laws.specs.Examples.{current_pids, flow, flow_of, fresh_pids, gives_next, newcomer, newcomers, numbers_of, retunes_next, shared_by};
 
 // A packet counts once its PID was added; it is held until the tick.
 #[tactic(auto, unfolding(satip_fronts::specs::Choice::choose, satip_fronts::specs::Choice::blocked, satip_fronts::specs::Choice::least, satip_fronts::specs::Choice::placed, satip_fronts::specs::Choice::may_take))]
@@ -57,6 +57,9 @@ fn retunings_are_told()
     ensures joined { retunes_next (setup ∷ play ∷ join_of 1 ∷ []) (play_of_two 1 (with_change to_second)) 1 ≡ false }
     ensures founded { retunes_next [] setup 1 ≡ true }
     ensures untuned { retunes_next [] (setup_with new_query) 1 ≡ false }
+    ensures read { gives_next (setup ∷ play ∷ []) (play_in (id_of 1 10) 1 (with_change to_second)) (id_of 1 10) ≡ true }
+    ensures read_founded { gives_next (setup ∷ []) two_setup (id_of 2 11) ≡ true }
+    ensures read_joined { gives_next (setup ∷ play ∷ join_of 1 ∷ []) (play_of_two 1 (with_change to_second)) (id_of 1 10) ≡ false }
 {}
 
 // Numbers go on from the draw's, and wrap after 65535; two draws have two SSRCs.
