@@ -74,7 +74,6 @@ impl Flow {
     )
         requires slot { place.slot < 64 }
         requires free { list_any (has_slot place.slot) self.old ≡ false }
-        requires count { list_any (λ s. s.place.count == place.count) self.old ≡ false }
         requires front { IsFrontOrNone front }
         ensures added { self.new
             ≡ put (subscription place front pids.now (ToAddress to (packing ssrc first))) self.old }
@@ -87,7 +86,6 @@ impl Flow {
     pub fn add_http(&mut self, place: Place, front: Option<u16>, pids: &PidSet)
         requires slot { place.slot < 64 }
         requires free { list_any (has_slot place.slot) self.old ≡ false }
-        requires count { list_any (λ s. s.place.count == place.count) self.old ≡ false }
         requires front { IsFrontOrNone front }
         ensures added { self.new ≡ put (subscription place front pids.now (ToQueue [])) self.old }
     {
