@@ -16,7 +16,7 @@ use Rattle.satip_plain.specs.Types.{Config}
 use Rattle.satip_plain.specs.State.{State, Stream, Row, is_at, row_of, served_by}
 use Rattle.satip_plain.specs.Steps.{step, is_current, work, work_of_row}
 use Rattle.satip_plain.specs.Histories.{Item, LegalFrom, opening, after_from, untuned}
-use Rattle.satip_laws.specs.Pumping.{Reel, Due, Asking, Feeding, Finished, fresh, tuned, after_work, work_told, moved, rest_of, after_entry, IsFirst, IsDue, Pumps}
+use Rattle.satip_laws.specs.Pumping.{Reel, Due, Asking, Feeding, Finished, fresh, tuned, after_work, work_told, moved, none_of, rest_of, after_entry, IsFirst, IsDue, Pumps}
 use Rattle.satip_laws.specs.Recorded.{current_in, current_from, is_packet_on, PacketsAreOf, BeginsTold, AreTunedTo, IsRecorded, PacketsAreRecorded}
 use Rattle.satip_laws.proofs.Fronts.{serves, tune_of, mux_at, IsMatched, AreFronts, Keeps, Anew, Shifts}
 use Rattle.satip_laws.proofs.FrontEvents.{event_shifts}
@@ -241,6 +241,11 @@ begins_empty : (xs : List (List ℕ)) → BeginsTold xs (Some []) → xs ≡ []
 begins_empty [] b = refl
 begins_empty (x ∷ xs) b = let whole : [] ≡ (x ∷ xs) ++ b.rest = b.whole in cc
 
+-- after the end of a recording there are no packets
+begins_ended : (xs : List (List ℕ)) (left : Option (List (List ℕ))) → BeginsTold xs (none_of left) → BeginsTold xs left
+begins_ended xs None b = tt
+begins_ended xs (Some all) b = begins_none xs (Some all) (begins_empty xs b)
+
 -- one packet more
 begins_more : (packet : List ℕ) (xs : List (List ℕ)) (left : Option (List (List ℕ))) → IsFirst packet left → BeginsTold xs (option_map rest_of left) → BeginsTold (packet ∷ xs) left
 begins_more packet xs None first b = tt
@@ -396,8 +401,8 @@ with_event c st f u m recording (Feeding reel) event more (inr ended) off begins
     none : current_in st event f u ≡ []
     none = rw ended refl
 
-    by : (b : Bool) → (reel.tune == u) ≡ b → BeginsTold more (if b then Some [] else told_all recording m) → BeginsTold (current_in st event f u ++ more) (if b then reel.left else told_all recording m)
-    by true e begins = begins_none _ reel.left (ap (λ l. l ++ more) none ∙ begins_empty more begins)
+    by : (b : Bool) → (reel.tune == u) ≡ b → BeginsTold more (if b then none_of reel.left else told_all recording m) → BeginsTold (current_in st event f u ++ more) (if b then reel.left else told_all recording m)
+    by true e begins = rw none (begins_ended more reel.left begins)
     by false e begins = rw none begins
 with_event c st f u m recording (Feeding reel) event more (inl fed) off begins = by (reel.tune == u) refl (is_current st f u) refl (rw fed.1 at begins)
   where

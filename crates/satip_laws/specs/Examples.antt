@@ -8,7 +8,9 @@ use Rattle.satip_plain.specs.Types.{SessionId}
 use Rattle.satip_plain.specs.Histories.{Item, after}
 use Rattle.satip_plain.specs.Packets.{payload}
 use Rattle.satip_plain.specs.Numbering.{numbers_for}
-use Rattle.satip_plain.specs.Examples.{config, entry_of, run}
+use Rattle.satip_plain.specs.declared.answers.Answer.TheVariants.{Work as WorkIs}
+use Rattle.satip_plain.specs.declared.answers.Work.{Work}
+use Rattle.satip_plain.specs.Examples.{config, entry_of, packet_of, run}
 use Rattle.satip_readings.specs.Given.{given}
 use Rattle.satip_laws.specs.Makings.{made}
 use Rattle.satip_laws.specs.Payload.{held_of}
@@ -17,6 +19,7 @@ use Rattle.satip_laws.specs.Flushes.{retunes}
 use Rattle.satip_laws.specs.Numbers.{sent_in, shares_ssrc}
 use Rattle.satip_laws.specs.OverReadings.{gives_tuning}
 use Rattle.satip_plain.specs.Readings.{readings}
+use Rattle.satip_laws.specs.Pumping.{Reel, Due, after_entry}
 use Rattle.satip_laws.specs.Recorded.{current}
 use Rattle.satip_laws.specs.ReadRecording.{fresh_packets}
 
@@ -86,3 +89,14 @@ current_pids es front tune = pids (current setting (history es) front tune)
 
 abbrev pub fresh_pids : List Event → ℕ → ℕ → List ℕ
 fresh_pids es front tune = pids (fresh_packets setting (history es) front tune)
+
+-- a reel of packets of these PIDs, and recordings that nobody tells
+abbrev pub reel : ℕ → List ℕ → Reel
+reel tune left = record { tune = tune; left = Some (map packet_of left) }
+
+abbrev pub untold : ℕ → Option (List ℕ)
+untold mux = None
+
+-- what is due after an entry with this event and this work in its answer
+abbrev pub due_after : Due → Event → Work → Due
+due_after due event work = after_entry untold due (record { caller = 2; event = event; answer = WorkIs work; out = record { reply = []; datagrams = []; reply_spare = 0; datagram_spare = 0; count_spare = 0 } })

@@ -45,10 +45,15 @@ abbrev pub rest_of : List (List ℕ) → List (List ℕ)
 rest_of [] = []
 rest_of (packet ∷ packets) = packets
 
+-- no packet, where they are told
+abbrev pub none_of : Option (List (List ℕ)) → Option (List (List ℕ))
+none_of None = None
+none_of (Some packets) = Some []
+
 -- what is left of a recording after an event: one packet less, or none after its end
 abbrev pub moved : Event → Reel → Reel
 moved (Packet front tune packet) reel = record reel { left = option_map rest_of reel.left }
-moved (Ended front tune) reel = record reel { left = Some [] }
+moved (Ended front tune) reel = record reel { left = none_of reel.left }
 moved _ reel = reel
 
 abbrev pub after_entry : (ℕ → Option (List ℕ)) → Due → Item → Due

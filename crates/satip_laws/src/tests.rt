@@ -1,9 +1,11 @@
 //! Worked histories, each computed from the definitions.
-ghost use Rattle.std.specs.Prelude.{◌≡◌, List, [], ◌∷◌, ◌++◌, Some, true, false};
+ghost use Rattle.std.specs.Prelude.{◌≡◌, List, [], ◌∷◌, ◌++◌, Some, None, true, false};
 ghost use Rattle.satip_query.specs.Queries.{new_query};
-ghost use Rattle.satip_plain.specs.declared.events.Event.TheVariants.{Tick, Ask, Pull, Close};
+ghost use Rattle.satip_plain.specs.declared.events.Event.TheVariants.{Tick, Ask, Ended, Pull, Close};
+ghost use Rattle.satip_plain.specs.declared.answers.Work.TheVariants.{Tune, Nothing, Stopping};
 ghost use Rattle.satip_plain.specs.Examples.{added_pids, first_query, get_second, id_of, join_of, packet, packet_on, packets, play, play_in, play_of_two, setup, setup_with, teardown_in, to_second, two_setup, with_change};
-ghost use Rattle.satip_laws.specs.Examples.{current_pids, flow, flow_of, fresh_pids, gives_next, newcomer, newcomers, numbers_of, retunes_next, shared_by};
+ghost use Rattle.satip_laws.specs.Examples.{current_pids, due_after, flow, flow_of, fresh_pids, gives_next, newcomer, newcomers, numbers_of, reel, retunes_next, shared_by, untold};
+ghost use Rattle.satip_laws.specs.Pumping.{Asking, Feeding, Finished, fresh};
 
 // A packet counts once its PID was added; it is held until the tick.
 #[tactic(auto, unfolding(satip_fronts::specs::Choice::choose, satip_fronts::specs::Choice::blocked, satip_fronts::specs::Choice::least, satip_fronts::specs::Choice::placed, satip_fronts::specs::Choice::may_take))]
@@ -77,4 +79,13 @@ fn stale_packets_are_left_out()
     ensures second { current_pids (packet 15 ∷ setup ∷ packet 16 ∷ play_in (id_of 1 10) 1 (with_change to_second) ∷ packet 17 ∷ packet_on 1 2 18 ∷ []) 1 2 ≡ 18 ∷ [] }
     ensures read { fresh_pids (packet 15 ∷ setup ∷ packet 16 ∷ play_in (id_of 1 10) 1 (with_change to_second) ∷ packet 17 ∷ packet_on 1 2 18 ∷ []) 1 2 ≡ 18 ∷ [] }
     ensures ended { current_pids (setup ∷ packet 16 ∷ teardown_in (id_of 1 10) 1 ∷ packet 17 ∷ []) 1 1 ≡ 16 ∷ [] }
+{}
+
+// A pump goes on with its recording while the tuning number stays, and begins another with the next.
+fn pump_follows_the_tuning_number()
+    ensures goes_on { due_after (Feeding (reel 1 (16 ∷ 17 ∷ []))) (packet 16) (Tune 1 1) ≡ Feeding (reel 1 (17 ∷ [])) }
+    ensures begins { due_after (Feeding (reel 1 (16 ∷ 17 ∷ []))) (packet 16) (Tune 2 2) ≡ Feeding (fresh untold 2 2) }
+    ensures exhausted { due_after (Feeding (reel 1 (16 ∷ []))) (Ended 1 1) Nothing ≡ Asking (Some (reel 1 [])) }
+    ensures asks { due_after (Asking None) (Ask 1) Nothing ≡ Asking None }
+    ensures stops { due_after (Asking None) (Ask 1) Stopping ≡ Finished }
 {}

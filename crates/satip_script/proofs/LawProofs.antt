@@ -1,10 +1,9 @@
 -- The laws on lines, scripts and runs.
-use Rattle.std.proofs.Common.{◌≡◌, ℕ, ◌+◌, Bool, true, false, ◌⊎◌, List, [], ◌∷◌, ◌++◌, append-nil, map, Option, Some, None, Result, Ok, Err, refl, sym, ap, ◌∙◌, subst, inl, inr, ⊎_elim}
+use Rattle.std.proofs.Common.{◌≡◌, ℕ, ◌+◌, Bool, true, false, ◌⊎◌, List, [], ◌∷◌, ◌++◌, append-nil, map, Option, Some, None, Result, Ok, Err, refl, sym, ap, ◌∙◌, subst, inl, inr}
 use Rattle.std.specs.Prelude.{MatchBool}
 use Rattle.std.proofs.lemmas.List.Concat.{flat_map-append}
 use Rattle.satip_base.specs.Output.{Output}
 use Rattle.satip_history.specs.Lists.{Each}
-use Rattle.satip_history.specs.declared.entry.Entry.{Entry}
 use Rattle.satip_plain.specs.declared.events.Event.{Event}
 use Rattle.satip_plain.specs.declared.answers.Answer.{Answer}
 use Rattle.satip_plain.specs.declared.setting.Setting.{Setting}
@@ -19,7 +18,7 @@ use Rattle.satip_script.specs.Lines.{lines_of, words_of, is_skipped}
 use Rattle.satip_script.specs.Forms.{Form, Rtsp, Http, Other, form_of}
 use Rattle.satip_script.specs.Texts.{Told, Tells, TellsNothing}
 use Rattle.satip_script.specs.Reading.{IsTold, IsFormed, IsLine, rtsp_event, http_event}
-use Rattle.satip_script.specs.Scripts.{with_event, ComesTo, IsScript, Gives, IsOver, HasNext, GivenAfter}
+use Rattle.satip_script.specs.Scripts.{with_event, ComesTo, IsScript}
 use Rattle.satip_script.specs.Runs.{output_with, item_of, run_from, run, IsRun}
 use Rattle.satip_script.specs.Printed.{entry_text, printed}
 use Rattle.satip_script.proofs.TextLemmas.{one_told, told_or_not}

@@ -1,10 +1,9 @@
 -- Lines that were read, one after another.
-use Rattle.std.proofs.Common.{◌≡◌, ℕ, ◌+◌, ◌≤◌, ◌<◌, ◌⊎◌, List, [], ◌∷◌, length, Option, None, Some, Result, Ok, Err, refl, sym, ap, ◌∙◌, subst, inl, inr, arith}
+use Rattle.std.proofs.Common.{◌≡◌, ℕ, ◌+◌, ◌≤◌, ◌<◌, List, [], ◌∷◌, length, Some, Result, Ok, Err, refl, sym, ap, ◌∙◌, subst, inl, inr, arith}
 use Rattle.std.proofs.lemmas.List.Splits.{length-slice_split}
 use Rattle.std.proofs.lemmas.List.Sums.{count_by-le-length}
 use Rattle.satip_tune.specs.Pieces.{is_byte}
 use Rattle.satip_plain.specs.declared.events.Event.{Event}
-use Rattle.satip_script.specs.declared.lines.Line.{Line}
 use Rattle.satip_script.specs.declared.lines.Line.TheVariants.{Skip, Event as EventLine, Wrong}
 use Rattle.satip_script.specs.Lines.{lines_of}
 use Rattle.satip_script.specs.Reading.{IsLine}

@@ -15,7 +15,7 @@ use Rattle.satip_frame.specs.declared.framing.Break.{Break}
 use Rattle.satip_frame.specs.Head.{HasNoEmptyLine, IsHeadEnd, IsGoodHead, ends_in_empty_line}
 use Rattle.satip_frame.specs.Said.{Said}
 use Rattle.satip_frame.specs.Held.{Held, new_framer}
-use Rattle.satip_frame.specs.Stream.{Tail, Unfinished, Broken, skip_newlines, HasHead, Begins, Ends, Messages, Leads}
+use Rattle.satip_frame.specs.Stream.{Tail, Unfinished, Broken, skip_newlines, Begins, Ends, Messages, Leads}
 use Rattle.satip_frame.proofs.StreamLemmas.{begins_unique, begins_and_ends, skip_newlines_again, skip_shorter, one_list, broken_stays, leads-append}
 use Rattle.satip_frame.proofs.FramerLemmas.{unfinished_short}
 use Rattle.satip_frame.proofs.ReadingLemmas.{reading_of}

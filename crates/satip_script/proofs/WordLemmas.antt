@@ -2,7 +2,6 @@
 use Rattle.std.proofs.Common.{◌≡◌, ℕ, ◌≢◌, Bool, List, [], ◌∷◌, length, None, refl, arith}
 use Rattle.std.specs.List.{slice_split}
 use Rattle.std.proofs.lemmas.List.Splits.{length-slice_split}
-use Rattle.satip_tune.specs.Pieces.{is_byte}
 use Rattle.satip_script.specs.Lines.{one_word, two_words, three_words}
 use Rattle.satip_script.specs.Forms.{stop_by}
 

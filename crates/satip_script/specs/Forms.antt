@@ -5,7 +5,7 @@ use Rattle.satip_base.specs.Numbers.{number_of, ip_of}
 use Rattle.satip_base.specs.Texts.{id_of}
 use Rattle.satip_plain.specs.declared.events.Event.{Event}
 use Rattle.satip_plain.specs.declared.events.Event.TheVariants.{Tick, Packet, Ended, Ask, Pull, Close, Stop}
-use Rattle.satip_plain.specs.Types.{Draw, Peer, SessionId}
+use Rattle.satip_plain.specs.Types.{Draw, Peer}
 use Rattle.satip_script.specs.Lines.{one_word, two_words, three_words}
 use Rattle.satip_script.specs.Parts.{greatest, bytes_of, draw_of, packet_of}
 

@@ -5,7 +5,6 @@ use Rattle.hex.specs.Hex.{decode_of}
 use Rattle.httparse.specs.Pieces.{is_newline}
 use Rattle.satip_base.specs.declared.outcomes.Want.{Want}
 use Rattle.satip_frame.specs.Held.{Held}
-use Rattle.satip_frame.specs.Said.{Said}
 use Rattle.satip_frame.specs.Stream.{Broken, Begins, Messages}
 use Rattle.satip_plain.specs.Types.{Draw, Peer}
 use Rattle.satip_script.specs.declared.messages.Look.{Look}

@@ -1,5 +1,5 @@
 //! One line of a script.
-ghost use Rattle.std.specs.Prelude.{◌≡◌, ◌↔◌, ◌∷◌, IsTrue, option_map};
+ghost use Rattle.std.specs.Prelude.{◌≡◌, option_map};
 ghost use Rattle.satip_tune.specs.Pieces.{pieces_left};
 ghost use Rattle.satip_script.specs.Lines.{is_skipped as is_skipped_text, three_words as only_three};
 ghost use Rattle.satip_script.specs.Forms.{Rtsp, Http, call_by, form_named};

@@ -2,7 +2,6 @@
 ghost use Rattle.std.specs.Prelude.{◌≡◌, ℕ, ◌+◌, ◌*◌, ◌≤◌, [], ◌++◌, List, length, None, true, IsOk, IsSome, IsSomeAnd, MatchOption};
 ghost use Rattle.hex.specs.Hex.{decode_of};
 ghost use Rattle.satip_frame.specs.Stream.{Unfinished, skip_newlines, Messages, Leads};
-ghost use Rattle.satip_frame.specs.Held.{capacity, new_framer};
 ghost use Rattle.satip_rtsp.specs.Asked.{asked};
 ghost use Rattle.satip_http.specs.Gets.{asked as asked_over_http};
 ghost use Rattle.satip_script.specs.Texts.{Told, Tells, TellsNothing, request_of, get_of};

@@ -1,9 +1,9 @@
 //! The printed run.
-ghost use Rattle.std.specs.Prelude.{◌≡◌, ℕ, ◌+◌, ◌≤◌, [], ◌++◌, List, length, OnOk, OnErr, codes, flat_map};
+ghost use Rattle.std.specs.Prelude.{◌≡◌, ◌≤◌, ◌++◌, length, OnOk, OnErr, flat_map};
 ghost use Rattle.hex.specs.Hex.{encode_lower};
 ghost use Rattle.satip_base.specs.Printed.{Printed};
-ghost use Rattle.satip_base.specs.Texts.{address_text, id_text};
-ghost use Rattle.satip_script.specs.Printed.{hex_line, plain_line, closing_text, replied_front, replied_line, get_front, get_line, beat_line, work_words, work_line, pulled_line, closed_line, answer_line, datagram_front, datagram_line, entry_text};
+ghost use Rattle.satip_base.specs.Texts.{address_text};
+ghost use Rattle.satip_script.specs.Printed.{hex_line, plain_line, replied_front, replied_line, get_front, get_line, beat_line, work_words, work_line, pulled_line, closed_line, answer_line, datagram_front, datagram_line, entry_text};
 ghost use Rattle.satip_script.specs.Inner.{Appended};
 
 use satip_base::{Address, Out, SessionId, Strip, Want};

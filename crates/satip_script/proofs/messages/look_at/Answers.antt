@@ -1,4 +1,4 @@
-use Rattle.std.proofs.Common.{◌≡◌, ℕ, ◌+◌, ◌-◌, ◌*◌, ◌/◌, ◌<◌, ◌≤◌, List, [], ◌++◌, length, take, drop, take-append-drop, Ok, refl, sym, subst, arith, length-take, length-drop}
+use Rattle.std.proofs.Common.{◌≡◌, ℕ, ◌*◌, ◌≤◌, List, [], length, take, drop, take-append-drop, refl, sym, subst, arith, length-drop}
 use Rattle.hex.specs.Hex.{decode_of}
 use Rattle.satip_frame.specs.declared.framing.Break.TheVariants.{Bad, TooLong}
 use Rattle.satip_frame.specs.Stream.{skip_newlines}

@@ -1,6 +1,6 @@
 use Rattle.std.proofs.Common.{refl}
 use Rattle.satip_http.specs.Gets.{asked}
-use Rattle.satip_script.specs.Texts.{Told, NotWhole, get_of}
+use Rattle.satip_script.specs.Texts.{NotWhole, get_of}
 use Rattle.satip_script.proofs.TextLemmas.{found_told}
 use Rattle.satip_script.proofs.messages.read_get.Goals as goal
 

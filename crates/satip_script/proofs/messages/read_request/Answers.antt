@@ -1,6 +1,6 @@
 use Rattle.std.proofs.Common.{refl}
 use Rattle.satip_rtsp.specs.Asked.{asked}
-use Rattle.satip_script.specs.Texts.{Told, NotWhole, request_of}
+use Rattle.satip_script.specs.Texts.{NotWhole, request_of}
 use Rattle.satip_script.proofs.TextLemmas.{found_told}
 use Rattle.satip_script.proofs.messages.read_request.Goals as goal
 

@@ -1,4 +1,4 @@
-use Rattle.std.proofs.Common.{ℕ, ◌≡◌, ◌≤◌, length, arith}
+use Rattle.std.proofs.Common.{arith}
 use Rattle.hex.specs.Hex.{decode_of}
 use Rattle.satip_frame.specs.Stream.{skip_newlines}
 use Rattle.satip_script.proofs.HexDigits.{length-digits, read_bytes, is_read}
