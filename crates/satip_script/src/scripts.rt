@@ -1,10 +1,12 @@
 //! A whole script: checked first, and then read again, event by event.
 ghost use Rattle.std.specs.Prelude.{◌≡◌, ℕ, ◌∷◌, ◌<◌, [], List, length, Ok, Err, IsNone, IsSome, IfNone, IfSome, MatchOption};
 ghost use Rattle.satip_plain.specs.declared.events.Event.{Event as EventValue};
+ghost use Rattle.satip_plain.specs.Values.{IsEvent};
 ghost use Rattle.satip_script.specs.Lines.{lines_of};
 ghost use Rattle.satip_script.specs.Scripts.{IsScript, Gives, IsOver, HasNext, GivenAfter};
 
 use crate::lines::{Line, read_line};
+use crate::values::known_event;
 use satip_frame::Framer;
 use satip_plain::Event;
 use satip_tune::cut;
@@ -71,13 +73,17 @@ impl<'a> Script<'a> {
         // Where no line is wrong, the events are those of the lines, in their order.
         ensures given { (events : List EventValue) → Gives self.old events → GivenAfter events self.new result }
 
+        ensures value { IfSome result IsEvent }
         ensures shorter { IsSome result → length self.new < length self.old }
         ensures ended { IsNone result → self.new ≡ [] }
     {
         'lines: while let Some(line) = self.next_line() {
             match read_line(line, framer) {
                 Line::Skip => {}
-                Line::Event(event) => return Some(event),
+                Line::Event(event) => {
+                    known_event(&event);
+                    return Some(event);
+                }
                 Line::Wrong => {
                     self.rest = None;
                     return None;

@@ -1,0 +1,3 @@
+pub mod Suits
+pub mod Known
+pub mod Calls

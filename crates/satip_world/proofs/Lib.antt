@@ -1,0 +1,3 @@
+mod ContentLemmas
+mod ReelLemmas
+pub mod DeliveryLemmas

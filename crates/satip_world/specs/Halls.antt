@@ -1,0 +1,101 @@
+-- What doors show, and what one call of them does.
+use Rattle.std.specs.Prelude.{◌≡◌, ℕ, ◌<◌, ◌⊎◌, Bool, true, false, List, [], ◌∷◌, ◌++◌}
+use Rattle.satip_base.specs.declared.network.Peer.{Peer}
+use Rattle.satip_world.specs.declared.doors.DoorKind.{DoorKind}
+use Rattle.satip_world.specs.declared.doors.ConnEnd.{ConnEnd}
+use Rattle.satip_world.specs.declared.doors.Door.{Door}
+use Rattle.satip_world.specs.declared.doors.Door.TheVariants.{Came, Idle, End, Failed}
+use Rattle.satip_world.specs.Counts.{Rises}
+use Rattle.satip_world.specs.Lines.{Line, fresh_line}
+
+-- a connection that came: what is spoken on it, and who is at its other end
+pub record Arrival : Type 0 where
+  pub kind : DoorKind
+  pub peer : Peer
+
+-- a connection that was handed back: what came, what the connection then showed, and how its service ended
+pub record Return : Type 0 where
+  pub kind : DoorKind
+  pub peer : Peer
+  pub line : Line
+  pub end : ConnEnd
+
+-- doors: after how many connections they end (never where it's 0), how many came, whether they ended, how often none had
+-- come, how often they failed, and, where that is told, the connections that came and that were handed back
+pub record Hall : Type 0 where
+  pub limit : ℕ
+  pub count : ℕ
+  pub ended : Bool
+  pub idles : ℕ
+  pub faults : ℕ
+  pub told : Bool
+  pub given : List Arrival
+  pub returned : List Return
+
+-- no connection came yet
+abbrev pub fresh_hall : ℕ → Bool → Hall
+fresh_hall limit told =
+    record { limit = limit; count = 0; ended = false; idles = 0; faults = 0; told = told; given = []; returned = [] }
+
+-- these connections came and these were handed back; doors that no longer tell them don't tell them again
+pub record Moved (o n : Hall) (came : List Arrival) (left : List Return) : Type 0 where
+  pub told : n.told ≡ true → o.told ≡ true
+  pub given : n.told ≡ true → n.given ≡ o.given ++ came
+  pub returned : n.told ≡ true → n.returned ≡ o.returned ++ left
+
+-- a connection came, within the limit
+pub record LetIn (o n : Hall) (kind : DoorKind) (peer : Peer) (line : Line) : Type 0 where
+  pub before : o.ended ≡ false
+  pub after : n.ended ≡ false
+  pub limit : n.limit ≡ o.limit
+  pub within : (o.limit ≡ 0) ⊎ (o.count < o.limit)
+  pub count : Rises o.count n.count
+  pub idles : n.idles ≡ o.idles
+  pub faults : n.faults ≡ o.faults
+  pub fresh : line ≡ fresh_line
+  pub content : Moved o n (record { kind = kind; peer = peer } ∷ []) []
+
+-- no connection came
+pub record HadNone (o n : Hall) : Type 0 where
+  pub before : o.ended ≡ false
+  pub after : n.ended ≡ false
+  pub limit : n.limit ≡ o.limit
+  pub count : n.count ≡ o.count
+  pub idles : Rises o.idles n.idles
+  pub faults : n.faults ≡ o.faults
+  pub content : Moved o n [] []
+
+-- no further connection comes, for good
+pub record Shut (o n : Hall) : Type 0 where
+  pub after : n.ended ≡ true
+  pub limit : n.limit ≡ o.limit
+  pub count : n.count ≡ o.count
+  pub idles : n.idles ≡ o.idles
+  pub faults : n.faults ≡ o.faults
+  pub content : Moved o n [] []
+
+-- the doors failed
+pub record FailedToOpen (o n : Hall) : Type 0 where
+  pub before : o.ended ≡ false
+  pub after : n.ended ≡ false
+  pub limit : n.limit ≡ o.limit
+  pub count : n.count ≡ o.count
+  pub idles : n.idles ≡ o.idles
+  pub faults : Rises o.faults n.faults
+  pub content : Moved o n [] []
+
+-- one call of `next`, where a connection shows its line
+abbrev pub Opens : {C : Type 0} → (C → Line) → (o n : Hall) → Door C → Type 0
+Opens line o n (Came kind peer conn) = LetIn o n kind peer (line conn)
+Opens line o n Idle = HadNone o n
+Opens line o n End = Shut o n
+Opens line o n Failed = FailedToOpen o n
+
+-- one call of `back`
+pub record HandsBack (o n : Hall) (kind : DoorKind) (peer : Peer) (line : Line) (end : ConnEnd) : Type 0 where
+  pub ended : n.ended ≡ o.ended
+  pub limit : n.limit ≡ o.limit
+  pub count : n.count ≡ o.count
+  pub idles : n.idles ≡ o.idles
+  pub faults : n.faults ≡ o.faults
+  pub content : Moved o n [] (record { kind = kind; peer = peer; line = line; end = end } ∷ [])

@@ -1,0 +1,10 @@
+pub mod Counts
+pub mod Lines
+pub mod Outboxes
+pub mod Deliveries
+pub mod Recordings
+pub mod Dials
+pub mod Halls
+pub mod Kept
+pub mod Reels
+pub mod Lobby

@@ -1,0 +1,31 @@
+-- What an outlet shows, and what one call of it does.
+use Rattle.std.specs.Prelude.{◌≡◌, ℕ, List, [], ◌∷◌, ◌++◌}
+use Rattle.satip_base.specs.Output.{Datagram}
+use Rattle.satip_base.specs.declared.network.Address.{Address}
+use Rattle.satip_base.specs.declared.streams.Put.{Put}
+use Rattle.satip_base.specs.declared.streams.Put.TheVariants.{Whole, Failed}
+use Rattle.satip_world.specs.Counts.{Rises}
+
+-- an outlet: the datagrams that were sent, and how often a send failed
+pub record Outbox : Type 0 where
+  pub sent : List Datagram
+  pub faults : ℕ
+
+-- nothing was sent yet
+abbrev pub fresh_outbox : Outbox
+fresh_outbox = record { sent = []; faults = 0 }
+
+-- a datagram was sent
+pub record Posted (tells : Type 0) (o n : Outbox) (to : Address) (bytes : List ℕ) : Type 0 where
+  pub faults : n.faults ≡ o.faults
+  pub content : tells → n.sent ≡ o.sent ++ record { to = to; bytes = bytes } ∷ []
+
+-- a send failed, and no datagram was sent
+pub record FailedToPost (tells : Type 0) (o n : Outbox) : Type 0 where
+  pub faults : Rises o.faults n.faults
+  pub content : tells → n.sent ≡ o.sent
+
+-- one call of `send`
+abbrev pub Posts : (tells : Type 0) (o n : Outbox) (to : Address) (bytes : List ℕ) → Put → Type 0
+Posts tells o n to bytes Whole = Posted tells o n to bytes
+Posts tells o n to bytes Failed = FailedToPost tells o n

@@ -1,0 +1,44 @@
+//! Outlets: datagrams go out (RFC 3550 over UDP).
+
+ghost use Rattle.std.specs.Prelude.{◌<◌, ◌∷◌, [], length, IsSomeAnd, slice_get};
+ghost use Rattle.satip_world.specs.Deliveries.{Delivers};
+
+use satip_base::{Address, Out, Put};
+
+/// Where datagrams are sent from.
+pub trait Outlet {
+    ghost use Rattle.satip_world.specs.Outboxes.{Outbox, Posts};
+
+    // What is told of the content where this fact holds: always, or never.
+    ghost tells: { Type 0 };
+
+    // The datagrams that were sent, and how often a send failed.
+    ghost outbox: { Self → Outbox };
+
+    /// Sends a datagram.
+    fn send(&mut self, to: Address, bytes: &[u8]) -> Put
+        ensures posts { Posts tells (outbox self.old) (outbox self.new) to bytes.now result };
+}
+
+/// Sends the datagrams of an event, in order. One that can't be sent is left out.
+pub fn post_all<O: Outlet>(out: &Out, outlet: &mut O)
+    ensures delivers { Delivers O.tells (O.outbox outlet.old) (O.outbox outlet.new) out.now.datagrams }
+{
+    for place in 0..out.count() {
+        post_one(out, place, outlet);
+    }
+}
+
+// Sends the datagram at a place.
+fn post_one<O: Outlet>(out: &Out, place: usize, outlet: &mut O)
+    requires within { place < length out.now.datagrams }
+    ensures delivers { IsSomeAnd (slice_get out.now.datagrams place)
+        (λ datagram. Delivers O.tells (O.outbox outlet.old) (O.outbox outlet.new) (datagram ∷ [])) }
+{
+    match out.datagram(place) {
+        Some((to, bytes)) => {
+            outlet.send(to, bytes);
+        }
+        None => unreachable!(),
+    }
+}
