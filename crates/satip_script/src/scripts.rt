@@ -18,7 +18,7 @@ pub fn check_script(text: &[u8], framer: &mut Framer) -> Option<u64>
     ensures wrong { IfSome result (λ number. IsScript text.now (Err number)) }
 {
     let mut script = Script::of(text);
-    let mut number = 1;
+    let mut number: u64 = 1;
     'lines: while let Some(line) = script.next_line() {
         match read_line(line, framer) {
             Line::Skip => {}
