@@ -1,5 +1,5 @@
 -- A burst, event by event, where each entry is of one caller.
-use Rattle.std.proofs.Common.{◌≡◌, ℕ, ◌+◌, ◌≤◌, ◌⊎◌, Bool, true, List, [], ◌∷◌, ◌++◌, length, Option, None, Result, Ok, Err, IsSome, length-append, arith, refl, sym, subst}
+use Rattle.std.proofs.Common.{◌≡◌, ℕ, ◌+◌, ◌≤◌, Bool, List, [], ◌∷◌, ◌++◌, length, Option, Result, length-append, arith, refl, sym, subst}
 use Rattle.satip_base.specs.Output.{Output}
 use Rattle.satip_history.specs.declared.entry.Taken.{Taken}
 use Rattle.satip_history.specs.History.{entry, entries, taken}
@@ -9,10 +9,10 @@ use Rattle.satip_plain.specs.declared.answers.Answer.{Answer}
 use Rattle.satip_plain.specs.declared.events.Event.{Event}
 use Rattle.satip_plain.specs.Histories.{Item}
 use Rattle.satip_service.specs.declared.fault.ServiceFault.{ServiceFault}
-use Rattle.satip_service.specs.Known.{Known, Adds, AddsNone, AddsAll}
+use Rattle.satip_service.specs.Known.{Known, Adds, AddsAll}
 use Rattle.satip_service.specs.Calls.{Bursts, BurstEnds}
 use Rattle.satip_service.specs.Suits.{Suits}
-use Rattle.satip_service.proofs.Growing.{adds_nothing, adds_then, adds_one, adds_no_more}
+use Rattle.satip_service.proofs.Growing.{adds_nothing, adds_then, adds_one}
 
 -- so many events of a lot were made
 pub record UnderWay (caller : ℕ) (k l : Known) (has_taken : List (Taken Event Answer Output) → Type 0) (made : ℕ) : Type 0 where

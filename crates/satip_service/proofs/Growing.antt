@@ -1,5 +1,5 @@
 -- What a caller knows grows call by call.
-use Rattle.std.proofs.Common.{◌≡◌, ℕ, List, [], ◌∷◌, ◌++◌, append_assoc, append-nil, refl, sym, ap, ◌∙◌, subst, inl, inr}
+use Rattle.std.proofs.Common.{List, [], ◌∷◌, ◌++◌, append_assoc, append-nil, refl, sym, ap, ◌∙◌, subst, inl, inr}
 use Rattle.satip_plain.specs.Histories.{Item}
 use Rattle.satip_service.specs.Known.{Known, AreAmong, Adds, AddsNone, AddsAll}
 
