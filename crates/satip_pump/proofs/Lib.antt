@@ -1,0 +1,8 @@
+pub mod TickLemmas
+pub mod BatchLemmas
+pub mod QueueLemmas
+pub mod LoadLemmas
+pub mod ReadingLemmas
+pub mod WorkLemmas
+pub mod RunLemmas
+pub mod ScriptLemmas

@@ -1,0 +1,75 @@
+-- A load, packet by packet.
+use Rattle.std.proofs.Common.{◌≡◌, ℕ, Bool, true, false, List, [], ◌∷◌, ◌++◌, flat_map, Some, refl, sym, ap, ◌∙◌, append_assoc, append-nil}
+use Rattle.std.proofs.lemmas.List.Concat.{flat_map-append}
+use Rattle.satip_base.specs.Output.{Datagram, Output}
+use Rattle.satip_history.specs.declared.entry.Taken.{Taken}
+use Rattle.satip_history.specs.History.{taken}
+use Rattle.satip_plain.specs.declared.answers.Answer.{Answer}
+use Rattle.satip_plain.specs.declared.answers.Work.{Work}
+use Rattle.satip_plain.specs.declared.events.Event.{Event}
+use Rattle.satip_plain.specs.declared.events.Event.TheVariants.{Packet}
+use Rattle.satip_pump.specs.Bundles.{Bundle, has_room}
+use Rattle.satip_pump.specs.Loads.{Loaded, is_of, may_give, given_event, Gives, Took}
+use Rattle.satip_pump.specs.PumpRuns.{work_told}
+use Rattle.satip_pump.specs.Queues.{rest_of}
+use Rattle.satip_pump.proofs.BatchLemmas.{both_true}
+
+-- what an event that was given tells
+pub record IsGiven (may : Bool) (front tune : ℕ) (packets : List (List ℕ)) (e : Event) : Type 0 where
+  pub packet : List ℕ
+  pub packets_are : packets ≡ packet ∷ rest_of packets
+  pub event : e ≡ Packet front tune packet
+  pub allowed : may ≡ true
+
+pub given_tells : (flag may : Bool) (front tune : ℕ) (packets : List (List ℕ)) (e : Event) → given_event flag may front tune packets ≡ Some e
+    → IsGiven may front tune packets e
+given_tells true true front tune (p ∷ ps) e is = record { packet = p; packets_are = refl; event = cc; allowed = refl }
+given_tells true true front tune [] e is = absurd (cc is)
+given_tells true false front tune packets e is = absurd (cc is)
+given_tells false may front tune packets e is = absurd (cc is)
+
+-- one packet more
+gives_more : (front tune : ℕ) (packets : List (List ℕ)) (work : Work) (ts : List (Taken Event Answer Output)) (left : List (List ℕ)) (last : Work)
+    (t : Taken Event Answer Output) (packet : List ℕ) (rest : List (List ℕ)) → Gives front tune packets work ts left last
+    → left ≡ packet ∷ rest → t.event ≡ Packet front tune packet → is_of tune last ≡ true
+    → Gives front tune packets work (ts ++ t ∷ []) rest (work_told t.answer)
+gives_more front tune packets work [] left last t packet rest gives is event goes_on =
+    (packet, rest, sym gives.0 ∙ is, event, ap (is_of tune) (sym gives.1) ∙ goes_on, (refl, refl))
+gives_more front tune packets work (x ∷ xs) left last t packet rest gives is event goes_on =
+    (gives.0, gives.1, gives.2, gives.3, gives.4, gives_more front tune gives.1 (work_told x.answer) xs left last t packet rest gives.5 is event goes_on)
+
+sent_more : (ts : List (Taken Event Answer Output)) (t : Taken Event Answer Output)
+    → flat_map (λ (x : Taken Event Answer Output). x.out.datagrams) (ts ++ t ∷ [])
+    ≡ flat_map (λ (x : Taken Event Answer Output). x.out.datagrams) ts ++ t.out.datagrams
+sent_more ts t =
+    flat_map-append (λ (x : Taken Event Answer Output). x.out.datagrams) ts (t ∷ [])
+    ∙ ap (λ (ds : List Datagram). flat_map (λ (x : Taken Event Answer Output). x.out.datagrams) ts ++ ds) (append-nil t.out.datagrams)
+
+-- a load after one packet more
+pub record Passed (b c : Loaded) (answer : Answer) (out : Output) : Type 0 where
+  pub front : c.front ≡ b.front
+  pub tune : c.tune ≡ b.tune
+  pub room : c.room ≡ b.room
+  pub work : c.work ≡ work_told answer
+  pub packets : c.packets ≡ rest_of b.packets
+  pub datagrams : c.datagrams ≡ b.datagrams ++ out.datagrams
+
+pub took_more : (a b c : Loaded) (flag : Bool) (bundle : Bundle) (ts : List (Taken Event Answer Output)) (e : Event) (answer : Answer) (out : Output)
+    → given_event flag (may_give b.tune b.work bundle) b.front b.tune b.packets ≡ Some e → Took a b ts → Passed b c answer out
+    → Took a c (ts ++ taken e answer out ∷ [])
+took_more a b c flag bundle ts e answer out given took passed =
+    let told = given_tells flag (may_give b.tune b.work bundle) b.front b.tune b.packets e given in
+    let both = both_true (is_of b.tune b.work) (has_room bundle) told.allowed in
+    let event : e ≡ Packet a.front a.tune told.packet =
+    told.event ∙ ap (λ (n : ℕ). Packet n b.tune told.packet) took.front ∙ ap (λ (n : ℕ). Packet a.front n told.packet) took.tune in
+    let more = gives_more a.front a.tune a.packets a.work ts b.packets b.work (taken e answer out) told.packet (rest_of b.packets)
+    took.gives told.packets_are event (ap (λ (n : ℕ). is_of n b.work) (sym took.tune) ∙ both.0) in
+    record {
+      front = passed.front ∙ took.front;
+      tune = passed.tune ∙ took.tune;
+      room = passed.room ∙ took.room;
+      gives = rw (passed.packets, passed.work) more;
+      datagrams = passed.datagrams ∙ ap (λ (ds : List Datagram). ds ++ out.datagrams) took.datagrams
+          ∙ append_assoc a.datagrams (flat_map (λ (x : Taken Event Answer Output). x.out.datagrams) ts) out.datagrams
+          ∙ ap (λ (ds : List Datagram). a.datagrams ++ ds) (sym (sent_more ts (taken e answer out)));
+    }

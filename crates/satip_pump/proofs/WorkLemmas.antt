@@ -1,0 +1,79 @@
+-- What a burst gave.
+use Rattle.std.proofs.Common.{◌≡◌, ℕ, ◌≤◌, Bool, true, false, List, [], ◌∷◌, ◌++◌, length, flat_map, IsSome, Result, refl, ap, ◌∙◌, subst, arith}
+use Rattle.satip_base.specs.Output.{Datagram, Output}
+use Rattle.satip_history.specs.declared.entry.Taken.{Taken}
+use Rattle.satip_history.specs.History.{entries}
+use Rattle.satip_history.specs.Lists.{Each}
+use Rattle.satip_plain.specs.declared.answers.Answer.{Answer}
+use Rattle.satip_plain.specs.declared.answers.Work.{Work}
+use Rattle.satip_plain.specs.declared.events.Event.{Event}
+use Rattle.satip_service.specs.declared.fault.ServiceFault.{ServiceFault}
+use Rattle.satip_service.specs.Known.{Known, AddsAll}
+use Rattle.satip_service.specs.Suits.{Suits}
+use Rattle.satip_world.specs.Deliveries.{Delivers}
+use Rattle.satip_world.specs.Outboxes.{Outbox}
+use Rattle.satip_pump.specs.Bundles.{Bundle, has_room}
+use Rattle.satip_pump.specs.Loads.{Loaded, is_of, may_give, given_event, Gives, Took}
+use Rattle.satip_pump.specs.PumpRuns.{work_told}
+use Rattle.satip_pump.specs.Queues.{Waiting}
+use Rattle.satip_pump.specs.Works.{Gave, GaveEnds}
+use Rattle.satip_pump.proofs.BatchLemmas.{both_true}
+
+-- no more packets are left than there were
+pub gives_fewer : (front tune : ℕ) (packets : List (List ℕ)) (work : Work) (ts : List (Taken Event Answer Output)) (left : List (List ℕ)) (last : Work)
+    → Gives front tune packets work ts left last → length left ≤ length packets
+gives_fewer front tune packets work [] left last gives =
+    let same : length left ≡ length packets = ap length gives.0 in
+    omega arith
+gives_fewer front tune packets work (t ∷ ts) left last gives =
+    let rest = gives_fewer front tune gives.1 (work_told t.answer) ts left last gives.5 in
+    let size : length packets ≡ length (gives.0 ∷ gives.1) = ap length gives.2 in
+    omega (arith, rest, size)
+
+-- an event that was given is of the load's tuning
+pub given_is_of : (flag : Bool) (front tune : ℕ) (work : Work) (bundle : Bundle) (packets : List (List ℕ))
+    → IsSome (given_event flag (may_give tune work bundle) front tune packets) → is_of tune work ≡ true
+given_is_of flag front tune work bundle packets some = allowed flag (may_give tune work bundle) packets refl some
+  where
+    allowed : (flag may : Bool) (packets : List (List ℕ)) → may_give tune work bundle ≡ may → IsSome (given_event flag may front tune packets)
+        → is_of tune work ≡ true
+    allowed true true (p ∷ ps) is some = (both_true (is_of tune work) (has_room bundle) is).0
+    allowed true true [] is some = absurd (cc some)
+    allowed true false packets is some = absurd (cc some)
+    allowed false may packets is some = absurd (cc some)
+
+pub gave_fewer : (may_want : Bool) (front tune : ℕ) (work : Work) (k l : Known) (tells : Type 0) (o n : Outbox) (q r : Waiting) (result : Result Work ServiceFault)
+    → Gave may_want front tune work k l tells o n q r result → length r.packets ≤ length q.packets
+gave_fewer may_want front tune work k l tells o n q r result gave = gives_fewer front tune q.packets work gave.taken r.packets gave.last gave.gives
+
+pub record Burst (may_want : Bool) (k l : Known) (tells : Type 0) (o n : Outbox) (f g : Loaded) (result : Result Work ServiceFault) : Type 0 where
+  pub caller : ℕ
+  pub taken : List (Taken Event Answer Output)
+  pub took : Took f g taken
+  pub suit : Each (λ t. Suits t.event t.answer) taken
+  pub adds : AddsAll k l (entries caller taken)
+  pub delivers : Delivers tells o n g.datagrams
+  pub ends : GaveEnds may_want l f.tune g.work result
+
+pub gave_by : (may_want : Bool) (k l : Known) (tells : Type 0) (o n : Outbox) (f g : Loaded) (q r w : Waiting) (result : Result Work ServiceFault)
+    → r ≡ w → w.packets ≡ g.packets → f.packets ≡ q.packets → f.datagrams ≡ [] → Burst may_want k l tells o n f g result
+    → Gave may_want f.front f.tune f.work k l tells o n q r result
+gave_by may_want k l tells o n f g q r w result is same first none burst =
+    let left : r.packets ≡ g.packets = ap (λ (x : Waiting). x.packets) is ∙ same in
+    let P : List Datagram → Type 0 = λ ds. Delivers tells o n ds in
+    let sent : g.datagrams ≡ flat_map (λ (t : Taken Event Answer Output). t.out.datagrams) burst.taken =
+    burst.took.datagrams ∙ ap (λ (ds : List Datagram). ds ++ flat_map (λ (t : Taken Event Answer Output). t.out.datagrams) burst.taken) none in
+    record {
+      caller = burst.caller;
+      taken = burst.taken;
+      last = g.work;
+      gives = rw (left, ← first) burst.took.gives;
+      suit = burst.suit;
+      adds = burst.adds;
+      delivers = subst P sent burst.delivers;
+      ends = burst.ends;
+    }
+
+pub none_waits : (packets : List (List ℕ)) → length packets ≡ 0 → packets ≡ []
+none_waits [] none = refl
+none_waits (p ∷ ps) none = absurd (omega arith)

@@ -1,0 +1,16 @@
+-- What the pump did so far, as its last answer told.
+use Rattle.std.proofs.Common.{◌≡◌, ◌+◌, ◌<◌, ◌≤◌, length}
+use Rattle.satip_pump.specs.Runs.{Answered}
+use Rattle.satip_pump.proofs.pump.run_pump.Given as goal
+
+abbrev pub invariant-loop : goal.invariant-loop
+invariant-loop g l =
+    (goal.iterator-loop g).can_next l.iterator' × (goal.iterator-loop g).is_finite l.iterator'
+    × g.S.Service.same l.fn.service l.service
+    × (g.M.MuxStore.recording l.kit.store ≡ g.M.MuxStore.recording l.fn.kit.store)
+    × (l.pump.front ≡ l.fn.front)
+    × (l.pump.since < 64)
+    × (l.pump.since + length l.pump.reading.queue.packets ≤ 64)
+    × Answered (g.S.Service.may_want l.fn.service) l.fn.front (g.M.MuxStore.recording l.fn.kit.store) g.O.Outlet.tells g.M.From.Source.tells g.M.From.Source.left
+    (g.S.Service.known l.fn.service) (g.S.Service.known l.service) (g.O.Outlet.outbox l.fn.kit.outlet) (g.O.Outlet.outbox l.kit.outlet)
+    (g.M.MuxStore.faults l.fn.kit.store) (g.M.MuxStore.faults l.kit.store) l.pump.reading l.answer

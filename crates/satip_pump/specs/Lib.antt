@@ -1,0 +1,12 @@
+pub mod Ends
+pub mod Events
+pub mod TickRuns
+pub mod Bundles
+pub mod BatchFields
+pub mod Queues
+pub mod PumpRuns
+pub mod Loads
+pub mod Readings
+pub mod Works
+pub mod Runs
+pub mod Scripts

@@ -1,0 +1,56 @@
+-- The packets of a burst, and what became of them.
+use Rattle.std.specs.Prelude.{◌≡◌, ◌==◌, ◌&&◌, ℕ, Bool, true, false, List, [], ◌∷◌, ◌++◌, flat_map, Option, Some, None, refl}
+use Rattle.std.proofs.Common.{sym, append-nil}
+use Rattle.satip_base.specs.Output.{Datagram, Output}
+use Rattle.satip_history.specs.declared.entry.Taken.{Taken}
+use Rattle.satip_plain.specs.declared.answers.Answer.{Answer}
+use Rattle.satip_plain.specs.declared.answers.Work.{Work}
+use Rattle.satip_plain.specs.declared.answers.Work.TheVariants.{Tune, Nothing, Stopping}
+use Rattle.satip_plain.specs.declared.events.Event.{Event}
+use Rattle.satip_plain.specs.declared.events.Event.TheVariants.{Packet}
+use Rattle.satip_pump.specs.Bundles.{Bundle, has_room}
+use Rattle.satip_pump.specs.PumpRuns.{work_told}
+
+-- a load: whose packets they are, what the last answer said, the packets that weren't taken, how many more places there
+-- are for packets, and the datagrams of those that were
+pub record Loaded : Type 0 where
+  pub front : ℕ
+  pub tune : ℕ
+  pub work : Work
+  pub packets : List (List ℕ)
+  pub room : ℕ
+  pub datagrams : List Datagram
+
+-- whether the work is to read for this tuning number
+abbrev pub is_of : ℕ → Work → Bool
+is_of number (Tune mux tune) = tune == number
+is_of number Nothing = false
+is_of number Stopping = false
+
+-- whether the next packet may be given
+abbrev pub may_give : ℕ → Work → Bundle → Bool
+may_give tune work bundle = is_of tune work && has_room bundle
+
+-- the first packet, where one was given that may be
+abbrev pub given_event : Bool → Bool → ℕ → ℕ → List (List ℕ) → Option Event
+given_event true true front tune (packet ∷ packets) = Some (Packet front tune packet)
+given_event _ _ front tune packets = None
+
+-- packets were taken one after another, each as an answer said; the others are left, and this is what the last answer said
+abbrev pub Gives : ℕ → ℕ → List (List ℕ) → Work → List (Taken Event Answer Output) → List (List ℕ) → Work → Type 0
+Gives front tune packets work [] left last = (left ≡ packets) × (last ≡ work)
+Gives front tune packets work (t ∷ ts) left last =
+    (packet : List ℕ) × (rest : List (List ℕ)) × (packets ≡ packet ∷ rest) × (t.event ≡ Packet front tune packet) × (is_of tune work ≡ true)
+    × Gives front tune rest (work_told t.answer) ts left last
+
+-- what was taken of a load since a moment
+pub record Took (f g : Loaded) (ts : List (Taken Event Answer Output)) : Type 0 where
+  pub front : g.front ≡ f.front
+  pub tune : g.tune ≡ f.tune
+  pub room : g.room ≡ f.room
+  pub gives : Gives f.front f.tune f.packets f.work ts g.packets g.work
+  pub datagrams : g.datagrams ≡ f.datagrams ++ flat_map (λ t. t.out.datagrams) ts
+
+-- nothing was taken of a load since this moment
+pub took_none : (l : Loaded) → Took l l []
+took_none l = record { front = refl; tune = refl; room = refl; gives = (refl, refl); datagrams = sym (append-nil l.datagrams) }

@@ -1,0 +1,27 @@
+//! How jobs end.
+
+ghost use Rattle.std.specs.Prelude.{◌≡◌};
+ghost use Rattle.satip_pump.specs.Ends.{ended_by};
+
+use satip_service::ServiceFault;
+
+/// How the job of a pump or of the ticker ended.
+#[derive(Clone, Copy, Debug, PartialEq, Eq)]
+pub enum JobEnd {
+    /// The service said that it stops.
+    Stopped,
+    /// The history is full.
+    Spent,
+    /// Memory was refused.
+    Want,
+}
+
+/// The end of a job whose service had no room for an event.
+pub(crate) fn end_of(fault: ServiceFault) -> JobEnd
+    ensures end { result ≡ ended_by fault }
+{
+    match fault {
+        ServiceFault::Spent => JobEnd::Spent,
+        ServiceFault::Want => JobEnd::Want,
+    }
+}

@@ -1,0 +1,27 @@
+//! One event of a job.
+ghost use Rattle.satip_pump.specs.Events.{Makes};
+
+use satip_base::Out;
+use satip_plain::{Answer, Event};
+use satip_service::{Service, ServiceFault};
+use satip_world::{Outlet, post_all};
+
+/// Makes an event, and sends its datagrams.
+pub(crate) fn make_event<S: Service, O: Outlet>(
+    service: &mut S,
+    outlet: &mut O,
+    event: &Event,
+    out: &mut Out,
+) -> Result<Answer, ServiceFault>
+    ensures same { S.same service.old service.new }
+    ensures makes { Makes (S.may_want service.old) (S.known service.old) (S.known service.new)
+        O.tells (O.outbox outlet.old) (O.outbox outlet.new) event.now result }
+{
+    match service.call(event, out) {
+        Ok(answer) => {
+            post_all(out, outlet);
+            Ok(answer)
+        }
+        Err(fault) => Err(fault),
+    }
+}

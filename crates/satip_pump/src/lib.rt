@@ -1,0 +1,22 @@
+//! Pumps and the ticker: what reads the recordings and the clock, and hands packets and ticks to a
+//! service.
+#![tactic(auto)]
+
+mod batch;
+mod ends;
+mod events;
+mod kits;
+mod lot;
+mod pump;
+mod queue;
+mod reading;
+#[cfg(test)]
+mod tests;
+mod ticker;
+mod works;
+
+pub use batch::Batch;
+pub use ends::JobEnd;
+pub use kits::{PumpKit, TickKit};
+pub use pump::run_pump;
+pub use ticker::run_ticker;

@@ -1,0 +1,102 @@
+//! The packets of a burst.
+ghost use Rattle.std.specs.Prelude.{◌≡◌, true, option_map, refl};
+ghost use Rattle.satip_pump.specs.Loads.{Took, given_event, may_give, is_of, took_none};
+ghost use Rattle.satip_pump.specs.PumpRuns.{work_told};
+
+use crate::batch::Batch;
+use crate::queue::Queue;
+use satip_base::Out;
+use satip_plain::{Answer, Event, Work};
+use satip_service::Lot;
+use satip_ts::Packet;
+
+/// The packets that wait, as events of a front end for a tuning number. It goes on as long as the
+/// answers name that number and the batch has room for what an event sends.
+#[derive(Drop)]
+pub(crate) struct Load<'a> {
+    pub front: u16,
+    pub tune: u64,
+    /// What the last answer said.
+    pub work: Work,
+    pub given: bool,
+    pub ended: bool,
+    pub queue: &'a mut Queue,
+    pub batch: &'a mut Batch,
+}
+
+/// The work that an answer tells; an answer of another kind tells of none.
+pub(crate) fn work_of(answer: &Answer) -> Work
+    ensures work { result ≡ work_told answer.now }
+{
+    match answer {
+        Answer::Work(work) => *work,
+        _ => Work::Stopping,
+    }
+}
+
+/// Whether the work is to read for this tuning number.
+pub(crate) fn is_for(work: Work, number: u64) -> bool
+    ensures tune { result ≡ is_of number work }
+{
+    match work {
+        Work::Tune { mux: _, tune } => tune == number,
+        Work::Nothing => false,
+        Work::Stopping => false,
+    }
+}
+
+impl Load<'_> {
+    // The packet that is given next.
+    fn next_packet(&self) -> Option<Packet>
+        ensures next { option_map (Event.Packet self.now.front self.now.tune) result
+            ≡ given_event true (may_give self.now.tune self.now.work self.now.batch.now) self.now.front self.now.tune self.now.queue.now.packets }
+    {
+        if !is_for(self.work, self.tune) || !self.batch.has_room() {
+            return None;
+        }
+        self.queue.first()
+    }
+}
+
+impl Lot for Load<'_> {
+    ghost given = { λ l. given_event l.given (may_give l.tune l.work l.batch.now) l.front l.tune l.queue.now.packets };
+
+    ghost ended = { λ l. l.ended };
+
+    // and it still has the same queue
+    ghost has_taken = { λ f g ts. (g.queue.ghost_name ≡ f.queue.ghost_name) × Took
+        (record { front = f.front; tune = f.tune; work = f.work; packets = f.queue.now.packets; room = f.queue.now.room; datagrams = f.batch.now.datagrams })
+        (record { front = g.front; tune = g.tune; work = g.work; packets = g.queue.now.packets; room = g.queue.now.room; datagrams = g.batch.now.datagrams })
+        ts };
+
+    ghost none_taken = { λ l. (
+      refl,
+      took_none
+          (record { front = l.front; tune = l.tune; work = l.work; packets = l.queue.now.packets; room = l.queue.now.room; datagrams = l.batch.now.datagrams }),
+    ) };
+
+    fn next(&mut self) -> Option<Event> {
+        match self.next_packet() {
+            Some(packet) => {
+                self.given = true;
+                Some(Event::Packet {
+                    front: self.front,
+                    tune: self.tune,
+                    packet,
+                })
+            }
+            None => {
+                self.given = false;
+                self.ended = true;
+                None
+            }
+        }
+    }
+
+    fn took(&mut self, answer: &Answer, out: &Out) {
+        self.given = false;
+        self.work = work_of(answer);
+        self.queue.pass();
+        self.batch.append(out);
+    }
+}

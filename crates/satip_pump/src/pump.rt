@@ -1,0 +1,194 @@
+//! The pump of a front end.
+ghost use Rattle.std.specs.Prelude.{◌≡◌, ◌+◌, ◌<◌, ◌≤◌, ℕ, true, length};
+ghost use Rattle.satip_service.specs.Known.{Known};
+ghost use Rattle.satip_world.specs.Outboxes.{Outbox};
+ghost use Rattle.satip_pump.specs.Loads.{is_of};
+ghost use Rattle.satip_pump.specs.PumpRuns.{PumpRun};
+ghost use Rattle.satip_pump.specs.Runs.{Runs, Feeds, Answered};
+
+use crate::batch::Batch;
+use crate::ends::{JobEnd, end_of};
+use crate::kits::PumpKit;
+use crate::queue::PLACES;
+use crate::reading::{Reading, fill, hand_back, turn_to};
+use crate::works::{give, make_work};
+use satip_base::Out;
+use satip_plain::{Event, Work};
+use satip_service::{Service, ServiceFault};
+use satip_world::{MuxStore, Outlet, Pacer};
+use std::sync::Wait;
+
+// A pump: its front end, what it reads, and how many packets it gave since it last paused.
+#[derive(Drop)]
+struct Pump<F> {
+    front: u16,
+    reading: Reading<F>,
+    since: usize,
+}
+
+// Gives the packets that wait, and pauses after 64.
+fn give_some<S: Service, M: MuxStore, O: Outlet, P: Pacer>(
+    service: &mut S,
+    kit: &mut PumpKit<M, O, P>,
+    pump: &mut Pump<M::From>,
+    tuning: (Work, u64),
+    out: &mut Out,
+    batch: &mut Batch,
+) -> Result<Work, ServiceFault>
+    requires work { is_of tuning.1 tuning.0 ≡ true }
+    requires paced { pump.old.since < 64 }
+    requires few { pump.old.since + length pump.old.reading.queue.packets ≤ 64 }
+    ensures same { S.same service.old service.new }
+    ensures answered { (k : Known) (o : Outbox) (first : ℕ)
+        → Feeds pump.old.front (M.recording kit.old.store) O.tells M.From.tells M.From.left k (S.known service.old) o (O.outbox kit.old.outlet)
+        first (M.faults kit.old.store) tuning.0 tuning.1 pump.old.reading
+        → Answered (S.may_want service.old) pump.old.front (M.recording kit.old.store) O.tells M.From.tells M.From.left k (S.known service.new) o (O.outbox kit.new.outlet)
+        first (M.faults kit.new.store) pump.new.reading result }
+    ensures recordings { M.recording kit.new.store ≡ M.recording kit.old.store }
+    ensures front { pump.new.front ≡ pump.old.front }
+    ensures paced { pump.new.since < 64 }
+    ensures few { pump.new.since + length pump.new.reading.queue.packets ≤ 64 }
+{
+    let before = pump.reading.queue.count();
+    let answer = give(
+        service,
+        &mut kit.outlet,
+        (pump.front, tuning.1),
+        tuning.0,
+        &mut pump.reading.queue,
+        out,
+        batch,
+    );
+    pump.since += before - pump.reading.queue.count();
+    if pump.since == PLACES {
+        kit.pacer.pause();
+        pump.since = 0;
+    }
+    answer
+}
+
+// Reads and gives packets, or gives the end of the recording where there are none.
+fn feed<R: Wait, S: Service, M: MuxStore, O: Outlet, P: Pacer>(
+    rt: &R,
+    service: &mut S,
+    kit: &mut PumpKit<M, O, P>,
+    pump: &mut Pump<M::From>,
+    tuning: (Work, u64),
+    out: &mut Out,
+    batch: &mut Batch,
+) -> Result<Work, ServiceFault>
+    requires work { is_of tuning.1 tuning.0 ≡ true }
+    requires paced { pump.old.since < 64 }
+    requires few { pump.old.since + length pump.old.reading.queue.packets ≤ 64 }
+    ensures same { S.same service.old service.new }
+    ensures answered { (k : Known) (o : Outbox) (first : ℕ)
+        → Feeds pump.old.front (M.recording kit.old.store) O.tells M.From.tells M.From.left k (S.known service.old) o (O.outbox kit.old.outlet)
+        first (M.faults kit.old.store) tuning.0 tuning.1 pump.old.reading
+        → Answered (S.may_want service.old) pump.old.front (M.recording kit.old.store) O.tells M.From.tells M.From.left k (S.known service.new) o (O.outbox kit.new.outlet)
+        first (M.faults kit.new.store) pump.new.reading result }
+    ensures recordings { M.recording kit.new.store ≡ M.recording kit.old.store }
+    ensures front { pump.new.front ≡ pump.old.front }
+    ensures paced { pump.new.since < 64 }
+    ensures few { pump.new.since + length pump.new.reading.queue.packets ≤ 64 }
+{
+    if pump.reading.queue.count() != 0 {
+        return give_some(service, kit, pump, tuning, out, batch);
+    }
+    fill(rt, &mut pump.reading, &mut kit.store, PLACES - pump.since);
+    if pump.reading.queue.count() != 0 {
+        return give_some(service, kit, pump, tuning, out, batch);
+    }
+    let ended = Event::Ended {
+        front: pump.front,
+        tune: tuning.1,
+    };
+    make_work(service, &mut kit.outlet, &ended, out)
+}
+
+// Does what an answer told, which is to read for a tuning.
+fn tune<R: Wait, S: Service, M: MuxStore, O: Outlet, P: Pacer>(
+    rt: &R,
+    service: &mut S,
+    kit: &mut PumpKit<M, O, P>,
+    pump: &mut Pump<M::From>,
+    tuning: (u16, u64),
+    out: &mut Out,
+    batch: &mut Batch,
+) -> Result<Work, ServiceFault>
+    requires paced { pump.old.since < 64 }
+    requires few { pump.old.since + length pump.old.reading.queue.packets ≤ 64 }
+    ensures same { S.same service.old service.new }
+    ensures answered { (k : Known) (o : Outbox) (first : ℕ)
+        → Runs pump.old.front (M.recording kit.old.store) O.tells M.From.tells M.From.left k (S.known service.old) o (O.outbox kit.old.outlet)
+        first (M.faults kit.old.store) (Work.Tune tuning.0 tuning.1) pump.old.reading
+        → Answered (S.may_want service.old) pump.old.front (M.recording kit.old.store) O.tells M.From.tells M.From.left k (S.known service.new) o (O.outbox kit.new.outlet)
+        first (M.faults kit.new.store) pump.new.reading result }
+    ensures recordings { M.recording kit.new.store ≡ M.recording kit.old.store }
+    ensures front { pump.new.front ≡ pump.old.front }
+    ensures paced { pump.new.since < 64 }
+    ensures few { pump.new.since + length pump.new.reading.queue.packets ≤ 64 }
+{
+    let (mux, tune) = tuning;
+    turn_to(&mut pump.reading, &mut kit.store, mux, tune);
+    feed(
+        rt,
+        service,
+        kit,
+        pump,
+        (Work::Tune { mux, tune }, tune),
+        out,
+        batch,
+    )
+}
+
+/// Asks what to read for a front end, reads it and gives its packets and its end, until the service
+/// stops. Packets are given in bursts of at most 64; the datagrams of each event go to the outlet
+/// after its burst. It pauses after every 64 packets, and where it is told to do nothing. It waits.
+pub fn run_pump<R: Wait + Sync, S: Service, M: MuxStore, O: Outlet, P: Pacer>(
+    rt: &R,
+    service: &mut S,
+    front: u16,
+    kit: &mut PumpKit<M, O, P>,
+    out: &mut Out,
+    batch: &mut Batch,
+) -> JobEnd
+    ensures same { S.same service.old service.new }
+    ensures run { PumpRun front (M.recording kit.old.store) (S.known service.old) (S.known service.new)
+        O.tells (O.outbox kit.old.outlet) (O.outbox kit.new.outlet) (M.faults kit.old.store) (M.faults kit.new.store) result }
+    ensures spent { result ≡ JobEnd.Spent → (S.known service.new).length ≡ 18446744073709551615 }
+    ensures want { result ≡ JobEnd.Want → S.may_want service.old ≡ true }
+    ensures recordings { M.recording kit.new.store ≡ M.recording kit.old.store }
+{
+    let mut pump = Pump {
+        front,
+        reading: Reading::new(),
+        since: 0,
+    };
+    let mut answer = make_work(service, &mut kit.outlet, &Event::Ask { front }, out);
+    for _ in rt.forever() {
+        match answer {
+            Ok(Work::Tune { mux, tune: number }) => answer = tune(
+                rt,
+                service,
+                kit,
+                &mut pump,
+                (mux, number),
+                out,
+                batch,
+            ),
+            Ok(Work::Nothing) => {
+                kit.pacer.pause();
+                answer = make_work(service, &mut kit.outlet, &Event::Ask { front }, out);
+            }
+            Ok(Work::Stopping) => {
+                hand_back(&mut pump.reading, &mut kit.store);
+                return JobEnd::Stopped;
+            }
+            Err(fault) => {
+                hand_back(&mut pump.reading, &mut kit.store);
+                return end_of(fault);
+            }
+        }
+    }
+    unreachable!()
+}

@@ -1,0 +1,54 @@
+//! The ticker.
+ghost use Rattle.std.specs.Prelude.{◌≡◌, true};
+ghost use Rattle.satip_pump.specs.TickRuns.{Ticked, TickRun};
+
+use crate::ends::{JobEnd, end_of};
+use crate::events::make_event;
+use crate::kits::TickKit;
+use satip_base::Out;
+use satip_plain::{Answer, Beat, Event};
+use satip_service::Service;
+use satip_world::{Clock, Outlet, Pacer};
+use std::sync::Wait;
+
+// Makes a tick. None where the service goes on.
+fn tick<S: Service, O: Outlet>(
+    service: &mut S,
+    outlet: &mut O,
+    now: u64,
+    out: &mut Out,
+) -> Option<JobEnd>
+    ensures same { S.same service.old service.new }
+    ensures ticked { Ticked (S.may_want service.old) (S.known service.old) (S.known service.new)
+        O.tells (O.outbox outlet.old) (O.outbox outlet.new) now result }
+{
+    match make_event(service, outlet, &Event::Tick { now }, out) {
+        Ok(Answer::Beat(Beat::Going)) => None,
+        Ok(_) => Some(JobEnd::Stopped),
+        Err(fault) => Some(end_of(fault)),
+    }
+}
+
+/// Pauses, reads the clock and ticks, until the service stops. Each tick's datagrams go to the
+/// outlet. It waits.
+pub fn run_ticker<R: Wait + Sync, S: Service, C: Clock, O: Outlet, P: Pacer>(
+    rt: &R,
+    service: &mut S,
+    kit: &mut TickKit<C, O, P>,
+    out: &mut Out,
+) -> JobEnd
+    ensures same { S.same service.old service.new }
+    ensures run { TickRun (S.known service.old) (S.known service.new) (C.dial kit.old.clock) (C.dial kit.new.clock)
+        O.tells (O.outbox kit.old.outlet) (O.outbox kit.new.outlet) result }
+    ensures spent { result ≡ JobEnd.Spent → (S.known service.new).length ≡ 18446744073709551615 }
+    ensures want { result ≡ JobEnd.Want → S.may_want service.old ≡ true }
+{
+    for _ in rt.forever() {
+        kit.pacer.pause();
+        let now = kit.clock.now();
+        if let Some(end) = tick(service, &mut kit.outlet, now, out) {
+            return end;
+        }
+    }
+    unreachable!()
+}
