@@ -1,0 +1,11 @@
+pub mod ProgressLemmas
+pub mod EventLemmas
+pub mod HearingLemmas
+pub mod ClosingLemmas
+pub mod RunLemmas
+pub mod FirstLemmas
+pub mod StreamLemmas
+pub mod HttpLemmas
+pub mod CauseLemmas
+pub mod WorkerLemmas
+pub mod ScriptLemmas

@@ -1,0 +1,14 @@
+use Rattle.std.proofs.Common.{◌≡◌, false, length}
+use Rattle.satip_worker.proofs.StreamLemmas.{StreamsOn}
+use Rattle.satip_worker.proofs.http.stream.Given as goal
+
+-- the session was pulled so far
+abbrev pub invariant-loop : goal.invariant-loop
+invariant-loop g l =
+    (length l.buf ≡ 4096)
+    × ((g.C.Conn.line l.conn).ended ≡ false)
+    × g.S.Service.same l.initial.service l.service
+    × StreamsOn g.C.Conn.tells g.O.Outlet.tells l.session
+    (record { may_want = g.S.Service.may_want l.initial.service; known = g.S.Service.known l.initial.service; outbox = g.O.Outlet.outbox l.initial.outlet })
+    (record { may_want = g.S.Service.may_want l.service; known = g.S.Service.known l.service; outbox = g.O.Outlet.outbox l.outlet })
+    (g.C.Conn.line l.initial.conn) (g.C.Conn.line l.conn)

@@ -1,0 +1,24 @@
+use Rattle.std.proofs.Common.{◌≡◌, ℕ, List, ◌++◌, length}
+use Rattle.satip_worker.specs.Hearing.{Course, Listens}
+use Rattle.satip_worker.proofs.HearingLemmas.{IsOpen}
+use Rattle.satip_worker.proofs.rtsp.hear.Given as goal
+
+-- what stands before the rest of the piece was answered
+abbrev pub invariant-piece : goal.invariant-piece
+invariant-piece g l =
+    IsOpen l.room.framer
+    × g.S.Service.same l.initial.service l.service
+    × ((g.C.Conn.line l.conn).ended ≡ (g.C.Conn.line l.initial.conn).ended)
+    × ((course : Course) (received text : List ℕ)
+    → course.peer ≡ l.peer
+    → Listens g.C.Conn.tells g.O.Outlet.tells course
+    (record { may_want = g.S.Service.may_want l.initial.service; known = g.S.Service.known l.initial.service; outbox = g.O.Outlet.outbox l.initial.outlet })
+    (g.C.Conn.line l.initial.conn) l.initial.draws received text l.initial.room.framer
+    → (heard : List ℕ) × (l.piece ≡ heard ++ l.rest)
+    × Listens g.C.Conn.tells g.O.Outlet.tells course
+    (record { may_want = g.S.Service.may_want l.service; known = g.S.Service.known l.service; outbox = g.O.Outlet.outbox l.outlet })
+    (g.C.Conn.line l.conn) l.draws received (text ++ heard) l.room.framer)
+
+-- each turn takes some of the piece
+abbrev pub decreases-piece : goal.decreases-piece
+decreases-piece g l = length l.rest

@@ -1,0 +1,23 @@
+use Rattle.std.proofs.Common.{◌≡◌, ℕ, List, length}
+use Rattle.satip_worker.specs.Drawing.{before_draw}
+use Rattle.satip_worker.specs.Hearing.{Listens}
+use Rattle.satip_worker.proofs.HearingLemmas.{IsOpen}
+use Rattle.satip_worker.proofs.rtsp.serve_rtsp.Given as goal
+
+-- all that came in was answered
+abbrev pub invariant-loop : goal.invariant-loop
+invariant-loop g l =
+    IsOpen l.room.framer
+    × (length l.buf ≡ 4096)
+    × g.S.Service.same l.initial.service l.service
+    × ((key : List ℕ) (stream from : ℕ) → l.initial.draws ≡ before_draw key stream from
+    → (text : List ℕ) × Listens g.C.Conn.tells g.O.Outlet.tells (record {
+      peer = l.peer;
+      key = key;
+      stream = stream;
+      from = from;
+      stage = record { may_want = g.S.Service.may_want l.initial.service; known = g.S.Service.known l.initial.service; outbox = g.O.Outlet.outbox l.initial.outlet };
+      line = g.C.Conn.line l.initial.conn;
+    })
+    (record { may_want = g.S.Service.may_want l.service; known = g.S.Service.known l.service; outbox = g.O.Outlet.outbox l.outlet })
+    (g.C.Conn.line l.conn) l.draws text text l.room.framer)

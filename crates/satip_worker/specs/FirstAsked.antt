@@ -1,0 +1,67 @@
+-- What is asked first on an HTTP connection.
+use Rattle.std.specs.Prelude.{◌≡◌, ◌⊎◌, true, false, ℕ, List, [], ◌∷◌, Option, Some, None}
+use Rattle.satip_frame.specs.declared.framing.Break.{Break}
+use Rattle.satip_frame.specs.Said.{Said}
+use Rattle.satip_frame.specs.Stream.{Unfinished, Broken, Messages, Leads, AreFirst}
+use Rattle.satip_frame.specs.Held.{Held}
+use Rattle.satip_http.specs.declared.requests.HttpRequest.{HttpRequest}
+use Rattle.satip_http.specs.Gets.{asked, broken}
+use Rattle.satip_world.specs.Counts.{Rises}
+use Rattle.satip_world.specs.Lines.{Line}
+use Rattle.satip_worker.specs.declared.first.First.{First}
+use Rattle.satip_worker.specs.declared.first.First.TheVariants.{Asked, Ended, Failed}
+use Rattle.satip_worker.specs.Progress.{Carries}
+
+-- the first message of the text asks this
+pub record AsksByMessage (text : List ℕ) (request : HttpRequest) : Type 0 where
+  pub message : Said
+  pub first : AreFirst (message ∷ []) text
+  pub request_is : request ≡ asked message
+
+-- what stands first in the text is no message, and asks this
+pub record AsksByBreak (text : List ℕ) (request : HttpRequest) : Type 0 where
+  pub cause : Break
+  pub read : Messages text [] (Broken cause)
+  pub request_is : request ≡ broken cause
+
+-- this is what the text asks first
+abbrev pub AsksFirst : List ℕ → HttpRequest → Type 0
+AsksFirst text request = AsksByMessage text request ⊎ AsksByBreak text request
+
+-- the text asks nothing yet, and the framer holds it
+pub record AsksNothing (text : List ℕ) (framer : Held) : Type 0 where
+  pub read : Messages text [] Unfinished
+  pub leads : Leads text [] framer.bytes
+
+-- what was found in a text
+abbrev pub Finds : List ℕ → Held → Option HttpRequest → Type 0
+Finds text framer None = AsksNothing text framer
+Finds text framer (Some request) = AsksFirst text request
+
+-- something was asked
+pub record ReadAsked (tells : Type 0) (l m : Line) (request : HttpRequest) : Type 0 where
+  pub received : List ℕ
+  pub first : AsksFirst received request
+  pub goes_on : m.ended ≡ false
+  pub carries : Carries tells l m received []
+
+-- the input ended before anything was asked
+pub record ReadNothing (tells : Type 0) (l m : Line) : Type 0 where
+  pub received : List ℕ
+  pub nothing : Messages received [] Unfinished
+  pub ended : m.ended ≡ true
+  pub carries : Carries tells l m received []
+
+-- a receive failed before anything was asked
+pub record ReadFailed (tells : Type 0) (l m : Line) : Type 0 where
+  pub received : List ℕ
+  pub nothing : Messages received [] Unfinished
+  pub goes_on : m.ended ≡ false
+  pub carries : Carries tells l m received []
+  pub faults : Rises l.receive_faults m.receive_faults
+
+-- what reading up to what is asked first came to
+abbrev pub ReadsFirst : (tells : Type 0) (l m : Line) → First → Type 0
+ReadsFirst tells l m (Asked request) = ReadAsked tells l m request
+ReadsFirst tells l m Ended = ReadNothing tells l m
+ReadsFirst tells l m Failed = ReadFailed tells l m

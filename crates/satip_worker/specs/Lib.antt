@@ -1,0 +1,16 @@
+pub mod Drawing
+pub mod Answers
+pub mod Progress
+pub mod Ends
+pub mod Making
+pub mod Requests
+pub mod RtspRun
+pub mod HttpRun
+pub mod Served
+pub mod Turns
+pub mod Hearing
+pub mod FirstAsked
+pub mod HttpTurns
+pub mod Streaming
+pub mod WorkerRun
+pub mod Scripts

@@ -1,0 +1,100 @@
+-- The run of a worker: connections one after another.
+use Rattle.std.specs.Prelude.{◌≡◌, ℕ, Bool, true, false, List, [], ◌∷◌, ◌++◌, map}
+use Rattle.satip_base.specs.declared.network.Peer.{Peer}
+use Rattle.satip_base.specs.declared.identity.Draw.{Draw}
+use Rattle.satip_history.specs.Lists.{Each}
+use Rattle.satip_plain.specs.Histories.{Item}
+use Rattle.satip_world.specs.declared.doors.ConnEnd.{ConnEnd}
+use Rattle.satip_world.specs.declared.doors.ConnEnd.TheVariants.{Spent as conn_spent, Want as conn_wants}
+use Rattle.satip_world.specs.declared.doors.DoorKind.{DoorKind}
+use Rattle.satip_world.specs.Counts.{Rises}
+use Rattle.satip_world.specs.Halls.{Hall, Arrival, Return, Moved, HandsBack}
+use Rattle.satip_world.specs.Lines.{Line, fresh_line}
+use Rattle.satip_service.specs.Known.{Known}
+use Rattle.satip_worker.specs.declared.worker.WorkerEnd.{WorkerEnd}
+use Rattle.satip_worker.specs.declared.worker.WorkerEnd.TheVariants.{Closed, DoorsFault, Spent, Want}
+use Rattle.satip_worker.specs.Answers.{ends_with_last}
+use Rattle.satip_worker.specs.Drawing.{draw_at}
+use Rattle.satip_worker.specs.Ends.{LineEnds, is_unmade}
+use Rattle.satip_worker.specs.Progress.{Stage, Makes}
+use Rattle.satip_worker.specs.Served.{ConnRun, ServesConn}
+
+-- what came, of what was handed back
+abbrev pub arrival_of : Return → Arrival
+arrival_of r = record { kind = r.kind; peer = r.peer }
+
+-- a connection was served and handed back
+pub record ServesOne (conn_tells outlet_tells : Type 0) (kind : DoorKind) (peer : Peer) (drawn : ℕ → Draw) (from to : ℕ)
+    (o n : Stage) (before after : Hall) (line : Line) (end : ConnEnd) : Type 0 where
+  pub later : Line
+  pub serves : ServesConn conn_tells outlet_tells kind peer drawn from to o n line later end
+  pub back : HandsBack before after kind peer later end
+
+-- a connection that came with nothing received and sent and was handed back, and the entries of its run
+pub record ServedReturn (tells : Type 0) (drawn : ℕ → Draw) (from to : ℕ) (r : Return) (entries : List Item) : Type 0 where
+  pub received : List ℕ
+  pub sent : List ℕ
+  pub run : ConnRun r.kind r.peer drawn from to received sent r.end entries
+  pub received_is : tells → r.line.received ≡ received
+  pub sent_is : tells → r.line.sent ≡ sent
+  pub line_ends : LineEnds r.end fresh_line r.line (ends_with_last entries)
+
+-- these connections were served one after another, with these entries
+abbrev pub ServesAll : (tells : Type 0) (drawn : ℕ → Draw) (from to : ℕ) → List Return → List Item → Type 0
+ServesAll tells drawn from to [] entries = (to ≡ from) × (entries ≡ [])
+ServesAll tells drawn from to (r ∷ rs) entries = (between : ℕ) × (own others : List Item) × (entries ≡ own ++ others)
+    × ServedReturn tells drawn from between r own × ServesAll tells drawn between to rs others
+
+-- the service made an entry of each event of these connections
+abbrev pub AreMade : List Return → Type 0
+AreMade returns = Each (λ r. is_unmade r.end ≡ false) returns
+
+-- it made none of an event of the last
+pub record LastUnmade (end : ConnEnd) (returns : List Return) : Type 0 where
+  pub before : List Return
+  pub last : Return
+  pub returns_are : returns ≡ before ++ last ∷ []
+  pub made : AreMade before
+  pub end_is : last.end ≡ end
+
+-- the doors ended
+pub record DoorsEnded (n : Hall) (returns : List Return) : Type 0 where
+  pub ended : n.ended ≡ true
+  pub made : AreMade returns
+
+-- the doors failed
+pub record DoorsFailed (o n : Hall) (returns : List Return) : Type 0 where
+  pub goes_on : n.ended ≡ false
+  pub faults : Rises o.faults n.faults
+  pub made : AreMade returns
+
+-- the history is full
+pub record HistoryFull (n : Hall) (known : Known) (returns : List Return) : Type 0 where
+  pub goes_on : n.ended ≡ false
+  pub full : known.length ≡ 18446744073709551615
+  pub last : LastUnmade conn_spent returns
+
+-- memory was refused
+pub record MemoryRefused (n : Hall) (may_want : Bool) (returns : List Return) : Type 0 where
+  pub goes_on : n.ended ≡ false
+  pub may : may_want ≡ true
+  pub last : LastUnmade conn_wants returns
+
+-- why the worker ended
+abbrev pub WorkerEnds : WorkerEnd → (o n : Hall) → (may_want : Bool) → Known → List Return → Type 0
+WorkerEnds Closed o n may_want known returns = DoorsEnded n returns
+WorkerEnds DoorsFault o n may_want known returns = DoorsFailed o n returns
+WorkerEnds Spent o n may_want known returns = HistoryFull n known returns
+WorkerEnds Want o n may_want known returns = MemoryRefused n may_want returns
+
+-- the connections that came by the doors were served, each handed back before the next came
+pub record ServesDoors (conn_tells outlet_tells : Type 0) (key : List ℕ) (stream : ℕ) (o n : Stage) (before after : Hall)
+    (end : WorkerEnd) : Type 0 where
+  pub returns : List Return
+  pub entries : List Item
+  pub draws : ℕ
+  pub serves : ServesAll conn_tells (draw_at key stream) 0 draws returns entries
+  pub makes : Makes outlet_tells o n entries
+  pub moved : Moved before after (map arrival_of returns) returns
+  pub limit : after.limit ≡ before.limit
+  pub ends : WorkerEnds end before after o.may_want n.known returns

@@ -1,0 +1,58 @@
+//! One connection, of either kind.
+
+ghost use Rattle.std.specs.Prelude.{◌≡◌, ℕ, List, true};
+ghost use Rattle.satip_world.specs.Counts.{Rises};
+ghost use Rattle.satip_worker.specs.Drawing.{draw_at, before_draw};
+ghost use Rattle.satip_worker.specs.Served.{ServesConn};
+
+use crate::draws::Draws;
+use crate::http::serve_http;
+use crate::room::Room;
+use crate::rtsp::serve_rtsp;
+use satip_base::Peer;
+use satip_service::Service;
+use satip_world::{Conn, ConnEnd, DoorKind, Outlet, Pacer};
+use std::sync::Wait;
+
+/// Serves a connection until its input ends, it was told what closes it, a receive or a send fails,
+/// or the service makes no entry of an event.
+///
+/// On an RTSP connection (RFC 2326) each message is one request, and what is no message is one
+/// more; the datagrams of each leave by the outlet, and its reply is sent. On an HTTP connection the
+/// first message is a GET (SAT>IP 1.2.2, 3.5.1); the packets of its session are sent as they come.
+/// Each message takes one draw. An idle connection waits.
+pub fn serve_connection<R: Wait + Sync, S: Service, C: Conn, O: Outlet, P: Pacer>(
+    rt: &R,
+    service: &mut S,
+    kind: DoorKind,
+    peer: Peer,
+    conn: &mut C,
+    outlet: &mut O,
+    pacer: &mut P,
+    draws: &mut Draws,
+    room: &mut Room,
+) -> ConnEnd
+    ensures same { S.same service.old service.new }
+
+    // What was made, received and sent, and why the connection ended.
+    ensures serves { (key : List ℕ) (stream from : ℕ) → draws.old ≡ before_draw key stream from
+        → (to : ℕ) × (draws.new ≡ before_draw key stream to) × ServesConn C.tells O.tells kind peer (draw_at key stream) from to
+        (record { may_want = S.may_want service.old; known = S.known service.old; outbox = O.outbox outlet.old })
+        (record { may_want = S.may_want service.new; known = S.known service.new; outbox = O.outbox outlet.new })
+        (C.line conn.old) (C.line conn.new) result }
+
+    // When a fault ends it.
+    ensures read_fault { result ≡ ConnEnd.ReadFault
+        → Rises (C.line conn.old).receive_faults (C.line conn.new).receive_faults }
+    ensures write_fault { result ≡ ConnEnd.WriteFault
+        → Rises (C.line conn.old).send_faults (C.line conn.new).send_faults }
+    ensures spent { result ≡ ConnEnd.Spent → (S.known service.new).length ≡ 18446744073709551615 }
+    ensures want { result ≡ ConnEnd.Want → S.may_want service.old ≡ true }
+{
+    draws.known();
+    room.framer.reset();
+    match kind {
+        DoorKind::Rtsp => serve_rtsp(rt, service, peer, conn, outlet, pacer, draws, room),
+        DoorKind::Http => serve_http(rt, service, peer, conn, outlet, pacer, draws, room),
+    }
+}

@@ -1,0 +1,133 @@
+//! One event of an HTTP connection: a GET, a pull, or the close of its session.
+
+ghost use Rattle.std.specs.Prelude.{◌≡◌, ◌+◌, ℕ, List, false};
+ghost use Rattle.satip_plain.specs.declared.events.Event.{Event};
+ghost use Rattle.satip_worker.specs.Drawing.{draw_at, before_draw};
+ghost use Rattle.satip_worker.specs.Ends.{is_unmade};
+ghost use Rattle.satip_worker.specs.HttpTurns.{GetTurns, PullTurns, ClosesSession};
+
+use crate::draws::Draws;
+use crate::turns::{end_of, make};
+use satip_base::{Out, Peer, Put, SessionId};
+use satip_http::HttpRequest;
+use satip_plain::{Answer, Event, GetAnswer, Pulled};
+use satip_service::{Service, ServiceFault};
+use satip_world::{Conn, ConnEnd, Outlet};
+
+/// What a GET came to.
+#[derive(Clone, Copy, Debug, PartialEq, Eq)]
+pub(crate) enum Getting {
+    /// A session started, and its head was sent.
+    Started(SessionId),
+    /// A session started, and a beginning of its head was sent.
+    StartCut(SessionId),
+    /// A refusal was sent.
+    Refused,
+    /// A beginning of a refusal was sent.
+    RefusalCut,
+    /// It has no entry.
+    Unmade(ServiceFault),
+}
+
+/// What a pull came to.
+#[derive(Clone, Copy, Debug, PartialEq, Eq)]
+pub(crate) enum Pulling {
+    /// Packets were sent.
+    Sent,
+    /// A beginning of some packets was sent.
+    Cut,
+    /// None were queued.
+    Empty,
+    /// No such session lives.
+    Gone,
+    /// It has no entry.
+    Unmade(ServiceFault),
+}
+
+/// Makes the GET, and sends its head or its refusal.
+pub(crate) fn get<S: Service, C: Conn, O: Outlet>(
+    service: &mut S,
+    peer: Peer,
+    draws: &mut Draws,
+    request: HttpRequest,
+    out: &mut Out,
+    outlet: &mut O,
+    conn: &mut C,
+) -> Getting
+    ensures same { S.same service.old service.new }
+    ensures input { (C.line conn.new).ended ≡ (C.line conn.old).ended }
+    ensures draws { (key : List ℕ) (stream number : ℕ) → draws.old ≡ before_draw key stream number
+        → draws.new ≡ before_draw key stream (number + 1) }
+    ensures turns { (key : List ℕ) (stream number : ℕ) → draws.old ≡ before_draw key stream number
+        → GetTurns C.tells O.tells
+        (record { may_want = S.may_want service.old; known = S.known service.old; outbox = O.outbox outlet.old })
+        (record { may_want = S.may_want service.new; known = S.known service.new; outbox = O.outbox outlet.new })
+        (C.line conn.old) (C.line conn.new) (Event.Get peer (draw_at key stream number) request) result }
+{
+    let draw = draws.next();
+    let event = Event::Get {
+        peer,
+        draw,
+        request,
+    };
+    match make(service, &event, out, outlet) {
+        Err(fault) => Getting::Unmade(fault),
+        Ok(Answer::Get(GetAnswer::Started(id))) => match conn.send(out.reply()) {
+            Put::Whole => Getting::Started(id),
+            Put::Failed => Getting::StartCut(id),
+        },
+        Ok(Answer::Get(GetAnswer::Refused(_))) => match conn.send(out.reply()) {
+            Put::Whole => Getting::Refused,
+            Put::Failed => Getting::RefusalCut,
+        },
+        Ok(_) => unreachable!(),
+    }
+}
+
+/// Makes a pull, and sends what it moved.
+pub(crate) fn pull<S: Service, C: Conn, O: Outlet>(
+    service: &mut S,
+    session: SessionId,
+    out: &mut Out,
+    outlet: &mut O,
+    conn: &mut C,
+) -> Pulling
+    ensures same { S.same service.old service.new }
+    ensures input { (C.line conn.new).ended ≡ (C.line conn.old).ended }
+    ensures turns { PullTurns C.tells O.tells
+        (record { may_want = S.may_want service.old; known = S.known service.old; outbox = O.outbox outlet.old })
+        (record { may_want = S.may_want service.new; known = S.known service.new; outbox = O.outbox outlet.new })
+        (C.line conn.old) (C.line conn.new) (Event.Pull session) result }
+{
+    match make(service, &Event::Pull { session }, out, outlet) {
+        Err(fault) => Pulling::Unmade(fault),
+        Ok(Answer::Pulled(Pulled::Bytes(_))) => match conn.send(out.reply()) {
+            Put::Whole => Pulling::Sent,
+            Put::Failed => Pulling::Cut,
+        },
+        Ok(Answer::Pulled(Pulled::Empty)) => Pulling::Empty,
+        Ok(Answer::Pulled(Pulled::Gone)) => Pulling::Gone,
+        Ok(_) => unreachable!(),
+    }
+}
+
+/// Closes the session for a reason, which is how the connection then ends.
+pub(crate) fn close<S: Service, O: Outlet>(
+    service: &mut S,
+    session: SessionId,
+    cause: ConnEnd,
+    out: &mut Out,
+    outlet: &mut O,
+) -> ConnEnd
+    requires cause { is_unmade cause ≡ false }
+    ensures same { S.same service.old service.new }
+    ensures closes { ClosesSession O.tells
+        (record { may_want = S.may_want service.old; known = S.known service.old; outbox = O.outbox outlet.old })
+        (record { may_want = S.may_want service.new; known = S.known service.new; outbox = O.outbox outlet.new })
+        session cause result }
+{
+    match make(service, &Event::Close { session }, out, outlet) {
+        Err(fault) => end_of(fault),
+        Ok(_) => cause,
+    }
+}

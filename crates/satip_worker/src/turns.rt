@@ -1,0 +1,69 @@
+//! One event of a connection: it is made, its datagrams leave, and its reply is sent.
+
+ghost use Rattle.std.specs.Prelude.{◌≡◌, ◌∷◌, []};
+ghost use Rattle.satip_plain.specs.declared.events.Event.{Event};
+ghost use Rattle.satip_plain.specs.declared.answers.Answer.{Answer};
+ghost use Rattle.satip_service.specs.Calls.{Cause};
+ghost use Rattle.satip_worker.specs.Ends.{end_of};
+ghost use Rattle.satip_worker.specs.Making.{MakesEvent};
+
+use satip_base::Out;
+use satip_plain::{Answer, Event};
+use satip_service::{Service, ServiceFault};
+use satip_world::{ConnEnd, Outlet, post_all};
+
+/// What an event came to whose reply was to be sent.
+#[derive(Clone, Copy, Debug, PartialEq, Eq)]
+pub(crate) enum Turn {
+    /// Its reply was sent.
+    Sent,
+    /// A beginning of its reply was sent.
+    Lost,
+    /// It has no entry.
+    Unmade(ServiceFault),
+}
+
+/// What hearing some bytes came to.
+#[derive(Clone, Copy, Debug, PartialEq, Eq)]
+pub(crate) enum Heard {
+    /// All whole messages were answered.
+    All,
+    /// The last reply was a closing one.
+    Closed,
+    /// A send failed.
+    Lost,
+    /// An event has no entry.
+    Unmade(ServiceFault),
+}
+
+/// How a connection ends where an event has no entry.
+pub(crate) fn end_of(fault: ServiceFault) -> ConnEnd
+    ensures end { result ≡ end_of fault }
+{
+    match fault {
+        ServiceFault::Spent => ConnEnd::Spent,
+        ServiceFault::Want => ConnEnd::Want,
+    }
+}
+
+/// Makes an event, and sends its datagrams.
+pub(crate) fn make<S: Service, O: Outlet>(
+    service: &mut S,
+    event: &Event,
+    out: &mut Out,
+    outlet: &mut O,
+) -> Result<Answer, ServiceFault>
+    ensures same { S.same service.old service.new }
+    ensures makes { MakesEvent O.tells
+        (record { may_want = S.may_want service.old; known = S.known service.old; outbox = O.outbox outlet.old })
+        (record { may_want = S.may_want service.new; known = S.known service.new; outbox = O.outbox outlet.new })
+        event.now out.new result }
+{
+    match service.call(event, out) {
+        Ok(answer) => {
+            post_all(out, outlet);
+            Ok(answer)
+        }
+        Err(fault) => Err(fault),
+    }
+}

@@ -1,0 +1,108 @@
+//! A worker: connections one after another.
+
+ghost use Rattle.std.specs.Prelude.{◌≡◌, ◌↔◌, ℕ, List, true};
+ghost use Rattle.satip_world.specs.Counts.{Rises};
+ghost use Rattle.satip_worker.specs.Drawing.{draw_at, before_draw};
+ghost use Rattle.satip_worker.specs.WorkerRun.{ServesOne, ServesDoors};
+
+use crate::connection::serve_connection;
+use crate::draws::Draws;
+use crate::kits::WorkerKit;
+use crate::room::Room;
+use satip_base::Peer;
+use satip_service::Service;
+use satip_world::{ConnEnd, Door, DoorKind, Doors, Outlet, Pacer};
+use std::sync::Wait;
+
+/// How a worker ended.
+#[derive(Clone, Copy, Debug, PartialEq, Eq)]
+pub enum WorkerEnd {
+    /// Its doors ended.
+    Closed,
+    /// Its doors failed.
+    DoorsFault,
+    /// The history of the server is full.
+    Spent,
+    /// There was no memory.
+    Want,
+}
+
+// Serves a connection that came, and hands it back.
+fn serve_one<R: Wait + Sync, S: Service, D: Doors, O: Outlet, P: Pacer>(
+    rt: &R,
+    service: &mut S,
+    kind: DoorKind,
+    peer: Peer,
+    mut conn: D::Conn,
+    kit: &mut WorkerKit<D, O, P>,
+    draws: &mut Draws,
+    room: &mut Room,
+) -> ConnEnd
+    ensures same { S.same service.old service.new }
+    ensures key { kit.new.key ≡ kit.old.key }
+    ensures serves { (key : List ℕ) (stream from : ℕ) → draws.old ≡ before_draw key stream from
+        → (to : ℕ) × (draws.new ≡ before_draw key stream to) × ServesOne D.Conn.tells O.tells kind peer (draw_at key stream) from to
+        (record { may_want = S.may_want service.old; known = S.known service.old; outbox = O.outbox kit.old.outlet })
+        (record { may_want = S.may_want service.new; known = S.known service.new; outbox = O.outbox kit.new.outlet })
+        (D.hall kit.old.doors) (D.hall kit.new.doors) (D.Conn.line conn) result }
+{
+    let end = serve_connection(
+        rt,
+        service,
+        kind,
+        peer,
+        &mut conn,
+        &mut kit.outlet,
+        &mut kit.pacer,
+        draws,
+        room,
+    );
+    kit.doors.back(conn, kind, peer, end);
+    end
+}
+
+/// Serves the connections that come by the doors of the kit one after another, and hands each back
+/// before it asks for the next, until the doors end or fail, or the service makes no entry of an
+/// event. What it draws is a stream of the kit's key, by its number.
+pub fn run_worker<R: Wait + Sync, S: Service, D: Doors, O: Outlet, P: Pacer>(
+    rt: &R,
+    service: &mut S,
+    kit: &mut WorkerKit<D, O, P>,
+    number: u64,
+    room: &mut Room,
+) -> WorkerEnd
+    ensures same { S.same service.old service.new }
+    ensures key { kit.new.key ≡ kit.old.key }
+
+    // What was made, which connections came and were handed back, and why the worker ended.
+    ensures serves { ServesDoors D.Conn.tells O.tells kit.old.key number
+        (record { may_want = S.may_want service.old; known = S.known service.old; outbox = O.outbox kit.old.outlet })
+        (record { may_want = S.may_want service.new; known = S.known service.new; outbox = O.outbox kit.new.outlet })
+        (D.hall kit.old.doors) (D.hall kit.new.doors) result }
+
+    // When each end comes.
+    ensures closed { (result ≡ WorkerEnd.Closed) ↔ ((D.hall kit.new.doors).ended ≡ true) }
+    ensures doors_fault { result ≡ WorkerEnd.DoorsFault
+        → Rises (D.hall kit.old.doors).faults (D.hall kit.new.doors).faults }
+    ensures spent { result ≡ WorkerEnd.Spent → (S.known service.new).length ≡ 18446744073709551615 }
+    ensures want { result ≡ WorkerEnd.Want → S.may_want service.old ≡ true }
+{
+    let mut draws = Draws::make(&kit.key, number);
+    for _ in rt.forever() {
+        match kit.doors.next() {
+            Door::Came { kind, peer, conn } => {
+                match serve_one(rt, service, kind, peer, conn, kit, &mut draws, room) {
+                    ConnEnd::Done => {}
+                    ConnEnd::ReadFault => {}
+                    ConnEnd::WriteFault => {}
+                    ConnEnd::Spent => return WorkerEnd::Spent,
+                    ConnEnd::Want => return WorkerEnd::Want,
+                }
+            }
+            Door::Idle => kit.pacer.pause(),
+            Door::End => return WorkerEnd::Closed,
+            Door::Failed => return WorkerEnd::DoorsFault,
+        }
+    }
+    unreachable!()
+}
