@@ -1,0 +1,20 @@
+use Rattle.std.proofs.Common.{◌≡◌, ◌∙◌, ap, sym, subst, Bor, Some, None}
+use Rattle.std.specs.Option.{option_map}
+use Rattle.satip_table.specs.declared.stream.Stream.{Stream as StreamRow}
+use Rattle.satip_state.specs.Standing.{StandsFor}
+use Rattle.satip_state.proofs.Looking.{owner_looked}
+use Rattle.satip_state.proofs.parts.Parts.owner.Goals as goal
+
+pub returns-in-None : goal.returns-in-None
+returns-in-None c = record {
+  owner = λ cfg st stands.
+      let at = subst (λ v. StandsFor cfg v st) (sym c.self.view_is) stands in
+      owner_looked cfg _ st c.args.number None at c.known.ensures.sound c.in-None.ensures.found;
+}
+
+pub returns-in-Some : goal.returns-in-Some
+returns-in-Some c = record {
+  owner = λ cfg st stands.
+      let at = subst (λ v. StandsFor cfg v st) (sym c.self.view_is) stands in
+      owner_looked cfg _ st c.args.number (Some c.in-Some.stream.now) at c.known.ensures.sound c.in-Some.ensures.found;
+}

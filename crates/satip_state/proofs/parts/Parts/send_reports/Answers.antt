@@ -1,0 +1,24 @@
+use Rattle.std.proofs.Common.{◌≤◌, length, subst, arith}
+use Rattle.satip_table.specs.Living.{Sound}
+use Rattle.satip_state.specs.Kept.{Kept}
+use Rattle.satip_state.specs.Turns.{after_round, first_turns, report_turn}
+use Rattle.satip_state.proofs.Moving.{turned_all, few_sessions}
+use Rattle.satip_state.proofs.Reports.{reported_more}
+use Rattle.satip_state.proofs.parts.Parts.send_reports.Goals as goal
+
+pub loop-place-preserved : goal.loop-place-preserved
+loop-place-preserved c = record {
+  moved = λ config st stands same.
+      let first = c.loop-place.invariant.moved config st stands same in
+      reported_more config c.loop-place.self c.report_place.new.self c.args.out.now c.loop-place.out c.report_place.new.out st c.loop-place.place first
+      (c.report_place.ensures.moved config (after_round st (first_turns c.loop-place.place (report_turn config st) st.sessions)).state first.stands same);
+  bytes = omega (arith, c.loop-place.invariant.bytes, c.report_place.ensures.bytes_spare);
+  count = omega (arith, c.loop-place.invariant.count, c.report_place.ensures.count_spare);
+}
+
+pub returns-clause-moved : goal.returns-clause-moved
+returns-clause-moved c config st stands same =
+    let sound : Sound c.args.self.now.table = subst (λ (v : Kept). Sound v.table) c.self.view_is c.known.ensures.sound in
+    let few : length st.sessions ≤ 64 = few_sessions config c.args.self.now st stands sound in
+    let over : length st.sessions ≤ c.loop-place.place = omega (arith, few) in
+    turned_all config c.loop-place.self c.args.out.now c.loop-place.out st (report_turn config st) c.loop-place.place over (c.loop-place.invariant.moved config st stands same)

@@ -1,0 +1,12 @@
+pub mod Kept
+pub mod Seated
+pub mod Standing
+pub mod Subscribing
+pub mod Turns
+pub mod Views
+pub mod Looks
+pub mod Beginning
+pub mod Ending
+pub mod Working
+pub mod Placing
+pub mod Pulling

@@ -1,0 +1,8 @@
+-- What the pump of a front end is to do, that has this multiplex, tuning number and end.
+use Rattle.std.specs.Prelude.{ℕ, Bool, Option, None, Some, if◌then◌else◌}
+use Rattle.satip_plain.specs.declared.answers.Work.{Work}
+use Rattle.satip_plain.specs.declared.answers.Work.TheVariants.{Tune, Nothing}
+
+abbrev pub work_of_told : Option ℕ → ℕ → Bool → Work
+work_of_told None tune ended = Nothing
+work_of_told (Some mux) tune ended = if ended then Nothing else Tune mux tune

@@ -1,0 +1,87 @@
+//! What a request changes of a session and of a stream.
+
+ghost use Rattle.std.specs.Prelude.{true};
+ghost use Rattle.satip_plain.specs.Types.{Config};
+ghost use Rattle.satip_plain.specs.State.{State};
+ghost use Rattle.satip_plain.specs.Streams.{change_stream};
+ghost use Rattle.satip_plain.specs.Steps.{change_session, hear as heard_in};
+ghost use Rattle.satip_state.specs.Standing.{StandsFor};
+
+use crate::parts::Parts;
+use crate::subscribing::{known_front, subscribe};
+use satip_base::{Address, Peer, Ports, SessionId};
+use satip_pids::PidSet;
+
+impl Parts {
+    /// The session was heard of at the clock's moment, and ends one timeout later unless it is heard of
+    /// again. Where it doesn't live nothing changes.
+    pub fn hear(&mut self, id: SessionId)
+        ensures heard { (c : Config) (st : State) → StandsFor c self.old st → StandsFor c self.new (heard_in id st) }
+    {
+        self.table.known();
+        let Some(slot) = self.table.slot(id) else {
+            return;
+        };
+        let end = self.clock.saturating_add(self.timeout as u64 * 1000);
+        self.table.heard(id, self.clock);
+        self.timer.set(slot, end);
+    }
+
+    /// The session's datagrams go to these ports of this peer. Where it doesn't live nothing changes.
+    pub fn move_to(&mut self, id: SessionId, peer: Peer, ports: Ports)
+        ensures moved { (c : Config) (st : State) → StandsFor c self.old st
+            → StandsFor c self.new (change_session id (λ s. record s { peer = peer; ports = ports }) st) }
+    {
+        self.table.known();
+        let Some(slot) = self.table.slot(id) else {
+            return;
+        };
+        self.table.move_to(id, peer, ports);
+        self.flow.address(
+            slot,
+            Address {
+                ip: peer.ip,
+                port: ports.rtp,
+            },
+        );
+    }
+
+    /// The session plays from now on. Where it doesn't live nothing changes.
+    pub fn play(&mut self, id: SessionId)
+        ensures plays { (c : Config) (st : State) → StandsFor c self.old st
+            → StandsFor c self.new (change_session id (λ s. record s { playing = true }) st) }
+    {
+        self.table.known();
+        self.fronts.known();
+        let Some(slot) = self.table.slot(id) else {
+            return;
+        };
+        let Some(session) = self.table.find(id) else {
+            return;
+        };
+        if session.playing {
+            return;
+        }
+        let session = *session;
+        let Some(stream) = self.table.find_stream(session.stream) else {
+            return;
+        };
+        subscribe(&mut self.flow, slot, &session, stream);
+        self.table.play(id);
+    }
+
+    /// The stream selects these PIDs from now on. Where it doesn't live nothing changes.
+    pub fn change_pids(&mut self, number: u16, pids: &PidSet)
+        ensures changed { (c : Config) (st : State) → StandsFor c self.old st
+            → StandsFor c self.new (change_stream number (λ t. record t { pids = pids.now }) st) }
+    {
+        self.table.known();
+        self.fronts.known();
+        let Some(stream) = self.table.find_stream(number) else {
+            return;
+        };
+        let (tuning, front) = (stream.tuning, stream.front);
+        self.table.change(number, tuning, front, *pids);
+        self.flow.change(number, known_front(front), pids);
+    }
+}

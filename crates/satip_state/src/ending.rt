@@ -1,0 +1,122 @@
+//! Sessions end.
+
+ghost use Rattle.std.specs.Prelude.{◌≡◌, ◌≢◌, ◌+◌, ◌<◌, ◌≤◌, ◌==◌, Bool, false, true, length};
+ghost use Rattle.std.specs.Int.{bit_at};
+ghost use Rattle.std.specs.List.{list_any};
+ghost use Rattle.satip_table.specs.Sessions.{has_id, without};
+ghost use Rattle.satip_table.specs.Streams.{is_live};
+ghost use Rattle.satip_fronts.specs.FrontEnds.{left};
+ghost use Rattle.satip_plain.specs.Types.{Config, SessionId};
+ghost use Rattle.satip_plain.specs.State.{State};
+ghost use Rattle.satip_plain.specs.Steps.{end_where, is_session};
+ghost use Rattle.satip_state.specs.Standing.{StandsFor, Moved};
+ghost use Rattle.satip_state.specs.Ending.{EndedMarked, Removed};
+
+use crate::parts::Parts;
+use satip_base::{Out, SessionId};
+use satip_table::Seat;
+
+const SLOTS: u16 = 64;
+
+impl Parts {
+    /// Ends a session: what an RTSP session holds leaves, and what an HTTP session has queued is dropped. A stream
+    /// without sessions is gone, and its front end is free if it serves no other. False where the session
+    /// doesn't live; nothing changes then.
+    pub fn end_session(&mut self, id: SessionId, out: &mut Out) -> bool
+        requires bytes { 1328 ≤ out.old.datagram_spare }
+        requires count { out.old.count_spare ≢ 0 }
+        ensures moved { (c : Config) (st : State) → StandsFor c self.old st
+            → Moved c self.new out.old out.new (end_where (is_session id) st) }
+        ensures lived { (c : Config) (st : State) → StandsFor c self.old st
+            → result ≡ list_any (is_session id) st.sessions }
+        ensures bytes_spare { out.old.datagram_spare ≤ out.new.datagram_spare + 1328 }
+        ensures count_spare { out.old.count_spare ≤ out.new.count_spare + 1 }
+    {
+        self.table.known();
+        self.fronts.known();
+        let Some(seat) = self.seat_of(id) else {
+            return false;
+        };
+        let _sent = self.flow.flush(seat.slot, self.clock, out);
+        self.remove(id, &seat);
+        true
+    }
+
+    /// Ends a session, and drops what it holds: for one that holds nothing. False where it doesn't live.
+    pub(crate) fn drop_session(&mut self, id: SessionId) -> bool
+        ensures ended { (c : Config) (st : State) → StandsFor c self.old st
+            → StandsFor c self.new (end_where (is_session id) st).state }
+        ensures seats { self.new.table.seats ≡ without id self.old.table.seats }
+        ensures fewer { list_any (has_id id) self.old.table.seats ≡ true
+            → length self.new.table.seats < length self.old.table.seats }
+    {
+        self.table.known();
+        self.fronts.known();
+        let Some(seat) = self.seat_of(id) else {
+            return false;
+        };
+        self.remove(id, &seat);
+        true
+    }
+
+    /// Ends the sessions of marked slots, and drops what they hold: bit k is that of slot k.
+    pub(crate) fn end_marked(&mut self, marks: u64)
+        ensures ended { (c : Config) (st : State) (ends : SessionId → Bool)
+            → EndedMarked c self.old st ends marks 0 → EndedMarked c self.new st ends marks 64 }
+    {
+        for slot in 0..SLOTS {
+            self.end_slot(marks, slot);
+        }
+    }
+
+    // Ends the session of a slot, if it is marked.
+    fn end_slot(&mut self, marks: u64, slot: u16)
+        requires slot { slot < 64 }
+        ensures ended { (c : Config) (st : State) (ends : SessionId → Bool)
+            → EndedMarked c self.old st ends marks slot → EndedMarked c self.new st ends marks (slot + 1) }
+    {
+        self.table.known();
+        if !is_marked(marks, slot) {
+            return;
+        }
+        let Some(seat) = self.seat_at(slot) else {
+            return;
+        };
+        let _lived = self.drop_session(seat.session.id);
+    }
+
+    // The session of a seat goes from each of the parts.
+    fn remove(&mut self, id: SessionId, seat: &Seat)
+        requires slot { seat.now.slot < 64 }
+        ensures removed { Removed id seat.now self.old self.new }
+    {
+        let _listed = self.flow.end(seat.slot);
+        self.timer.drop_key(seat.slot);
+        let _lived = self.table.leave(id);
+        self.give_back(seat.session.stream);
+    }
+
+    // A stream that doesn't live any more leaves its front end.
+    fn give_back(&mut self, stream: u16)
+        ensures rest { self.new ≡ record self.old { fronts = self.new.fronts } }
+        ensures stays { is_live self.old.table.streams stream ≡ true → self.new.fronts ≡ self.old.fronts }
+        ensures leaves { is_live self.old.table.streams stream ≡ false → 1 ≤ stream → stream ≤ 64
+            → self.new.fronts ≡ left self.old.fronts stream }
+    {
+        if self.table.find_stream(stream).is_some() {
+            return;
+        }
+        if stream == 0 || stream > 64 {
+            return;
+        }
+        self.fronts.leave(stream);
+    }
+}
+
+// Whether the bit of a slot is set.
+fn is_marked(marks: u64, slot: u16) -> bool
+    requires slot { slot < 64 }
+    ensures marked { result ≡ (bit_at marks slot == 1) }
+{
+    (marks >> slot) & 1 == 1
+}

@@ -1,0 +1,172 @@
+//! What the parts are asked: which sessions and streams live, and whether more are to be had.
+
+ghost use Rattle.std.specs.Prelude.{◌≡◌, ◌≤◌, ◌==◌, Some, IfSome, false, true, find, is_some, length, option_map, slice_get};
+ghost use Rattle.std.specs.List.{list_all};
+ghost use Rattle.satip_fronts.specs.Openings.{IsStreamOrNone};
+ghost use Rattle.satip_plain.specs.Types.{Config};
+ghost use Rattle.satip_plain.specs.State.{State, http_session, rtsp_session, stream_of};
+ghost use Rattle.satip_plain.specs.Refusals.{is_full};
+ghost use Rattle.satip_plain.specs.Steps.{is_session};
+ghost use Rattle.satip_state.specs.Looks.{if_http, if_rtsp, is_blocked, kept_number, numbered, owner_id, rtsp_number};
+ghost use Rattle.satip_state.specs.Seated.{row_of};
+ghost use Rattle.satip_state.specs.Standing.{StandsFor, stream_in};
+
+use crate::parts::Parts;
+use satip_base::SessionId;
+use satip_flow::SenderState;
+use satip_table::{Seat, Session, Stream};
+use satip_tune::Tuning;
+
+impl Parts {
+    /// Does nothing: tells a caller's proof that at most 64 streams live, and each session's stream among them.
+    pub fn known(&self)
+        ensures few { (c : Config) (st : State) → StandsFor c self.now st → length st.streams ≤ 64 }
+        ensures housed { (c : Config) (st : State) → StandsFor c self.now st
+            → list_all (λ s. is_some (stream_of st s.stream)) st.sessions ≡ true }
+    {
+        self.table.known();
+    }
+
+    /// The RTSP session with this id; None where none lives.
+    pub fn rtsp_session(&self, id: SessionId) -> Option<Session>
+        ensures session { (c : Config) (st : State) → StandsFor c self.now st
+            → result ≡ option_map row_of (rtsp_session st id) }
+        ensures rtsp { (c : Config) (st : State) → StandsFor c self.now st
+            → IfSome result (λ row. option_map (λ s. s.http) (find (is_session row.id) st.sessions) ≡ Some false) }
+    {
+        self.table.known();
+        match self.table.find(id) {
+            None => None,
+            Some(session) => only_rtsp(session),
+        }
+    }
+
+    /// The HTTP session with this id; None where none lives.
+    pub fn http_session(&self, id: SessionId) -> Option<Session>
+        ensures session { (c : Config) (st : State) → StandsFor c self.now st
+            → result ≡ option_map row_of (http_session st id) }
+    {
+        self.table.known();
+        match self.table.find(id) {
+            None => None,
+            Some(session) => only_http(session),
+        }
+    }
+
+    /// The stream of this number; None where it doesn't live.
+    pub fn stream(&self, number: u16) -> Option<&Stream>
+        ensures stream { (c : Config) (st : State) → StandsFor c self.now st
+            → option_map (λ s. stream_in s.now) result ≡ stream_of st number }
+    {
+        self.table.find_stream(number)
+    }
+
+    /// The stream at this place, from 0, in rising number; None where there is none.
+    pub fn stream_at(&self, place: usize) -> Option<&Stream>
+        ensures stream { (c : Config) (st : State) → StandsFor c self.now st
+            → option_map (λ s. stream_in s.now) result ≡ slice_get st.streams place }
+    {
+        self.table.stream(place)
+    }
+
+    /// The owner of a stream; None where the stream doesn't live.
+    pub fn owner(&self, number: u16) -> Option<SessionId>
+        ensures owner { (c : Config) (st : State) → StandsFor c self.now st → result ≡ owner_id st number }
+    {
+        self.table.known();
+        match self.table.find_stream(number) {
+            None => None,
+            Some(stream) => Some(stream.owner),
+        }
+    }
+
+    /// The sequence number of the next datagram of a session that isn't an HTTP session; 0 where none of this
+    /// id lives.
+    pub fn next_number(&self, id: SessionId) -> u16
+        ensures number { (c : Config) (st : State) → StandsFor c self.now st
+            → result ≡ rtsp_number (find (is_session id) st.sessions) }
+    {
+        self.table.known();
+        match self.seat_of(id) {
+            None => 0,
+            Some(seat) => number_after(self.flow.state(seat.slot), &seat),
+        }
+    }
+
+    /// Whether no stream lives.
+    pub fn has_no_streams(&self) -> bool
+        ensures none { (c : Config) (st : State) → StandsFor c self.now st → result ≡ (length st.streams == 0) }
+    {
+        self.table.stream(0).is_none()
+    }
+
+    /// Whether no session can be made: 64 live, or 4294967295 were made.
+    pub fn is_full(&self) -> bool
+        ensures full { (c : Config) (st : State) → StandsFor c self.now st → result ≡ is_full st }
+    {
+        self.table.known();
+        self.table.full()
+    }
+
+    /// Whether the stop came.
+    pub fn is_stopped(&self) -> bool
+        ensures stopped { (c : Config) (st : State) → StandsFor c self.now st → result ≡ st.stopped }
+    {
+        self.stopped
+    }
+
+    /// Whether no front end is to be had for a stream with this tuning: none fits, or each that fits serves
+    /// another stream and isn't tuned to the multiplex that the tuning means. `None` is a stream that is
+    /// yet to be founded.
+    pub fn is_blocked(&self, stream: Option<u16>, tuning: &Tuning) -> bool
+        ensures blocked { (c : Config) (st : State) → StandsFor c self.now st
+            → result ≡ is_blocked c st stream tuning.now }
+    {
+        self.table.known();
+        self.fronts.is_blocked(number_of(stream), tuning)
+    }
+}
+
+// The number after those that the packer sent, or the first where there is no packer yet.
+fn number_after(sender: Option<SenderState>, seat: &Seat) -> u16
+    ensures number { result ≡ kept_number sender (Some seat.now) }
+{
+    if seat.session.http {
+        return 0;
+    }
+    match sender {
+        None => seat.session.first,
+        Some(sender) => sender.next,
+    }
+}
+
+// The number, where a stream may have it.
+fn number_of(stream: Option<u16>) -> Option<u16>
+    ensures number { result ≡ numbered stream }
+    ensures known { IsStreamOrNone result }
+{
+    match stream {
+        None => None,
+        Some(number) => {
+            if 1 <= number && number <= 64 {
+                Some(number)
+            } else {
+                None
+            }
+        }
+    }
+}
+
+// The session, where it isn't an HTTP session.
+fn only_rtsp(session: &Session) -> Option<Session>
+    ensures rtsp { result ≡ if_rtsp (Some session.now) }
+{
+    if session.http { None } else { Some(*session) }
+}
+
+// The session, where it is an HTTP session.
+fn only_http(session: &Session) -> Option<Session>
+    ensures http { result ≡ if_http (Some session.now) }
+{
+    if session.http { Some(*session) } else { None }
+}

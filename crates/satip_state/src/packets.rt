@@ -1,0 +1,103 @@
+//! Packets of the front ends, and what their pumps are to do.
+
+ghost use Rattle.std.specs.Prelude.{◌≡◌, ◌+◌, ◌≤◌, ◌==◌, ◌&&◌, nat_lt, true, if◌then◌else◌};
+ghost use Rattle.satip_plain.specs.Types.{Config};
+ghost use Rattle.satip_plain.specs.State.{State};
+ghost use Rattle.satip_plain.specs.Sending.{settle};
+ghost use Rattle.satip_plain.specs.Steps.{deliver, is_current as is_current_in, on_ended, work as work_in};
+ghost use Rattle.satip_plain.specs.declared.answers.Work.TheVariants.{Nothing};
+ghost use Rattle.satip_state.specs.Standing.{StandsFor, Moved};
+ghost use Rattle.satip_state.specs.Working.{work_of_told};
+
+use crate::parts::Parts;
+use satip_base::Out;
+use satip_plain::Work;
+use satip_ts::Packet;
+
+impl Parts {
+    /// A packet of a front end's tuning number is given to each playing session of the front end's streams
+    /// that selects its PID. An RTSP session with seven packets sends them. An HTTP session whose queue is
+    /// full ends. Where the front end serves no stream or has another tuning number, nothing happens.
+    pub fn packet(&mut self, front: u16, tune: u64, packet: &Packet, out: &mut Out)
+        requires bytes { 84992 ≤ out.old.datagram_spare }
+        requires count { 64 ≤ out.old.count_spare }
+        ensures moved { (c : Config) (st : State) → StandsFor c self.old st
+            → Moved c self.new out.old out.new
+            (if is_current_in st front tune then deliver front packet.now st else settle st) }
+        ensures bytes_spare { out.old.datagram_spare ≤ out.new.datagram_spare + 84992 }
+        ensures count_spare { out.old.count_spare ≤ out.new.count_spare + 64 }
+    {
+        self.table.known();
+        self.fronts.known();
+        if !self.is_current(front, tune) {
+            return;
+        }
+        let overrun = self.flow.packet(front, packet, self.clock, out);
+        self.end_marked(overrun);
+        self.table.known();
+    }
+
+    /// The recording that a front end plays for this tuning number is exhausted. Where the front end serves
+    /// no stream or has another tuning number, nothing happens.
+    pub fn ended(&mut self, front: u16, tune: u64)
+        ensures ended { (c : Config) (st : State) → StandsFor c self.old st
+            → StandsFor c self.new (on_ended front tune st).state }
+    {
+        self.table.known();
+        let _current = self.fronts.end(front, tune);
+    }
+
+    /// What a front end's pump is to do.
+    pub fn work(&self, front: u16) -> Work
+        ensures work { (c : Config) (st : State) → StandsFor c self.now st → result ≡ work_in st front }
+    {
+        self.table.known();
+        if self.stopped {
+            return Work::Stopping;
+        }
+        match self.fronts.state(front) {
+            None => Work::Nothing,
+            Some(state) => work_of(state.streams > 0, state.mux, state.tune, state.ended),
+        }
+    }
+
+    /// The server stops: its front ends' pumps are to end.
+    pub fn stop(&mut self)
+        ensures stopped { (c : Config) (st : State) → StandsFor c self.old st
+            → StandsFor c self.new (record st { stopped = true }) }
+    {
+        self.stopped = true;
+    }
+
+    // Whether the front end serves a stream and has this tuning number.
+    fn is_current(&self, front: u16, tune: u64) -> bool
+        ensures current { (c : Config) (st : State) → StandsFor c self.now st
+            → result ≡ is_current_in st front tune }
+    {
+        self.table.known();
+        match self.fronts.state(front) {
+            None => false,
+            Some(state) => serves_tune(state.streams, state.tune, tune),
+        }
+    }
+}
+
+// Whether a front end that serves so many streams serves one, and has this tuning number.
+fn serves_tune(streams: u16, own: u64, tune: u64) -> bool
+    ensures serves { result ≡ (own == tune && nat_lt 0 streams) }
+{
+    own == tune && streams > 0
+}
+
+// What the pump of a front end is to do that is told so.
+fn work_of(serves: bool, mux: Option<u16>, tune: u64, ended: bool) -> Work
+    ensures work { result ≡ (if serves then work_of_told mux tune ended else Nothing) }
+{
+    if !serves || ended {
+        return Work::Nothing;
+    }
+    match mux {
+        None => Work::Nothing,
+        Some(mux) => Work::Tune { mux, tune },
+    }
+}

@@ -1,0 +1,64 @@
+//! Living sessions, each with its slot.
+
+ghost use Rattle.std.specs.Prelude.{◌≡◌, ◌<◌, find, slice_get, IfSome};
+ghost use Rattle.satip_table.specs.Sessions.{has_id, has_slot};
+
+use crate::parts::Parts;
+use satip_base::SessionId;
+use satip_table::Seat;
+
+impl Parts {
+    /// The session at this place, from 0, in order of making; None where there is none.
+    pub(crate) fn seat(&self, place: usize) -> Option<Seat>
+        ensures seat { result ≡ slice_get self.now.table.seats place }
+        ensures within { IfSome result (λ seat. seat.slot < 64) }
+    {
+        self.table.known();
+        match self.table.session(place) {
+            None => None,
+            Some(session) => match self.table.slot(session.id) {
+                None => None,
+                Some(slot) => Some(Seat {
+                    slot,
+                    session: *session,
+                }),
+            },
+        }
+    }
+
+    /// The session with this id; None where it doesn't live.
+    pub(crate) fn seat_of(&self, id: SessionId) -> Option<Seat>
+        ensures seat { result ≡ find (has_id id) self.now.table.seats }
+        ensures within { IfSome result (λ seat. seat.slot < 64) }
+    {
+        self.table.known();
+        match self.table.find(id) {
+            None => None,
+            Some(session) => match self.table.slot(session.id) {
+                None => None,
+                Some(slot) => Some(Seat {
+                    slot,
+                    session: *session,
+                }),
+            },
+        }
+    }
+
+    /// The session of this slot; None where there is none.
+    pub(crate) fn seat_at(&self, slot: u16) -> Option<Seat>
+        ensures seat { result ≡ find (has_slot slot) self.now.table.seats }
+        ensures within { IfSome result (λ seat. seat.slot < 64) }
+    {
+        self.table.known();
+        match self.table.at(slot) {
+            None => None,
+            Some(session) => match self.table.slot(session.id) {
+                None => None,
+                Some(own) => Some(Seat {
+                    slot: own,
+                    session: *session,
+                }),
+            },
+        }
+    }
+}

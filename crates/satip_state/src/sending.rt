@@ -1,0 +1,87 @@
+//! What packers hold leaves.
+
+ghost use Rattle.std.specs.Prelude.{◌≡◌, ◌≢◌, ◌+◌, ◌≤◌, ◌==◌, ◌&&◌, not, true};
+ghost use Rattle.satip_plain.specs.Types.{Config};
+ghost use Rattle.satip_plain.specs.State.{State};
+ghost use Rattle.satip_plain.specs.Sending.{each, each_of, let_go};
+ghost use Rattle.satip_state.specs.Standing.{StandsFor, Moved};
+ghost use Rattle.satip_state.specs.Turns.{after_round, flush_turn, is_flushed, turn_of};
+
+use crate::parts::Parts;
+use satip_base::Out;
+use satip_table::Session;
+
+const SESSIONS: usize = 64;
+
+impl Parts {
+    /// What is held for each RTSP session of this stream leaves: one datagram a session at most, in order of
+    /// making.
+    pub fn flush_stream(&mut self, number: u16, out: &mut Out)
+        requires bytes { 84992 ≤ out.old.datagram_spare }
+        requires count { 64 ≤ out.old.count_spare }
+        ensures moved { (c : Config) (st : State) → StandsFor c self.old st
+            → Moved c self.new out.old out.new
+            (each_of (λ s. s.stream == number && not s.http) (let_go true st.clock) st) }
+        ensures bytes_spare { out.old.datagram_spare ≤ out.new.datagram_spare + 84992 }
+        ensures count_spare { out.old.count_spare ≤ out.new.count_spare + 64 }
+    {
+        self.flush_where(Some(number), out);
+    }
+
+    /// What is held for each RTSP session leaves: one datagram a session at most, in order of making.
+    pub fn flush_all(&mut self, out: &mut Out)
+        requires bytes { 84992 ≤ out.old.datagram_spare }
+        requires count { 64 ≤ out.old.count_spare }
+        ensures moved { (c : Config) (st : State) → StandsFor c self.old st
+            → Moved c self.new out.old out.new (each_of (λ s. not s.http) (let_go true st.clock) st) }
+        ensures bytes_spare { out.old.datagram_spare ≤ out.new.datagram_spare + 84992 }
+        ensures count_spare { out.old.count_spare ≤ out.new.count_spare + 64 }
+    {
+        self.flush_where(None, out);
+    }
+
+    // What is held for each RTSP session of a stream, or of all streams, leaves.
+    fn flush_where(&mut self, only: Option<u16>, out: &mut Out)
+        requires bytes { 84992 ≤ out.old.datagram_spare }
+        requires count { 64 ≤ out.old.count_spare }
+        ensures moved { (c : Config) (st : State) → StandsFor c self.old st
+            → Moved c self.new out.old out.new (each (flush_turn only st.clock) st) }
+        ensures bytes_spare { out.old.datagram_spare ≤ out.new.datagram_spare + 84992 }
+        ensures count_spare { out.old.count_spare ≤ out.new.count_spare + 64 }
+    {
+        self.table.known();
+        for place in 0..SESSIONS {
+            self.flush_place(place, only, out);
+        }
+    }
+
+    // The session at a place has its turn in a flush.
+    fn flush_place(&mut self, place: usize, only: Option<u16>, out: &mut Out)
+        requires bytes { 1328 ≤ out.old.datagram_spare }
+        requires count { out.old.count_spare ≢ 0 }
+        ensures moved { (c : Config) (st : State) → StandsFor c self.old st
+            → Moved c self.new out.old out.new
+            (after_round st (turn_of place (flush_turn only st.clock) st.sessions)) }
+        ensures bytes_spare { out.old.datagram_spare ≤ out.new.datagram_spare + 1328 }
+        ensures count_spare { out.old.count_spare ≤ out.new.count_spare + 1 }
+    {
+        self.table.known();
+        let Some(seat) = self.seat(place) else {
+            return;
+        };
+        if !is_wanted(only, &seat.session) {
+            return;
+        }
+        let _sent = self.flow.flush(seat.slot, self.clock, out);
+    }
+}
+
+// Whether a flush of a stream, or of all streams, is for a session.
+fn is_wanted(only: Option<u16>, session: &Session) -> bool
+    ensures flushed { result ≡ is_flushed only session.now.stream session.now.http }
+{
+    match only {
+        None => !session.http,
+        Some(number) => session.stream == number && !session.http,
+    }
+}

@@ -1,0 +1,51 @@
+//! How a session comes to get packets.
+
+ghost use Rattle.std.specs.Prelude.{◌≡◌, ◌<◌};
+ghost use Rattle.satip_flow.specs.Subscriptions.{IsFrontOrNone, put, without};
+ghost use Rattle.satip_state.specs.Subscribing.{subscription_of};
+
+use satip_base::Address;
+use satip_flow::{Flow, Place};
+use satip_table::{Session, Stream};
+
+/// The front end of this number, where it is one from 1 to 16.
+pub(crate) fn known_front(front: Option<u16>) -> Option<u16>
+    ensures known { IsFrontOrNone result }
+    ensures same { IsFrontOrNone front → result ≡ front }
+{
+    match front {
+        None => None,
+        Some(number) => {
+            if number >= 1 && number <= 16 {
+                Some(number)
+            } else {
+                None
+            }
+        }
+    }
+}
+
+/// The session of this slot begins to get the packets of its stream, in place of any other of the slot: an
+/// HTTP session by a queue, an RTSP session by datagrams.
+pub(crate) fn subscribe(flow: &mut Flow, slot: u16, session: &Session, stream: &Stream)
+    requires slot { slot < 64 }
+    ensures added { IsFrontOrNone stream.now.front
+        → flow.new ≡ put (subscription_of slot session.now stream.now) (without slot flow.old) }
+{
+    flow.end(slot);
+    let front = known_front(stream.front);
+    let place = Place {
+        slot,
+        stream: stream.number,
+        count: session.id.count,
+    };
+    if session.http {
+        flow.add_http(place, front, &stream.pids);
+    } else {
+        let to = Address {
+            ip: session.peer.ip,
+            port: session.ports.rtp,
+        };
+        flow.add_rtp(place, front, &stream.pids, to, session.ssrc, session.first);
+    }
+}

@@ -1,0 +1,145 @@
+//! The tick: the clock goes on, held packets leave, sessions end that weren't heard of, and reports leave.
+
+ghost use Rattle.std.specs.Prelude.{◌≡◌, ◌≢◌, ◌+◌, ◌≤◌, nat_le, max, true};
+ghost use Rattle.std.specs.Option.{option_map_or};
+ghost use Rattle.satip_plain.specs.Types.{Config};
+ghost use Rattle.satip_plain.specs.State.{State};
+ghost use Rattle.satip_plain.specs.Steps.{capped, end_where, is_expired, send_reports as sends_reports, tick as ticked};
+ghost use Rattle.satip_state.specs.Standing.{StandsFor, Moved};
+ghost use Rattle.satip_state.specs.Turns.{after_round, is_row_due, report_turn, turn_of};
+
+use crate::parts::Parts;
+use satip_base::{Address, Out};
+use satip_flow::SenderState;
+use satip_rtcp::{Sender, write_report};
+use satip_table::Session;
+
+const SESSIONS: usize = 64;
+
+const LAST_MOMENT: u64 = 281474976710655;
+
+impl Parts {
+    /// The clock goes on to `now`, a moment in milliseconds of Unix time of at most 2^48 - 1. What packers hold
+    /// leaves, each session ends that wasn't heard of for the timeout, and each playing RTSP session gets a
+    /// report every 200 milliseconds (SAT>IP 1.2.2, 3.5.13). `address` is the server's IPv4 address.
+    pub fn tick(&mut self, now: u64, address: u32, out: &mut Out)
+        requires bytes { 187392 ≤ out.old.datagram_spare }
+        requires count { 128 ≤ out.old.count_spare }
+        ensures moved { (c : Config) (st : State) → StandsFor c self.old st → address ≡ c.address
+            → Moved c self.new out.old out.new (ticked c now st) }
+        ensures bytes_spare { out.old.datagram_spare ≤ out.new.datagram_spare + 187392 }
+        ensures count_spare { out.old.count_spare ≤ out.new.count_spare + 128 }
+    {
+        self.advance(now);
+        self.flush_all(out);
+        self.end_expired();
+        self.send_reports(address, out);
+    }
+
+    // The clock goes on, never back.
+    fn advance(&mut self, now: u64)
+        ensures advanced { (c : Config) (st : State) → StandsFor c self.old st
+            → StandsFor c self.new (record st { clock = max st.clock (capped now) }) }
+    {
+        self.clock = self.clock.max(now.min(LAST_MOMENT));
+    }
+
+    // Each session ends that wasn't heard of for the timeout, and what it holds is dropped.
+    fn end_expired(&mut self)
+        ensures ended { (c : Config) (st : State) → StandsFor c self.old st
+            → StandsFor c self.new (end_where (is_expired c st.clock) st).state }
+    {
+        self.table.known();
+        self.fronts.known();
+        while let Some(slot) = self.timer.due(self.clock) {
+            self.table.known();
+            let Some(seat) = self.seat_at(slot) else {
+                return;
+            };
+            let _lived = self.drop_session(seat.session.id);
+        }
+        self.table.known();
+    }
+
+    // Each session that is due gets a report.
+    fn send_reports(&mut self, address: u32, out: &mut Out)
+        requires bytes { 102400 ≤ out.old.datagram_spare }
+        requires count { 64 ≤ out.old.count_spare }
+        ensures moved { (c : Config) (st : State) → StandsFor c self.old st → address ≡ c.address
+            → Moved c self.new out.old out.new (sends_reports c st) }
+        ensures bytes_spare { out.old.datagram_spare ≤ out.new.datagram_spare + 102400 }
+        ensures count_spare { out.old.count_spare ≤ out.new.count_spare + 64 }
+    {
+        self.table.known();
+        for place in 0..SESSIONS {
+            self.report_place(place, address, out);
+        }
+    }
+
+    // The session at a place gets a report if it is due.
+    fn report_place(&mut self, place: usize, address: u32, out: &mut Out)
+        requires bytes { 1600 ≤ out.old.datagram_spare }
+        requires count { out.old.count_spare ≢ 0 }
+        ensures moved { (c : Config) (st : State) → StandsFor c self.old st → address ≡ c.address
+            → Moved c self.new out.old out.new
+            (after_round st (turn_of place (report_turn c st) st.sessions)) }
+        ensures bytes_spare { out.old.datagram_spare ≤ out.new.datagram_spare + 1600 }
+        ensures count_spare { out.old.count_spare ≤ out.new.count_spare + 1 }
+    {
+        self.table.known();
+        let Some(seat) = self.seat(place) else {
+            return;
+        };
+        if !is_report_due(self.clock, &seat.session) {
+            return;
+        }
+        let Some(view) = self.view(seat.session.stream) else {
+            return;
+        };
+        let Some(sent) = self.flow.state(seat.slot) else {
+            return;
+        };
+        let sender = sender_of_session(self.clock, address, &seat.session, &sent);
+        write_report(&view, &sender, out);
+        let _lived = self.table.reported(seat.session.id, self.clock);
+    }
+}
+
+// Whether a session plays over RTSP, and its last report is at least 200 milliseconds old.
+fn is_report_due(clock: u64, session: &Session) -> bool
+    ensures due { result ≡ is_row_due clock session.now }
+{
+    session.playing && !session.http && is_old(session.reported, clock)
+}
+
+// Whether there was no report, or it is at least 200 milliseconds old.
+fn is_old(reported: Option<u64>, clock: u64) -> bool
+    ensures old { result ≡ option_map_or (λ at. nat_le (at + 200) clock) reported true }
+{
+    match reported {
+        None => true,
+        Some(at) => clock.saturating_sub(at) >= 200,
+    }
+}
+
+// Who sends the session's report, and what was sent.
+fn sender_of_session(clock: u64, address: u32, session: &Session, sent: &SenderState) -> Sender
+    ensures to { result.to ≡ record { ip = session.now.peer.ip; port = session.now.ports.rtcp } }
+    ensures ssrc { result.ssrc ≡ session.now.ssrc }
+    ensures clock { result.clock ≡ clock }
+    ensures datagrams { result.datagrams ≡ sent.now.datagrams }
+    ensures octets { result.octets ≡ sent.now.octets }
+    ensures address { result.address ≡ address }
+{
+    Sender {
+        to: Address {
+            ip: session.peer.ip,
+            port: session.ports.rtcp,
+        },
+        ssrc: session.ssrc,
+        clock,
+        datagrams: sent.datagrams,
+        octets: sent.octets,
+        address,
+    }
+}
