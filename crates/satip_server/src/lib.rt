@@ -1,0 +1,19 @@
+//! The server of one thread: each event is a step of the plain server.
+#![tactic(auto)]
+
+mod changes;
+mod deciding;
+mod describing;
+mod events;
+mod gets;
+mod places;
+mod refusals;
+mod replies;
+mod requests;
+mod server;
+#[cfg(test)]
+mod tests;
+
+pub use deciding::{decide, decide_get};
+pub use refusals::Refused;
+pub use server::Server;
