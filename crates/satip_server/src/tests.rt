@@ -1,12 +1,11 @@
-//! A small server, asked over RTSP and HTTP.
+//! A small server, asked over RTSP.
 
 ghost use Rattle.std.specs.Prelude.{◌≡◌};
 
 use crate::Server;
 use satip_base::{Draw, Out, Peer, Ports, SessionId};
 use satip_config::Config;
-use satip_http::HttpRequest;
-use satip_plain::{Answer, Beat, Closed, Event, GetAnswer, Pulled, Replied, Work};
+use satip_plain::{Answer, Beat, Event, Replied, Work};
 use satip_query::{Query, read};
 use satip_rtsp::{Method, Request, SessionName};
 use satip_ts::Packet;
@@ -146,52 +145,31 @@ fn seven_packets_are_a_datagram(rt: HostRuntime) -> Result<(), Fail> {
 }
 
 #[test]
-fn a_pull_takes_what_is_queued(rt: HostRuntime) -> Result<(), Fail> {
-    let mut out = Out::make(rt.alloc())?;
-    let mut server = server(rt.alloc())?;
-    let get = HttpRequest {
-        refusal: None,
-        query: query(FIRST_QUERY)?,
-    };
-    assert_eq!(rt;
-        server.get(PEER, DRAW, &get, &mut out),
-        GetAnswer::Started(FIRST)
-    );
-    assert_eq!(rt; server.pull(FIRST, &mut out), Pulled::Empty);
-    let _work = server.packet(1, 1, &packet(16)?, &mut out);
-    assert_eq!(rt; server.pull(FIRST, &mut out), Pulled::Bytes(188));
-    assert_eq!(rt; out.reply().len(), 188);
-    assert_eq!(rt; server.tick(2000, &mut out), Beat::Going);
-    assert_eq!(rt; server.close(FIRST, &mut out), Closed::Yes);
-    assert_eq!(rt; server.close(FIRST, &mut out), Closed::Gone);
-    assert_eq!(rt; server.pull(FIRST, &mut out), Pulled::Gone);
-    assert_eq!(rt; server.stop(&mut out), Beat::Stopping);
-    assert_eq!(rt; server.ask(1, &mut out), Work::Stopping);
-    Ok(())
-}
-
-#[test]
 fn a_session_that_is_not_heard_of_ends(rt: HostRuntime) -> Result<(), Fail> {
     let mut out = Out::make(rt.alloc())?;
     let mut server = server(rt.alloc())?;
-    let get = HttpRequest {
-        refusal: None,
-        query: query(FIRST_QUERY)?,
+    let setup = Request {
+        method: Method::Setup,
+        stream: None,
+        session: SessionName::Absent,
+        ports: Some(Ports {
+            rtp: 1400,
+            rtcp: 1401,
+        }),
+        ..request(Method::Setup)
     };
-    assert_eq!(rt;
-        server.get(PEER, DRAW, &get, &mut out),
-        GetAnswer::Started(FIRST)
-    );
+    assert_eq!(rt; server.request(PEER, DRAW, &setup, &mut out).status, 200);
     let describe = Request {
         session: SessionName::Absent,
         ..request(Method::Describe)
     };
-    assert_eq!(rt; server.request(PEER, DRAW, &describe, &mut out).status, 200);
     let _beat = server.tick(60999, &mut out);
     assert_eq!(rt; server.request(PEER, DRAW, &describe, &mut out).status, 200);
     let _beat = server.tick(61000, &mut out);
     assert_eq!(rt; server.request(PEER, DRAW, &describe, &mut out).status, 404);
     let text = b"RTSP/1.0 404 Not Found\r\nCSeq: 2\r\n\r\n";
     assert_eq!(rt; out.reply(), text.as_slice());
+    assert_eq!(rt; server.stop(&mut out), Beat::Stopping);
+    assert_eq!(rt; server.ask(1, &mut out), Work::Stopping);
     Ok(())
 }
