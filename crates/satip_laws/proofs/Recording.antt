@@ -16,7 +16,7 @@ use Rattle.satip_plain.specs.Types.{Config}
 use Rattle.satip_plain.specs.State.{State, Stream, Row, is_at, row_of, served_by}
 use Rattle.satip_plain.specs.Steps.{step, is_current, work, work_of_row}
 use Rattle.satip_plain.specs.Histories.{Item, LegalFrom, opening, after_from, untuned}
-use Rattle.satip_laws.specs.Pumping.{Reel, Due, Asking, Feeding, Finished, fresh, tuned, after_work, work_told, moved, none_of, rest_of, after_entry, IsFirst, IsDue, Pumps}
+use Rattle.satip_plain.specs.Pumping.{Reel, Due, Asking, Feeding, Finished, fresh, tuned, after_work, work_told, moved, none_of, rest_of, after_entry, IsFirst, IsDue, Pumps}
 use Rattle.satip_laws.specs.Recorded.{current_in, current_from, is_packet_on, PacketsAreOf, BeginsTold, AreTunedTo, IsRecorded, PacketsAreRecorded}
 use Rattle.satip_laws.proofs.Fronts.{serves, tune_of, mux_at, IsMatched, AreFronts, Keeps, Anew, Shifts}
 use Rattle.satip_laws.proofs.FrontEvents.{event_shifts}

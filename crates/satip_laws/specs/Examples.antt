@@ -19,7 +19,7 @@ use Rattle.satip_laws.specs.Flushes.{retunes}
 use Rattle.satip_laws.specs.Numbers.{sent_in, shares_ssrc}
 use Rattle.satip_laws.specs.OverReadings.{gives_tuning}
 use Rattle.satip_plain.specs.Readings.{readings}
-use Rattle.satip_laws.specs.Pumping.{Reel, Due, after_entry}
+use Rattle.satip_plain.specs.Pumping.{Reel, Due, after_entry}
 use Rattle.satip_laws.specs.Recorded.{current}
 use Rattle.satip_laws.specs.ReadRecording.{fresh_packets}
 

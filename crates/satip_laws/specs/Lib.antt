@@ -3,7 +3,6 @@ pub mod Pulls
 pub mod Payload
 pub mod Numbers
 pub mod Flushes
-pub mod Pumping
 pub mod Recorded
 pub mod OverReadings
 pub mod ReadRecording

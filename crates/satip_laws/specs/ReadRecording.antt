@@ -12,7 +12,7 @@ use Rattle.satip_plain.specs.Types.{Config}
 use Rattle.satip_plain.specs.State.{is_at}
 use Rattle.satip_plain.specs.Histories.{Item, Legal}
 use Rattle.satip_plain.specs.Readings.{Readings, living, nothing_read, read_one, readings}
-use Rattle.satip_laws.specs.Pumping.{Due, Asking, Pumps}
+use Rattle.satip_plain.specs.Pumping.{Due, Asking, Pumps}
 use Rattle.satip_laws.specs.Recorded.{PacketsAreOf, BeginsTold}
 
 -- whether a living stream is at the front end

@@ -11,7 +11,7 @@ use Rattle.satip_plain.specs.Types.{Config}
 use Rattle.satip_plain.specs.State.{State, Stream, served_by}
 use Rattle.satip_plain.specs.Steps.{step, is_current}
 use Rattle.satip_plain.specs.Histories.{Item, Legal, opening, after}
-use Rattle.satip_laws.specs.Pumping.{Due, Asking, Pumps}
+use Rattle.satip_plain.specs.Pumping.{Due, Asking, Pumps}
 
 -- a packet of this front end and this tuning number that isn't stale, or nothing
 abbrev pub current_in : State → Event → ℕ → ℕ → List (List ℕ)

@@ -5,7 +5,7 @@ ghost use Rattle.satip_plain.specs.declared.events.Event.TheVariants.{Tick, Ask,
 ghost use Rattle.satip_plain.specs.declared.answers.Work.TheVariants.{Tune, Nothing, Stopping};
 ghost use Rattle.satip_plain.specs.Examples.{added_pids, first_query, get_second, id_of, join_of, packet, packet_on, packets, play, play_in, play_of_two, setup, setup_with, teardown_in, to_second, two_setup, with_change};
 ghost use Rattle.satip_laws.specs.Examples.{current_pids, due_after, flow, flow_of, fresh_pids, gives_next, newcomer, newcomers, numbers_of, reel, retunes_next, shared_by, untold};
-ghost use Rattle.satip_laws.specs.Pumping.{Asking, Feeding, Finished, fresh};
+ghost use Rattle.satip_plain.specs.Pumping.{Asking, Feeding, Finished, fresh};
 
 // A packet counts once its PID was added; it is held until the tick.
 #[tactic(auto, unfolding(satip_fronts::specs::Choice::choose, satip_fronts::specs::Choice::blocked, satip_fronts::specs::Choice::least, satip_fronts::specs::Choice::placed, satip_fronts::specs::Choice::may_take))]

@@ -1,6 +1,2 @@
 mod LawProofs
 mod TuningLaw
-mod Rounds
-mod Moves
-mod EventMoves
-mod NumberLaw

@@ -10,5 +10,7 @@ pub mod Histories
 pub mod Readings
 pub mod Packets
 pub mod Laws
+pub mod Pumping
+pub mod Single
 pub mod Examples
 pub mod Numbering

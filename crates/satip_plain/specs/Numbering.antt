@@ -1,11 +1,8 @@
 -- The sequence numbers of a session's RTP datagrams (RFC 3550, 5.1).
-use Rattle.std.specs.Prelude.{ℕ, ◌≡◌, ◌+◌, ◌%◌, zero, suc, List, [], ◌∷◌, if◌then◌else◌}
-use Rattle.satip_plain.specs.declared.setting.Setting.{Setting}
+use Rattle.std.specs.Prelude.{ℕ, ◌+◌, ◌%◌, zero, suc, List, [], ◌∷◌, if◌then◌else◌}
 use Rattle.satip_plain.specs.Types.{SessionId}
 use Rattle.satip_plain.specs.State.{same_id}
 use Rattle.satip_plain.specs.Sending.{Sent, Rtp, Report}
-use Rattle.satip_plain.specs.Histories.{Item, opening}
-use Rattle.satip_plain.specs.Packets.{sent_from}
 
 -- the number of a datagram, before those of others, where it is an RTP datagram of the session
 abbrev pub numbered_before : SessionId → Sent → List ℕ → List ℕ
@@ -21,12 +18,3 @@ numbers_for s (d ∷ sent) = numbered_before s d (numbers_for s sent)
 abbrev pub counted : ℕ → ℕ → ℕ → List ℕ
 counted first before zero = []
 counted first before (suc n) = (first + before) % 65536 ∷ counted first (before + 1) n
-
-pub record CountUp (numbers : List ℕ) : Type 0 where
-  pub first : ℕ
-  pub many : ℕ
-  pub are : numbers ≡ counted first 0 many
-
--- the RTP datagrams of each session are numbered one after another
-abbrev pub NumbersCountUp : Type 0
-NumbersCountUp = (c : Setting) (h : List Item) (s : SessionId) → CountUp (numbers_for s (sent_from c.config (opening c) h))

@@ -1,6 +1,5 @@
 //! First consequences of the definitions. Each function does nothing; its contract is the law.
 
-ghost use Rattle.satip_plain.specs.Numbering.{NumbersCountUp};
 ghost use Rattle.satip_plain.specs.Laws.{RefusedChangesNothing, RefusedGetChangesNothing, StaleChangesNothing, GoneChangesNothing, EmptyOnlyHears, PrefixIsLegal, TuningEqIsEquality};
 
 /// A refused request changes nothing but, where the message itself is right, when its session was last heard of.
@@ -36,9 +35,4 @@ pub fn prefix_is_legal()
 /// Two tunings compare as the same exactly where they are.
 pub fn tuning_eq_is_equality()
     ensures law { TuningEqIsEquality }
-{}
-
-/// The RTP datagrams of each session are numbered one after another, modulo 65536 (RFC 3550, 5.1).
-pub fn numbers_count_up()
-    ensures law { NumbersCountUp }
 {}

@@ -7,11 +7,13 @@ mod laws;
 mod setting;
 #[cfg(test)]
 mod tests;
+mod values;
 
 pub use answers::{Answer, Beat, Closed, GetAnswer, Pulled, Replied, Work};
 pub use events::Event;
 pub use laws::{
-    empty_only_hears, gone_changes_nothing, numbers_count_up, prefix_is_legal,
-    refused_changes_nothing, refused_get_changes_nothing, stale_changes_nothing,
+    empty_only_hears, gone_changes_nothing, prefix_is_legal, refused_changes_nothing,
+    refused_get_changes_nothing, stale_changes_nothing,
 };
 pub use setting::Setting;
+pub use values::known_event;
