@@ -55,6 +55,23 @@ abbrev pub ports_asked : Method → Option (List ℕ) → Option Ports
 ports_asked Setup value = option_and_then acceptable_ports value
 ports_asked method value = None
 
+-- a request that asks for nothing
+abbrev pub blank : Request
+blank = record {
+  cseq = None;
+  refusal = None;
+  method = Options;
+  stream = None;
+  session = Absent;
+  query = new_query;
+  ports = None;
+}
+
+-- a request that is filled in place is the one that is wanted, but for the refusal, which is still to be put in
+abbrev pub Fills : {U : Type 0} → Result U Refusal → Request → Request → Type 0
+Fills (Ok done) wanted filled = wanted ≡ filled
+Fills (Err refusal) wanted filled = wanted ≡ record filled { refusal = Some refusal }
+
 -- a request that is refused
 abbrev pub refused : Option ℕ → Refusal → Request
 refused cseq refusal = record {

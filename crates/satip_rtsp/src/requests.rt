@@ -1,8 +1,10 @@
 //! What a message asks for.
-ghost use Rattle.std.specs.Prelude.{◌≡◌, ◌≢◌, ◌↔◌, ℕ, List, Some, None, Err, IsSome, true, false, codes};
+ghost use Rattle.std.specs.Prelude.{◌≡◌, ◌≢◌, ◌↔◌, ℕ, List, Some, None, Err, IsSome, OnErr, true, false, codes};
 ghost use Rattle.std.specs.Option.{option_copied};
 ghost use Rattle.std.specs.Str.{bytes_eq};
-ghost use Rattle.satip_rtsp.specs.Asked.{IsServed, asked, broken as broken_request, cseq_of, is_options as is_options_method, method_named, ports_asked, query_read, refused as refused_request, required as requirement, required_in, with_method, with_required, with_target, with_version};
+ghost use Rattle.satip_query.specs.Queries.{new_query};
+ghost use Rattle.satip_query.specs.Reading.{Answers};
+ghost use Rattle.satip_rtsp.specs.Asked.{Fills, IsServed, asked, blank, broken as broken_request, cseq_of, is_options as is_options_method, method_named, ports_asked, query_read, required as requirement, required_in, with_method};
 ghost use Rattle.satip_rtsp.specs.Targets.{TargetParts, target_of};
 
 use crate::short::Short;
@@ -109,36 +111,81 @@ impl Request {
         ensures not_broken { result.refusal ≢ Some Refusal.Broken }
         ensures not_too_long { result.refusal ≢ Some Refusal.TooLong }
     {
-        read_request(message)
+        let mut request = blank();
+        read_request(message, &mut request);
+        request
     }
 
     /// The request of what is no message.
     pub fn broken(cause: Break) -> Request
         ensures broken { result ≡ broken_request cause }
     {
-        match cause {
-            Break::Bad => refused(None, Refusal::Broken),
-            Break::TooLong => refused(None, Refusal::TooLong),
-        }
+        let mut request = blank();
+        request.refusal = Some(match cause {
+            Break::Bad => Refusal::Broken,
+            Break::TooLong => Refusal::TooLong,
+        });
+        request
     }
 }
 
-#[tactic(auto, unfolding(crate::specs::Asked::asked))]
-fn read_request(message: &Message<'_>) -> Request
-    ensures asked { result ≡ asked message.now }
+// Puts what a message asks for in the place of a request that asks for nothing: a request is large, and moves cost time.
+fn read_request(message: &Message<'_>, into: &mut Request)
+    requires blank { into.old ≡ blank }
+    ensures asked { into.new ≡ asked message.now }
 {
-    match read_cseq(message) {
-        None => refused(None, Refusal::NoCseq),
-        Some(cseq) => with_version(cseq, message),
+    if let Err(refusal) = fill(message, into) {
+        into.refusal = Some(refusal);
     }
 }
 
-fn refused(cseq: Option<u32>, refusal: Refusal) -> Request
-    ensures refused { result ≡ refused_request cseq refusal }
+// Fills in what a message asks for, up to its first refusal.
+#[tactic(auto, unfolding(crate::specs::Asked::asked))]
+fn fill(message: &Message<'_>, into: &mut Request) -> Result<(), Refusal>
+    requires blank { into.old ≡ blank }
+    ensures filled { Fills result (asked message.now) into.new }
+{
+    let Some(cseq) = read_cseq(message) else {
+        return Err(Refusal::NoCseq);
+    };
+    into.cseq = Some(cseq);
+    if !same_bytes(message.version(), b"RTSP/1.0") {
+        return Err(Refusal::Version);
+    }
+    let Some(method) = Method::named(message.method()) else {
+        return Err(Refusal::Method);
+    };
+    fill_served(message, method, into)
+}
+
+// Fills in what a message with a number, the version and a method asks for.
+fn fill_served(message: &Message<'_>, method: Method, into: &mut Request) -> Result<(), Refusal>
+    requires blank { into.old ≡ record blank { cseq = into.old.cseq } }
+    ensures filled { (cseq : ℕ) → into.old.cseq ≡ Some cseq → Fills result (with_method cseq message.now (Some method)) into.new }
+{
+    if let Some(kept) = required(message.header(b"Require")) {
+        return Err(Refusal::Require(kept));
+    }
+    let Some(target) = Target::of(message.target(), is_options(method)) else {
+        return Err(Refusal::Target);
+    };
+    if let Err(fault) = read_query(method, target.query(), &mut into.query) {
+        return Err(Refusal::Query(fault));
+    }
+    into.method = method;
+    into.stream = target.stream();
+    into.session = session_name(message.header(b"Session"));
+    into.ports = ports_of(method, message.header(b"Transport"));
+    Ok(())
+}
+
+// A request that asks for nothing.
+fn blank() -> Request
+    ensures blank { result ≡ blank }
 {
     Request {
-        cseq,
-        refusal: Some(refusal),
+        cseq: None,
+        refusal: None,
         method: Method::Options,
         stream: None,
         session: SessionName::Absent,
@@ -160,27 +207,6 @@ fn read_cseq(message: &Message<'_>) -> Option<u32>
     }
 }
 
-fn with_version(cseq: u32, message: &Message<'_>) -> Request
-    ensures request { result ≡ with_version cseq message.now (bytes_eq message.now.version (codes "RTSP/1.0")) }
-{
-    if !same_bytes(message.version(), b"RTSP/1.0") {
-        return refused(Some(cseq), Refusal::Version);
-    }
-    match Method::named(message.method()) {
-        None => refused(Some(cseq), Refusal::Method),
-        Some(method) => with_method(cseq, message, method),
-    }
-}
-
-fn with_method(cseq: u32, message: &Message<'_>, method: Method) -> Request
-    ensures request { result ≡ with_method cseq message.now (Some method) }
-{
-    match required(message.header(b"Require")) {
-        Some(kept) => refused(Some(cseq), Refusal::Require(kept)),
-        None => with_target(cseq, message, method),
-    }
-}
-
 fn required(value: Option<&[u8]>) -> Option<Short>
     ensures kept { result ≡ requirement (option_copied value.entry) }
 {
@@ -188,32 +214,6 @@ fn required(value: Option<&[u8]>) -> Option<Short>
         None => None,
         Some(value) if value.is_empty() => None,
         Some(value) => Some(Short::of(value)),
-    }
-}
-
-fn with_target(cseq: u32, message: &Message<'_>, method: Method) -> Request
-    ensures request { result ≡ with_required cseq message.now method None }
-{
-    match Target::of(message.target(), is_options(method)) {
-        None => refused(Some(cseq), Refusal::Target),
-        Some(target) => with_query(cseq, message, method, &target),
-    }
-}
-
-fn with_query(cseq: u32, message: &Message<'_>, method: Method, target: &Target<'_>) -> Request
-    ensures request { result ≡ with_target cseq message.now method (Some target.now) }
-{
-    match read_query(method, target.query()) {
-        Err(fault) => refused(Some(cseq), Refusal::Query(fault)),
-        Ok(query) => Request {
-            cseq: Some(cseq),
-            refusal: None,
-            method,
-            stream: target.stream(),
-            session: session_name(message.header(b"Session")),
-            query,
-            ports: ports_of(method, message.header(b"Transport")),
-        },
     }
 }
 
@@ -226,16 +226,15 @@ fn is_options(method: Method) -> bool
     }
 }
 
-fn read_query(method: Method, text: &[u8]) -> Result<Query, QueryFault>
-    ensures query { result ≡ query_read method text.now }
+// Reads the query where the method has one.
+fn read_query(method: Method, text: &[u8], into: &mut Query) -> Result<(), QueryFault>
+    requires blank { into.old ≡ new_query }
+    ensures query { Answers result (query_read method text.now) into.new }
+    ensures emptied { OnErr result (into.new ≡ new_query) }
 {
-    let mut query = Query::new();
     match method {
-        Method::Setup | Method::Play => match read(text, &mut query) {
-            Ok(()) => Ok(query),
-            Err(fault) => Err(fault),
-        },
-        _ => Ok(query),
+        Method::Setup | Method::Play => read(text, into),
+        _ => Ok(()),
     }
 }
 
