@@ -1,5 +1,5 @@
 -- The next number of a session, by its packer.
-use Rattle.std.proofs.Common.{◌≡◌, ◌∙◌, ℕ, ◌+◌, ◌<◌, ◌%◌, Bool, true, false, cond, List, [], ◌∷◌, ◌++◌, map, length, find, Option, Some, None, refl, ap, sym, subst, arith}
+use Rattle.std.proofs.Common.{◌≡◌, ◌∙◌, ◌+◌, ◌%◌, Bool, true, false, cond, List, map, length, find, Option, Some, None, refl, ap, sym, arith}
 use Rattle.std.specs.Option.{option_map, option_map_or, option_and_then}
 use Rattle.satip_base.specs.declared.identity.SessionId.{SessionId}
 use Rattle.satip_table.specs.declared.session.Seat.{Seat}
@@ -9,17 +9,16 @@ use Rattle.satip_flow.specs.declared.place.SenderState.{SenderState}
 use Rattle.satip_flow.specs.Subscription.{Subscription, has_slot, sender_state, packing_of as packing_in}
 use Rattle.satip_flow.specs.Subscriptions.{packing_of_slot}
 use Rattle.satip_plain.specs.Types.{Config}
-use Rattle.satip_plain.specs.State.{Session, Stream, State}
+use Rattle.satip_plain.specs.State.{Stream, State}
 use Rattle.satip_plain.specs.Steps.{is_session, next_number}
 use Rattle.satip_state.specs.Kept.{Kept}
 use Rattle.satip_state.specs.Seated.{Seated, row_of, seat_of, subscriber, subscribers, feed_of, packing_of}
 use Rattle.satip_state.specs.Standing.{StandsFor, IsKept}
 use Rattle.satip_state.specs.Looks.{kept_number, sender_in, rtsp_number}
 use Rattle.satip_state.proofs.Picking.{find-map, find_place, get_has}
-use Rattle.satip_state.proofs.Apart.{Alone, alone_at, has_session, slot_itself}
+use Rattle.satip_state.proofs.Apart.{alone_at, has_session, slot_itself}
 use Rattle.satip_state.proofs.Listed.{subscribers_find}
-use Rattle.satip_state.proofs.Mapped.{seated_kept, stands_apart, stream_lives, all_kept, sessions_of}
-use Rattle.satip_state.proofs.Looking.{sessions_in}
+use Rattle.satip_state.proofs.Mapped.{seated_kept, stands_apart, stream_lives, all_kept}
 
 -- what is told of a subscription's packer
 abbrev sender_at : Option Subscription → Option SenderState

@@ -14,7 +14,7 @@ use Rattle.satip_tune.specs.declared.tunings.Tuning.{Tuning}
 use Rattle.satip_fronts.specs.declared.rows.FrontRow.{FrontRow}
 use Rattle.satip_fronts.specs.Rows.{is_at as is_placed, is_row}
 use Rattle.satip_fronts.specs.Choice.{Outlook, blocked}
-use Rattle.satip_fronts.specs.FrontEnds.{FrontEnds, front_of, mux_at, outlook, placed_at}
+use Rattle.satip_fronts.specs.FrontEnds.{front_of, mux_at, outlook}
 use Rattle.satip_fronts.specs.Openings.{IsStreamOrNone, blocked_for, new_outlook, outlook_for as outlook_of_fronts}
 use Rattle.satip_plain.specs.Types.{Config}
 use Rattle.satip_plain.specs.State.{Stream, Row, State, is_at, row_of, stream_of, served_by}

@@ -10,7 +10,7 @@ use Rattle.satip_state.specs.Kept.{Kept}
 use Rattle.satip_base.specs.declared.identity.SessionId.{SessionId}
 use Rattle.satip_table.specs.declared.session.Session.{Session as Row}
 use Rattle.satip_plain.specs.Types.{Config, Tuning}
-use Rattle.satip_plain.specs.State.{Session, State, owner, same_id}
+use Rattle.satip_plain.specs.State.{Session, State, owner}
 use Rattle.satip_plain.specs.Refusals.{new_outlook}
 use Rattle.satip_plain.specs.Streams.{outlook_of}
 use Rattle.satip_fronts.specs.Choice.{Outlook, blocked}

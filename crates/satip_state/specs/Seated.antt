@@ -1,5 +1,5 @@
 -- The plain server's sessions with their slots, and what the parts keep of them.
-use Rattle.std.specs.Prelude.{ℕ, ◌+◌, ◌*◌, ◌%◌, ◌==◌, Bool, if◌then◌else◌, List, map, filter, filter_map, flat_map, find, length, sum, Option, Some, None}
+use Rattle.std.specs.Prelude.{ℕ, ◌+◌, ◌*◌, ◌%◌, ◌==◌, Bool, if◌then◌else◌, List, filter, filter_map, flat_map, find, length, sum, Option, Some, None}
 use Rattle.std.specs.Option.{option_map}
 use Rattle.satip_base.specs.declared.network.Address.{Address}
 use Rattle.satip_table.specs.declared.session.Seat.{Seat}

@@ -1,5 +1,5 @@
 -- When the parts stand for a state of the plain server.
-use Rattle.std.specs.Prelude.{ℕ, ◌≡◌, ◌<◌, ◌≤◌, true, false, if◌then◌else◌, List, [], map, length, sum, Option, Some, slice_get, IfSome}
+use Rattle.std.specs.Prelude.{ℕ, ◌≡◌, ◌<◌, ◌≤◌, true, false, if◌then◌else◌, List, [], map, length, sum, Some, slice_get, IfSome}
 use Rattle.std.specs.Option.{option_and_then}
 use Rattle.satip_base.specs.Output.{Output}
 use Rattle.satip_rtp.specs.Sending.{SendsAll}

@@ -1,4 +1,4 @@
-use Rattle.std.proofs.Common.{◌≡◌, ◌∙◌, Bool, cond, Some, None, Option, ap, sym}
+use Rattle.std.proofs.Common.{◌∙◌, Bool, cond, Some, None, Option, ap, sym}
 use Rattle.satip_plain.specs.Types.{Tuning}
 use Rattle.satip_plain.specs.Streams.{other_than}
 use Rattle.satip_state.proofs.Same.{derived_same}

@@ -1,6 +1,4 @@
-use Rattle.std.proofs.Common.{◌≡◌, ◌∙◌, ap, sym, subst, Bor, Some, None}
-use Rattle.std.specs.Option.{option_map}
-use Rattle.satip_table.specs.declared.stream.Stream.{Stream as StreamRow}
+use Rattle.std.proofs.Common.{sym, subst, Some, None}
 use Rattle.satip_state.specs.Standing.{StandsFor}
 use Rattle.satip_state.proofs.Looking.{owner_looked}
 use Rattle.satip_state.proofs.parts.Parts.owner.Goals as goal
