@@ -10,12 +10,12 @@ use Rattle.hex.specs.declared.error.FromHexError.{FromHexError}
 use Rattle.hex.proofs.HexLemmas.{decode_of-even, decode_of-odd, decode_of-digits, decode_of-ok, decode_sized-twice}
 use Rattle.hex.proofs.Pairs.{cons_byte, decode_pairs-ok_pair}
 
-bind_ok : {A B : Type 0} (r : Result A FromHexError) (f : A → Result B FromHexError) (y : B)
+pub bind_ok : {A B : Type 0} (r : Result A FromHexError) (f : A → Result B FromHexError) (y : B)
     → (r >>= f) ≡ Ok y → (x : A) × (r ≡ Ok x) × (f x ≡ Ok y)
 bind_ok (Ok x) f y h = (x, refl, h)
 bind_ok (Err e) f y h = cc h
 
-digit_read : (c i : ℕ) (o : Option ℕ) (v : ℕ) → digit_or_error c i o ≡ Ok v → o ≡ Some v
+pub digit_read : (c i : ℕ) (o : Option ℕ) (v : ℕ) → digit_or_error c i o ≡ Ok v → o ≡ Some v
 digit_read c i (Some w) v h = ap Some (ap (λ (r : Result ℕ FromHexError). result_unwrap_or r 0) h)
 digit_read c i None v h = cc h
 
@@ -30,14 +30,14 @@ pair_anywhere a b i j v h =
     both ∙ low.2
 
 -- the first byte and the others
-record Parts (a b : ℕ) (rest bytes : List ℕ) (i : ℕ) : Type 0 where
-  byte : ℕ
-  others : List ℕ
-  is : bytes ≡ byte ∷ others
-  pair : (j : ℕ) → pair_value a b j ≡ Ok byte
-  more : decode_pairs (i + 2) rest ≡ Ok others
+pub record Parts (a b : ℕ) (rest bytes : List ℕ) (i : ℕ) : Type 0 where
+  pub byte : ℕ
+  pub others : List ℕ
+  pub is : bytes ≡ byte ∷ others
+  pub pair : (j : ℕ) → pair_value a b j ≡ Ok byte
+  pub more : decode_pairs (i + 2) rest ≡ Ok others
 
-parts_of : (a b i : ℕ) (rest bytes : List ℕ) → decode_pairs i (a ∷ b ∷ rest) ≡ Ok bytes → Parts a b rest bytes i
+pub parts_of : (a b i : ℕ) (rest bytes : List ℕ) → decode_pairs i (a ∷ b ∷ rest) ≡ Ok bytes → Parts a b rest bytes i
 unfolding decode_pairs
 parts_of a b i rest bytes h =
     let first = bind_ok (pair_value a b i) _ bytes h in
@@ -136,7 +136,7 @@ hex_by false false false x y z = refl
 same_digit : (c : ℕ) → is_hex_digit c ≡ is_ascii_hexdigit c
 same_digit c = hex_by (nat_le 48 c && nat_le c 57) (nat_le 65 c && nat_le c 70) (nat_le 97 c && nat_le c 102) (c - 55) (c - 87) (c - 48)
 
-all_same : (s : List ℕ) → list_all is_hex_digit s ≡ list_all is_ascii_hexdigit s
+pub all_same : (s : List ℕ) → list_all is_hex_digit s ≡ list_all is_ascii_hexdigit s
 all_same [] = refl
 all_same (c ∷ s) = rw (same_digit c, all_same s) refl
 

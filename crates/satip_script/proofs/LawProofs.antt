@@ -49,6 +49,20 @@ one_by false form a b x y = one_formed form a b x y
 pub line_is_one : (line : List ℕ) (a b : Line) → IsLine line a → IsLine line b → a ≡ b
 line_is_one line a b x y = one_by (is_skipped line) (form_of (words_of line)) a b x y
 
+formed_kept : (form : Option Form) → IsFormed form Skip → ⊥
+formed_kept None x = cc x
+formed_kept (Some (Rtsp call)) x = x
+formed_kept (Some (Http call)) x = x
+formed_kept (Some (Other e)) x = cc x
+
+kept_by : (skipped : Bool) (form : Option Form) → skipped ≡ false → MatchBool skipped (Skip ≡ Skip) (IsFormed form Skip) → ⊥
+kept_by true form kept x = cc kept
+kept_by false form kept x = formed_kept form x
+
+-- a line that isn't to be skipped is an event or wrong
+pub line_is_kept : (line : List ℕ) → is_skipped line ≡ false → IsLine line Skip → ⊥
+line_is_kept line kept x = kept_by (is_skipped line) (form_of (words_of line)) kept x
+
 telling : (text : List ℕ) (event : Told → Event) → ((told : Told) × Tells text told) ⊎ TellsNothing text → (l : Line) × IsTold text event l
 telling text event (inl x) = (EventLine (event x.0), (x.0, x.1, refl))
 telling text event (inr none) = (Wrong, none)

@@ -1,14 +1,18 @@
 -- Lines that were read, one after another.
-use Rattle.std.proofs.Common.{◌≡◌, ℕ, ◌+◌, ◌≤◌, ◌<◌, List, [], ◌∷◌, length, Some, Result, Ok, Err, refl, sym, ap, ◌∙◌, subst, inl, inr, arith}
+use Rattle.std.proofs.Common.{◌≡◌, ℕ, ◌+◌, ◌≤◌, ◌<◌, List, [], ◌∷◌, length, Some, false, Result, Ok, Err, refl, sym, ap, ◌∙◌, subst, inl, inr, arith}
 use Rattle.std.proofs.lemmas.List.Splits.{length-slice_split}
 use Rattle.std.proofs.lemmas.List.Sums.{count_by-le-length}
 use Rattle.satip_tune.specs.Pieces.{is_byte}
 use Rattle.satip_plain.specs.declared.events.Event.{Event}
+use Rattle.satip_plain.specs.declared.events.Event.TheVariants.{Tick, Packet}
 use Rattle.satip_script.specs.declared.lines.Line.TheVariants.{Skip, Event as EventLine, Wrong}
-use Rattle.satip_script.specs.Lines.{lines_of}
+use Rattle.satip_script.specs.declared.lines.EventParts.{EventParts}
+use Rattle.satip_script.specs.declared.lines.EventParts.TheVariants.{Tick as TickParts, Packet as PacketParts, Line as OfLine}
+use Rattle.satip_script.specs.Lines.{lines_of, is_skipped}
+use Rattle.satip_script.specs.Often.{HasParts, PartsGivenAfter}
 use Rattle.satip_script.specs.Reading.{IsLine}
 use Rattle.satip_script.specs.Scripts.{with_event, ComesTo, IsScript, Gives, IsOver, HasNext, GivenAfter}
-use Rattle.satip_script.proofs.LawProofs.{line_is_one}
+use Rattle.satip_script.proofs.LawProofs.{line_is_one, line_is_kept}
 
 -- ---- the whole text
 
@@ -97,6 +101,13 @@ gives_wrong line lines events wrong (number, inl x) = cc (x.1)
 gives_wrong line lines events wrong (number, inr (inl x)) = let no = line_is_one line Wrong Skip wrong x.0 in cc no
 gives_wrong line lines events wrong (number, inr (inr x)) = let no = line_is_one line Wrong (EventLine x.0) wrong x.2 in cc no
 
+-- a line that isn't skipped has the first event
+gives_kept : (line : List ℕ) (lines : List (List ℕ)) (events : List Event) → is_skipped line ≡ false → Gives (line ∷ lines) events
+    → (e : Event) × IsLine line (EventLine e)
+gives_kept line lines events kept (number, inl x) = cc (x.1)
+gives_kept line lines events kept (number, inr (inl x)) = absurd (line_is_kept line kept x.0)
+gives_kept line lines events kept (number, inr (inr x)) = (x.0, x.2)
+
 gives_end : (events : List Event) → Gives [] events → events ≡ []
 gives_end events x = let same : Ok events ≡ Ok [] = x.1 in cc
 
@@ -114,6 +125,14 @@ module _ (first now left : List (List ℕ)) (line : List ℕ) (is : now ≡ line
 
   pub event_given : (e : Event) → IsLine line (EventLine e) → (events : List Event) → Gives first events → GivenAfter events left (Some e)
   event_given e event events x = gives_event line left events e event (subst (λ ls. Gives ls events) is (passed.given events x))
+
+  pub parts_given : (parts : EventParts) → HasParts line (Some parts) → (events : List Event) → Gives first events → PartsGivenAfter events left (Some parts)
+  parts_given (TickParts now) has events x = (Tick now, refl, event_given (Tick now) has events x)
+  parts_given (PacketParts front tune packet) has events x =
+      (Packet front tune packet, refl, event_given (Packet front tune packet) has events x)
+  parts_given (OfLine same) has events x =
+      let e = gives_kept line left events has.kept (subst (λ ls. Gives ls events) is (passed.given events x)) in
+      (e.0, subst (λ l. IsLine l (EventLine e.0)) (sym has.is) e.1, event_given e.0 e.1 events x)
 
   pub event_shorter : length left < length first
   event_shorter = omega (arith, passed.shorter, ap length is)

@@ -8,3 +8,5 @@ pub mod Runs
 pub mod Printed
 pub mod Inner
 pub mod Laws
+pub mod Often
+pub mod Checks

@@ -1,9 +1,11 @@
 //! Lines that are an event by themselves.
-ghost use Rattle.std.specs.Prelude.{◌≡◌};
+ghost use Rattle.std.specs.Prelude.{◌≡◌, option_map};
 ghost use Rattle.satip_base.specs.Numbers.{number_of};
 ghost use Rattle.satip_tune.specs.Pieces.{pieces_left};
 ghost use Rattle.satip_script.specs.Lines.{one_word as only_word, two_words as only_two, three_words as only_three};
 ghost use Rattle.satip_script.specs.Forms.{event_of, tick_by, packet_by, ended_by, ask_by, pull_by, close_by, stop_by};
+ghost use Rattle.satip_plain.specs.declared.events.Event.TheVariants.{Tick};
+ghost use Rattle.satip_script.specs.Often.{packet_in};
 
 use crate::words::{one_word, read_packet, three_words, two_words};
 use satip_base::{SessionId, read_number};
@@ -37,13 +39,20 @@ pub(crate) fn read_event(kind: &[u8], rest: Option<&[u8]>) -> Option<Event>
 fn read_tick(rest: Option<&[u8]>) -> Option<Event>
     ensures event { result ≡ tick_by (only_word (pieces_left 32 rest.entry)) }
 {
-    let Some(now) = one_word(rest) else {
-        return None;
-    };
-    match read_number(now, u64::MAX) {
+    match tick_of_word(rest) {
         Some(now) => Some(Event::Tick { now }),
         None => None,
     }
+}
+
+/// The moment of a tick.
+pub(crate) fn tick_of_word(rest: Option<&[u8]>) -> Option<u64>
+    ensures event { option_map Tick result ≡ tick_by (only_word (pieces_left 32 rest.entry)) }
+{
+    let Some(now) = one_word(rest) else {
+        return None;
+    };
+    read_number(now, u64::MAX)
 }
 
 // The number of a front end.
@@ -60,13 +69,7 @@ fn read_front(word: &[u8]) -> Option<u16>
 fn read_packet_event(rest: Option<&[u8]>) -> Option<Event>
     ensures event { result ≡ packet_by (only_three (pieces_left 32 rest.entry)) }
 {
-    let Some((front, tune, digits)) = three_words(rest) else {
-        return None;
-    };
-    let Some(front) = read_front(front) else {
-        return None;
-    };
-    let Some(tune) = read_number(tune, u64::MAX) else {
+    let Some((front, tune, digits)) = packet_words(rest) else {
         return None;
     };
     match read_packet(digits) {
@@ -77,6 +80,22 @@ fn read_packet_event(rest: Option<&[u8]>) -> Option<Event>
         }),
         None => None,
     }
+}
+
+/// The front end, the tuning number and the digits of a line of a packet.
+pub(crate) fn packet_words<'a>(rest: Option<&'a [u8]>) -> Option<(u16, u64, &'a [u8])>
+    ensures event { packet_in result ≡ packet_by (only_three (pieces_left 32 rest.entry)) }
+{
+    let Some((front, tune, digits)) = three_words(rest) else {
+        return None;
+    };
+    let Some(front) = read_front(front) else {
+        return None;
+    };
+    let Some(tune) = read_number(tune, u64::MAX) else {
+        return None;
+    };
+    Some((front, tune, digits))
 }
 
 fn read_ended(rest: Option<&[u8]>) -> Option<Event>

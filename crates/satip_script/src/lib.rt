@@ -5,15 +5,14 @@ mod events;
 mod laws;
 mod lines;
 mod messages;
+mod pieces;
 mod printing;
 mod scripts;
 #[cfg(test)]
 mod tests;
-mod values;
 mod words;
 
 pub use laws::{one_line, one_run, one_script, run_grows};
-pub use lines::{Line, read_line};
+pub use lines::{EventParts, Line, read_line};
 pub use printing::print_entry;
 pub use scripts::{Script, check_script};
-pub use values::known_event;

@@ -5,14 +5,17 @@ ghost use Rattle.satip_script.specs.Lines.{is_skipped as is_skipped_text, three_
 ghost use Rattle.satip_script.specs.Forms.{Rtsp, Http, call_by, form_named};
 ghost use Rattle.satip_script.specs.Reading.{IsFormed, IsLine};
 ghost use Rattle.satip_script.specs.Inner.{AreCall};
+ghost use Rattle.satip_script.specs.Often.{IsOftenForm, IsOften, HasParts};
 
-use crate::events::read_event;
+use crate::events::{packet_words, read_event, tick_of_word};
 use crate::messages::{read_get, read_request};
-use crate::words::{are_digits, read_draw, three_words};
+use crate::pieces::cut;
+use crate::words::{are_digits, read_draw, read_packet, three_words};
 use satip_base::{Draw, Peer, read_ip};
 use satip_frame::Framer;
 use satip_plain::Event;
-use satip_tune::{cut, same_bytes};
+use satip_ts::Packet;
+use satip_tune::same_bytes;
 
 /// What a line of a script is.
 #[derive(Drop)]
@@ -35,6 +38,103 @@ pub fn read_line(line: &[u8], framer: &mut Framer) -> Line
     }
     let (kind, rest) = cut(line, b' ');
     read_kind(kind, rest, framer)
+}
+
+/// The lines that a script has most of: an event of a few words, far smaller than an `Event`.
+#[derive(Drop)]
+pub(crate) enum Often<'a> {
+    /// An empty line, or a comment.
+    Skip,
+    Tick {
+        now: u64,
+    },
+    /// A packet by its digits; where these are none of a packet, a wrong line.
+    Packet {
+        front: u16,
+        tune: u64,
+        digits: &'a [u8],
+    },
+    /// Some other line.
+    Other,
+}
+
+/// Reads a line that is skipped, a tick or a packet.
+pub(crate) fn read_often<'a>(line: &'a [u8]) -> Often<'a>
+    ensures often { IsOften line.now result }
+{
+    if is_skipped(line) {
+        return Often::Skip;
+    }
+    let (kind, rest) = cut(line, b' ');
+    read_often_kind(kind, rest)
+}
+
+#[tactic(auto, unfolding(crate::specs::Forms::form_named, crate::specs::Forms::event_of))]
+fn read_often_kind<'a>(kind: &[u8], rest: Option<&'a [u8]>) -> Often<'a>
+    ensures often { IsOftenForm (form_named kind.now (pieces_left 32 rest.entry)) result }
+{
+    if same_bytes(kind, b"rtsp") {
+        return Often::Other;
+    }
+    if same_bytes(kind, b"http") {
+        return Often::Other;
+    }
+    if same_bytes(kind, b"tick") {
+        return match tick_of_word(rest) {
+            Some(now) => Often::Tick { now },
+            None => Often::Other,
+        };
+    }
+    if same_bytes(kind, b"packet") {
+        return match packet_words(rest) {
+            Some((front, tune, digits)) => Often::Packet {
+                front,
+                tune,
+                digits,
+            },
+            None => Often::Other,
+        };
+    }
+    Often::Other
+}
+
+/// An event of a script: a tick or a packet, of which a script has most, by its parts, since an
+/// `Event` is far larger, and any other event by its line.
+#[derive(Drop)]
+pub enum EventParts<'a> {
+    Tick {
+        now: u64,
+    },
+    Packet {
+        front: u16,
+        tune: u64,
+        packet: Packet,
+    },
+    /// What `read_line` reads: an event, or a wrong line.
+    Line(&'a [u8]),
+}
+
+/// The parts of a line's event; None where the line is skipped.
+pub(crate) fn read_parts<'a>(line: &'a [u8]) -> Option<EventParts<'a>>
+    ensures parts { HasParts line.now result }
+{
+    match read_often(line) {
+        Often::Skip => None,
+        Often::Tick { now } => Some(EventParts::Tick { now }),
+        Often::Packet {
+            front,
+            tune,
+            digits,
+        } => match read_packet(digits) {
+            Some(packet) => Some(EventParts::Packet {
+                front,
+                tune,
+                packet,
+            }),
+            None => Some(EventParts::Line(line)),
+        },
+        Often::Other => Some(EventParts::Line(line)),
+    }
 }
 
 fn is_skipped(line: &[u8]) -> bool

@@ -3,13 +3,15 @@ ghost use Rattle.std.specs.Prelude.{◌≡◌, ℕ, ◌∷◌, ◌<◌, [], List
 ghost use Rattle.satip_plain.specs.declared.events.Event.{Event as EventValue};
 ghost use Rattle.satip_plain.specs.Values.{IsEvent};
 ghost use Rattle.satip_script.specs.Lines.{lines_of};
+ghost use Rattle.satip_script.specs.Checks.{IsChecked};
+ghost use Rattle.satip_script.specs.Often.{AreParts, AreWrong, PartsGivenAfter};
 ghost use Rattle.satip_script.specs.Scripts.{IsScript, Gives, IsOver, HasNext, GivenAfter};
 
-use crate::lines::{Line, read_line};
-use crate::values::known_event;
+use crate::lines::{EventParts, Line, Often, read_line, read_often, read_parts};
+use crate::pieces::cut;
+use crate::words::is_packet;
 use satip_frame::Framer;
-use satip_plain::Event;
-use satip_tune::cut;
+use satip_plain::{Event, known_event};
 use std::marker::Model;
 
 /// The number of the first wrong line of a script, from 1; None where each line is right.
@@ -20,14 +22,45 @@ pub fn check_script(text: &[u8], framer: &mut Framer) -> Option<u64>
     let mut script = Script::of(text);
     let mut number: u64 = 1;
     'lines: while let Some(line) = script.next_line() {
-        match read_line(line, framer) {
-            Line::Skip => {}
-            Line::Event(_) => {}
-            Line::Wrong => return Some(number),
+        match check_line(line, framer) {
+            Check::Skip => {}
+            Check::Right => {}
+            Check::Wrong => return Some(number),
         }
         number += 1;
     }
     None
+}
+
+// Whether a line is skipped, is an event, or is wrong.
+#[derive(Clone, Copy, Debug, PartialEq, Eq)]
+enum Check {
+    Skip,
+    Right,
+    Wrong,
+}
+
+fn check_line(line: &[u8], framer: &mut Framer) -> Check
+    ensures check { IsChecked line.now result }
+{
+    match read_often(line) {
+        Often::Skip => Check::Skip,
+        Often::Tick { .. } => Check::Right,
+        Often::Packet { digits, .. } if is_packet(digits) => Check::Right,
+        Often::Packet { .. } => check_other(line, framer),
+        Often::Other => check_other(line, framer),
+    }
+}
+
+#[inline(never)]
+fn check_other(line: &[u8], framer: &mut Framer) -> Check
+    ensures check { IsChecked line.now result }
+{
+    match read_line(line, framer) {
+        Line::Skip => Check::Skip,
+        Line::Event(_) => Check::Right,
+        Line::Wrong => Check::Wrong,
+    }
 }
 
 /// The lines of a script that were not read yet.
@@ -88,6 +121,27 @@ impl<'a> Script<'a> {
                     self.rest = None;
                     return None;
                 }
+            }
+        }
+        None
+    }
+
+    /// The next event in parts. None at the end. Where its line turns out to be wrong there is no
+    /// next event.
+    pub fn next_parts(&mut self) -> Option<EventParts<'a>>
+        ensures over { IfNone result (IsOver self.old) }
+        ensures next { IfSome result (λ parts. (event : EventValue) → AreParts parts event → HasNext self.old event self.new) }
+        ensures wrong { IfSome result (λ parts. AreWrong parts → IsOver self.old) }
+
+        // Where no line is wrong, the parts are those of the lines' events, in their order.
+        ensures given { (events : List EventValue) → Gives self.old events → PartsGivenAfter events self.new result }
+
+        ensures shorter { IsSome result → length self.new < length self.old }
+        ensures ended { IsNone result → self.new ≡ [] }
+    {
+        'lines: while let Some(line) = self.next_line() {
+            if let Some(parts) = read_parts(line) {
+                return Some(parts);
             }
         }
         None

@@ -1,5 +1,5 @@
 //! The words of a line, and what single words write.
-ghost use Rattle.std.specs.Prelude.{◌≡◌, IsOk, None, option_map};
+ghost use Rattle.std.specs.Prelude.{◌≡◌, IsOk, None, is_some, option_map};
 ghost use Rattle.std.specs.Option.{option_copied};
 ghost use Rattle.std.specs.Bool.{OnTrue, OnFalse};
 ghost use Rattle.std.specs.Char.{is_ascii_hexdigit};
@@ -11,9 +11,9 @@ ghost use Rattle.std.specs.Int.{from_be_bytes, w16, w32};
 ghost use Rattle.satip_script.specs.Parts.{bytes_of, draw_of, packet_of, sized_bytes};
 ghost use Rattle.satip_script.specs.Inner.{pair_now, triple_now};
 
+use crate::pieces::cut;
 use satip_base::Draw;
 use satip_ts::Packet;
-use satip_tune::cut;
 
 const SPACE: u8 = b' ';
 
@@ -83,7 +83,11 @@ pub(crate) fn are_digits(text: &[u8]) -> bool
 fn are_all_digits(text: &[u8]) -> bool
     ensures test { result ≡ list_all is_ascii_hexdigit text.now }
 {
-    text.iter().all(|byte| byte.is_ascii_hexdigit())
+    let mut all = true;
+    'digits: for byte in text {
+        all &= byte.is_ascii_hexdigit();
+    }
+    all
 }
 
 /// A draw of 20 digits: 8 of its word, 8 of its SSRC, 4 of its first number.
@@ -126,6 +130,14 @@ fn read_u16(digits: &[u8]) -> Option<u16>
         Ok(()) => Some(u16::from_be_bytes(bytes)),
         Err(_) => None,
     }
+}
+
+/// Whether a text is the digits of a packet. None is decoded.
+#[tactic(auto, using(crate::proofs::PacketDigits::packet_tests))]
+pub(crate) fn is_packet(digits: &[u8]) -> bool
+    ensures test { result ≡ is_some (packet_of digits.now) }
+{
+    digits.len() == 376 && digits[0] == b'4' && digits[1] == b'7' && are_all_digits(digits)
 }
 
 /// The packet of 376 digits, of which the first two are 47.

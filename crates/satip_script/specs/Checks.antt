@@ -1,0 +1,13 @@
+-- What a line is, without its event.
+use Rattle.std.specs.Prelude.{ℕ, List}
+use Rattle.satip_plain.specs.declared.events.Event.{Event}
+use Rattle.satip_script.specs.declared.lines.Line.TheVariants.{Skip, Event as EventLine, Wrong}
+use Rattle.satip_script.specs.declared.scripts.Check.{Check}
+use Rattle.satip_script.specs.declared.scripts.Check.TheVariants.{Skip as CheckSkip, Right, Wrong as CheckWrong}
+use Rattle.satip_script.specs.Reading.{IsLine}
+
+-- the line is skipped, has some event, or is wrong
+abbrev pub IsChecked : List ℕ → Check → Type 0
+IsChecked line CheckSkip = IsLine line Skip
+IsChecked line Right = (e : Event) × IsLine line (EventLine e)
+IsChecked line CheckWrong = IsLine line Wrong
