@@ -56,7 +56,7 @@ impl<S: Served> TurnCell<S> {
     }
 
     /// Makes one call, once no other caller holds the turn. It waits.
-    pub fn call<R: Wait + Sync>(
+    pub fn call<R: Wait>(
         &self,
         rt: &R,
         pass: &mut Pass<S>,
@@ -89,7 +89,7 @@ impl<S: Served> TurnCell<S> {
     }
 
     /// Looks at the whole history, once no other caller holds the turn. It waits.
-    pub fn refresh<R: Wait + Sync>(&self, rt: &R, pass: &mut Pass<S>)
+    pub fn refresh<R: Wait>(&self, rt: &R, pass: &mut Pass<S>)
         requires { IsOf pass.old self.now }
         ensures of { IsOf pass.new self.now }
         ensures rests { pass.new.turn ≡ false }
@@ -107,7 +107,7 @@ impl<S: Served> TurnCell<S> {
     /// Makes the feed's events one after another under one turn, each one entry: until the feed
     /// gives none, 64 entries were made, or the history is full. It waits for the turn. No other
     /// caller's entry stands between those of a burst.
-    pub fn burst<R: Wait + Sync, F: Feed<S>>(
+    pub fn burst<R: Wait, F: Feed<S>>(
         &self,
         rt: &R,
         pass: &mut Pass<S>,
