@@ -2,14 +2,17 @@
 use Rattle.std.specs.Prelude.{◌≡◌, ◌==◌, ℕ, Bool, true, false, List, [], ◌∷◌, Option, Some, None}
 use Rattle.satip_base.specs.Streams.{Feed}
 
--- a store over memory: multiplexes with their recordings, and how often it failed
+-- a store over memory: multiplexes with their recordings, how often it failed, how many sources are out, and the most
+-- that ever were
 pub record Shelf : Type 0 where
   pub recordings : List (ℕ × List ℕ)
   pub faults : ℕ
+  pub lent : ℕ
+  pub peak : ℕ
 
--- no multiplex has a recording
+-- no multiplex has a recording, and no source was ever out
 abbrev pub empty_shelf : Shelf
-empty_shelf = record { recordings = []; faults = 0 }
+empty_shelf = record { recordings = []; faults = 0; lent = 0; peak = 0 }
 
 -- this recording where the test holds, and else another
 abbrev pub recording_if : Bool → List ℕ → Option (List ℕ) → Option (List ℕ)

@@ -71,6 +71,8 @@ pub struct MemoryStore {
     reels: Vec<Reel>,
     failures: Failures,
     faults: u64,
+    lent: u64,
+    peak: u64,
 }
 
 impl Model for MemoryStore {
@@ -80,7 +82,12 @@ impl Model for MemoryStore {
 
     ghost Value = { Shelf };
 
-    ghost view = { λ s. record { recordings = map row_of s.reels.items; faults = s.faults } };
+    ghost view = { λ s. record {
+      recordings = map row_of s.reels.items;
+      faults = s.faults;
+      lent = s.lent;
+      peak = s.peak;
+    } };
 }
 
 impl MemoryStore {
@@ -96,6 +103,8 @@ impl MemoryStore {
             reels: Vec::new(alloc),
             failures: Failures::make(alloc, failing)?,
             faults: 0,
+            lent: 0,
+            peak: 0,
         })
     }
 
@@ -111,6 +120,8 @@ impl MemoryStore {
         ensures added { OnOk result (self.new.recordings ≡ (mux, text.now) ∷ self.old.recordings) }
         ensures same { OnErr result (self.new.recordings ≡ self.old.recordings) }
         ensures faults { self.new.faults ≡ self.old.faults }
+        ensures lent { self.new.lent ≡ self.old.lent }
+        ensures peak { self.new.peak ≡ self.old.peak }
     {
         let (Ok(text), Ok(pieces), Ok(failing)) = (
             Vec::from_slice(self.alloc, text),
@@ -129,6 +140,20 @@ impl MemoryStore {
             Ok(()) => Ok(()),
             Err(_) => Err(Want),
         }
+    }
+
+    /// How many recordings were started and not handed back.
+    pub fn lent(&self) -> u64
+        ensures lent { result ≡ self.now.lent }
+    {
+        self.lent
+    }
+
+    /// The most recordings that were started and not handed back at one time.
+    pub fn peak(&self) -> u64
+        ensures peak { result ≡ self.now.peak }
+    {
+        self.peak
     }
 }
 
@@ -158,13 +183,21 @@ impl MuxStore for MemoryStore {
 
     ghost faults = { λ s. s.faults };
 
+    ghost lent = { λ s. s.lent };
+
+    ghost peak = { λ s. s.peak };
+
     fn start(&mut self, mux: u16) -> Result<MemoryRecording, Failed> {
-        if self.failures.meets_one() {
+        if self.failures.meets_one() || self.lent == u64::MAX {
             self.faults = self.faults.saturating_add(1);
             return Err(Failed);
         }
         match open(self.alloc, &self.reels, mux) {
-            Some(from) => Ok(from),
+            Some(from) => {
+                self.lent += 1;
+                self.peak = self.peak.max(self.lent);
+                Ok(from)
+            }
             None => {
                 self.faults = self.faults.saturating_add(1);
                 Err(Failed)
@@ -173,6 +206,7 @@ impl MuxStore for MemoryStore {
     }
 
     fn back(&mut self, from: MemoryRecording) {
+        self.lent = self.lent.saturating_sub(1);
         if from.faults != 0 {
             self.faults = self.faults.saturating_add(1);
         }

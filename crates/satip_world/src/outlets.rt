@@ -1,6 +1,6 @@
 //! Outlets: datagrams go out (RFC 3550 over UDP).
 
-ghost use Rattle.std.specs.Prelude.{◌<◌, ◌∷◌, [], length, IsSomeAnd, slice_get};
+ghost use Rattle.std.specs.Prelude.{◌≡◌, ◌<◌, ◌∷◌, [], length, IsSomeAnd, slice_get};
 ghost use Rattle.satip_world.specs.Deliveries.{Delivers};
 
 use satip_base::{Address, Out, Put};
@@ -14,6 +14,17 @@ pub trait Outlet {
 
     // The datagrams that were sent, and how often a send failed.
     ghost outbox: { Self → Outbox };
+
+    /// Begins an event whose datagrams are to leave before those of later events. Other outlets of
+    /// the same socket wait in their `lock` until `unlock`; an outlet of its own has none to wait for.
+    fn lock(&mut self)
+        ensures same { outbox self.new ≡ outbox self.old }
+    {}
+
+    /// Ends what `lock` began: the event's datagrams were sent.
+    fn unlock(&mut self)
+        ensures same { outbox self.new ≡ outbox self.old }
+    {}
 
     /// Sends a datagram.
     fn send(&mut self, to: Address, bytes: &[u8]) -> Put

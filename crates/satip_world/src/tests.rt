@@ -98,9 +98,29 @@ fn a_store_starts_the_recording_of_a_multiplex(rt: HostRuntime) -> Result<(), Fa
     assert_eq!(rt; from.take(&mut buf), Taken::Failed);
     assert_eq!(rt; from.take(&mut buf), Taken::Got(2));
     assert_eq!(rt; from.take(&mut buf), Taken::End);
+    assert_eq!(rt; store.lent(), 1);
     store.back(from);
+    assert_eq!(rt; store.lent(), 0);
     assert!(rt; start(&mut store, 1).is_err());
     assert!(rt; start(&mut store, 3).is_err());
+    assert_eq!(rt; store.lent(), 0);
+    Ok(())
+}
+
+#[test]
+fn a_store_counts_the_sources_that_are_out(rt: HostRuntime) -> Result<(), Fail> {
+    let mut store = MemoryStore::make(rt.alloc(), &[])?;
+    store.add(1, b"first", &[], &[])?;
+    store.add(2, b"second", &[], &[])?;
+    let (Ok(first), Ok(second)) = (start(&mut store, 1), start(&mut store, 2)) else {
+        return Err(Fail::from("no recording"));
+    };
+    assert_eq!(rt; store.lent(), 2);
+    store.back(first);
+    assert_eq!(rt; store.lent(), 1);
+    store.back(second);
+    assert_eq!(rt; store.lent(), 0);
+    assert_eq!(rt; store.peak(), 2);
     Ok(())
 }
 
