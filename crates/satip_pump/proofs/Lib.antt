@@ -6,3 +6,4 @@ pub mod ReadingLemmas
 pub mod WorkLemmas
 pub mod RunLemmas
 pub mod ScriptLemmas
+mod PauseLemmas

@@ -10,8 +10,8 @@ use Rattle.satip_plain.specs.declared.events.Event.{Event}
 use Rattle.satip_plain.specs.declared.events.Event.TheVariants.{Packet}
 use Rattle.satip_pump.specs.Bundles.{Bundle, has_room}
 use Rattle.satip_pump.specs.Loads.{Loaded, is_of, may_give, given_event, Gives, Took}
-use Rattle.satip_pump.specs.PumpRuns.{work_told}
-use Rattle.satip_pump.specs.Queues.{rest_of}
+use Rattle.satip_plain.specs.Pumping.{work_told}
+use Rattle.satip_plain.specs.Pumping.{rest_of}
 use Rattle.satip_pump.proofs.BatchLemmas.{both_true}
 
 -- what an event that was given tells

@@ -4,7 +4,8 @@ use Rattle.std.proofs.lemmas.Bool.Decides.{nat_tests}
 use Rattle.satip_ts.specs.Recording.{cut_packets}
 use Rattle.satip_world.specs.Counts.{Rises}
 use Rattle.satip_pump.specs.declared.reading.Reading.{Reading}
-use Rattle.satip_pump.specs.PumpRuns.{Reel, tuned, fresh, RoseBy}
+use Rattle.satip_plain.specs.Pumping.{Reel, tuned, fresh}
+use Rattle.satip_pump.specs.PumpRuns.{RoseBy}
 use Rattle.satip_pump.specs.Queues.{Waiting, no_packets}
 use Rattle.satip_pump.specs.Readings.{AreToldLeft, IsReel, Stands, Begins}
 

@@ -26,8 +26,10 @@ use Rattle.satip_pump.specs.declared.reading.Reading.{Reading}
 use Rattle.satip_pump.specs.Ends.{ended_by}
 use Rattle.satip_pump.specs.Events.{MakesOne, MakesNone, datagrams_of}
 use Rattle.satip_pump.specs.Loads.{is_of, Gives}
-use Rattle.satip_pump.specs.PumpRuns.{Reel, Due, Asking, Feeding, Finished, fresh, tuned, after_work, work_told, moved, none_of, after_entry, IsFirst, IsDue, one_if_left, early_by, early_end, Pumps, RoseBy, last_from, PumpRun}
-use Rattle.satip_pump.specs.Queues.{Waiting, rest_of}
+use Rattle.satip_plain.specs.Pumping.{Reel, Due, Asking, Feeding, Finished, fresh, tuned, after_work, work_told, moved, none_of, after_entry, IsFirst, IsDue, one_if_left, early_by, early_end, Pumps}
+use Rattle.satip_pump.specs.PumpRuns.{RoseBy, last_from, PumpRun}
+use Rattle.satip_plain.specs.Pumping.{rest_of}
+use Rattle.satip_pump.specs.Queues.{Waiting}
 use Rattle.satip_pump.specs.Readings.{AreToldLeft, Stands, Goes}
 use Rattle.satip_pump.specs.Runs.{SoFar, Runs, Feeds, Fails, Answered}
 use Rattle.satip_pump.specs.Works.{Works, Gave}

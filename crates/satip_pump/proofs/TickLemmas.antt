@@ -29,6 +29,7 @@ pub record Ticks (k l : Known) (c d : Dial) (tells : Type 0) (o n : Outbox) : Ty
   pub moments : List ℕ
   pub adds : AddsAll k l entries
   pub events : map (λ (e : Item). e.event) entries ≡ map Tick moments
+  pub told : d.told ≡ true → c.told ≡ true
   pub readings : d.told ≡ true → d.readings ≡ c.readings ++ moments
   pub going : Each IsGoing entries
   pub delivers : Delivers tells o n (datagrams_of entries)
@@ -40,6 +41,7 @@ ticks_none k c tells o = record {
   moments = [];
   adds = adds_nothing k;
   events = refl;
+  told = λ still. still;
   readings = λ _. sym (append-nil c.readings);
   going = tt;
   delivers = delivers_none tells o;
@@ -103,6 +105,7 @@ ticks_more may_want k l m c d e tells o n p now before reads makes =
       moments = before.moments ++ now ∷ [];
       adds = once.adds;
       events = once.events;
+      told = λ still. before.told (reads.told still);
       readings = once.readings;
       going = each-append before.entries (once.last ∷ []) before.going (once.answered, tt);
       delivers = once.delivers;
@@ -136,6 +139,7 @@ ends_run may_want Stopped k l m c d e tells o n p now before reads makes =
       unmade = [];
       adds = once.adds;
       events = once.events;
+      told = λ still. before.told (reads.told still);
       readings = λ told. once.readings told ∙ ap (λ (ms : List ℕ). c.readings ++ ms) (sym (append-nil (before.moments ++ now ∷ [])));
       ends = (record { before = before.entries; last = once.last; are = refl; going = before.going; stopping = once.answered }, refl);
       delivers = once.delivers;
@@ -148,6 +152,7 @@ ends_run may_want Spent k l m c d e tells o n p now before reads makes =
       unmade = now ∷ [];
       adds = ended.adds;
       events = before.events;
+      told = λ still. before.told (reads.told still);
       readings = ended.readings;
       ends = (before.going, (now, refl));
       delivers = ended.delivers;
@@ -160,6 +165,7 @@ ends_run may_want Want k l m c d e tells o n p now before reads makes =
       unmade = now ∷ [];
       adds = ended.adds;
       events = before.events;
+      told = λ still. before.told (reads.told still);
       readings = ended.readings;
       ends = (before.going, (now, refl));
       delivers = ended.delivers;

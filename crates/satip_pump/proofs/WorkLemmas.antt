@@ -14,7 +14,7 @@ use Rattle.satip_world.specs.Deliveries.{Delivers}
 use Rattle.satip_world.specs.Outboxes.{Outbox}
 use Rattle.satip_pump.specs.Bundles.{Bundle, has_room}
 use Rattle.satip_pump.specs.Loads.{Loaded, is_of, may_give, given_event, Gives, Took}
-use Rattle.satip_pump.specs.PumpRuns.{work_told}
+use Rattle.satip_plain.specs.Pumping.{work_told}
 use Rattle.satip_pump.specs.Queues.{Waiting}
 use Rattle.satip_pump.specs.Works.{Gave, GaveEnds}
 use Rattle.satip_pump.proofs.BatchLemmas.{both_true}

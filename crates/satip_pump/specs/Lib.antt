@@ -10,3 +10,4 @@ pub mod Readings
 pub mod Works
 pub mod Runs
 pub mod Scripts
+pub mod Pauses

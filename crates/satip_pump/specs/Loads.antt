@@ -9,7 +9,7 @@ use Rattle.satip_plain.specs.declared.answers.Work.TheVariants.{Tune, Nothing, S
 use Rattle.satip_plain.specs.declared.events.Event.{Event}
 use Rattle.satip_plain.specs.declared.events.Event.TheVariants.{Packet}
 use Rattle.satip_pump.specs.Bundles.{Bundle, has_room}
-use Rattle.satip_pump.specs.PumpRuns.{work_told}
+use Rattle.satip_plain.specs.Pumping.{work_told}
 
 -- a load: whose packets they are, what the last answer said, the packets that weren't taken, how many more places there
 -- are for packets, and the datagrams of those that were

@@ -1,5 +1,6 @@
 -- Packets that wait to be given.
 use Rattle.std.specs.Prelude.{◌≡◌, ℕ, List, [], ◌∷◌, Option, Some, None}
+use Rattle.satip_plain.specs.Pumping.{rest_of}
 
 -- the packets, first come first, and how many more places there are
 pub record Waiting : Type 0 where
@@ -8,11 +9,6 @@ pub record Waiting : Type 0 where
 
 abbrev pub no_packets : Waiting
 no_packets = record { packets = []; room = 64 }
-
--- all but the first
-abbrev pub rest_of : List (List ℕ) → List (List ℕ)
-rest_of [] = []
-rest_of (packet ∷ packets) = packets
 
 -- the packet is the first, or there is none
 abbrev pub IsAtFront : List (List ℕ) → Option (List ℕ) → Type 0

@@ -5,12 +5,18 @@ use Rattle.satip_base.specs.declared.streams.Taken.TheVariants.{Got, End, Failed
 use Rattle.satip_ts.specs.Recording.{cut_packets}
 use Rattle.satip_world.specs.Counts.{Rises}
 use Rattle.satip_pump.specs.declared.reading.Reading.{Reading}
-use Rattle.satip_pump.specs.PumpRuns.{Reel, tuned, RoseBy}
+use Rattle.satip_plain.specs.Pumping.{Reel, tuned}
+use Rattle.satip_pump.specs.PumpRuns.{RoseBy}
 use Rattle.satip_pump.specs.Queues.{no_packets}
 
 -- nothing is read
 abbrev pub begun : {F : Type 0} → Reading F
 begun = record { tune = None; source = None; cutter = []; queue = no_packets }
+
+-- how many sources are held: one or none
+abbrev pub held : {F : Type 0} → Option F → ℕ
+held None = 0
+held (Some source) = 1
 
 -- these packets wait and the others are still to come of the source and of what was taken of it; without a source none
 -- comes, or a fault is owed for those that don't

@@ -12,7 +12,8 @@ use Rattle.satip_world.specs.Deliveries.{Delivers}
 use Rattle.satip_world.specs.Outboxes.{Outbox}
 use Rattle.satip_pump.specs.declared.reading.Reading.{Reading}
 use Rattle.satip_pump.specs.Events.{datagrams_of}
-use Rattle.satip_pump.specs.PumpRuns.{Due, Asking, Feeding, Reel, after_work, Pumps, RoseBy, last_from}
+use Rattle.satip_plain.specs.Pumping.{Due, Asking, Feeding, Reel, after_work, Pumps}
+use Rattle.satip_pump.specs.PumpRuns.{RoseBy, last_from}
 use Rattle.satip_pump.specs.Readings.{Stands}
 
 -- the entries so far, what is due after them, the last answer, and how many recordings ended early

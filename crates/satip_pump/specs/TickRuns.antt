@@ -38,6 +38,7 @@ pub record TickRun (k l : Known) (c d : Dial) (tells : Type 0) (o n : Outbox) (e
   pub unmade : List ℕ
   pub adds : AddsAll k l entries
   pub events : map (λ e. e.event) entries ≡ map Tick moments
+  pub told : d.told ≡ true → c.told ≡ true
   pub readings : d.told ≡ true → d.readings ≡ c.readings ++ (moments ++ unmade)
   pub ends : TicksEnd end entries unmade
   pub delivers : Delivers tells o n (datagrams_of entries)

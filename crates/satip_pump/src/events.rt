@@ -6,8 +6,25 @@ use satip_plain::{Answer, Event};
 use satip_service::{Service, ServiceFault};
 use satip_world::{Outlet, post_all};
 
-/// Makes an event, and sends its datagrams.
+/// Makes an event, and sends its datagrams before those of later events.
 pub(crate) fn make_event<S: Service, O: Outlet>(
+    service: &mut S,
+    outlet: &mut O,
+    event: &Event,
+    out: &mut Out,
+) -> Result<Answer, ServiceFault>
+    ensures same { S.same service.old service.new }
+    ensures makes { Makes (S.may_want service.old) (S.known service.old) (S.known service.new)
+        O.tells (O.outbox outlet.old) (O.outbox outlet.new) event.now result }
+{
+    outlet.lock();
+    let made = call_and_post(service, outlet, event, out);
+    outlet.unlock();
+    made
+}
+
+// Makes an event, and sends its datagrams.
+fn call_and_post<S: Service, O: Outlet>(
     service: &mut S,
     outlet: &mut O,
     event: &Event,

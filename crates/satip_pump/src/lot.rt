@@ -1,7 +1,7 @@
 //! The packets of a burst.
 ghost use Rattle.std.specs.Prelude.{◌≡◌, true, option_map, refl};
 ghost use Rattle.satip_pump.specs.Loads.{Took, given_event, may_give, is_of, took_none};
-ghost use Rattle.satip_pump.specs.PumpRuns.{work_told};
+ghost use Rattle.satip_plain.specs.Pumping.{work_told};
 
 use crate::batch::Batch;
 use crate::queue::Queue;

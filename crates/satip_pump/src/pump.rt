@@ -1,10 +1,14 @@
 //! The pump of a front end.
-ghost use Rattle.std.specs.Prelude.{◌≡◌, ◌+◌, ◌<◌, ◌≤◌, ℕ, true, length};
+ghost use Rattle.std.specs.Prelude.{◌≡◌, ◌+◌, ◌-◌, ◌<◌, ◌≤◌, ℕ, max, List, true, length, None};
+ghost use Rattle.satip_plain.specs.Histories.{Item};
 ghost use Rattle.satip_service.specs.Known.{Known};
 ghost use Rattle.satip_world.specs.Outboxes.{Outbox};
 ghost use Rattle.satip_pump.specs.Loads.{is_of};
+ghost use Rattle.satip_pump.specs.Pauses.{Paced, PumpPauses, owed_by};
 ghost use Rattle.satip_pump.specs.PumpRuns.{PumpRun};
+ghost use Rattle.satip_pump.specs.Readings.{held};
 ghost use Rattle.satip_pump.specs.Runs.{Runs, Feeds, Answered};
+ghost use Rattle.satip_pump.specs.Works.{Works};
 
 use crate::batch::Batch;
 use crate::ends::{JobEnd, end_of};
@@ -44,10 +48,15 @@ fn give_some<S: Service, M: MuxStore, O: Outlet, P: Pacer>(
         first (M.faults kit.old.store) tuning.0 tuning.1 pump.old.reading
         → Answered (S.may_want service.old) pump.old.front (M.recording kit.old.store) O.tells M.From.tells M.From.left k (S.known service.new) o (O.outbox kit.new.outlet)
         first (M.faults kit.new.store) pump.new.reading result }
+    ensures paces { (own : List Item) (first : ℕ) → Paced own (S.known service.old).own first (P.pauses kit.old.pacer) pump.old.since 0
+        → Paced own (S.known service.new).own first (P.pauses kit.new.pacer) pump.new.since (owed_by result) }
     ensures recordings { M.recording kit.new.store ≡ M.recording kit.old.store }
     ensures front { pump.new.front ≡ pump.old.front }
     ensures paced { pump.new.since < 64 }
     ensures few { pump.new.since + length pump.new.reading.queue.packets ≤ 64 }
+    ensures lent { held pump.old.reading.source ≤ M.lent kit.old.store
+        → M.lent kit.new.store + held pump.old.reading.source ≡ M.lent kit.old.store + held pump.new.reading.source }
+    ensures peak { M.peak kit.new.store ≡ M.peak kit.old.store }
 {
     let before = pump.reading.queue.count();
     let answer = give(
@@ -65,6 +74,26 @@ fn give_some<S: Service, M: MuxStore, O: Outlet, P: Pacer>(
         pump.since = 0;
     }
     answer
+}
+
+// Tells the end of the recording, of which no source is held then.
+fn tell_end<S: Service, F, O: Outlet>(
+    service: &mut S,
+    outlet: &mut O,
+    pump: &Pump<F>,
+    tune: u64,
+    out: &mut Out,
+) -> Result<Work, ServiceFault>
+    requires handed_back { pump.now.reading.source ≡ None }
+    ensures same { S.same service.old service.new }
+    ensures works { Works (S.may_want service.old) (S.known service.old) (S.known service.new)
+        O.tells (O.outbox outlet.old) (O.outbox outlet.new) (Event.Ended pump.now.front tune) result }
+{
+    let ended = Event::Ended {
+        front: pump.front,
+        tune,
+    };
+    make_work(service, outlet, &ended, out)
 }
 
 // Reads and gives packets, or gives the end of the recording where there are none.
@@ -86,10 +115,15 @@ fn feed<R: Wait, S: Service, M: MuxStore, O: Outlet, P: Pacer>(
         first (M.faults kit.old.store) tuning.0 tuning.1 pump.old.reading
         → Answered (S.may_want service.old) pump.old.front (M.recording kit.old.store) O.tells M.From.tells M.From.left k (S.known service.new) o (O.outbox kit.new.outlet)
         first (M.faults kit.new.store) pump.new.reading result }
+    ensures paces { (own : List Item) (first : ℕ) → Paced own (S.known service.old).own first (P.pauses kit.old.pacer) pump.old.since 0
+        → Paced own (S.known service.new).own first (P.pauses kit.new.pacer) pump.new.since (owed_by result) }
     ensures recordings { M.recording kit.new.store ≡ M.recording kit.old.store }
     ensures front { pump.new.front ≡ pump.old.front }
     ensures paced { pump.new.since < 64 }
     ensures few { pump.new.since + length pump.new.reading.queue.packets ≤ 64 }
+    ensures lent { held pump.old.reading.source ≤ M.lent kit.old.store
+        → M.lent kit.new.store + held pump.old.reading.source ≡ M.lent kit.old.store + held pump.new.reading.source }
+    ensures peak { M.peak kit.new.store ≡ M.peak kit.old.store }
 {
     if pump.reading.queue.count() != 0 {
         return give_some(service, kit, pump, tuning, out, batch);
@@ -98,11 +132,7 @@ fn feed<R: Wait, S: Service, M: MuxStore, O: Outlet, P: Pacer>(
     if pump.reading.queue.count() != 0 {
         return give_some(service, kit, pump, tuning, out, batch);
     }
-    let ended = Event::Ended {
-        front: pump.front,
-        tune: tuning.1,
-    };
-    make_work(service, &mut kit.outlet, &ended, out)
+    tell_end(service, &mut kit.outlet, pump, tuning.1, out)
 }
 
 // Does what an answer told, which is to read for a tuning.
@@ -123,10 +153,15 @@ fn tune<R: Wait, S: Service, M: MuxStore, O: Outlet, P: Pacer>(
         first (M.faults kit.old.store) (Work.Tune tuning.0 tuning.1) pump.old.reading
         → Answered (S.may_want service.old) pump.old.front (M.recording kit.old.store) O.tells M.From.tells M.From.left k (S.known service.new) o (O.outbox kit.new.outlet)
         first (M.faults kit.new.store) pump.new.reading result }
+    ensures paces { (own : List Item) (first : ℕ) → Paced own (S.known service.old).own first (P.pauses kit.old.pacer) pump.old.since 0
+        → Paced own (S.known service.new).own first (P.pauses kit.new.pacer) pump.new.since (owed_by result) }
     ensures recordings { M.recording kit.new.store ≡ M.recording kit.old.store }
     ensures front { pump.new.front ≡ pump.old.front }
     ensures paced { pump.new.since < 64 }
     ensures few { pump.new.since + length pump.new.reading.queue.packets ≤ 64 }
+    ensures lent { held pump.old.reading.source ≤ M.lent kit.old.store
+        → M.lent kit.new.store + held pump.old.reading.source ≡ M.lent kit.old.store + held pump.new.reading.source }
+    ensures peak { M.peak kit.new.store ≤ max (M.peak kit.old.store) (M.lent kit.old.store - held pump.old.reading.source + 1) }
 {
     let (mux, tune) = tuning;
     turn_to(&mut pump.reading, &mut kit.store, mux, tune);
@@ -143,7 +178,9 @@ fn tune<R: Wait, S: Service, M: MuxStore, O: Outlet, P: Pacer>(
 
 /// Asks what to read for a front end, reads it and gives its packets and its end, until the service
 /// stops. Packets are given in bursts of at most 64; the datagrams of each event go to the outlet
-/// after its burst. It pauses after every 64 packets, and where it is told to do nothing. It waits.
+/// after its burst. It pauses after every 64 packets, and where it is told to do nothing. Each source
+/// that the store lent is handed back: before its end is told, before another start, and where the
+/// pump ends. It waits.
 pub fn run_pump<R: Wait + Sync, S: Service, M: MuxStore, O: Outlet, P: Pacer>(
     rt: &R,
     service: &mut S,
@@ -155,9 +192,12 @@ pub fn run_pump<R: Wait + Sync, S: Service, M: MuxStore, O: Outlet, P: Pacer>(
     ensures same { S.same service.old service.new }
     ensures run { PumpRun front (M.recording kit.old.store) (S.known service.old) (S.known service.new)
         O.tells (O.outbox kit.old.outlet) (O.outbox kit.new.outlet) (M.faults kit.old.store) (M.faults kit.new.store) result }
+    ensures pauses { PumpPauses (S.known service.old).own (S.known service.new).own (P.pauses kit.old.pacer) (P.pauses kit.new.pacer) }
     ensures spent { result ≡ JobEnd.Spent → (S.known service.new).length ≡ 18446744073709551615 }
     ensures want { result ≡ JobEnd.Want → S.may_want service.old ≡ true }
     ensures recordings { M.recording kit.new.store ≡ M.recording kit.old.store }
+    ensures lent { M.lent kit.new.store ≡ M.lent kit.old.store }
+    ensures one_at_a_time { M.peak kit.new.store ≤ max (M.peak kit.old.store) (M.lent kit.old.store + 1) }
 {
     let mut pump = Pump {
         front,

@@ -1,6 +1,7 @@
 //! Packets that wait to be given.
 ghost use Rattle.std.specs.Prelude.{◌≡◌, ◌+◌, ◌<◌, ◌≤◌, [], ◌∷◌, ◌++◌, length};
-ghost use Rattle.satip_pump.specs.Queues.{no_packets, rest_of, IsAtFront};
+ghost use Rattle.satip_plain.specs.Pumping.{rest_of};
+ghost use Rattle.satip_pump.specs.Queues.{no_packets, IsAtFront};
 
 use satip_ts::Packet;
 use std::marker::Model;

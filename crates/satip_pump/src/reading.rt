@@ -1,8 +1,8 @@
 //! The recording that a pump reads.
-ghost use Rattle.std.specs.Prelude.{◌≡◌, ◌+◌, ◌<◌, ◌≤◌, ◌↔◌, true, false, [], length, Some, None, IsTrue};
+ghost use Rattle.std.specs.Prelude.{◌≡◌, ◌+◌, ◌-◌, ◌<◌, ◌≤◌, ◌↔◌, max, true, false, [], length, Some, None, IsTrue};
 ghost use Rattle.satip_ts.specs.Recording.{cut_packets};
 ghost use Rattle.satip_world.specs.Counts.{Rises};
-ghost use Rattle.satip_pump.specs.Readings.{Goes, GoesTo, HasFailed, Begins, Reads, begun};
+ghost use Rattle.satip_pump.specs.Readings.{Goes, GoesTo, HasFailed, Begins, Reads, begun, held};
 
 use crate::queue::Queue;
 use satip_base::{Source, Taken};
@@ -43,6 +43,8 @@ pub(crate) fn hand_back<M: MuxStore>(reading: &mut Reading<M::From>, store: &mut
     ensures recordings { M.recording store.new ≡ M.recording store.old }
     ensures faults { M.faults store.old ≤ M.faults store.new }
     ensures fault { HasFailed M.From.faults reading.old.source → Rises (M.faults store.old) (M.faults store.new) }
+    ensures lent { M.lent store.new ≡ M.lent store.old - held reading.old.source }
+    ensures peak { M.peak store.new ≡ M.peak store.old }
 {
     if let Some(source) = reading.source.take() {
         store.back(source);
@@ -60,6 +62,8 @@ fn is_read(tune: Option<u64>, number: u64) -> bool
 fn begin<M: MuxStore>(store: &mut M, mux: u16) -> Option<M::From>
     ensures recordings { M.recording store.new ≡ M.recording store.old }
     ensures begins { Begins M.From.tells M.From.left (M.recording store.old mux) (M.faults store.old) (M.faults store.new) result }
+    ensures lent { M.lent store.new ≡ M.lent store.old + held result }
+    ensures peak { M.peak store.new ≤ max (M.peak store.old) (M.lent store.old + 1) }
 {
     match store.start(mux) {
         Ok(source) => Some(source),
@@ -80,6 +84,9 @@ pub(crate) fn turn_to<M: MuxStore>(
     ensures recordings { M.recording store.new ≡ M.recording store.old }
     ensures tune { reading.new.tune ≡ Some tune }
     ensures fewer { length reading.new.queue.packets ≤ length reading.old.queue.packets }
+    ensures lent { held reading.old.source ≤ M.lent store.old
+        → M.lent store.new + held reading.old.source ≡ M.lent store.old + held reading.new.source }
+    ensures peak { M.peak store.new ≤ max (M.peak store.old) (M.lent store.old - held reading.old.source + 1) }
 {
     if is_read(reading.tune, tune) {
         return;
@@ -116,6 +123,9 @@ fn read_more<M: MuxStore>(reading: &mut Reading<M::From>, store: &mut M) -> bool
     ensures shut { result ≡ false → reading.new.source ≡ None }
     ensures queue { reading.new.queue ≡ reading.old.queue }
     ensures tune { reading.new.tune ≡ reading.old.tune }
+    ensures lent { held reading.old.source ≤ M.lent store.old
+        → M.lent store.new + held reading.old.source ≡ M.lent store.old + held reading.new.source }
+    ensures peak { M.peak store.new ≡ M.peak store.old }
 {
     let Some(source) = &mut reading.source else {
         return false;
@@ -142,6 +152,9 @@ fn read_one<M: MuxStore>(reading: &mut Reading<M::From>, store: &mut M) -> bool
     ensures most { length reading.new.queue.packets ≤ length reading.old.queue.packets + 1 }
     ensures room { reading.new.queue.room + length reading.new.queue.packets ≡ reading.old.queue.room + length reading.old.queue.packets }
     ensures tune { reading.new.tune ≡ reading.old.tune }
+    ensures lent { held reading.old.source ≤ M.lent store.old
+        → M.lent store.new + held reading.old.source ≡ M.lent store.old + held reading.new.source }
+    ensures peak { M.peak store.new ≡ M.peak store.old }
 {
     match reading.cutter.next() {
         Some(packet) => {
@@ -167,6 +180,9 @@ pub(crate) fn fill<R: Wait, M: MuxStore>(
     ensures most { length reading.new.queue.packets ≤ most }
     ensures empty { reading.new.queue.packets ≡ [] → reading.new.source ≡ None }
     ensures tune { reading.new.tune ≡ reading.old.tune }
+    ensures lent { held reading.old.source ≤ M.lent store.old
+        → M.lent store.new + held reading.old.source ≡ M.lent store.old + held reading.new.source }
+    ensures peak { M.peak store.new ≡ M.peak store.old }
 {
     reading.queue.clear();
     for _ in rt.forever() {

@@ -1,8 +1,11 @@
 //! Pumps and a ticker over memory and a scripted service.
-ghost use Rattle.std.specs.Prelude.{◌≡◌, [], ◌∷◌, None, Some};
+ghost use Rattle.std.specs.Prelude.{◌≡◌, ℕ, List, [], ◌∷◌, None, Some};
 ghost use Rattle.satip_base.specs.Output.{empty};
 ghost use Rattle.satip_history.specs.History.{entry};
-ghost use Rattle.satip_pump.specs.PumpRuns.{Asking, Feeding, Finished, after_entry, tuned, moved, early_end, last_from, Pumps};
+ghost use Rattle.satip_plain.specs.Pumping.{Asking, Feeding, Finished, after_entry, tuned, moved, early_end, Pumps};
+ghost use Rattle.satip_pump.specs.PumpRuns.{last_from};
+ghost use Rattle.satip_pump.specs.Pauses.{idle_in, one_if_unmade, packets_in};
+ghost use Rattle.satip_pump.specs.Readings.{held};
 
 mod script;
 
@@ -44,6 +47,27 @@ fn row_of_a_run(a: Packet)
         (entry 0 (Event.Packet 1 5 a) (Answer.Work (Work.Tune 1 5)) empty
         ∷ entry 0 (Event.Ended 1 5) (Answer.Work Work.Nothing) empty
         ∷ entry 0 (Event.Ask 1) (Answer.Work Work.Stopping) empty ∷ []) Finished 0 }
+{
+    let _ = a;
+}
+
+// A pause is owed for 64 packets, and for each answer that there is nothing to do.
+fn rows_of_pauses(a: Packet)
+    ensures packets { packets_in (entry 0 (Event.Packet 1 5 a) (Answer.Work (Work.Tune 1 5)) empty
+        ∷ entry 0 (Event.Ended 1 5) (Answer.Work Work.Nothing) empty ∷ []) ≡ 1 }
+    ensures idle { idle_in (entry 0 (Event.Ended 1 5) (Answer.Work Work.Nothing) empty
+        ∷ entry 0 (Event.Ask 1) (Answer.Work Work.Nothing) empty
+        ∷ entry 0 (Event.Ask 1) (Answer.Work Work.Stopping) empty ∷ []) ≡ 2 }
+    ensures ticked { one_if_unmade JobEnd.Stopped ≡ 0 }
+    ensures unmade { one_if_unmade JobEnd.Spent ≡ 1 }
+{
+    let _ = a;
+}
+
+// At most one source is held.
+fn rows_of_sources(a: Packet)
+    ensures none { held {F = List ℕ} None ≡ 0 }
+    ensures one { held (Some a) ≡ 1 }
 {
     let _ = a;
 }
@@ -119,6 +143,8 @@ fn a_pump_gives_the_packets_of_a_recording(rt: HostRuntime) -> Result<(), Fail> 
     let packet = Packet::of(&packet_bytes(1)).ok_or("packet")?;
     rows_of_tunings(packet, packet);
     row_of_a_run(packet);
+    rows_of_pauses(packet);
+    rows_of_sources(packet);
     let mut kit = kit(alloc, &[], &[])?;
     let text = recording(alloc, &[0, 1, 2, 3, 4], 1, 2, &[0x47; 100])?;
     kit.store.add(1, &text, &[], &[])?;
@@ -130,6 +156,7 @@ fn a_pump_gives_the_packets_of_a_recording(rt: HostRuntime) -> Result<(), Fail> 
     assert!(rt; last.answer == Answer::Work(Work::Stopping));
     assert_eq!(rt; kit.outlet.count(), 2);
     assert_eq!(rt; kit.pacer.pauses(), 1);
+    assert_eq!(rt; kit.store.lent(), 0);
     Ok(())
 }
 
@@ -178,6 +205,22 @@ fn a_recording_that_fails_ends_early(rt: HostRuntime) -> Result<(), Fail> {
     );
     let entries = letters(alloc, &service.notes)?;
     assert_eq!(rt; entries.as_slice(), b"APEA".as_slice());
+    assert_eq!(rt; unopened.store.lent(), 0);
+    assert_eq!(rt; broken.store.lent(), 0);
+    Ok(())
+}
+
+#[test]
+fn a_pump_that_is_stopped_hands_its_source_back(rt: HostRuntime) -> Result<(), Fail> {
+    let alloc = rt.alloc();
+    let mut kit = kit(alloc, &[], &[])?;
+    let text = recording(alloc, &[], 1, 70, &[])?;
+    kit.store.add(1, &text, &[], &[])?;
+    let mut service = Scripted::new(alloc, FIRST, None, 3);
+    assert_eq!(rt; pump(&rt, alloc, &mut service, &mut kit)?, JobEnd::Stopped);
+    let entries = letters(alloc, &service.notes)?;
+    assert_eq!(rt; entries.as_slice(), b"APPP".as_slice());
+    assert_eq!(rt; kit.store.lent(), 0);
     Ok(())
 }
 
@@ -193,6 +236,8 @@ fn a_new_tuning_drops_the_old_packets(rt: HostRuntime) -> Result<(), Fail> {
     assert_eq!(rt; pump(&rt, alloc, &mut service, &mut kit)?, JobEnd::Stopped);
     let entries = letters(alloc, &service.notes)?;
     assert_eq!(rt; entries.as_slice(), b"APPPppEA".as_slice());
+    assert_eq!(rt; kit.store.lent(), 0);
+    assert_eq!(rt; kit.store.peak(), 1);
     Ok(())
 }
 
@@ -207,6 +252,7 @@ fn a_pump_ends_where_there_is_no_memory(rt: HostRuntime) -> Result<(), Fail> {
     let entries = letters(alloc, &service.notes)?;
     assert_eq!(rt; entries.as_slice(), b"APP".as_slice());
     assert_eq!(rt; kit.outlet.count(), 2);
+    assert_eq!(rt; kit.store.lent(), 0);
     Ok(())
 }
 

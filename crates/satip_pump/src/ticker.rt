@@ -1,5 +1,6 @@
 //! The ticker.
 ghost use Rattle.std.specs.Prelude.{◌≡◌, true};
+ghost use Rattle.satip_pump.specs.Pauses.{TickPauses};
 ghost use Rattle.satip_pump.specs.TickRuns.{Ticked, TickRun};
 
 use crate::ends::{JobEnd, end_of};
@@ -40,6 +41,7 @@ pub fn run_ticker<R: Wait + Sync, S: Service, C: Clock, O: Outlet, P: Pacer>(
     ensures same { S.same service.old service.new }
     ensures run { TickRun (S.known service.old) (S.known service.new) (C.dial kit.old.clock) (C.dial kit.new.clock)
         O.tells (O.outbox kit.old.outlet) (O.outbox kit.new.outlet) result }
+    ensures pauses { TickPauses (S.known service.old).own (S.known service.new).own (P.pauses kit.old.pacer) (P.pauses kit.new.pacer) result }
     ensures spent { result ≡ JobEnd.Spent → (S.known service.new).length ≡ 18446744073709551615 }
     ensures want { result ≡ JobEnd.Want → S.may_want service.old ≡ true }
 {

@@ -30,9 +30,30 @@ pub(crate) fn make_work<S: Service, O: Outlet>(
 }
 
 /// Gives the packets that wait in one burst, as long as the answers name this tuning number, and
-/// sends their datagrams after it. Answers the work that the last answer told, which is the given
-/// one where there was none.
+/// sends their datagrams after it, before those of later events. Answers the work that the last
+/// answer told, which is the given one where there was none.
 pub(crate) fn give<S: Service, O: Outlet>(
+    service: &mut S,
+    outlet: &mut O,
+    tuning: (u16, u64),
+    work: Work,
+    queue: &mut Queue,
+    out: &mut Out,
+    batch: &mut Batch,
+) -> Result<Work, ServiceFault>
+    ensures same { S.same service.old service.new }
+    ensures gave { Gave (S.may_want service.old) tuning.0 tuning.1 work (S.known service.old) (S.known service.new)
+        O.tells (O.outbox outlet.old) (O.outbox outlet.new) queue.old queue.new result }
+    ensures fewer { length queue.new.packets ≤ length queue.old.packets }
+{
+    outlet.lock();
+    let gave = burst_and_post(service, outlet, tuning, work, queue, out, batch);
+    outlet.unlock();
+    gave
+}
+
+// Gives the packets in one burst, and sends their datagrams after it.
+fn burst_and_post<S: Service, O: Outlet>(
     service: &mut S,
     outlet: &mut O,
     tuning: (u16, u64),

@@ -1,12 +1,12 @@
 -- The service of the tests.
-use Rattle.std.proofs.Common.{◌≡◌, ℕ, ◌-◌, ◌+◌, Bool, true, false, List, [], ◌∷◌, ◌++◌, length, ap, sym, ◌∙◌, arith, refl, inl, lit≤, Option, Some, None, Ok, Err, is_some}
+use Rattle.std.proofs.Common.{◌≡◌, ℕ, ◌-◌, Bool, true, false, List, [], ◌∷◌, ◌++◌, length, ap, sym, ◌∙◌, arith, refl, inl, lit≤, Option, Some, None, Ok, Err, is_some}
 use Rattle.std.proofs.lemmas.List.{append-nil}
-use Rattle.satip_base.specs.Output.{Output, Wrote, empty}
+use Rattle.satip_base.specs.Output.{Output, Wrote}
 use Rattle.satip_history.specs.History.{entry}
 use Rattle.satip_plain.specs.declared.answers.Answer.{Answer}
 use Rattle.satip_plain.specs.declared.events.Event.{Event}
 use Rattle.satip_plain.specs.Histories.{Item}
-use Rattle.satip_service.specs.Known.{Adds, AddsNone}
+use Rattle.satip_service.specs.Known.{AddsNone}
 use Rattle.satip_history.specs.declared.entry.Taken.{Taken}
 use Rattle.satip_service.proofs.Growing.{adds_nothing}
 use Rattle.satip_service.specs.declared.fault.ServiceFault.TheVariants.{Want}

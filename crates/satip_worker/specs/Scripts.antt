@@ -1,15 +1,12 @@
 -- The service of the tests: what it keeps of its calls, and what its caller knows.
-use Rattle.std.specs.Prelude.{ℕ, ◌-◌, ◌==◌, if◌then◌else◌, Bool, true, false, List, [], ◌∷◌, ◌++◌, length, map, ◌<◌, ◌≤◌, ◌+◌, ◌^◌, codes, Option, Some, None}
+use Rattle.std.specs.Prelude.{ℕ, ◌-◌, ◌==◌, if◌then◌else◌, Bool, true, false, List, [], ◌∷◌, length, map, ◌<◌, ◌≤◌, ◌+◌, ◌^◌, codes, Option, Some, None}
 use Rattle.std.proofs.Common.{arith}
 use Rattle.satip_base.specs.declared.identity.Draw.{Draw}
 use Rattle.satip_base.specs.declared.identity.SessionId.{SessionId}
-use Rattle.satip_base.specs.declared.network.Address.{Address}
 use Rattle.satip_base.specs.declared.network.Peer.{Peer}
 use Rattle.satip_base.specs.Output.{Output, Datagram, empty}
-use Rattle.satip_history.specs.History.{entry}
 use Rattle.satip_http.specs.declared.requests.HttpRequest.{HttpRequest}
 use Rattle.satip_rtsp.specs.declared.requests.Request.{Request}
-use Rattle.satip_plain.specs.declared.answers.Answer.{Answer}
 use Rattle.satip_plain.specs.declared.events.Event.{Event}
 use Rattle.satip_plain.specs.declared.events.Event.TheVariants.{Request as Asks, Get, Pull, Close}
 use Rattle.satip_plain.specs.declared.setting.Setting.{Setting}

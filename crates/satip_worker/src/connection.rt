@@ -41,6 +41,9 @@ pub fn serve_connection<R: Wait + Sync, S: Service, C: Conn, O: Outlet, P: Pacer
         (record { may_want = S.may_want service.new; known = S.known service.new; outbox = O.outbox outlet.new })
         (C.line conn.old) (C.line conn.new) result }
 
+    // Where it ended well, no receive had failed.
+    ensures calm { result ≡ ConnEnd.Done → (C.line conn.new).receive_faults ≡ (C.line conn.old).receive_faults }
+
     // When a fault ends it.
     ensures read_fault { result ≡ ConnEnd.ReadFault
         → Rises (C.line conn.old).receive_faults (C.line conn.new).receive_faults }

@@ -1,6 +1,6 @@
 //! What is asked first on an HTTP connection (RFC 9112, section 2).
 
-ghost use Rattle.std.specs.Prelude.{◌≡◌, ◌<◌, ℕ, List, ◌++◌, None, IsSome, IsSomeAnd, IsNone, length};
+ghost use Rattle.std.specs.Prelude.{◌≡◌, ◌≢◌, ◌<◌, ℕ, List, ◌++◌, None, IsSome, IsSomeAnd, IsNone, length};
 ghost use Rattle.satip_frame.specs.Held.{capacity, new_framer};
 ghost use Rattle.satip_http.specs.Gets.{asked};
 ghost use Rattle.satip_worker.specs.FirstAsked.{AsksNothing, Finds, ReadsFirst};
@@ -65,6 +65,7 @@ pub(crate) fn read_first<R: Wait + Sync, C: Conn, P: Pacer>(
 ) -> First
     requires new { framer.old ≡ new_framer }
     ensures reads { ReadsFirst C.tells (C.line conn.old) (C.line conn.new) result }
+    ensures calm { result ≢ First.Failed → (C.line conn.new).receive_faults ≡ (C.line conn.old).receive_faults }
 {
     let mut buf = [0; PIECE];
     for _ in rt.forever() {

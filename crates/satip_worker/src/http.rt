@@ -36,6 +36,7 @@ fn stream<R: Wait + Sync, S: Service, C: Conn, O: Outlet, P: Pacer>(
         (record { may_want = S.may_want service.old; known = S.known service.old; outbox = O.outbox outlet.old })
         (record { may_want = S.may_want service.new; known = S.known service.new; outbox = O.outbox outlet.new })
         (C.line conn.old) (C.line conn.new) result }
+    ensures calm { result ≡ ConnEnd.Done → (C.line conn.new).receive_faults ≡ (C.line conn.old).receive_faults }
 {
     let mut buf = [0; PIECE];
     for _ in rt.forever() {
@@ -75,6 +76,7 @@ pub(crate) fn serve_http<R: Wait + Sync, S: Service, C: Conn, O: Outlet, P: Pace
         (record { may_want = S.may_want service.old; known = S.known service.old; outbox = O.outbox outlet.old })
         (record { may_want = S.may_want service.new; known = S.known service.new; outbox = O.outbox outlet.new })
         (C.line conn.old) (C.line conn.new) result }
+    ensures calm { result ≡ ConnEnd.Done → (C.line conn.new).receive_faults ≡ (C.line conn.old).receive_faults }
 {
     match read_first(rt, conn, pacer, &mut room.framer) {
         First::Ended => ConnEnd::Done,

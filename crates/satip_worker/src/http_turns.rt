@@ -56,6 +56,7 @@ pub(crate) fn get<S: Service, C: Conn, O: Outlet>(
 ) -> Getting
     ensures same { S.same service.old service.new }
     ensures input { (C.line conn.new).ended ≡ (C.line conn.old).ended }
+    ensures calm { (C.line conn.new).receive_faults ≡ (C.line conn.old).receive_faults }
     ensures draws { (key : List ℕ) (stream number : ℕ) → draws.old ≡ before_draw key stream number
         → draws.new ≡ before_draw key stream (number + 1) }
     ensures turns { (key : List ℕ) (stream number : ℕ) → draws.old ≡ before_draw key stream number
@@ -94,6 +95,7 @@ pub(crate) fn pull<S: Service, C: Conn, O: Outlet>(
 ) -> Pulling
     ensures same { S.same service.old service.new }
     ensures input { (C.line conn.new).ended ≡ (C.line conn.old).ended }
+    ensures calm { (C.line conn.new).receive_faults ≡ (C.line conn.old).receive_faults }
     ensures turns { PullTurns C.tells O.tells
         (record { may_want = S.may_want service.old; known = S.known service.old; outbox = O.outbox outlet.old })
         (record { may_want = S.may_want service.new; known = S.known service.new; outbox = O.outbox outlet.new })

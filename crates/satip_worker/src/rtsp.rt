@@ -37,6 +37,7 @@ fn turn<S: Service, C: Conn, O: Outlet>(
 ) -> Turn
     ensures same { S.same service.old service.new }
     ensures input { (C.line conn.new).ended ≡ (C.line conn.old).ended }
+    ensures calm { (C.line conn.new).receive_faults ≡ (C.line conn.old).receive_faults }
     ensures draws { (key : List ℕ) (stream number : ℕ) → draws.old ≡ before_draw key stream number
         → draws.new ≡ before_draw key stream (number + 1) }
     ensures turns { (key : List ℕ) (stream number : ℕ) → draws.old ≡ before_draw key stream number
@@ -73,6 +74,7 @@ fn close<S: Service, C: Conn, O: Outlet>(
 ) -> Heard
     ensures same { S.same service.old service.new }
     ensures input { (C.line conn.new).ended ≡ (C.line conn.old).ended }
+    ensures calm { (C.line conn.new).receive_faults ≡ (C.line conn.old).receive_faults }
     ensures hears { (course : Course) (received text : List ℕ) (messages : List Said) (framer : Held)
         → course.peer ≡ peer
         → Stands C.tells O.tells course
@@ -122,6 +124,7 @@ fn answer<S: Service, C: Conn, O: Outlet>(
 ) -> Heard
     ensures same { S.same service.old service.new }
     ensures input { (C.line conn.new).ended ≡ (C.line conn.old).ended }
+    ensures calm { (C.line conn.new).receive_faults ≡ (C.line conn.old).receive_faults }
     ensures hears { (course : Course) (received text : List ℕ) (messages : List Said)
         → course.peer ≡ peer
         → Stands C.tells O.tells course
@@ -184,6 +187,7 @@ fn hear<S: Service, C: Conn, O: Outlet>(
     requires space { length room.old.framer.bytes < capacity }
     ensures same { S.same service.old service.new }
     ensures input { (C.line conn.new).ended ≡ (C.line conn.old).ended }
+    ensures calm { (C.line conn.new).receive_faults ≡ (C.line conn.old).receive_faults }
     ensures hears { (course : Course) (received text : List ℕ)
         → course.peer ≡ peer
         → Listens C.tells O.tells course
@@ -228,6 +232,7 @@ pub(crate) fn serve_rtsp<R: Wait + Sync, S: Service, C: Conn, O: Outlet, P: Pace
         (record { may_want = S.may_want service.old; known = S.known service.old; outbox = O.outbox outlet.old })
         (record { may_want = S.may_want service.new; known = S.known service.new; outbox = O.outbox outlet.new })
         (C.line conn.old) (C.line conn.new) result }
+    ensures calm { result ≡ ConnEnd.Done → (C.line conn.new).receive_faults ≡ (C.line conn.old).receive_faults }
 {
     let mut buf = [0; PIECE];
     for _ in rt.forever() {

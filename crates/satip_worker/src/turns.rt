@@ -46,8 +46,27 @@ pub(crate) fn end_of(fault: ServiceFault) -> ConnEnd
     }
 }
 
-/// Makes an event, and sends its datagrams.
+/// Makes an event, and sends its datagrams before those of later events.
 pub(crate) fn make<S: Service, O: Outlet>(
+    service: &mut S,
+    event: &Event,
+    out: &mut Out,
+    outlet: &mut O,
+) -> Result<Answer, ServiceFault>
+    ensures same { S.same service.old service.new }
+    ensures makes { MakesEvent O.tells
+        (record { may_want = S.may_want service.old; known = S.known service.old; outbox = O.outbox outlet.old })
+        (record { may_want = S.may_want service.new; known = S.known service.new; outbox = O.outbox outlet.new })
+        event.now out.new result }
+{
+    outlet.lock();
+    let made = call_and_post(service, event, out, outlet);
+    outlet.unlock();
+    made
+}
+
+// Makes an event, and sends its datagrams.
+fn call_and_post<S: Service, O: Outlet>(
     service: &mut S,
     event: &Event,
     out: &mut Out,

@@ -1,4 +1,5 @@
-use Rattle.std.proofs.Common.{◌≡◌, [], arith}
+use Rattle.std.proofs.Common.{◌≡◌, [], arith, refl}
+use Rattle.satip_pump.proofs.PauseLemmas.{works_pace}
 use Rattle.satip_pump.proofs.RunLemmas.{feeds_on, finished}
 use Rattle.satip_pump.proofs.WorkLemmas.{none_waits}
 use Rattle.satip_pump.proofs.pump.feed.Goals as goal
@@ -12,4 +13,10 @@ pub returns-clause-answered : goal.returns-clause-answered
 returns-clause-answered g c = λ k o first feeds.
     let empty : c.fill.new.reading.queue.packets ≡ [] = none_waits c.fill.new.reading.queue.packets (omega arith) in
     finished _ _ _ _ _ _ k _ _ o _ _ first _ _ _ _ _ (feeds_on _ _ _ _ _ k _ o _ first _ _ _ _ _ _ feeds c.fill.ensures.goes) c.requires.work
-    empty (c.fill.ensures.empty empty) c.make_work.ensures.works
+    empty (c.fill.ensures.empty empty) c.tell_end.ensures.works
+
+pub returns-clause-paces : goal.returns-clause-paces
+returns-clause-paces g c = λ own first paced. works_pace _ _ _ _ _ _ _ _ own first _ _ c.tell_end.ensures.works refl paced
+
+pub tell_end-requires : goal.tell_end-requires
+tell_end-requires g c = record { handed_back = c.fill.ensures.empty (none_waits c.fill.new.reading.queue.packets (omega arith)) }

@@ -1,5 +1,6 @@
 use Rattle.std.proofs.Common.{◌≡◌, None, refl, arith, rules, lit<}
 use Rattle.satip_plain.specs.declared.answers.Work.TheVariants.{Nothing}
+use Rattle.satip_pump.proofs.PauseLemmas.{paced_idle, paced_none, paced_owed, works_pace}
 use Rattle.satip_pump.proofs.RunLemmas.{asked_after, asked_first}
 use Rattle.satip_pump.proofs.pump.run_pump.Goals as goal
 
@@ -14,12 +15,16 @@ loop-init g c =
       lit< tt,
       rw c.new.ensures.begun (omega arith),
       asked_first _ _ _ _ _ _ _ _ _ _ _ _ _ begun c.make_work-answer.ensures.works,
+      works_pace _ _ _ _ _ _ _ _ _ _ _ _ c.make_work-answer.ensures.works refl (paced_none _ _),
+      rw c.new.ensures.begun (omega arith),
+      omega arith,
     )
 
 pub loop-preserved : goal.loop-preserved
 loop-preserved g c =
     let i = c.loop.invariant in
     let runs = rw c.in-Ok-Nothing.is at i.7 in
+    let paced = rw c.in-Ok-Nothing.is at i.8 in
     let nothing : c.in-Ok-Nothing.field-0 ≡ Nothing = search rules in
     let works = rw (g.met.S.Service.same_want _ _ i.2) at c.make_work-answer-in-Ok-Nothing.ensures.works in (
       tt,
@@ -30,4 +35,7 @@ loop-preserved g c =
       i.5,
       i.6,
       asked_after _ _ _ _ _ _ _ _ _ _ _ _ _ _ c.in-Ok-Nothing.field-0 _ _ nothing runs works,
+      works_pace _ _ _ _ _ _ _ _ _ _ _ _ works refl (paced_idle _ _ _ _ _ _ (paced_owed _ _ _ _ _ _ nothing paced) c.pause.ensures.pauses),
+      i.9,
+      i.10,
     )

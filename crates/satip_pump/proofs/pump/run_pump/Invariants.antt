@@ -1,5 +1,7 @@
 -- What the pump did so far, as its last answer told.
-use Rattle.std.proofs.Common.{◌≡◌, ◌+◌, ◌<◌, ◌≤◌, length}
+use Rattle.std.proofs.Common.{◌≡◌, ◌+◌, ◌<◌, ◌≤◌, max, length}
+use Rattle.satip_pump.specs.Pauses.{Paced, owed_by}
+use Rattle.satip_pump.specs.Readings.{held}
 use Rattle.satip_pump.specs.Runs.{Answered}
 use Rattle.satip_pump.proofs.pump.run_pump.Given as goal
 
@@ -14,3 +16,7 @@ invariant-loop g l =
     × Answered (g.S.Service.may_want l.fn.service) l.fn.front (g.M.MuxStore.recording l.fn.kit.store) g.O.Outlet.tells g.M.From.Source.tells g.M.From.Source.left
     (g.S.Service.known l.fn.service) (g.S.Service.known l.service) (g.O.Outlet.outbox l.fn.kit.outlet) (g.O.Outlet.outbox l.kit.outlet)
     (g.M.MuxStore.faults l.fn.kit.store) (g.M.MuxStore.faults l.kit.store) l.pump.reading l.answer
+    × Paced (g.S.Service.known l.fn.service).own (g.S.Service.known l.service).own (g.P.Pacer.pauses l.fn.kit.pacer) (g.P.Pacer.pauses l.kit.pacer)
+    l.pump.since (owed_by l.answer)
+    × (g.M.MuxStore.lent l.kit.store ≡ g.M.MuxStore.lent l.fn.kit.store + held l.pump.reading.source)
+    × (g.M.MuxStore.peak l.kit.store ≤ max (g.M.MuxStore.peak l.fn.kit.store) (g.M.MuxStore.lent l.fn.kit.store + 1))

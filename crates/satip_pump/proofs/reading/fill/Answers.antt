@@ -11,4 +11,6 @@ loop-init g c = (
   refl,
   rw c.clear.ensures.empty refl,
   rw c.clear.ensures.empty (omega arith),
+  λ lent. refl,
+  refl,
 )

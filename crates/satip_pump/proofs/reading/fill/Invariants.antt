@@ -1,5 +1,5 @@
 use Rattle.std.proofs.Common.{◌≡◌, ◌+◌, ◌≤◌, length}
-use Rattle.satip_pump.specs.Readings.{Goes}
+use Rattle.satip_pump.specs.Readings.{Goes, held}
 use Rattle.satip_pump.proofs.reading.fill.Given as goal
 
 -- what was read so far
@@ -11,3 +11,6 @@ invariant-loop g l =
     × (l.reading.tune ≡ l.fn.reading.tune)
     × (l.reading.queue.room + length l.reading.queue.packets ≡ 64)
     × (length l.reading.queue.packets ≤ l.most)
+    × (held l.fn.reading.source ≤ g.M.MuxStore.lent l.fn.store
+    → g.M.MuxStore.lent l.store + held l.fn.reading.source ≡ g.M.MuxStore.lent l.fn.store + held l.reading.source)
+    × (g.M.MuxStore.peak l.store ≡ g.M.MuxStore.peak l.fn.store)

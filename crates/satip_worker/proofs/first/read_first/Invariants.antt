@@ -10,3 +10,4 @@ invariant-loop g l =
     IsOpen l.framer
     × (length l.buf ≡ 4096)
     × ((text : List ℕ) × AsksNothing text l.framer × Carries g.C.Conn.tells (g.C.Conn.line l.initial.conn) (g.C.Conn.line l.conn) text [])
+    × ((g.C.Conn.line l.conn).receive_faults ≡ (g.C.Conn.line l.initial.conn).receive_faults)

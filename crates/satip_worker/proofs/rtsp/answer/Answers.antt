@@ -15,6 +15,7 @@ messages-preserved g c = (
       message_sent _ _ course _ _ _ _ _ _ received text before.0 _ _ _ _ same before.1 c.turn.ensures.draws
       (c.in-Message.ensures.told text before.0 before.1.leads) c.found_request-request.ensures.asked c.found_request-request.ensures.whole
       c.in-Sent.ensures.turns,
+  c.turn.ensures.calm ∙ c.messages.invariant.3,
 )
 
 pub returns-in-Lost-clause-hears : goal.returns-in-Lost-clause-hears

@@ -18,6 +18,7 @@ invariant-messages g l =
     × Stands g.C.Conn.tells g.O.Outlet.tells course
     (record { may_want = g.S.Service.may_want l.service; known = g.S.Service.known l.service; outbox = g.O.Outlet.outbox l.outlet })
     (g.C.Conn.line l.conn) l.draws received text answered l.room.framer)
+    × ((g.C.Conn.line l.conn).receive_faults ≡ (g.C.Conn.line l.initial.conn).receive_faults)
 
 -- each message takes some of the bytes
 abbrev pub decreases-messages : goal.decreases-messages

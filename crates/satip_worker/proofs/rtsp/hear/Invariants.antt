@@ -18,6 +18,7 @@ invariant-piece g l =
     × Listens g.C.Conn.tells g.O.Outlet.tells course
     (record { may_want = g.S.Service.may_want l.service; known = g.S.Service.known l.service; outbox = g.O.Outlet.outbox l.outlet })
     (g.C.Conn.line l.conn) l.draws received (text ++ heard) l.room.framer)
+    × ((g.C.Conn.line l.conn).receive_faults ≡ (g.C.Conn.line l.initial.conn).receive_faults)
 
 -- each turn takes some of the piece
 abbrev pub decreases-piece : goal.decreases-piece

@@ -2,7 +2,7 @@ use Rattle.std.proofs.Common.{◌≡◌, refl, ap, rules}
 use Rattle.satip_pump.specs.Bundles.{Bundle}
 use Rattle.satip_pump.specs.Loads.{Loaded}
 use Rattle.satip_pump.proofs.WorkLemmas.{given_is_of, gave_by, gave_fewer}
-use Rattle.satip_pump.proofs.works.give.Goals as goal
+use Rattle.satip_pump.proofs.works.burst_and_post.Goals as goal
 
 pub returns-in-Ok-clause-gave : goal.returns-in-Ok-clause-gave
 returns-in-Ok-clause-gave g c =

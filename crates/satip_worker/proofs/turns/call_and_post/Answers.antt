@@ -1,5 +1,5 @@
 use Rattle.satip_worker.proofs.ProgressLemmas.{made_event, unmade_event}
-use Rattle.satip_worker.proofs.turns.make.Goals as goal
+use Rattle.satip_worker.proofs.turns.call_and_post.Goals as goal
 
 pub returns-in-Ok-clause-makes : goal.returns-in-Ok-clause-makes
 returns-in-Ok-clause-makes g c =
