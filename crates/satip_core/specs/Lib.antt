@@ -1,2 +1,7 @@
-pub mod State
-pub mod Plain
+pub mod Told
+pub mod Places
+pub mod Rows
+pub mod Describing
+pub mod Doing
+pub mod Held
+pub mod Serving

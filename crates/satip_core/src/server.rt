@@ -1,0 +1,219 @@
+//! The server and its events.
+
+ghost use Rattle.std.specs.Prelude.{◌≡◌, ◌≤◌, [], None, Some, false, length, IfOk};
+ghost use Rattle.satip_fronts.specs.FrontEnds.{IsNumbered};
+ghost use Rattle.satip_plain.specs.declared.answers.Answer.TheVariants.{Replied as AnswerReplied, Get as AnswerGet, Beat as AnswerBeat, Work as AnswerWork, Pulled as AnswerPulled, Closed as AnswerClosed};
+ghost use Rattle.satip_plain.specs.declared.answers.Pulled.TheVariants.{Gone as PulledGone, Empty as PulledEmpty};
+ghost use Rattle.satip_plain.specs.declared.events.Event.TheVariants.{Request as Asked, Get as Got, Tick, Packet as PacketCame, Ended, Ask, Pull, Close, Stop};
+ghost use Rattle.satip_plain.specs.State.{Session as PlainSession, State, held, http_session};
+ghost use Rattle.satip_plain.specs.Refusals.{Refused as PlainRefused, decide as decision, decide_get as get_decision};
+ghost use Rattle.satip_plain.specs.Steps.{hear, heard_by, is_current};
+ghost use Rattle.satip_plain.specs.Histories.{opening};
+ghost use Rattle.satip_core.specs.Serving.{Rests, Stands, StandsAfter, Steps};
+
+use crate::events;
+use crate::gets::answer_get;
+use crate::requests::answer_request;
+use crate::values::known_setting;
+use satip_base::{Draw, Out, Peer, SessionId, Want};
+use satip_config::Config;
+use satip_http::HttpRequest;
+use satip_plain::{
+    Answer, Beat, Closed, Event, GetAnswer, Pulled, Replied, Setting, Work, empty_only_hears,
+    gone_changes_nothing, refused_changes_nothing, refused_get_changes_nothing,
+    stale_changes_nothing,
+};
+use satip_rtsp::Request;
+use satip_state::Parts;
+use satip_ts::Packet;
+use std::alloc::Global;
+use std::marker::Model;
+
+/// The server of one thread. A contract sees what it was made with, and what its parts keep; each event is
+/// a step of the plain server for which they stand.
+#[derive(Drop)]
+pub struct Server {
+    setting: Setting,
+    parts: Parts,
+}
+
+impl Model for Server {
+    ghost use Rattle.satip_core.specs.Held.{Held};
+    ghost use Rattle.satip_core.specs.Doing.{Standing};
+
+    ghost Value = { Held };
+
+    ghost view = { λ s. record { setting = s.setting; kept = s.parts } };
+
+    ghost invariant = { λ s. Standing s.setting.config s.parts };
+}
+
+impl Server {
+    /// The server before its first event, with its clock at this moment in milliseconds of Unix time. Takes
+    /// all memory; `Want` where it was refused.
+    pub fn make(alloc: Global, config: Config, start: u64) -> Result<Server, Want>
+        requires few { length config.fronts ≤ 16 }
+        requires numbered { IsNumbered 1 config.fronts }
+        requires received { length config.muxes ≤ 256 }
+        ensures setting { IfOk result (λ server. server.setting ≡ record { config = config; start = start }) }
+        ensures opening { IfOk result (λ server. Stands server (opening (record { config = config; start = start }))) }
+        ensures history { IfOk result (λ server. StandsAfter server []) }
+    {
+        let Ok(fronts) = config.fronts.clone() else {
+            return Err(Want);
+        };
+        let Ok(muxes) = config.muxes.clone() else {
+            return Err(Want);
+        };
+        let parts = Parts::make(alloc, fronts, muxes, config.timeout, start)?;
+        let setting = Setting { config, start };
+        known_setting(&setting);
+        Ok(Server { setting, parts })
+    }
+
+    /// Answers an RTSP request. `out` is cleared first, and has the reply and the datagrams then. A refused
+    /// request changes nothing but, where the message itself is right, when its session was last heard of.
+    pub fn request(&mut self, peer: Peer, draw: Draw, request: &Request, out: &mut Out) -> Replied
+        ensures setting { self.new.setting ≡ self.old.setting }
+        ensures steps { Steps self.old (Asked peer draw request.now) self.new (AnswerReplied result) out.new }
+        ensures refused { (st : State) (refused : PlainRefused) → Stands self.old st
+            → decision self.old.setting.config st request.now ≡ Some refused → Rests self.new out.new (heard_by request.now st) }
+    {
+        refused_changes_nothing();
+        out.clear();
+        answer_request(
+            &self.setting.config,
+            &mut self.parts,
+            peer,
+            draw,
+            request,
+            out,
+        )
+    }
+
+    /// Answers an HTTP request. `out` is cleared first, and has the head of the reply and the datagrams then.
+    /// A refused request changes nothing.
+    pub fn get(&mut self, peer: Peer, draw: Draw, request: &HttpRequest, out: &mut Out) -> GetAnswer
+        ensures setting { self.new.setting ≡ self.old.setting }
+        ensures steps { Steps self.old (Got peer draw request.now) self.new (AnswerGet result) out.new }
+        ensures refused { (st : State) (refused : PlainRefused) → Stands self.old st
+            → get_decision self.old.setting.config st request.now ≡ Some refused → Rests self.new out.new st }
+    {
+        refused_get_changes_nothing();
+        out.clear();
+        answer_get(
+            &self.setting.config,
+            &mut self.parts,
+            peer,
+            draw,
+            request,
+            out,
+        )
+    }
+
+    /// The clock goes on to this moment, in milliseconds of Unix time. `out` is cleared first, and has the
+    /// datagrams then: what was held, and reports.
+    pub fn tick(&mut self, now: u64, out: &mut Out) -> Beat
+        ensures setting { self.new.setting ≡ self.old.setting }
+        ensures steps { Steps self.old (Tick now) self.new (AnswerBeat result) out.new }
+    {
+        out.clear();
+        events::tick(&self.setting.config, &mut self.parts, now, out)
+    }
+
+    /// A packet of a front end's tuning number, and what its pump is to do next. `out` is cleared first, and
+    /// has the datagrams then. A stale packet changes nothing.
+    pub fn packet(&mut self, front: u16, tune: u64, packet: &Packet, out: &mut Out) -> Work
+        ensures setting { self.new.setting ≡ self.old.setting }
+        ensures steps { Steps self.old (PacketCame front tune packet.now) self.new (AnswerWork result) out.new }
+        ensures stale { (st : State) → Stands self.old st → is_current st front tune ≡ false → Rests self.new out.new st }
+    {
+        stale_changes_nothing();
+        out.clear();
+        events::packet(&mut self.parts, front, tune, packet, out)
+    }
+
+    /// The recording of a front end's tuning number is exhausted. `out` is cleared.
+    pub fn ended(&mut self, front: u16, tune: u64, out: &mut Out) -> Work
+        ensures setting { self.new.setting ≡ self.old.setting }
+        ensures steps { Steps self.old (Ended front tune) self.new (AnswerWork result) out.new }
+    {
+        out.clear();
+        events::ended(&mut self.parts, front, tune)
+    }
+
+    /// What a front end's pump is to do. `out` is cleared.
+    pub fn ask(&mut self, front: u16, out: &mut Out) -> Work
+        ensures setting { self.new.setting ≡ self.old.setting }
+        ensures steps { Steps self.old (Ask front) self.new (AnswerWork result) out.new }
+    {
+        out.clear();
+        self.parts.work(front)
+    }
+
+    /// Moves the first packets of an HTTP session's queue, 64 at most, to the reply. `out` is cleared first.
+    /// Where the session doesn't live nothing changes; where nothing is queued, when it was last heard of.
+    pub fn pull(&mut self, session: SessionId, out: &mut Out) -> Pulled
+        ensures setting { self.new.setting ≡ self.old.setting }
+        ensures steps { Steps self.old (Pull session) self.new (AnswerPulled result) out.new }
+        ensures gone { (st : State) → Stands self.old st → http_session st session ≡ None → Rests self.new out.new st }
+        ensures empty { (st : State) (s : PlainSession) → Stands self.old st → http_session st session ≡ Some s
+            → held s ≡ [] → Rests self.new out.new (hear s.id st) }
+    {
+        gone_changes_nothing();
+        empty_only_hears();
+        out.clear();
+        events::pull(&mut self.parts, session, out)
+    }
+
+    /// Ends an HTTP session. `out` is cleared. Where it doesn't live nothing changes.
+    pub fn close(&mut self, session: SessionId, out: &mut Out) -> Closed
+        ensures setting { self.new.setting ≡ self.old.setting }
+        ensures steps { Steps self.old (Close session) self.new (AnswerClosed result) out.new }
+        ensures gone { (st : State) → Stands self.old st → http_session st session ≡ None → Rests self.new out.new st }
+    {
+        gone_changes_nothing();
+        out.clear();
+        events::close(&mut self.parts, session, out)
+    }
+
+    /// The server stops. `out` is cleared.
+    pub fn stop(&mut self, out: &mut Out) -> Beat
+        ensures setting { self.new.setting ≡ self.old.setting }
+        ensures steps { Steps self.old Stop self.new (AnswerBeat result) out.new }
+    {
+        out.clear();
+        self.parts.stop();
+        Beat::Stopping
+    }
+
+    /// Any event, by its kind.
+    pub fn event(&mut self, event: &Event, out: &mut Out) -> Answer
+        ensures setting { self.new.setting ≡ self.old.setting }
+        ensures steps { Steps self.old event.now self.new result out.new }
+    {
+        match event {
+            Event::Request {
+                peer,
+                draw,
+                request,
+            } => Answer::Replied(self.request(*peer, *draw, request, out)),
+            Event::Get {
+                peer,
+                draw,
+                request,
+            } => Answer::Get(self.get(*peer, *draw, request, out)),
+            Event::Tick { now } => Answer::Beat(self.tick(*now, out)),
+            Event::Packet {
+                front,
+                tune,
+                packet,
+            } => Answer::Work(self.packet(*front, *tune, packet, out)),
+            Event::Ended { front, tune } => Answer::Work(self.ended(*front, *tune, out)),
+            Event::Ask { front } => Answer::Work(self.ask(*front, out)),
+            Event::Pull { session } => Answer::Pulled(self.pull(*session, out)),
+            Event::Close { session } => Answer::Closed(self.close(*session, out)),
+            Event::Stop => Answer::Beat(self.stop(out)),
+        }
+    }
+}

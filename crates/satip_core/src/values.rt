@@ -1,0 +1,53 @@
+//! That the values of a setting are of their types.
+ghost use Rattle.satip_history.specs.Lists.{Each};
+ghost use Rattle.satip_plain.specs.Values.{IsFrontEnd, IsMultiplex, IsSetting};
+
+use satip_plain::Setting;
+use satip_tune::{Front, Mux};
+
+/// Hands what is true of each setting to a caller's proof: its numbers are within their types, and
+/// a front end has 256 positions and two systems.
+pub(crate) fn known_setting(setting: &Setting)
+    ensures value { IsSetting setting.now }
+{
+    let _start = setting.start;
+    let _address = setting.config.address;
+    let _rtsp_port = setting.config.rtsp_port;
+    let _http_port = setting.config.http_port;
+    let _timeout = setting.config.timeout;
+    let _workers = setting.config.workers;
+    known_fronts(setting.config.fronts.as_slice());
+    known_muxes(setting.config.muxes.as_slice());
+}
+
+fn known_front(front: &Front)
+    ensures value { IsFrontEnd front.now }
+{
+    let _number = front.number;
+    let _sources = front.sources;
+    let _systems = front.systems;
+}
+
+fn known_fronts(fronts: &[Front])
+    ensures value { Each IsFrontEnd fronts.now }
+{
+    for front in fronts {
+        known_front(front);
+    }
+}
+
+fn known_mux(mux: &Mux)
+    ensures value { IsMultiplex mux.now }
+{
+    let _src = mux.src;
+    let _freq = mux.freq;
+    let _sr = mux.sr;
+}
+
+fn known_muxes(muxes: &[Mux])
+    ensures value { Each IsMultiplex muxes.now }
+{
+    for mux in muxes {
+        known_mux(mux);
+    }
+}

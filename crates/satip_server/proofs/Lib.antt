@@ -1,8 +1,0 @@
-pub mod PlaceLemmas
-pub mod ViewLemmas
-pub mod DoingLemmas
-pub mod HearingLemmas
-pub mod KindLemmas
-pub mod SetupLemmas
-pub mod PlayLemmas
-pub mod ServingLemmas

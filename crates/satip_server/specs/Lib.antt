@@ -1,7 +1,0 @@
-pub mod Told
-pub mod Places
-pub mod Rows
-pub mod Describing
-pub mod Doing
-pub mod Held
-pub mod Serving
