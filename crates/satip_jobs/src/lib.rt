@@ -1,0 +1,8 @@
+//! Jobs that run beside each other, by a recursion of join.
+#![tactic(auto)]
+
+mod run;
+#[cfg(test)]
+mod tests;
+
+pub use run::{run_beside, run_each};
