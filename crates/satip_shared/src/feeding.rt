@@ -1,0 +1,33 @@
+//! The events of a lot, as a burst of the cell is fed with them.
+ghost use Rattle.std.specs.Prelude.{◌≡◌, refl};
+
+use satip_base::Out;
+use satip_core::Server;
+use satip_plain::{Answer, Event};
+use satip_service::Lot;
+use satip_turn::Feed;
+
+/// A lot that feeds a burst.
+#[derive(Drop)]
+pub(crate) struct Feeding<'a, L: Lot> {
+    pub lot: &'a mut L,
+}
+
+impl<'a, L: Lot> Feed<Server> for Feeding<'a, L> {
+    ghost given = { λ f. L.given f.lot.now };
+
+    ghost ended = { λ f. L.ended f.lot.now };
+
+    // and it still has the same lot
+    ghost has_taken = { λ f g ts. (g.lot.ghost_name ≡ f.lot.ghost_name) × L.has_taken f.lot.now g.lot.now ts };
+
+    ghost none_taken = { λ f. (refl, L.none_taken f.lot.now) };
+
+    fn next(&mut self) -> Option<Event> {
+        self.lot.next()
+    }
+
+    fn took(&mut self, answer: &Answer, out: &Out) {
+        self.lot.took(answer, out);
+    }
+}
