@@ -1,0 +1,117 @@
+//! `Solo`, a service of one thread.
+ghost use Rattle.std.specs.Prelude.{◌≡◌, ◌<◌, ◌^◌, length};
+ghost use Rattle.satip_plain.specs.Histories.{Legal};
+ghost use Rattle.satip_plain.specs.Single.{legal_prop};
+
+use crate::history::History;
+use satip_base::{Out, Want};
+use satip_core::Server;
+use satip_history::Entry;
+use satip_plain::{Answer, Event};
+use satip_service::{Lot, Service, ServiceFault};
+use std::alloc::Global;
+
+/// A server that one caller speaks to, and each entry of its history. The calls are caller 0's; one
+/// Stop may come of caller 1. Each event of a burst counts as a call.
+#[derive(Drop)]
+pub struct Solo {
+    history: History,
+    ghost lawful: { Legal history.setting history.entries } by { legal_prop history.setting history.entries },
+    ghost short: { length history.entries < 2 ^ 64 },
+}
+
+impl Solo {
+    ghost use Rattle.std.specs.Prelude.{[], IfOk};
+    ghost use Rattle.satip_core.specs.Serving.{StandsAfter};
+    ghost use Rattle.satip_solo.specs.Log.{new_log};
+    ghost use Rattle.satip_solo.specs.Solos.{log_of};
+
+    /// A service over a server that stands for the empty history. Just before the call of this
+    /// number, from 0, caller 1 makes a Stop.
+    pub fn make(alloc: Global, server: Server, stop: Option<u64>) -> Result<Solo, Want>
+        requires fresh { StandsAfter server [] }
+        ensures ok { IfOk result (λ solo. log_of solo ≡ new_log server.setting stop) }
+    {
+        Ok(Solo {
+            history: History::new(alloc, server, stop),
+        })
+    }
+
+    /// The entries, oldest first.
+    pub fn entries(&self) -> &[Entry<Event, Answer, Out>]
+        ensures entries { result.now ≡ (log_of self.now).entries }
+    {
+        self.history.entries()
+    }
+}
+
+impl Service for Solo {
+    ghost use Rattle.std.proofs.Common.{◌∙◌};
+    ghost use Rattle.std.specs.Prelude.{true, false, refl, List, None, MatchResult, IfErr};
+    ghost use Rattle.satip_base.specs.Output.{Output};
+    ghost use Rattle.satip_history.specs.declared.entry.Taken.{Taken};
+    ghost use Rattle.satip_plain.specs.declared.answers.Answer.{Answer as Answered};
+    ghost use Rattle.satip_plain.specs.declared.events.Event.{Event as Happening};
+    ghost use Rattle.satip_service.specs.Calls.{Called, Bursts};
+    ghost use Rattle.satip_solo.specs.Log.{Goes, GoesOn, known_of};
+    ghost use Rattle.satip_solo.specs.Solos.{log_of};
+
+    ghost setting = { λ s. (log_of s).setting };
+
+    ghost legal = { λ c h. Legal c h };
+
+    ghost known = { λ s. known_of (log_of s) };
+
+    ghost may_want = { λ _. true };
+
+    ghost same = { λ s t. (log_of t).setting ≡ (log_of s).setting };
+
+    ghost is_legal = { λ s. s.lawful };
+
+    ghost is_short = { λ s. s.short };
+
+    ghost same_self = { λ _. refl };
+
+    ghost same_then = { λ r s t a b. b ∙ a };
+
+    ghost same_setting = { λ _ _ a. a };
+
+    ghost same_want = { λ _ _ _. refl };
+
+    /// Makes the event as caller 0, behind the Stop of caller 1 where its call has come. Where
+    /// memory is refused, neither was made.
+    fn call(&mut self, event: &Event, out: &mut Out) -> Result<Answer, ServiceFault>
+        ensures same { (log_of self.new).setting ≡ (log_of self.old).setting }
+        ensures called { Called true (known_of (log_of self.old)) (known_of (log_of self.new)) event.now out.new result }
+        ensures goes { MatchResult result
+            (λ answer. Goes (log_of self.old) event.now answer out.new (log_of self.new))
+            (λ fault. (fault ≡ ServiceFault.Want) × (log_of self.new ≡ log_of self.old)) }
+    {
+        self.history.make(event, out)
+    }
+
+    /// Makes the events of the lot as calls one after another. Where memory is refused, the event
+    /// that the lot gave last wasn't made. Memory is refused before a history is full.
+    fn burst<L: Lot>(&mut self, lot: &mut L, out: &mut Out) -> Result<(), ServiceFault>
+        requires open { L.ended lot.old ≡ false }
+        requires none { L.given lot.old ≡ None }
+        ensures same { (log_of self.new).setting ≡ (log_of self.old).setting }
+        ensures bursts { Bursts true (known_of (log_of self.old)) (known_of (log_of self.new))
+            (L.ended lot.new) (L.given lot.new) (L.has_taken lot.old lot.new) result }
+        ensures wants { IfErr result (λ fault. fault ≡ ServiceFault.Want) }
+        ensures goes { (ts : List (Taken Happening Answered Output)) × L.has_taken lot.old lot.new ts
+            × GoesOn (log_of self.old) ts (log_of self.new) }
+    {
+        for made in 0..64u32 {
+            let Some(event) = lot.next() else {
+                return Ok(());
+            };
+            let _ = made;
+            match self.history.make(&event, out) {
+                Ok(answer) => lot.took(&answer, out),
+                Err(fault) => return Err(fault),
+            }
+        }
+        Ok(())
+    }
+}

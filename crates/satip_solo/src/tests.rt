@@ -1,0 +1,91 @@
+//! Calls of a service of one thread, and the Stop of another caller.
+ghost use Rattle.std.specs.Prelude.{◌≡◌, [], true, false, None, Some, IfOk};
+ghost use Rattle.satip_core.specs.Serving.{StandsAfter};
+ghost use Rattle.satip_solo.specs.Log.{Before, is_at};
+
+use crate::Solo;
+use satip_base::Out;
+use satip_config::Config;
+use satip_core::Server;
+use satip_plain::{Answer, Beat, Event, Work};
+use satip_service::Service;
+use satip_tune::Front;
+use std::alloc::Global;
+use std::test::Fail;
+
+// The Stop comes before the call of its number, and before no other.
+fn rows_of_stops(n: u64)
+    ensures here { is_at (Some 2) 2 ≡ true }
+    ensures later { is_at (Some 2) 1 ≡ false }
+    ensures never { is_at None 2 ≡ false }
+    ensures nothing { Before false [] }
+{
+    let _ = n;
+}
+
+// A server with one front end.
+fn server(alloc: Global) -> Result<Server, Fail>
+    ensures history { IfOk result (λ server. StandsAfter server []) }
+{
+    let mut fronts = Vec::new(alloc);
+    fronts.push(Front {
+        number: 1,
+        sources: [true; 256],
+        systems: [true, true],
+    })?;
+    let config = Config {
+        address: 3232235786,
+        rtsp_port: 554,
+        http_port: 8875,
+        timeout: 60,
+        workers: 8,
+        fronts,
+        muxes: Vec::new(alloc),
+        files: Vec::new(alloc),
+    };
+    Ok(Server::make(alloc, config, 0)?)
+}
+
+fn solo(alloc: Global, stop: Option<u64>) -> Result<Solo, Fail> {
+    Ok(Solo::make(alloc, server(alloc)?, stop)?)
+}
+
+#[test]
+fn the_stop_comes_before_its_call(rt: HostRuntime) -> Result<(), Fail> {
+    let alloc = rt.alloc();
+    rows_of_stops(2);
+    let mut out = Out::make(alloc)?;
+    let mut solo = solo(alloc, Some(2))?;
+    let ask = Event::Ask { front: 1 };
+    let wanted = [Work::Nothing, Work::Nothing, Work::Stopping, Work::Stopping];
+    for work in wanted {
+        let answer = solo.call(&ask, &mut out).ok().ok_or("answer")?;
+        assert!(rt; answer == Answer::Work(work));
+    }
+    let entries = solo.entries();
+    assert_eq!(rt; entries.len(), 5);
+    let mut callers = Vec::new(alloc);
+    for entry in entries {
+        callers.push(entry.caller)?;
+    }
+    assert_eq!(rt; callers.as_slice(), [0u64, 0, 1, 0, 0].as_slice());
+    let stop = entries.get(2).ok_or("stop")?;
+    assert!(rt; matches!(stop.event, Event::Stop));
+    assert!(rt; stop.answer == Answer::Beat(Beat::Stopping));
+    Ok(())
+}
+
+#[test]
+fn each_entry_keeps_what_was_written(rt: HostRuntime) -> Result<(), Fail> {
+    let alloc = rt.alloc();
+    let mut out = Out::make(alloc)?;
+    let mut solo = solo(alloc, None)?;
+    let tick = Event::Tick { now: 1000 };
+    let answer = solo.call(&tick, &mut out).ok().ok_or("answer")?;
+    assert!(rt; answer == Answer::Beat(Beat::Going));
+    let entry = solo.entries().first().ok_or("entry")?;
+    assert!(rt; matches!(entry.event, Event::Tick { now: 1000 }));
+    assert_eq!(rt; entry.out.reply(), out.reply());
+    assert_eq!(rt; entry.out.count(), 0);
+    Ok(())
+}
