@@ -1,0 +1,66 @@
+//! Why a server can't begin.
+
+use satip_base::Want;
+use satip_real::BindFault;
+use std::alloc::{AllocError, AllocFailed};
+use std::{fmt, io};
+
+/// Why there are no kits.
+#[derive(Debug, Drop)]
+pub enum KitsFault {
+    /// The address and the port for RTSP can't be listened at.
+    RtspPort(io::Error),
+    /// The address and the port for HTTP can't be listened at.
+    HttpPort(io::Error),
+    /// There is no UDP socket at the address.
+    Socket(io::Error),
+    /// The recording of a multiplex, by its number, can't be opened.
+    Recording(u16),
+    /// There are no random bytes for a worker's key.
+    Key,
+    /// There was no memory.
+    Want,
+}
+
+impl fmt::Display for KitsFault {
+    fn fmt<W: fmt::Write>(&self, f: &mut fmt::Formatter<W>) -> fmt::Result {
+        match self {
+            KitsFault::RtspPort(error) => write!(f, "RTSP port: {error}"),
+            KitsFault::HttpPort(error) => write!(f, "HTTP port: {error}"),
+            KitsFault::Socket(error) => write!(f, "UDP socket: {error}"),
+            KitsFault::Recording(mux) => write!(f, "recording of mux.{mux} can't be opened"),
+            KitsFault::Key => write!(f, "no random bytes"),
+            KitsFault::Want => write!(f, "out of memory"),
+        }
+    }
+}
+
+impl From<BindFault> for KitsFault {
+    fn from(fault: BindFault) -> KitsFault {
+        match fault {
+            BindFault::Rtsp(error) => KitsFault::RtspPort(error),
+            BindFault::Http(error) => KitsFault::HttpPort(error),
+        }
+    }
+}
+
+impl From<Want> for KitsFault {
+    fn from(_want: Want) -> KitsFault {
+        KitsFault::Want
+    }
+}
+
+impl<T> From<AllocFailed<T>> for KitsFault
+where
+    T: Drop,
+{
+    fn from(_failed: AllocFailed<T>) -> KitsFault {
+        KitsFault::Want
+    }
+}
+
+impl From<AllocError> for KitsFault {
+    fn from(_error: AllocError) -> KitsFault {
+        KitsFault::Want
+    }
+}

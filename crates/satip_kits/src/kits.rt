@@ -1,0 +1,133 @@
+//! The kits of all jobs.
+
+ghost use Rattle.std.specs.Prelude.{◌≡◌, All, IfOk, length};
+ghost use Rattle.satip_kits.specs.Unused.{IsUnusedWorker, IsUnusedPump, IsUnusedTick};
+
+use crate::fault::KitsFault;
+use crate::shared::Shared;
+use satip_config::Config;
+use satip_pump::{PumpKit, TickKit};
+use satip_real::{RealClock, RealDoors, RealOutlet, RealPacer, RealStore, read_key};
+use satip_worker::WorkerKit;
+use std::alloc::Global;
+use std::sync::{Arc, Wait};
+
+/// A kit for each worker, one for the pump of each front end, and one for the ticker. Their doors
+/// share two listeners, their outlets one UDP socket.
+#[derive(Drop)]
+pub struct RealKits<R: Wait + Drop> {
+    pub workers: Vec<WorkerKit<RealDoors, RealOutlet<R>, RealPacer>>,
+    pub pumps: Vec<PumpKit<RealStore, RealOutlet<R>, RealPacer>>,
+    pub tick: TickKit<RealClock, RealOutlet<R>, RealPacer>,
+}
+
+fn worker_kit<R: Wait + Drop>(
+    host: HostRuntime,
+    rt: R,
+    alloc: Global,
+    shared: &Shared,
+    accepts: u32,
+) -> Result<WorkerKit<RealDoors, RealOutlet<R>, RealPacer>, KitsFault>
+    ensures unused { IfOk result (λ kit. IsUnusedWorker accepts kit) }
+{
+    let Ok(key) = read_key(&host) else {
+        return Err(KitsFault::Key);
+    };
+    let listeners = Arc::try_clone(&shared.listeners)?;
+    Ok(WorkerKit {
+        doors: RealDoors::new(host, alloc, listeners, accepts),
+        outlet: shared.outlet(rt)?,
+        pacer: RealPacer::new(host),
+        key,
+    })
+}
+
+fn pump_kit<R: Wait + Drop>(
+    host: HostRuntime,
+    rt: R,
+    shared: &Shared,
+) -> Result<PumpKit<RealStore, RealOutlet<R>, RealPacer>, KitsFault>
+    ensures unused { IfOk result (λ kit. IsUnusedPump kit) }
+{
+    Ok(PumpKit {
+        store: shared.store(host)?,
+        outlet: shared.outlet(rt)?,
+        pacer: RealPacer::new(host),
+    })
+}
+
+fn tick_kit<R: Wait + Drop>(
+    host: HostRuntime,
+    rt: R,
+    shared: &Shared,
+) -> Result<TickKit<RealClock, RealOutlet<R>, RealPacer>, KitsFault>
+    ensures unused { IfOk result (λ kit. IsUnusedTick kit) }
+{
+    Ok(TickKit {
+        clock: RealClock::new(host),
+        outlet: shared.outlet(rt)?,
+        pacer: RealPacer::new(host),
+    })
+}
+
+fn worker_kits<R: Wait + Copy + Drop>(
+    host: HostRuntime,
+    rt: R,
+    alloc: Global,
+    shared: &Shared,
+    count: u16,
+    accepts: u32,
+) -> Result<Vec<WorkerKit<RealDoors, RealOutlet<R>, RealPacer>>, KitsFault>
+    ensures count { IfOk result (λ kits. length kits.items ≡ count) }
+    ensures unused { IfOk result (λ kits. All (IsUnusedWorker accepts) kits.items) }
+{
+    let mut kits = Vec::new(alloc);
+    for _ in 0..count {
+        kits.push(worker_kit(host, rt, alloc, shared, accepts)?)?;
+    }
+    Ok(kits)
+}
+
+fn pump_kits<R: Wait + Copy + Drop>(
+    host: HostRuntime,
+    rt: R,
+    alloc: Global,
+    shared: &Shared,
+    count: usize,
+) -> Result<Vec<PumpKit<RealStore, RealOutlet<R>, RealPacer>>, KitsFault>
+    ensures count { IfOk result (λ kits. length kits.items ≡ count) }
+    ensures unused { IfOk result (λ kits. All IsUnusedPump kits.items) }
+{
+    let mut kits = Vec::new(alloc);
+    for _ in 0..count {
+        kits.push(pump_kit(host, rt, shared)?)?;
+    }
+    Ok(kits)
+}
+
+/// Makes the kits of a configuration: it binds the address and ports, sees that each recording can
+/// be opened, and reads a key for each worker. Each worker's doors end after `accepts` connections,
+/// and never where it is 0.
+pub fn real_kits<R: Wait + Copy + Drop>(
+    host: HostRuntime,
+    rt: R,
+    config: &Config,
+    accepts: u32,
+) -> Result<RealKits<R>, KitsFault>
+    ensures workers { IfOk result (λ kits. length kits.workers.items ≡ config.now.workers) }
+    ensures pumps { IfOk result (λ kits. length kits.pumps.items ≡ length config.now.fronts) }
+    ensures unused_workers { IfOk result (λ kits. All (IsUnusedWorker accepts) kits.workers.items) }
+    ensures unused_pumps { IfOk result (λ kits. All IsUnusedPump kits.pumps.items) }
+    ensures unused_tick { IfOk result (λ kits. IsUnusedTick kits.tick) }
+{
+    let alloc = host.alloc();
+    let shared = Shared::open(&host, alloc, config)?;
+    if let Some(mux) = shared.store(host)?.first_missing() {
+        return Err(KitsFault::Recording(mux));
+    }
+    Ok(RealKits {
+        workers: worker_kits(host, rt, alloc, &shared, config.workers, accepts)?,
+        pumps: pump_kits(host, rt, alloc, &shared, config.fronts.len())?,
+        tick: tick_kit(host, rt, &shared)?,
+    })
+}

@@ -1,0 +1,11 @@
+//! What all jobs of a server work with, over the system: its sockets, files, clock and random bytes.
+#![tactic(auto)]
+
+mod fault;
+mod kits;
+mod shared;
+#[cfg(test)]
+mod tests;
+
+pub use fault::KitsFault;
+pub use kits::{RealKits, real_kits};
