@@ -1,0 +1,8 @@
+pub mod Finishing
+pub mod Seating
+pub mod Crossing
+pub mod Beside
+pub mod WholeRuns
+pub mod Ended
+pub mod StopRows
+pub mod RunRows

@@ -1,0 +1,13 @@
+-- Each job may go to another thread, and what its work did holds of all.
+use Rattle.satip_serve.specs.Callers.{JobDid}
+use Rattle.satip_serve.specs.Deeds.{worker_deed}
+use Rattle.satip_serve.specs.Seats.{job_of}
+use Rattle.satip_serve.proofs.Beside.{both_worked}
+use Rattle.satip_serve.proofs.Crossing.{working}
+use Rattle.satip_serve.proofs.run.work_all.Goals as goal
+
+pub run_list-requires-send-J : goal.run_list-requires-send-J
+run_list-requires-send-J g c κs within = search working depth 12
+
+pub returns : goal.returns
+returns g c = record { did = both_worked _ _ job_of (JobDid (worker_deed g.D.Conn.Conn.tells g.O.Outlet.tells g.D.Doors.hall g.O.Outlet.outbox)) (λ a b call. call) _ _ c.run_list.ensures.worked }

@@ -1,0 +1,85 @@
+-- Worked runs of one worker and the ticker, without front ends.
+use Rattle.std.specs.Prelude.{◌≡◌, ℕ, ◌+◌, Bool, true, List, [], ◌∷◌}
+use Rattle.satip_base.specs.Output.{empty}
+use Rattle.satip_history.specs.History.{entry}
+use Rattle.satip_plain.specs.declared.answers.Answer.TheVariants.{Beat as BeatIs, Closed}
+use Rattle.satip_plain.specs.declared.answers.Beat.{Beat}
+use Rattle.satip_plain.specs.declared.answers.Beat.TheVariants.{Going, Stopping}
+use Rattle.satip_plain.specs.declared.answers.Closed.TheVariants.{Gone}
+use Rattle.satip_plain.specs.declared.events.Event.TheVariants.{Close, Stop, Tick}
+use Rattle.satip_plain.specs.declared.setting.Setting.{Setting}
+use Rattle.satip_plain.specs.Histories.{Item}
+use Rattle.satip_plain.specs.Types.{Config}
+use Rattle.satip_turn.specs.Views.{row}
+use Rattle.satip_world.specs.Outboxes.{fresh_outbox}
+use Rattle.satip_serve.specs.Done.{Caller}
+use Rattle.satip_serve.specs.ServeRuns.{ServeRun}
+use Rattle.satip_serve.specs.Views.{WorkerView, TickView}
+
+-- entries of a caller: the stop, a tick at a moment, and the end of a connection whose session is gone
+abbrev pub stop_by : ℕ → Item
+stop_by caller = entry caller Stop (BeatIs Stopping) empty
+
+abbrev pub tick_by : ℕ → ℕ → Beat → Item
+tick_by caller moment beat = entry caller (Tick moment) (BeatIs beat) empty
+
+abbrev pub close_by : ℕ → Item
+close_by caller = entry caller (Close (record { count = 1; word = 10 })) (Closed Gone) empty
+
+abbrev pub caller_of : ℕ → List Item → Caller
+caller_of number own = row number own
+
+-- the worker as caller 1, with this entry or with none
+abbrev pub busy_worker : List Caller
+busy_worker = caller_of 1 (close_by 1 ∷ []) ∷ []
+
+abbrev pub idle_worker : List Caller
+idle_worker = caller_of 1 [] ∷ []
+
+-- the worker's entry stands before the stop, and the ticker's on both sides of it
+abbrev pub stopped_well : List Item
+stopped_well = close_by 1 ∷ tick_by 2 1020 Going ∷ stop_by 0 ∷ tick_by 2 1040 Stopping ∷ []
+
+-- two numbers with the number of their place between them
+abbrev pub IsApart : ℕ → ℕ → ℕ → Type 0
+IsApart place x y = y ≡ x + place
+
+-- a worker whose doors ended, or didn't, and failed so often
+abbrev pub worker_with : (ended : Bool) (limit faults : ℕ) → WorkerView
+worker_with ended limit faults = record {
+  hall = record { limit = limit; count = 0; ended = ended; idles = 0; faults = faults; told = true; given = []; returned = [] };
+  outbox = fresh_outbox;
+  key = [];
+}
+
+-- one worker and no front end
+abbrev pub small_config : Config
+small_config = record {
+  address = 3232235786;
+  rtsp_port = 554;
+  http_port = 8875;
+  timeout = 60;
+  workers = 1;
+  fronts = [];
+  muxes = [];
+  files = [];
+}
+
+abbrev pub small_setting : Setting
+small_setting = record { config = small_config; start = 1000 }
+
+-- the stop, and a tick of each side of it
+abbrev pub small_history : List Item
+small_history = tick_by 2 1020 Going ∷ stop_by 0 ∷ tick_by 2 1040 Stopping ∷ []
+
+abbrev pub small_ticker : Caller
+small_ticker = caller_of 2 (tick_by 2 1020 Going ∷ tick_by 2 1040 Stopping ∷ [])
+
+-- a ticker whose clock was read at these moments
+abbrev pub ticker_at : List ℕ → TickView
+ticker_at moments = record { dial = record { readings = moments; told = true }; outbox = fresh_outbox }
+
+-- the small run, with this limit of connections, this history, these callers, workers and readings of the clock
+abbrev pub SmallRun : ℕ → List Item → List Caller → List WorkerView → List ℕ → Type 0
+SmallRun accepts seen kept workers moments =
+    ServeRun (Unit {0}) (Unit {0}) small_setting accepts seen kept workers [] (ticker_at moments)

@@ -1,0 +1,34 @@
+-- What contracts see of the kits of jobs.
+use Rattle.std.specs.Prelude.{ℕ, List, Option}
+use Rattle.satip_world.specs.Dials.{Dial}
+use Rattle.satip_world.specs.Halls.{Hall}
+use Rattle.satip_world.specs.Outboxes.{Outbox}
+use Rattle.satip_pump.specs.declared.kits.PumpKit.{PumpKit}
+use Rattle.satip_pump.specs.declared.kits.TickKit.{TickKit}
+use Rattle.satip_worker.specs.declared.kits.WorkerKit.{WorkerKit}
+
+-- a worker's kit: its doors, what its outlet was given, and the key of its draws
+pub record WorkerView : Type 0 where
+  pub hall : Hall
+  pub outbox : Outbox
+  pub key : List ℕ
+
+abbrev pub worker_view : {D O P : Type 0} → (D → Hall) → (O → Outbox) → WorkerKit D O P → WorkerView
+worker_view hall outbox kit = record { hall = hall kit.doors; outbox = outbox kit.outlet; key = kit.key }
+
+-- a pump's kit: the recordings of its store, where they are told, how often the store failed, and what its outlet was given
+pub record PumpView : Type 0 where
+  pub recording : ℕ → Option (List ℕ)
+  pub faults : ℕ
+  pub outbox : Outbox
+
+abbrev pub pump_view : {M O P : Type 0} → (M → ℕ → Option (List ℕ)) → (M → ℕ) → (O → Outbox) → PumpKit M O P → PumpView
+pump_view recording faults outbox kit = record { recording = recording kit.store; faults = faults kit.store; outbox = outbox kit.outlet }
+
+-- the ticker's kit: what its clock told, and what its outlet was given
+pub record TickView : Type 0 where
+  pub dial : Dial
+  pub outbox : Outbox
+
+abbrev pub tick_view : {C O P : Type 0} → (C → Dial) → (O → Outbox) → TickKit C O P → TickView
+tick_view dial outbox kit = record { dial = dial kit.clock; outbox = outbox kit.outlet }

@@ -1,0 +1,16 @@
+//! The server with all its jobs: workers, pumps and the ticker, beside each other, over one history.
+#![tactic(auto)]
+
+mod callers;
+mod end;
+mod kits;
+mod run;
+mod seat;
+mod serving;
+#[cfg(test)]
+mod tests;
+mod work;
+
+pub use end::ServeEnd;
+pub use kits::Jobs;
+pub use serving::{Last, serve};

@@ -1,0 +1,64 @@
+//! The work of each job, over a service.
+
+ghost use Rattle.std.specs.Prelude.{◌≡◌, false};
+ghost use Rattle.satip_serve.specs.Views.{worker_view, pump_view, tick_view};
+ghost use Rattle.satip_serve.specs.Deeds.{WorkerDid, PumpDid, TickerDid};
+
+use crate::end::ServeEnd;
+use satip_base::Out;
+use satip_pump::{Batch, PumpKit, TickKit, run_pump, run_ticker};
+use satip_service::Service;
+use satip_worker::{Room, WorkerKit, run_worker};
+use satip_world::{Clock, Doors, MuxStore, Outlet, Pacer};
+use std::sync::Wait;
+
+// The work of the worker of a number, which is the stream of its draws.
+pub(crate) fn work<R: Wait + Sync, S: Service, D: Doors, O: Outlet, P: Pacer>(
+    rt: &R,
+    service: &mut S,
+    kit: &mut WorkerKit<D, O, P>,
+    number: u16,
+    room: &mut Room,
+) -> ServeEnd
+    ensures same { S.same service.old service.new }
+    ensures did { S.may_want service.old ≡ false
+        → WorkerDid D.Conn.tells O.tells number (worker_view D.hall O.outbox kit.old) (S.known service.old)
+        (worker_view D.hall O.outbox kit.new) (S.known service.new) result }
+{
+    let end = run_worker(rt, service, kit, number as u64, room);
+    ServeEnd::of_worker(end)
+}
+
+// The work of the pump of a front end, by its number.
+pub(crate) fn pump<R: Wait + Sync, S: Service, M: MuxStore, O: Outlet, P: Pacer>(
+    rt: &R,
+    service: &mut S,
+    kit: &mut PumpKit<M, O, P>,
+    number: u16,
+    out: &mut Out,
+    batch: &mut Batch,
+) -> ServeEnd
+    ensures same { S.same service.old service.new }
+    ensures did { S.may_want service.old ≡ false
+        → PumpDid O.tells number (pump_view M.recording M.faults O.outbox kit.old) (S.known service.old)
+        (pump_view M.recording M.faults O.outbox kit.new) (S.known service.new) result }
+{
+    let end = run_pump(rt, service, number, kit, out, batch);
+    ServeEnd::of_job(end)
+}
+
+// The work of the ticker.
+pub(crate) fn tick<R: Wait + Sync, S: Service, C: Clock, O: Outlet, P: Pacer>(
+    rt: &R,
+    service: &mut S,
+    kit: &mut TickKit<C, O, P>,
+    out: &mut Out,
+) -> ServeEnd
+    ensures same { S.same service.old service.new }
+    ensures did { S.may_want service.old ≡ false
+        → TickerDid O.tells (tick_view C.dial O.outbox kit.old) (S.known service.old)
+        (tick_view C.dial O.outbox kit.new) (S.known service.new) result }
+{
+    let end = run_ticker(rt, service, kit, out);
+    ServeEnd::of_job(end)
+}
