@@ -1,0 +1,4 @@
+mod ConfigLemmas
+mod EndLemmas
+mod ReadLemmas
+mod RunLemmas

@@ -1,0 +1,142 @@
+-- How a replay ends.
+use Rattle.std.specs.Prelude.{◌≡◌, ◌≢◌, ℕ, ◌<◌, ◌≤◌, ◌⊎◌, true, List, length, Ok, Err}
+use Rattle.satip_base.specs.Streams.{Feed, Drain, Rose, Began, PutAll, FailedToPut}
+use Rattle.satip_config.specs.Configuration.{Configuration}
+use Rattle.satip_config.specs.Config.{config}
+use Rattle.satip_config.specs.declared.fault.ConfigFault.{ConfigFault}
+use Rattle.satip_config.specs.declared.fault.ConfigFault.TheVariants as faults
+use Rattle.satip_plain.specs.declared.events.Event.{Event}
+use Rattle.satip_script.specs.Scripts.{IsScript}
+use Rattle.satip_replay.specs.declared.ends.ReplayEnd.{ReplayEnd}
+use Rattle.satip_replay.specs.declared.ends.ReplayEnd.TheVariants.{Done, Configuration as OfConfiguration, Script, InputFault, OutputFault, TooLong, OutOfMemory}
+use Rattle.satip_replay.specs.Reading.{Read, EndsTooLong}
+use Rattle.satip_replay.specs.Replays.{script_limit, Configured, Scripted, Replayed, PartlyReplayed}
+
+-- the configuration has this first fault; it was read to its end, unless it is too long
+pub record Refused (tells : Type 0) (a b : Feed) (fault : ConfigFault) : Type 0 where
+  pub text : List ℕ
+  pub read : Read tells a b text
+  pub refused : config text ≡ Err fault
+  pub whole : tells → config a.left ≡ Err fault
+  pub known : fault ≢ faults.Want
+  pub ending : (b.ended ≡ true) ⊎ (fault ≡ faults.Long)
+  pub faults : b.faults ≡ a.faults
+
+-- the configuration is refused; nothing else was done
+pub record EndsByConfiguration (tells : Type 0) (a b i j : Feed) (o n : Drain) (fault : ConfigFault) : Type 0 where
+  pub refused : Refused tells a b fault
+  pub input : j ≡ i
+  pub output : n ≡ o
+
+-- the first wrong line of the whole input has this number; nothing was written
+pub record EndsByScript (config_tells in_tells : Type 0) (a b i j : Feed) (o n : Drain) (number : ℕ) : Type 0 where
+  pub configuration : Configuration
+  pub configured : Configured config_tells a b configuration
+  pub scripted : Scripted in_tells i j (Err number)
+  pub output : n ≡ o
+
+-- the configuration's source failed, and nothing was taken of the input
+pub record ConfigurationFails (a b i j : Feed) : Type 0 where
+  pub rose : Rose a.faults b.faults
+  pub input : j ≡ i
+
+-- the input failed behind a right configuration
+pub record InputFails (config_tells : Type 0) (a b i j : Feed) : Type 0 where
+  pub configuration : Configuration
+  pub configured : Configured config_tells a b configuration
+  pub rose : Rose i.faults j.faults
+
+-- one of both sources failed; nothing was written
+pub record EndsByInput (config_tells : Type 0) (a b i j : Feed) (o n : Drain) : Type 0 where
+  pub cause : ConfigurationFails a b i j ⊎ InputFails config_tells a b i j
+  pub output : n ≡ o
+
+-- one byte of input too many was taken; nothing was written
+pub record EndsByLength (config_tells in_tells : Type 0) (a b i j : Feed) (o n : Drain) : Type 0 where
+  pub configuration : Configuration
+  pub configured : Configured config_tells a b configuration
+  pub long : EndsTooLong in_tells i j script_limit
+  pub output : n ≡ o
+
+-- the output failed behind a beginning of the printed run
+pub record EndsByOutput (config_tells in_tells out_tells : Type 0) (a b i j : Feed) (o n : Drain) : Type 0 where
+  pub part : PartlyReplayed config_tells in_tells out_tells a b i j o n
+  pub rose : Rose o.faults n.faults
+
+-- memory was refused: nothing was written yet, or a beginning of the printed run
+pub record EndsByWant (config_tells in_tells out_tells : Type 0) (a b i j : Feed) (o n : Drain) : Type 0 where
+  pub config_faults : b.faults ≡ a.faults
+  pub in_faults : j.faults ≡ i.faults
+  pub out_faults : n.faults ≡ o.faults
+  pub written : (n ≡ o) ⊎ PartlyReplayed config_tells in_tells out_tells a b i j o n
+
+-- no configuration is read
+abbrev pub ConfigurationEnds : (tells : Type 0) (a b : Feed) → ReplayEnd → Type 0
+ConfigurationEnds tells a b Done = ⊥
+ConfigurationEnds tells a b (OfConfiguration fault) = Refused tells a b fault
+ConfigurationEnds tells a b (Script number) = ⊥
+ConfigurationEnds tells a b InputFault = Rose a.faults b.faults
+ConfigurationEnds tells a b OutputFault = ⊥
+ConfigurationEnds tells a b TooLong = ⊥
+ConfigurationEnds tells a b OutOfMemory = b.faults ≡ a.faults
+
+-- no script is read
+abbrev pub ScriptEnds : (tells : Type 0) (i j : Feed) → ReplayEnd → Type 0
+ScriptEnds tells i j Done = ⊥
+ScriptEnds tells i j (OfConfiguration fault) = ⊥
+ScriptEnds tells i j (Script number) = Scripted tells i j (Err number)
+ScriptEnds tells i j InputFault = Rose i.faults j.faults
+ScriptEnds tells i j OutputFault = ⊥
+ScriptEnds tells i j TooLong = EndsTooLong tells i j script_limit
+ScriptEnds tells i j OutOfMemory = j.faults ≡ i.faults
+
+-- memory was refused in the middle of a text
+pub record StopsWanting (tells : Type 0) (o n : Drain) (text : List ℕ) : Type 0 where
+  pub faults : n.faults ≡ o.faults
+  pub content : tells → Began o.sent n.sent text
+
+-- how the writing of a printed run ends
+abbrev pub RunEnds : (tells : Type 0) (o n : Drain) (text : List ℕ) → ReplayEnd → Type 0
+RunEnds tells o n text Done = PutAll tells o n text
+RunEnds tells o n text (OfConfiguration fault) = ⊥
+RunEnds tells o n text (Script number) = ⊥
+RunEnds tells o n text InputFault = ⊥
+RunEnds tells o n text OutputFault = FailedToPut tells o n text
+RunEnds tells o n text TooLong = ⊥
+RunEnds tells o n text OutOfMemory = StopsWanting tells o n text
+
+-- how a replay ends
+abbrev pub ReplayEnds : (config_tells in_tells out_tells : Type 0) (a b i j : Feed) (o n : Drain) → ReplayEnd → Type 0
+ReplayEnds ct it ot a b i j o n Done = Replayed ct it ot a b i j o n
+ReplayEnds ct it ot a b i j o n (OfConfiguration fault) = EndsByConfiguration ct a b i j o n fault
+ReplayEnds ct it ot a b i j o n (Script number) = EndsByScript ct it a b i j o n number
+ReplayEnds ct it ot a b i j o n InputFault = EndsByInput ct a b i j o n
+ReplayEnds ct it ot a b i j o n OutputFault = EndsByOutput ct it ot a b i j o n
+ReplayEnds ct it ot a b i j o n TooLong = EndsByLength ct it a b i j o n
+ReplayEnds ct it ot a b i j o n OutOfMemory = EndsByWant ct it ot a b i j o n
+
+-- the text is a configuration
+pub record IsConfiguration (text : List ℕ) : Type 0 where
+  pub configuration : Configuration
+  pub configured : config text ≡ Ok configuration
+
+-- the text is a script within the limit
+pub record IsRightScript (text : List ℕ) : Type 0 where
+  pub events : List Event
+  pub script : IsScript text (Ok events)
+  pub short : length text ≤ script_limit
+
+-- the text has its first wrong line here, and is within the limit
+pub record HasWrongLine (text : List ℕ) (number : ℕ) : Type 0 where
+  pub script : IsScript text (Err number)
+  pub short : length text ≤ script_limit
+
+-- what the texts of the configuration and of the script say of the end, where no source fails
+abbrev pub IsEndOf : (config_text text : List ℕ) → ReplayEnd → Type 0
+IsEndOf config_text text Done = IsConfiguration config_text × IsRightScript text
+IsEndOf config_text text (OfConfiguration fault) = config config_text ≡ Err fault
+IsEndOf config_text text (Script number) = IsConfiguration config_text × HasWrongLine text number
+IsEndOf config_text text InputFault = ⊥
+IsEndOf config_text text OutputFault = IsConfiguration config_text × IsRightScript text
+IsEndOf config_text text TooLong = IsConfiguration config_text × (script_limit < length text)
+IsEndOf config_text text OutOfMemory = Unit {0}

@@ -1,0 +1,5 @@
+pub mod Seen
+pub mod Reading
+pub mod Replays
+pub mod Ends
+pub mod Runs

@@ -1,0 +1,71 @@
+-- A replay: a configuration and a script that were read as a whole, and the printed run.
+use Rattle.std.specs.Prelude.{◌≡◌, ℕ, ◌≤◌, List, length, Result, Ok}
+use Rattle.satip_base.specs.Streams.{Feed, Drain, PutAll, Began}
+use Rattle.satip_config.specs.Configuration.{Configuration}
+use Rattle.satip_config.specs.Config.{config}
+use Rattle.satip_fronts.specs.FrontEnds.{IsNumbered}
+use Rattle.satip_plain.specs.declared.events.Event.{Event}
+use Rattle.satip_plain.specs.declared.setting.Setting.{Setting}
+use Rattle.satip_script.specs.Scripts.{IsScript}
+use Rattle.satip_script.specs.Runs.{run}
+use Rattle.satip_script.specs.Printed.{printed}
+use Rattle.satip_replay.specs.Reading.{ReadWhole}
+
+-- the most bytes of a script
+abbrev pub script_limit : ℕ
+script_limit = 67108864
+
+-- the most bytes of a configuration
+abbrev pub configuration_limit : ℕ
+configuration_limit = 1048576
+
+-- a replay starts at the moment 0
+abbrev pub setting_of : Configuration → Setting
+setting_of c = record { config = c; start = 0 }
+
+-- what a replay prints: the run of the events in which caller 0 makes them
+abbrev pub replayed : Configuration → List Event → List ℕ
+replayed c events = printed (run (setting_of c) events)
+
+-- the whole configuration was read, and is this one
+pub record Configured (tells : Type 0) (a b : Feed) (c : Configuration) : Type 0 where
+  pub text : List ℕ
+  pub whole : ReadWhole tells a b text
+  pub configured : config text ≡ Ok c
+
+-- the whole input was read, and is the script of these events, or has its first wrong line here
+pub record Scripted (tells : Type 0) (i j : Feed) (result : Result (List Event) ℕ) : Type 0 where
+  pub text : List ℕ
+  pub whole : ReadWhole tells i j text
+  pub short : length text ≤ script_limit
+  pub script : IsScript text result
+
+-- the whole input was read, has this text, and is a script without a wrong line
+pub record HasScript (tells : Type 0) (i j : Feed) (text : List ℕ) : Type 0 where
+  pub whole : ReadWhole tells i j text
+  pub short : length text ≤ script_limit
+  pub events : List Event
+  pub script : IsScript text (Ok events)
+
+-- a server can be made with the configuration
+pub record IsServed (c : Configuration) : Type 0 where
+  pub few : length c.fronts ≤ 16
+  pub numbered : IsNumbered 1 c.fronts
+  pub received : length c.muxes ≤ 256
+
+-- both were read, and nothing is wrong with them
+pub record Checked (config_tells in_tells : Type 0) (a b i j : Feed) : Type 0 where
+  pub configuration : Configuration
+  pub configured : Configured config_tells a b configuration
+  pub events : List Event
+  pub scripted : Scripted in_tells i j (Ok events)
+
+-- the printed run was written
+pub record Replayed (config_tells in_tells out_tells : Type 0) (a b i j : Feed) (o n : Drain) : Type 0 where
+  pub checked : Checked config_tells in_tells a b i j
+  pub put : PutAll out_tells o n (replayed checked.configuration checked.events)
+
+-- a beginning of the printed run was written
+pub record PartlyReplayed (config_tells in_tells out_tells : Type 0) (a b i j : Feed) (o n : Drain) : Type 0 where
+  pub checked : Checked config_tells in_tells a b i j
+  pub sent : out_tells → Began o.sent n.sent (replayed checked.configuration checked.events)

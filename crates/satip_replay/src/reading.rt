@@ -1,0 +1,75 @@
+//! Reading of a whole source.
+
+ghost use Rattle.std.specs.Prelude.{◌≡◌, ◌<◌, ◌≤◌, ◌+◌, ◌^◌, length, MatchResult};
+ghost use Rattle.satip_base.specs.Streams.{Takes};
+ghost use Rattle.satip_replay.specs.Seen.{feed};
+ghost use Rattle.satip_replay.specs.Reading.{EndsWhole, ReadFails, GetsAtMost};
+
+use satip_base::{Source, Taken};
+use std::alloc::Global;
+
+/// Why a source isn't read.
+#[derive(Clone, Copy, Debug, PartialEq, Eq)]
+pub(crate) enum ReadFault {
+    /// It has more bytes than it may have.
+    TooLong,
+    /// It failed.
+    Failed,
+    /// Memory was refused.
+    OutOfMemory,
+}
+
+const PIECE: usize = 65536;
+
+/// Reads a source to its end, as long as it has at most `limit` bytes. At most one byte more is taken.
+pub(crate) fn read_whole<S: Source>(
+    alloc: Global,
+    source: &mut S,
+    limit: usize,
+) -> Result<Vec<u8>, ReadFault>
+    requires bounded { limit < 2 ^ 32 }
+    ensures ends { MatchResult result
+        (λ text. EndsWhole S.tells
+        (feed S.left S.ended S.faults S.taken source.old) (feed S.left S.ended S.faults S.taken source.new)
+        limit text.items)
+        (ReadFails S.tells
+        (feed S.left S.ended S.faults S.taken source.old) (feed S.left S.ended S.faults S.taken source.new)
+        limit) }
+{
+    let mut text = Vec::new(alloc);
+    let mut buf = [0; PIECE];
+    'source: loop {
+        match take_some(source, &mut buf, room_for(limit - text.len())) {
+            Taken::Got(count) => {
+                if count > limit - text.len() {
+                    return Err(ReadFault::TooLong);
+                }
+                if text.extend_from_slice(&buf[..count]).is_err() {
+                    return Err(ReadFault::OutOfMemory);
+                }
+            }
+            Taken::End => return Ok(text),
+            Taken::Failed => return Err(ReadFault::Failed),
+        }
+    }
+}
+
+// How many bytes the next take may give: one at the limit, which tells whether the source is too long.
+fn room_for(left: usize) -> usize
+    ensures some { 1 ≤ result }
+    ensures within { result ≤ 65536 }
+    ensures limit { result ≤ left + 1 }
+{
+    left.clamp(1, PIECE)
+}
+
+fn take_some<S: Source>(source: &mut S, buf: &mut [u8], room: usize) -> Taken
+    requires some { 1 ≤ room }
+    requires within { room ≤ length buf.old }
+    ensures takes { Takes S.tells
+        (feed S.left S.ended S.faults S.taken source.old) (feed S.left S.ended S.faults S.taken source.new)
+        buf.new result }
+    ensures room { GetsAtMost room result }
+{
+    source.take(&mut buf[..room])
+}
