@@ -1,0 +1,9 @@
+//! What clients, pumps and broken devices see of the server.
+
+mod connections;
+mod faults;
+mod http;
+mod messages;
+mod pumps;
+mod setting;
+mod workers;
