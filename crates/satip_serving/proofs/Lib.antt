@@ -1,0 +1,4 @@
+pub mod EndLemmas
+pub mod Quiet
+pub mod PumpPackets
+pub mod Rows

@@ -1,0 +1,22 @@
+use Rattle.satip_serving.proofs.EndLemmas.{told_served, told_fault, told_full, unused_of}
+use Rattle.satip_serving.proofs.PumpPackets.{plays_recordings}
+use Rattle.satip_serving.proofs.serving.serve_jobs.Goals as goal
+
+pub returns-in-Ok-clause-run : goal.returns-in-Ok-clause-run
+returns-in-Ok-clause-run g c = c.in-Ok.ensures.run c.args._accepts c.requires.fresh
+
+pub returns-in-Ok-clause-served : goal.returns-in-Ok-clause-served
+returns-in-Ok-clause-served g c = told_served c.in-Ok.end _ _ _ c.of_run.ensures.end (c.in-Ok.ensures.ended c.args._accepts c.requires.fresh)
+
+pub returns-in-Ok-clause-doors_fault : goal.returns-in-Ok-clause-doors_fault
+returns-in-Ok-clause-doors_fault g c = told_fault c.in-Ok.end _ _ _ c.of_run.ensures.end (c.in-Ok.ensures.ended c.args._accepts c.requires.fresh)
+
+pub returns-in-Ok-clause-history_full : goal.returns-in-Ok-clause-history_full
+returns-in-Ok-clause-history_full g c = told_full c.in-Ok.end _ _ _ c.of_run.ensures.end (c.in-Ok.ensures.ended c.args._accepts c.requires.fresh)
+
+pub returns-in-Err-clause-unused : goal.returns-in-Err-clause-unused
+returns-in-Err-clause-unused g c = unused_of _ _ _ _ _ _ _ _ _ _ _ _ c.requires.fresh c.in-Err.ensures.unused
+
+pub returns-in-Ok-clause-recordings : goal.returns-in-Ok-clause-recordings
+returns-in-Ok-clause-recordings g c =
+    plays_recordings _ _ _ _ _ _ _ _ _ (c.in-Ok.ensures.run c.args._accepts c.requires.fresh) c.keeps_laws.ensures.recordings

@@ -1,0 +1,26 @@
+//! The laws, of what a pass has seen.
+
+ghost use Rattle.std.specs.Prelude.{◌<◌, ◌^◌, length};
+ghost use Rattle.satip_plain.specs.Histories.{Legal};
+ghost use Rattle.satip_serving.specs.Laws.{SendsSelected, ObeysOwners, TellsBusy, GivesRecordings};
+
+use satip_laws::{law_2, law_3, law_4, law_9};
+use satip_plain::prefix_is_legal;
+use satip_shared::{SharedPass, SharedServer};
+
+// What a pass has seen, where it is legal in the server's setting, keeps the laws.
+pub(crate) fn keeps_laws(server: &SharedServer, pass: &SharedPass)
+    requires lawful { Legal server.now.setting pass.now.seen }
+    requires short { length pass.now.seen < 2 ^ 64 }
+    ensures payload { SendsSelected server.now.setting pass.now.seen }
+    ensures owners { ObeysOwners server.now.setting pass.now.seen }
+    ensures busy { TellsBusy server.now.setting pass.now.seen }
+    ensures recordings { GivesRecordings server.now.setting pass.now.seen }
+{
+    let (_server, _pass) = (server, pass);
+    prefix_is_legal();
+    law_2();
+    law_3();
+    law_4();
+    law_9();
+}

@@ -1,0 +1,11 @@
+//! The command `serve` as a function of the name of its configuration, its number of connections and its desk.
+#![tactic(auto)]
+
+mod desk;
+mod laws;
+mod serving;
+#[cfg(test)]
+mod tests;
+
+pub use desk::{Desk, JobsFault};
+pub use serving::{Served, ServingEnd, serve_by};

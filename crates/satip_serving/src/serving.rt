@@ -1,0 +1,293 @@
+//! `serve`: a configuration is read, the desk gives the kits of all jobs, and the jobs serve.
+
+ghost use Rattle.std.specs.Prelude.{◌≡◌, ℕ, ◌⊎◌, List, true, false, Some, None, length, map, IfSome, IsNone, IsSomeAnd, MatchBool, MatchOption};
+ghost use Rattle.satip_base.specs.Streams.{Rose};
+ghost use Rattle.satip_config.specs.declared.fault.ConfigFault.{ConfigFault as Fault};
+ghost use Rattle.satip_fronts.specs.FrontEnds.{IsNumbered};
+ghost use Rattle.satip_replay.specs.Ends.{Refused};
+ghost use Rattle.satip_replay.specs.Replays.{Configured, IsServed};
+ghost use Rattle.satip_replay.specs.Seen.{feed};
+ghost use Rattle.satip_serve.specs.Done.{IsFull};
+ghost use Rattle.satip_serve.specs.ServeRuns.{ServeRun, HasFault};
+ghost use Rattle.satip_history.specs.Lists.{Each};
+ghost use Rattle.satip_serve.specs.Fresh.{AreFresh};
+ghost use Rattle.satip_serve.specs.Views.{worker_view, pump_view, tick_view};
+ghost use Rattle.satip_world.specs.Counts.{Rises};
+ghost use Rattle.satip_serving.specs.Laws.{SendsSelected, ObeysOwners, TellsBusy, PlaysRecordings};
+ghost use Rattle.satip_serving.specs.Servings.{GivenFrom, HasNoConfiguration, EndsAs, end_of_run, IsServingOf, IsEndOfRun, AreUnused, IsOneOf, IsNeitherOf};
+
+use crate::desk::{Desk, JobsFault};
+use crate::laws::keeps_laws;
+use satip_base::{Failed, Text};
+use satip_config::{Config, ConfigFault};
+use satip_replay::{ReplayEnd, read_configuration};
+use satip_serve::{Jobs, Last, ServeEnd, serve};
+use satip_world::{Clock, Doors, MuxStore, Outlet, Pacer};
+use std::alloc::Global;
+use std::sync::Wait;
+use std::thread::Threads;
+
+/// How serving ends.
+#[derive(Clone, Copy, Debug, PartialEq, Eq)]
+pub enum ServingEnd {
+    /// All doors ended, and all jobs.
+    Served,
+    /// The configuration has this first fault.
+    Configuration(ConfigFault),
+    /// No configuration was opened, or its source failed.
+    InputFault,
+    /// The doors of a worker failed, or the desk did.
+    DoorsFault,
+    /// The history is full.
+    HistoryFull,
+    /// Memory was refused, and no job began.
+    OutOfMemory,
+}
+
+impl ServingEnd {
+    // As the reading of a configuration ends that can't be had.
+    fn of_reading(end: ReplayEnd) -> ServingEnd
+        requires none { HasNoConfiguration end }
+        ensures end { EndsAs end result }
+    {
+        match end {
+            ReplayEnd::Configuration(fault) => ServingEnd::Configuration(fault),
+            ReplayEnd::InputFault => ServingEnd::InputFault,
+            ReplayEnd::OutOfMemory => ServingEnd::OutOfMemory,
+            ReplayEnd::Done => unreachable!(),
+            ReplayEnd::Script(_) => unreachable!(),
+            ReplayEnd::OutputFault => unreachable!(),
+            ReplayEnd::TooLong => unreachable!(),
+        }
+    }
+
+    // As the run of all jobs ends.
+    fn of_run(end: ServeEnd) -> ServingEnd
+        ensures end { result ≡ end_of_run end }
+    {
+        match end {
+            ServeEnd::Served => ServingEnd::Served,
+            ServeEnd::DoorsFault => ServingEnd::DoorsFault,
+            ServeEnd::HistoryFull => ServingEnd::HistoryFull,
+        }
+    }
+}
+
+// What the jobs leave, if any began, or else their kits, if there were any.
+struct Left<D, O, P, M, C> {
+    end: ServingEnd,
+    last: Option<Last<D, O, P, M, C>>,
+    unused: Option<Jobs<D, O, P, M, C>>,
+}
+
+fn nothing_left<D, O, P, M, C>(end: ServingEnd) -> Left<D, O, P, M, C>
+    ensures end { result.end ≡ end }
+    ensures last { result.last ≡ None }
+    ensures unused { result.unused ≡ None }
+{
+    Left {
+        end,
+        last: None,
+        unused: None,
+    }
+}
+
+// Serves with these kits.
+fn serve_jobs<
+    R: Threads + Wait + Sync,
+    D: Doors + Send + Drop,
+    O: Outlet + Send + Drop,
+    P: Pacer + Send + Drop,
+    M: MuxStore + Send + Drop,
+    C: Clock + Send + Drop,
+>(
+    rt: &R,
+    alloc: Global,
+    config: Config,
+    _accepts: u32,
+    jobs: Jobs<D, O, P, M, C>,
+) -> Left<D, O, P, M, C>
+    requires served { IsServed config }
+    requires workers { length jobs.workers.items ≡ config.workers }
+    requires pumps { length jobs.pumps.items ≡ length config.fronts }
+    requires fresh { AreFresh _accepts
+        (map (worker_view D.hall O.outbox) jobs.workers.items)
+        (map (pump_view M.recording M.faults O.outbox) jobs.pumps.items)
+        (tick_view C.dial O.outbox jobs.tick) }
+    ensures one { IsOneOf result.last result.unused }
+    ensures config { IfSome result.last (λ last. last.server.setting.config ≡ config) }
+    ensures run { IfSome result.last (λ last. ServeRun D.Conn.tells O.tells last.server.setting _accepts last.pass.seen last.pass.kept
+        (map (worker_view D.hall O.outbox) last.jobs.workers.items)
+        (map (pump_view M.recording M.faults O.outbox) last.jobs.pumps.items)
+        (tick_view C.dial O.outbox last.jobs.tick)) }
+    ensures payload { IfSome result.last (λ last. SendsSelected last.server.setting last.pass.seen) }
+    ensures owners { IfSome result.last (λ last. ObeysOwners last.server.setting last.pass.seen) }
+    ensures busy { IfSome result.last (λ last. TellsBusy last.server.setting last.pass.seen) }
+    ensures recordings { IfSome result.last (λ last. PlaysRecordings last.server.setting last.pass.seen
+        (map (pump_view M.recording M.faults O.outbox) last.jobs.pumps.items)) }
+    ensures begun { MatchOption result.last (result.end ≡ ServingEnd.OutOfMemory) (λ _. IsEndOfRun result.end) }
+    ensures served { result.end ≡ ServingEnd.Served → IsSomeAnd result.last (λ last. Each (λ w. w.hall.ended ≡ true) (map (worker_view D.hall O.outbox) last.jobs.workers.items)) }
+    ensures doors_fault { result.end ≡ ServingEnd.DoorsFault → IsSomeAnd result.last (λ last. HasFault (map (worker_view D.hall O.outbox) last.jobs.workers.items)) }
+    ensures history_full { result.end ≡ ServingEnd.HistoryFull → IsSomeAnd result.last (λ last. IsFull last.pass.seen) }
+    ensures unused { IfSome result.unused (λ kits. AreUnused _accepts
+        (map (worker_view D.hall O.outbox) kits.workers.items)
+        (map (pump_view M.recording M.faults O.outbox) kits.pumps.items)
+        (tick_view C.dial O.outbox kits.tick)) }
+{
+    match serve(rt, alloc, config, jobs) {
+        Ok((last, end)) => {
+            keeps_laws(&last.server, &last.pass);
+            Left {
+                end: ServingEnd::of_run(end),
+                last: Some(last),
+                unused: None,
+            }
+        }
+        Err(jobs) => Left {
+            end: ServingEnd::OutOfMemory,
+            last: None,
+            unused: Some(jobs),
+        },
+    }
+}
+
+// Serves by the configuration of this source.
+fn serve_source<R: Threads + Wait + Sync, K: Desk>(
+    rt: &R,
+    alloc: Global,
+    source: &mut K::Config,
+    accepts: u32,
+    desk: &mut K,
+) -> Left<K::Doors, K::Outlet, K::Pacer, K::Store, K::Clock>
+    requires new { K.gave desk.old ≡ false }
+    ensures texts { K.text desk.new ≡ K.text desk.old }
+    ensures kits { MatchBool (K.gave desk.new) (IsOneOf result.last result.unused) (IsNeitherOf result.last result.unused) }
+    ensures config { IfSome result.last (λ last. Configured K.Config.tells
+        (feed K.Config.left K.Config.ended K.Config.faults K.Config.taken source.old) (feed K.Config.left K.Config.ended K.Config.faults K.Config.taken source.new)
+        last.server.setting.config) }
+    ensures run { IfSome result.last (λ last. ServeRun K.Doors.Conn.tells K.Outlet.tells last.server.setting accepts last.pass.seen last.pass.kept
+        (map (worker_view K.Doors.hall K.Outlet.outbox) last.jobs.workers.items)
+        (map (pump_view K.Store.recording K.Store.faults K.Outlet.outbox) last.jobs.pumps.items)
+        (tick_view K.Clock.dial K.Outlet.outbox last.jobs.tick)) }
+    ensures payload { IfSome result.last (λ last. SendsSelected last.server.setting last.pass.seen) }
+    ensures owners { IfSome result.last (λ last. ObeysOwners last.server.setting last.pass.seen) }
+    ensures busy { IfSome result.last (λ last. TellsBusy last.server.setting last.pass.seen) }
+    ensures recordings { IfSome result.last (λ last. PlaysRecordings last.server.setting last.pass.seen
+        (map (pump_view K.Store.recording K.Store.faults K.Outlet.outbox) last.jobs.pumps.items)) }
+    ensures begun { IfSome result.last (λ _. IsEndOfRun result.end) }
+    ensures configuration { (fault : Fault) → result.end ≡ ServingEnd.Configuration fault → Refused K.Config.tells
+        (feed K.Config.left K.Config.ended K.Config.faults K.Config.taken source.old) (feed K.Config.left K.Config.ended K.Config.faults K.Config.taken source.new)
+        fault }
+    ensures input_fault { result.end ≡ ServingEnd.InputFault → Rose (K.Config.faults source.old) (K.Config.faults source.new) }
+    ensures read_through { (result.end ≡ ServingEnd.InputFault → ⊥) → K.Config.faults source.new ≡ K.Config.faults source.old }
+    ensures desk_faults { (K.faults desk.new ≡ K.faults desk.old) ⊎ ((result.end ≡ ServingEnd.DoorsFault) × IsNone result.last) }
+    ensures settled { K.Config.tells → (Rose (K.Config.faults source.old) (K.Config.faults source.new) → ⊥) → IsServingOf (K.Config.left source.old) result.end }
+    ensures served { result.end ≡ ServingEnd.Served → IsSomeAnd result.last (λ last. Each (λ w. w.hall.ended ≡ true) (map (worker_view K.Doors.hall K.Outlet.outbox) last.jobs.workers.items)) }
+    ensures doors_fault { result.end ≡ ServingEnd.DoorsFault → MatchOption result.last (Rises (K.faults desk.old) (K.faults desk.new))
+        (λ last. HasFault (map (worker_view K.Doors.hall K.Outlet.outbox) last.jobs.workers.items)) }
+    ensures no_kits { result.end ≡ ServingEnd.DoorsFault → IsNone result.last → K.gave desk.new ≡ false }
+    ensures history_full { result.end ≡ ServingEnd.HistoryFull → IsSomeAnd result.last (λ last. IsFull last.pass.seen) }
+    ensures out_of_memory { IfSome result.unused (λ _. result.end ≡ ServingEnd.OutOfMemory) }
+    ensures unused { IfSome result.unused (λ kits. AreUnused accepts
+        (map (worker_view K.Doors.hall K.Outlet.outbox) kits.workers.items)
+        (map (pump_view K.Store.recording K.Store.faults K.Outlet.outbox) kits.pumps.items)
+        (tick_view K.Clock.dial K.Outlet.outbox kits.tick)) }
+{
+    let config = match read_configuration(alloc, source) {
+        Ok(config) => config,
+        Err(end) => return nothing_left(ServingEnd::of_reading(end)),
+    };
+    match desk.jobs(alloc, &config, accepts) {
+        Ok(jobs) => serve_jobs(rt, alloc, config, accepts, jobs),
+        Err(JobsFault::Failed) => nothing_left(ServingEnd::DoorsFault),
+        Err(JobsFault::Want) => nothing_left(ServingEnd::OutOfMemory),
+    }
+}
+
+/// What serving leaves. It is taken apart by who gets it.
+pub struct Served<K: Desk> {
+    /// How it ended.
+    pub end: ServingEnd,
+    /// The configuration that the desk gave, as far as it was read.
+    pub config: Option<K::Config>,
+    /// What the jobs left, if any began.
+    pub last: Option<Last<K::Doors, K::Outlet, K::Pacer, K::Store, K::Clock>>,
+    /// The kits that the desk gave, if no job began.
+    pub unused: Option<Jobs<K::Doors, K::Outlet, K::Pacer, K::Store, K::Clock>>,
+}
+
+/// Serves by the configuration of this name, with the kits of the desk. Each worker's doors end after
+/// `accepts` connections, and never where it is 0. It waits.
+pub fn serve_by<R: Threads + Wait + Sync, K: Desk>(
+    rt: &R,
+    alloc: Global,
+    name: &Text,
+    accepts: u32,
+    desk: &mut K,
+) -> Served<K>
+    requires new { K.gave desk.old ≡ false }
+    ensures texts { K.text desk.new ≡ K.text desk.old }
+
+    // Where the desk gave its kits, they are among what the jobs left, or no job began with them.
+    ensures kits { MatchBool (K.gave desk.new) (IsOneOf result.last result.unused) (IsNeitherOf result.last result.unused) }
+
+    // The jobs' run: its configuration is that of the desk's text.
+    ensures config { IfSome result.last (λ last. IsSomeAnd result.config (λ source.
+        GivenFrom K.Config.tells (K.text desk.old name.now) (λ before. Configured K.Config.tells before
+        (feed K.Config.left K.Config.ended K.Config.faults K.Config.taken source) last.server.setting.config))) }
+    ensures run { IfSome result.last (λ last. ServeRun K.Doors.Conn.tells K.Outlet.tells last.server.setting accepts last.pass.seen last.pass.kept
+        (map (worker_view K.Doors.hall K.Outlet.outbox) last.jobs.workers.items)
+        (map (pump_view K.Store.recording K.Store.faults K.Outlet.outbox) last.jobs.pumps.items)
+        (tick_view K.Clock.dial K.Outlet.outbox last.jobs.tick)) }
+    ensures payload { IfSome result.last (λ last. SendsSelected last.server.setting last.pass.seen) }
+    ensures owners { IfSome result.last (λ last. ObeysOwners last.server.setting last.pass.seen) }
+    ensures busy { IfSome result.last (λ last. TellsBusy last.server.setting last.pass.seen) }
+    ensures recordings { IfSome result.last (λ last. PlaysRecordings last.server.setting last.pass.seen
+        (map (pump_view K.Store.recording K.Store.faults K.Outlet.outbox) last.jobs.pumps.items)) }
+
+    // The configuration is given back, unless the desk failed to open it. Its count rises then, or where it gives no kits.
+    ensures opened { MatchOption result.config (Rises (K.faults desk.old) (K.faults desk.new))
+        (λ _. (K.faults desk.new ≡ K.faults desk.old) ⊎ ((result.end ≡ ServingEnd.DoorsFault) × IsNone result.last)) }
+
+    // When each end comes.
+    ensures begun { IfSome result.last (λ _. IsEndOfRun result.end) }
+    ensures configuration { (fault : Fault) → result.end ≡ ServingEnd.Configuration fault → IsSomeAnd result.config (λ source.
+        GivenFrom K.Config.tells (K.text desk.old name.now) (λ before. Refused K.Config.tells before
+        (feed K.Config.left K.Config.ended K.Config.faults K.Config.taken source) fault)) }
+    ensures input_fault { result.end ≡ ServingEnd.InputFault
+        → MatchOption result.config (Rises (K.faults desk.old) (K.faults desk.new)) (λ source. Rose 0 (K.Config.faults source)) }
+    ensures unopened { IsNone result.config → result.end ≡ ServingEnd.InputFault }
+    ensures read_through { (result.end ≡ ServingEnd.InputFault → ⊥) → IsSomeAnd result.config (λ source. K.Config.faults source ≡ 0) }
+    ensures settled { (text : List ℕ) → K.text desk.old name.now ≡ Some text → IfSome result.config (λ source.
+        (Rose 0 (K.Config.faults source) → ⊥) → IsServingOf text result.end) }
+    ensures served { result.end ≡ ServingEnd.Served → IsSomeAnd result.last (λ last. Each (λ w. w.hall.ended ≡ true) (map (worker_view K.Doors.hall K.Outlet.outbox) last.jobs.workers.items)) }
+    ensures doors_fault { result.end ≡ ServingEnd.DoorsFault → MatchOption result.last (Rises (K.faults desk.old) (K.faults desk.new))
+        (λ last. HasFault (map (worker_view K.Doors.hall K.Outlet.outbox) last.jobs.workers.items)) }
+    ensures no_kits { result.end ≡ ServingEnd.DoorsFault → IsNone result.last → K.gave desk.new ≡ false }
+    ensures history_full { result.end ≡ ServingEnd.HistoryFull → IsSomeAnd result.last (λ last. IsFull last.pass.seen) }
+    ensures out_of_memory { IfSome result.unused (λ _. result.end ≡ ServingEnd.OutOfMemory) }
+
+    // With kits that no job began with nothing was done, but for one reading of the clock.
+    ensures unused { IfSome result.unused (λ kits. AreUnused accepts
+        (map (worker_view K.Doors.hall K.Outlet.outbox) kits.workers.items)
+        (map (pump_view K.Store.recording K.Store.faults K.Outlet.outbox) kits.pumps.items)
+        (tick_view K.Clock.dial K.Outlet.outbox kits.tick)) }
+{
+    match desk.config(name) {
+        Ok(mut source) => {
+            let Left { end, last, unused } = serve_source(rt, alloc, &mut source, accepts, desk);
+            Served {
+                end,
+                config: Some(source),
+                last,
+                unused,
+            }
+        }
+        Err(Failed) => Served {
+            end: ServingEnd::InputFault,
+            config: None,
+            last: None,
+            unused: None,
+        },
+    }
+}
