@@ -1,3 +1,8 @@
 pub mod TalkLemmas
+pub mod TalkerLemmas
 pub mod TurnLemmas
+pub mod LineLemmas
+pub mod DrawerLemmas
 pub mod OutcomeLemmas
+pub mod AcceptsLemmas
+pub mod ServingLemmas

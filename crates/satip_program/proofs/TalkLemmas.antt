@@ -11,82 +11,111 @@ use Rattle.satip_frame.proofs.StreamLemmas.{leads-append, leads_first, all_lead,
 use Rattle.satip_frame.proofs.ReadingLemmas.{reading_of}
 use Rattle.satip_rtsp.specs.declared.requests.Request.{Request}
 use Rattle.satip_rtsp.specs.Asked.{asked, broken}
-use Rattle.satip_core.specs.State.{State}
-use Rattle.satip_core.specs.Plain.{step}
-use Rattle.satip_program.specs.Talk.{start, replies, after, requests_of, talk_replies, tail_requests, PartlyAnswered}
+use Rattle.satip_plain.specs.declared.events.Event.{Event}
+use Rattle.satip_plain.specs.State.{State}
+use Rattle.satip_plain.specs.Steps.{step}
+use Rattle.satip_program.specs.Talk.{talk_config, start, events_from, events_of, event_of, replies, after, replies_to, requests_of, talk_replies, tail_requests, PartlyAnswered}
+use Rattle.satip_program.specs.Talking.{HasAnswered, next_reply}
 use Rattle.satip_program.specs.Hearing.{Stands, HasClosed, HasFailed}
+use Rattle.satip_program.specs.declared.talker.Talker.{Talker}
 
--- the replies to one list of requests after another
-replies-append : (state : State) (xs ys : List Request) → replies state (xs ++ ys) ≡ replies state xs ++ replies (after state xs) ys
+-- the events of one list of requests after another
+events_from-append : (k : ℕ) (xs ys : List Request) → events_from k (xs ++ ys) ≡ events_from k xs ++ events_from (k + length xs) ys
+events_from-append k [] ys = let e : k ≡ k + 0 = omega arith in ap (λ (n : ℕ). events_from n ys) e
+events_from-append k (x ∷ xs) ys =
+    let e : (k + 1) + length xs ≡ k + suc (length xs) = omega arith in
+    ap (λ (rest : List Event). event_of k x ∷ rest)
+    (events_from-append (k + 1) xs ys ∙ ap (λ (n : ℕ). events_from (k + 1) xs ++ events_from n ys) e)
+
+-- the replies to one list of events after another
+replies-append : (state : State) (xs ys : List Event) → replies state (xs ++ ys) ≡ replies state xs ++ replies (after state xs) ys
 replies-append state [] ys = refl
 replies-append state (x ∷ xs) ys =
-    ap (λ (rest : List ℕ). (step state x).reply ++ rest) (replies-append (step state x).state xs ys)
-    ∙ sym (append_assoc (step state x).reply (replies (step state x).state xs) (replies (after (step state x).state xs) ys))
+    ap (λ (rest : List ℕ). (step talk_config state x).reply ++ rest) (replies-append (step talk_config state x).state xs ys)
+    ∙ sym (append_assoc (step talk_config state x).reply (replies (step talk_config state x).state xs) (replies (after (step talk_config state x).state xs) ys))
 
--- the state after one list of requests after another
-after-append : (state : State) (xs ys : List Request) → after state (xs ++ ys) ≡ after (after state xs) ys
+-- the state after one list of events after another
+after-append : (state : State) (xs ys : List Event) → after state (xs ++ ys) ≡ after (after state xs) ys
 after-append state [] ys = refl
-after-append state (x ∷ xs) ys = after-append (step state x).state xs ys
+after-append state (x ∷ xs) ys = after-append (step talk_config state x).state xs ys
+
+-- the replies to further requests
+replies_more : (xs ys : List Request)
+    → replies_to (xs ++ ys) ≡ replies_to xs ++ replies (after start (events_of xs)) (events_from (1 + length xs) ys)
+replies_more xs ys =
+    ap (λ (events : List Event). replies start events) (events_from-append 1 xs ys)
+    ∙ replies-append start (events_of xs) (events_from (1 + length xs) ys)
 
 -- the replies to one more request
-replies_push : (state : State) (xs : List Request) (x : Request)
-    → replies state (xs ++ x ∷ []) ≡ replies state xs ++ (step (after state xs) x).reply
-replies_push state xs x =
-    replies-append state xs (x ∷ []) ∙ ap (λ (rest : List ℕ). replies state xs ++ rest) (append-nil (step (after state xs) x).reply)
+replies_push : (xs : List Request) (x : Request) → replies_to (xs ++ x ∷ []) ≡ replies_to xs ++ next_reply xs x
+replies_push xs x =
+    let e : 1 + length xs ≡ length xs + 1 = omega arith in
+    replies_more xs (x ∷ [])
+    ∙ ap (λ (rest : List ℕ). replies_to xs ++ rest)
+    (append-nil (step talk_config (after start (events_of xs)) (event_of (1 + length xs) x)).reply
+    ∙ ap (λ (k : ℕ). (step talk_config (after start (events_of xs)) (event_of k x)).reply) e)
+
+-- the state behind one more request
+pub after_push : (xs : List Request) (x : Request)
+    → after start (events_of (xs ++ x ∷ [])) ≡ (step talk_config (after start (events_of xs)) (event_of (length xs + 1) x)).state
+after_push xs x =
+    let e : 1 + length xs ≡ length xs + 1 = omega arith in
+    ap (λ (events : List Event). after start events) (events_from-append 1 xs (x ∷ []))
+    ∙ after-append start (events_of xs) (event_of (1 + length xs) x ∷ [])
+    ∙ ap (λ (k : ℕ). (step talk_config (after start (events_of xs)) (event_of k x)).state) e
 
 -- one more request was answered
-sent_one : (tells : Type 0) (o m n : Drain) (xs : List Request) (x : Request) (state : State) → state ≡ after start xs
-    → (tells → m.sent ≡ o.sent ++ replies start xs) → PutAll tells m n (step state x).reply
-    → tells → n.sent ≡ o.sent ++ replies start (xs ++ x ∷ [])
-sent_one tells o m n xs x state served before put told =
+sent_one : (tells : Type 0) (o m n : Drain) (xs : List Request) (x : Request)
+    → (tells → m.sent ≡ o.sent ++ replies_to xs) → PutAll tells m n (next_reply xs x)
+    → tells → n.sent ≡ o.sent ++ replies_to (xs ++ x ∷ [])
+sent_one tells o m n xs x before put told =
     put.content told
-    ∙ ap (λ (front : List ℕ). front ++ (step state x).reply) (before told)
-    ∙ append_assoc o.sent (replies start xs) (step state x).reply
-    ∙ ap (λ (s : State). o.sent ++ (replies start xs ++ (step s x).reply)) served
-    ∙ ap (λ (all : List ℕ). o.sent ++ all) (sym (replies_push start xs x))
+    ∙ ap (λ (front : List ℕ). front ++ next_reply xs x) (before told)
+    ∙ append_assoc o.sent (replies_to xs) (next_reply xs x)
+    ∙ ap (λ (all : List ℕ). o.sent ++ all) (sym (replies_push xs x))
 
 -- one more request was answered in part
-sent_part : (tells : Type 0) (o m n : Drain) (xs : List Request) (x : Request) (state : State) → state ≡ after start xs
-    → (tells → m.sent ≡ o.sent ++ replies start xs) → FailedToPut tells m n (step state x).reply
-    → tells → Began o.sent n.sent (replies start (xs ++ x ∷ []))
-sent_part tells o m n xs x state served before put told =
+sent_part : (tells : Type 0) (o m n : Drain) (xs : List Request) (x : Request)
+    → (tells → m.sent ≡ o.sent ++ replies_to xs) → FailedToPut tells m n (next_reply xs x)
+    → tells → Began o.sent n.sent (replies_to (xs ++ x ∷ []))
+sent_part tells o m n xs x before put told =
     let began = put.content told in
-    let whole : replies start (xs ++ x ∷ []) ≡ (replies start xs ++ began.part) ++ began.rest =
-    replies_push start xs x
-    ∙ ap (λ (s : State). replies start xs ++ (step s x).reply) (sym served)
-    ∙ ap (λ (reply : List ℕ). replies start xs ++ reply) began.whole
-    ∙ sym (append_assoc (replies start xs) began.part began.rest) in
+    let whole : replies_to (xs ++ x ∷ []) ≡ (replies_to xs ++ began.part) ++ began.rest =
+    replies_push xs x
+    ∙ ap (λ (reply : List ℕ). replies_to xs ++ reply) began.whole
+    ∙ sym (append_assoc (replies_to xs) began.part began.rest) in
     record {
-      part = replies start xs ++ began.part;
+      part = replies_to xs ++ began.part;
       rest = began.rest;
       whole = whole;
       sent = began.sent ∙ ap (λ (front : List ℕ). front ++ began.part) (before told)
-          ∙ append_assoc o.sent (replies start xs) began.part;
+          ∙ append_assoc o.sent (replies_to xs) began.part;
     }
 
 -- more bytes came
-pub stands_fed : (tells : Type 0) (o n : Drain) (text piece : List ℕ) (messages : List Said) (framer fed : Held) (state : State)
-    → Stands tells o n text messages framer state → fed.bytes ≡ framer.bytes ++ piece
-    → Stands tells o n (text ++ piece) messages fed state
-stands_fed tells o n text piece messages framer fed state stands bytes = record {
+pub stands_fed : (tells : Type 0) (o n : Drain) (text piece : List ℕ) (messages : List Said) (framer fed : Held) (talker : Talker)
+    → Stands tells o n text messages framer talker → fed.bytes ≡ framer.bytes ++ piece
+    → Stands tells o n (text ++ piece) messages fed talker
+stands_fed tells o n text piece messages framer fed talker stands bytes = record {
   leads = rw bytes (leads-append text piece messages framer.bytes stands.leads);
-  served = stands.served;
+  answered = stands.answered;
   faults = stands.faults;
   sent = stands.sent;
 }
 
 -- one more message was answered
-pub stands_next : (tells : Type 0) (o m n : Drain) (text : List ℕ) (messages : List Said) (said : Said) (framer next : Held) (state : State)
-    → Stands tells o m text messages framer state → Leads text (messages ++ said ∷ []) next.bytes
-    → PutAll tells m n (step state (asked said)).reply
-    → Stands tells o n text (messages ++ said ∷ []) next (step state (asked said)).state
-stands_next tells o m n text messages said framer next state stands leads put =
+pub stands_next : (tells : Type 0) (o m n : Drain) (text : List ℕ) (messages : List Said) (said : Said) (framer next : Held) (talker later : Talker)
+    → Stands tells o m text messages framer talker → Leads text (messages ++ said ∷ []) next.bytes
+    → HasAnswered later (map asked messages ++ asked said ∷ [])
+    → PutAll tells m n (next_reply (map asked messages) (asked said))
+    → Stands tells o n text (messages ++ said ∷ []) next later
+stands_next tells o m n text messages said framer next talker later stands leads answered put =
     let pushed = map_push asked messages said in
     record {
       leads = leads;
-      served = rw (pushed, after-append start (map asked messages) (asked said ∷ []), ← stands.served) refl;
+      answered = rw pushed answered;
       faults = put.faults ∙ stands.faults;
-      sent = λ told. rw pushed (sent_one tells o m n (map asked messages) (asked said) state stands.served stands.sent put told);
+      sent = λ told. rw pushed (sent_one tells o m n (map asked messages) (asked said) stands.sent put told);
     }
 
 -- a beginning stays one when more is to come
@@ -108,34 +137,34 @@ first_requests messages first others tail is =
 
 -- a beginning of the replies to the first messages is one of the replies to all
 pub part_of_first : (tells : Type 0) (before now text : List ℕ) (first : List Said) → AreFirst first text
-    → (tells → Began before now (replies start (map asked first))) → PartlyAnswered tells before now text
+    → (tells → Began before now (replies_to (map asked first))) → PartlyAnswered tells before now text
 part_of_first tells before now text first are began =
     let reading = reading_of text in
     let others = leads_first text first reading.0 are.0 reading.1 are.1 reading.2 in
     let rest = map asked others.0 ++ tail_requests reading.1 in
-    let all : talk_replies reading.0 reading.1 ≡ replies start (map asked first) ++ replies (after start (map asked first)) rest =
-    ap (λ (rs : List Request). replies start rs) (first_requests reading.0 first others.0 reading.1 others.1)
-    ∙ replies-append start (map asked first) rest in
+    let behind = replies (after start (events_of (map asked first))) (events_from (1 + length (map asked first)) rest) in
+    let all : talk_replies reading.0 reading.1 ≡ replies_to (map asked first) ++ behind =
+    ap (λ (rs : List Request). replies_to rs) (first_requests reading.0 first others.0 reading.1 others.1)
+    ∙ replies_more (map asked first) rest in
     let P : List ℕ → Type 0 = λ rs. Began before now rs in
     record {
       messages = reading.0;
       tail = reading.1;
       read = reading.2;
-      sent = λ told. subst P (sym all)
-          (began_longer before now (replies start (map asked first)) (replies (after start (map asked first)) rest) (began told));
+      sent = λ told. subst P (sym all) (began_longer before now (replies_to (map asked first)) behind (began told));
     }
 
 -- the reply to one more message failed
-pub stands_failed : (tells : Type 0) (o m n : Drain) (text : List ℕ) (messages : List Said) (said : Said) (framer : Held) (rest : List ℕ) (state : State)
-    → Stands tells o m text messages framer state → Leads text (messages ++ said ∷ []) rest
-    → FailedToPut tells m n (step state (asked said)).reply → HasFailed tells o n text
-stands_failed tells o m n text messages said framer rest state stands leads put =
-    let P : List Request → Type 0 = λ rs. Began o.sent n.sent (replies start rs) in
+pub stands_failed : (tells : Type 0) (o m n : Drain) (text : List ℕ) (messages : List Said) (said : Said) (framer : Held) (rest : List ℕ) (talker : Talker)
+    → Stands tells o m text messages framer talker → Leads text (messages ++ said ∷ []) rest
+    → FailedToPut tells m n (next_reply (map asked messages) (asked said)) → HasFailed tells o n text
+stands_failed tells o m n text messages said framer rest talker stands leads put =
+    let P : List Request → Type 0 = λ rs. Began o.sent n.sent (replies_to rs) in
     record {
       faults = rw (← stands.faults) put.faults;
       part = part_of_first tells o.sent n.sent text (messages ++ said ∷ []) (rest, leads)
           (λ told. subst P (sym (map_push asked messages said))
-          (sent_part tells o m n (map asked messages) (asked said) state stands.served stands.sent put told));
+          (sent_part tells o m n (map asked messages) (asked said) stands.sent put told));
     }
 
 -- what holds of the value that is there
@@ -144,30 +173,32 @@ some_both None P Q p q = absurd p
 some_both (Some x) P Q p q = (x, p, q)
 
 -- the message that was found was answered
-pub found_answered : (tells : Type 0) (o m n : Drain) (text : List ℕ) (messages : List Said) (framer next : Held) (request : Request) (state : State)
-    → Stands tells o m text messages framer state
+pub found_answered : (tells : Type 0) (o m n : Drain) (text : List ℕ) (messages : List Said) (framer next : Held) (request : Request) (talker later : Talker)
+    → Stands tells o m text messages framer talker
     → IsSomeAnd next.found (λ said. Leads text (messages ++ said ∷ []) next.bytes)
     → IsSomeAnd next.found (λ said. request ≡ asked said)
-    → PutAll tells m n (step state request).reply
-    → (answered : List Said) × Stands tells o n text answered next (step state request).state
-found_answered tells o m n text messages framer next request state stands leads is put =
+    → HasAnswered later (map asked messages ++ request ∷ [])
+    → PutAll tells m n (next_reply (map asked messages) request)
+    → (answered : List Said) × Stands tells o n text answered next later
+found_answered tells o m n text messages framer next request talker later stands leads is answered put =
     let found = some_both next.found _ _ leads is in
-    let Q : Request → Type 0 = λ r. PutAll tells m n (step state r).reply in
-    let put_asked = subst Q found.2 put in
-    let P : Request → Type 0 = λ r. (answered : List Said) × Stands tells o n text answered next (step state r).state in
-    subst P (sym found.2) (messages ++ found.0 ∷ [], stands_next tells o m n text messages found.0 framer next state stands found.1 put_asked)
+    let Q : Request → Type 0 = λ r. PutAll tells m n (next_reply (map asked messages) r) in
+    let P : Request → Type 0 = λ r. HasAnswered later (map asked messages ++ r ∷ []) in (
+      messages ++ found.0 ∷ [],
+      stands_next tells o m n text messages found.0 framer next talker later stands found.1
+          (subst P found.2 answered) (subst Q found.2 put),
+    )
 
 -- the reply to the message that was found failed
-pub found_failed : (tells : Type 0) (o m n : Drain) (text : List ℕ) (messages : List Said) (framer next : Held) (request : Request) (state : State)
-    → Stands tells o m text messages framer state
+pub found_failed : (tells : Type 0) (o m n : Drain) (text : List ℕ) (messages : List Said) (framer next : Held) (request : Request) (talker : Talker)
+    → Stands tells o m text messages framer talker
     → IsSomeAnd next.found (λ said. Leads text (messages ++ said ∷ []) next.bytes)
     → IsSomeAnd next.found (λ said. request ≡ asked said)
-    → FailedToPut tells m n (step state request).reply → HasFailed tells o n text
-found_failed tells o m n text messages framer next request state stands leads is put =
+    → FailedToPut tells m n (next_reply (map asked messages) request) → HasFailed tells o n text
+found_failed tells o m n text messages framer next request talker stands leads is put =
     let found = some_both next.found _ _ leads is in
-    let Q : Request → Type 0 = λ r. FailedToPut tells m n (step state r).reply in
-    let put_asked = subst Q found.2 put in
-    stands_failed tells o m n text messages found.0 framer next.bytes state stands found.1 put_asked
+    let Q : Request → Type 0 = λ r. FailedToPut tells m n (next_reply (map asked messages) r) in
+    stands_failed tells o m n text messages found.0 framer next.bytes talker stands found.1 (subst Q found.2 put)
 
 -- a head isn't empty
 head_some : (text : List ℕ) (n : ℕ) → IsHeadEnd text n → 0 < n
@@ -204,37 +235,41 @@ pub message_takes : (framer next : Held) → IsSomeAnd next.found (λ said. Lead
 message_takes framer next told = message_takes_from framer next next.found told
 
 -- the closing reply was sent
-pub closes : (tells : Type 0) (o m n : Drain) (text : List ℕ) (messages : List Said) (cause : Break) (framer : Held) (state : State)
-    → Stands tells o m text messages framer state → Messages text messages (Broken cause)
-    → PutAll tells m n (step state (broken cause)).reply → HasClosed tells o n text
-closes tells o m n text messages cause framer state stands read put = record {
-  messages = messages;
-  cause = cause;
-  read = read;
-  faults = put.faults ∙ stands.faults;
-  sent = sent_one tells o m n (map asked messages) (broken cause) state stands.served stands.sent put;
-}
+pub closes : (tells : Type 0) (o m n : Drain) (text : List ℕ) (messages : List Said) (cause : Break) (framer : Held) (talker : Talker) (request : Request)
+    → Stands tells o m text messages framer talker → Messages text messages (Broken cause) → request ≡ broken cause
+    → PutAll tells m n (next_reply (map asked messages) request) → HasClosed tells o n text
+closes tells o m n text messages cause framer talker request stands read is put =
+    let Q : Request → Type 0 = λ r. PutAll tells m n (next_reply (map asked messages) r) in
+    record {
+      messages = messages;
+      cause = cause;
+      read = read;
+      faults = put.faults ∙ stands.faults;
+      sent = sent_one tells o m n (map asked messages) (broken cause) stands.sent (subst Q is put);
+    }
 
 -- the closing reply failed
-pub close_failed : (tells : Type 0) (o m n : Drain) (text : List ℕ) (messages : List Said) (cause : Break) (framer : Held) (state : State)
-    → Stands tells o m text messages framer state → Messages text messages (Broken cause)
-    → FailedToPut tells m n (step state (broken cause)).reply → HasFailed tells o n text
-close_failed tells o m n text messages cause framer state stands read put = record {
-  faults = rw (← stands.faults) put.faults;
-  part = record {
-    messages = messages;
-    tail = Broken cause;
-    read = read;
-    sent = sent_part tells o m n (map asked messages) (broken cause) state stands.served stands.sent put;
-  };
-}
+pub close_failed : (tells : Type 0) (o m n : Drain) (text : List ℕ) (messages : List Said) (cause : Break) (framer : Held) (talker : Talker) (request : Request)
+    → Stands tells o m text messages framer talker → Messages text messages (Broken cause) → request ≡ broken cause
+    → FailedToPut tells m n (next_reply (map asked messages) request) → HasFailed tells o n text
+close_failed tells o m n text messages cause framer talker request stands read is put =
+    let Q : Request → Type 0 = λ r. FailedToPut tells m n (next_reply (map asked messages) r) in
+    record {
+      faults = rw (← stands.faults) put.faults;
+      part = record {
+        messages = messages;
+        tail = Broken cause;
+        read = read;
+        sent = sent_part tells o m n (map asked messages) (broken cause) stands.sent (subst Q is put);
+      };
+    }
 
 -- what was sent stays a beginning of the replies
 part_stays_by : (tells : Type 0) (before now text more : List ℕ) (messages : List Said) (tail : Tail) → Messages text messages tail
     → (tells → Began before now (talk_replies messages tail)) → PartlyAnswered tells before now (text ++ more)
 part_stays_by tells before now text more messages Unfinished read began =
     let first = all_lead text messages Unfinished read in
-    let P : List Request → Type 0 = λ rs. Began before now (replies start rs) in
+    let P : List Request → Type 0 = λ rs. Began before now (replies_to rs) in
     part_of_first tells before now (text ++ more) messages (first.0 ++ more, leads-append text more messages first.0 first.1)
     (λ told. subst P (append-nil (map asked messages)) (began told))
 part_stays_by tells before now text more messages (Broken cause) read began = record {
@@ -249,13 +284,13 @@ pub part_stays : (tells : Type 0) (before now text more : List ℕ) → PartlyAn
 part_stays tells before now text more part = part_stays_by tells before now text more part.messages part.tail part.read part.sent
 
 -- all replies are a beginning of them
-pub part_of_stands : (tells : Type 0) (o n : Drain) (text : List ℕ) (messages : List Said) (framer : Held) (state : State)
-    → Stands tells o n text messages framer state → PartlyAnswered tells o.sent n.sent text
-part_of_stands tells o n text messages framer state stands =
+pub part_of_stands : (tells : Type 0) (o n : Drain) (text : List ℕ) (messages : List Said) (framer : Held) (talker : Talker)
+    → Stands tells o n text messages framer talker → PartlyAnswered tells o.sent n.sent text
+part_of_stands tells o n text messages framer talker stands =
     part_of_first tells o.sent n.sent text messages (framer.bytes, stands.leads) (λ told. record {
-      part = replies start (map asked messages);
+      part = replies_to (map asked messages);
       rest = [];
-      whole = sym (append-nil (replies start (map asked messages)));
+      whole = sym (append-nil (replies_to (map asked messages)));
       sent = stands.sent told;
     })
 

@@ -6,10 +6,12 @@ use Rattle.satip_frame.specs.Held.{Held, capacity, new_framer}
 use Rattle.satip_frame.specs.Stream.{Unfinished, Broken}
 use Rattle.satip_frame.proofs.StreamLemmas.{broken_stays}
 use Rattle.satip_rtsp.specs.Asked.{asked}
-use Rattle.satip_core.specs.State.{State}
-use Rattle.satip_program.specs.Talk.{start, replies, Answered}
+use Rattle.satip_program.specs.Talk.{replies_to, Answered}
+use Rattle.satip_program.specs.Talking.{HasAnswered}
+use Rattle.satip_program.specs.declared.talker.Talker.{Talker}
 use Rattle.satip_program.specs.Hearing.{Listens, HasClosed, HasFailed}
-use Rattle.satip_program.specs.Outcomes.{Read, EndsWell, EndsByInput, EndsByOutput, EndsByLength, input_limit}
+use Rattle.satip_program.specs.Outcomes.{EndsWell, EndsByInput, EndsByOutput, EndsByLength, input_limit}
+use Rattle.satip_replay.specs.Reading.{Read}
 use Rattle.satip_program.proofs.TalkLemmas.{part_stays, part_of_stands}
 
 -- the framer takes more
@@ -18,22 +20,22 @@ pub record IsOpen (framer : Held) : Type 0 where
   pub room : length framer.bytes < capacity
 
 -- what was taken so far was answered
-pub record Goes (in_tells out_tells : Type 0) (i j : Feed) (o n : Drain) (count : ℕ) (framer : Held) (state : State) : Type 0 where
+pub record Goes (in_tells out_tells : Type 0) (i j : Feed) (o n : Drain) (count : ℕ) (framer : Held) (talker : Talker) : Type 0 where
   pub text : List ℕ
   pub read : Read in_tells i j text
   pub counted : length text ≡ count
   pub short : count ≤ input_limit
   pub in_faults : j.faults ≡ i.faults
-  pub listens : Listens out_tells o n text framer state
+  pub listens : Listens out_tells o n text framer talker
 
 no_empty_line : HasNoEmptyLine 0 []
 no_empty_line zero within ends = cc ends
 no_empty_line (suc k) within ends = absurd (omega arith)
 
 -- nothing was taken yet
-pub goes_from : (in_tells out_tells : Type 0) (i : Feed) (o : Drain) (framer : Held) (state : State) → framer ≡ new_framer → state ≡ start
-    → Goes in_tells out_tells i i o o 0 framer state
-goes_from in_tells out_tells i o framer state new_one begins = record {
+pub goes_from : (in_tells out_tells : Type 0) (i : Feed) (o : Drain) (framer : Held) (talker : Talker) → framer ≡ new_framer → HasAnswered talker []
+    → Goes in_tells out_tells i i o o 0 framer talker
+goes_from in_tells out_tells i o framer talker new_one begins = record {
   text = [];
   read = record { taken = omega arith; content = λ _. refl };
   counted = refl;
@@ -41,7 +43,7 @@ goes_from in_tells out_tells i o framer state new_one begins = record {
   in_faults = refl;
   listens = record {
     messages = [];
-    stands = record { leads = rw new_one refl; served = begins; faults = refl; sent = λ _. sym (append-nil o.sent) };
+    stands = record { leads = rw new_one refl; answered = begins; faults = refl; sent = λ _. sym (append-nil o.sent) };
     read = inl (lit< tt, no_empty_line);
   };
 }
@@ -60,11 +62,11 @@ length-more : (text buf : List ℕ) (count : ℕ) → count ≤ length buf → l
 length-more text buf count within = omega (arith, length-append text (take count buf), length-take count buf)
 
 -- the piece was answered too
-pub goes_more : (in_tells out_tells : Type 0) (i j k : Feed) (o m n : Drain) (taken count : ℕ) (framer next : Held) (state state' : State) (buf : List ℕ)
-    → (goes : Goes in_tells out_tells i j o m taken framer state) → TookBytes in_tells j k buf count → taken + count ≤ input_limit
-    → Listens out_tells o n (goes.text ++ take count buf) next state'
-    → Goes in_tells out_tells i k o n (taken + count) next state'
-goes_more in_tells out_tells i j k o m n taken count framer next state state' buf goes took short listens = record {
+pub goes_more : (in_tells out_tells : Type 0) (i j k : Feed) (o m n : Drain) (taken count : ℕ) (framer next : Held) (talker later : Talker) (buf : List ℕ)
+    → (goes : Goes in_tells out_tells i j o m taken framer talker) → TookBytes in_tells j k buf count → taken + count ≤ input_limit
+    → Listens out_tells o n (goes.text ++ take count buf) next later
+    → Goes in_tells out_tells i k o n (taken + count) next later
+goes_more in_tells out_tells i j k o m n taken count framer next talker later buf goes took short listens = record {
   text = goes.text ++ take count buf;
   read = read_more in_tells i j k goes.text buf count goes.read took;
   counted = length-more goes.text buf count took.within ∙ ap (λ (c : ℕ). c + count) goes.counted;
@@ -74,21 +76,21 @@ goes_more in_tells out_tells i j k o m n taken count framer next state state' bu
 }
 
 -- all messages of the text were answered
-answered_all : (tells : Type 0) (o n : Drain) (text : List ℕ) (framer : Held) (state : State) → Listens tells o n text framer state
+answered_all : (tells : Type 0) (o n : Drain) (text : List ℕ) (framer : Held) (talker : Talker) → Listens tells o n text framer talker
     → Answered tells o.sent n.sent text
-answered_all tells o n text framer state listens = record {
+answered_all tells o n text framer talker listens = record {
   messages = listens.messages;
   tail = Unfinished;
   read = listens.read;
   sent = λ told. listens.stands.sent told
-      ∙ ap (λ (rs : List _). o.sent ++ replies start rs) (sym (append-nil (map asked listens.messages)));
+      ∙ ap (λ (rs : List _). o.sent ++ replies_to rs) (sym (append-nil (map asked listens.messages)));
 }
 
 -- the input came to its end
-pub ends_at_end : (in_tells out_tells : Type 0) (i j k : Feed) (o n : Drain) (taken : ℕ) (framer : Held) (state : State)
-    → Goes in_tells out_tells i j o n taken framer state → MetEnd in_tells j k → EndsWell in_tells out_tells i k o n
-ends_at_end in_tells out_tells i j k o n taken framer state goes met =
-    let answered = answered_all out_tells o n goes.text framer state goes.listens in
+pub ends_at_end : (in_tells out_tells : Type 0) (i j k : Feed) (o n : Drain) (taken : ℕ) (framer : Held) (talker : Talker)
+    → Goes in_tells out_tells i j o n taken framer talker → MetEnd in_tells j k → EndsWell in_tells out_tells i k o n
+ends_at_end in_tells out_tells i j k o n taken framer talker goes met =
+    let answered = answered_all out_tells o n goes.text framer talker goes.listens in
     let P : List ℕ → Type 0 = λ text. Answered out_tells o.sent n.sent text in
     record {
       text = goes.text;
@@ -113,10 +115,10 @@ ends_at_end in_tells out_tells i j k o n taken framer state goes met =
     }
 
 -- the last reply was a closing one
-pub ends_closed : (in_tells out_tells : Type 0) (i j k : Feed) (o m n : Drain) (taken count : ℕ) (framer : Held) (state : State) (buf : List ℕ)
-    → (goes : Goes in_tells out_tells i j o m taken framer state) → TookBytes in_tells j k buf count → taken + count ≤ input_limit → count ≤ 4096
+pub ends_closed : (in_tells out_tells : Type 0) (i j k : Feed) (o m n : Drain) (taken count : ℕ) (framer : Held) (talker : Talker) (buf : List ℕ)
+    → (goes : Goes in_tells out_tells i j o m taken framer talker) → TookBytes in_tells j k buf count → taken + count ≤ input_limit → count ≤ 4096
     → HasClosed out_tells o n (goes.text ++ take count buf) → EndsWell in_tells out_tells i k o n
-ends_closed in_tells out_tells i j k o m n taken count framer state buf goes took short small closed =
+ends_closed in_tells out_tells i j k o m n taken count framer talker buf goes took short small closed =
     let text = goes.text ++ take count buf in
     let read = read_more in_tells i j k goes.text buf count goes.read took in
     let answered : Answered out_tells o.sent n.sent text =
@@ -148,10 +150,10 @@ ends_closed in_tells out_tells i j k o m n taken count framer state buf goes too
     }
 
 -- the output failed
-pub ends_by_output : (in_tells out_tells : Type 0) (i j k : Feed) (o m n : Drain) (taken count : ℕ) (framer : Held) (state : State) (buf : List ℕ)
-    → (goes : Goes in_tells out_tells i j o m taken framer state) → TookBytes in_tells j k buf count → taken + count ≤ input_limit
+pub ends_by_output : (in_tells out_tells : Type 0) (i j k : Feed) (o m n : Drain) (taken count : ℕ) (framer : Held) (talker : Talker) (buf : List ℕ)
+    → (goes : Goes in_tells out_tells i j o m taken framer talker) → TookBytes in_tells j k buf count → taken + count ≤ input_limit
     → HasFailed out_tells o n (goes.text ++ take count buf) → EndsByOutput in_tells out_tells i k o n
-ends_by_output in_tells out_tells i j k o m n taken count framer state buf goes took short failed = record {
+ends_by_output in_tells out_tells i j k o m n taken count framer talker buf goes took short failed = record {
   early = record {
     text = goes.text ++ take count buf;
     read = read_more in_tells i j k goes.text buf count goes.read took;
@@ -163,16 +165,16 @@ ends_by_output in_tells out_tells i j k o m n taken count framer state buf goes 
 }
 
 -- the input failed
-pub ends_by_input : (in_tells out_tells : Type 0) (i j k : Feed) (o n : Drain) (taken : ℕ) (framer : Held) (state : State)
-    → Goes in_tells out_tells i j o n taken framer state → FailedToTake in_tells j k → EndsByInput in_tells out_tells i k o n
-ends_by_input in_tells out_tells i j k o n taken framer state goes failed = record {
+pub ends_by_input : (in_tells out_tells : Type 0) (i j k : Feed) (o n : Drain) (taken : ℕ) (framer : Held) (talker : Talker)
+    → Goes in_tells out_tells i j o n taken framer talker → FailedToTake in_tells j k → EndsByInput in_tells out_tells i k o n
+ends_by_input in_tells out_tells i j k o n taken framer talker goes failed = record {
   early = record {
     text = goes.text;
     read = record {
       taken = failed.taken ∙ goes.read.taken;
       content = λ told. goes.read.content told ∙ ap (λ (left : List ℕ). goes.text ++ left) (sym (failed.content told));
     };
-    part = part_of_stands out_tells o n goes.text goes.listens.messages framer state goes.listens.stands;
+    part = part_of_stands out_tells o n goes.text goes.listens.messages framer talker goes.listens.stands;
   };
   short = omega (arith, goes.counted, goes.short);
   rose = rw (← goes.in_faults) failed.faults;
@@ -180,15 +182,15 @@ ends_by_input in_tells out_tells i j k o n taken framer state goes failed = reco
 }
 
 -- one byte too many was taken
-pub ends_by_length : (in_tells out_tells : Type 0) (i j k : Feed) (o n : Drain) (taken count : ℕ) (framer : Held) (state : State) (buf : List ℕ)
-    → Goes in_tells out_tells i j o n taken framer state → TookBytes in_tells j k buf count → taken + count ≡ input_limit + 1
+pub ends_by_length : (in_tells out_tells : Type 0) (i j k : Feed) (o n : Drain) (taken count : ℕ) (framer : Held) (talker : Talker) (buf : List ℕ)
+    → Goes in_tells out_tells i j o n taken framer talker → TookBytes in_tells j k buf count → taken + count ≡ input_limit + 1
     → EndsByLength in_tells out_tells i k o n
-ends_by_length in_tells out_tells i j k o n taken count framer state buf goes took long = record {
+ends_by_length in_tells out_tells i j k o n taken count framer talker buf goes took long = record {
   early = record {
     text = goes.text ++ take count buf;
     read = read_more in_tells i j k goes.text buf count goes.read took;
     part = part_stays out_tells o.sent n.sent goes.text (take count buf)
-        (part_of_stands out_tells o n goes.text goes.listens.messages framer state goes.listens.stands);
+        (part_of_stands out_tells o n goes.text goes.listens.messages framer talker goes.listens.stands);
   };
   long = length-more goes.text buf count took.within ∙ ap (λ (c : ℕ). c + count) goes.counted ∙ long;
   in_faults = took.faults ∙ goes.in_faults;

@@ -1,22 +1,77 @@
 -- The words of the command line, and the lines that the program writes of itself.
-use Rattle.std.specs.Prelude.{ℕ, ◌==◌, List, [], ◌∷◌, ◌++◌, codes, Option, Some, None, if◌then◌else◌}
+use Rattle.std.specs.Prelude.{ℕ, ◌==◌, List, [], ◌∷◌, ◌++◌, codes, decimal, Option, Some, None, option_map, if◌then◌else◌}
 use Rattle.std.specs.Str.{bytes_eq}
+use Rattle.satip_base.specs.Numbers.{number_of}
+use Rattle.satip_config.specs.declared.fault.ConfigFault.{ConfigFault}
+use Rattle.satip_config.specs.FaultText.{fault_text}
 use Rattle.satip_program.specs.declared.commands.Command.{Command}
-use Rattle.satip_program.specs.declared.commands.Command.TheVariants.{Talk, Help, Version}
+use Rattle.satip_program.specs.declared.commands.Serve.{Serve}
+use Rattle.satip_program.specs.declared.commands.Command.TheVariants as commands
 
--- the command of a word that stands alone
-abbrev pub command_named : List ℕ → Option Command
+-- what the words ask for; a replay has the name of its configuration
+pub data Form : Type 0 where
+  Talk : Form
+  Replay : List ℕ → Form
+  Help : Form
+  Version : Form
+
+-- the form of a command
+abbrev pub form_of : Command → Form
+form_of commands.Talk = Talk
+form_of (commands.Replay name) = Replay name.now
+form_of commands.Help = Help
+form_of commands.Version = Version
+
+-- the form of a word that stands alone
+abbrev pub command_named : List ℕ → Option Form
 command_named word =
     if bytes_eq word (codes "talk") then Some Talk
     else if bytes_eq word (codes "--help") then Some Help
     else if bytes_eq word (codes "--version") then Some Version
     else None
 
--- the command of the words, if they are in one of the forms
-unfoldable pub command_of : List (List ℕ) → Option Command
+-- the form of two words; no configuration has the empty name
+abbrev pub replay_named : List ℕ → List ℕ → Option Form
+replay_named word [] = None
+replay_named word (byte ∷ bytes) = if bytes_eq word (codes "replay") then Some (Replay (byte ∷ bytes)) else None
+
+-- the form of the words, if they are in one
+unfoldable pub command_of : List (List ℕ) → Option Form
 command_of [] = None
 command_of (word ∷ []) = command_named word
-command_of (word ∷ another ∷ others) = None
+command_of (word ∷ name ∷ []) = replay_named word name
+command_of (word ∷ name ∷ another ∷ others) = None
+
+-- the words of a `serve`: the name of its configuration, and after how many connections the doors of a worker end
+pub record Serving : Type 0 where
+  pub name : List ℕ
+  pub accepts : ℕ
+
+-- the form of three words; no configuration has the empty name
+abbrev pub serve_named : List ℕ → List ℕ → Option ℕ → Option Serving
+serve_named word [] accepts = None
+serve_named word (byte ∷ bytes) accepts =
+    if bytes_eq word (codes "serve") then option_map (λ n. record { name = byte ∷ bytes; accepts = n }) accepts else None
+
+-- the form of the words, if they ask for a `serve`
+unfoldable pub serve_of : List (List ℕ) → Option Serving
+serve_of [] = None
+serve_of (word ∷ []) = None
+serve_of (word ∷ name ∷ []) = None
+serve_of (word ∷ name ∷ accepts ∷ []) = serve_named word name (number_of 4294967295 accepts)
+serve_of (word ∷ name ∷ accepts ∷ another ∷ others) = None
+
+-- the form of a `serve`
+abbrev pub serving_of : Serve → Serving
+serving_of serve = record { name = serve.name.now; accepts = serve.accepts }
+
+-- the name of the configuration that the words name, if they name one
+abbrev pub config_named : Option Form → Option (List ℕ)
+config_named (Some (Replay name)) = Some name
+config_named (Some Talk) = None
+config_named (Some Help) = None
+config_named (Some Version) = None
+config_named None = None
 
 -- the forms of the words
 abbrev pub usage : List ℕ
@@ -24,18 +79,31 @@ usage = codes "usage: satip talk | replay CONFIG | serve CONFIG ACCEPTS | stress
 
 -- what --help writes: the forms, and a line for each command that is built
 abbrev pub help : List ℕ
-help = usage ++ codes "talk: one RTSP connection, from standard input to standard output\n"
+help = usage
+    ++ codes "talk: one RTSP connection, from standard input to standard output\n"
+    ++ codes "replay: the events of the script on standard input, run by the configuration in the file CONFIG\n"
+    ++ codes "serve: clients, by the configuration in the file CONFIG; each worker ends after ACCEPTS connections, and never where it is 0\n"
 
 -- what --version writes
 abbrev pub version : List ℕ
 version = codes "satip 0.1.0\n"
 
--- the line on the errors sink for a status
+-- the line on the errors sink for a status, but for those that tell a place
 abbrev pub line_of : ℕ → List ℕ
 line_of status =
     if status == 2 then usage
     else if status == 5 then codes "input fault\n"
     else if status == 6 then codes "output fault\n"
+    else if status == 7 then codes "doors fault\n"
     else if status == 8 then codes "input too long\n"
+    else if status == 9 then codes "history full\n"
     else if status == 70 then codes "out of memory\n"
     else []
+
+-- the line for status 3: the configuration's first fault
+abbrev pub configuration_line : ConfigFault → List ℕ
+configuration_line fault = codes "configuration: " ++ fault_text fault ++ codes "\n"
+
+-- the line for status 4: the number of the script's first wrong line
+abbrev pub script_line : ℕ → List ℕ
+script_line number = codes "script: line " ++ decimal number ++ codes "\n"

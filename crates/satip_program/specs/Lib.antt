@@ -1,5 +1,9 @@
-pub mod Seen
 pub mod Commands
+pub mod Cabinets
+pub mod Drawers
 pub mod Talk
+pub mod Talking
 pub mod Hearing
 pub mod Outcomes
+pub mod Replaying
+pub mod Serving

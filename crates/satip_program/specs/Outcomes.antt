@@ -1,41 +1,52 @@
 -- How a run ends.
-use Rattle.std.specs.Prelude.{◌≡◌, ℕ, ◌+◌, ◌≤◌, ◌⊎◌, true, Option, Some, None, List, ◌++◌, length}
+use Rattle.std.specs.Prelude.{◌≡◌, ℕ, ◌+◌, ◌≤◌, ◌⊎◌, true, List, ◌++◌, length}
 use Rattle.satip_base.specs.Streams.{Feed, Drain, Rose, PutAll, FailedToPut}
-use Rattle.satip_base.specs.declared.streams.Taken.{Taken}
-use Rattle.satip_base.specs.declared.streams.Taken.TheVariants.{Got, End, Failed as TakeFault}
 use Rattle.satip_frame.specs.Said.{Said}
 use Rattle.satip_frame.specs.Stream.{Unfinished, Broken, Messages}
 use Rattle.satip_frame.specs.declared.framing.Break.{Break}
 use Rattle.satip_program.specs.Talk.{Answered, PartlyAnswered}
-use Rattle.satip_program.specs.Commands.{help, version}
-use Rattle.satip_program.specs.declared.commands.Command.{Command}
-use Rattle.satip_program.specs.declared.commands.Command.TheVariants.{Talk, Help, Version}
+use Rattle.satip_replay.specs.Reading.{Read}
+use Rattle.satip_replay.specs.declared.ends.ReplayEnd.{ReplayEnd}
+use Rattle.satip_replay.specs.declared.ends.ReplayEnd.TheVariants as ends
+use Rattle.satip_program.specs.Commands.{line_of, configuration_line, script_line}
 use Rattle.satip_program.specs.declared.outcomes.Outcome.{Outcome}
-use Rattle.satip_program.specs.declared.outcomes.Outcome.TheVariants.{Done, Usage, InputFault, OutputFault, TooLong, OutOfMemory}
+use Rattle.satip_program.specs.declared.outcomes.Outcome.TheVariants.{Done, Usage, Configuration, Script, InputFault, OutputFault, TooLong, OutOfMemory}
 
 -- the status of an outcome
 abbrev pub status_of : Outcome → ℕ
 status_of Done = 0
 status_of Usage = 2
+status_of (Configuration fault) = 3
+status_of (Script number) = 4
 status_of InputFault = 5
 status_of OutputFault = 6
 status_of TooLong = 8
 status_of OutOfMemory = 70
 
+-- the line on the errors sink for an outcome
+abbrev pub line_for : Outcome → List ℕ
+line_for Done = line_of 0
+line_for Usage = line_of 2
+line_for (Configuration fault) = configuration_line fault
+line_for (Script number) = script_line number
+line_for InputFault = line_of 5
+line_for OutputFault = line_of 6
+line_for TooLong = line_of 8
+line_for OutOfMemory = line_of 70
+
+-- the outcome of a replay that ended so
+abbrev pub outcome_of : ReplayEnd → Outcome
+outcome_of ends.Done = Done
+outcome_of (ends.Configuration fault) = Configuration fault
+outcome_of (ends.Script number) = Script number
+outcome_of ends.InputFault = InputFault
+outcome_of ends.OutputFault = OutputFault
+outcome_of ends.TooLong = TooLong
+outcome_of ends.OutOfMemory = OutOfMemory
+
 -- the most bytes of input that are answered
 abbrev pub input_limit : ℕ
 input_limit = 67108864
-
--- a take gives so many bytes at most
-abbrev pub GetsAtMost : ℕ → Taken → Type 0
-GetsAtMost room (Got count) = count ≤ room
-GetsAtMost room End = Unit {0}
-GetsAtMost room TakeFault = Unit {0}
-
--- the text was taken from a source
-pub record Read (tells : Type 0) (o n : Feed) (text : List ℕ) : Type 0 where
-  pub taken : n.taken ≡ o.taken + length text
-  pub content : tells → o.left ≡ text ++ n.left
 
 -- the text is broken
 pub record IsBroken (text : List ℕ) : Type 0 where
@@ -100,6 +111,8 @@ pub record NothingDone (i j : Feed) (o n : Drain) : Type 0 where
 abbrev pub TalkEnds : (in_tells out_tells : Type 0) (i j : Feed) (o n : Drain) → Outcome → Type 0
 TalkEnds in_tells out_tells i j o n Done = EndsWell in_tells out_tells i j o n
 TalkEnds in_tells out_tells i j o n Usage = ⊥
+TalkEnds in_tells out_tells i j o n (Configuration fault) = ⊥
+TalkEnds in_tells out_tells i j o n (Script number) = ⊥
 TalkEnds in_tells out_tells i j o n InputFault = EndsByInput in_tells out_tells i j o n
 TalkEnds in_tells out_tells i j o n OutputFault = EndsByOutput in_tells out_tells i j o n
 TalkEnds in_tells out_tells i j o n TooLong = EndsByLength in_tells out_tells i j o n
@@ -114,6 +127,8 @@ pub record Prints (put : Type 0) (i j : Feed) : Type 0 where
 abbrev pub PrintEnds : (tells : Type 0) (i j : Feed) (o n : Drain) (text : List ℕ) → Outcome → Type 0
 PrintEnds tells i j o n text Done = Prints (PutAll tells o n text) i j
 PrintEnds tells i j o n text Usage = ⊥
+PrintEnds tells i j o n text (Configuration fault) = ⊥
+PrintEnds tells i j o n text (Script number) = ⊥
 PrintEnds tells i j o n text InputFault = ⊥
 PrintEnds tells i j o n text OutputFault = Prints (FailedToPut tells o n text) i j
 PrintEnds tells i j o n text TooLong = ⊥
@@ -123,13 +138,6 @@ PrintEnds tells i j o n text OutOfMemory = ⊥
 pub record IsRefused (i j : Feed) (o n : Drain) (outcome : Outcome) : Type 0 where
   pub usage : outcome ≡ Usage
   pub nothing : NothingDone i j o n
-
--- how the run of a command ends
-abbrev pub RunEnds : (in_tells out_tells : Type 0) (i j : Feed) (o n : Drain) → Option Command → Outcome → Type 0
-RunEnds in_tells out_tells i j o n None outcome = IsRefused i j o n outcome
-RunEnds in_tells out_tells i j o n (Some Talk) outcome = TalkEnds in_tells out_tells i j o n outcome
-RunEnds in_tells out_tells i j o n (Some Help) outcome = PrintEnds out_tells i j o n help outcome
-RunEnds in_tells out_tells i j o n (Some Version) outcome = PrintEnds out_tells i j o n version outcome
 
 -- the input was read to its end, or to the piece that has the message to which the closing reply answers
 pub record ReadsInTime (tells : Type 0) (i j : Feed) : Type 0 where

@@ -1,12 +1,60 @@
 -- One RTSP connection over a whole text: its requests, and the plain server's replies.
-use Rattle.std.specs.Prelude.{◌≡◌, ℕ, List, [], ◌∷◌, ◌++◌, map}
+use Rattle.std.specs.Prelude.{◌≡◌, ℕ, ◌+◌, ◌%◌, List, [], ◌∷◌, ◌++◌, map}
+use Rattle.satip_base.specs.declared.identity.Draw.{Draw}
 use Rattle.satip_base.specs.Streams.{Began}
 use Rattle.satip_frame.specs.Said.{Said}
 use Rattle.satip_frame.specs.Stream.{Tail, Unfinished, Broken, Messages}
 use Rattle.satip_rtsp.specs.declared.requests.Request.{Request}
 use Rattle.satip_rtsp.specs.Asked.{asked, broken}
-use Rattle.satip_core.specs.State.{State}
-use Rattle.satip_core.specs.Plain.{step, new_state}
+use Rattle.satip_config.specs.Configuration.{Configuration}
+use Rattle.satip_plain.specs.declared.events.Event.{Event}
+use Rattle.satip_plain.specs.declared.events.Event.TheVariants.{Request as Asked}
+use Rattle.satip_plain.specs.declared.setting.Setting.{Setting}
+use Rattle.satip_plain.specs.State.{State}
+use Rattle.satip_plain.specs.Steps.{step}
+use Rattle.satip_plain.specs.Histories.{opening}
+
+-- the address 127.0.0.1, of the server and of its peer
+abbrev pub localhost : ℕ
+localhost = 2130706433
+
+-- the server of a talk has no front ends
+abbrev pub talk_config : Configuration
+talk_config = record {
+  address = localhost;
+  rtsp_port = 554;
+  http_port = 8875;
+  timeout = 60;
+  workers = 8;
+  fronts = [];
+  muxes = [];
+  files = [];
+}
+
+-- its clock begins at 0, and stays there
+abbrev pub talk_setting : Setting
+talk_setting = record { config = talk_config; start = 0 }
+
+-- the server of a connection before anything came
+abbrev pub start : State
+start = opening talk_setting
+
+-- what message k draws; no input has so many messages that the numbers come round
+abbrev pub draw_of : ℕ → Draw
+draw_of k = record { word = k % 4294967296; ssrc = k % 4294967296; first = 0 }
+
+-- the request of message k, as what happens to the server
+abbrev pub event_of : ℕ → Request → Event
+event_of k request = Asked (record { ip = localhost }) (draw_of k) request
+
+-- requests of which the first is that of message k
+abbrev pub events_from : ℕ → List Request → List Event
+events_from k [] = []
+events_from k (request ∷ requests) = event_of k request ∷ events_from (k + 1) requests
+
+-- messages are numbered from 1
+abbrev pub events_of : List Request → List Event
+events_of requests = events_from 1 requests
 
 -- the request of what is no message
 abbrev pub tail_requests : Tail → List Request
@@ -17,23 +65,23 @@ tail_requests (Broken cause) = broken cause ∷ []
 abbrev pub requests_of : List Said → Tail → List Request
 requests_of messages tail = map asked messages ++ tail_requests tail
 
--- the replies to requests, one after another, each by a step of the plain server
-abbrev pub replies : State → List Request → List ℕ
+-- the replies to events, one after another, each by a step of the plain server
+abbrev pub replies : State → List Event → List ℕ
 replies state [] = []
-replies state (request ∷ requests) = (step state request).reply ++ replies (step state request).state requests
+replies state (event ∷ events) = (step talk_config state event).reply ++ replies (step talk_config state event).state events
 
--- the state behind requests
-abbrev pub after : State → List Request → State
+-- the state behind events
+abbrev pub after : State → List Event → State
 after state [] = state
-after state (request ∷ requests) = after (step state request).state requests
+after state (event ∷ events) = after (step talk_config state event).state events
 
--- the server of a connection before anything came
-abbrev pub start : State
-start = new_state 0
+-- the replies to the requests of a connection
+abbrev pub replies_to : List Request → List ℕ
+replies_to requests = replies start (events_of requests)
 
 -- the replies on a connection that received these messages and this tail
 abbrev pub talk_replies : List Said → Tail → List ℕ
-talk_replies messages tail = replies start (requests_of messages tail)
+talk_replies messages tail = replies_to (requests_of messages tail)
 
 -- the replies to the whole text were sent
 pub record Answered (tells : Type 0) (before now text : List ℕ) : Type 0 where

@@ -1,36 +1,91 @@
 //! The words of the command line.
 
-ghost use Rattle.std.specs.Prelude.{◌≡◌};
+ghost use Rattle.std.specs.Prelude.{◌≡◌, ◌∷◌, [], None, option_map, IfSome};
 ghost use Rattle.std.specs.Str.{bytes_eq};
-ghost use Rattle.satip_program.specs.Commands.{command_of, command_named};
+ghost use Rattle.satip_base.specs.Numbers.{number_of};
+ghost use Rattle.satip_program.specs.Commands.{form_of, command_of, command_named, replay_named, serving_of, serve_of, serve_named};
 
-use satip_base::Text;
+use satip_base::{Text, read_number};
 
 /// What the words ask for.
-#[derive(Clone, Copy, Debug, PartialEq, Eq)]
-pub enum Command {
+#[derive(Clone, Copy)]
+pub(crate) enum Command<'w> {
     /// One RTSP connection, from the input to the output.
     Talk,
+    /// The run of a script, by the configuration of this name.
+    Replay(&'w Text),
     /// The forms of the words.
     Help,
     /// The program's name and version.
     Version,
 }
 
+/// What the words of a `serve` ask for: a configuration by its name, and after how many connections the
+/// doors of a worker end.
+#[derive(Clone, Copy)]
+pub(crate) struct Serve<'w> {
+    pub name: &'w Text,
+    pub accepts: u32,
+}
+
+/// The `serve` that the words ask for; `None` where they ask for none. No other command has such words.
+#[tactic(auto, unfolding(crate::specs::Commands::serve_of, crate::specs::Commands::command_of))]
+pub(crate) fn read_serve(words: &[Text]) -> Option<Serve<'_>>
+    ensures serve { option_map serving_of result ≡ serve_of words.now }
+    ensures alone { IfSome result (λ _. command_of words.now ≡ None) }
+{
+    match words {
+        [] => None,
+        [_] => None,
+        [_, _] => None,
+        [word, name, accepts] => read_three(word.bytes(), name, accepts.bytes()),
+        [_, _, _, _, ..] => None,
+    }
+}
+
+fn read_three<'w>(word: &[u8], name: &'w Text, accepts: &[u8]) -> Option<Serve<'w>>
+    ensures serve { option_map serving_of result ≡ serve_named word.now name.now (number_of 4294967295 accepts.now) }
+{
+    match name.bytes() {
+        [] => None,
+        [_, ..] => {
+            if is_text(word, b"serve") {
+                read_accepts(name, accepts)
+            } else {
+                None
+            }
+        }
+    }
+}
+
+#[tactic(auto, using(crate::proofs::AcceptsLemmas::accepts_fit))]
+fn read_accepts<'w>(name: &'w Text, accepts: &[u8]) -> Option<Serve<'w>>
+    ensures serve { option_map serving_of result ≡ option_map (λ n. record { name = name.now; accepts = n }) (number_of 4294967295 accepts.now) }
+{
+    match read_number(accepts, u32::MAX as u64) {
+        Some(number) => Some(Serve {
+            name,
+            accepts: number as u32,
+        }),
+        None => None,
+    }
+}
+
 /// The command that the words name; `None` where they are in no form.
 #[tactic(auto, unfolding(crate::specs::Commands::command_of))]
-pub fn read_words(words: &[Text]) -> Option<Command>
-    ensures command { result ≡ command_of words.now }
+pub(crate) fn read_words(words: &[Text]) -> Option<Command<'_>>
+    ensures command { option_map form_of result ≡ command_of words.now }
 {
     match words {
         [] => None,
         [word] => read_word(word.bytes()),
-        [_, _, ..] => None,
+        [word, name] => read_pair(word.bytes(), name),
+        [_, _, _, ..] => None,
     }
 }
 
-fn read_word(word: &[u8]) -> Option<Command>
-    ensures command { result ≡ command_named word.now }
+fn read_word<'w>(word: &[u8]) -> Option<Command<'w>>
+    ensures command { option_map form_of result ≡ command_named word.now }
 {
     if is_text(word, b"talk") {
         Some(Command::Talk)
@@ -40,6 +95,21 @@ fn read_word(word: &[u8]) -> Option<Command>
         Some(Command::Version)
     } else {
         None
+    }
+}
+
+fn read_pair<'w>(word: &[u8], name: &'w Text) -> Option<Command<'w>>
+    ensures command { option_map form_of result ≡ replay_named word.now name.now }
+{
+    match name.bytes() {
+        [] => None,
+        [_, ..] => {
+            if is_text(word, b"replay") {
+                Some(Command::Replay(name))
+            } else {
+                None
+            }
+        }
     }
 }
 

@@ -1,18 +1,17 @@
 //! One RTSP connection: the bytes that come in are answered as they come.
 
-ghost use Rattle.std.specs.Prelude.{◌≡◌, ◌<◌, ℕ, List, ◌++◌, None, IsSome, IsSomeAnd, IfOk, length};
-ghost use Rattle.satip_base.specs.Streams.{Drain, Puts};
+ghost use Rattle.std.specs.Prelude.{◌≡◌, ◌<◌, ℕ, List, [], ◌++◌, None, IsSome, IsSomeAnd, IfOk, length};
+ghost use Rattle.satip_base.specs.Streams.{Drain};
 ghost use Rattle.satip_frame.specs.Said.{Said};
 ghost use Rattle.satip_frame.specs.Stream.{Broken, Messages};
 ghost use Rattle.satip_frame.specs.Held.{capacity, new_framer};
 ghost use Rattle.satip_rtsp.specs.Asked.{asked};
-ghost use Rattle.satip_core.specs.Plain.{step};
-ghost use Rattle.satip_program.specs.Seen.{feed, drain};
-ghost use Rattle.satip_program.specs.Talk.{start};
-ghost use Rattle.satip_program.specs.Hearing.{Stands, Listens, HasClosed, HasFailed, Hears};
+ghost use Rattle.satip_replay.specs.Seen.{drain};
+ghost use Rattle.satip_program.specs.Talking.{HasAnswered};
+ghost use Rattle.satip_program.specs.Hearing.{Stands, Listens, Hears};
 
-use satip_base::{Out, Put, Sink, Want};
-use satip_core::Server;
+use crate::talker::Talker;
+use satip_base::{Put, Sink, Want};
 use satip_frame::{Break, Framer, Step};
 use satip_rtsp::Request;
 use std::alloc::Global;
@@ -31,46 +30,33 @@ pub(crate) enum Heard {
 /// A server, and the connection that it answers.
 #[derive(Drop)]
 pub(crate) struct Conversation {
-    pub(crate) server: Server,
+    pub(crate) talker: Talker,
     pub(crate) framer: Framer,
-    out: Out,
 }
 
 impl Conversation {
     /// A new connection to a new server. All memory is taken here.
     pub(crate) fn make(alloc: Global) -> Result<Conversation, Want>
-        ensures new { IfOk result (λ made. (made.framer ≡ new_framer) × (made.server ≡ start)) }
+        ensures framer { IfOk result (λ made. made.framer ≡ new_framer) }
+        ensures talker { IfOk result (λ made. HasAnswered made.talker []) }
     {
         Ok(Conversation {
-            server: Server::make(0),
+            talker: Talker::make(alloc)?,
             framer: Framer::make(alloc)?,
-            out: Out::make(alloc)?,
         })
-    }
-
-    // Answers one request.
-    fn reply<O: Sink>(&mut self, request: &Request, output: &mut O) -> Put
-        ensures framer { self.new.framer ≡ self.old.framer }
-        ensures server { self.new.server ≡ (step self.old.server request.now).state }
-        ensures puts { Puts O.tells
-            (drain O.sent O.faults output.old) (drain O.sent O.faults output.new)
-            (step self.old.server request.now).reply result }
-    {
-        self.server.request(request, &mut self.out);
-        output.put(self.out.reply())
     }
 
     // Answers what is no message.
     fn close<O: Sink>(&mut self, cause: Break, output: &mut O) -> Heard
         ensures closes { (o : Drain) (text : List ℕ) (messages : List Said)
             → Stands O.tells o (drain O.sent O.faults output.old)
-            text messages self.old.framer self.old.server
+            text messages self.old.framer self.old.talker
             → Messages text messages (Broken cause)
             → Hears O.tells o (drain O.sent O.faults output.new)
-            text self.new.framer self.new.server result }
+            text self.new.framer self.new.talker result }
         ensures over { result ≡ Heard.All → ⊥ }
     {
-        match self.reply(&Request::broken(cause), output) {
+        match self.talker.reply(&Request::broken(cause), output) {
             Put::Whole => Heard::Closed,
             Put::Failed => Heard::Failed,
         }
@@ -80,9 +66,9 @@ impl Conversation {
     fn answer<O: Sink>(&mut self, output: &mut O) -> Heard
         ensures hears { (o : Drain) (text : List ℕ) (messages : List Said)
             → Stands O.tells o (drain O.sent O.faults output.old)
-            text messages self.old.framer self.old.server
+            text messages self.old.framer self.old.talker
             → Hears O.tells o (drain O.sent O.faults output.new)
-            text self.new.framer self.new.server result }
+            text self.new.framer self.new.talker result }
         ensures goes_on { result ≡ Heard.All → self.new.framer.ended ≡ None }
         ensures room { result ≡ Heard.All → length self.new.framer.bytes < capacity }
     {
@@ -90,7 +76,7 @@ impl Conversation {
             match self.framer.next() {
                 Step::Message => {
                     let request = found_request(&self.framer);
-                    match self.reply(&request, output) {
+                    match self.talker.reply(&request, output) {
                         Put::Whole => {}
                         Put::Failed => return Heard::Failed,
                     }
@@ -108,9 +94,9 @@ impl Conversation {
         requires room { length self.old.framer.bytes < capacity }
         ensures hears { (o : Drain) (text : List ℕ)
             → Listens O.tells o (drain O.sent O.faults output.old)
-            text self.old.framer self.old.server
+            text self.old.framer self.old.talker
             → Hears O.tells o (drain O.sent O.faults output.new)
-            (text ++ piece.now) self.new.framer self.new.server result }
+            (text ++ piece.now) self.new.framer self.new.talker result }
         ensures goes_on { result ≡ Heard.All → self.new.framer.ended ≡ None }
         ensures room { result ≡ Heard.All → length self.new.framer.bytes < capacity }
     {

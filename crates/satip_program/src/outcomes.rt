@@ -1,17 +1,26 @@
 //! How a run ends: the status, and its line on the errors sink.
 
-ghost use Rattle.std.specs.Prelude.{◌≡◌};
-ghost use Rattle.satip_program.specs.Commands.{line_of};
-ghost use Rattle.satip_program.specs.Outcomes.{status_of};
+ghost use Rattle.std.specs.Prelude.{◌≡◌, ◌≤◌, [], length};
+ghost use Rattle.satip_config.specs.Keys.{key_text};
+ghost use Rattle.satip_config.specs.FaultText.{fault_text};
+ghost use Rattle.satip_program.specs.Outcomes.{status_of, line_for, outcome_of};
+
+use satip_base::Strip;
+use satip_config::{ConfigFault, ConfigKey};
+use satip_replay::ReplayEnd;
 
 /// How a run ends.
 #[derive(Clone, Copy, Debug, PartialEq, Eq)]
-pub enum Outcome {
+pub(crate) enum Outcome {
     /// The input was read to its end, or to a closing reply.
     Done,
     /// The words are in no form.
     Usage,
-    /// The input failed.
+    /// The configuration has this first fault.
+    Configuration(ConfigFault),
+    /// The script's first wrong line has this number, from 1.
+    Script(u64),
+    /// The configuration or the input failed, or no configuration was opened.
     InputFault,
     /// The output failed.
     OutputFault,
@@ -22,13 +31,30 @@ pub enum Outcome {
 }
 
 impl Outcome {
+    /// How a run ends whose replay ended so.
+    pub(crate) fn of(end: ReplayEnd) -> Outcome
+        ensures outcome { result ≡ outcome_of end }
+    {
+        match end {
+            ReplayEnd::Done => Outcome::Done,
+            ReplayEnd::Configuration(fault) => Outcome::Configuration(fault),
+            ReplayEnd::Script(number) => Outcome::Script(number),
+            ReplayEnd::InputFault => Outcome::InputFault,
+            ReplayEnd::OutputFault => Outcome::OutputFault,
+            ReplayEnd::TooLong => Outcome::TooLong,
+            ReplayEnd::OutOfMemory => Outcome::OutOfMemory,
+        }
+    }
+
     /// The program's exit status.
-    pub fn status(self) -> u8
+    pub(crate) fn status(self) -> u8
         ensures status { result ≡ status_of self }
     {
         match self {
             Outcome::Done => 0,
             Outcome::Usage => 2,
+            Outcome::Configuration(_) => 3,
+            Outcome::Script(_) => 4,
             Outcome::InputFault => 5,
             Outcome::OutputFault => 6,
             Outcome::TooLong => 8,
@@ -36,18 +62,52 @@ impl Outcome {
         }
     }
 
-    /// The line on the errors sink; empty where all went well.
-    pub fn line(self) -> &'static [u8]
-        ensures line { result.now ≡ line_of (status_of self) }
+    /// Prints the line on the errors sink; nothing where all went well.
+    #[tactic(auto, using(crate::proofs::LineLemmas::line_room))]
+    pub(crate) fn print(self, line: &mut Strip)
+        requires empty { line.old ≡ [] }
+        ensures printed { line.new ≡ line_for self }
     {
         match self {
-            Outcome::Done => b"",
-            Outcome::Usage =>
+            Outcome::Done => {}
+            Outcome::Usage => line.write(
                 b"usage: satip talk | replay CONFIG | serve CONFIG ACCEPTS | stress SEED COUNT\n",
-            Outcome::InputFault => b"input fault\n",
-            Outcome::OutputFault => b"output fault\n",
-            Outcome::TooLong => b"input too long\n",
-            Outcome::OutOfMemory => b"out of memory\n",
+            ),
+            Outcome::Configuration(fault) => {
+                line.write(b"configuration: ");
+                fault_is_short(fault);
+                fault.print(line);
+                line.write(b"\n");
+            }
+            Outcome::Script(number) => {
+                line.write(b"script: line ");
+                line.write_number(number);
+                line.write(b"\n");
+            }
+            Outcome::InputFault => line.write(b"input fault\n"),
+            Outcome::OutputFault => line.write(b"output fault\n"),
+            Outcome::TooLong => line.write(b"input too long\n"),
+            Outcome::OutOfMemory => line.write(b"out of memory\n"),
         }
     }
+}
+
+// The text of a fault of a configuration has at most 33 bytes.
+fn fault_is_short(fault: ConfigFault)
+    ensures short { length (fault_text fault) ≤ 33 }
+{
+    match fault {
+        ConfigFault::Long => {}
+        ConfigFault::NotToml => {}
+        ConfigFault::Shape(key) => key_is_short(key),
+        ConfigFault::Value(key) => key_is_short(key),
+        ConfigFault::Want => {}
+    }
+}
+
+#[tactic(auto, using(crate::proofs::LineLemmas::key_room))]
+fn key_is_short(key: ConfigKey)
+    ensures short { length (key_text key) ≤ 24 }
+{
+    let _number = key.number;
 }

@@ -1,11 +1,12 @@
 //! `talk`: one RTSP connection from the input to the output.
 
-ghost use Rattle.std.specs.Prelude.{◌≡◌, ◌<◌, ◌≤◌, ◌+◌, None, length};
-ghost use Rattle.satip_base.specs.Streams.{Feed, Drain, Takes};
+ghost use Rattle.std.specs.Prelude.{◌≡◌, ◌<◌, ◌≤◌, ◌+◌, [], length};
+ghost use Rattle.satip_base.specs.Streams.{Takes};
 ghost use Rattle.satip_frame.specs.Held.{new_framer};
-ghost use Rattle.satip_program.specs.Seen.{feed, drain};
-ghost use Rattle.satip_program.specs.Talk.{start};
-ghost use Rattle.satip_program.specs.Outcomes.{TalkEnds, GetsAtMost, input_limit};
+ghost use Rattle.satip_replay.specs.Seen.{feed, drain};
+ghost use Rattle.satip_replay.specs.Reading.{GetsAtMost};
+ghost use Rattle.satip_program.specs.Talking.{HasAnswered};
+ghost use Rattle.satip_program.specs.Outcomes.{TalkEnds, input_limit};
 
 use crate::conversation::{Conversation, Heard};
 use crate::outcomes::Outcome;
@@ -36,7 +37,7 @@ fn converse<I: Source, O: Sink>(
     output: &mut O,
 ) -> Outcome
     requires framer { conversation.old.framer ≡ new_framer }
-    requires server { conversation.old.server ≡ start }
+    requires talker { HasAnswered conversation.old.talker [] }
     ensures ends { TalkEnds I.tells O.tells
         (feed I.left I.ended I.faults I.taken input.old) (feed I.left I.ended I.faults I.taken input.new)
         (drain O.sent O.faults output.old) (drain O.sent O.faults output.new)

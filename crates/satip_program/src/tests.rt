@@ -1,6 +1,6 @@
-//! The worked rows of a talk, over memory.
+//! The worked rows of a talk and of a replay, over memory.
 
-use crate::{offline, satip};
+use crate::{MemoryDesk, offline};
 use satip_base::{MemorySink, MemorySource, Text};
 use std::alloc::Global;
 use std::test::Fail;
@@ -18,30 +18,71 @@ const BAD: &[u8] = b"RTSP/1.0 400 Bad Request\r\nConnection: close\r\n\r\n";
 
 const LARGE: &[u8] = b"RTSP/1.0 413 Request Entity Too Large\r\nConnection: close\r\n\r\n";
 
-// What a run came to.
+const C1: &[u8] =
+    b"address = \"192.168.1.10\"\n[[frontend]]\nsources = [1]\nsystems = [\"dvbs\", \"dvbs2\"]\n";
+
+const SCRIPT: &[u8] = b"tick 1000\nask 1\n# a comment\nstop\nask 1\n";
+
+const PRINTED: &[u8] = b"going\nnothing\nstopping\nstopping\n";
+
+// What a run came to, and whether a configuration was given back.
 #[derive(Drop)]
 struct Report {
     status: u8,
+    configured: bool,
     output: MemorySink,
     errors: MemorySink,
+}
+
+fn run_words(
+    alloc: Global,
+    names: &[&str],
+    mut input: MemorySource,
+    failing_put: &[u64],
+    desk: &mut MemoryDesk,
+) -> Result<Report, Fail> {
+    let mut words = Vec::new(alloc);
+    for name in names {
+        words.push(Text::of(alloc, name)?)?;
+    }
+    let mut output = MemorySink::make(alloc, failing_put, 9)?;
+    let mut errors = MemorySink::make(alloc, &[], 0)?;
+    let ended = offline(alloc, &words, &mut input, &mut output, &mut errors, desk);
+    Ok(Report {
+        status: ended.status,
+        configured: ended.config.is_some(),
+        output,
+        errors,
+    })
 }
 
 fn run(
     alloc: Global,
     word: &str,
-    mut input: MemorySource,
+    input: MemorySource,
     failing_put: &[u64],
 ) -> Result<Report, Fail> {
-    let mut words = Vec::new(alloc);
-    words.push(Text::of(alloc, word)?)?;
-    let mut output = MemorySink::make(alloc, failing_put, 9)?;
-    let mut errors = MemorySink::make(alloc, &[], 0)?;
-    let ended = satip(alloc, &words, &mut input, &mut output, &mut errors);
-    Ok(Report {
-        status: ended.status,
-        output,
-        errors,
-    })
+    let mut desk = MemoryDesk::make(alloc, 0);
+    run_words(alloc, &[word], input, failing_put, &mut desk)
+}
+
+// A replay, of which takes of the script and puts of the printed run are to fail.
+fn replay(
+    alloc: Global,
+    failing_take: &[u64],
+    failing_put: &[u64],
+    desk: &mut MemoryDesk,
+) -> Result<Report, Fail> {
+    let input = MemorySource::make(alloc, SCRIPT, &[], failing_take)?;
+    run_words(alloc, &["replay", "c1.toml"], input, failing_put, desk)
+}
+
+// A replay of the script by the configuration.
+fn replayed(alloc: Global, config: &[u8], script: &[u8]) -> Result<Report, Fail> {
+    let mut desk = MemoryDesk::make(alloc, 0);
+    desk.add("c1.toml", config, &[])?;
+    let input = MemorySource::make(alloc, script, &[], &[])?;
+    run_words(alloc, &["replay", "c1.toml"], input, &[], &mut desk)
 }
 
 // Whether `talk` ends well, and answers the text so, taken in these pieces.
@@ -173,7 +214,8 @@ fn other_words_are_a_faulty_command_line(rt: HostRuntime) -> Result<(), Fail> {
     let mut input = MemorySource::make(alloc, OPTIONS, &[], &[])?;
     let mut output = MemorySink::make(alloc, &[], 0)?;
     let mut errors = MemorySink::make(alloc, &[], 0)?;
-    let ended = offline(alloc, &[], &mut input, &mut output, &mut errors);
+    let mut desk = MemoryDesk::make(alloc, 0);
+    let ended = offline(alloc, &[], &mut input, &mut output, &mut errors, &mut desk);
     assert_eq!(rt; ended.status, 2);
     assert_eq!(rt; output.sent(), b"".as_slice());
     assert_eq!(rt; errors.sent(), usage.as_slice());
@@ -201,5 +243,158 @@ fn help_and_version_are_written(rt: HostRuntime) -> Result<(), Fail> {
     )?;
     assert_eq!(rt; version.status, 0);
     assert_eq!(rt; version.output.sent(), b"satip 0.1.0\n".as_slice());
+    Ok(())
+}
+
+#[test]
+fn setup_describe_play_and_teardown_are_answered(rt: HostRuntime) -> Result<(), Fail> {
+    let alloc = rt.alloc();
+    let setup =
+        b"SETUP rtsp://127.0.0.1/ RTSP/1.0\r\nCSeq: 1\r\nTransport: RTP/AVP;unicast;client_port=1400-1401\r\n\r\n".as_slice();
+    let founded =
+        b"RTSP/1.0 200 OK\r\nCSeq: 1\r\nSession: 0000000100000001;timeout=60\r\nTransport: RTP/AVP;unicast;client_port=1400-1401\r\ncom.ses.streamID: 1\r\n\r\n".as_slice();
+    let describe = b"DESCRIBE rtsp://127.0.0.1/ RTSP/1.0\r\nCSeq: 2\r\n\r\n".as_slice();
+    let head =
+        b"RTSP/1.0 200 OK\r\nCSeq: 2\r\nContent-Type: application/sdp\r\nContent-Base: rtsp://127.0.0.1/\r\nContent-Length: 186\r\n\r\n".as_slice();
+    let sdp =
+        b"v=0\r\no=- 1 1 IN IP4 127.0.0.1\r\ns=SatIPServer:1 0\r\nt=0 0\r\nm=video 0 RTP/AVP 33\r\nc=IN IP4 0.0.0.0\r\na=control:stream=1\r\na=fmtp:33 ver=1.0;src=1;tuner=0,0,0,0,,,,,,,,;pids=none\r\na=inactive\r\n".as_slice();
+    assert_eq!(rt; sdp.len(), 186);
+    let play =
+        b"PLAY rtsp://127.0.0.1/stream=1 RTSP/1.0\r\nCSeq: 3\r\nSession: 0000000100000001\r\n\r\n".as_slice();
+    let playing =
+        b"RTSP/1.0 200 OK\r\nCSeq: 3\r\nSession: 0000000100000001\r\nRTP-Info: url=rtsp://127.0.0.1/stream=1;seq=0\r\n\r\n".as_slice();
+    let teardown =
+        b"TEARDOWN rtsp://127.0.0.1/stream=1 RTSP/1.0\r\nCSeq: 4\r\nSession: 0000000100000001\r\n\r\n".as_slice();
+    let ended = b"RTSP/1.0 200 OK\r\nCSeq: 4\r\n\r\n".as_slice();
+    let options = b"OPTIONS * RTSP/1.0\r\nCSeq: 5\r\nSession: 0000000100000001\r\n\r\n".as_slice();
+    let gone = b"RTSP/1.0 454 Session Not Found\r\nCSeq: 5\r\n\r\n".as_slice();
+    let text = joined(alloc, &[setup, describe, play, teardown, options])?;
+    let replies = joined(alloc, &[founded, head, sdp, playing, ended, gone])?;
+    assert!(rt; answers(alloc, &text, &[], &replies)?);
+    Ok(())
+}
+
+#[test]
+fn message_k_draws_k(rt: HostRuntime) -> Result<(), Fail> {
+    let alloc = rt.alloc();
+    let setup =
+        b"SETUP rtsp://127.0.0.1/ RTSP/1.0\r\nCSeq: 2\r\nTransport: RTP/AVP;unicast;client_port=1400-1401\r\n\r\n".as_slice();
+    let founded =
+        b"RTSP/1.0 200 OK\r\nCSeq: 2\r\nSession: 0000000100000002;timeout=60\r\nTransport: RTP/AVP;unicast;client_port=1400-1401\r\ncom.ses.streamID: 1\r\n\r\n".as_slice();
+    let text = joined(alloc, &[OPTIONS, setup])?;
+    assert!(rt; answers(alloc, &text, &[], &joined(alloc, &[OK, founded])?)?);
+    Ok(())
+}
+
+#[test]
+fn a_talk_has_no_front_ends(rt: HostRuntime) -> Result<(), Fail> {
+    let alloc = rt.alloc();
+    let setup =
+        b"SETUP rtsp://127.0.0.1/?src=1&freq=11361.75&pol=h&ro=0.35&msys=dvbs2&mtype=8psk&plts=on&sr=22000&fec=23&pids=0,16,17 RTSP/1.0\r\nCSeq: 1\r\nTransport: RTP/AVP;unicast;client_port=1400-1401\r\n\r\n".as_slice();
+    let refusal =
+        b"RTSP/1.0 503 Service Unavailable\r\nCSeq: 1\r\nContent-Type: text/parameters\r\nContent-Length: 19\r\n\r\nNo-More:frontends\r\n".as_slice();
+    assert!(rt; answers(alloc, setup, &[], refusal)?);
+    let describe = b"DESCRIBE rtsp://127.0.0.1/ RTSP/1.0\r\nCSeq: 1\r\n\r\n".as_slice();
+    let missing = b"RTSP/1.0 404 Not Found\r\nCSeq: 1\r\n\r\n".as_slice();
+    assert!(rt; answers(alloc, describe, &[], missing)?);
+    Ok(())
+}
+
+#[test]
+fn a_script_is_replayed_by_the_configuration_of_its_name(rt: HostRuntime) -> Result<(), Fail> {
+    let alloc = rt.alloc();
+    let run = replayed(alloc, C1, SCRIPT)?;
+    assert_eq!(rt; run.status, 0);
+    assert!(rt; run.configured);
+    assert_eq!(rt; run.output.sent(), PRINTED);
+    assert_eq!(rt; run.errors.sent(), b"".as_slice());
+    Ok(())
+}
+
+#[test]
+fn a_fault_of_the_configuration_is_told(rt: HostRuntime) -> Result<(), Fail> {
+    let alloc = rt.alloc();
+    let config = joined(alloc, &[b"timeout = 5\n", C1])?;
+    let run = replayed(alloc, &config, SCRIPT)?;
+    assert_eq!(rt; run.status, 3);
+    assert!(rt; run.configured);
+    assert_eq!(rt; run.output.sent(), b"".as_slice());
+    assert_eq!(rt;
+        run.errors.sent(),
+        b"configuration: value of timeout\n".as_slice()
+    );
+    let run = replayed(alloc, b"address = \"192.168.1.10\"\n", SCRIPT)?;
+    assert_eq!(rt; run.status, 3);
+    assert_eq!(rt;
+        run.errors.sent(),
+        b"configuration: shape of frontend\n".as_slice()
+    );
+    Ok(())
+}
+
+#[test]
+fn the_first_wrong_line_of_a_script_is_told(rt: HostRuntime) -> Result<(), Fail> {
+    let alloc = rt.alloc();
+    let run = replayed(alloc, C1, b"tick 5\ntik 5\ntok 5\n")?;
+    assert_eq!(rt; run.status, 4);
+    assert_eq!(rt; run.output.sent(), b"".as_slice());
+    assert_eq!(rt; run.errors.sent(), b"script: line 2\n".as_slice());
+    Ok(())
+}
+
+#[test]
+fn a_configuration_that_cannot_be_opened_is_an_input_fault(rt: HostRuntime) -> Result<(), Fail> {
+    let alloc = rt.alloc();
+    let mut desk = MemoryDesk::make(alloc, 1);
+    desk.add("c1.toml", C1, &[])?;
+    let unopened = replay(alloc, &[], &[], &mut desk)?;
+    assert_eq!(rt; unopened.status, 5);
+    assert!(rt; !unopened.configured);
+    assert_eq!(rt; unopened.errors.sent(), b"input fault\n".as_slice());
+    assert_eq!(rt; replay(alloc, &[], &[], &mut desk)?.status, 0);
+    let mut empty = MemoryDesk::make(alloc, 0);
+    assert_eq!(rt; replay(alloc, &[], &[], &mut empty)?.status, 5);
+    Ok(())
+}
+
+#[test]
+fn a_source_of_a_replay_that_fails_is_an_input_fault(rt: HostRuntime) -> Result<(), Fail> {
+    let alloc = rt.alloc();
+    let mut desk = MemoryDesk::make(alloc, 0);
+    desk.add("c1.toml", C1, &[])?;
+    let unread = replay(alloc, &[1], &[], &mut desk)?;
+    assert_eq!(rt; unread.status, 5);
+    assert!(rt; unread.configured);
+    desk.add("c1.toml", C1, &[1])?;
+    let unread = replay(alloc, &[], &[], &mut desk)?;
+    assert_eq!(rt; unread.status, 5);
+    assert!(rt; unread.configured);
+    Ok(())
+}
+
+#[test]
+fn an_output_that_fails_has_a_beginning_of_the_printed_run(rt: HostRuntime) -> Result<(), Fail> {
+    let alloc = rt.alloc();
+    let mut desk = MemoryDesk::make(alloc, 0);
+    desk.add("c1.toml", C1, &[])?;
+    let unwritten = replay(alloc, &[], &[1], &mut desk)?;
+    assert_eq!(rt; unwritten.status, 6);
+    assert_eq!(rt; unwritten.output.sent(), b"going\nnot".as_slice());
+    assert_eq!(rt; unwritten.errors.sent(), b"output fault\n".as_slice());
+    Ok(())
+}
+
+#[test]
+fn a_replay_names_one_configuration(rt: HostRuntime) -> Result<(), Fail> {
+    let alloc = rt.alloc();
+    let mut desk = MemoryDesk::make(alloc, 0);
+    let input = MemorySource::make(alloc, SCRIPT, &[], &[])?;
+    assert_eq!(rt;
+        run_words(alloc, &["replay", ""], input, &[], &mut desk)?.status,
+        2
+    );
+    let input = MemorySource::make(alloc, SCRIPT, &[], &[])?;
+    let words = ["replay", "c1.toml", "c2.toml"];
+    assert_eq!(rt; run_words(alloc, &words, input, &[], &mut desk)?.status, 2);
     Ok(())
 }

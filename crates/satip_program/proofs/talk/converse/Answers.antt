@@ -6,7 +6,7 @@ pub input-init : goal.input-init
 input-init g c = (
   record { goes_on = rw c.requires.framer refl; room = rw c.requires.framer (lit< tt) },
   refl,
-  goes_from _ _ _ _ _ _ c.requires.framer c.requires.server,
+  goes_from _ _ _ _ _ _ c.requires.framer c.requires.talker,
 )
 
 pub returns-then-taken-gt-LIMIT : goal.returns-then-taken-gt-LIMIT

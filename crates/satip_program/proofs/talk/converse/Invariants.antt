@@ -12,7 +12,7 @@ invariant-input g l =
     (record { left = g.I.Source.left l.input; ended = g.I.Source.ended l.input; faults = g.I.Source.faults l.input; taken = g.I.Source.taken l.input })
     (record { sent = g.O.Sink.sent l.initial.output; faults = g.O.Sink.faults l.initial.output })
     (record { sent = g.O.Sink.sent l.output; faults = g.O.Sink.faults l.output })
-    l.taken l.conversation.framer l.conversation.server
+    l.taken l.conversation.framer l.conversation.talker
 
 -- each turn takes at least one byte, or is the last
 abbrev pub decreases-input : goal.decreases-input

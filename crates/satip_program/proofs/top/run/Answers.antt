@@ -1,15 +1,14 @@
 use Rattle.std.proofs.Common.{◌≡◌, Some, rules}
-use Rattle.satip_program.specs.Commands.{command_of}
-use Rattle.satip_program.specs.declared.commands.Command.TheVariants.{Help, Version}
+use Rattle.satip_program.specs.Commands.{Help, Version, command_of}
 use Rattle.satip_program.proofs.OutcomeLemmas.{run_helps, run_versions}
 use Rattle.satip_program.proofs.top.run.Goals as goal
 
-pub returns-in-Some-Help : goal.returns-in-Some-Help
-returns-in-Some-Help g c =
+pub returns-in-Some-Help-clause-ends : goal.returns-in-Some-Help-clause-ends
+returns-in-Some-Help-clause-ends g c =
     let is : command_of c.args.words.now ≡ Some Help = search rules in
-    record { ends = run_helps _ _ _ _ _ _ _ _ is (c.print.ensures.ends _) }
+    run_helps _ _ _ _ _ _ _ _ _ _ _ _ _ _ is c.alone-in-Some-Help.ensures.outcome (c.print.ensures.ends _)
 
-pub returns-in-Some-Version : goal.returns-in-Some-Version
-returns-in-Some-Version g c =
+pub returns-in-Some-Version-clause-ends : goal.returns-in-Some-Version-clause-ends
+returns-in-Some-Version-clause-ends g c =
     let is : command_of c.args.words.now ≡ Some Version = search rules in
-    record { ends = run_versions _ _ _ _ _ _ _ _ is (c.print-in-Some-Version.ensures.ends _) }
+    run_versions _ _ _ _ _ _ _ _ _ _ _ _ _ _ is c.alone-in-Some-Version.ensures.outcome (c.print-in-Some-Version.ensures.ends _)

@@ -15,10 +15,10 @@ invariant-piece g l =
     IsOpen l.self.framer
     × ((o : Drain) (text : List ℕ)
     → Listens g.O.Sink.tells o (record { sent = g.O.Sink.sent l.initial.output; faults = g.O.Sink.faults l.initial.output })
-    text l.initial.self.framer l.initial.self.server
+    text l.initial.self.framer l.initial.self.talker
     → (heard : List ℕ) × (l.piece ≡ heard ++ l.rest)
     × Listens g.O.Sink.tells o (record { sent = g.O.Sink.sent l.output; faults = g.O.Sink.faults l.output })
-    (text ++ heard) l.self.framer l.self.server)
+    (text ++ heard) l.self.framer l.self.talker)
 
 -- each turn takes some of the piece
 abbrev pub decreases-piece : goal.decreases-piece

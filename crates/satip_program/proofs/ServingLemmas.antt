@@ -1,0 +1,109 @@
+-- How a serve is told, and what no other command answers.
+use Rattle.std.proofs.Common.{◌≡◌, ℕ, ◌<◌, ◌≤◌, ◌⊎◌, ◌↔◌, inl, inr, List, Option, Some, None, IfSome, IsSomeAnd, MatchOption, refl, sym, ap, ◌∙◌, ⊎_elim, arith}
+use Rattle.satip_base.specs.Streams.{Rose}
+use Rattle.satip_world.specs.Counts.{Rises}
+use Rattle.satip_serving.specs.Servings.{IsServingOf}
+use Rattle.satip_config.specs.declared.fault.ConfigFault.{ConfigFault}
+use Rattle.satip_serving.specs.declared.serving.ServingEnd.{ServingEnd}
+use Rattle.satip_serving.specs.declared.serving.ServingEnd.TheVariants as serving
+use Rattle.satip_program.specs.Commands.{configuration_line}
+use Rattle.satip_program.specs.Outcomes.{status_of}
+use Rattle.satip_program.specs.Serving.{serving_status, serving_line, IsServeSettled}
+use Rattle.satip_program.specs.declared.outcomes.Outcome.{Outcome}
+use Rattle.satip_program.specs.declared.outcomes.Outcome.TheVariants as outcomes
+
+-- status 3: the configuration's fault is told
+fault_told_at : (Line : List ℕ → Type 0) (Refusal : ConfigFault → Type 0) (end : ServingEnd) → Line (serving_line end)
+    → ((fault : ConfigFault) → end ≡ serving.Configuration fault → Refusal fault) → serving_status end ≡ 3
+    → (fault : ConfigFault) × Line (configuration_line fault) × Refusal fault
+fault_told_at Line Refusal serving.Served line refused is = absurd (omega (arith, is))
+fault_told_at Line Refusal (serving.Configuration fault) line refused is = (fault, line, refused fault refl)
+fault_told_at Line Refusal serving.InputFault line refused is = absurd (omega (arith, is))
+fault_told_at Line Refusal serving.DoorsFault line refused is = absurd (omega (arith, is))
+fault_told_at Line Refusal serving.HistoryFull line refused is = absurd (omega (arith, is))
+fault_told_at Line Refusal serving.OutOfMemory line refused is = absurd (omega (arith, is))
+
+pub configuration_told : (Line : List ℕ → Type 0) (Refusal : ConfigFault → Type 0) (end : ServingEnd) (status : ℕ) → status ≡ serving_status end → Line (serving_line end)
+    → ((fault : ConfigFault) → end ≡ serving.Configuration fault → Refusal fault) → status ≡ 3
+    → (fault : ConfigFault) × Line (configuration_line fault) × Refusal fault
+configuration_told Line Refusal end status of line refused is = fault_told_at Line Refusal end line refused (sym of ∙ is)
+
+-- no other command answers 7 or 9
+pub never_doors : (outcome : Outcome) → status_of outcome ≡ 7 → ⊥
+never_doors outcomes.Done is = omega (arith, is)
+never_doors outcomes.Usage is = omega (arith, is)
+never_doors (outcomes.Configuration fault) is = omega (arith, is)
+never_doors (outcomes.Script number) is = omega (arith, is)
+never_doors outcomes.InputFault is = omega (arith, is)
+never_doors outcomes.OutputFault is = omega (arith, is)
+never_doors outcomes.TooLong is = omega (arith, is)
+never_doors outcomes.OutOfMemory is = omega (arith, is)
+
+pub never_full : (outcome : Outcome) → status_of outcome ≡ 9 → ⊥
+never_full outcomes.Done is = omega (arith, is)
+never_full outcomes.Usage is = omega (arith, is)
+never_full (outcomes.Configuration fault) is = omega (arith, is)
+never_full (outcomes.Script number) is = omega (arith, is)
+never_full outcomes.InputFault is = omega (arith, is)
+never_full outcomes.OutputFault is = omega (arith, is)
+never_full outcomes.TooLong is = omega (arith, is)
+never_full outcomes.OutOfMemory is = omega (arith, is)
+
+-- how a serve ended that has this status
+pub ends_by_input : (end : ServingEnd) → serving_status end ≡ 5 → end ≡ serving.InputFault
+ends_by_input serving.Served is = absurd (omega (arith, is))
+ends_by_input (serving.Configuration fault) is = absurd (omega (arith, is))
+ends_by_input serving.InputFault is = refl
+ends_by_input serving.DoorsFault is = absurd (omega (arith, is))
+ends_by_input serving.HistoryFull is = absurd (omega (arith, is))
+ends_by_input serving.OutOfMemory is = absurd (omega (arith, is))
+
+pub ends_by_doors : (end : ServingEnd) → serving_status end ≡ 7 → end ≡ serving.DoorsFault
+ends_by_doors serving.Served is = absurd (omega (arith, is))
+ends_by_doors (serving.Configuration fault) is = absurd (omega (arith, is))
+ends_by_doors serving.InputFault is = absurd (omega (arith, is))
+ends_by_doors serving.DoorsFault is = refl
+ends_by_doors serving.HistoryFull is = absurd (omega (arith, is))
+ends_by_doors serving.OutOfMemory is = absurd (omega (arith, is))
+
+-- status 5 comes exactly where the configuration wasn't opened, or its source failed
+is_input : (end : ServingEnd) → (end ≡ serving.InputFault) ⊎ (end ≡ serving.InputFault → ⊥)
+is_input serving.Served = inr (λ is. cc)
+is_input (serving.Configuration fault) = inr (λ is. cc)
+is_input serving.InputFault = inl refl
+is_input serving.DoorsFault = inr (λ is. cc)
+is_input serving.HistoryFull = inr (λ is. cc)
+is_input serving.OutOfMemory = inr (λ is. cc)
+
+never_failed : {C : Type 0} (config : Option C) (faults : C → ℕ) (Unopened : Type 0) → MatchOption config Unopened (λ source. Rose 0 (faults source))
+    → IsSomeAnd config (λ source. faults source ≡ 0) → ⊥
+never_failed None faults Unopened failed none = none
+never_failed (Some source) faults Unopened failed none =
+    ⊎_elim (λ (less : 0 < faults source). omega (arith, less, none)) (λ (last : 18446744073709551615 ≤ faults source). omega (arith, last, none)) failed
+
+pub input_told : {C : Type 0} (config : Option C) (faults : C → ℕ) (Unopened : Type 0) (end : ServingEnd) (status : ℕ) → status ≡ serving_status end
+    → (end ≡ serving.InputFault → MatchOption config Unopened (λ source. Rose 0 (faults source)))
+    → ((end ≡ serving.InputFault → ⊥) → IsSomeAnd config (λ source. faults source ≡ 0))
+    → (status ≡ 5) ↔ MatchOption config Unopened (λ source. Rose 0 (faults source))
+input_told config faults Unopened end status of input read = (
+  (λ is. input (ends_by_input end (sym of ∙ is))),
+  λ failed. ⊎_elim (λ (is : end ≡ serving.InputFault). of ∙ ap serving_status is)
+      (λ (other : end ≡ serving.InputFault → ⊥). absurd (never_failed config faults Unopened failed (read other))) (is_input end),
+)
+
+-- the desk's count stays, or the desk gave no kits
+same_or_none : (end : ServingEnd) (status before now : ℕ) (None_left : Type 0) → status ≡ serving_status end → (now ≡ before) ⊎ ((end ≡ serving.DoorsFault) × None_left)
+    → (now ≡ before) ⊎ ((status ≡ 7) × None_left)
+same_or_none end status before now None_left of opened =
+    ⊎_elim (λ (same : now ≡ before). inl same) (λ (none : (end ≡ serving.DoorsFault) × None_left). inr (of ∙ ap serving_status none.0, none.1)) opened
+
+pub config_told : {C : Type 0} (config : Option C) (end : ServingEnd) (status before now : ℕ) (None_left : Type 0) → status ≡ serving_status end
+    → MatchOption config (Rises before now) (λ _. (now ≡ before) ⊎ ((end ≡ serving.DoorsFault) × None_left))
+    → MatchOption config (Rises before now) (λ _. (now ≡ before) ⊎ ((status ≡ 7) × None_left))
+config_told None end status before now None_left of opened = opened
+config_told (Some source) end status before now None_left of opened = same_or_none end status before now None_left of opened
+
+pub settled_told : {C : Type 0} (config : Option C) (faults : C → ℕ) (text : List ℕ) (end : ServingEnd) (status : ℕ) → status ≡ serving_status end
+    → IfSome config (λ source. (Rose 0 (faults source) → ⊥) → IsServingOf text end) → IfSome config (λ source. (Rose 0 (faults source) → ⊥) → IsServeSettled text status)
+settled_told None faults text end status of settled = settled
+settled_told (Some source) faults text end status of settled = λ still. record { ending = end; told = of; ends = settled still }

@@ -1,0 +1,23 @@
+-- What a desk over memory shows.
+use Rattle.std.specs.Prelude.{ℕ, Bool, true, false, List, [], ◌∷◌, Option, Some, None}
+use Rattle.std.specs.Str.{bytes_eq}
+
+-- names with the texts of their configurations, whether the kits were given, and how often the desk failed
+pub record Cabinet : Type 0 where
+  pub texts : List (List ℕ × List ℕ)
+  pub gave : Bool
+  pub faults : ℕ
+
+-- no name has a text
+abbrev pub empty_cabinet : Cabinet
+empty_cabinet = record { texts = []; gave = false; faults = 0 }
+
+-- this text where the test holds, and else another
+abbrev pub text_if : Bool → List ℕ → Option (List ℕ) → Option (List ℕ)
+text_if true text other = Some text
+text_if false text other = other
+
+-- the text of a name: the first that it has
+abbrev pub text_in : List (List ℕ × List ℕ) → List ℕ → Option (List ℕ)
+text_in [] name = None
+text_in (row ∷ rows) name = text_if (bytes_eq row.0 name) row.1 (text_in rows name)

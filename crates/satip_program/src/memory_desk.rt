@@ -1,0 +1,219 @@
+//! A desk over memory.
+
+ghost use Rattle.std.specs.Prelude.{◌≡◌, ◌∷◌, None, length, map, IfOk, IfSome, OnOk, OnErr};
+ghost use Rattle.std.specs.Option.{option_copied};
+ghost use Rattle.std.specs.List.{find};
+ghost use Rattle.std.specs.Str.{bytes_eq};
+ghost use Rattle.satip_world.specs.Recordings.{IsStarted};
+ghost use Rattle.satip_program.specs.Cabinets.{text_in};
+ghost use Rattle.satip_program.specs.Drawers.{row_of, AreNewKits};
+
+use satip_base::{Failed, MemorySource, Text, Want};
+use satip_config::Config;
+use satip_serve::Jobs;
+use satip_serving::{Desk, JobsFault};
+use satip_world::{MemoryClock, MemoryDoors, MemoryOutlet, MemoryPacer, MemoryStore};
+use std::alloc::Global;
+use std::marker::Model;
+
+// A name, the text of its configuration, and which takes of it are to fail.
+#[derive(Drop)]
+struct Drawer {
+    name: Vec<u8>,
+    text: Vec<u8>,
+    failing: Vec<u64>,
+}
+
+/// The kits of jobs over memory.
+pub type MemoryJobs = Jobs<MemoryDoors, MemoryOutlet, MemoryPacer, MemoryStore, MemoryClock>;
+
+// Kits whose doors end after so many connections.
+#[derive(Drop)]
+struct Laid {
+    accepts: u32,
+    jobs: MemoryJobs,
+}
+
+/// A desk of given texts and of given kits.
+#[derive(Drop)]
+pub struct MemoryDesk {
+    alloc: Global,
+    drawers: Vec<Drawer>,
+    laid: Option<Laid>,
+    gave: bool,
+    failing: u64,
+    faults: u64,
+}
+
+impl Model for MemoryDesk {
+    ghost use Rattle.satip_program.specs.Cabinets.{Cabinet};
+    ghost use Rattle.std.specs.Prelude.{map};
+    ghost use Rattle.satip_program.specs.Drawers.{row_of};
+    ghost use Rattle.std.specs.Prelude.{IfSome};
+    ghost use Rattle.satip_program.specs.Drawers.{AreNewKits};
+
+    ghost Value = { Cabinet };
+
+    ghost view = { λ d. record { texts = map row_of d.drawers.items; gave = d.gave; faults = d.faults } };
+
+    ghost invariant = { λ d. IfSome d.laid (λ laid. AreNewKits laid.accepts laid.jobs) };
+}
+
+impl MemoryDesk {
+    ghost use Rattle.satip_program.specs.Cabinets.{empty_cabinet};
+
+    /// A desk without texts. The first `failing` calls fail, and so does each call with a name that
+    /// has no text.
+    pub fn make(alloc: Global, failing: u64) -> MemoryDesk
+        ensures empty { result ≡ empty_cabinet }
+    {
+        MemoryDesk {
+            alloc,
+            drawers: Vec::new(alloc),
+            laid: None,
+            gave: false,
+            failing,
+            faults: 0,
+        }
+    }
+
+    /// Puts in kits with which nothing was done, whose doors end after `accepts` connections. They are
+    /// given for this number alone, and for a configuration with as many workers and front ends.
+    pub fn lay(&mut self, accepts: u32, jobs: MemoryJobs)
+        requires new { AreNewKits accepts jobs }
+        ensures same { self.new ≡ self.old }
+    {
+        self.laid = Some(Laid { accepts, jobs });
+    }
+
+    /// Puts in the text of a name, in place of one that it has. Its takes with a number, from 1, in
+    /// `failing` fail.
+    pub fn add(&mut self, name: &str, text: &[u8], failing: &[u64]) -> Result<(), Want>
+        ensures added { OnOk result (self.new.texts ≡ (name.now, text.now) ∷ self.old.texts) }
+        ensures same { OnErr result (self.new.texts ≡ self.old.texts) }
+        ensures faults { self.new.faults ≡ self.old.faults }
+        ensures gave { self.new.gave ≡ self.old.gave }
+    {
+        let (Ok(name), Ok(text), Ok(failing)) = (
+            Vec::from_slice(self.alloc, name.as_bytes()),
+            Vec::from_slice(self.alloc, text),
+            Vec::from_slice(self.alloc, failing),
+        ) else {
+            return Err(Want);
+        };
+        let drawer = Drawer {
+            name,
+            text,
+            failing,
+        };
+        match self.drawers.insert(0, drawer) {
+            Ok(()) => Ok(()),
+            Err(_) => Err(Want),
+        }
+    }
+}
+
+// The text of a name from its beginning; `None` where there is none, or no memory.
+fn open(alloc: Global, drawers: &[Drawer], name: &[u8]) -> Option<MemorySource>
+    ensures started { IfSome result (λ source. IsStarted (Unit {0}) source (text_in (map row_of drawers.now) name.now)) }
+{
+    let Some(drawer) = find_drawer(drawers, name) else {
+        return None;
+    };
+    match MemorySource::make(alloc, &drawer.text, &[], &drawer.failing) {
+        Ok(source) => Some(source),
+        Err(_) => None,
+    }
+}
+
+fn find_drawer<'d>(drawers: &'d [Drawer], name: &[u8]) -> Option<&'d Drawer>
+    ensures found { option_copied result ≡ find (λ drawer. bytes_eq drawer.name.items name.now) drawers.now }
+{
+    drawers.iter().find(|drawer| drawer.name.as_slice() == name)
+}
+
+// Takes out the kits that were laid, if they are as many and for so many connections.
+fn take_kits(
+    laid: &mut Option<Laid>,
+    accepts: u32,
+    workers: usize,
+    pumps: usize,
+) -> Option<MemoryJobs>
+    requires new { IfSome laid.old (λ l. AreNewKits l.accepts l.jobs) }
+    ensures empty { laid.new ≡ None }
+    ensures workers { IfSome result (λ jobs. length jobs.workers.items ≡ workers) }
+    ensures pumps { IfSome result (λ jobs. length jobs.pumps.items ≡ pumps) }
+    ensures new { IfSome result (AreNewKits accepts) }
+{
+    let Some(kits) = laid.take() else {
+        return None;
+    };
+    if kits.accepts != accepts {
+        return None;
+    }
+    if kits.jobs.workers.len() != workers {
+        return None;
+    }
+    if kits.jobs.pumps.len() != pumps {
+        return None;
+    }
+    Some(kits.jobs)
+}
+
+impl Desk for MemoryDesk {
+    type Config = MemorySource;
+
+    type Doors = MemoryDoors;
+
+    type Outlet = MemoryOutlet;
+
+    type Pacer = MemoryPacer;
+
+    type Store = MemoryStore;
+
+    type Clock = MemoryClock;
+
+    ghost text = { λ d name. text_in d.texts name };
+
+    ghost faults = { λ d. d.faults };
+
+    ghost gave = { λ d. d.gave };
+
+    fn jobs(
+        &mut self,
+        _alloc: Global,
+        config: &Config,
+        accepts: u32,
+    ) -> Result<MemoryJobs, JobsFault> {
+        match take_kits(
+            &mut self.laid,
+            accepts,
+            config.workers as usize,
+            config.fronts.len(),
+        ) {
+            Some(jobs) => {
+                self.gave = true;
+                Ok(jobs)
+            }
+            None => {
+                self.faults = self.faults.saturating_add(1);
+                Err(JobsFault::Failed)
+            }
+        }
+    }
+
+    fn config(&mut self, name: &Text) -> Result<MemorySource, Failed> {
+        if self.failing > 0 {
+            self.failing -= 1;
+            self.faults = self.faults.saturating_add(1);
+            return Err(Failed);
+        }
+        match open(self.alloc, &self.drawers, name.bytes()) {
+            Some(source) => Ok(source),
+            None => {
+                self.faults = self.faults.saturating_add(1);
+                Err(Failed)
+            }
+        }
+    }
+}

@@ -1,0 +1,29 @@
+//! What is told of a run.
+
+ghost use Rattle.satip_replay.specs.Seen.{drain};
+ghost use Rattle.satip_program.specs.Outcomes.{line_for, Says};
+
+use crate::outcomes::Outcome;
+use satip_base::{Sink, Strip};
+
+/// Tells how a run ended.
+pub(crate) fn tell<E: Sink>(outcome: Outcome, errors: &mut E)
+    ensures says { Says E.tells
+        (drain E.sent E.faults errors.old) (drain E.sent E.faults errors.new)
+        (line_for outcome) }
+{
+    let mut line = Strip::new();
+    outcome.print(&mut line);
+    say(line.bytes(), errors);
+}
+
+/// Sends a line; a fault changes nothing.
+pub(crate) fn say<E: Sink>(line: &[u8], errors: &mut E)
+    ensures says { Says E.tells
+        (drain E.sent E.faults errors.old) (drain E.sent E.faults errors.new)
+        line.now }
+{
+    if !line.is_empty() {
+        errors.put(line);
+    }
+}
