@@ -1,6 +1,9 @@
-//! The program: `satip_program::satip` over the words, the standard streams and the exit status.
+//! The program: `satip_program::satip` over the words, the standard streams, the files and the exit status.
 #![tactic(auto)]
 
+mod desk;
+
+use desk::RealDesk;
 use satip_base::{ReadSource, Sink, Text, Want, WriteSink};
 use std::alloc::Global;
 use std::env::{Env, FillError};
@@ -21,7 +24,16 @@ fn main(rt: HostRuntime) -> ExitCode {
     };
     let mut input = ReadSource::new(rt.stdin());
     let mut output = WriteSink::new(rt.stdout());
-    let ended = satip_program::satip(rt.alloc(), &words, &mut input, &mut output, &mut errors);
+    let mut desk = RealDesk::new(rt, rt);
+    let ended = satip_program::satip(
+        &rt,
+        rt.alloc(),
+        &words,
+        &mut input,
+        &mut output,
+        &mut errors,
+        &mut desk,
+    );
     ExitCode::from(ended.status)
 }
 

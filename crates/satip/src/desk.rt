@@ -1,0 +1,177 @@
+//! The desk over the system: its files, sockets, clock and random bytes. It tells nothing of them.
+
+ghost use Rattle.std.specs.Prelude.{◌≡◌, [], length, IfOk, IfSome};
+ghost use Rattle.satip_base.specs.Streams.{fresh_feed};
+ghost use Rattle.satip.specs.Standings.{AreFreshKits};
+
+use satip_base::{Failed, ReadSource, Sink, Source, Taken, Text, WriteSink};
+use satip_config::Config;
+use satip_kits::{KitsFault, real_kits};
+use satip_program::{Desk, Jobs, JobsFault};
+use satip_real::{RealClock, RealDoors, RealOutlet, RealPacer, RealStore};
+use std::alloc::Global;
+use std::fs;
+use std::fs::File;
+use std::marker::Model;
+use std::rt::Files;
+use std::sync::Wait;
+
+/// The file of a configuration.
+#[derive(Drop)]
+pub struct ConfigFile {
+    source: ReadSource<File>,
+}
+
+impl Model for ConfigFile {
+    ghost use Rattle.satip_base.specs.Streams.{Feed};
+
+    ghost Value = { Feed };
+
+    ghost view = { λ f. f.source };
+}
+
+impl Source for ConfigFile {
+    ghost use Rattle.std.specs.Prelude.{[]};
+
+    ghost tells = { ⊥ };
+
+    ghost left = { λ _. [] };
+
+    ghost ended = { λ f. f.ended };
+
+    ghost faults = { λ f. f.faults };
+
+    ghost taken = { λ f. f.taken };
+
+    fn take(&mut self, buf: &mut [u8]) -> Taken {
+        self.source.take(buf)
+    }
+}
+
+/// The kits of jobs over the system.
+pub type RealJobs<R> = Jobs<RealDoors, RealOutlet<R>, RealPacer, RealStore, RealClock>;
+
+/// Opens each configuration as the file of its name, and makes kits over the system.
+#[derive(Drop)]
+pub struct RealDesk<R: Wait + Copy + Drop + Send> {
+    host: HostRuntime,
+    rt: R,
+    gave: bool,
+    faults: u64,
+}
+
+impl<R: Wait + Copy + Drop + Send> Model for RealDesk<R> {
+    ghost use Rattle.satip.specs.Standings.{Standing};
+
+    ghost Value = { Standing };
+
+    ghost view = { λ d. record { gave = d.gave; faults = d.faults } };
+}
+
+impl<R: Wait + Copy + Drop + Send> RealDesk<R> {
+    ghost use Rattle.satip.specs.Standings.{at_first};
+
+    /// A desk that never failed and gave no kits.
+    pub fn new(host: HostRuntime, rt: R) -> RealDesk<R>
+        ensures fresh { result ≡ at_first }
+    {
+        RealDesk {
+            host,
+            rt,
+            gave: false,
+            faults: 0,
+        }
+    }
+}
+
+// Says why there are no kits.
+fn tell_fault(rt: HostRuntime, fault: &KitsFault) {
+    let Ok(line) = format!(in rt.alloc(); "{fault}\n") else {
+        return;
+    };
+    WriteSink::new(rt.stderr()).put(line.as_bytes());
+}
+
+// Opens the file of a name; `None` where it can't be opened.
+fn open(files: &impl Files<File = File>, name: &Text) -> Option<ConfigFile>
+    ensures fresh { IfSome result (λ file. file ≡ fresh_feed []) }
+{
+    let path = str::from_utf8(name.bytes()).ok()?;
+    let file = fs::open(files, path).ok()?;
+    Some(ConfigFile {
+        source: ReadSource::new(file),
+    })
+}
+
+// The kits of a configuration.
+fn open_kits<R: Wait + Copy + Drop>(
+    host: HostRuntime,
+    rt: R,
+    config: &Config,
+    accepts: u32,
+) -> Result<RealJobs<R>, KitsFault>
+    ensures workers { IfOk result (λ jobs. length jobs.workers.items ≡ config.now.workers) }
+    ensures pumps { IfOk result (λ jobs. length jobs.pumps.items ≡ length config.now.fronts) }
+    ensures fresh { IfOk result (AreFreshKits accepts) }
+{
+    match real_kits(host, rt, config, accepts) {
+        Ok(kits) => Ok(Jobs {
+            workers: kits.workers,
+            pumps: kits.pumps,
+            tick: kits.tick,
+        }),
+        Err(fault) => Err(fault),
+    }
+}
+
+impl<R: Wait + Copy + Drop + Send> Desk for RealDesk<R> {
+    ghost use Rattle.std.specs.Prelude.{None};
+
+    type Config = ConfigFile;
+
+    type Doors = RealDoors;
+
+    type Outlet = RealOutlet<R>;
+
+    type Pacer = RealPacer;
+
+    type Store = RealStore;
+
+    type Clock = RealClock;
+
+    ghost text = { λ _ _. None };
+
+    ghost faults = { λ d. d.faults };
+
+    ghost gave = { λ d. d.gave };
+
+    fn jobs(
+        &mut self,
+        _alloc: Global,
+        config: &Config,
+        accepts: u32,
+    ) -> Result<RealJobs<R>, JobsFault> {
+        match open_kits(self.host, self.rt, config, accepts) {
+            Ok(jobs) => {
+                self.gave = true;
+                Ok(jobs)
+            }
+            Err(KitsFault::Want) => Err(JobsFault::Want),
+            Err(fault) => {
+                tell_fault(self.host, &fault);
+                self.faults = self.faults.saturating_add(1);
+                Err(JobsFault::Failed)
+            }
+        }
+    }
+
+    fn config(&mut self, name: &Text) -> Result<ConfigFile, Failed> {
+        match open(&self.host, name) {
+            Some(file) => Ok(file),
+            None => {
+                self.faults = self.faults.saturating_add(1);
+                Err(Failed)
+            }
+        }
+    }
+}
