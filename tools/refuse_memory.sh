@@ -1,0 +1,68 @@
+#!/bin/sh
+# Refuses the requests for memory of two runs one after another, each in a run of its own, and counts how the runs end.
+#
+#   tools/refuse_memory.sh
+#
+# The runs: `replay` of examples/session.script, and the test of `serve` with two workers over memory. A replay ends as with all
+# memory, or with status 70 and a beginning of its output; a serve ends well, or gives its kits back.
+# Needs cc, crates/satip/out/satip (`cd crates/satip && rt run -- --version` builds it) and
+# crates/satip_program/out/satip_program_tests (`cd crates/satip_program && rt test` builds it).
+set -eu
+top=$(cd "$(dirname "$0")/.." && pwd)
+folder=$(mktemp -d)
+trap 'rm -rf "$folder"' EXIT
+cc -O2 -shared -fPIC -o "$folder/refuse.so" "$top/tools/refuse_nth.c" -ldl
+
+# Runs the words with one request refused; its status, or 99 once there are fewer requests.
+refuse() {
+    number=$1
+    shift
+    rm -f "$folder/mark"
+    status=0
+    # env begins without the library, so that only the program's own requests count
+    timeout 60 env REFUSE_NTH="$number" REFUSE_MARK="$folder/mark" LD_PRELOAD="$folder/refuse.so" \
+        "$@" > "$folder/output" 2> "$folder/errors" || status=$?
+    if [ ! -e "$folder/mark" ]; then
+        status=99
+    fi
+}
+
+# Whether the output is a beginning of that with all memory.
+begins() {
+    head -c "$(wc -c < "$folder/output")" "$folder/whole" | cmp -s - "$folder/output"
+}
+
+replay() {
+    "$top/crates/satip/out/satip" replay "$top/examples/satip.toml" < "$top/examples/session.script" > "$folder/whole"
+    number=1
+    usual=0
+    wants=0
+    while :; do
+        refuse "$number" "$top/crates/satip/out/satip" replay "$top/examples/satip.toml" < "$top/examples/session.script"
+        case $status in
+        99) break ;;
+        0) cmp -s "$folder/whole" "$folder/output" && usual=$((usual + 1)) || echo "replay, request $number: status 0 with another output" ;;
+        70) begins && wants=$((wants + 1)) || echo "replay, request $number: status 70 with another output" ;;
+        *) echo "replay, request $number: status $status: $(head -1 "$folder/errors")" ;;
+        esac
+        number=$((number + 1))
+    done
+    echo "replay: $((number - 1)) requests: $usual runs as usual, $wants with status 70"
+}
+
+serve() {
+    number=1
+    while :; do
+        refuse "$number" "$top/crates/satip_program/out/satip_program_tests" "$1"
+        if [ "$status" = 99 ]; then
+            break
+        fi
+        echo "status $status: $(cat "$folder/output" "$folder/errors" | tr '\n' ' ')" >> "$folder/ends"
+        number=$((number + 1))
+    done
+    echo "serve: $((number - 1)) requests"
+    sort "$folder/ends" | uniq -c
+}
+
+replay
+serve "want_tests::two_workers_serve_or_their_kits_come_back"
