@@ -6,7 +6,9 @@ ghost use Rattle.satip_base.specs.Texts.{address_text};
 ghost use Rattle.satip_script.specs.Printed.{hex_line, plain_line, replied_front, replied_line, get_front, get_line, beat_line, work_words, work_line, pulled_line, closed_line, answer_line, datagram_front, datagram_line, entry_text};
 ghost use Rattle.satip_script.specs.Inner.{Appended};
 
-use satip_base::{Address, Out, SessionId, Strip, Want};
+use crate::digits::write_digits;
+use crate::front::Front;
+use satip_base::{Address, Out, SessionId, Want};
 use satip_plain::{Answer, Beat, Closed, GetAnswer, Pulled, Replied, Work};
 
 /// Appends the lines of an entry: one for its answer, which shows the reply, and one for each
@@ -49,7 +51,7 @@ fn append_answer(answer: &Answer, reply: &[u8], text: &mut Vec<u8>) -> Result<()
 fn append_replied(replied: Replied, reply: &[u8], text: &mut Vec<u8>) -> Result<(), Want>
     ensures appended { Appended result text.old.items (replied_line replied reply.now) text.new.items }
 {
-    let mut front = Strip::new();
+    let mut front = Front::new();
     front.write(b"reply ");
     front.write_number(replied.status as u64);
     front.write(if replied.closing { b" 1 " } else { b" 0 " });
@@ -60,7 +62,7 @@ fn append_replied(replied: Replied, reply: &[u8], text: &mut Vec<u8>) -> Result<
 fn append_get(get: GetAnswer, reply: &[u8], text: &mut Vec<u8>) -> Result<(), Want>
     ensures appended { Appended result text.old.items (get_line get reply.now) text.new.items }
 {
-    let mut front = Strip::new();
+    let mut front = Front::new();
     match get {
         GetAnswer::Started(session) => {
             front.write(b"started ");
@@ -90,7 +92,7 @@ fn append_work(work: Work, text: &mut Vec<u8>) -> Result<(), Want>
 {
     match work {
         Work::Tune { mux, tune } => {
-            let mut words = Strip::new();
+            let mut words = Front::new();
             words.write(b"tune ");
             words.write_number(mux as u64);
             words.write(b" ");
@@ -137,7 +139,7 @@ fn append_datagrams(out: &Out, text: &mut Vec<u8>) -> Result<(), Want>
 fn append_datagram(to: Address, bytes: &[u8], text: &mut Vec<u8>) -> Result<(), Want>
     ensures appended { Appended result text.old.items (hex_line (datagram_front to.ip to.port) bytes.now) text.new.items }
 {
-    let mut front = Strip::new();
+    let mut front = Front::new();
     front.write(b"datagram ");
     write_address(to.ip, &mut front);
     front.write(b":");
@@ -148,8 +150,8 @@ fn append_datagram(to: Address, bytes: &[u8], text: &mut Vec<u8>) -> Result<(), 
 
 // An IPv4 address in dotted decimal.
 #[tactic(auto, using(satip_base::proofs::NumberLemmas::digit_bounds), unfolding(satip_base::specs::Texts::address_text))]
-fn write_address(ip: u32, front: &mut Strip)
-    requires { length front.old ≤ 100 }
+fn write_address(ip: u32, front: &mut Front)
+    requires { length front.old ≤ 9 }
     ensures printed { Printed front.old (address_text ip) front.new }
 {
     front.write_number((ip / 16777216) as u64);
@@ -180,10 +182,11 @@ fn append_hex_line(front: &[u8], bytes: &[u8], text: &mut Vec<u8>) -> Result<(),
 fn append_digits(bytes: &[u8], text: &mut Vec<u8>) -> Result<(), Want>
     ensures appended { Appended result text.old.items (encode_lower bytes.now) text.new.items }
 {
+    let mut room = [0u8; 2 * PIECE];
     let mut rest = bytes;
     'pieces: while !rest.is_empty() {
         let (piece, more) = rest.split_at(rest.len().min(PIECE));
-        append_piece(piece, text)?;
+        append_piece(piece, &mut room, text)?;
         rest = more;
     }
     Ok(())
@@ -191,13 +194,12 @@ fn append_digits(bytes: &[u8], text: &mut Vec<u8>) -> Result<(), Want>
 
 const PIECE: usize = 512;
 
-fn append_piece(piece: &[u8], text: &mut Vec<u8>) -> Result<(), Want>
+fn append_piece(piece: &[u8], room: &mut [u8; 2 * PIECE], text: &mut Vec<u8>) -> Result<(), Want>
     requires { length piece.now ≤ 512 }
     ensures appended { Appended result text.old.items (encode_lower piece.now) text.new.items }
 {
-    let mut room = [0u8; 1024];
     let (digits, _) = room.split_at_mut(2 * piece.len());
-    let _ = hex::encode_to_slice(piece, digits);
+    write_digits(piece, digits);
     append(digits, text)
 }
 

@@ -12,7 +12,7 @@ ghost use Rattle.satip_script.specs.Lines.{lines_of, words_of, is_skipped};
 ghost use Rattle.satip_script.specs.Forms.{Other, Rtsp, form_of};
 ghost use Rattle.satip_script.specs.Printed.{entry_text, datagram_line};
 
-use crate::{Line, Script, check_script, print_entry, read_line};
+use crate::{EventParts, Line, Script, check_script, print_entry, read_line};
 use satip_base::{Address, Draw, Out, Peer, Ports, SessionId};
 use satip_frame::Framer;
 use satip_http::{HttpRefusal, HttpRequest};
@@ -225,6 +225,41 @@ fn packets_have_188_bytes_and_begin_with_47(rt: HostRuntime) -> Result<(), Fail>
     Ok(())
 }
 
+// Whether the line is a packet's whose bytes begin and end with these three.
+fn is_packet_line(line: &[u8], first: &[u8], last: &[u8]) -> bool {
+    let Some(parts) = Script::of(line).next_parts() else {
+        return false;
+    };
+    match &parts {
+        EventParts::Packet { packet, .. } => {
+            &packet.bytes()[..3] == first && &packet.bytes()[185..] == last
+        }
+        _ => false,
+    }
+}
+
+fn is_unread_line(line: &[u8]) -> bool {
+    matches!(Script::of(line).next_parts(), Some(EventParts::Line(_)))
+}
+
+#[test]
+fn packets_are_checked_and_decoded(rt: HostRuntime) -> Result<(), Fail> {
+    let mut framer = Framer::make(rt.alloc())?;
+    let framer = &mut framer;
+    let mut line = packet_line(rt.alloc(), b"\x47\x00\x10", 186)?;
+    line.extend_from_slice(b"aFB9")?;
+    assert_eq!(rt; check_script(&line, framer), None);
+    assert!(rt; is_packet_line(&line, b"\x47\x00\x10", b"\x00\xaf\xb9"));
+    let other = packet_line(rt.alloc(), b"\x74\x00\x10", 188)?;
+    assert_eq!(rt; check_script(&other, framer), Some(1));
+    assert!(rt; is_unread_line(&other));
+    let mut no_digit = packet_line(rt.alloc(), b"\x47\x00\x10", 187)?;
+    no_digit.extend_from_slice(b"0g")?;
+    assert_eq!(rt; check_script(&no_digit, framer), Some(1));
+    assert!(rt; is_unread_line(&no_digit));
+    Ok(())
+}
+
 #[test]
 fn requests_of_the_worked_rows_are_read(rt: HostRuntime) -> Result<(), Fail> {
     let setup = request_in(rt.alloc(), SETUP)?.ok_or("setup")?;
@@ -359,6 +394,16 @@ fn events_come_in_their_order(rt: HostRuntime) -> Result<(), Fail> {
     assert!(rt; matches!(script.next(framer), Some(Event::Stop)));
     assert!(rt; script.next(framer).is_none());
     assert!(rt; script.next(framer).is_none());
+    Ok(())
+}
+
+#[test]
+fn events_come_in_parts(rt: HostRuntime) -> Result<(), Fail> {
+    let mut script = Script::of(b"# a run\ntick 1000\n\nask 1\ntick\n");
+    assert!(rt; matches!(script.next_parts(), Some(EventParts::Tick { now: 1000 })));
+    assert!(rt; matches!(script.next_parts(), Some(EventParts::Line(b"ask 1"))));
+    assert!(rt; matches!(script.next_parts(), Some(EventParts::Line(b"tick"))));
+    assert!(rt; script.next_parts().is_none());
     Ok(())
 }
 

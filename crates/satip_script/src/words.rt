@@ -1,19 +1,14 @@
 //! The words of a line, and what single words write.
-ghost use Rattle.std.specs.Prelude.{◌≡◌, IsOk, None, is_some, option_map};
+ghost use Rattle.std.specs.Prelude.{◌≡◌, option_map};
 ghost use Rattle.std.specs.Option.{option_copied};
-ghost use Rattle.std.specs.Bool.{OnTrue, OnFalse};
-ghost use Rattle.std.specs.Char.{is_ascii_hexdigit};
-ghost use Rattle.std.specs.List.{list_all};
-ghost use Rattle.hex.specs.Hex.{decode_of};
 ghost use Rattle.satip_tune.specs.Pieces.{pieces_left};
 ghost use Rattle.satip_script.specs.Lines.{one_word as only_word, two_words as only_two, three_words as only_three};
 ghost use Rattle.std.specs.Int.{from_be_bytes, w16, w32};
-ghost use Rattle.satip_script.specs.Parts.{bytes_of, draw_of, packet_of, sized_bytes};
+ghost use Rattle.satip_script.specs.Parts.{draw_of, sized_bytes};
 ghost use Rattle.satip_script.specs.Inner.{pair_now, triple_now};
 
 use crate::pieces::cut;
 use satip_base::Draw;
-use satip_ts::Packet;
 
 const SPACE: u8 = b' ';
 
@@ -68,28 +63,6 @@ pub(crate) fn three_words<'a>(rest: Option<&'a [u8]>) -> Option<(&'a [u8], &'a [
     Some((first, second, third))
 }
 
-/// Whether a text is an even number of hexadecimal digits, of either case.
-#[tactic(auto, using(crate::proofs::HexDigits::digit_tests))]
-pub(crate) fn are_digits(text: &[u8]) -> bool
-    ensures yes { OnTrue result (IsOk (decode_of text.now)) }
-    ensures no { OnFalse result (bytes_of text.now ≡ None) }
-{
-    if text.len() % 2 != 0 {
-        return false;
-    }
-    are_all_digits(text)
-}
-
-fn are_all_digits(text: &[u8]) -> bool
-    ensures test { result ≡ list_all is_ascii_hexdigit text.now }
-{
-    let mut all = true;
-    'digits: for byte in text {
-        all &= byte.is_ascii_hexdigit();
-    }
-    all
-}
-
 /// A draw of 20 digits: 8 of its word, 8 of its SSRC, 4 of its first number.
 #[tactic(auto, unfolding(crate::specs::Parts::draw_of))]
 pub(crate) fn read_draw(digits: &[u8]) -> Option<Draw>
@@ -128,26 +101,6 @@ fn read_u16(digits: &[u8]) -> Option<u16>
     let mut bytes = [0u8; 2];
     match hex::decode_to_slice(digits, &mut bytes) {
         Ok(()) => Some(u16::from_be_bytes(bytes)),
-        Err(_) => None,
-    }
-}
-
-/// Whether a text is the digits of a packet. None is decoded.
-#[tactic(auto, using(crate::proofs::PacketDigits::packet_tests))]
-pub(crate) fn is_packet(digits: &[u8]) -> bool
-    ensures test { result ≡ is_some (packet_of digits.now) }
-{
-    digits.len() == 376 && digits[0] == b'4' && digits[1] == b'7' && are_all_digits(digits)
-}
-
-/// The packet of 376 digits, of which the first two are 47.
-#[tactic(auto, unfolding(crate::specs::Parts::packet_of))]
-pub(crate) fn read_packet(digits: &[u8]) -> Option<Packet>
-    ensures packet { result ≡ packet_of digits.now }
-{
-    let mut bytes = [0u8; 188];
-    match hex::decode_to_slice(digits, &mut bytes) {
-        Ok(()) => Packet::of(&bytes),
         Err(_) => None,
     }
 }
