@@ -1,6 +1,6 @@
 //! The tick: the clock goes on, held packets leave, sessions end that weren't heard of, and reports leave.
 
-ghost use Rattle.std.specs.Prelude.{◌≡◌, ◌≢◌, ◌+◌, ◌≤◌, nat_le, max, true};
+ghost use Rattle.std.specs.Prelude.{◌≡◌, ◌≢◌, ℕ, ◌+◌, ◌≤◌, nat_le, max, true, Some, slice_get};
 ghost use Rattle.std.specs.Option.{option_map_or};
 ghost use Rattle.satip_plain.specs.Types.{Config};
 ghost use Rattle.satip_plain.specs.State.{State};
@@ -12,7 +12,7 @@ use crate::parts::Parts;
 use satip_base::{Address, Out};
 use satip_flow::SenderState;
 use satip_rtcp::{Sender, write_report};
-use satip_table::Session;
+use satip_table::{Seat, Session};
 
 const SESSIONS: usize = 64;
 
@@ -93,6 +93,23 @@ impl Parts {
         if !is_report_due(self.clock, &seat.session) {
             return;
         }
+        self.report(&seat, address, out);
+    }
+
+    // The session of this seat gets a report. Not inlined, so that sessions that aren't due need no room
+    // for a view.
+    #[inline(never)]
+    fn report(&mut self, seat: &Seat, address: u32, out: &mut Out)
+        requires bytes { 1600 ≤ out.old.datagram_spare }
+        requires count { out.old.count_spare ≢ 0 }
+        ensures moved { (c : Config) (st : State) (place : ℕ) → StandsFor c self.old st → address ≡ c.address
+            → slice_get self.old.table.seats place ≡ Some seat.now → is_row_due self.old.clock seat.now.session ≡ true
+            → Moved c self.new out.old out.new
+            (after_round st (turn_of place (report_turn c st) st.sessions)) }
+        ensures bytes_spare { out.old.datagram_spare ≤ out.new.datagram_spare + 1600 }
+        ensures count_spare { out.old.count_spare ≤ out.new.count_spare + 1 }
+    {
+        self.table.known();
         let Some(view) = self.view(seat.session.stream) else {
             return;
         };

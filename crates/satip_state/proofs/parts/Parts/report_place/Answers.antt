@@ -1,12 +1,8 @@
-use Rattle.std.proofs.Common.{◌≡◌, true, false, Some, None, sym, ap, subst, ◌∙◌, rules}
+use Rattle.std.proofs.Common.{◌≡◌, false, true, Some, None, sym, ap, ◌∙◌, rules}
 use Rattle.std.specs.List.{slice_get}
-use Rattle.satip_table.specs.Living.{Sound}
-use Rattle.satip_flow.specs.Subscription.{sender_state}
-use Rattle.satip_flow.specs.Subscriptions.{packing_of_slot}
 use Rattle.satip_state.specs.Kept.{Kept}
-use Rattle.satip_state.specs.Standing.{StandsFor}
 use Rattle.satip_state.specs.Turns.{is_row_due}
-use Rattle.satip_state.proofs.Reports.{report_nowhere, report_undue, report_seat, view_there, packer_there}
+use Rattle.satip_state.proofs.Reports.{report_nowhere, report_undue}
 use Rattle.satip_state.proofs.parts.Parts.report_place.Goals as goal
 
 pub returns-in_default-clause-moved : goal.returns-in_default-clause-moved
@@ -21,41 +17,9 @@ returns-then-not-is_report_due-clause-moved c config st stands same =
     report_undue config c.args.self.now c.args.out.now st stands c.args.place c.in-Some.seat got
     (ap (λ (v : Kept). is_row_due v.clock c.in-Some.seat.session) (sym c.self.view_is) ∙ undue)
 
-pub returns-in_default-view-clause-moved : goal.returns-in_default-view-clause-moved
-returns-in_default-view-clause-moved c config st stands same =
-    let got : slice_get c.args.self.now.table.seats c.args.place ≡ Some c.in-Some.seat = search rules in
-    let sound : Sound c.args.self.now.table = subst (λ (v : Kept). Sound v.table) c.self.view_is c.known.ensures.sound in
-    absurd (view_there config c.args.self.now st stands sound c.args.place c.in-Some.seat got (c.in_default-view.ensures.view config st stands))
-
-pub returns-in_default-state-clause-moved : goal.returns-in_default-state-clause-moved
-returns-in_default-state-clause-moved c config st stands same =
-    let got : slice_get c.args.self.now.table.seats c.args.place ≡ Some c.in-Some.seat = search rules in
-    let sound : Sound c.args.self.now.table = subst (λ (v : Kept). Sound v.table) c.self.view_is c.known.ensures.sound in
-    let due : is_row_due c.self.inside.clock c.in-Some.seat.session ≡ true = search rules in
-    let none : None ≡ sender_state (packing_of_slot c.in-Some.seat.slot c.self.inside.flow) = c.in_default-state.ensures.state in
-    absurd (packer_there config c.args.self.now st stands sound c.args.place c.in-Some.seat got
-    (ap (λ (v : Kept). is_row_due v.clock c.in-Some.seat.session) (sym c.self.view_is) ∙ due)
-    (none ∙ ap (λ (v : Kept). sender_state (packing_of_slot c.in-Some.seat.slot v.flow)) c.self.view_is))
-
 pub returns-clause-moved : goal.returns-clause-moved
 returns-clause-moved c config st stands same =
-    let inside : Kept = record {
-      clock = c.self.inside.clock;
-      stopped = c.self.inside.stopped;
-      timeout = c.self.inside.timeout;
-      table = c.self.inside.table;
-      dues = c.self.inside.timer;
-      fronts = c.self.inside.fronts;
-      flow = c.self.inside.flow;
-    } in
-    let is : c.args.self.now ≡ inside = sym c.self.view_is in
     let got : slice_get c.args.self.now.table.seats c.args.place ≡ Some c.in-Some.seat = search rules in
     let due : is_row_due c.self.inside.clock c.in-Some.seat.session ≡ true = search rules in
-    report_seat config inside c.args.out.now c.write_report.new.out st (subst (λ (v : Kept). StandsFor config v st) is stands) c.known.ensures.sound
-    c.args.place c.in-Some.seat (subst (λ (v : Kept). slice_get v.table.seats c.args.place ≡ Some c.in-Some.seat) is got) due
-    c.in-Some-view.view (c.in-Some-view.ensures.view config st stands)
-    c.in-Some-state.sent c.in-Some-state.ensures.state
-    c.sender_of_session-sender.result c.sender_of_session-sender.ensures.to c.sender_of_session-sender.ensures.ssrc c.sender_of_session-sender.ensures.clock
-    c.sender_of_session-sender.ensures.datagrams c.sender_of_session-sender.ensures.octets (c.sender_of_session-sender.ensures.address ∙ same)
-    c.write_report.ensures.sent
-    c.reported-lived.new.self c.reported-lived.ensures.reported
+    c.report.ensures.moved config st c.args.place stands same got
+    (ap (λ (v : Kept). is_row_due v.clock c.in-Some.seat.session) (sym c.self.view_is) ∙ due)
