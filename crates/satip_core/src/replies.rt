@@ -2,7 +2,8 @@
 
 ghost use Rattle.std.specs.Prelude.{◌≡◌, ◌≤◌};
 ghost use Rattle.satip_base.specs.Output.{Wrote};
-ghost use Rattle.satip_rtsp.specs.Replies.{IsStatus, play_reply, setup_reply};
+ghost use Rattle.satip_rtsp.specs.Replies.{IsStatus, play_reply, setup_reply, text_reply};
+ghost use Rattle.satip_query.specs.declared.bodies.RefusalBody.TheVariants.{NoMoreSessions};
 ghost use Rattle.satip_http.specs.Heads.{http_refusal, start_head};
 ghost use Rattle.satip_plain.specs.Steps.{closes as closes_connection, is_closing as is_closing_request, message_reply, refused_reply, reply_to_refused};
 ghost use Rattle.satip_core.specs.Told.{told};
@@ -118,6 +119,7 @@ pub fn write_playing(
 #[tactic(auto, using(satip_rtsp::proofs::ReplyLemmas::reply_bounds))]
 pub fn write_full(cseq: Option<u32>, out: &mut Out)
     requires room { 256 ≤ out.old.reply_spare }
+    ensures wrote { Wrote out.old (text_reply cseq 503 NoMoreSessions) out.new }
 {
     write_text(cseq, 503, RefusalBody::NoMoreSessions, out);
 }
