@@ -1,5 +1,5 @@
 -- What a job did to a fresh kit is what it has done.
-use Rattle.std.proofs.Common.{◌≡◌, ◌≢◌, ℕ, ◌<◌, ◌≤◌, ◌⊎◌, inl, inr, Bool, true, false, List, [], ◌∷◌, ◌++◌, map, Option, None, arith, refl, sym, ap, ◌∙◌, subst, ⊎_elim}
+use Rattle.std.proofs.Common.{◌≡◌, ◌≢◌, ℕ, ◌+◌, ◌<◌, ◌≤◌, max, ◌⊎◌, inl, inr, Bool, true, false, List, [], ◌∷◌, ◌++◌, map, Option, None, arith, refl, sym, ap, ◌∙◌, subst, ⊎_elim}
 use Rattle.std.proofs.lemmas.Bool.{false≢true}
 use Rattle.satip_history.specs.Lists.{Each}
 use Rattle.satip_history.proofs.Elements.{Each-append, each_follows}
@@ -28,6 +28,7 @@ use Rattle.satip_serve.specs.declared.end.ServeEnd.{ServeEnd}
 use Rattle.satip_serve.specs.Views.{WorkerView, PumpView, TickView}
 use Rattle.satip_serve.specs.Deeds.{WorkerDid, PumpDid, TickerDid}
 use Rattle.satip_serve.specs.Done.{EndsInTime, WorkerDone, PumpDone, TicksStop, TickerDone}
+use Rattle.satip_serve.specs.Fresh.{FreshPump}
 
 -- what a caller without entries has after it made some
 own_after : (k l : Known) (entries : List Item) → AddsAll k l entries → k.own ≡ [] → entries ≡ l.own
@@ -94,11 +95,16 @@ job_stopped full stops Stopped stopped spent want = inl (stopped refl)
 job_stopped full stops JobSpent stopped spent want = inr (spent refl)
 job_stopped full stops JobWant stopped spent want = absurd (want refl)
 
+-- a count that is at most the larger of 0 and one more than none
+at_most_one : (first lent peak : ℕ) → peak ≤ max first (lent + 1) → first ≡ 0 → lent ≡ 0 → peak ≤ 1
+at_most_one first lent peak few none_first none_lent =
+    subst (λ (l : ℕ). peak ≤ max 0 (l + 1)) none_lent (subst (λ (f : ℕ). peak ≤ max f (lent + 1)) none_first few)
+
 -- a pump with a fresh store and a fresh outlet
 pub pump_done : (outlet_tells full : Type 0) (front caller : ℕ) (o n : PumpView) (k l : Known) (end : ServeEnd)
-    → PumpDid outlet_tells front o k n l end → o.faults ≡ 0 → o.outbox ≡ fresh_outbox → k.own ≡ []
+    → PumpDid outlet_tells front o k n l end → FreshPump o → k.own ≡ []
     → (l.length ≡ 18446744073709551615 → full) → PumpDone outlet_tells full front n (row caller l.own)
-pump_done outlet_tells full front caller o n k l end did faults outbox none fills =
+pump_done outlet_tells full front caller o n k l end did fresh none fills =
     let run = did.run in
     let own : run.entries ≡ l.own = own_after k l run.entries run.adds none in
     let pumps : Pumps front n.recording (Asking None) run.entries run.due run.early =
@@ -107,12 +113,14 @@ pump_done outlet_tells full front caller o n k l end did faults outbox none fill
       due = run.due;
       early = run.early;
       pumps = subst (λ (es : List Item). Pumps front n.recording (Asking None) es run.due run.early) own pumps;
-      few = subst (λ (f : ℕ). RoseBy run.early f n.faults) faults run.few;
+      few = subst (λ (f : ℕ). RoseBy run.early f n.faults) fresh.faults run.few;
       stopped = job_stopped full _ did.ended
           (λ is. ap (λ (es : List Item). last_from None es) (sym own) ∙ run.stopped.0 is)
           (λ is. fills (did.spent is)) did.memory;
+      lent = did.lent ∙ fresh.lent;
+      one_at_a_time = at_most_one o.peak o.lent n.peak did.one_at_a_time fresh.peak fresh.lent;
       sent = subst (λ (es : List Item). Delivers outlet_tells fresh_outbox n.outbox (datagrams_of es)) own
-          (subst (λ (b : Outbox). Delivers outlet_tells b n.outbox (datagrams_of run.entries)) outbox run.delivers);
+          (subst (λ (b : Outbox). Delivers outlet_tells b n.outbox (datagrams_of run.entries)) fresh.outbox run.delivers);
     }
 
 ticks_stop : (full : Type 0) (end : JobEnd) (entries : List Item) (unmade : List ℕ) → TicksEnd end entries unmade → (end ≡ JobSpent → full) → (end ≡ JobWant → ⊥)

@@ -4,5 +4,7 @@ pub mod Crossing
 pub mod Beside
 pub mod WholeRuns
 pub mod Ended
+pub mod Kept
 pub mod StopRows
 pub mod RunRows
+pub mod PumpRows

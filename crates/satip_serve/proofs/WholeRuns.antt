@@ -177,7 +177,7 @@ serve_run {W} {P} {T} conn_tells outlet_tells worker_of pump_of tick_of accepts 
     let pumped : Along (PumpDone outlet_tells full) 1 (map pump_of (map (λ (j : Job P). j.kit) run.second_ended)) of_pumps =
     along_done (λ n o k m l e. PumpDid outlet_tells n (pump_of o) k (pump_of m) l e) pump_fresh full q.seen
     (PumpDone outlet_tells full) pump_of
-    (λ i caller o n k l e did fresh none filled. pump_done outlet_tells full i caller (pump_of o) (pump_of n) k l e did fresh.faults fresh.outbox none filled)
+    (λ i caller o n k l e did fresh none filled. pump_done outlet_tells full i caller (pump_of o) (pump_of n) k l e did fresh none filled)
     fills 1 server run.second run.second_ended run.second_done run.second_begun.numbered run.second_begun.new pumps_fresh pumps_begin in
     let first_read : ReadOnce server.setting.start (tick_of run.third.kit) = subst (λ (t : T). ReadOnce server.setting.start (tick_of t)) (sym run.third_kit) read in
     let ticked : TickerDone outlet_tells full server.setting.start (tick_of run.third_ended.kit) of_ticker =

@@ -1,5 +1,5 @@
 -- What one job did to its kit and to what it knows of the history, over a service that always has memory.
-use Rattle.std.specs.Prelude.{◌≡◌, ℕ, false, List, Option}
+use Rattle.std.specs.Prelude.{◌≡◌, ℕ, ◌+◌, ◌≤◌, max, false, List, Option}
 use Rattle.satip_service.specs.Known.{Known}
 use Rattle.satip_pump.specs.declared.ends.JobEnd.{JobEnd}
 use Rattle.satip_pump.specs.declared.ends.JobEnd.TheVariants.{Spent as JobSpent, Want as JobWant}
@@ -25,12 +25,15 @@ pub record WorkerDid (conn_tells outlet_tells : Type 0) (number : ℕ) (o : Work
   pub serves : ServesDoors conn_tells outlet_tells o.key number (record { may_want = false; known = k; outbox = o.outbox })
       (record { may_want = false; known = l; outbox = n.outbox }) o.hall n.hall ended
 
--- a pump asked and fed the packets of recordings for the front end of this number
+-- a pump asked and fed the packets of recordings for the front end of this number, and handed back each source that its
+-- store lent, one at a time
 pub record PumpDid (outlet_tells : Type 0) (number : ℕ) (o : PumpView) (k : Known) (n : PumpView) (l : Known) (end : ServeEnd) : Type 0 where
   pub ended : JobEnd
   pub end_is : end ≡ end_of_job ended
   pub recordings : n.recording ≡ o.recording
   pub run : PumpRun number o.recording k l outlet_tells o.outbox n.outbox o.faults n.faults ended
+  pub lent : n.lent ≡ o.lent
+  pub one_at_a_time : n.peak ≤ max o.peak (o.lent + 1)
   pub spent : ended ≡ JobSpent → l.length ≡ 18446744073709551615
   pub memory : ended ≡ JobWant → ⊥
 
@@ -47,9 +50,9 @@ abbrev pub worker_deed : {D O P : Type 0} → (conn_tells outlet_tells : Type 0)
 worker_deed conn_tells outlet_tells hall outbox number o k n l end =
     WorkerDid conn_tells outlet_tells number (worker_view hall outbox o) k (worker_view hall outbox n) l end
 
-abbrev pub pump_deed : {M O P : Type 0} → (outlet_tells : Type 0) → (M → ℕ → Option (List ℕ)) → (M → ℕ) → (O → Outbox) → ℕ → PumpKit M O P → Known → PumpKit M O P → Known → ServeEnd → Type 0
-pump_deed outlet_tells recording faults outbox number o k n l end =
-    PumpDid outlet_tells number (pump_view recording faults outbox o) k (pump_view recording faults outbox n) l end
+abbrev pub pump_deed : {M O P : Type 0} → (outlet_tells : Type 0) → (M → ℕ → Option (List ℕ)) → (faults lent peak : M → ℕ) → (O → Outbox) → ℕ → PumpKit M O P → Known → PumpKit M O P → Known → ServeEnd → Type 0
+pump_deed outlet_tells recording faults lent peak outbox number o k n l end =
+    PumpDid outlet_tells number (pump_view recording faults lent peak outbox o) k (pump_view recording faults lent peak outbox n) l end
 
 abbrev pub ticker_deed : {C O P : Type 0} → (outlet_tells : Type 0) → (C → Dial) → (O → Outbox) → ℕ → TickKit C O P → Known → TickKit C O P → Known → ServeEnd → Type 0
 ticker_deed outlet_tells dial outbox number o k n l end = TickerDid outlet_tells (tick_view dial outbox o) k (tick_view dial outbox n) l end

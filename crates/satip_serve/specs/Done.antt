@@ -1,5 +1,5 @@
 -- What each job of a serve run has done when all have ended.
-use Rattle.std.specs.Prelude.{◌≡◌, ◌≢◌, ℕ, ◌⊎◌, true, List, [], ◌∷◌, ◌++◌, map, length, Some, None}
+use Rattle.std.specs.Prelude.{◌≡◌, ◌≢◌, ℕ, ◌≤◌, ◌⊎◌, true, List, [], ◌∷◌, ◌++◌, map, length, Some, None}
 use Rattle.satip_base.specs.Output.{Output}
 use Rattle.satip_history.specs.Lists.{Each}
 use Rattle.satip_plain.specs.declared.answers.Answer.{Answer}
@@ -48,13 +48,16 @@ pub record WorkerDone (conn_tells outlet_tells full : Type 0) (accepts number : 
   pub sent : Delivers outlet_tells fresh_outbox worker.outbox (datagrams_of caller.own)
 
 -- the pump of a front end: its entries ask and give packets of its store's recordings, and the last was answered that the
--- service stops, or the history is full. At most as many recordings ended early as its store failed
+-- service stops, or the history is full. At most as many recordings ended early as its store failed; each source that the
+-- store lent was handed back, and at most one was out at a time
 pub record PumpDone (outlet_tells full : Type 0) (front : ℕ) (pump : PumpView) (caller : Caller) : Type 0 where
   pub due : Due
   pub early : ℕ
   pub pumps : Pumps front pump.recording (Asking None) caller.own due early
   pub few : RoseBy early 0 pump.faults
   pub stopped : (last_from None caller.own ≡ Some (WorkIs Stopping)) ⊎ full
+  pub lent : pump.lent ≡ 0
+  pub one_at_a_time : pump.peak ≤ 1
   pub sent : Delivers outlet_tells fresh_outbox pump.outbox (datagrams_of caller.own)
 
 -- the ticks stopped with the service, or the history is full, and the last reading has no tick

@@ -1,20 +1,22 @@
--- Worked runs of one worker and the ticker, without front ends.
-use Rattle.std.specs.Prelude.{◌≡◌, ℕ, ◌+◌, Bool, true, List, [], ◌∷◌}
+-- Worked runs of one worker and the ticker, without front ends or with one.
+use Rattle.std.specs.Prelude.{◌≡◌, ℕ, ◌+◌, Bool, true, List, [], ◌∷◌, None}
 use Rattle.satip_base.specs.Output.{empty}
 use Rattle.satip_history.specs.History.{entry}
-use Rattle.satip_plain.specs.declared.answers.Answer.TheVariants.{Beat as BeatIs, Closed}
+use Rattle.satip_plain.specs.declared.answers.Answer.TheVariants.{Beat as BeatIs, Closed, Work as WorkIs}
 use Rattle.satip_plain.specs.declared.answers.Beat.{Beat}
 use Rattle.satip_plain.specs.declared.answers.Beat.TheVariants.{Going, Stopping}
 use Rattle.satip_plain.specs.declared.answers.Closed.TheVariants.{Gone}
-use Rattle.satip_plain.specs.declared.events.Event.TheVariants.{Close, Stop, Tick}
+use Rattle.satip_plain.specs.declared.answers.Work.TheVariants.{Stopping as NoMoreWork}
+use Rattle.satip_plain.specs.declared.events.Event.TheVariants.{Ask, Close, Stop, Tick}
 use Rattle.satip_plain.specs.declared.setting.Setting.{Setting}
+use Rattle.satip_plain.specs.Examples.{front_end}
 use Rattle.satip_plain.specs.Histories.{Item}
 use Rattle.satip_plain.specs.Types.{Config}
 use Rattle.satip_turn.specs.Views.{row}
 use Rattle.satip_world.specs.Outboxes.{fresh_outbox}
 use Rattle.satip_serve.specs.Done.{Caller}
 use Rattle.satip_serve.specs.ServeRuns.{ServeRun}
-use Rattle.satip_serve.specs.Views.{WorkerView, TickView}
+use Rattle.satip_serve.specs.Views.{WorkerView, PumpView, TickView}
 
 -- entries of a caller: the stop, a tick at a moment, and the end of a connection whose session is gone
 abbrev pub stop_by : ℕ → Item
@@ -83,3 +85,30 @@ ticker_at moments = record { dial = record { readings = moments; told = true }; 
 abbrev pub SmallRun : ℕ → List Item → List Caller → List WorkerView → List ℕ → Type 0
 SmallRun accepts seen kept workers moments =
     ServeRun (Unit {0}) (Unit {0}) small_setting accepts seen kept workers [] (ticker_at moments)
+
+-- one worker and one front end
+abbrev pub front_setting : Setting
+front_setting = record { config = record small_config { fronts = front_end 1 ∷ [] }; start = 1000 }
+
+-- the question of a pump that is told to stop
+abbrev pub ask_by : ℕ → Item
+ask_by caller = entry caller (Ask 1) (WorkIs NoMoreWork) empty
+
+-- a pump whose store tells no recording; so many sources of it are out, and so many were at most
+abbrev pub pump_with : (lent peak : ℕ) → PumpView
+pump_with lent peak = record { recording = λ mux. None; faults = 0; lent = lent; peak = peak; outbox = fresh_outbox }
+
+-- the stop, and then the pump and the ticker are told of it
+abbrev pub asked_history : List Item
+asked_history = stop_by 0 ∷ ask_by 2 ∷ tick_by 3 1020 Stopping ∷ []
+
+abbrev pub asking_pump : Caller
+asking_pump = caller_of 2 (ask_by 2 ∷ [])
+
+abbrev pub told_ticker : Caller
+told_ticker = caller_of 3 (tick_by 3 1020 Stopping ∷ [])
+
+-- the run with the front end, whose pump shows this when it has ended
+abbrev pub AskedRun : PumpView → Type 0
+AskedRun pump = ServeRun (Unit {0}) (Unit {0}) front_setting 1 asked_history (caller_of 1 [] ∷ asking_pump ∷ told_ticker ∷ [])
+    (worker_with true 1 0 ∷ []) (pump ∷ []) (ticker_at (1000 ∷ 1020 ∷ []))

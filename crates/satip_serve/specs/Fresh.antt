@@ -14,9 +14,11 @@ pub record FreshWorker (accepts : ℕ) (worker : WorkerView) : Type 0 where
   pub hall : worker.hall ≡ fresh_hall accepts told
   pub outbox : worker.outbox ≡ fresh_outbox
 
--- a store that never failed
+-- a store that never failed, and of which no source was ever out
 pub record FreshPump (pump : PumpView) : Type 0 where
   pub faults : pump.faults ≡ 0
+  pub lent : pump.lent ≡ 0
+  pub peak : pump.peak ≡ 0
   pub outbox : pump.outbox ≡ fresh_outbox
 
 -- a clock that wasn't read

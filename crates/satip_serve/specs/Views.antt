@@ -16,14 +16,23 @@ pub record WorkerView : Type 0 where
 abbrev pub worker_view : {D O P : Type 0} → (D → Hall) → (O → Outbox) → WorkerKit D O P → WorkerView
 worker_view hall outbox kit = record { hall = hall kit.doors; outbox = outbox kit.outlet; key = kit.key }
 
--- a pump's kit: the recordings of its store, where they are told, how often the store failed, and what its outlet was given
+-- a pump's kit: the recordings of its store, where they are told, how often the store failed, how many sources of it are
+-- out and the most that ever were at once, and what its outlet was given
 pub record PumpView : Type 0 where
   pub recording : ℕ → Option (List ℕ)
   pub faults : ℕ
+  pub lent : ℕ
+  pub peak : ℕ
   pub outbox : Outbox
 
-abbrev pub pump_view : {M O P : Type 0} → (M → ℕ → Option (List ℕ)) → (M → ℕ) → (O → Outbox) → PumpKit M O P → PumpView
-pump_view recording faults outbox kit = record { recording = recording kit.store; faults = faults kit.store; outbox = outbox kit.outlet }
+abbrev pub pump_view : {M O P : Type 0} → (M → ℕ → Option (List ℕ)) → (faults lent peak : M → ℕ) → (O → Outbox) → PumpKit M O P → PumpView
+pump_view recording faults lent peak outbox kit = record {
+  recording = recording kit.store;
+  faults = faults kit.store;
+  lent = lent kit.store;
+  peak = peak kit.store;
+  outbox = outbox kit.outlet;
+}
 
 -- the ticker's kit: what its clock told, and what its outlet was given
 pub record TickView : Type 0 where

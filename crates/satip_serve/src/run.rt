@@ -71,14 +71,14 @@ fn pump_all<R: Threads + Wait + Sync, M: MuxStore + Send, O: Outlet + Send, P: P
     rt: &R,
     seats: &mut Vec<Seat<'_, R, PumpKit<M, O, P>, PumpRoom>>,
 )
-    ensures did { Both (JobDid (pump_deed O.tells M.recording M.faults O.outbox)) (jobs_of seats.old.items) (jobs_of seats.new.items) }
+    ensures did { Both (JobDid (pump_deed O.tells M.recording M.faults M.lent M.peak O.outbox)) (jobs_of seats.old.items) (jobs_of seats.new.items) }
 {
     run_list(
         rt,
         seats,
         &|seat: &mut Seat<'_, R, PumpKit<M, O, P>, PumpRoom>|
             requires { IsSync R.row }
-            ensures { JobDid (pump_deed O.tells M.recording M.faults O.outbox) (job_of seat.old) (job_of seat.new) }
+            ensures { JobDid (pump_deed O.tells M.recording M.faults M.lent M.peak O.outbox) (job_of seat.old) (job_of seat.new) }
         { pump_seat(seat) },
     );
 }
@@ -111,7 +111,7 @@ fn run_back<
     P: Pacer + Send,
     C: Clock + Send,
 >(back: &mut Back<'_, R, M, O, P, C>)
-    ensures pumps { Both (JobDid (pump_deed O.tells M.recording M.faults O.outbox)) (jobs_of back.old.pumps.items) (jobs_of back.new.pumps.items) }
+    ensures pumps { Both (JobDid (pump_deed O.tells M.recording M.faults M.lent M.peak O.outbox)) (jobs_of back.old.pumps.items) (jobs_of back.new.pumps.items) }
     ensures ticker { JobDid (ticker_deed O.tells C.dial O.outbox) (job_of back.old.ticker) (job_of back.new.ticker) }
 {
     let rt = back.rt;
@@ -120,7 +120,7 @@ fn run_back<
         &mut back.pumps,
         &|pumps: &mut Vec<Seat<'_, R, PumpKit<M, O, P>, PumpRoom>>|
             requires { IsSync R.row }
-            ensures { Both (JobDid (pump_deed O.tells M.recording M.faults O.outbox)) (jobs_of pumps.old.items) (jobs_of pumps.new.items) }
+            ensures { Both (JobDid (pump_deed O.tells M.recording M.faults M.lent M.peak O.outbox)) (jobs_of pumps.old.items) (jobs_of pumps.new.items) }
         { pump_all(rt, pumps) },
         &mut back.ticker,
         &|ticker: &mut Seat<'_, R, TickKit<C, O, P>, Out>|
@@ -144,7 +144,7 @@ fn run_both<
         (vec_len front.old.workers) (vec_capacity front.old.kits) }
     ensures front { FrontDid (worker_deed D.Conn.tells O.tells D.hall O.outbox) front.old.server.now
         front.old.pass (jobs_of front.old.workers.items) front.new.pass front.new.kits.items front.new.end }
-    ensures pumps { Both (JobDid (pump_deed O.tells M.recording M.faults O.outbox)) (jobs_of back.old.pumps.items) (jobs_of back.new.pumps.items) }
+    ensures pumps { Both (JobDid (pump_deed O.tells M.recording M.faults M.lent M.peak O.outbox)) (jobs_of back.old.pumps.items) (jobs_of back.new.pumps.items) }
     ensures ticker { JobDid (ticker_deed O.tells C.dial O.outbox) (job_of back.old.ticker) (job_of back.new.ticker) }
 {
     run_beside(
@@ -152,7 +152,7 @@ fn run_both<
         back,
         &|back: &mut Back<'_, R, M, O, P, C>|
             requires { IsSync R.row }
-            ensures { Both (JobDid (pump_deed O.tells M.recording M.faults O.outbox)) (jobs_of back.old.pumps.items) (jobs_of back.new.pumps.items)
+            ensures { Both (JobDid (pump_deed O.tells M.recording M.faults M.lent M.peak O.outbox)) (jobs_of back.old.pumps.items) (jobs_of back.new.pumps.items)
                 × JobDid (ticker_deed O.tells C.dial O.outbox) (job_of back.old.ticker) (job_of back.new.ticker) }
         { run_back(back) },
         front,
@@ -197,7 +197,7 @@ pub(crate) fn run_jobs<
     requires pumps { IsSpace jobs.pumps.items space.pump_rooms.items space.pumps.items (vec_capacity space.pumps) }
     ensures of { IsOf result.0 server.now }
     ensures knows { Knows (Legal server.now.setting) result.0 }
-    ensures did { RunDid (worker_deed D.Conn.tells O.tells D.hall O.outbox) (pump_deed O.tells M.recording M.faults O.outbox)
+    ensures did { RunDid (worker_deed D.Conn.tells O.tells D.hall O.outbox) (pump_deed O.tells M.recording M.faults M.lent M.peak O.outbox)
         (ticker_deed O.tells C.dial O.outbox) server.now pass jobs.workers.items jobs.pumps.items jobs.tick
         result.0 result.1.workers.items result.1.pumps.items result.1.tick result.2 }
 {

@@ -95,8 +95,8 @@ pub(crate) fn pump_seat<R: Wait + Sync, M: MuxStore, O: Outlet, P: Pacer>(
     ensures same { SameCaller seat.old.caller.server.now seat.old.caller.pass seat.new.caller.server.now seat.new.caller.pass }
     ensures number { seat.new.number ≡ seat.old.number }
     ensures did { PumpDid O.tells seat.old.number
-        (pump_view M.recording M.faults O.outbox seat.old.kit) (known_by seat.old.caller.pass)
-        (pump_view M.recording M.faults O.outbox seat.new.kit) (known_by seat.new.caller.pass) seat.new.end }
+        (pump_view M.recording M.faults M.lent M.peak O.outbox seat.old.kit) (known_by seat.old.caller.pass)
+        (pump_view M.recording M.faults M.lent M.peak O.outbox seat.new.kit) (known_by seat.new.caller.pass) seat.new.end }
 {
     let rt = seat.caller.rt;
     let end = pump(

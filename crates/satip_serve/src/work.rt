@@ -40,8 +40,8 @@ pub(crate) fn pump<R: Wait + Sync, S: Service, M: MuxStore, O: Outlet, P: Pacer>
 ) -> ServeEnd
     ensures same { S.same service.old service.new }
     ensures did { S.may_want service.old ≡ false
-        → PumpDid O.tells number (pump_view M.recording M.faults O.outbox kit.old) (S.known service.old)
-        (pump_view M.recording M.faults O.outbox kit.new) (S.known service.new) result }
+        → PumpDid O.tells number (pump_view M.recording M.faults M.lent M.peak O.outbox kit.old) (S.known service.old)
+        (pump_view M.recording M.faults M.lent M.peak O.outbox kit.new) (S.known service.new) result }
 {
     let end = run_pump(rt, service, number, kit, out, batch);
     ServeEnd::of_job(end)

@@ -5,7 +5,8 @@ ghost use Rattle.satip_plain.specs.declared.answers.Beat.TheVariants.{Going, Sto
 ghost use Rattle.satip_plain.specs.Histories.{Item};
 ghost use Rattle.satip_serve.specs.declared.end.ServeEnd.TheVariants.{Served, DoorsFault, HistoryFull};
 ghost use Rattle.satip_serve.specs.Done.{IsFull};
-ghost use Rattle.satip_serve.specs.Examples.{IsApart, SmallRun, busy_worker, caller_of, close_by, idle_worker, small_history, small_ticker, stop_by, stopped_well, tick_by, worker_with};
+ghost use Rattle.satip_serve.specs.Examples.{AskedRun, IsApart, SmallRun, busy_worker, caller_of, close_by, idle_worker, pump_with, small_history, small_ticker, stop_by, stopped_well, tick_by, worker_with};
+ghost use Rattle.satip_serve.specs.Fresh.{FreshPump};
 ghost use Rattle.satip_serve.specs.ServeRuns.{Along, EndTells, MatchEnd, StopsOnce};
 
 // Caller 0 makes one entry, which is the stop, and no worker makes one behind it.
@@ -62,4 +63,15 @@ fn run_rows()
     ensures entry_is_lost { ¬ (SmallRun 1 small_history (caller_of 1 [] ∷ caller_of 2 (tick_by 2 1040 Stopping ∷ []) ∷ []) (worker_with true 1 0 ∷ []) (1000 ∷ 1040 ∷ [])) }
     ensures another_caller { ¬ (SmallRun 1 (tick_by 7 1010 Going ∷ small_history) (caller_of 1 [] ∷ small_ticker ∷ []) (worker_with true 1 0 ∷ []) (1000 ∷ 1020 ∷ 1040 ∷ [])) }
     ensures unlawful { ¬ (SmallRun 1 (tick_by 2 1020 Stopping ∷ small_history) (caller_of 1 [] ∷ caller_of 2 (tick_by 2 1020 Stopping ∷ small_ticker.own) ∷ []) (worker_with true 1 0 ∷ []) (1000 ∷ 1020 ∷ 1020 ∷ 1040 ∷ [])) }
+{}
+
+// A pump that never had a source, or one at a time, and what it can't be taken for.
+fn pump_rows()
+    ensures never_lent { AskedRun (pump_with 0 0) }
+    ensures handed_back { AskedRun (pump_with 0 1) }
+    ensures one_is_out { ¬ (AskedRun (pump_with 1 1)) }
+    ensures two_at_once { ¬ (AskedRun (pump_with 0 2)) }
+    ensures fresh { FreshPump (pump_with 0 0) }
+    ensures lent_before { ¬ (FreshPump (pump_with 0 1)) }
+    ensures out_before { ¬ (FreshPump (pump_with 1 0)) }
 {}
