@@ -40,14 +40,14 @@ told_full serves.DoorsFault result seen workers of tells is = absurd (cc (sym of
 told_full serves.HistoryFull result seen workers of tells is = tells
 
 -- kits that are the same but for one reading of the clock, as they are seen
-pub unused_of : {D O P M C : Type 0} (hall : D → Hall) (outbox : O → Outbox) (recording : M → ℕ → Option (List ℕ)) (faults : M → ℕ) (dial : C → Dial) (accepts : ℕ)
+pub unused_of : {D O P M C : Type 0} (hall : D → Hall) (outbox : O → Outbox) (recording : M → ℕ → Option (List ℕ)) (faults lent peak : M → ℕ) (dial : C → Dial) (accepts : ℕ)
     (workers workers' : List (WorkerKit D O P)) (pumps pumps' : List (PumpKit M O P)) (tick tick' : TickKit C O P)
-    → AreFresh accepts (map (worker_view hall outbox) workers) (map (pump_view recording faults outbox) pumps) (tick_view dial outbox tick)
+    → AreFresh accepts (map (worker_view hall outbox) workers) (map (pump_view recording faults lent peak outbox) pumps) (tick_view dial outbox tick)
     → Unused dial workers workers' pumps pumps' tick tick'
-    → AreUnused accepts (map (worker_view hall outbox) workers') (map (pump_view recording faults outbox) pumps') (tick_view dial outbox tick')
-unused_of hall outbox recording faults dial accepts workers workers' pumps pumps' tick tick' fresh same = record {
+    → AreUnused accepts (map (worker_view hall outbox) workers') (map (pump_view recording faults lent peak outbox) pumps') (tick_view dial outbox tick')
+unused_of hall outbox recording faults lent peak dial accepts workers workers' pumps pumps' tick tick' fresh same = record {
   workers_are = subst (λ xs. Each (FreshWorker accepts) (map (worker_view hall outbox) xs)) (sym same.workers_same) fresh.workers_are;
-  pumps_are = subst (λ xs. Each FreshPump (map (pump_view recording faults outbox) xs)) (sym same.pumps_same) fresh.pumps_are;
+  pumps_are = subst (λ xs. Each FreshPump (map (pump_view recording faults lent peak outbox) xs)) (sym same.pumps_same) fresh.pumps_are;
   start = same.moment;
   ticker_is = record {
     told = fresh.ticker_is.told;

@@ -5,7 +5,7 @@ use Rattle.satip_world.specs.Outboxes.{fresh_outbox}
 use Rattle.satip_serve.specs.Views.{PumpView}
 
 abbrev pub pump_with : (ℕ → Option (List ℕ)) → PumpView
-pump_with recording = record { recording = recording; faults = 0; outbox = fresh_outbox }
+pump_with recording = record { recording = recording; faults = 0; lent = 0; peak = 0; outbox = fresh_outbox }
 
 -- each multiplex has a recording of no packet
 abbrev pub empty_recordings : ℕ → Option (List ℕ)

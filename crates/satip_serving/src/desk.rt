@@ -79,7 +79,7 @@ pub trait Desk {
         ensures pumps { IfOk result (λ jobs. length jobs.pumps.items ≡ length config.now.fronts) }
         ensures fresh { IfOk result (λ jobs. AreFresh accepts
             (map (worker_view Self.Doors.hall Self.Outlet.outbox) jobs.workers.items)
-            (map (pump_view Self.Store.recording Self.Store.faults Self.Outlet.outbox) jobs.pumps.items)
+            (map (pump_view Self.Store.recording Self.Store.faults Self.Store.lent Self.Store.peak Self.Outlet.outbox) jobs.pumps.items)
             (tick_view Self.Clock.dial Self.Outlet.outbox jobs.tick)) }
         ensures no_fault { IfOk result (λ _. faults self.new ≡ faults self.old) }
         ensures failed { IfErr result (FailsFor (faults self.old) (faults self.new)) };

@@ -112,26 +112,26 @@ fn serve_jobs<
     requires pumps { length jobs.pumps.items ≡ length config.fronts }
     requires fresh { AreFresh _accepts
         (map (worker_view D.hall O.outbox) jobs.workers.items)
-        (map (pump_view M.recording M.faults O.outbox) jobs.pumps.items)
+        (map (pump_view M.recording M.faults M.lent M.peak O.outbox) jobs.pumps.items)
         (tick_view C.dial O.outbox jobs.tick) }
     ensures one { IsOneOf result.last result.unused }
     ensures config { IfSome result.last (λ last. last.server.setting.config ≡ config) }
     ensures run { IfSome result.last (λ last. ServeRun D.Conn.tells O.tells last.server.setting _accepts last.pass.seen last.pass.kept
         (map (worker_view D.hall O.outbox) last.jobs.workers.items)
-        (map (pump_view M.recording M.faults O.outbox) last.jobs.pumps.items)
+        (map (pump_view M.recording M.faults M.lent M.peak O.outbox) last.jobs.pumps.items)
         (tick_view C.dial O.outbox last.jobs.tick)) }
     ensures payload { IfSome result.last (λ last. SendsSelected last.server.setting last.pass.seen) }
     ensures owners { IfSome result.last (λ last. ObeysOwners last.server.setting last.pass.seen) }
     ensures busy { IfSome result.last (λ last. TellsBusy last.server.setting last.pass.seen) }
     ensures recordings { IfSome result.last (λ last. PlaysRecordings last.server.setting last.pass.seen
-        (map (pump_view M.recording M.faults O.outbox) last.jobs.pumps.items)) }
+        (map (pump_view M.recording M.faults M.lent M.peak O.outbox) last.jobs.pumps.items)) }
     ensures begun { MatchOption result.last (result.end ≡ ServingEnd.OutOfMemory) (λ _. IsEndOfRun result.end) }
     ensures served { result.end ≡ ServingEnd.Served → IsSomeAnd result.last (λ last. Each (λ w. w.hall.ended ≡ true) (map (worker_view D.hall O.outbox) last.jobs.workers.items)) }
     ensures doors_fault { result.end ≡ ServingEnd.DoorsFault → IsSomeAnd result.last (λ last. HasFault (map (worker_view D.hall O.outbox) last.jobs.workers.items)) }
     ensures history_full { result.end ≡ ServingEnd.HistoryFull → IsSomeAnd result.last (λ last. IsFull last.pass.seen) }
     ensures unused { IfSome result.unused (λ kits. AreUnused _accepts
         (map (worker_view D.hall O.outbox) kits.workers.items)
-        (map (pump_view M.recording M.faults O.outbox) kits.pumps.items)
+        (map (pump_view M.recording M.faults M.lent M.peak O.outbox) kits.pumps.items)
         (tick_view C.dial O.outbox kits.tick)) }
 {
     match serve(rt, alloc, config, jobs) {
@@ -167,13 +167,13 @@ fn serve_source<R: Threads + Wait + Sync, K: Desk>(
         last.server.setting.config) }
     ensures run { IfSome result.last (λ last. ServeRun K.Doors.Conn.tells K.Outlet.tells last.server.setting accepts last.pass.seen last.pass.kept
         (map (worker_view K.Doors.hall K.Outlet.outbox) last.jobs.workers.items)
-        (map (pump_view K.Store.recording K.Store.faults K.Outlet.outbox) last.jobs.pumps.items)
+        (map (pump_view K.Store.recording K.Store.faults K.Store.lent K.Store.peak K.Outlet.outbox) last.jobs.pumps.items)
         (tick_view K.Clock.dial K.Outlet.outbox last.jobs.tick)) }
     ensures payload { IfSome result.last (λ last. SendsSelected last.server.setting last.pass.seen) }
     ensures owners { IfSome result.last (λ last. ObeysOwners last.server.setting last.pass.seen) }
     ensures busy { IfSome result.last (λ last. TellsBusy last.server.setting last.pass.seen) }
     ensures recordings { IfSome result.last (λ last. PlaysRecordings last.server.setting last.pass.seen
-        (map (pump_view K.Store.recording K.Store.faults K.Outlet.outbox) last.jobs.pumps.items)) }
+        (map (pump_view K.Store.recording K.Store.faults K.Store.lent K.Store.peak K.Outlet.outbox) last.jobs.pumps.items)) }
     ensures begun { IfSome result.last (λ _. IsEndOfRun result.end) }
     ensures configuration { (fault : Fault) → result.end ≡ ServingEnd.Configuration fault → Refused K.Config.tells
         (feed K.Config.left K.Config.ended K.Config.faults K.Config.taken source.old) (feed K.Config.left K.Config.ended K.Config.faults K.Config.taken source.new)
@@ -190,7 +190,7 @@ fn serve_source<R: Threads + Wait + Sync, K: Desk>(
     ensures out_of_memory { IfSome result.unused (λ _. result.end ≡ ServingEnd.OutOfMemory) }
     ensures unused { IfSome result.unused (λ kits. AreUnused accepts
         (map (worker_view K.Doors.hall K.Outlet.outbox) kits.workers.items)
-        (map (pump_view K.Store.recording K.Store.faults K.Outlet.outbox) kits.pumps.items)
+        (map (pump_view K.Store.recording K.Store.faults K.Store.lent K.Store.peak K.Outlet.outbox) kits.pumps.items)
         (tick_view K.Clock.dial K.Outlet.outbox kits.tick)) }
 {
     let config = match read_configuration(alloc, source) {
@@ -237,13 +237,13 @@ pub fn serve_by<R: Threads + Wait + Sync, K: Desk>(
         (feed K.Config.left K.Config.ended K.Config.faults K.Config.taken source) last.server.setting.config))) }
     ensures run { IfSome result.last (λ last. ServeRun K.Doors.Conn.tells K.Outlet.tells last.server.setting accepts last.pass.seen last.pass.kept
         (map (worker_view K.Doors.hall K.Outlet.outbox) last.jobs.workers.items)
-        (map (pump_view K.Store.recording K.Store.faults K.Outlet.outbox) last.jobs.pumps.items)
+        (map (pump_view K.Store.recording K.Store.faults K.Store.lent K.Store.peak K.Outlet.outbox) last.jobs.pumps.items)
         (tick_view K.Clock.dial K.Outlet.outbox last.jobs.tick)) }
     ensures payload { IfSome result.last (λ last. SendsSelected last.server.setting last.pass.seen) }
     ensures owners { IfSome result.last (λ last. ObeysOwners last.server.setting last.pass.seen) }
     ensures busy { IfSome result.last (λ last. TellsBusy last.server.setting last.pass.seen) }
     ensures recordings { IfSome result.last (λ last. PlaysRecordings last.server.setting last.pass.seen
-        (map (pump_view K.Store.recording K.Store.faults K.Outlet.outbox) last.jobs.pumps.items)) }
+        (map (pump_view K.Store.recording K.Store.faults K.Store.lent K.Store.peak K.Outlet.outbox) last.jobs.pumps.items)) }
 
     // The configuration is given back, unless the desk failed to open it. Its count rises then, or where it gives no kits.
     ensures opened { MatchOption result.config (Rises (K.faults desk.old) (K.faults desk.new))
@@ -270,7 +270,7 @@ pub fn serve_by<R: Threads + Wait + Sync, K: Desk>(
     // With kits that no job began with nothing was done, but for one reading of the clock.
     ensures unused { IfSome result.unused (λ kits. AreUnused accepts
         (map (worker_view K.Doors.hall K.Outlet.outbox) kits.workers.items)
-        (map (pump_view K.Store.recording K.Store.faults K.Outlet.outbox) kits.pumps.items)
+        (map (pump_view K.Store.recording K.Store.faults K.Store.lent K.Store.peak K.Outlet.outbox) kits.pumps.items)
         (tick_view K.Clock.dial K.Outlet.outbox kits.tick)) }
 {
     match desk.config(name) {

@@ -15,7 +15,7 @@ pub returns-in-Ok-clause-history_full : goal.returns-in-Ok-clause-history_full
 returns-in-Ok-clause-history_full g c = told_full c.in-Ok.end _ _ _ c.of_run.ensures.end (c.in-Ok.ensures.ended c.args._accepts c.requires.fresh)
 
 pub returns-in-Err-clause-unused : goal.returns-in-Err-clause-unused
-returns-in-Err-clause-unused g c = unused_of _ _ _ _ _ _ _ _ _ _ _ _ c.requires.fresh c.in-Err.ensures.unused
+returns-in-Err-clause-unused g c = unused_of _ _ _ _ _ _ _ _ _ _ _ _ _ _ c.requires.fresh c.in-Err.ensures.unused
 
 pub returns-in-Ok-clause-recordings : goal.returns-in-Ok-clause-recordings
 returns-in-Ok-clause-recordings g c =
