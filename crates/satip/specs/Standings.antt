@@ -21,5 +21,5 @@ at_first = record { gave = false; faults = 0 }
 abbrev pub AreFreshKits : ℕ → Jobs Hall Outbox ℕ StoreCounts Dial → Type 0
 AreFreshKits accepts jobs = AreFresh accepts
     (map (worker_view (λ (h : Hall). h) (λ (o : Outbox). o)) jobs.workers.items)
-    (map (pump_view (λ (s : StoreCounts) (mux : ℕ). None) (λ (s : StoreCounts). s.faults) (λ (o : Outbox). o)) jobs.pumps.items)
+    (map (pump_view (λ (s : StoreCounts) (mux : ℕ). None) (λ (s : StoreCounts). s.faults) (λ (s : StoreCounts). s.lent) (λ (s : StoreCounts). s.peak) (λ (o : Outbox). o)) jobs.pumps.items)
     (tick_view (λ (d : Dial). d) (λ (o : Outbox). o) jobs.tick)

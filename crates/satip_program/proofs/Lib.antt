@@ -1,3 +1,4 @@
+pub mod GatherLemmas
 pub mod TalkLemmas
 pub mod TalkerLemmas
 pub mod TurnLemmas

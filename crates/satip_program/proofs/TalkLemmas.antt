@@ -16,7 +16,11 @@ use Rattle.satip_plain.specs.State.{State}
 use Rattle.satip_plain.specs.Steps.{step}
 use Rattle.satip_program.specs.Talk.{talk_config, start, events_from, events_of, event_of, replies, after, replies_to, requests_of, talk_replies, tail_requests, PartlyAnswered}
 use Rattle.satip_program.specs.Talking.{HasAnswered, next_reply}
-use Rattle.satip_program.specs.Hearing.{Stands, HasClosed, HasFailed}
+use Rattle.satip_program.specs.Gathering.{SentBut, GatheredAll}
+use Rattle.satip_program.specs.Hearing.{Stands, Listens, HasClosed, HasFailed, Hears}
+use Rattle.satip_program.specs.declared.conversation.Heard.{Heard}
+use Rattle.satip_program.specs.declared.conversation.Heard.TheVariants as heards
+use Rattle.satip_program.proofs.GatherLemmas.{began_longer, sent_began, sent_more, sent_part_more, sent_flushed, sent_part}
 use Rattle.satip_program.specs.declared.talker.Talker.{Talker}
 
 -- the events of one list of requests after another
@@ -65,38 +69,26 @@ after_push xs x =
     ∙ ap (λ (k : ℕ). (step talk_config (after start (events_of xs)) (event_of k x)).state) e
 
 -- one more request was answered
-sent_one : (tells : Type 0) (o m n : Drain) (xs : List Request) (x : Request)
-    → (tells → m.sent ≡ o.sent ++ replies_to xs) → PutAll tells m n (next_reply xs x)
-    → tells → n.sent ≡ o.sent ++ replies_to (xs ++ x ∷ [])
-sent_one tells o m n xs x before put told =
-    put.content told
-    ∙ ap (λ (front : List ℕ). front ++ next_reply xs x) (before told)
-    ∙ append_assoc o.sent (replies_to xs) (next_reply xs x)
-    ∙ ap (λ (all : List ℕ). o.sent ++ all) (sym (replies_push xs x))
+sent_one : (tells : Type 0) (o m n : Drain) (old new : List ℕ) (xs : List Request) (x : Request)
+    → (tells → SentBut o.sent m.sent old (replies_to xs)) → GatheredAll tells m n old new (next_reply xs x)
+    → tells → SentBut o.sent n.sent new (replies_to (xs ++ x ∷ []))
+sent_one tells o m n old new xs x before gathered told =
+    rw (replies_push xs x) (
+    sent_more o.sent m.sent n.sent old new (replies_to xs) (next_reply xs x) (before told) (gathered.content told))
 
 -- one more request was answered in part
-sent_part : (tells : Type 0) (o m n : Drain) (xs : List Request) (x : Request)
-    → (tells → m.sent ≡ o.sent ++ replies_to xs) → FailedToPut tells m n (next_reply xs x)
+sent_one_part : (tells : Type 0) (o m n : Drain) (old : List ℕ) (xs : List Request) (x : Request)
+    → (tells → SentBut o.sent m.sent old (replies_to xs)) → FailedToPut tells m n (old ++ next_reply xs x)
     → tells → Began o.sent n.sent (replies_to (xs ++ x ∷ []))
-sent_part tells o m n xs x before put told =
-    let began = put.content told in
-    let whole : replies_to (xs ++ x ∷ []) ≡ (replies_to xs ++ began.part) ++ began.rest =
-    replies_push xs x
-    ∙ ap (λ (reply : List ℕ). replies_to xs ++ reply) began.whole
-    ∙ sym (append_assoc (replies_to xs) began.part began.rest) in
-    record {
-      part = replies_to xs ++ began.part;
-      rest = began.rest;
-      whole = whole;
-      sent = began.sent ∙ ap (λ (front : List ℕ). front ++ began.part) (before told)
-          ∙ append_assoc o.sent (replies_to xs) began.part;
-    }
+sent_one_part tells o m n old xs x before put told =
+    rw (replies_push xs x) (
+    sent_part_more o.sent m.sent n.sent old (replies_to xs) (next_reply xs x) (before told) (put.content told))
 
 -- more bytes came
-pub stands_fed : (tells : Type 0) (o n : Drain) (text piece : List ℕ) (messages : List Said) (framer fed : Held) (talker : Talker)
-    → Stands tells o n text messages framer talker → fed.bytes ≡ framer.bytes ++ piece
-    → Stands tells o n (text ++ piece) messages fed talker
-stands_fed tells o n text piece messages framer fed talker stands bytes = record {
+pub stands_fed : (tells : Type 0) (o n : Drain) (waiting text piece : List ℕ) (messages : List Said) (framer fed : Held) (talker : Talker)
+    → Stands tells o n waiting text messages framer talker → fed.bytes ≡ framer.bytes ++ piece
+    → Stands tells o n waiting (text ++ piece) messages fed talker
+stands_fed tells o n waiting text piece messages framer fed talker stands bytes = record {
   leads = rw bytes (leads-append text piece messages framer.bytes stands.leads);
   answered = stands.answered;
   faults = stands.faults;
@@ -104,28 +96,19 @@ stands_fed tells o n text piece messages framer fed talker stands bytes = record
 }
 
 -- one more message was answered
-pub stands_next : (tells : Type 0) (o m n : Drain) (text : List ℕ) (messages : List Said) (said : Said) (framer next : Held) (talker later : Talker)
-    → Stands tells o m text messages framer talker → Leads text (messages ++ said ∷ []) next.bytes
+pub stands_next : (tells : Type 0) (o m n : Drain) (old new text : List ℕ) (messages : List Said) (said : Said) (framer next : Held) (talker later : Talker)
+    → Stands tells o m old text messages framer talker → Leads text (messages ++ said ∷ []) next.bytes
     → HasAnswered later (map asked messages ++ asked said ∷ [])
-    → PutAll tells m n (next_reply (map asked messages) (asked said))
-    → Stands tells o n text (messages ++ said ∷ []) next later
-stands_next tells o m n text messages said framer next talker later stands leads answered put =
+    → GatheredAll tells m n old new (next_reply (map asked messages) (asked said))
+    → Stands tells o n new text (messages ++ said ∷ []) next later
+stands_next tells o m n old new text messages said framer next talker later stands leads answered gathered =
     let pushed = map_push asked messages said in
     record {
       leads = leads;
       answered = rw pushed answered;
-      faults = put.faults ∙ stands.faults;
-      sent = λ told. rw pushed (sent_one tells o m n (map asked messages) (asked said) stands.sent put told);
+      faults = gathered.faults ∙ stands.faults;
+      sent = λ told. rw pushed (sent_one tells o m n old new (map asked messages) (asked said) stands.sent gathered told);
     }
-
--- a beginning stays one when more is to come
-began_longer : (before now all more : List ℕ) → Began before now all → Began before now (all ++ more)
-began_longer before now all more began = record {
-  part = began.part;
-  rest = began.rest ++ more;
-  whole = ap (λ (a : List ℕ). a ++ more) began.whole ∙ append_assoc began.part began.rest more;
-  sent = began.sent;
-}
 
 -- the full list begins with the requests of the first messages
 first_requests : (messages first others : List Said) (tail : Tail) → messages ≡ first ++ others
@@ -155,16 +138,16 @@ part_of_first tells before now text first are began =
     }
 
 -- the reply to one more message failed
-pub stands_failed : (tells : Type 0) (o m n : Drain) (text : List ℕ) (messages : List Said) (said : Said) (framer : Held) (rest : List ℕ) (talker : Talker)
-    → Stands tells o m text messages framer talker → Leads text (messages ++ said ∷ []) rest
-    → FailedToPut tells m n (next_reply (map asked messages) (asked said)) → HasFailed tells o n text
-stands_failed tells o m n text messages said framer rest talker stands leads put =
+pub stands_failed : (tells : Type 0) (o m n : Drain) (old text : List ℕ) (messages : List Said) (said : Said) (framer : Held) (rest : List ℕ) (talker : Talker)
+    → Stands tells o m old text messages framer talker → Leads text (messages ++ said ∷ []) rest
+    → FailedToPut tells m n (old ++ next_reply (map asked messages) (asked said)) → HasFailed tells o n text
+stands_failed tells o m n old text messages said framer rest talker stands leads put =
     let P : List Request → Type 0 = λ rs. Began o.sent n.sent (replies_to rs) in
     record {
       faults = rw (← stands.faults) put.faults;
       part = part_of_first tells o.sent n.sent text (messages ++ said ∷ []) (rest, leads)
           (λ told. subst P (sym (map_push asked messages said))
-          (sent_part tells o m n (map asked messages) (asked said) stands.sent put told));
+          (sent_one_part tells o m n old (map asked messages) (asked said) stands.sent put told));
     }
 
 -- what holds of the value that is there
@@ -173,32 +156,32 @@ some_both None P Q p q = absurd p
 some_both (Some x) P Q p q = (x, p, q)
 
 -- the message that was found was answered
-pub found_answered : (tells : Type 0) (o m n : Drain) (text : List ℕ) (messages : List Said) (framer next : Held) (request : Request) (talker later : Talker)
-    → Stands tells o m text messages framer talker
+pub found_answered : (tells : Type 0) (o m n : Drain) (old new text : List ℕ) (messages : List Said) (framer next : Held) (request : Request) (talker later : Talker)
+    → Stands tells o m old text messages framer talker
     → IsSomeAnd next.found (λ said. Leads text (messages ++ said ∷ []) next.bytes)
     → IsSomeAnd next.found (λ said. request ≡ asked said)
     → HasAnswered later (map asked messages ++ request ∷ [])
-    → PutAll tells m n (next_reply (map asked messages) request)
-    → (answered : List Said) × Stands tells o n text answered next later
-found_answered tells o m n text messages framer next request talker later stands leads is answered put =
+    → GatheredAll tells m n old new (next_reply (map asked messages) request)
+    → (answered : List Said) × Stands tells o n new text answered next later
+found_answered tells o m n old new text messages framer next request talker later stands leads is answered gathered =
     let found = some_both next.found _ _ leads is in
-    let Q : Request → Type 0 = λ r. PutAll tells m n (next_reply (map asked messages) r) in
+    let Q : Request → Type 0 = λ r. GatheredAll tells m n old new (next_reply (map asked messages) r) in
     let P : Request → Type 0 = λ r. HasAnswered later (map asked messages ++ r ∷ []) in (
       messages ++ found.0 ∷ [],
-      stands_next tells o m n text messages found.0 framer next talker later stands found.1
-          (subst P found.2 answered) (subst Q found.2 put),
+      stands_next tells o m n old new text messages found.0 framer next talker later stands found.1
+          (subst P found.2 answered) (subst Q found.2 gathered),
     )
 
 -- the reply to the message that was found failed
-pub found_failed : (tells : Type 0) (o m n : Drain) (text : List ℕ) (messages : List Said) (framer next : Held) (request : Request) (talker : Talker)
-    → Stands tells o m text messages framer talker
+pub found_failed : (tells : Type 0) (o m n : Drain) (old text : List ℕ) (messages : List Said) (framer next : Held) (request : Request) (talker : Talker)
+    → Stands tells o m old text messages framer talker
     → IsSomeAnd next.found (λ said. Leads text (messages ++ said ∷ []) next.bytes)
     → IsSomeAnd next.found (λ said. request ≡ asked said)
-    → FailedToPut tells m n (next_reply (map asked messages) request) → HasFailed tells o n text
-found_failed tells o m n text messages framer next request talker stands leads is put =
+    → FailedToPut tells m n (old ++ next_reply (map asked messages) request) → HasFailed tells o n text
+found_failed tells o m n old text messages framer next request talker stands leads is put =
     let found = some_both next.found _ _ leads is in
-    let Q : Request → Type 0 = λ r. FailedToPut tells m n (next_reply (map asked messages) r) in
-    stands_failed tells o m n text messages found.0 framer next.bytes talker stands found.1 (subst Q found.2 put)
+    let Q : Request → Type 0 = λ r. FailedToPut tells m n (old ++ next_reply (map asked messages) r) in
+    stands_failed tells o m n old text messages found.0 framer next.bytes talker stands found.1 (subst Q found.2 put)
 
 -- a head isn't empty
 head_some : (text : List ℕ) (n : ℕ) → IsHeadEnd text n → 0 < n
@@ -234,33 +217,33 @@ pub message_takes : (framer next : Held) → IsSomeAnd next.found (λ said. Lead
     → length (skip_newlines next.bytes) < length (skip_newlines framer.bytes)
 message_takes framer next told = message_takes_from framer next next.found told
 
--- the closing reply was sent
-pub closes : (tells : Type 0) (o m n : Drain) (text : List ℕ) (messages : List Said) (cause : Break) (framer : Held) (talker : Talker) (request : Request)
-    → Stands tells o m text messages framer talker → Messages text messages (Broken cause) → request ≡ broken cause
-    → PutAll tells m n (next_reply (map asked messages) request) → HasClosed tells o n text
-closes tells o m n text messages cause framer talker request stands read is put =
-    let Q : Request → Type 0 = λ r. PutAll tells m n (next_reply (map asked messages) r) in
+-- the closing reply was gathered
+pub closes : (tells : Type 0) (o m n : Drain) (old new text : List ℕ) (messages : List Said) (cause : Break) (framer : Held) (talker : Talker) (request : Request)
+    → Stands tells o m old text messages framer talker → Messages text messages (Broken cause) → request ≡ broken cause
+    → GatheredAll tells m n old new (next_reply (map asked messages) request) → HasClosed tells o n new text
+closes tells o m n old new text messages cause framer talker request stands read is gathered =
+    let Q : Request → Type 0 = λ r. GatheredAll tells m n old new (next_reply (map asked messages) r) in
     record {
       messages = messages;
       cause = cause;
       read = read;
-      faults = put.faults ∙ stands.faults;
-      sent = sent_one tells o m n (map asked messages) (broken cause) stands.sent (subst Q is put);
+      faults = gathered.faults ∙ stands.faults;
+      sent = sent_one tells o m n old new (map asked messages) (broken cause) stands.sent (subst Q is gathered);
     }
 
 -- the closing reply failed
-pub close_failed : (tells : Type 0) (o m n : Drain) (text : List ℕ) (messages : List Said) (cause : Break) (framer : Held) (talker : Talker) (request : Request)
-    → Stands tells o m text messages framer talker → Messages text messages (Broken cause) → request ≡ broken cause
-    → FailedToPut tells m n (next_reply (map asked messages) request) → HasFailed tells o n text
-close_failed tells o m n text messages cause framer talker request stands read is put =
-    let Q : Request → Type 0 = λ r. FailedToPut tells m n (next_reply (map asked messages) r) in
+pub close_failed : (tells : Type 0) (o m n : Drain) (old text : List ℕ) (messages : List Said) (cause : Break) (framer : Held) (talker : Talker) (request : Request)
+    → Stands tells o m old text messages framer talker → Messages text messages (Broken cause) → request ≡ broken cause
+    → FailedToPut tells m n (old ++ next_reply (map asked messages) request) → HasFailed tells o n text
+close_failed tells o m n old text messages cause framer talker request stands read is put =
+    let Q : Request → Type 0 = λ r. FailedToPut tells m n (old ++ next_reply (map asked messages) r) in
     record {
       faults = rw (← stands.faults) put.faults;
       part = record {
         messages = messages;
         tail = Broken cause;
         read = read;
-        sent = sent_part tells o m n (map asked messages) (broken cause) stands.sent (subst Q is put);
+        sent = sent_one_part tells o m n old (map asked messages) (broken cause) stands.sent (subst Q is put);
       };
     }
 
@@ -283,20 +266,71 @@ pub part_stays : (tells : Type 0) (before now text more : List ℕ) → PartlyAn
     → PartlyAnswered tells before now (text ++ more)
 part_stays tells before now text more part = part_stays_by tells before now text more part.messages part.tail part.read part.sent
 
--- all replies are a beginning of them
-pub part_of_stands : (tells : Type 0) (o n : Drain) (text : List ℕ) (messages : List Said) (framer : Held) (talker : Talker)
-    → Stands tells o n text messages framer talker → PartlyAnswered tells o.sent n.sent text
-part_of_stands tells o n text messages framer talker stands =
-    part_of_first tells o.sent n.sent text messages (framer.bytes, stands.leads) (λ told. record {
-      part = replies_to (map asked messages);
-      rest = [];
-      whole = sym (append-nil (replies_to (map asked messages)));
-      sent = stands.sent told;
-    })
+-- what was sent is a beginning of the replies
+pub part_of_stands : (tells : Type 0) (o n : Drain) (waiting text : List ℕ) (messages : List Said) (framer : Held) (talker : Talker)
+    → Stands tells o n waiting text messages framer talker → PartlyAnswered tells o.sent n.sent text
+part_of_stands tells o n waiting text messages framer talker stands =
+    part_of_first tells o.sent n.sent text messages (framer.bytes, stands.leads)
+    (λ told. sent_began o.sent n.sent waiting (replies_to (map asked messages)) (stands.sent told))
+
+-- what waited was sent
+listens_sent : (tells : Type 0) (o m n : Drain) (waiting text : List ℕ) (framer : Held) (talker : Talker)
+    → Listens tells o m waiting text framer talker → PutAll tells m n waiting → Listens tells o n [] text framer talker
+listens_sent tells o m n waiting text framer talker listens put =
+    let stands = listens.stands in
+    record {
+      messages = listens.messages;
+      stands = record {
+        leads = stands.leads;
+        answered = stands.answered;
+        faults = put.faults ∙ stands.faults;
+        sent = λ told. sent_flushed o.sent m.sent n.sent waiting (replies_to (map asked listens.messages)) (stands.sent told) (put.content told);
+      };
+      read = listens.read;
+    }
+
+closed_sent : (tells : Type 0) (o m n : Drain) (waiting text : List ℕ) → HasClosed tells o m waiting text → PutAll tells m n waiting
+    → HasClosed tells o n [] text
+closed_sent tells o m n waiting text closed put = record {
+  messages = closed.messages;
+  cause = closed.cause;
+  read = closed.read;
+  faults = put.faults ∙ closed.faults;
+  sent = λ told. sent_flushed o.sent m.sent n.sent waiting (talk_replies closed.messages (Broken closed.cause)) (closed.sent told) (put.content told);
+}
+
+pub hears_sent : (tells : Type 0) (o m n : Drain) (waiting text : List ℕ) (framer : Held) (talker : Talker) (heard : Heard)
+    → (heard ≡ heards.Failed → ⊥) → Hears tells o m waiting text framer talker heard → PutAll tells m n waiting
+    → Hears tells o n [] text framer talker heard
+hears_sent tells o m n waiting text framer talker heards.All sound hears put = listens_sent tells o m n waiting text framer talker hears put
+hears_sent tells o m n waiting text framer talker heards.Closed sound hears put = closed_sent tells o m n waiting text hears put
+hears_sent tells o m n waiting text framer talker heards.Failed sound hears put = absurd (sound refl)
+
+-- what waited was sent in part
+pub hears_part : (tells : Type 0) (o m n : Drain) (waiting text : List ℕ) (framer : Held) (talker : Talker) (heard : Heard)
+    → (heard ≡ heards.Failed → ⊥) → Hears tells o m waiting text framer talker heard → FailedToPut tells m n waiting
+    → HasFailed tells o n text
+hears_part tells o m n waiting text framer talker heards.All sound hears put =
+    let stands = hears.stands in
+    record {
+      faults = rw (← stands.faults) put.faults;
+      part = part_of_first tells o.sent n.sent text hears.messages (framer.bytes, stands.leads)
+          (λ told. sent_part o.sent m.sent n.sent waiting (replies_to (map asked hears.messages)) (stands.sent told) (put.content told));
+    }
+hears_part tells o m n waiting text framer talker heards.Closed sound hears put = record {
+  faults = rw (← hears.faults) put.faults;
+  part = record {
+    messages = hears.messages;
+    tail = Broken hears.cause;
+    read = hears.read;
+    sent = λ told. sent_part o.sent m.sent n.sent waiting (talk_replies hears.messages (Broken hears.cause)) (hears.sent told) (put.content told);
+  };
+}
+hears_part tells o m n waiting text framer talker heards.Failed sound hears put = absurd (sound refl)
 
 -- a broken text stays broken
-pub closed_stays : (tells : Type 0) (o n : Drain) (text more : List ℕ) → HasClosed tells o n text → HasClosed tells o n (text ++ more)
-closed_stays tells o n text more closed = record {
+pub closed_stays : (tells : Type 0) (o n : Drain) (waiting text more : List ℕ) → HasClosed tells o n waiting text → HasClosed tells o n waiting (text ++ more)
+closed_stays tells o n waiting text more closed = record {
   messages = closed.messages;
   cause = closed.cause;
   read = broken_stays text more closed.messages closed.cause closed.read;

@@ -6,13 +6,14 @@ use Rattle.satip_frame.specs.Held.{Held, capacity, new_framer}
 use Rattle.satip_frame.specs.Stream.{Unfinished, Broken}
 use Rattle.satip_frame.proofs.StreamLemmas.{broken_stays}
 use Rattle.satip_rtsp.specs.Asked.{asked}
-use Rattle.satip_program.specs.Talk.{replies_to, Answered}
+use Rattle.satip_program.specs.Talk.{replies_to, talk_replies, Answered}
 use Rattle.satip_program.specs.Talking.{HasAnswered}
 use Rattle.satip_program.specs.declared.talker.Talker.{Talker}
 use Rattle.satip_program.specs.Hearing.{Listens, HasClosed, HasFailed}
 use Rattle.satip_program.specs.Outcomes.{EndsWell, EndsByInput, EndsByOutput, EndsByLength, input_limit}
 use Rattle.satip_replay.specs.Reading.{Read}
 use Rattle.satip_program.proofs.TalkLemmas.{part_stays, part_of_stands}
+use Rattle.satip_program.proofs.GatherLemmas.{sent_nothing, sent_all}
 
 -- the framer takes more
 pub record IsOpen (framer : Held) : Type 0 where
@@ -26,7 +27,7 @@ pub record Goes (in_tells out_tells : Type 0) (i j : Feed) (o n : Drain) (count 
   pub counted : length text ≡ count
   pub short : count ≤ input_limit
   pub in_faults : j.faults ≡ i.faults
-  pub listens : Listens out_tells o n text framer talker
+  pub listens : Listens out_tells o n [] text framer talker
 
 no_empty_line : HasNoEmptyLine 0 []
 no_empty_line zero within ends = cc ends
@@ -43,7 +44,7 @@ goes_from in_tells out_tells i o framer talker new_one begins = record {
   in_faults = refl;
   listens = record {
     messages = [];
-    stands = record { leads = rw new_one refl; answered = begins; faults = refl; sent = λ _. sym (append-nil o.sent) };
+    stands = record { leads = rw new_one refl; answered = begins; faults = refl; sent = λ _. sent_nothing o.sent };
     read = inl (lit< tt, no_empty_line);
   };
 }
@@ -64,7 +65,7 @@ length-more text buf count within = omega (arith, length-append text (take count
 -- the piece was answered too
 pub goes_more : (in_tells out_tells : Type 0) (i j k : Feed) (o m n : Drain) (taken count : ℕ) (framer next : Held) (talker later : Talker) (buf : List ℕ)
     → (goes : Goes in_tells out_tells i j o m taken framer talker) → TookBytes in_tells j k buf count → taken + count ≤ input_limit
-    → Listens out_tells o n (goes.text ++ take count buf) next later
+    → Listens out_tells o n [] (goes.text ++ take count buf) next later
     → Goes in_tells out_tells i k o n (taken + count) next later
 goes_more in_tells out_tells i j k o m n taken count framer next talker later buf goes took short listens = record {
   text = goes.text ++ take count buf;
@@ -76,13 +77,13 @@ goes_more in_tells out_tells i j k o m n taken count framer next talker later bu
 }
 
 -- all messages of the text were answered
-answered_all : (tells : Type 0) (o n : Drain) (text : List ℕ) (framer : Held) (talker : Talker) → Listens tells o n text framer talker
+answered_all : (tells : Type 0) (o n : Drain) (text : List ℕ) (framer : Held) (talker : Talker) → Listens tells o n [] text framer talker
     → Answered tells o.sent n.sent text
 answered_all tells o n text framer talker listens = record {
   messages = listens.messages;
   tail = Unfinished;
   read = listens.read;
-  sent = λ told. listens.stands.sent told
+  sent = λ told. sent_all o.sent n.sent (replies_to (map asked listens.messages)) (listens.stands.sent told)
       ∙ ap (λ (rs : List _). o.sent ++ replies_to rs) (sym (append-nil (map asked listens.messages)));
 }
 
@@ -117,17 +118,19 @@ ends_at_end in_tells out_tells i j k o n taken framer talker goes met =
 -- the last reply was a closing one
 pub ends_closed : (in_tells out_tells : Type 0) (i j k : Feed) (o m n : Drain) (taken count : ℕ) (framer : Held) (talker : Talker) (buf : List ℕ)
     → (goes : Goes in_tells out_tells i j o m taken framer talker) → TookBytes in_tells j k buf count → taken + count ≤ input_limit → count ≤ 4096
-    → HasClosed out_tells o n (goes.text ++ take count buf) → EndsWell in_tells out_tells i k o n
+    → HasClosed out_tells o n [] (goes.text ++ take count buf) → EndsWell in_tells out_tells i k o n
 ends_closed in_tells out_tells i j k o m n taken count framer talker buf goes took short small closed =
     let text = goes.text ++ take count buf in
     let read = read_more in_tells i j k goes.text buf count goes.read took in
+    let replies = talk_replies closed.messages (Broken closed.cause) in
+    let sent : out_tells → n.sent ≡ o.sent ++ replies = λ told. sent_all o.sent n.sent replies (closed.sent told) in
     let answered : Answered out_tells o.sent n.sent text =
-    record { messages = closed.messages; tail = Broken closed.cause; read = closed.read; sent = closed.sent } in
+    record { messages = closed.messages; tail = Broken closed.cause; read = closed.read; sent = sent } in
     let longer : Answered out_tells o.sent n.sent (text ++ k.left) = record {
       messages = closed.messages;
       tail = Broken closed.cause;
       read = broken_stays text k.left closed.messages closed.cause closed.read;
-      sent = closed.sent;
+      sent = sent;
     } in
     let P : List ℕ → Type 0 = λ t. Answered out_tells o.sent n.sent t in
     record {
@@ -174,7 +177,7 @@ ends_by_input in_tells out_tells i j k o n taken framer talker goes failed = rec
       taken = failed.taken ∙ goes.read.taken;
       content = λ told. goes.read.content told ∙ ap (λ (left : List ℕ). goes.text ++ left) (sym (failed.content told));
     };
-    part = part_of_stands out_tells o n goes.text goes.listens.messages framer talker goes.listens.stands;
+    part = part_of_stands out_tells o n [] goes.text goes.listens.messages framer talker goes.listens.stands;
   };
   short = omega (arith, goes.counted, goes.short);
   rose = rw (← goes.in_faults) failed.faults;
@@ -190,7 +193,7 @@ ends_by_length in_tells out_tells i j k o n taken count framer talker buf goes t
     text = goes.text ++ take count buf;
     read = read_more in_tells i j k goes.text buf count goes.read took;
     part = part_stays out_tells o.sent n.sent goes.text (take count buf)
-        (part_of_stands out_tells o n goes.text goes.listens.messages framer talker goes.listens.stands);
+        (part_of_stands out_tells o n [] goes.text goes.listens.messages framer talker goes.listens.stands);
   };
   long = length-more goes.text buf count took.within ∙ ap (λ (c : ℕ). c + count) goes.counted ∙ long;
   in_faults = took.faults ∙ goes.in_faults;

@@ -14,8 +14,8 @@ abbrev pub row_of : Drawer → List ℕ × List ℕ
 row_of drawer = (drawer.name.items, drawer.text.items)
 
 -- nothing was done with these kits, and their doors end after so many connections
-abbrev pub AreNewKits : ℕ → Jobs Hall Outbox ℕ Shelf Dial → Type 0
+abbrev pub AreNewKits : {P : Type 0} → ℕ → Jobs Hall Outbox P Shelf Dial → Type 0
 AreNewKits accepts jobs = AreFresh accepts
     (map (worker_view (λ (h : Hall). h) (λ (o : Outbox). o)) jobs.workers.items)
-    (map (pump_view (λ (s : Shelf) mux. recording_in s.recordings mux) (λ (s : Shelf). s.faults) (λ (o : Outbox). o)) jobs.pumps.items)
+    (map (pump_view (λ (s : Shelf) mux. recording_in s.recordings mux) (λ (s : Shelf). s.faults) (λ (s : Shelf). s.lent) (λ (s : Shelf). s.peak) (λ (o : Outbox). o)) jobs.pumps.items)
     (tick_view (λ (d : Dial). d) (λ (o : Outbox). o) jobs.tick)

@@ -3,6 +3,7 @@ pub mod Cabinets
 pub mod Drawers
 pub mod Talk
 pub mod Talking
+pub mod Gathering
 pub mod Hearing
 pub mod Outcomes
 pub mod Replaying

@@ -10,6 +10,7 @@ ghost use Rattle.satip_replay.specs.Seen.{drain};
 ghost use Rattle.satip_program.specs.Talking.{HasAnswered};
 ghost use Rattle.satip_program.specs.Hearing.{Stands, Listens, Hears};
 
+use crate::gathered::Gathered;
 use crate::talker::Talker;
 use satip_base::{Put, Sink, Want};
 use satip_frame::{Break, Framer, Step};
@@ -27,11 +28,12 @@ pub(crate) enum Heard {
     Failed,
 }
 
-/// A server, and the connection that it answers.
+/// A server, the connection that it answers, and the replies that wait to be sent.
 #[derive(Drop)]
 pub(crate) struct Conversation {
     pub(crate) talker: Talker,
     pub(crate) framer: Framer,
+    pub(crate) gathered: Gathered,
 }
 
 impl Conversation {
@@ -39,10 +41,12 @@ impl Conversation {
     pub(crate) fn make(alloc: Global) -> Result<Conversation, Want>
         ensures framer { IfOk result (λ made. made.framer ≡ new_framer) }
         ensures talker { IfOk result (λ made. HasAnswered made.talker []) }
+        ensures gathered { IfOk result (λ made. made.gathered ≡ []) }
     {
         Ok(Conversation {
             talker: Talker::make(alloc)?,
             framer: Framer::make(alloc)?,
+            gathered: Gathered::make(alloc)?,
         })
     }
 
@@ -50,13 +54,16 @@ impl Conversation {
     fn close<O: Sink>(&mut self, cause: Break, output: &mut O) -> Heard
         ensures closes { (o : Drain) (text : List ℕ) (messages : List Said)
             → Stands O.tells o (drain O.sent O.faults output.old)
-            text messages self.old.framer self.old.talker
+            self.old.gathered text messages self.old.framer self.old.talker
             → Messages text messages (Broken cause)
             → Hears O.tells o (drain O.sent O.faults output.new)
-            text self.new.framer self.new.talker result }
+            self.new.gathered text self.new.framer self.new.talker result }
         ensures over { result ≡ Heard.All → ⊥ }
     {
-        match self.talker.reply(&Request::broken(cause), output) {
+        match self
+            .talker
+            .reply(&Request::broken(cause), &mut self.gathered, output)
+        {
             Put::Whole => Heard::Closed,
             Put::Failed => Heard::Failed,
         }
@@ -66,9 +73,9 @@ impl Conversation {
     fn answer<O: Sink>(&mut self, output: &mut O) -> Heard
         ensures hears { (o : Drain) (text : List ℕ) (messages : List Said)
             → Stands O.tells o (drain O.sent O.faults output.old)
-            text messages self.old.framer self.old.talker
+            self.old.gathered text messages self.old.framer self.old.talker
             → Hears O.tells o (drain O.sent O.faults output.new)
-            text self.new.framer self.new.talker result }
+            self.new.gathered text self.new.framer self.new.talker result }
         ensures goes_on { result ≡ Heard.All → self.new.framer.ended ≡ None }
         ensures room { result ≡ Heard.All → length self.new.framer.bytes < capacity }
     {
@@ -76,7 +83,7 @@ impl Conversation {
             match self.framer.next() {
                 Step::Message => {
                     let request = found_request(&self.framer);
-                    match self.talker.reply(&request, output) {
+                    match self.talker.reply(&request, &mut self.gathered, output) {
                         Put::Whole => {}
                         Put::Failed => return Heard::Failed,
                     }
@@ -88,15 +95,15 @@ impl Conversation {
         }
     }
 
-    /// Takes in bytes behind those that came before, and answers all whole messages.
-    pub(crate) fn hear<O: Sink>(&mut self, piece: &[u8], output: &mut O) -> Heard
+    // Takes in bytes behind those that came before, and answers all whole messages.
+    fn take_in<O: Sink>(&mut self, piece: &[u8], output: &mut O) -> Heard
         requires goes_on { self.old.framer.ended ≡ None }
         requires room { length self.old.framer.bytes < capacity }
         ensures hears { (o : Drain) (text : List ℕ)
             → Listens O.tells o (drain O.sent O.faults output.old)
-            text self.old.framer self.old.talker
+            self.old.gathered text self.old.framer self.old.talker
             → Hears O.tells o (drain O.sent O.faults output.new)
-            (text ++ piece.now) self.new.framer self.new.talker result }
+            self.new.gathered (text ++ piece.now) self.new.framer self.new.talker result }
         ensures goes_on { result ≡ Heard.All → self.new.framer.ended ≡ None }
         ensures room { result ≡ Heard.All → length self.new.framer.bytes < capacity }
     {
@@ -111,6 +118,45 @@ impl Conversation {
             }
         }
         Heard::All
+    }
+
+    // Sends the replies that wait; the last message was heard so.
+    fn send<O: Sink>(&mut self, heard: Heard, output: &mut O) -> Heard
+        requires sound { heard ≡ Heard.Failed → ⊥ }
+        ensures sends { (o : Drain) (text : List ℕ)
+            → Hears O.tells o (drain O.sent O.faults output.old)
+            self.old.gathered text self.old.framer self.old.talker heard
+            → Hears O.tells o (drain O.sent O.faults output.new)
+            [] text self.new.framer self.new.talker result }
+        ensures framer { self.new.framer ≡ self.old.framer }
+        ensures empty { self.new.gathered ≡ [] }
+        ensures all { result ≡ Heard.All → heard ≡ Heard.All }
+    {
+        match self.gathered.flush(output) {
+            Put::Whole => heard,
+            Put::Failed => Heard::Failed,
+        }
+    }
+
+    /// Takes in bytes behind those that came before, answers all whole messages, and sends the replies.
+    pub(crate) fn hear<O: Sink>(&mut self, piece: &[u8], output: &mut O) -> Heard
+        requires goes_on { self.old.framer.ended ≡ None }
+        requires room { length self.old.framer.bytes < capacity }
+        requires empty { self.old.gathered ≡ [] }
+        ensures hears { (o : Drain) (text : List ℕ)
+            → Listens O.tells o (drain O.sent O.faults output.old)
+            [] text self.old.framer self.old.talker
+            → Hears O.tells o (drain O.sent O.faults output.new)
+            [] (text ++ piece.now) self.new.framer self.new.talker result }
+        ensures goes_on { result ≡ Heard.All → self.new.framer.ended ≡ None }
+        ensures room { result ≡ Heard.All → length self.new.framer.bytes < capacity }
+        ensures empty { result ≡ Heard.All → self.new.gathered ≡ [] }
+    {
+        match self.take_in(piece, output) {
+            Heard::All => self.send(Heard::All, output),
+            Heard::Closed => self.send(Heard::Closed, output),
+            Heard::Failed => Heard::Failed,
+        }
     }
 }
 

@@ -3,6 +3,9 @@
 
 mod commands;
 mod conversation;
+mod gathered;
+#[cfg(test)]
+mod meeting_tests;
 mod memory_desk;
 mod outcomes;
 #[cfg(test)]

@@ -38,6 +38,7 @@ fn converse<I: Source, O: Sink>(
 ) -> Outcome
     requires framer { conversation.old.framer ≡ new_framer }
     requires talker { HasAnswered conversation.old.talker [] }
+    requires gathered { conversation.old.gathered ≡ [] }
     ensures ends { TalkEnds I.tells O.tells
         (feed I.left I.ended I.faults I.taken input.old) (feed I.left I.ended I.faults I.taken input.new)
         (drain O.sent O.faults output.old) (drain O.sent O.faults output.new)

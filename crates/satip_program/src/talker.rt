@@ -4,8 +4,9 @@ ghost use Rattle.std.specs.Prelude.{[], ◌∷◌, List, ◌++◌, IfOk};
 ghost use Rattle.satip_rtsp.specs.declared.requests.Request.{Request as Asked};
 ghost use Rattle.satip_replay.specs.Seen.{drain};
 ghost use Rattle.satip_program.specs.Talking.{HasAnswered, next_reply};
-ghost use Rattle.satip_base.specs.Streams.{Puts};
+ghost use Rattle.satip_program.specs.Gathering.{Gathers};
 
+use crate::gathered::Gathered;
 use satip_base::{Draw, Out, Peer, Put, Sink, Want};
 use satip_config::Config;
 use satip_core::Server;
@@ -45,13 +46,18 @@ impl Talker {
         })
     }
 
-    /// Answers the request of the next message, and sends the reply.
-    pub(crate) fn reply<O: Sink>(&mut self, request: &Request, output: &mut O) -> Put
+    /// Answers the request of the next message, and gathers the reply.
+    pub(crate) fn reply<O: Sink>(
+        &mut self,
+        request: &Request,
+        gathered: &mut Gathered,
+        output: &mut O,
+    ) -> Put
         ensures next { (requests : List Asked) → HasAnswered self.old requests
             → HasAnswered self.new (requests ++ request.now ∷ []) }
-        ensures puts { (requests : List Asked) → HasAnswered self.old requests → Puts O.tells
+        ensures gathers { (requests : List Asked) → HasAnswered self.old requests → Gathers O.tells
             (drain O.sent O.faults output.old) (drain O.sent O.faults output.new)
-            (next_reply requests request.now) result }
+            gathered.old gathered.new (next_reply requests request.now) result }
     {
         self.count = self.count.wrapping_add(1);
         let draw = Draw {
@@ -61,6 +67,6 @@ impl Talker {
         };
         self.server
             .request(Peer { ip: LOCALHOST }, draw, request, &mut self.out);
-        output.put(self.out.reply())
+        gathered.gather(self.out.reply(), output)
     }
 }

@@ -195,6 +195,81 @@ fn faults_have_their_status_and_their_line(rt: HostRuntime) -> Result<(), Fail> 
     Ok(())
 }
 
+// A talk of the text, taken in these pieces; the puts with a number in `failing_put` fail.
+fn talked(
+    alloc: Global,
+    text: &[u8],
+    pieces: &[usize],
+    failing_put: &[u64],
+) -> Result<Report, Fail> {
+    let input = MemorySource::make(alloc, text, pieces, &[])?;
+    run(alloc, "talk", input, failing_put)
+}
+
+// Where the third put would fail and the talk ends well, one put has all replies but the first.
+#[test]
+fn replies_behind_the_first_to_a_take_are_put_together(rt: HostRuntime) -> Result<(), Fail> {
+    let alloc = rt.alloc();
+    let three = joined(alloc, &[OPTIONS, OPTIONS, OPTIONS])?;
+    let together = talked(alloc, &three, &[], &[3])?;
+    assert_eq!(rt; together.status, 0);
+    assert_eq!(rt;
+        together.output.sent(),
+        joined(alloc, &[OK, OK, OK])?.as_slice()
+    );
+    let closing = joined(alloc, &[OPTIONS, b"OPTIONS\r\n\r\n", OPTIONS])?;
+    let closed = talked(alloc, &closing, &[], &[3])?;
+    assert_eq!(rt; closed.status, 0);
+    assert_eq!(rt; closed.output.sent(), joined(alloc, &[OK, BAD])?.as_slice());
+    let failed = talked(alloc, &three, &[62], &[3])?;
+    assert_eq!(rt; failed.status, 6);
+    let sent = joined(alloc, &[OK, OK, b"RTSP/1.0 "])?;
+    assert_eq!(rt; failed.output.sent(), sent.as_slice());
+    Ok(())
+}
+
+// Sessions are founded, and described so often.
+fn describing(alloc: Global, count: usize) -> Result<Vec<u8>, Fail> {
+    let setup =
+        b"SETUP rtsp://127.0.0.1/ RTSP/1.0\r\nCSeq: 1\r\nTransport: RTP/AVP;unicast;client_port=1400-1401\r\n\r\n".as_slice();
+    let describe = b"DESCRIBE rtsp://127.0.0.1/ RTSP/1.0\r\nCSeq: 2\r\n\r\n".as_slice();
+    let mut text = Vec::new(alloc);
+    for _ in 0..40 {
+        text.extend_from_slice(setup)?;
+    }
+    for _ in 0..count {
+        text.extend_from_slice(describe)?;
+    }
+    Ok(text)
+}
+
+#[test]
+fn replies_for_which_there_is_no_room_are_put_in_order(rt: HostRuntime) -> Result<(), Fail> {
+    let alloc = rt.alloc();
+    let founded = talked(alloc, &describing(alloc, 0)?, &[], &[])?;
+    let described = talked(alloc, &describing(alloc, 1)?, &[], &[])?;
+    let (front, reply) = described.output.sent().split_at(
+        founded
+            .output
+            .sent()
+            .len()
+            .min(described.output.sent().len()),
+    );
+    let mut replies = joined(alloc, &[front])?;
+    for _ in 0..80 {
+        replies.extend_from_slice(reply)?;
+    }
+    let text = describing(alloc, 80)?;
+    let many = talked(alloc, &text, &[], &[])?;
+    assert!(rt; replies.len() > 5 * 65536);
+    assert_eq!(rt; many.output.sent(), replies.as_slice());
+    let failed = talked(alloc, &text, &[], &[6])?;
+    assert_eq!(rt; failed.status, 6);
+    assert!(rt; failed.output.sent().len() > 65536);
+    assert!(rt; replies.starts_with(failed.output.sent()));
+    Ok(())
+}
+
 #[test]
 fn an_input_has_at_most_67108864_bytes(rt: HostRuntime) -> Result<(), Fail> {
     let alloc = rt.alloc();

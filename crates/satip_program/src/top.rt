@@ -194,13 +194,13 @@ pub fn satip<R: Threads + Wait + Sync, K: Desk, I: Source, O: Sink, E: Sink>(
     ensures run { IfSome (serve_of words.now) (λ serve. IfSome result.last (λ last.
         ServeRun K.Doors.Conn.tells K.Outlet.tells last.server.setting serve.accepts last.pass.seen last.pass.kept
         (map (worker_view K.Doors.hall K.Outlet.outbox) last.jobs.workers.items)
-        (map (pump_view K.Store.recording K.Store.faults K.Outlet.outbox) last.jobs.pumps.items)
+        (map (pump_view K.Store.recording K.Store.faults K.Store.lent K.Store.peak K.Outlet.outbox) last.jobs.pumps.items)
         (tick_view K.Clock.dial K.Outlet.outbox last.jobs.tick))) }
     ensures payload { IfSome result.last (λ last. SendsSelected last.server.setting last.pass.seen) }
     ensures owners { IfSome result.last (λ last. ObeysOwners last.server.setting last.pass.seen) }
     ensures busy { IfSome result.last (λ last. TellsBusy last.server.setting last.pass.seen) }
     ensures recordings { IfSome result.last (λ last. PlaysRecordings last.server.setting last.pass.seen
-        (map (pump_view K.Store.recording K.Store.faults K.Outlet.outbox) last.jobs.pumps.items)) }
+        (map (pump_view K.Store.recording K.Store.faults K.Store.lent K.Store.peak K.Outlet.outbox) last.jobs.pumps.items)) }
 
     // The configuration of a serve is given back, unless the desk failed to open it; its count rises then, or where it gives
     // no kits. With any other status than 5 the source of it never failed.
@@ -214,7 +214,7 @@ pub fn satip<R: Threads + Wait + Sync, K: Desk, I: Source, O: Sink, E: Sink>(
     ensures unused_status { IfSome result.unused (λ _. result.status ≡ 70) }
     ensures unused_kits { IfSome (serve_of words.now) (λ serve. IfSome result.unused (λ kits. AreUnused serve.accepts
         (map (worker_view K.Doors.hall K.Outlet.outbox) kits.workers.items)
-        (map (pump_view K.Store.recording K.Store.faults K.Outlet.outbox) kits.pumps.items)
+        (map (pump_view K.Store.recording K.Store.faults K.Store.lent K.Store.peak K.Outlet.outbox) kits.pumps.items)
         (tick_view K.Clock.dial K.Outlet.outbox kits.tick))) }
 
     // When each status of a serve comes.
@@ -262,16 +262,16 @@ fn run_serve<R: Threads + Wait + Sync, K: Desk, E: Sink>(
         (feed K.Config.left K.Config.ended K.Config.faults K.Config.taken source) last.server.setting.config))) }
     ensures run { IfSome result.last (λ last. ServeRun K.Doors.Conn.tells K.Outlet.tells last.server.setting accepts last.pass.seen last.pass.kept
         (map (worker_view K.Doors.hall K.Outlet.outbox) last.jobs.workers.items)
-        (map (pump_view K.Store.recording K.Store.faults K.Outlet.outbox) last.jobs.pumps.items)
+        (map (pump_view K.Store.recording K.Store.faults K.Store.lent K.Store.peak K.Outlet.outbox) last.jobs.pumps.items)
         (tick_view K.Clock.dial K.Outlet.outbox last.jobs.tick)) }
     ensures payload { IfSome result.last (λ last. SendsSelected last.server.setting last.pass.seen) }
     ensures owners { IfSome result.last (λ last. ObeysOwners last.server.setting last.pass.seen) }
     ensures busy { IfSome result.last (λ last. TellsBusy last.server.setting last.pass.seen) }
     ensures recordings { IfSome result.last (λ last. PlaysRecordings last.server.setting last.pass.seen
-        (map (pump_view K.Store.recording K.Store.faults K.Outlet.outbox) last.jobs.pumps.items)) }
+        (map (pump_view K.Store.recording K.Store.faults K.Store.lent K.Store.peak K.Outlet.outbox) last.jobs.pumps.items)) }
     ensures unused { IfSome result.unused (λ kits. AreUnused accepts
         (map (worker_view K.Doors.hall K.Outlet.outbox) kits.workers.items)
-        (map (pump_view K.Store.recording K.Store.faults K.Outlet.outbox) kits.pumps.items)
+        (map (pump_view K.Store.recording K.Store.faults K.Store.lent K.Store.peak K.Outlet.outbox) kits.pumps.items)
         (tick_view K.Clock.dial K.Outlet.outbox kits.tick)) }
     ensures config { MatchOption result.config (Rises (K.faults desk.old) (K.faults desk.new))
         (λ _. (K.faults desk.new ≡ K.faults desk.old) ⊎ ((result.status ≡ 7) × IsNone result.last)) }

@@ -7,6 +7,7 @@ input-init g c = (
   record { goes_on = rw c.requires.framer refl; room = rw c.requires.framer (lit< tt) },
   refl,
   goes_from _ _ _ _ _ _ c.requires.framer c.requires.talker,
+  c.requires.gathered,
 )
 
 pub returns-then-taken-gt-LIMIT : goal.returns-then-taken-gt-LIMIT
@@ -21,6 +22,7 @@ input-preserved g c = (
   c.take_some.auto.buf ∙ c.input.invariant.1,
   goes_more _ _ _ _ _ _ _ _ _ _ _ _ _ _ _ c.input.invariant.2 c.in-Got.ensures.takes c.if-taken-gt-LIMIT.false
       (c.in-All.ensures.hears _ _ c.input.invariant.2.listens),
+  c.in-All.ensures.empty refl,
 )
 
 pub returns-in-Closed : goal.returns-in-Closed

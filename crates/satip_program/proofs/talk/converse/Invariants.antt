@@ -1,8 +1,8 @@
-use Rattle.std.proofs.Common.{◌≡◌, ◌-◌, length}
+use Rattle.std.proofs.Common.{◌≡◌, ◌-◌, [], length}
 use Rattle.satip_program.proofs.TurnLemmas.{IsOpen, Goes}
 use Rattle.satip_program.proofs.talk.converse.Given as goal
 
--- what was taken so far was answered, and the framer takes more
+-- what was taken so far was answered, the framer takes more, and no reply waits
 abbrev pub invariant-input : goal.invariant-input
 invariant-input g l =
     IsOpen l.conversation.framer
@@ -13,6 +13,7 @@ invariant-input g l =
     (record { sent = g.O.Sink.sent l.initial.output; faults = g.O.Sink.faults l.initial.output })
     (record { sent = g.O.Sink.sent l.output; faults = g.O.Sink.faults l.output })
     l.taken l.conversation.framer l.conversation.talker
+    × (l.conversation.gathered ≡ [])
 
 -- each turn takes at least one byte, or is the last
 abbrev pub decreases-input : goal.decreases-input

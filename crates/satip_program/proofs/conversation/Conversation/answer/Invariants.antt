@@ -9,10 +9,10 @@ use Rattle.satip_program.proofs.conversation.Conversation.answer.Given as goal
 abbrev pub invariant-messages : goal.invariant-messages
 invariant-messages g l = (o : Drain) (text : List ℕ) (messages : List Said)
     → Stands g.O.Sink.tells o (record { sent = g.O.Sink.sent l.initial.output; faults = g.O.Sink.faults l.initial.output })
-    text messages l.initial.self.framer l.initial.self.talker
+    l.initial.self.gathered text messages l.initial.self.framer l.initial.self.talker
     → (answered : List Said)
     × Stands g.O.Sink.tells o (record { sent = g.O.Sink.sent l.output; faults = g.O.Sink.faults l.output })
-    text answered l.self.framer l.self.talker
+    l.self.gathered text answered l.self.framer l.self.talker
 
 -- each message takes some of the bytes
 abbrev pub decreases-messages : goal.decreases-messages

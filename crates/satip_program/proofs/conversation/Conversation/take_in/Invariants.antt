@@ -2,7 +2,7 @@ use Rattle.std.proofs.Common.{◌≡◌, ◌<◌, ℕ, List, ◌++◌, length, N
 use Rattle.satip_base.specs.Streams.{Drain}
 use Rattle.satip_frame.specs.Held.{Held, capacity}
 use Rattle.satip_program.specs.Hearing.{Listens}
-use Rattle.satip_program.proofs.conversation.Conversation.hear.Given as goal
+use Rattle.satip_program.proofs.conversation.Conversation.take_in.Given as goal
 
 -- the framer takes more
 pub record IsOpen (framer : Held) : Type 0 where
@@ -15,10 +15,10 @@ invariant-piece g l =
     IsOpen l.self.framer
     × ((o : Drain) (text : List ℕ)
     → Listens g.O.Sink.tells o (record { sent = g.O.Sink.sent l.initial.output; faults = g.O.Sink.faults l.initial.output })
-    text l.initial.self.framer l.initial.self.talker
+    l.initial.self.gathered text l.initial.self.framer l.initial.self.talker
     → (heard : List ℕ) × (l.piece ≡ heard ++ l.rest)
     × Listens g.O.Sink.tells o (record { sent = g.O.Sink.sent l.output; faults = g.O.Sink.faults l.output })
-    (text ++ heard) l.self.framer l.self.talker)
+    l.self.gathered (text ++ heard) l.self.framer l.self.talker)
 
 -- each turn takes some of the piece
 abbrev pub decreases-piece : goal.decreases-piece
