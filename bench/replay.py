@@ -16,6 +16,7 @@ import time
 
 HERE = os.path.dirname(os.path.abspath(__file__))
 INPUT_LIMIT = 67108864
+RUNS = 5
 
 FIRST_MUX = "src=1&freq=11361.75&pol=h&msys=dvbs2&sr=22000"
 SECOND_MUX = "src=1&freq=12402&pol=v&msys=dvbs&sr=27500"
@@ -79,12 +80,10 @@ def script(lines, packets):
     return text
 
 
-def run(words, text, folder):
-    """Wall seconds, CPU seconds and the peak of memory in kB."""
-    with open(os.path.join(folder, "in"), "wb") as file:
-        file.write(text)
-    begin, peak = time.monotonic(), 0
-    with open(os.path.join(folder, "in"), "rb") as given, open(os.path.join(folder, "out"), "wb") as out:
+def run(words, folder, output):
+    """CPU seconds and the peak of memory in kB."""
+    peak = 0
+    with open(os.path.join(folder, "in"), "rb") as given, open(output, "wb") as out:
         child = subprocess.Popen(words, cwd=folder, stdin=given, stdout=out)
         ended = 0
         while ended == 0:
@@ -93,7 +92,7 @@ def run(words, text, folder):
             ended, status, used = os.wait4(child.pid, os.WNOHANG)
         child.returncode = os.waitstatus_to_exitcode(status)
     assert child.returncode == 0, child.returncode
-    return time.monotonic() - begin, used.ru_utime + used.ru_stime, peak
+    return used.ru_utime + used.ru_stime, peak
 
 
 def peak_kb(pid):
@@ -115,12 +114,16 @@ def instructions(words, text, folder):
 
 
 def measure(name, words, text, short, folder, unit=b"\n"):
-    """The time for a text, and the instructions a line (or another unit of it) between two short ones."""
+    """The least time for a text, the output dropped or in a file, and the instructions a line (or another
+    unit of it) between two short ones."""
     units = text.count(unit)
-    wall, used, peak = run(words, text, folder)
-    out = os.path.getsize(os.path.join(folder, "out"))
-    print(f"{name}: {units} of them, {len(text)} bytes in, {out} bytes out: {wall:.2f} s, {used:.2f} s of CPU, "
-          f"{units / used:,.0f} a second, peak {peak / 1024:.1f} MB")
+    with open(os.path.join(folder, "in"), "wb") as given:
+        given.write(text)
+    used, peak = min(run(words, folder, os.devnull) for _ in range(RUNS))
+    out = os.path.join(folder, "out")
+    stored, _ = min(run(words, folder, out) for _ in range(RUNS))
+    print(f"{name}: {units} of them, {len(text)} bytes in, {os.path.getsize(out)} bytes out: {used:.2f} s of CPU, "
+          f"{stored:.2f} s into a file, {units / used:,.0f} a second, peak {peak / 1024:.1f} MB")
     if shutil.which("valgrind"):
         few, many = short
         each = (instructions(words, many, folder) - instructions(words, few, folder)) / (many.count(unit) - few.count(unit))
