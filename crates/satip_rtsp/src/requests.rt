@@ -12,7 +12,7 @@ use crate::targets::Target;
 use crate::transports::{acceptable_ports, session_name};
 use satip_base::{Ports, SessionId, read_number};
 use satip_frame::{Break, Message};
-use satip_query::{Query, QueryFault, read};
+use satip_query::{PidsGiven, Query, QueryFault, read};
 use satip_tune::same_bytes;
 
 /// The methods that are served (RFC 2326, section 10).
@@ -112,8 +112,30 @@ impl Request {
         ensures not_too_long { result.refusal ≢ Some Refusal.TooLong }
     {
         let mut request = blank();
-        read_request(message, &mut request);
+        fill_whole(message, &mut request);
         request
+    }
+
+    /// Puts the request of a message in the place of an older one, whatever that was: a request is large, and
+    /// moves cost time.
+    pub fn read(&mut self, message: &Message<'_>)
+        ensures asked { self.new ≡ asked message.now }
+    {
+        self.clear();
+        fill_whole(message, self);
+    }
+
+    // Asks for nothing from now on.
+    fn clear(&mut self)
+        ensures blank { self.new ≡ blank }
+    {
+        self.cseq = None;
+        self.refusal = None;
+        self.method = Method::Options;
+        self.stream = None;
+        self.session = SessionName::Absent;
+        clear_query(&mut self.query);
+        self.ports = None;
     }
 
     /// The request of what is no message.
@@ -129,8 +151,8 @@ impl Request {
     }
 }
 
-// Puts what a message asks for in the place of a request that asks for nothing: a request is large, and moves cost time.
-fn read_request(message: &Message<'_>, into: &mut Request)
+// Puts what a message asks for in the place of a request that asks for nothing.
+fn fill_whole(message: &Message<'_>, into: &mut Request)
     requires blank { into.old ≡ blank }
     ensures asked { into.new ≡ asked message.now }
 {
@@ -177,6 +199,16 @@ fn fill_served(message: &Message<'_>, method: Method, into: &mut Request) -> Res
     into.session = session_name(message.header(b"Session"));
     into.ports = ports_of(method, message.header(b"Transport"));
     Ok(())
+}
+
+// A query that gives nothing from now on. Its lists stay as they are, unseen.
+fn clear_query(query: &mut Query)
+    ensures empty { query.new ≡ new_query }
+{
+    query.change = Query::new().change;
+    query.pids = PidsGiven::Absent;
+    query.addpids = None;
+    query.delpids = None;
 }
 
 // A request that asks for nothing.
