@@ -1,6 +1,6 @@
 -- Sessions in order of making, each in its slot.
-use Rattle.std.proofs.Common.{◌≡◌, ◌∙◌, ℕ, ◌+◌, ◌<◌, ◌≤◌, ◌==◌, ◌&&◌, ◌||◌, Bool, true, false, cond, List, [], ◌∷◌, ◌++◌, None, Some, length, filter, find, map, IfSome, refl, ap, sym, subst, arith}
-use Rattle.std.specs.List.{list_any, list_all}
+use Rattle.std.proofs.Common.{◌≡◌, ◌∙◌, ℕ, ◌+◌, ◌<◌, ◌≤◌, ◌==◌, ◌&&◌, ◌||◌, Bool, true, false, cond, List, [], ◌∷◌, ◌++◌, zero, suc, Option, None, Some, length, filter, find, map, IfSome, refl, ap, sym, subst, arith}
+use Rattle.std.specs.List.{list_any, list_all, slice_get}
 use Rattle.std.specs.Option.{option_map}
 use Rattle.std.proofs.lemmas.Bool.{eqb-true, ne_eqb, eq-eqb, or_parts, or_from, or_left, or_right, false≢true}
 use Rattle.std.proofs.lemmas.List.Folds.{list_any-append}
@@ -151,3 +151,24 @@ slot_within p (seat ∷ seats) apart = each (p seat) (slot_within p seats apart.
     each : (b : Bool) → IfSome (option_map (λ (s : Seat). s.slot) (find p seats)) (λ slot. slot < 64) → IfSome (option_map (λ (s : Seat). s.slot) (cond b (Some seat) (find p seats))) (λ slot. slot < 64)
     each true rest = apart.0
     each false rest = rest
+
+-- so is that of a session that is found with its slot
+pub found_within : (p : Seat → Bool) (seats : List Seat) → SlotsApart seats → IfSome (find p seats) (λ (seat : Seat). seat.slot < 64)
+found_within p [] apart = tt
+found_within p (seat ∷ seats) apart = each (p seat) (found_within p seats apart.2)
+  where
+    each : (b : Bool) → IfSome (find p seats) (λ (s : Seat). s.slot < 64) → IfSome (cond b (Some seat) (find p seats)) (λ (s : Seat). s.slot < 64)
+    each true rest = apart.0
+    each false rest = rest
+
+-- and that of a session at a place
+pub place_within : (seats : List Seat) (place : ℕ) → SlotsApart seats → IfSome (slice_get seats place) (λ (seat : Seat). seat.slot < 64)
+place_within [] place apart = tt
+place_within (seat ∷ seats) zero apart = apart.0
+place_within (seat ∷ seats) (suc place) apart = place_within seats place apart.2
+
+-- what is lent of them
+pub lent_within : {X : Type 0} (see : X → Seat) (lent : Option X) {found : Option Seat} → option_map see lent ≡ found → IfSome found (λ (seat : Seat). seat.slot < 64)
+    → IfSome lent (λ x. (see x).slot < 64)
+lent_within see None e within = tt
+lent_within see (Some x) e within = subst (λ (o : Option Seat). IfSome o (λ (seat : Seat). seat.slot < 64)) (sym e) within

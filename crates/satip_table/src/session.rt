@@ -95,6 +95,20 @@ pub fn seat_of(seats: &[Seat], id: SessionId) -> Option<&Seat>
     seats.iter().find(|seat| has_id(seat, id))
 }
 
+/// The session of this slot, where there is one.
+pub fn seat_at(seats: &[Seat], slot: u16) -> Option<&Seat>
+    ensures seat { option_map (λ s. s.now) result ≡ find (has_slot slot) seats.now }
+{
+    seats.iter().find(|seat| seat.slot == slot)
+}
+
+/// The session at this place, where there is one.
+pub fn seat_in(seats: &[Seat], place: usize) -> Option<&Seat>
+    ensures seat { option_map (λ s. s.now) result ≡ slice_get seats.now place }
+{
+    seats.get(place)
+}
+
 /// Whether one of the sessions is at this stream.
 pub fn has_members(seats: &[Seat], stream: u16) -> bool
     ensures members { result ≡ list_any (is_in stream) seats.now }

@@ -1,6 +1,6 @@
 //! The living sessions and streams.
 
-ghost use Rattle.std.specs.Prelude.{◌≡◌, ◌+◌, ◌<◌, ◌≤◌, false, true, find, is_some, slice_get, IfOk, IfSome};
+ghost use Rattle.std.specs.Prelude.{◌≡◌, ◌+◌, ◌<◌, ◌≤◌, false, true, find, is_some, length, slice_get, IfOk, IfSome};
 ghost use Rattle.std.specs.Bool.{OnFalse};
 ghost use Rattle.std.specs.List.{list_any};
 ghost use Rattle.std.specs.Option.{option_map};
@@ -10,7 +10,7 @@ ghost use Rattle.satip_table.specs.Living.{Sound, is_full, none};
 
 use crate::session::{
     Change, NewSession, Seat, Session, change_session, free_slot, lives, member, new_session,
-    remove_session, seat_of,
+    remove_session, seat_at, seat_in, seat_of,
 };
 use crate::stream::{Stream, change_stream, free_number, keep_streams, new_stream, put, stream_of};
 use satip_base::{Peer, Ports, SessionId, Want};
@@ -65,6 +65,14 @@ impl Table {
         ensures sound { Sound self.now }
     {
         let _ = &self.seats;
+    }
+
+    /// How many sessions live.
+    pub fn count(&self) -> usize
+        ensures count { result ≡ length self.now.seats }
+        ensures within { result ≤ 64 }
+    {
+        self.seats.len()
     }
 
     /// Whether no session can be made: 64 live, or 4294967295 were made.
@@ -144,15 +152,20 @@ impl Table {
         seat_of(&self.seats, id).map(|seat| seat.slot)
     }
 
-    /// The living session of this slot; None where there is none.
-    pub fn at(&self, slot: u16) -> Option<&Session>
-        ensures found { option_map (λ s. s.now) result
-            ≡ option_map (λ seat. seat.session) (find (has_slot slot) self.now.seats) }
+    /// The session with this id, and its slot; None where it doesn't live.
+    pub fn seat_of(&self, id: SessionId) -> Option<&Seat>
+        ensures seat { option_map (λ s. s.now) result ≡ find (has_id_of id) self.now.seats }
+        ensures within { IfSome result (λ seat. seat.now.slot < 64) }
     {
-        self.seats
-            .iter()
-            .find(|seat| seat.slot == slot)
-            .map(|seat| &seat.session)
+        seat_of(&self.seats, id)
+    }
+
+    /// The living session of this slot, and the slot; None where there is none.
+    pub fn seat_at(&self, slot: u16) -> Option<&Seat>
+        ensures seat { option_map (λ s. s.now) result ≡ find (has_slot slot) self.now.seats }
+        ensures within { IfSome result (λ seat. seat.now.slot < 64) }
+    {
+        seat_at(&self.seats, slot)
     }
 
     /// The stream of this number; None where it doesn't live.
@@ -169,6 +182,14 @@ impl Table {
             ≡ option_map (λ seat. seat.session) (slice_get self.now.seats place) }
     {
         self.seats.get(place).map(|seat| &seat.session)
+    }
+
+    /// The living session at this place, from 0, in order of making, and its slot; None where there is none.
+    pub fn seat(&self, place: usize) -> Option<&Seat>
+        ensures seat { option_map (λ s. s.now) result ≡ slice_get self.now.seats place }
+        ensures within { IfSome result (λ seat. seat.now.slot < 64) }
+    {
+        seat_in(&self.seats, place)
     }
 
     /// The living stream at this place, from 0, in rising number; None where there is none.

@@ -91,11 +91,10 @@ fn a_full_table_has_64_slots(rt: HostRuntime) -> Result<(), Want> {
     for _ in 0..64 {
         let _ = found(&rt, &mut table, 10);
     }
-    assert!(rt; table.full());
+    assert!(rt; table.full() && table.count() == 64);
     let mut taken = [false; 64];
     for place in 0..64 {
-        let id = table.session(place).map(|session| session.id);
-        let slot = id.and_then(|id| table.slot(id)).expect(&rt, "lives") as usize;
+        let slot = table.seat(place).map(|seat| seat.slot).expect(&rt, "lives") as usize;
         assert!(rt; slot < 64 && !taken[slot]);
         taken[slot] = true;
     }
@@ -122,7 +121,11 @@ fn fields_change_and_the_others_stay(rt: HostRuntime) -> Result<(), Want> {
         ..before
     };
     let slot = table.slot(id).expect(&rt, "lives");
-    assert!(rt; table.at(slot).is_some_and(|session| *session == after));
+    assert!(rt;
+        table
+            .seat_at(slot)
+            .is_some_and(|seat| seat.session == after)
+    );
     let mut pids = PidSet::new();
     pids.set_all();
     assert!(rt; table.change(number, None, Some(2), pids) && !table.change(2, None, None, pids));
