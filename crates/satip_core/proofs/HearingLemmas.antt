@@ -5,7 +5,15 @@ use Rattle.satip_plain.specs.Types.{Request}
 use Rattle.satip_plain.specs.State.{Session, State}
 use Rattle.satip_plain.specs.Sending.{settle}
 use Rattle.satip_plain.specs.Steps.{accepted, hear, teardown_of}
+use Rattle.satip_state.specs.Seated.{row_of}
 use Rattle.satip_core.specs.Doing.{torn_down}
+use Rattle.satip_core.specs.Rows.{id_in}
+
+-- the session of a row has the row's id
+pub id_row : (o : Option Session) → id_in (option_map row_of o) ≡ option_map (λ s. s.id) o
+unfolding row_of
+id_row None = refl
+id_row (Some s) = refl
 
 -- the session is heard of, by its id
 pub heard_as : (b : Bool) (o : Option Session) (st : State) → option_map_or (λ id. hear id st) (cond b (option_map (λ (s : Session). s.id) o) None) st ≡ option_map_or (λ (s : Session). cond b (hear s.id st) st) o st

@@ -1,4 +1,3 @@
-pub mod PlaceLemmas
 pub mod ViewLemmas
 pub mod DoingLemmas
 pub mod HearingLemmas

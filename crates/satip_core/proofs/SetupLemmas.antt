@@ -22,7 +22,7 @@ use Rattle.satip_state.specs.Kept.{Kept}
 use Rattle.satip_state.specs.Standing.{StandsFor}
 use Rattle.satip_state.proofs.Picking.{map_nothing, some_same}
 use Rattle.satip_core.specs.Doing.{Accepted, MaySetUp, SetUpAs}
-use Rattle.satip_core.specs.Places.{of_asked, of_names, of_setup}
+use Rattle.satip_refusals.specs.Places.{of_asked, of_names, of_setup}
 
 -- each cause that comes first isn't there, where none is
 given_none : (o : Option Refused) (more : List (Option Refused)) → first_given (o ∷ more) ≡ None → (o ≡ None) × (first_given more ≡ None)

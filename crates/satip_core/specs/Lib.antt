@@ -1,5 +1,3 @@
-pub mod Told
-pub mod Places
 pub mod Rows
 pub mod Describing
 pub mod Doing

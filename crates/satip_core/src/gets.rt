@@ -12,14 +12,13 @@ ghost use Rattle.satip_plain.specs.Steps.{on_get, start as started};
 ghost use Rattle.satip_state.specs.Standing.{StandsFor};
 ghost use Rattle.satip_core.specs.Doing.{Did};
 
-use crate::deciding::decide_get;
-use crate::refusals::{Refused, telling};
 use crate::replies::{write_http_refusal, write_http_start};
 use satip_base::{Draw, Out, Peer, Ports};
 use satip_config::Config;
 use satip_http::HttpRequest;
 use satip_plain::GetAnswer;
 use satip_query::RefusalBody;
+use satip_refusals::{Refused, decide_get, telling};
 use satip_state::Parts;
 
 // An HTTP session has no ports.

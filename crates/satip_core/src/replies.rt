@@ -6,13 +6,13 @@ ghost use Rattle.satip_rtsp.specs.Replies.{IsStatus, play_reply, setup_reply, te
 ghost use Rattle.satip_query.specs.declared.bodies.RefusalBody.TheVariants.{NoMoreSessions};
 ghost use Rattle.satip_http.specs.Heads.{http_refusal, start_head};
 ghost use Rattle.satip_plain.specs.Steps.{closes as closes_connection, is_closing as is_closing_request, message_reply, refused_reply, reply_to_refused};
-ghost use Rattle.satip_core.specs.Told.{told};
+ghost use Rattle.satip_refusals.specs.Told.{told};
 
-use crate::refusals::Refused;
 use satip_base::{Out, Ports, SessionId};
 use satip_frame::Break;
 use satip_http::{write_refusal as write_head_of_refusal, write_start};
 use satip_query::RefusalBody;
+use satip_refusals::Refused;
 use satip_rtsp::{
     Refusal, Request, write_closing, write_plain, write_play, write_setup, write_text,
     write_unsupported,

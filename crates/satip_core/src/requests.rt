@@ -14,16 +14,14 @@ ghost use Rattle.satip_state.specs.Seated.{row_of};
 ghost use Rattle.satip_state.specs.Standing.{StandsFor};
 ghost use Rattle.satip_core.specs.Doing.{Accepted, Did, MaySetUp, SetUpAs, Standing, torn_down};
 ghost use Rattle.satip_core.specs.Rows.{id_in};
-ghost use Rattle.satip_core.specs.Told.{told};
+ghost use Rattle.satip_refusals.specs.Told.{told};
 
-use crate::deciding::decide;
 use crate::describing::write_description;
-use crate::places::session_named;
-use crate::refusals::Refused;
 use crate::replies::{is_closing, write_full, write_playing, write_refusal, write_set_up};
 use satip_base::{Draw, Out, Peer, Ports, SessionId};
 use satip_config::Config;
 use satip_plain::Replied;
+use satip_refusals::{Refused, decide, session_named};
 use satip_rtsp::{Method, Request, SessionName, write_options, write_plain};
 use satip_state::Parts;
 use satip_table::Session;

@@ -1,13 +1,12 @@
 -- The seated have slots and ids of their own.
-use Rattle.std.proofs.Common.{◌≡◌, ℕ, zero, suc, ◌<◌, ◌≤◌, ◌==◌, ◌&&◌, Bool, true, false, cond, List, [], ◌∷◌, ◌++◌, length, map, find, Option, Some, None, refl, sym, ap, subst, ◌∙◌, arith}
+use Rattle.std.proofs.Common.{◌≡◌, ℕ, zero, suc, ◌<◌, ◌≤◌, ◌==◌, ◌&&◌, Bool, true, false, List, [], ◌∷◌, ◌++◌, length, map, Some, refl, sym, ap, subst, ◌∙◌, arith}
 use Rattle.std.specs.List.{list_any, slice_get}
-use Rattle.std.specs.Option.{option_map}
 use Rattle.std.proofs.lemmas.Bool.{or_from, and_left, and_parts, ne_eqb, eq-eqb, eqb-true, and_from}
 use Rattle.std.proofs.lemmas.Bool.Decides.{nat_tests}
 use Rattle.satip_base.specs.declared.identity.SessionId.{SessionId}
 use Rattle.satip_table.specs.declared.session.Seat.{Seat}
 use Rattle.satip_table.specs.declared.session.Session.{Session as Row}
-use Rattle.satip_table.specs.Sessions.{has_id, has_slot}
+use Rattle.satip_table.specs.Sessions.{has_slot}
 use Rattle.satip_table.specs.Living.{CountsRise, SlotsApart}
 use Rattle.satip_plain.specs.State.{Session, same_id}
 use Rattle.satip_plain.specs.Steps.{is_session}
@@ -116,40 +115,5 @@ alone_at (y ∷ ys) (suc place) x apart got =
 pub slot_itself : (x : Seated) → is_seat x.slot x ≡ true
 slot_itself x = eq-eqb x.slot x.slot refl
 
-above_at : (above last : ℕ) (seats : List Seat) (place : ℕ) (seat : Seat) → CountsRise above last seats → slice_get seats place ≡ Some seat → above < seat.session.id.count
-above_at above last [] place seat rise got = absurd (cc)
-above_at above last (y ∷ ys) zero seat rise got = subst (λ (z : Seat). above < z.session.id.count) (some_same y seat got) rise.0
-above_at above last (y ∷ ys) (suc place) seat rise got =
-    let later = above_at y.session.id.count last ys place seat rise.1 got in
-    omega (arith, rise.0, later)
-
--- at a table where counts rise a session is found by its id
-pub found_itself : (above last : ℕ) (seats : List Seat) (place : ℕ) (seat : Seat) → CountsRise above last seats → slice_get seats place ≡ Some seat
-    → find (has_id seat.session.id) seats ≡ Some seat
-found_itself above last [] place seat rise got = absurd (cc)
-found_itself above last (y ∷ ys) zero seat rise got =
-    let same : y ≡ seat = some_same y seat got in
-    let here : has_id seat.session.id y ≡ true = ap (λ z. has_id seat.session.id z) same ∙ id_itself seat.session.id in
-    ap (λ t. cond t (Some y) (find (has_id seat.session.id) ys)) here ∙ ap Some same
-found_itself above last (y ∷ ys) (suc place) seat rise got =
-    let later : y.session.id.count < seat.session.id.count = above_at y.session.id.count last ys place seat rise.1 got in
-    let differ : (y.session.id.count == seat.session.id.count) ≡ false = ne_eqb y.session.id.count seat.session.id.count (λ e. omega (arith, e, later)) in
-    ap (λ t. cond t (Some y) (find (has_id seat.session.id) ys)) (and_left (y.session.id.count == seat.session.id.count) (y.session.id.word == seat.session.id.word) differ)
-    ∙ found_itself y.session.id.count last ys place seat rise.1 got
-
 abbrev pub seat_with : ℕ → Row → Seat
 seat_with slot session = record { slot = slot; session = session }
-
--- what is told of a session, its slot and its row are those of its seat
-pub seat_told : (above last : ℕ) (seats : List Seat) (o : Option Seat) → CountsRise above last seats
-    → ((seat : Seat) → o ≡ Some seat → (place : ℕ) × (slice_get seats place ≡ Some seat))
-    → (session : Row) (slot : Option ℕ) → Some session ≡ option_map (λ (seat : Seat). seat.session) o
-    → slot ≡ option_map (λ (seat : Seat). seat.slot) (find (has_id session.id) seats)
-    → option_map (λ n. seat_with n session) slot ≡ o
-seat_told above last seats None rise at session slot row its = absurd (cc)
-seat_told above last seats (Some seat) rise at session slot row its =
-    let same : session ≡ seat.session = some_same session seat.session row in
-    let r = at seat refl in
-    let found = found_itself above last seats r.0 seat rise r.1 in
-    ap (option_map (λ n. seat_with n session)) (its ∙ ap (λ (row : Row). option_map (λ (z : Seat). z.slot) (find (has_id row.id) seats)) same ∙ ap (option_map (λ (z : Seat). z.slot)) found)
-    ∙ ap (λ (row : Row). Some (seat_with seat.slot row)) same

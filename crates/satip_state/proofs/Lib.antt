@@ -16,7 +16,6 @@ pub mod Flushes
 pub mod Viewing
 pub mod Looking
 pub mod Outlooks
-pub mod Same
 pub mod RequestFound
 pub mod RequestMade
 pub mod Swept

@@ -3,7 +3,6 @@ use Rattle.std.proofs.Common.{◌≡◌, ℕ, suc, ◌+◌, ◌≤◌, Bool, tru
 use Rattle.std.proofs.lemmas.List.{map-append, length-map}
 use Rattle.satip_base.specs.Output.{Output}
 use Rattle.satip_rtp.specs.Sending.{SendsAll}
-use Rattle.satip_table.specs.Living.{Sound}
 use Rattle.satip_flow.proofs.Sends.{◌then_sends◌}
 use Rattle.satip_plain.specs.Types.{Config}
 use Rattle.satip_plain.specs.State.{Session, State}
@@ -64,9 +63,9 @@ pub flushed_more : (c : Config) (v w : Kept) (o m n : Output) (st : State) (only
 flushed_more c v w o m n st only k =
     turned_more c v w o m n st (flush_turn only st.clock) (λ s. cond (is_flushed only s.stream s.http) (cut_off true s) s) (flush_stays only st.clock) k
 
--- there are at most 64 sessions
-pub few_sessions : (c : Config) (v : Kept) (st : State) → StandsFor c v st → Sound v.table → length st.sessions ≤ 64
-few_sessions c v st stands sound =
+-- there are as many sessions as seats
+pub as_many : (c : Config) (v : Kept) (st : State) → StandsFor c v st → length st.sessions ≡ length v.table.seats
+as_many c v st stands =
     let sessions : length st.sessions ≡ length stands.seated = ap length stands.sessions ∙ length-map stands.seated (λ (x : Seated). x.session) in
     let seats : length v.table.seats ≡ length stands.seated = ap length stands.seats ∙ length-map stands.seated seat_of in
-    omega (arith, sessions, seats, sound.few)
+    sessions ∙ sym seats

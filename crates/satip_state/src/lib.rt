@@ -1,7 +1,6 @@
 //! The state of the server: sessions, streams, front ends and subscribers, kept by one part each and told as the plain server's state.
 #![tactic(auto)]
 
-mod asking;
 mod changing;
 mod ending;
 mod looks;
@@ -16,7 +15,6 @@ mod subscribing;
 mod ticking;
 mod views;
 
-pub use asking::{asked_pids, changed_tuning, to_set};
 pub use parts::Parts;
 
 #[cfg(test)]

@@ -9,8 +9,8 @@ ghost use Rattle.satip_plain.specs.Streams.{change_by as changed_by, change_stre
 ghost use Rattle.satip_state.specs.Placing.{placed_in};
 ghost use Rattle.satip_state.specs.Standing.{Moved, StandsFor};
 
-use crate::asking::{asked_pids, to_set};
 use crate::parts::Parts;
+use satip_asking::{asked_pids, to_set};
 use satip_base::Out;
 use satip_pids::PidSet;
 use satip_query::Query;

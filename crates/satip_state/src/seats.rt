@@ -13,17 +13,7 @@ impl Parts {
         ensures seat { result ≡ slice_get self.now.table.seats place }
         ensures within { IfSome result (λ seat. seat.slot < 64) }
     {
-        self.table.known();
-        match self.table.session(place) {
-            None => None,
-            Some(session) => match self.table.slot(session.id) {
-                None => None,
-                Some(slot) => Some(Seat {
-                    slot,
-                    session: *session,
-                }),
-            },
-        }
+        self.table.seat(place).copied()
     }
 
     /// The session with this id; None where it doesn't live.
@@ -31,17 +21,7 @@ impl Parts {
         ensures seat { result ≡ find (has_id id) self.now.table.seats }
         ensures within { IfSome result (λ seat. seat.slot < 64) }
     {
-        self.table.known();
-        match self.table.find(id) {
-            None => None,
-            Some(session) => match self.table.slot(session.id) {
-                None => None,
-                Some(slot) => Some(Seat {
-                    slot,
-                    session: *session,
-                }),
-            },
-        }
+        self.table.seat_of(id).copied()
     }
 
     /// The session of this slot; None where there is none.
@@ -49,16 +29,6 @@ impl Parts {
         ensures seat { result ≡ find (has_slot slot) self.now.table.seats }
         ensures within { IfSome result (λ seat. seat.slot < 64) }
     {
-        self.table.known();
-        match self.table.at(slot) {
-            None => None,
-            Some(session) => match self.table.slot(session.id) {
-                None => None,
-                Some(own) => Some(Seat {
-                    slot: own,
-                    session: *session,
-                }),
-            },
-        }
+        self.table.seat_at(slot).copied()
     }
 }

@@ -11,8 +11,6 @@ use crate::parts::Parts;
 use satip_base::Out;
 use satip_table::Session;
 
-const SESSIONS: usize = 64;
-
 impl Parts {
     /// What is held for each RTSP session of this stream leaves: one datagram a session at most, in order of
     /// making.
@@ -50,7 +48,7 @@ impl Parts {
         ensures count_spare { out.old.count_spare ≤ out.new.count_spare + 64 }
     {
         self.table.known();
-        for place in 0..SESSIONS {
+        for place in 0..self.table.count() {
             self.flush_place(place, only, out);
         }
     }

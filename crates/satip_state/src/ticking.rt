@@ -14,8 +14,6 @@ use satip_flow::SenderState;
 use satip_rtcp::{Sender, write_report};
 use satip_table::{Seat, Session};
 
-const SESSIONS: usize = 64;
-
 const LAST_MOMENT: u64 = 281474976710655;
 
 impl Parts {
@@ -71,7 +69,7 @@ impl Parts {
         ensures count_spare { out.old.count_spare ≤ out.new.count_spare + 64 }
     {
         self.table.known();
-        for place in 0..SESSIONS {
+        for place in 0..self.table.count() {
             self.report_place(place, address, out);
         }
     }

@@ -3,7 +3,7 @@ use Rattle.satip_rtsp.specs.declared.requests.Refusal.{Refusal}
 use Rattle.satip_plain.specs.State.{Session}
 use Rattle.satip_plain.specs.Refusals.{session_named}
 use Rattle.satip_core.specs.Rows.{id_in}
-use Rattle.satip_core.proofs.PlaceLemmas.{id_row}
+use Rattle.satip_core.proofs.HearingLemmas.{id_row}
 use Rattle.satip_core.proofs.requests.heard_id.Goals as goal
 
 pub returns-in-None : goal.returns-in-None

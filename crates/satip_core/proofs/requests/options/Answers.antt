@@ -4,7 +4,7 @@ use Rattle.satip_base.specs.declared.identity.SessionId.{SessionId}
 use Rattle.satip_rtsp.specs.Replies.{options_reply}
 use Rattle.satip_plain.specs.Refusals.{session_named}
 use Rattle.satip_core.specs.Rows.{id_in}
-use Rattle.satip_core.proofs.PlaceLemmas.{id_row}
+use Rattle.satip_core.proofs.HearingLemmas.{id_row}
 use Rattle.satip_core.proofs.requests.options.Goals as goal
 
 pub returns-clause-wrote : goal.returns-clause-wrote

@@ -1,7 +1,7 @@
 use Rattle.std.proofs.Common.{◌∙◌, ap}
 use Rattle.satip_plain.specs.Refusals.{session_named}
 use Rattle.satip_core.specs.Rows.{id_in}
-use Rattle.satip_core.proofs.PlaceLemmas.{id_row}
+use Rattle.satip_core.proofs.HearingLemmas.{id_row}
 use Rattle.satip_core.proofs.SetupLemmas.{placed_made, placed_moved, none_named}
 use Rattle.satip_core.proofs.requests.place_session.Goals as goal
 

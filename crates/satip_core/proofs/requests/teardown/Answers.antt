@@ -4,7 +4,7 @@ use Rattle.satip_plain.specs.declared.answers.Answer.TheVariants.{Replied}
 use Rattle.satip_plain.specs.Refusals.{session_named}
 use Rattle.satip_core.specs.Doing.{Did, torn_down}
 use Rattle.satip_core.specs.Rows.{id_in}
-use Rattle.satip_core.proofs.PlaceLemmas.{id_row}
+use Rattle.satip_core.proofs.HearingLemmas.{id_row}
 use Rattle.satip_core.proofs.DoingLemmas.{did_nothing, did_reply_move}
 use Rattle.satip_core.proofs.requests.teardown.Goals as goal
 

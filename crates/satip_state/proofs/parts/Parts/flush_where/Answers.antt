@@ -1,8 +1,7 @@
-use Rattle.std.proofs.Common.{◌≤◌, length, subst, arith}
-use Rattle.satip_table.specs.Living.{Sound}
+use Rattle.std.proofs.Common.{◌≡◌, ◌≤◌, length, subst, arith}
 use Rattle.satip_state.specs.Kept.{Kept}
 use Rattle.satip_state.specs.Turns.{after_round, first_turns, flush_turn}
-use Rattle.satip_state.proofs.Moving.{flushed_more, turned_all, few_sessions}
+use Rattle.satip_state.proofs.Moving.{flushed_more, turned_all, as_many}
 use Rattle.satip_state.proofs.parts.Parts.flush_where.Goals as goal
 
 pub loop-place-preserved : goal.loop-place-preserved
@@ -17,7 +16,7 @@ loop-place-preserved c = record {
 
 pub returns-clause-moved : goal.returns-clause-moved
 returns-clause-moved c config st stands =
-    let sound : Sound c.args.self.now.table = subst (λ (v : Kept). Sound v.table) c.self.view_is c.known.ensures.sound in
-    let few : length st.sessions ≤ 64 = few_sessions config c.args.self.now st stands sound in
-    let over : length st.sessions ≤ c.loop-place.place = omega (arith, few) in
+    let many : length st.sessions ≡ length c.args.self.now.table.seats = as_many config c.args.self.now st stands in
+    let counted : c.count-place-end.result ≡ length c.args.self.now.table.seats = subst (λ (v : Kept). c.count-place-end.result ≡ length v.table.seats) c.self.view_is c.count-place-end.ensures.count in
+    let over : length st.sessions ≤ c.loop-place.place = omega (arith, many, counted) in
     turned_all config c.loop-place.self c.args.out.now c.loop-place.out st (flush_turn c.args.only st.clock) c.loop-place.place over (c.loop-place.invariant.moved config st stands)

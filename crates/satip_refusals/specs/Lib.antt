@@ -1,0 +1,3 @@
+pub mod Told
+pub mod Places
+pub mod Rows

@@ -1,0 +1,10 @@
+-- A refusal, as the plain server tells it.
+use Rattle.std.specs.Prelude.{Option, option_map}
+use Rattle.satip_plain.specs.Refusals.{Refused as PlainRefused}
+use Rattle.satip_refusals.specs.declared.refusals.Refused.{Refused}
+
+abbrev pub told : Refused → PlainRefused
+told refused = record { status = refused.status; body = refused.body }
+
+abbrev pub told_if : Option Refused → Option PlainRefused
+told_if refused = option_map told refused
