@@ -1,6 +1,5 @@
 pub mod WordLemmas
-pub mod HexDigits
-pub mod PacketDigits
+pub mod PacketLines
 pub mod TextLemmas
 pub mod LawProofs
 pub mod AppendLemmas

@@ -7,7 +7,8 @@ use Rattle.satip_plain.specs.declared.events.Event.{Event}
 use Rattle.satip_plain.specs.declared.events.Event.TheVariants.{Tick, Packet, Ended, Ask, Pull, Close, Stop}
 use Rattle.satip_plain.specs.Types.{Draw, Peer}
 use Rattle.satip_script.specs.Lines.{one_word, two_words, three_words}
-use Rattle.satip_script.specs.Parts.{greatest, bytes_of, draw_of, packet_of}
+use Rattle.satip_digits.specs.Digits.{bytes_of, packet_of}
+use Rattle.satip_script.specs.Parts.{greatest, draw_of}
 
 -- who sends a text of bytes, the draw that goes with it, and the bytes
 pub record Call : Type 0 where

@@ -10,7 +10,7 @@ use Rattle.satip_script.specs.declared.lines.EventParts.{EventParts}
 use Rattle.satip_script.specs.declared.lines.EventParts.TheVariants.{Tick as TickParts, Packet as PacketParts, Line as OfLine}
 use Rattle.satip_script.specs.Lines.{is_skipped}
 use Rattle.satip_script.specs.Forms.{Form, Other, packet_event}
-use Rattle.satip_script.specs.Parts.{packet_of}
+use Rattle.satip_digits.specs.Digits.{packet_of}
 use Rattle.satip_script.specs.Reading.{IsLine}
 use Rattle.satip_script.specs.Scripts.{GivenAfter}
 

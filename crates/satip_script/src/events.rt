@@ -7,9 +7,9 @@ ghost use Rattle.satip_script.specs.Forms.{event_of, tick_by, packet_by, ended_b
 ghost use Rattle.satip_plain.specs.declared.events.Event.TheVariants.{Tick};
 ghost use Rattle.satip_script.specs.Often.{packet_in};
 
-use crate::digits::read_packet;
 use crate::words::{one_word, three_words, two_words};
 use satip_base::{SessionId, read_number};
+use satip_digits::read_packet;
 use satip_plain::Event;
 use satip_tune::same_bytes;
 

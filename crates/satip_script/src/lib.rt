@@ -1,7 +1,6 @@
 //! Event scripts: the lines of a text as events of the server, and the printed run.
 #![tactic(auto)]
 
-mod digits;
 mod events;
 mod front;
 mod laws;

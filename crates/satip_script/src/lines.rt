@@ -7,12 +7,12 @@ ghost use Rattle.satip_script.specs.Reading.{IsFormed, IsLine};
 ghost use Rattle.satip_script.specs.Inner.{AreCall};
 ghost use Rattle.satip_script.specs.Often.{IsOftenForm, IsOften, HasParts};
 
-use crate::digits::{are_digits, read_packet};
 use crate::events::{packet_words, read_event, tick_of_word};
 use crate::messages::{read_get, read_request};
 use crate::pieces::cut;
 use crate::words::{read_draw, three_words};
 use satip_base::{Draw, Peer, read_ip};
+use satip_digits::{are_digits, read_packet};
 use satip_frame::Framer;
 use satip_plain::Event;
 use satip_ts::Packet;

@@ -6,7 +6,6 @@ ghost use Rattle.satip_base.specs.Texts.{address_text};
 ghost use Rattle.satip_script.specs.Printed.{hex_line, plain_line, replied_front, replied_line, get_front, get_line, beat_line, work_words, work_line, pulled_line, closed_line, answer_line, datagram_front, datagram_line, entry_text};
 ghost use Rattle.satip_script.specs.Inner.{Appended};
 
-use crate::digits::write_digits;
 use crate::front::Front;
 use satip_base::{Address, Out, SessionId, Want};
 use satip_plain::{Answer, Beat, Closed, GetAnswer, Pulled, Replied, Work};
@@ -199,7 +198,7 @@ fn append_piece(piece: &[u8], room: &mut [u8; 2 * PIECE], text: &mut Vec<u8>) ->
     ensures appended { Appended result text.old.items (encode_lower piece.now) text.new.items }
 {
     let (digits, _) = room.split_at_mut(2 * piece.len());
-    write_digits(piece, digits);
+    let _ = hex::encode_to_slice(piece, digits);
     append(digits, text)
 }
 

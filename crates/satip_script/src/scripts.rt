@@ -7,9 +7,9 @@ ghost use Rattle.satip_script.specs.Checks.{IsChecked};
 ghost use Rattle.satip_script.specs.Often.{AreParts, AreWrong, PartsGivenAfter};
 ghost use Rattle.satip_script.specs.Scripts.{IsScript, Gives, IsOver, HasNext, GivenAfter};
 
-use crate::digits::is_packet;
 use crate::lines::{EventParts, Line, Often, read_line, read_often, read_parts};
 use crate::pieces::cut;
+use satip_digits::is_packet;
 use satip_frame::Framer;
 use satip_plain::{Event, known_event};
 use std::marker::Model;

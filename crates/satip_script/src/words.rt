@@ -4,7 +4,8 @@ ghost use Rattle.std.specs.Option.{option_copied};
 ghost use Rattle.satip_tune.specs.Pieces.{pieces_left};
 ghost use Rattle.satip_script.specs.Lines.{one_word as only_word, two_words as only_two, three_words as only_three};
 ghost use Rattle.std.specs.Int.{from_be_bytes, w16, w32};
-ghost use Rattle.satip_script.specs.Parts.{draw_of, sized_bytes};
+ghost use Rattle.satip_script.specs.Parts.{draw_of};
+ghost use Rattle.satip_digits.specs.Digits.{sized_bytes};
 ghost use Rattle.satip_script.specs.Inner.{pair_now, triple_now};
 
 use crate::pieces::cut;

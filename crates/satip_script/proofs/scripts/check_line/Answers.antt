@@ -1,5 +1,5 @@
 use Rattle.std.proofs.Common.{sym, ◌∙◌}
-use Rattle.satip_script.proofs.PacketDigits.{packet_event}
+use Rattle.satip_script.proofs.PacketLines.{packet_event}
 use Rattle.satip_script.proofs.scripts.check_line.Goals as goal
 
 pub returns-in-Packet : goal.returns-in-Packet

@@ -1,12 +1,11 @@
 -- Bytes in hexadecimal digits, cut into parts and joined.
-use Rattle.std.proofs.Common.{◌≡◌, ℕ, zero, suc, ◌+◌, ◌*◌, ◌%◌, ◌≤◌, Bool, true, false, List, [], ◌∷◌, ◌++◌, length, take, drop, Option, Some, None, Result, Ok, Err, refl, sym, ap, ◌∙◌, ◌<◌, subst, inl, inr, arith, length-take, length-drop, slice_index}
-use Rattle.std.specs.Prelude.{IsOk, MatchResult, ◌≢◌, ◌-◌, ◌&&◌, ◌||◌, ◌==◌, nat_le, nat_lt, cond, is_some, if◌then◌else◌}
-use Rattle.std.proofs.lemmas.Bool.{and_parts, cases_lt, eqb-true}
+use Rattle.std.proofs.Common.{◌≡◌, ℕ, zero, suc, ◌+◌, ◌*◌, ◌%◌, ◌≤◌, Bool, true, false, List, [], ◌∷◌, ◌++◌, length, take, drop, Option, Some, None, Result, Ok, Err, refl, sym, ap, ◌∙◌, subst, arith, length-take, length-drop}
+use Rattle.std.specs.Prelude.{IsOk, MatchResult, ◌≢◌, ◌-◌, ◌&&◌, ◌||◌, nat_le, cond, is_some}
 use Rattle.std.specs.Char.{is_ascii_hexdigit}
 use Rattle.std.specs.List.{list_all}
 use Rattle.std.proofs.lemmas.List.Sums.{AllPass-from_list_all, list_all-from_AllPass}
 use Rattle.std.specs.Result.{result_ok, result_unwrap_or}
-use Rattle.hex.specs.Hex.{decode_of, decode_pairs, decode_sized, digit_or_error, hex_digit_value, is_hex_digit, pair_value, value_at, encode_with, lower_digits, ◌>>=◌}
+use Rattle.hex.specs.Hex.{decode_of, decode_pairs, decode_sized, digit_or_error, hex_digit_value, is_hex_digit, pair_value, value_at, encode_with, ◌>>=◌}
 use Rattle.hex.specs.declared.error.FromHexError.{FromHexError}
 use Rattle.hex.proofs.HexLemmas.{decode_of-even, decode_of-odd, decode_of-digits, decode_of-ok, decode_sized-twice}
 use Rattle.hex.proofs.Pairs.{cons_byte, decode_pairs-ok_pair}
@@ -195,29 +194,3 @@ front_is s text piece out r h two e x =
     let len : length piece ≡ 2 * 1 = ap length e ∙ (let t : length (take 2 s) ≡ 2 * 1 = omega (arith, length-take 2 s) in t) in
     let sized : decode_sized piece 1 ≡ Ok (take 1 text) = decode_sized-twice piece 1 len ∙ read in
     (subst (λ d. MatchResult d (λ bytes. (r ≡ Ok tt) × (out ≡ bytes)) (λ e. r ≡ Err e)) sized x).1
-
--- ---- writing
-
--- the test of the first n digits, which computes
-abbrev all_shown : ℕ → Bool
-all_shown zero = true
-all_shown (suc n) = (slice_index lower_digits n == (if nat_lt n 10 then n + 48 else n + 87)) && all_shown n
-
-shown_at : (n k : ℕ) → all_shown n ≡ true → k < n → slice_index lower_digits k ≡ (if nat_lt k 10 then k + 48 else k + 87)
-shown_at zero k h lt = absurd (omega arith)
-shown_at (suc n) k h lt =
-    let parts = and_parts (slice_index lower_digits n == (if nat_lt n 10 then n + 48 else n + 87)) (all_shown n) h in
-    elim (cases_lt k n) [
-      | inl below ↦ shown_at n k parts.1 below
-      | inr top ↦
-          let e : k ≡ n = omega arith in
-          rw e (eqb-true _ _ parts.0)
-    ]
-
-pub shown_number : (v : ℕ) → v < 10 → v + 48 ≡ slice_index lower_digits v
-shown_number v h = let shown = shown_at 16 v refl (omega arith) in grind (arith, shown)
-
-pub shown_letter : (v : ℕ) → 10 ≤ v → v < 16 → v - 10 + 97 ≡ slice_index lower_digits v
-shown_letter v low h = let shown = shown_at 16 v refl h in grind (arith, shown)
-
-pub ruleset shown_digits = (shown_number, shown_letter)

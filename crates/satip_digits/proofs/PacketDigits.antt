@@ -1,22 +1,16 @@
 -- Which digits are those of a packet.
-use Rattle.std.proofs.Common.{◌≡◌, ℕ, ◌+◌, ◌*◌, ◌/◌, ◌%◌, ◌<◌, ◌≤◌, ◌≢◌, Bool, true, false, List, [], ◌∷◌, length, take, drop, slice_index, slice_set, Option, Some, None, Result, Ok, Err, refl, sym, ap, ◌∙◌, arith}
+use Rattle.std.proofs.Common.{◌≡◌, ℕ, ◌+◌, ◌*◌, ◌/◌, ◌%◌, ◌<◌, ◌≢◌, Bool, true, false, List, [], ◌∷◌, length, slice_index, Some, None, Result, Ok, Err, refl, sym, ap, ◌∙◌, arith}
 use Rattle.std.specs.Prelude.{◌==◌, is_some, if◌then◌else◌}
 use Rattle.std.specs.Char.{is_ascii_hexdigit}
 use Rattle.std.specs.List.{list_all}
 use Rattle.std.specs.Result.{result_ok, result_unwrap_or}
-use Rattle.std.proofs.lemmas.List.{length-set}
 use Rattle.std.proofs.lemmas.List.Sums.{AllPass-from_list_all, list_all-from_AllPass}
 use Rattle.hex.specs.Hex.{decode_of, decode_pairs, decode_sized, hex_digit_value, is_hex_digit, pair_value, value_at}
 use Rattle.hex.specs.declared.error.FromHexError.{FromHexError}
 use Rattle.hex.proofs.HexLemmas.{decode_of-ok, decode_pairs-digits, decode_sized-ok, decode_sized-twice}
-use Rattle.hex.proofs.Pairs.{decode_done, decode_sized-pairs, decode_step, prepend}
-use Rattle.satip_plain.specs.declared.events.Event.{Event}
-use Rattle.satip_plain.specs.declared.events.Event.TheVariants.{Packet}
-use Rattle.satip_script.specs.declared.lines.Line.TheVariants.{Event as EventLine}
-use Rattle.satip_script.specs.Often.{HasPacket}
-use Rattle.satip_script.specs.Reading.{IsLine}
-use Rattle.satip_script.specs.Parts.{packet_of, packet_from, sized_bytes, synchronized}
-use Rattle.satip_script.proofs.HexDigits.{all_same, bind_ok, digit_read, parts_of}
+use Rattle.hex.proofs.Pairs.{decode_sized-pairs}
+use Rattle.satip_digits.specs.Digits.{packet_of, packet_from, synchronized}
+use Rattle.satip_digits.proofs.HexDigits.{all_same, bind_ok, digit_read, parts_of}
 
 -- ---- the digits of a packet
 
@@ -126,54 +120,3 @@ pub not_all_digits : (s : List ℕ) → list_all is_ascii_hexdigit s ≡ false �
 not_all_digits s h = refused s (is_some (packet_of s)) refl (λ p. let same : true ≡ false = sym p.all ∙ h in cc same)
 
 pub ruleset packet_tests = (yes_packet, other_length, other_first, other_second, not_all_digits)
-
-none_of : (o : Option (List ℕ)) → is_some o ≡ false → o ≡ None
-none_of None h = refl
-none_of (Some bytes) h = cc h
-
-pub no_length : (s : List ℕ) → length s ≢ 376 → packet_of s ≡ None
-no_length s h = none_of (packet_of s) (other_length s h)
-
-pub no_digits : (s : List ℕ) → list_all is_ascii_hexdigit s ≡ false → packet_of s ≡ None
-no_digits s h = none_of (packet_of s) (not_all_digits s h)
-
-pub ruleset packet_reads = (no_length, no_digits)
-
--- ---- decoding
-
--- so many bytes were decoded into the room of a packet
-pub record Decoded (s out : List ℕ) (i : ℕ) : Type 0 where
-  pub room : length out ≡ 188
-  pub bytes : decode_pairs 0 s ≡ prepend (take i out) (decode_pairs (2 * i) (drop (2 * i) s))
-
--- one byte more, of two digits
-pub pair_decoded : (s out : List ℕ) (i high low : ℕ) → length s ≡ 376 → i < 188
-    → hex_digit_value (slice_index s (2 * i)) ≡ Some high → hex_digit_value (slice_index s (2 * i + 1)) ≡ Some low
-    → Decoded s out i → Decoded s (slice_set out i (high * 16 + low)) (i + 1)
-pair_decoded s out i high low long below is_high is_low so_far =
-    let pair : pair_value (slice_index s (2 * i)) (slice_index s (2 * i + 1)) (2 * i) ≡ Ok (high * 16 + low) = rw (is_high, is_low) refl in
-    let room = so_far.room in
-    record {
-      room = length-set out i (high * 16 + low) ∙ room;
-      bytes = decode_step s out i (high * 16 + low) (omega arith) (omega arith) pair so_far.bytes;
-    }
-
--- each byte
-pub all_decoded : (s out : List ℕ) (i : ℕ) → length s ≡ 376 → 188 ≤ i → Decoded s out i → sized_bytes 188 s ≡ Some out
-all_decoded s out i long at_end decoded =
-    let even : length s % 2 ≡ 0 = omega arith in
-    let half : length s / 2 ≡ 188 = omega arith in
-    ap (λ (r : Result (List ℕ) FromHexError). result_ok r)
-    (decode_sized-pairs s 188 even half ∙ decode_done s out i (omega arith) (omega arith) decoded.bytes)
-
--- ---- a line of a packet
-
-event_by : (line digits : List ℕ) (front tune : ℕ) (o : Option (List ℕ)) → packet_of digits ≡ o → is_some o ≡ true → HasPacket line front tune digits
-    → (e : Event) × IsLine line (EventLine e)
-event_by line digits front tune None is some has = cc some
-event_by line digits front tune (Some packet) is some has = (Packet front tune packet, has.event packet is)
-
--- where its digits are a packet's, it has an event
-pub packet_event : (line digits : List ℕ) (front tune : ℕ) → HasPacket line front tune digits → is_some (packet_of digits) ≡ true
-    → (e : Event) × IsLine line (EventLine e)
-packet_event line digits front tune has some = event_by line digits front tune (packet_of digits) refl some has
