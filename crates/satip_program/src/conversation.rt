@@ -28,11 +28,13 @@ pub(crate) enum Heard {
     Failed,
 }
 
-/// A server, the connection that it answers, and the replies that wait to be sent.
+/// A server, the connection that it answers, and the replies that wait to be sent. Each request is read over
+/// the one before, since moves of it cost time.
 #[derive(Drop)]
 pub(crate) struct Conversation {
     pub(crate) talker: Talker,
     pub(crate) framer: Framer,
+    request: Request,
     pub(crate) gathered: Gathered,
 }
 
@@ -46,6 +48,7 @@ impl Conversation {
         Ok(Conversation {
             talker: Talker::make(alloc)?,
             framer: Framer::make(alloc)?,
+            request: Request::broken(Break::Bad),
             gathered: Gathered::make(alloc)?,
         })
     }
@@ -82,8 +85,8 @@ impl Conversation {
         'messages: loop {
             match self.framer.next() {
                 Step::Message => {
-                    let request = found_request(&self.framer);
-                    match self.talker.reply(&request, &mut self.gathered, output) {
+                    read_found(&self.framer, &mut self.request);
+                    match self.talker.reply(&self.request, &mut self.gathered, output) {
                         Put::Whole => {}
                         Put::Failed => return Heard::Failed,
                     }
@@ -160,13 +163,13 @@ impl Conversation {
     }
 }
 
-// The request of the message that was found.
-fn found_request(framer: &Framer) -> Request
+// Reads the request of the message that was found.
+fn read_found(framer: &Framer, request: &mut Request)
     requires { IsSome framer.now.found }
-    ensures asked { IsSomeAnd framer.now.found (λ message. result ≡ asked message) }
+    ensures asked { IsSomeAnd framer.now.found (λ message. request.new ≡ asked message) }
 {
     match framer.message() {
-        Some(message) => Request::of(&message),
+        Some(message) => request.read(&message),
         None => unreachable!(),
     }
 }

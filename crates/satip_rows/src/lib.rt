@@ -6,6 +6,8 @@ mod bytes;
 #[cfg(test)]
 mod clients;
 #[cfg(test)]
+mod commands;
+#[cfg(test)]
 mod describing;
 #[cfg(test)]
 mod faults;

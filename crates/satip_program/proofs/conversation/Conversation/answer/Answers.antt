@@ -10,7 +10,7 @@ pub messages-preserved : goal.messages-preserved
 messages-preserved g c = λ o text messages stands.
     let before = c.messages.invariant o text messages stands in
     found_answered _ o _ _ _ _ text before.0 _ _ _ _ _ before.1 (c.in-Message.ensures.told text before.0 before.1.leads)
-    c.found_request-request.ensures.asked
+    c.read_found.ensures.asked
     (c.in-Whole.ensures.next (map asked before.0) before.1.answered)
     (c.in-Whole.ensures.gathers (map asked before.0) before.1.answered)
 
@@ -18,7 +18,7 @@ pub returns-in-Failed-clause-hears : goal.returns-in-Failed-clause-hears
 returns-in-Failed-clause-hears g c = λ o text messages stands.
     let before = c.messages.invariant o text messages stands in
     found_failed _ o _ _ _ text before.0 _ c.next.new.self _ _ before.1 (c.in-Message.ensures.told text before.0 before.1.leads)
-    c.found_request-request.ensures.asked (c.in-Failed.ensures.gathers (map asked before.0) before.1.answered)
+    c.read_found.ensures.asked (c.in-Failed.ensures.gathers (map asked before.0) before.1.answered)
 
 pub returns-in-More-clause-hears : goal.returns-in-More-clause-hears
 returns-in-More-clause-hears g c = λ o text messages stands.

@@ -1,7 +1,7 @@
-//! The worked rows of a talk and of a replay, over memory.
+//! The words of the commands, what a talk answers, and the faults of a replay.
 
-use crate::{MemoryDesk, offline};
 use satip_base::{MemorySink, MemorySource, Text};
+use satip_program::{MemoryDesk, offline};
 use std::alloc::Global;
 use std::test::Fail;
 

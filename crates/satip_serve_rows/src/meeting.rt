@@ -5,9 +5,9 @@ ghost use Rattle.satip_world.specs.Halls.{fresh_hall};
 ghost use Rattle.satip_world.specs.Outboxes.{fresh_outbox};
 ghost use Rattle.satip_program.specs.Drawers.{AreNewKits};
 
-use crate::{Desk, Jobs, JobsFault, satip};
 use satip_base::{Failed, MemorySink, MemorySource, Peer, Text, Want};
 use satip_config::Config;
+use satip_program::{Desk, Jobs, JobsFault, satip};
 use satip_pump::{PumpKit, TickKit};
 use satip_worker::WorkerKit;
 use satip_world::{

@@ -1,0 +1,9 @@
+//! Runs of the command `serve` over memory. It has nothing but tests.
+#![tactic(auto)]
+
+#[cfg(test)]
+mod meeting;
+#[cfg(test)]
+mod refused;
+#[cfg(test)]
+mod serving;
