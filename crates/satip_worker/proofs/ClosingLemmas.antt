@@ -1,5 +1,5 @@
 -- What one request comes to on the course of a connection.
-use Rattle.std.proofs.Common.{◌≡◌, ℕ, ◌+◌, Bool, true, false, List, [], ◌∷◌, ◌++◌, length, refl, sym, subst, IsSomeAnd}
+use Rattle.std.proofs.Common.{◌≡◌, ◌≢◌, ℕ, ◌+◌, Bool, true, false, List, [], ◌∷◌, ◌++◌, length, refl, sym, subst, IsSomeAnd}
 use Rattle.rand_chacha.specs.ChaCha.{ChaCha}
 use Rattle.satip_base.specs.declared.network.Peer.{Peer}
 use Rattle.satip_frame.specs.Said.{Said}
@@ -18,9 +18,9 @@ use Rattle.satip_worker.specs.declared.turns.Turn.TheVariants.{Sent, Lost, Unmad
 use Rattle.satip_worker.specs.Drawing.{draw_at, before_draw}
 use Rattle.satip_worker.specs.Progress.{Stage}
 use Rattle.satip_worker.specs.Turns.{Turns, TurnSent, TurnLost}
-use Rattle.satip_worker.specs.Hearing.{Course, Stands, HasClosed, HasLost, HasStopped}
-use Rattle.satip_worker.proofs.EventLemmas.{next_event}
-use Rattle.satip_worker.proofs.HearingLemmas.{closes_text, loses_closing, stops, found_next, found_lost}
+use Rattle.satip_worker.specs.Hearing.{Course, Stands, HasClosed, HasLost, HasStopped, AreFirstOf}
+use Rattle.satip_worker.proofs.EventLemmas.{next_event, first_before, first_broken}
+use Rattle.satip_worker.proofs.HearingLemmas.{closes_text, loses_closing, stops, found_next, found_lost, some_value}
 
 -- a connection ends with what is no message
 closes_broken : (cause : Break) → closes (broken cause).refusal ≡ true
@@ -51,10 +51,12 @@ module _ (ct ot : Type 0) (course : Course) (n n' : Stage) (m m' : Line) (draws 
       subst P (sym same) (turns course.key course.stream (course.from + length stands.entries) stands.draws_are)
 
   -- the service made no entry
-  pub request_unmade : (fault : ServiceFault) → TurnsAny ct ot n n' m m' draws peer request (closes request.refusal) (Unmade fault)
+  pub request_unmade : (fault : ServiceFault) (first : AreFirstOf course text stands.entries) → first.rest ≢ []
+      → TurnsAny ct ot n n' m m' draws peer request (closes request.refusal) (Unmade fault)
       → HasStopped ct ot course n' m' draws' received text fault
-  request_unmade fault turns =
-      stops ct ot course n n' m m' draws draws' received text messages framer stands taken_here fault (turns_here (closes request.refusal) (Unmade fault) turns)
+  request_unmade fault first more turns =
+      stops ct ot course n n' m m' draws draws' received text messages framer stands taken_here fault first more
+      (turns_here (closes request.refusal) (Unmade fault) turns)
 
 module _ (ct ot : Type 0) (course : Course) (n n' : Stage) (m m' : Line) (draws draws' : ChaCha) (received text : List ℕ) (messages : List Said)
     (framer : Held) (peer : Peer) (cause : Break) (request : Request) (is : request ≡ broken cause) (same : course.peer ≡ peer)
@@ -81,6 +83,13 @@ module _ (ct ot : Type 0) (course : Course) (n n' : Stage) (m m' : Line) (draws 
       (taken_here ct ot course n n' m m' draws draws' received text messages framer peer request same stands takes) cause read
       (subst B (closes_broken cause) (subst R is here))
 
+  -- the service made no entry of what is no message
+  pub closing_unmade : (fault : ServiceFault) → TurnsAny ct ot n n' m m' draws peer request (closes request.refusal) (Unmade fault)
+      → Messages text messages (Broken cause) → HasStopped ct ot course n' m' draws' received text fault
+  closing_unmade fault turns read =
+      let first = first_broken course text messages cause stands.entries read stands.events in
+      request_unmade ct ot course n n' m m' draws draws' received text messages framer peer request same stands takes fault first.0 first.1 turns
+
 module _ (ct ot : Type 0) (course : Course) (n n' : Stage) (m m' : Line) (draws draws' : ChaCha) (received text : List ℕ) (messages : List Said)
     (framer next : Held) (peer : Peer) (request : Request) (same : course.peer ≡ peer)
     (stands : Stands ct ot course n m draws received text messages framer) (takes : TakesDraw draws draws')
@@ -101,3 +110,11 @@ module _ (ct ot : Type 0) (course : Course) (n n' : Stage) (m m' : Line) (draws 
       found_lost ct ot course n n' m m' draws draws' received text messages framer next request (closes request.refusal) stands
       (taken_here ct ot course n n' m m' draws draws' received text messages framer peer request same stands takes) leads is whole
       (turns_here ct ot course n n' m m' draws draws' received text messages framer peer request same stands takes (closes request.refusal) Lost turns)
+
+  -- the service made no entry of the message
+  pub message_unmade : (fault : ServiceFault) → TurnsAny ct ot n n' m m' draws peer request (closes request.refusal) (Unmade fault)
+      → HasStopped ct ot course n' m' draws' received text fault
+  message_unmade fault turns =
+      let found = some_value next.found (λ said. Leads text (messages ++ said ∷ []) next.bytes) leads in
+      let first = first_before course text messages found.0 next.bytes stands.entries found.1 stands.events in
+      request_unmade ct ot course n n' m m' draws draws' received text messages framer peer request same stands takes fault first.0 first.1 turns

@@ -1,9 +1,10 @@
 -- The events of requests one after another.
-use Rattle.std.proofs.Common.{◌≡◌, ℕ, suc, ◌+◌, List, [], ◌∷◌, ◌++◌, length, map, length-append, append_assoc, arith, refl, sym, ap, ◌∙◌, subst}
+use Rattle.std.proofs.Common.{◌≡◌, ◌≢◌, ℕ, suc, ◌+◌, List, [], ◌∷◌, ◌++◌, length, map, length-append, append_assoc, arith, refl, sym, ap, ◌∙◌, subst}
 use Rattle.std.proofs.lemmas.List.{append-nil, map-append, length-map}
 use Rattle.std.proofs.lemmas.List.Concat.{flat_map-append}
 use Rattle.satip_base.specs.declared.network.Peer.{Peer}
 use Rattle.satip_base.specs.declared.identity.Draw.{Draw}
+use Rattle.satip_frame.specs.declared.framing.Break.{Break}
 use Rattle.satip_frame.specs.Said.{Said}
 use Rattle.satip_frame.specs.Stream.{Tail, Unfinished, Broken, Messages, Leads}
 use Rattle.satip_frame.proofs.StreamLemmas.{leads_first, list_grows, broken_stays}
@@ -131,6 +132,17 @@ first_stays course text more entries first =
           ∙ append_assoc (events_of entries) first.rest behind;
     }
 
+-- more behind what is there leaves it there
+more_behind : {X : Type 0} (some behind : List X) → some ≢ [] → some ++ behind ≢ []
+more_behind [] behind is = absurd (is refl)
+more_behind (x ∷ some) behind is = λ e. cc e
+
+-- so does that it asks more
+pub first_more_stays : (course : Course) (text more : List ℕ) (entries : List Item) (first : AreFirstOf course text entries) → first.rest ≢ []
+    → (longer : AreFirstOf course (text ++ more) entries) × (longer.rest ≢ [])
+unfolding first_stays
+first_more_stays course text more entries first some = (first_stays course text more entries first, more_behind first.rest _ some)
+
 -- the entries of the first messages of a text
 pub first_of_messages : (course : Course) (text : List ℕ) (messages : List Said) (behind : List ℕ) (entries : List Item)
     → Leads text messages behind → events_of entries ≡ course_events course (map asked messages) → AreFirstOf course text entries
@@ -147,6 +159,44 @@ first_of_messages course text messages behind entries leads are =
           ∙ request_events-append course.peer d course.from (map asked messages) further
           ∙ ap (λ (es : List Event). es ++ request_events course.peer d (course.from + length (map asked messages)) further) (sym are);
     }
+
+-- the entries of the messages before one, whose event has none
+pub first_before : (course : Course) (text : List ℕ) (messages : List Said) (said : Said) (behind : List ℕ) (entries : List Item)
+    → Leads text (messages ++ said ∷ []) behind → events_of entries ≡ course_events course (map asked messages)
+    → (first : AreFirstOf course text entries) × (first.rest ≢ [])
+first_before course text messages said behind entries leads are =
+    let reading = reading_of text in
+    let others = leads_first text (messages ++ said ∷ []) reading.0 behind reading.1 leads reading.2 in
+    let d : ℕ → Draw = draw_at course.key course.stream in
+    let is : reading.0 ≡ messages ++ said ∷ others.0 = others.1 ∙ append_assoc messages (said ∷ []) others.0 in
+    let further : List Request = asked said ∷ (map asked others.0 ++ asked_by_tail reading.1) in (
+      record {
+        requests = map asked reading.0 ++ asked_by_tail reading.1;
+        asks = record { messages = reading.0; tail = reading.1; read = reading.2; requests = refl };
+        rest = request_events course.peer d (course.from + length (map asked messages)) further;
+        events = ap (λ (rs : List Request). course_events course rs) (requests_longer reading.0 messages (said ∷ others.0) reading.1 is)
+            ∙ request_events-append course.peer d course.from (map asked messages) further
+            ∙ ap (λ (es : List Event). es ++ request_events course.peer d (course.from + length (map asked messages)) further) (sym are);
+      },
+      λ e. cc e,
+    )
+
+-- the entries of all messages of a broken text, whose last event has none
+pub first_broken : (course : Course) (text : List ℕ) (messages : List Said) (cause : Break) (entries : List Item)
+    → Messages text messages (Broken cause) → events_of entries ≡ course_events course (map asked messages)
+    → (first : AreFirstOf course text entries) × (first.rest ≢ [])
+first_broken course text messages cause entries read are =
+    let d : ℕ → Draw = draw_at course.key course.stream in
+    let last : List Request = broken cause ∷ [] in (
+      record {
+        requests = map asked messages ++ last;
+        asks = record { messages = messages; tail = Broken cause; read = read; requests = refl };
+        rest = request_events course.peer d (course.from + length (map asked messages)) last;
+        events = request_events-append course.peer d course.from (map asked messages) last
+            ∙ ap (λ (es : List Event). es ++ request_events course.peer d (course.from + length (map asked messages)) last) (sym are);
+      },
+      λ e. cc e,
+    )
 
 -- the entries of a whole text
 pub first_of_all : (course : Course) (text : List ℕ) (messages : List Said) (tail : Tail) (entries : List Item)

@@ -1,5 +1,5 @@
 -- An RTSP connection goes on with one message more.
-use Rattle.std.proofs.Common.{◌≡◌, ℕ, ◌+◌, ◌<◌, Bool, true, false, List, [], ◌∷◌, ◌++◌, length, map, append_assoc, arith, refl, sym, ap, ◌∙◌, subst, Option, Some, None, IsSomeAnd, take, drop}
+use Rattle.std.proofs.Common.{◌≡◌, ◌≢◌, ℕ, ◌+◌, ◌<◌, Bool, true, false, List, [], ◌∷◌, ◌++◌, length, map, append_assoc, arith, refl, sym, ap, ◌∙◌, subst, Option, Some, None, IsSomeAnd, take, drop}
 use Rattle.std.proofs.lemmas.List.{append-nil, map_push, take-append-drop}
 use Rattle.rand_chacha.specs.ChaCha.{ChaCha}
 use Rattle.satip_frame.specs.Said.{Said}
@@ -19,7 +19,7 @@ use Rattle.satip_worker.specs.RtspRun.{replies}
 use Rattle.satip_worker.specs.Turns.{TurnSent, TurnLost, TurnUnmade}
 use Rattle.satip_worker.specs.Hearing.{Course, course_events, drawn, Stands, Listens, HasClosed, HasLost, HasStopped, AreFirstOf}
 use Rattle.satip_worker.proofs.ProgressLemmas.{makes_then, carries_sent, carries_on, rises_from}
-use Rattle.satip_worker.proofs.EventLemmas.{next_event, events_next, ends_with_last_push, replies_push, length_push, first_of_messages, first_of_all, first_stays}
+use Rattle.satip_worker.proofs.EventLemmas.{next_event, events_next, ends_with_last_push, replies_push, length_push, first_of_messages, first_of_all, first_stays, first_more_stays}
 
 -- the framer takes more
 pub record IsOpen (framer : Held) : Type 0 where
@@ -114,18 +114,25 @@ module _ (ct ot : Type 0) (course : Course) (n n' : Stage) (m m' : Line) (draws 
       (events_next course stands.entries turn.entry (map asked messages) (broken cause) stands.events turn.event_is))
 
   -- the service made no entry
-  pub stops : (fault : ServiceFault) → TurnUnmade ct ot n n' m m' fault → HasStopped ct ot course n' m' draws' received text fault
-  stops fault turn =
+  pub stops : (fault : ServiceFault) (first : AreFirstOf course text stands.entries) → first.rest ≢ [] → TurnUnmade ct ot n n' m m' fault
+      → HasStopped ct ot course n' m' draws' received text fault
+  stops fault first more turn =
       let P : List Item → Type 0 = λ es. Makes ot course.stage n' es in
       let W : Bool → Type 0 = λ w. Cause w n'.known fault in
       record {
         entries = stands.entries;
-        first = first_of_messages course text messages framer.bytes stands.entries stands.leads stands.events;
+        first = first;
+        more = more;
         draws_are = drawn_next course draws' (length stands.entries) (length stands.entries + 1) refl taken;
         makes = subst P (append-nil stands.entries) (makes_then ot course.stage n n' stands.entries [] stands.makes turn.makes);
         carries = carries_on ct course.line m m' received (replies stands.entries) stands.carries turn.carries;
         cause = subst W stands.makes.may_want turn.cause;
       }
+
+-- the value that is there
+pub some_value : {A : Type 0} (found : Option A) (P : A → Type 0) → IsSomeAnd found P → (x : A) × P x
+some_value None P p = absurd p
+some_value (Some x) P p = (x, p)
 
 -- what holds of the value that is there
 pub some_both : {A : Type 0} (found : Option A) (P Q : A → Type 0) → IsSomeAnd found P → IsSomeAnd found Q → (x : A) × P x × Q x
@@ -232,14 +239,17 @@ lost_stays ct ot course n m draws received text more lost = record {
 -- what stopped in a text stopped in a longer one
 pub stopped_stays : (ct ot : Type 0) (course : Course) (n : Stage) (m : Line) (draws : ChaCha) (received text more : List ℕ) (fault : ServiceFault)
     → HasStopped ct ot course n m draws received text fault → HasStopped ct ot course n m draws received (text ++ more) fault
-stopped_stays ct ot course n m draws received text more fault stopped = record {
-  entries = stopped.entries;
-  first = first_stays course text more stopped.entries stopped.first;
-  draws_are = stopped.draws_are;
-  makes = stopped.makes;
-  carries = stopped.carries;
-  cause = stopped.cause;
-}
+stopped_stays ct ot course n m draws received text more fault stopped =
+    let longer = first_more_stays course text more stopped.entries stopped.first stopped.more in
+    record {
+      entries = stopped.entries;
+      first = longer.0;
+      more = longer.1;
+      draws_are = stopped.draws_are;
+      makes = stopped.makes;
+      carries = stopped.carries;
+      cause = stopped.cause;
+    }
 
 -- a piece in its parts
 pub piece_parts : (heard rest piece : List ℕ) (count : ℕ) → piece ≡ heard ++ rest → piece ≡ (heard ++ take count rest) ++ drop count rest

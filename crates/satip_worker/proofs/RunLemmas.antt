@@ -228,7 +228,7 @@ module _ (ct ot : Type 0) (course : Course) (n : Stage) (m : Line) (draws : ChaC
         asks = stopped.first.asks;
         rest = stopped.first.rest;
         events = stopped.first.events;
-        left_over = tt;
+        left_over = stopped.more;
         replies_sent = refl;
         draws = refl;
       };
@@ -250,7 +250,7 @@ module _ (ct ot : Type 0) (course : Course) (n : Stage) (m : Line) (draws : ChaC
         asks = stopped.first.asks;
         rest = stopped.first.rest;
         events = stopped.first.events;
-        left_over = tt;
+        left_over = stopped.more;
         replies_sent = refl;
         draws = refl;
       };

@@ -1,5 +1,5 @@
 -- Connections one after another.
-use Rattle.std.proofs.Common.{◌≡◌, ℕ, ◌≤◌, Bool, true, false, List, [], ◌∷◌, ◌++◌, map, append_assoc, arith, refl, sym, ap, ◌∙◌, subst}
+use Rattle.std.proofs.Common.{◌≡◌, ℕ, Bool, true, false, List, [], ◌∷◌, ◌++◌, map, append_assoc, refl, sym, ap, ◌∙◌, subst}
 use Rattle.std.proofs.lemmas.List.{append-nil, map_push}
 use Rattle.rand_chacha.specs.ChaCha.{ChaCha}
 use Rattle.satip_base.specs.declared.network.Peer.{Peer}
@@ -8,6 +8,7 @@ use Rattle.satip_plain.specs.Histories.{Item}
 use Rattle.satip_world.specs.declared.doors.ConnEnd.{ConnEnd}
 use Rattle.satip_world.specs.declared.doors.ConnEnd.TheVariants.{Spent as conn_spent, Want as conn_wants}
 use Rattle.satip_world.specs.declared.doors.DoorKind.{DoorKind}
+use Rattle.satip_world.specs.Counts.{Rises}
 use Rattle.satip_world.specs.Halls.{Hall, Arrival, Return, Moved, LetIn, HadNone, Shut, FailedToOpen}
 use Rattle.satip_world.specs.Lines.{Line}
 use Rattle.satip_worker.specs.declared.worker.WorkerEnd.TheVariants.{Closed, DoorsFault, Spent, Want}
@@ -16,7 +17,7 @@ use Rattle.satip_worker.specs.Drawing.{draw_at, before_draw}
 use Rattle.satip_worker.specs.Ends.{LineEnds, ServiceEnds, is_unmade}
 use Rattle.satip_worker.specs.Progress.{Stage, Makes}
 use Rattle.satip_worker.specs.WorkerRun.{arrival_of, ServesOne, ServedReturn, ServesAll, AreMade, LastUnmade, ServesDoors}
-use Rattle.satip_worker.proofs.ProgressLemmas.{makes_nothing, makes_then, rises_from}
+use Rattle.satip_worker.proofs.ProgressLemmas.{makes_nothing, makes_then}
 
 -- nothing came and nothing was handed back
 moved_none : (o : Hall) → Moved o o [] []
@@ -60,7 +61,7 @@ pub record ServesSome (ct ot : Type 0) (key : List ℕ) (stream : ℕ) (o n : St
   pub makes : Makes ot o n entries
   pub moved : Moved before after (map arrival_of returns) returns
   pub limit : after.limit ≡ before.limit
-  pub faults : before.faults ≤ after.faults
+  pub faults : after.faults ≡ before.faults
 
 -- and the service made an entry of each of their events
 pub record ServesOn (ct ot : Type 0) (key : List ℕ) (stream : ℕ) (o n : Stage) (before after : Hall) (draws : ChaCha) : Type 0 where
@@ -80,7 +81,7 @@ serves_from ct ot key stream o hall draws are = record {
     makes = makes_nothing ot o;
     moved = moved_none hall;
     limit = refl;
-    faults = omega arith;
+    faults = refl;
   };
   made = tt;
 }
@@ -108,10 +109,13 @@ module _ (ct ot : Type 0) (key : List ℕ) (stream : ℕ) (o n : Stage) (before 
       makes = on.some.makes;
       moved = serves_moved ct ot key stream o n before hall hall' draws on.some.returns on.some.moved none.content;
       limit = none.limit ∙ on.some.limit;
-      faults = omega (arith, on.some.faults, none.faults);
+      faults = none.faults ∙ on.some.faults;
     };
     made = on.made;
   }
+
+  pub calm_end : Shut hall hall' → hall'.faults ≡ before.faults
+  calm_end shut = shut.faults ∙ on.some.faults
 
   -- the doors ended
   pub serves_to_end : Shut hall hall' → ServesDoors ct ot key stream o n before hall' Closed
@@ -123,7 +127,7 @@ module _ (ct ot : Type 0) (key : List ℕ) (stream : ℕ) (o n : Stage) (before 
     makes = on.some.makes;
     moved = serves_moved ct ot key stream o n before hall hall' draws on.some.returns on.some.moved shut.content;
     limit = shut.limit ∙ on.some.limit;
-    ends = record { ended = shut.after; made = on.made };
+    ends = record { ended = shut.after; calm = calm_end shut; made = on.made };
   }
 
   -- the doors failed
@@ -138,7 +142,7 @@ module _ (ct ot : Type 0) (key : List ℕ) (stream : ℕ) (o n : Stage) (before 
     limit = failed.limit ∙ on.some.limit;
     ends = record {
       goes_on = failed.after;
-      faults = rises_from before.faults hall.faults hall'.faults on.some.faults failed.faults;
+      faults = subst (λ (f : ℕ). Rises f hall'.faults) on.some.faults failed.faults;
       made = on.made;
     };
   }
@@ -173,6 +177,10 @@ module _ (ct ot : Type 0) (key : List ℕ) (stream : ℕ) (o n n' : Stage) (befo
       (moved_then before hall closed (map arrival_of on.some.returns) (arrival_of handed ∷ []) on.some.returns (handed ∷ []) on.some.moved
       (moved_then hall opened closed (arrival_of handed ∷ []) [] [] (handed ∷ []) let_in.content one.back.content))
 
+  -- they didn't fail
+  pub handed_calm : closed.faults ≡ before.faults
+  handed_calm = one.back.faults ∙ let_in.faults ∙ on.some.faults
+
   -- one connection more
   pub serves_next : is_unmade end ≡ false → ServesOn ct ot key stream o n' before closed draws'
   serves_next made_one = record {
@@ -186,7 +194,7 @@ module _ (ct ot : Type 0) (key : List ℕ) (stream : ℕ) (o n n' : Stage) (befo
       makes = makes_then ot o n n' on.some.entries one.serves.entries on.some.makes one.serves.makes;
       moved = handed_moved;
       limit = one.back.limit ∙ let_in.limit ∙ on.some.limit;
-      faults = omega (arith, on.some.faults, let_in.faults, one.back.faults);
+      faults = handed_calm;
     };
     made = made_push on.some.returns handed on.made made_one;
   }
@@ -223,7 +231,7 @@ module _ (ct ot : Type 0) (key : List ℕ) (stream : ℕ) (o n n' : Stage) (befo
         makes = makes_then ot o n n' on.some.entries one.serves.entries on.some.makes one.serves.makes;
         moved = handed_moved;
         limit = one.back.limit ∙ let_in.limit ∙ on.some.limit;
-        ends = record { goes_on = handed_goes_on; full = full_history is; last = subst P is last_unmade };
+        ends = record { goes_on = handed_goes_on; calm = handed_calm; full = full_history is; last = subst P is last_unmade };
       }
 
   pub serves_to_want : end ≡ conn_wants → ServesDoors ct ot key stream o n' before closed Want
@@ -238,7 +246,7 @@ module _ (ct ot : Type 0) (key : List ℕ) (stream : ℕ) (o n n' : Stage) (befo
         makes = makes_then ot o n n' on.some.entries one.serves.entries on.some.makes one.serves.makes;
         moved = handed_moved;
         limit = one.back.limit ∙ let_in.limit ∙ on.some.limit;
-        ends = record { goes_on = handed_goes_on; may = refused_memory is; last = subst P is last_unmade };
+        ends = record { goes_on = handed_goes_on; calm = handed_calm; may = refused_memory is; last = subst P is last_unmade };
       }
 
 -- the doors didn't end

@@ -1,5 +1,5 @@
 -- An RTSP connection in the middle of its text.
-use Rattle.std.specs.Prelude.{◌≡◌, ℕ, ◌+◌, false, true, List, [], ◌∷◌, ◌++◌, map, length}
+use Rattle.std.specs.Prelude.{◌≡◌, ◌≢◌, ℕ, ◌+◌, false, true, List, [], ◌∷◌, ◌++◌, map, length}
 use Rattle.rand_chacha.specs.ChaCha.{ChaCha}
 use Rattle.satip_base.specs.declared.network.Peer.{Peer}
 use Rattle.satip_frame.specs.declared.framing.Break.{Break}
@@ -89,11 +89,12 @@ pub record HasLost (conn_tells outlet_tells : Type 0) (course : Course) (n : Sta
   pub carries : Carries conn_tells course.line m received sent
   pub faults : Rises course.line.send_faults m.send_faults
 
--- the service made no entry in the middle of the text
+-- the service made no entry of what the text asks next
 pub record HasStopped (conn_tells outlet_tells : Type 0) (course : Course) (n : Stage) (m : Line) (draws : ChaCha)
     (received text : List ℕ) (fault : ServiceFault) : Type 0 where
   pub entries : List Item
   pub first : AreFirstOf course text entries
+  pub more : first.rest ≢ []
   pub draws_are : draws ≡ drawn course (length entries + 1)
   pub makes : Makes outlet_tells course.stage n entries
   pub carries : Carries conn_tells course.line m received (replies entries)

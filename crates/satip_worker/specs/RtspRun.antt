@@ -1,5 +1,5 @@
 -- The run of an RTSP connection.
-use Rattle.std.specs.Prelude.{◌≡◌, ℕ, ◌+◌, List, [], ◌∷◌, ◌++◌, length}
+use Rattle.std.specs.Prelude.{◌≡◌, ◌≢◌, ℕ, ◌+◌, List, [], ◌∷◌, ◌++◌, length}
 use Rattle.std.specs.List.{flat_map}
 use Rattle.satip_base.specs.declared.network.Peer.{Peer}
 use Rattle.satip_base.specs.declared.identity.Draw.{Draw}
@@ -33,13 +33,14 @@ RepliesSent WriteFault entries sent = SentInPart entries sent
 RepliesSent Spent entries sent = sent ≡ replies entries
 RepliesSent Want entries sent = sent ≡ replies entries
 
--- what was asked and has no entry: nothing where the connection was done or a receive failed
+-- what was asked and has no entry: nothing where the connection was done or a receive failed, and something where
+-- the service made no entry
 abbrev pub LeftOver : ConnEnd → List Event → Type 0
 LeftOver Done rest = rest ≡ []
 LeftOver ReadFault rest = rest ≡ []
 LeftOver WriteFault rest = Unit {0}
-LeftOver Spent rest = Unit {0}
-LeftOver Want rest = Unit {0}
+LeftOver Spent rest = rest ≢ []
+LeftOver Want rest = rest ≢ []
 
 -- how many draws were taken: one for each entry, and one for an event that the service made no entry of
 abbrev pub draws_taken : ConnEnd → List Item → ℕ

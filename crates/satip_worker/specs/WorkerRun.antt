@@ -57,9 +57,10 @@ pub record LastUnmade (end : ConnEnd) (returns : List Return) : Type 0 where
   pub made : AreMade before
   pub end_is : last.end ≡ end
 
--- the doors ended
-pub record DoorsEnded (n : Hall) (returns : List Return) : Type 0 where
+-- the doors ended, and never failed
+pub record DoorsEnded (o n : Hall) (returns : List Return) : Type 0 where
   pub ended : n.ended ≡ true
+  pub calm : n.faults ≡ o.faults
   pub made : AreMade returns
 
 -- the doors failed
@@ -68,24 +69,26 @@ pub record DoorsFailed (o n : Hall) (returns : List Return) : Type 0 where
   pub faults : Rises o.faults n.faults
   pub made : AreMade returns
 
--- the history is full
-pub record HistoryFull (n : Hall) (known : Known) (returns : List Return) : Type 0 where
+-- the history is full, and the doors never failed
+pub record HistoryFull (o n : Hall) (known : Known) (returns : List Return) : Type 0 where
   pub goes_on : n.ended ≡ false
+  pub calm : n.faults ≡ o.faults
   pub full : known.length ≡ 18446744073709551615
   pub last : LastUnmade conn_spent returns
 
--- memory was refused
-pub record MemoryRefused (n : Hall) (may_want : Bool) (returns : List Return) : Type 0 where
+-- memory was refused, and the doors never failed
+pub record MemoryRefused (o n : Hall) (may_want : Bool) (returns : List Return) : Type 0 where
   pub goes_on : n.ended ≡ false
+  pub calm : n.faults ≡ o.faults
   pub may : may_want ≡ true
   pub last : LastUnmade conn_wants returns
 
 -- why the worker ended
 abbrev pub WorkerEnds : WorkerEnd → (o n : Hall) → (may_want : Bool) → Known → List Return → Type 0
-WorkerEnds Closed o n may_want known returns = DoorsEnded n returns
+WorkerEnds Closed o n may_want known returns = DoorsEnded o n returns
 WorkerEnds DoorsFault o n may_want known returns = DoorsFailed o n returns
-WorkerEnds Spent o n may_want known returns = HistoryFull n known returns
-WorkerEnds Want o n may_want known returns = MemoryRefused n may_want returns
+WorkerEnds Spent o n may_want known returns = HistoryFull o n known returns
+WorkerEnds Want o n may_want known returns = MemoryRefused o n may_want returns
 
 -- the connections that came by the doors were served, each handed back before the next came
 pub record ServesDoors (conn_tells outlet_tells : Type 0) (key : List ℕ) (stream : ℕ) (o n : Stage) (before after : Hall)

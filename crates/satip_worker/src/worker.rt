@@ -1,6 +1,6 @@
 //! A worker: connections one after another.
 
-ghost use Rattle.std.specs.Prelude.{◌≡◌, ◌↔◌, ℕ, List, true};
+ghost use Rattle.std.specs.Prelude.{◌≡◌, ◌≢◌, ◌↔◌, ℕ, List, true};
 ghost use Rattle.satip_world.specs.Counts.{Rises};
 ghost use Rattle.satip_worker.specs.Drawing.{draw_at, before_draw};
 ghost use Rattle.satip_worker.specs.WorkerRun.{ServesOne, ServesDoors};
@@ -84,6 +84,8 @@ pub fn run_worker<R: Wait + Sync, S: Service, D: Doors, O: Outlet, P: Pacer>(
     ensures closed { (result ≡ WorkerEnd.Closed) ↔ ((D.hall kit.new.doors).ended ≡ true) }
     ensures doors_fault { result ≡ WorkerEnd.DoorsFault
         → Rises (D.hall kit.old.doors).faults (D.hall kit.new.doors).faults }
+    ensures calm { result ≢ WorkerEnd.DoorsFault
+        → (D.hall kit.new.doors).faults ≡ (D.hall kit.old.doors).faults }
     ensures spent { result ≡ WorkerEnd.Spent → (S.known service.new).length ≡ 18446744073709551615 }
     ensures want { result ≡ WorkerEnd.Want → S.may_want service.old ≡ true }
 {

@@ -1,5 +1,5 @@
 use Rattle.std.proofs.Common.{refl, [], ◌∙◌}
-use Rattle.satip_worker.proofs.ClosingLemmas.{message_sent, message_lost, request_unmade}
+use Rattle.satip_worker.proofs.ClosingLemmas.{message_sent, message_lost, message_unmade}
 use Rattle.satip_worker.proofs.HearingLemmas.{message_takes, stands_at}
 use Rattle.satip_worker.proofs.rtsp.answer.Goals as goal
 
@@ -28,7 +28,9 @@ returns-in-Lost-clause-hears g c = λ course received text messages same stands.
 pub returns-in-Unmade-clause-hears : goal.returns-in-Unmade-clause-hears
 returns-in-Unmade-clause-hears g c = λ course received text messages same stands.
     let before = c.messages.invariant.2 course received text messages same stands in
-    request_unmade _ _ course _ _ _ _ _ _ received text before.0 _ _ c.found_request-request.result same before.1 c.turn.ensures.draws c.in-Unmade.fault c.in-Unmade.ensures.turns
+    message_unmade _ _ course _ _ _ _ _ _ received text before.0 _ c.next.new.self _ _ same before.1 c.turn.ensures.draws
+    (c.in-Message.ensures.told text before.0 before.1.leads) c.found_request-request.ensures.asked c.found_request-request.ensures.whole
+    c.in-Unmade.fault c.in-Unmade.ensures.turns
 
 pub returns-in-More-clause-hears : goal.returns-in-More-clause-hears
 returns-in-More-clause-hears g c = λ course received text messages same stands.

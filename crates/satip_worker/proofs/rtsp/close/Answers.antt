@@ -1,4 +1,4 @@
-use Rattle.satip_worker.proofs.ClosingLemmas.{closing_sent, closing_lost, request_unmade}
+use Rattle.satip_worker.proofs.ClosingLemmas.{closing_sent, closing_lost, closing_unmade}
 use Rattle.satip_worker.proofs.rtsp.close.Goals as goal
 
 pub returns-in-Sent-clause-hears : goal.returns-in-Sent-clause-hears
@@ -13,5 +13,5 @@ returns-in-Lost-clause-hears g c = λ course received text messages framer same 
 
 pub returns-in-Unmade-clause-hears : goal.returns-in-Unmade-clause-hears
 returns-in-Unmade-clause-hears g c = λ course received text messages framer same stands read.
-    request_unmade _ _ course _ _ _ _ _ _ received text messages framer _ c.broken.result same stands
-    c.turn.ensures.draws c.in-Unmade.fault c.in-Unmade.ensures.turns
+    closing_unmade _ _ course _ _ _ _ _ _ received text messages framer _ _ _ c.broken.ensures.broken same stands
+    c.turn.ensures.draws c.in-Unmade.fault c.in-Unmade.ensures.turns read

@@ -1,5 +1,5 @@
 use Rattle.std.proofs.Common.{refl, ◌∙◌}
-use Rattle.satip_worker.proofs.WorkerLemmas.{serves_from, serves_idle, serves_to_end, serves_to_fault, serves_next, serves_to_spent, serves_to_want, handed_goes_on, full_history, refused_memory, spent_goes_on, want_goes_on}
+use Rattle.satip_worker.proofs.WorkerLemmas.{serves_from, serves_idle, serves_to_end, serves_to_fault, serves_next, serves_to_spent, serves_to_want, handed_goes_on, handed_calm, calm_end, full_history, refused_memory, spent_goes_on, want_goes_on}
 use Rattle.satip_worker.proofs.worker.run_worker.Goals as goal
 
 pub loop-init : goal.loop-init
@@ -79,3 +79,18 @@ returns-in-Want-clause-want g c = λ is.
     let on = c.loop.invariant.2 in
     let run = c.in-Want.ensures.serves _ _ on.some.count on.some.draws_are in
     refused_memory _ _ _ _ _ _ _ _ _ _ _ _ _ on _ _ _ _ run.0 c.in-Came.ensures.opens run.1 run.2 refl
+
+pub returns-in-End-clause-calm : goal.returns-in-End-clause-calm
+returns-in-End-clause-calm g c = λ is. calm_end _ _ _ _ _ _ _ _ _ _ c.loop.invariant.2 c.in-End.ensures.opens
+
+pub returns-in-Spent-clause-calm : goal.returns-in-Spent-clause-calm
+returns-in-Spent-clause-calm g c = λ is.
+    let on = c.loop.invariant.2 in
+    let run = c.in-Spent.ensures.serves _ _ on.some.count on.some.draws_are in
+    handed_calm _ _ _ _ _ _ _ _ _ _ _ _ _ on _ _ _ _ run.0 c.in-Came.ensures.opens run.1 run.2
+
+pub returns-in-Want-clause-calm : goal.returns-in-Want-clause-calm
+returns-in-Want-clause-calm g c = λ is.
+    let on = c.loop.invariant.2 in
+    let run = c.in-Want.ensures.serves _ _ on.some.count on.some.draws_are in
+    handed_calm _ _ _ _ _ _ _ _ _ _ _ _ _ on _ _ _ _ run.0 c.in-Came.ensures.opens run.1 run.2
