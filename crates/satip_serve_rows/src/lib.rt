@@ -7,3 +7,5 @@ mod meeting;
 mod refused;
 #[cfg(test)]
 mod serving;
+#[cfg(test)]
+mod shared;

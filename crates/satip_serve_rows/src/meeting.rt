@@ -1,19 +1,14 @@
 //! The command `serve` with two workers, a pump and the ticker, each of which waits for all others.
 
-ghost use Rattle.std.specs.Prelude.{◌≡◌, true, length, IfOk};
-ghost use Rattle.satip_world.specs.Halls.{fresh_hall};
-ghost use Rattle.satip_world.specs.Outboxes.{fresh_outbox};
+ghost use Rattle.std.specs.Prelude.{◌≡◌, length, IfOk};
 ghost use Rattle.satip_program.specs.Drawers.{AreNewKits};
 
-use satip_base::{Failed, MemorySink, MemorySource, Peer, Text, Want};
+use crate::shared::{has_served, words, worker};
+use satip_base::{Failed, MemorySink, MemorySource, Text, Want};
 use satip_config::Config;
 use satip_program::{Desk, Jobs, JobsFault, satip};
 use satip_pump::{PumpKit, TickKit};
-use satip_worker::WorkerKit;
-use satip_world::{
-    ConnEnd, DoorKind, MemoryClock, MemoryConn, MemoryDoors, MemoryOutlet, MemoryPacer,
-    MemoryStore, Pacer,
-};
+use satip_world::{MemoryClock, MemoryDoors, MemoryOutlet, MemoryPacer, MemoryStore, Pacer};
 use std::alloc::Global;
 use std::sync::atomic::{AtomicBool, AtomicU64, Ordering};
 use std::test::Fail;
@@ -21,11 +16,6 @@ use std::thread;
 
 const C1: &[u8] =
     b"address = \"192.168.1.10\"\nworkers = 2\n[[frontend]]\nsources = [1]\nsystems = [\"dvbs\", \"dvbs2\"]\n";
-
-const OPTIONS: &[u8] = b"OPTIONS * RTSP/1.0\r\nCSeq: 1\r\n\r\n";
-
-const OK: &[u8] =
-    b"RTSP/1.0 200 OK\r\nCSeq: 1\r\nPublic: OPTIONS, DESCRIBE, SETUP, PLAY, TEARDOWN\r\n\r\n";
 
 // Two workers, one pump and the ticker.
 const JOBS: u64 = 4;
@@ -93,41 +83,17 @@ fn pacer<'a>(meeting: &'a Meeting) -> MeetingPacer<'a> {
     }
 }
 
-type MeetingKit<'a> = WorkerKit<MemoryDoors, MemoryOutlet, MeetingPacer<'a>>;
-
 type MeetingJobs<'a> = Jobs<MemoryDoors, MemoryOutlet, MeetingPacer<'a>, MemoryStore, MemoryClock>;
 
-// Doors that are idle once, so that their worker pauses, and then let one RTSP connection in.
-fn doors(alloc: Global, accepts: u32) -> Result<MemoryDoors, Want>
-    ensures fresh { IfOk result (λ doors. doors ≡ fresh_hall accepts true) }
-{
-    let mut doors = MemoryDoors::make(alloc, accepts, &[1], &[])?;
-    let conn = MemoryConn::make(alloc, &[OPTIONS], &[], &[], 0)?;
-    doors.add(DoorKind::Rtsp, Peer { ip: 0xc0a8_0114 }, conn)?;
-    Ok(doors)
-}
-
-fn worker<'a>(alloc: Global, accepts: u32, meeting: &'a Meeting) -> Result<MeetingKit<'a>, Want>
-    ensures hall { IfOk result (λ kit. kit.doors ≡ fresh_hall accepts true) }
-    ensures outbox { IfOk result (λ kit. kit.outlet ≡ fresh_outbox) }
-{
-    Ok(WorkerKit {
-        doors: doors(alloc, accepts)?,
-        outlet: MemoryOutlet::make(alloc, &[])?,
-        pacer: pacer(meeting),
-        key: [7; 32],
-    })
-}
-
-// Kits for two workers and one pump.
+// Kits for two workers and one pump. Doors are idle once, so that their worker pauses.
 fn kits<'a>(alloc: Global, accepts: u32, meeting: &'a Meeting) -> Result<MeetingJobs<'a>, Want>
     ensures workers { IfOk result (λ jobs. length jobs.workers.items ≡ 2) }
     ensures pumps { IfOk result (λ jobs. length jobs.pumps.items ≡ 1) }
     ensures new { IfOk result (AreNewKits accepts) }
 {
     let workers = [
-        worker(alloc, accepts, meeting)?,
-        worker(alloc, accepts, meeting)?,
+        worker(alloc, accepts, &[1], pacer(meeting))?,
+        worker(alloc, accepts, &[1], pacer(meeting))?,
     ];
     let pump = PumpKit {
         store: MemoryStore::make(alloc, &[])?,
@@ -212,26 +178,10 @@ impl<'a> Desk for MeetingDesk<'a> {
     }
 }
 
-// Whether the one connection of a worker was served to its end.
-fn has_served(kit: &MeetingKit<'_>) -> bool {
-    match kit.doors.returned() {
-        [handed] => handed.end == ConnEnd::Done && handed.conn.sent() == OK,
-        _ => false,
-    }
-}
-
 // Jobs that ran one after another would never come together.
 #[test]
 fn all_jobs_of_a_serve_meet(rt: HostRuntime) -> Result<(), Fail> {
     let alloc = rt.alloc();
-    let words = Vec::from_array(
-        alloc,
-        [
-            Text::of(alloc, "serve")?,
-            Text::of(alloc, "c1.toml")?,
-            Text::of(alloc, "1")?,
-        ],
-    )?;
     let meeting = Meeting::new();
     let mut desk = MeetingDesk {
         alloc,
@@ -245,7 +195,7 @@ fn all_jobs_of_a_serve_meet(rt: HostRuntime) -> Result<(), Fail> {
     let ended = satip(
         &rt,
         alloc,
-        &words,
+        &words(alloc)?,
         &mut input,
         &mut output,
         &mut errors,

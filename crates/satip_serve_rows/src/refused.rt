@@ -1,51 +1,26 @@
 //! The command `serve` with two workers, over memory, which may be refused.
 
-ghost use Rattle.std.specs.Prelude.{◌≡◌, true, IfOk};
-ghost use Rattle.satip_world.specs.Halls.{fresh_hall};
+ghost use Rattle.std.specs.Prelude.{IfOk};
 ghost use Rattle.satip_program.specs.Drawers.{AreNewKits};
 
-use satip_base::{MemorySink, MemorySource, Peer, Text};
+use crate::shared::{words, worker};
+use satip_base::{MemorySink, MemorySource};
 use satip_program::{Ended, Jobs, MemoryDesk, MemoryJobs, satip};
 use satip_pump::{PumpKit, TickKit};
-use satip_worker::WorkerKit;
-use satip_world::{
-    DoorKind, MemoryClock, MemoryConn, MemoryDoors, MemoryOutlet, MemoryPacer, MemoryStore,
-};
+use satip_world::{MemoryClock, MemoryOutlet, MemoryPacer, MemoryStore};
 use std::alloc::Global;
 use std::test::Fail;
 
 const C1: &[u8] =
     b"address = \"192.168.1.10\"\nworkers = 2\n[[frontend]]\nsources = [1]\nsystems = [\"dvbs\", \"dvbs2\"]\n";
 
-const OPTIONS: &[u8] = b"OPTIONS * RTSP/1.0\r\nCSeq: 1\r\n\r\n";
-
-// Doors by which one RTSP connection comes, with one message.
-fn doors(alloc: Global, accepts: u32) -> Result<MemoryDoors, Fail>
-    ensures fresh { IfOk result (λ doors. doors ≡ fresh_hall accepts true) }
-{
-    let mut doors = MemoryDoors::make(alloc, accepts, &[], &[])?;
-    let conn = MemoryConn::make(alloc, &[OPTIONS], &[], &[], 0)?;
-    doors.add(DoorKind::Rtsp, Peer { ip: 0xc0a8_0114 }, conn)?;
-    Ok(doors)
-}
-
 // Kits for two workers and one pump.
 fn kits(alloc: Global, accepts: u32) -> Result<MemoryJobs, Fail>
     ensures new { IfOk result (AreNewKits accepts) }
 {
     let mut workers = Vec::new(alloc);
-    workers.push(WorkerKit {
-        doors: doors(alloc, accepts)?,
-        outlet: MemoryOutlet::make(alloc, &[])?,
-        pacer: MemoryPacer::new(),
-        key: [7; 32],
-    })?;
-    workers.push(WorkerKit {
-        doors: doors(alloc, accepts)?,
-        outlet: MemoryOutlet::make(alloc, &[])?,
-        pacer: MemoryPacer::new(),
-        key: [8; 32],
-    })?;
+    workers.push(worker(alloc, accepts, &[], MemoryPacer::new())?)?;
+    workers.push(worker(alloc, accepts, &[], MemoryPacer::new())?)?;
     let mut pumps = Vec::new(alloc);
     pumps.push(PumpKit {
         store: MemoryStore::make(alloc, &[])?,
@@ -78,14 +53,6 @@ fn told(ended: &Ended<MemoryDesk>) -> &'static str {
 #[test]
 fn two_workers_serve_or_their_kits_come_back(rt: HostRuntime) -> Result<(), Fail> {
     let alloc = rt.alloc();
-    let words = Vec::from_array(
-        alloc,
-        [
-            Text::of(alloc, "serve")?,
-            Text::of(alloc, "c1.toml")?,
-            Text::of(alloc, "1")?,
-        ],
-    )?;
     let mut desk = MemoryDesk::make(alloc, 0);
     desk.add("c1.toml", C1, &[])?;
     desk.lay(1, kits(alloc, 1)?);
@@ -95,7 +62,7 @@ fn two_workers_serve_or_their_kits_come_back(rt: HostRuntime) -> Result<(), Fail
     let ended = satip(
         &rt,
         alloc,
-        &words,
+        &words(alloc)?,
         &mut input,
         &mut output,
         &mut errors,

@@ -1,0 +1,64 @@
+//! What the runs have in common: their words, and the kit of a worker.
+
+ghost use Rattle.std.specs.Prelude.{◌≡◌, true, IfOk};
+ghost use Rattle.satip_world.specs.Halls.{fresh_hall};
+ghost use Rattle.satip_world.specs.Outboxes.{fresh_outbox};
+
+use satip_base::{Peer, Text, Want};
+use satip_worker::WorkerKit;
+use satip_world::{ConnEnd, DoorKind, MemoryConn, MemoryDoors, MemoryOutlet, Pacer};
+use std::alloc::Global;
+use std::test::Fail;
+
+const OPTIONS: &[u8] = b"OPTIONS * RTSP/1.0\r\nCSeq: 1\r\n\r\n";
+
+const OK: &[u8] =
+    b"RTSP/1.0 200 OK\r\nCSeq: 1\r\nPublic: OPTIONS, DESCRIBE, SETUP, PLAY, TEARDOWN\r\n\r\n";
+
+/// A serve of c1.toml, of one connection a worker.
+pub fn words(alloc: Global) -> Result<Vec<Text>, Fail> {
+    Ok(Vec::from_array(
+        alloc,
+        [
+            Text::of(alloc, "serve")?,
+            Text::of(alloc, "c1.toml")?,
+            Text::of(alloc, "1")?,
+        ],
+    )?)
+}
+
+// Doors by which one RTSP connection comes, with one message.
+fn doors(alloc: Global, accepts: u32, idle: &[u64]) -> Result<MemoryDoors, Want>
+    ensures fresh { IfOk result (λ doors. doors ≡ fresh_hall accepts true) }
+{
+    let mut doors = MemoryDoors::make(alloc, accepts, idle, &[])?;
+    let conn = MemoryConn::make(alloc, &[OPTIONS], &[], &[], 0)?;
+    doors.add(DoorKind::Rtsp, Peer { ip: 0xc0a8_0114 }, conn)?;
+    Ok(doors)
+}
+
+/// The kit of a worker to which one connection comes. Its doors are idle at the looks with these numbers.
+pub fn worker<P: Pacer + Drop>(
+    alloc: Global,
+    accepts: u32,
+    idle: &[u64],
+    pacer: P,
+) -> Result<WorkerKit<MemoryDoors, MemoryOutlet, P>, Want>
+    ensures hall { IfOk result (λ kit. kit.doors ≡ fresh_hall accepts true) }
+    ensures outbox { IfOk result (λ kit. kit.outlet ≡ fresh_outbox) }
+{
+    Ok(WorkerKit {
+        doors: doors(alloc, accepts, idle)?,
+        outlet: MemoryOutlet::make(alloc, &[])?,
+        pacer,
+        key: [7; 32],
+    })
+}
+
+/// Whether the one connection of a worker was served to its end.
+pub fn has_served<P: Pacer>(kit: &WorkerKit<MemoryDoors, MemoryOutlet, P>) -> bool {
+    match kit.doors.returned() {
+        [handed] => handed.end == ConnEnd::Done && handed.conn.sent() == OK,
+        _ => false,
+    }
+}
