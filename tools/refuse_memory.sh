@@ -6,7 +6,7 @@
 # The runs: `replay` of examples/session.script, and the test of `serve` with two workers over memory. A replay ends as with all
 # memory, or with status 70 and a beginning of its output; a serve ends well, or gives its kits back.
 # Needs cc, crates/satip/out/satip (`cd crates/satip && rt run -- --version` builds it) and
-# crates/satip_program/out/satip_program_tests (`cd crates/satip_program && rt test` builds it).
+# crates/satip_serve_rows/out/satip_serve_rows_tests (`cd crates/satip_serve_rows && rt test` builds it).
 set -eu
 top=$(cd "$(dirname "$0")/.." && pwd)
 folder=$(mktemp -d)
@@ -53,7 +53,7 @@ replay() {
 serve() {
     number=1
     while :; do
-        refuse "$number" "$top/crates/satip_program/out/satip_program_tests" "$1"
+        refuse "$number" "$top/crates/satip_serve_rows/out/satip_serve_rows_tests" "$1"
         if [ "$status" = 99 ]; then
             break
         fi
@@ -65,4 +65,4 @@ serve() {
 }
 
 replay
-serve "want_tests::two_workers_serve_or_their_kits_come_back"
+serve "refused::two_workers_serve_or_their_kits_come_back"
