@@ -2,15 +2,20 @@
 use Rattle.std.specs.Prelude.{ℕ, Bool, true, false, List, [], ◌∷◌, Option, Some, None}
 use Rattle.std.specs.Str.{bytes_eq}
 
--- names with the texts of their configurations, whether the kits were given, and how often the desk failed
+-- names with the texts of their configurations and which takes of each fail, for how many connections kits are laid,
+-- whether the kits were given, how many opens are still to fail, and how often the desk failed
 pub record Cabinet : Type 0 where
   pub texts : List (List ℕ × List ℕ)
+  pub failing_takes : List (List ℕ)
+  pub laid : Option ℕ
   pub gave : Bool
+  pub failing : ℕ
   pub faults : ℕ
 
--- no name has a text
-abbrev pub empty_cabinet : Cabinet
-empty_cabinet = record { texts = []; gave = false; faults = 0 }
+-- no name has a text, and so many opens are to fail
+abbrev pub empty_cabinet : ℕ → Cabinet
+empty_cabinet failing =
+    record { texts = []; failing_takes = []; laid = None; gave = false; failing = failing; faults = 0 }
 
 -- this text where the test holds, and else another
 abbrev pub text_if : Bool → List ℕ → Option (List ℕ) → Option (List ℕ)

@@ -1,6 +1,6 @@
 //! A desk over memory.
 
-ghost use Rattle.std.specs.Prelude.{◌≡◌, ◌∷◌, None, length, map, IfOk, IfSome, OnOk, OnErr};
+ghost use Rattle.std.specs.Prelude.{◌≡◌, ◌∷◌, None, Some, length, map, IfOk, IfSome, OnOk, OnErr};
 ghost use Rattle.std.specs.Option.{option_copied};
 ghost use Rattle.std.specs.List.{find};
 ghost use Rattle.std.specs.Str.{bytes_eq};
@@ -47,14 +47,21 @@ pub struct MemoryDesk {
 
 impl Model for MemoryDesk {
     ghost use Rattle.satip_program.specs.Cabinets.{Cabinet};
-    ghost use Rattle.std.specs.Prelude.{map};
+    ghost use Rattle.std.specs.Prelude.{map, option_map};
     ghost use Rattle.satip_program.specs.Drawers.{row_of};
     ghost use Rattle.std.specs.Prelude.{IfSome};
     ghost use Rattle.satip_program.specs.Drawers.{AreNewKits};
 
     ghost Value = { Cabinet };
 
-    ghost view = { λ d. record { texts = map row_of d.drawers.items; gave = d.gave; faults = d.faults } };
+    ghost view = { λ d. record {
+      texts = map row_of d.drawers.items;
+      failing_takes = map (λ drawer. drawer.failing.items) d.drawers.items;
+      laid = option_map (λ laid. laid.accepts) d.laid;
+      gave = d.gave;
+      failing = d.failing;
+      faults = d.faults;
+    } };
 
     ghost invariant = { λ d. IfSome d.laid (λ laid. AreNewKits laid.accepts laid.jobs) };
 }
@@ -65,7 +72,7 @@ impl MemoryDesk {
     /// A desk without texts. The first `failing` calls fail, and so does each call with a name that
     /// has no text.
     pub fn make(alloc: Global, failing: u64) -> MemoryDesk
-        ensures empty { result ≡ empty_cabinet }
+        ensures empty { result ≡ empty_cabinet failing }
     {
         MemoryDesk {
             alloc,
@@ -81,7 +88,7 @@ impl MemoryDesk {
     /// given for this number alone, and for a configuration with as many workers and front ends.
     pub fn lay(&mut self, accepts: u32, jobs: MemoryJobs)
         requires new { AreNewKits accepts jobs }
-        ensures same { self.new ≡ self.old }
+        ensures laid { self.new ≡ record self.old { laid = Some accepts } }
     {
         self.laid = Some(Laid { accepts, jobs });
     }
@@ -90,7 +97,10 @@ impl MemoryDesk {
     /// `failing` fail.
     pub fn add(&mut self, name: &str, text: &[u8], failing: &[u64]) -> Result<(), Want>
         ensures added { OnOk result (self.new.texts ≡ (name.now, text.now) ∷ self.old.texts) }
-        ensures same { OnErr result (self.new.texts ≡ self.old.texts) }
+        ensures takes { OnOk result (self.new.failing_takes ≡ failing.now ∷ self.old.failing_takes) }
+        ensures same { OnErr result (self.new ≡ self.old) }
+        ensures laid { self.new.laid ≡ self.old.laid }
+        ensures failing { self.new.failing ≡ self.old.failing }
         ensures faults { self.new.faults ≡ self.old.faults }
         ensures gave { self.new.gave ≡ self.old.gave }
     {
