@@ -4,3 +4,4 @@ pub mod HeadLemmas
 pub mod StreamLemmas
 pub mod FramerLemmas
 pub mod ReadingLemmas
+pub mod CallLemmas

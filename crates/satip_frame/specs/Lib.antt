@@ -6,3 +6,4 @@ pub mod Places
 pub mod Laws
 pub mod Fronts
 pub mod Inner
+pub mod Calls

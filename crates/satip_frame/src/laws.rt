@@ -1,5 +1,6 @@
 //! What is true of all texts, for whoever reads messages from one.
 ghost use Rattle.satip_frame.specs.Laws.{OneReading, KeptByMoreBytes, FirstIsFirst, AllAreFirst, FirstByMoreBytes, NoMoreThanBytes, HasReading};
+ghost use Rattle.satip_frame.specs.Calls.{HandsOutFirst, MissesNothing};
 
 /// A text has one list of messages and one tail.
 pub fn one_reading()
@@ -35,4 +36,16 @@ pub fn no_more_than_bytes()
 /// Each text has messages and a tail.
 pub fn has_reading()
     ensures law { HasReading }
+{}
+
+/// Whatever the pieces, the messages that a new framer finds are the first ones of the text that
+/// was fed.
+pub fn hands_out_first()
+    ensures first { HandsOutFirst }
+{}
+
+/// Where it tells `More`, `Bad` or `TooLong`, they are all messages of the text that was fed, and
+/// that is how the text ends.
+pub fn misses_nothing()
+    ensures complete { MissesNothing }
 {}

@@ -13,7 +13,7 @@ mod tests;
 
 pub use framing::{Break, Framer, Step};
 pub use laws::{
-    all_are_first, first_by_more_bytes, first_is_first, has_reading, kept_by_more_bytes,
-    no_more_than_bytes, one_reading,
+    all_are_first, first_by_more_bytes, first_is_first, hands_out_first, has_reading,
+    kept_by_more_bytes, misses_nothing, no_more_than_bytes, one_reading,
 };
 pub use said::Message;
