@@ -1,8 +1,9 @@
 //! What a message asks for over HTTP.
 ghost use Rattle.std.specs.Prelude.{◌≡◌, ◌≢◌, ◌↔◌, Some, None, true, false, codes};
 ghost use Rattle.std.specs.Str.{bytes_eq};
+ghost use Rattle.satip_query.specs.Queries.{new_query};
 ghost use Rattle.satip_query.specs.Reading.{query_of};
-ghost use Rattle.satip_http.specs.Gets.{AsksAtFault, IsGet, asked, broken as broken_request, is_path, is_served as is_served_text, query_in, refused as refused_request, rest_of as rest_text, with_path as of_path, with_query as of_query, with_rest as of_rest};
+ghost use Rattle.satip_http.specs.Gets.{AsksAtFault, IsGet, asked, broken as broken_request, is_path, is_served as is_served_text, query_in, rest_of as rest_text, with_path as of_path, with_query as of_query, with_rest as of_rest};
 
 use satip_frame::{Break, Message};
 use satip_query::{Query, QueryFault, read};
@@ -51,40 +52,56 @@ impl HttpRequest {
         ensures not_broken { result.refusal ≢ Some HttpRefusal.Broken }
         ensures not_too_long { result.refusal ≢ Some HttpRefusal.TooLong }
     {
-        read_request(message)
+        let mut request = blank();
+        request.read(message);
+        request
+    }
+
+    /// Puts the request of a message in the place of an older one, whatever that was: a request is large, and
+    /// moves cost time.
+    pub fn read(&mut self, message: &Message<'_>)
+        ensures asked { self.new ≡ asked message.now }
+    {
+        self.query.clear();
+        self.refusal = fill(message, &mut self.query);
     }
 
     /// The request of what is no message.
     pub fn broken(cause: Break) -> HttpRequest
         ensures broken { result ≡ broken_request cause }
     {
-        match cause {
-            Break::Bad => refused(HttpRefusal::Broken),
-            Break::TooLong => refused(HttpRefusal::TooLong),
-        }
+        let mut request = blank();
+        request.refusal = Some(match cause {
+            Break::Bad => HttpRefusal::Broken,
+            Break::TooLong => HttpRefusal::TooLong,
+        });
+        request
     }
 }
 
-#[tactic(auto, unfolding(crate::specs::Gets::asked))]
-fn read_request(message: &Message<'_>) -> HttpRequest
-    ensures asked { result ≡ asked message.now }
-{
-    if !is_served(message.version()) {
-        return refused(HttpRefusal::Version);
-    }
-    if !same_bytes(message.method(), b"GET") {
-        return refused(HttpRefusal::Method);
-    }
-    with_rest(rest_of(message.target()))
-}
-
-fn refused(refusal: HttpRefusal) -> HttpRequest
-    ensures refused { result ≡ refused_request refusal }
+// A request for a stream by the query that gives nothing.
+fn blank() -> HttpRequest
+    ensures blank { result ≡ record { refusal = None; query = new_query } }
 {
     HttpRequest {
-        refusal: Some(refusal),
+        refusal: None,
         query: Query::new(),
     }
+}
+
+// Puts what a message asks for in the place of a query that gives nothing; the first refusal, where there is one.
+#[tactic(auto, unfolding(crate::specs::Gets::asked))]
+fn fill(message: &Message<'_>, into: &mut Query) -> Option<HttpRefusal>
+    requires empty { into.old ≡ new_query }
+    ensures asked { record { refusal = result; query = into.new } ≡ asked message.now }
+{
+    if !is_served(message.version()) {
+        return Some(HttpRefusal::Version);
+    }
+    if !same_bytes(message.method(), b"GET") {
+        return Some(HttpRefusal::Method);
+    }
+    fill_rest(rest_of(message.target()), into)
 }
 
 #[tactic(auto, unfolding(crate::specs::Gets::is_served))]
@@ -105,37 +122,35 @@ fn rest_of(target: &[u8]) -> &[u8]
 }
 
 #[tactic(auto, unfolding(crate::specs::Gets::with_rest))]
-fn with_rest(rest: &[u8]) -> HttpRequest
-    ensures request { result ≡ of_rest rest.now }
+fn fill_rest(rest: &[u8], into: &mut Query) -> Option<HttpRefusal>
+    requires empty { into.old ≡ new_query }
+    ensures request { record { refusal = result; query = into.new } ≡ of_rest rest.now }
 {
     if rest.starts_with(b"?") {
-        with_query(&rest[1..])
+        fill_query(&rest[1..], into)
     } else {
-        with_path(rest)
+        fill_path(rest, into)
     }
 }
 
-fn with_path(path: &[u8]) -> HttpRequest
-    ensures request { result ≡ of_path path.now }
+fn fill_path(path: &[u8], into: &mut Query) -> Option<HttpRefusal>
+    requires empty { into.old ≡ new_query }
+    ensures request { record { refusal = result; query = into.new } ≡ of_path path.now }
 {
     if path.starts_with(b"/?") {
-        with_query(&path[2..])
+        fill_query(&path[2..], into)
     } else if path.starts_with(b"/") {
-        refused(HttpRefusal::NotFound)
+        Some(HttpRefusal::NotFound)
     } else {
-        refused(HttpRefusal::Target)
+        Some(HttpRefusal::Target)
     }
 }
 
-fn with_query(text: &[u8]) -> HttpRequest
-    ensures request { result ≡ of_query (query_of text.now) }
+fn fill_query(text: &[u8], into: &mut Query) -> Option<HttpRefusal>
+    ensures request { record { refusal = result; query = into.new } ≡ of_query (query_of text.now) }
 {
-    let mut query = Query::new();
-    match read(text, &mut query) {
-        Err(fault) => refused(HttpRefusal::Query(fault)),
-        Ok(()) => HttpRequest {
-            refusal: None,
-            query,
-        },
+    match read(text, into) {
+        Err(fault) => Some(HttpRefusal::Query(fault)),
+        Ok(()) => None,
     }
 }

@@ -1,5 +1,5 @@
 -- The values of a query: which texts have the form of one, and which of those are allowed.
-use Rattle.std.specs.Prelude.{ℕ, ◌&&◌, nat_le, Bool, true, false, if◌then◌else◌, List, [], ◌∷◌, length, Option, None, Some, Result, Ok, Err, is_some}
+use Rattle.std.specs.Prelude.{◌≡◌, ℕ, ◌&&◌, nat_le, Bool, true, false, if◌then◌else◌, List, [], ◌∷◌, length, Option, None, Some, Result, Ok, Err, is_some}
 use Rattle.std.specs.Char.{is_ascii_alphanumeric}
 use Rattle.std.specs.List.{list_all, slice_split}
 use Rattle.satip_base.specs.Numbers.{are_digits, number_of}
@@ -51,6 +51,11 @@ numbers_of (part ∷ parts) = onto_numbers (number_of 18446744073709551615 part)
 abbrev pub pids_within : Option (List ℕ) → Result (List ℕ) ValueFault
 pids_within None = Err Malformed
 pids_within (Some pids) = if list_all (λ pid. nat_le pid 8191) pids then Ok pids else Err NotAllowed
+
+-- a call answers what was found: nothing, with the list that was found left behind, or its fault
+abbrev pub ListAnswers : {U : Type 0} → Result U ValueFault → Result (List ℕ) ValueFault → List ℕ → Type 0
+ListAnswers (Ok done) found left = found ≡ Ok left
+ListAnswers (Err fault) found left = found ≡ Err fault
 
 -- the value of a list of 1 to 512 PIDs with commas between them
 unfoldable pub pid_list_of : List ℕ → Result (List ℕ) ValueFault

@@ -31,21 +31,27 @@ impl Query {
         ensures empty { result ≡ new_query }
     {
         Query {
-            change: Change {
-                fe: None,
-                src: None,
-                freq: None,
-                pol: None,
-                ro: None,
-                msys: None,
-                mtype: None,
-                plts: None,
-                sr: None,
-                fec: None,
-            },
+            change: no_change(),
             pids: PidsGiven::Absent,
             addpids: None,
             delpids: None,
+        }
+    }
+
+    /// Gives nothing, as a new query. A list is written only where it is given: each is large, and writes
+    /// cost time.
+    pub fn clear(&mut self)
+        ensures empty { self.new ≡ new_query }
+    {
+        self.change = no_change();
+        if self.pids.are_given() {
+            self.pids = PidsGiven::Absent;
+        }
+        if self.addpids.is_some() {
+            self.addpids = None;
+        }
+        if self.delpids.is_some() {
+            self.delpids = None;
         }
     }
 
@@ -69,6 +75,24 @@ impl Query {
             || self.gives(Key::Pids)
             || self.gives(Key::Addpids)
             || self.gives(Key::Delpids)
+    }
+}
+
+// The change that gives nothing.
+fn no_change() -> Change
+    ensures empty { result ≡ new_query.change }
+{
+    Change {
+        fe: None,
+        src: None,
+        freq: None,
+        pol: None,
+        ro: None,
+        msys: None,
+        mtype: None,
+        plts: None,
+        sr: None,
+        fec: None,
     }
 }
 

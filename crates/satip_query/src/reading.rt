@@ -1,15 +1,18 @@
 //! Queries read from text.
 
-ghost use Rattle.std.specs.Prelude.{◌≡◌, OnErr, IfErr, OnOk, Ok, Err};
+ghost use Rattle.std.specs.Prelude.{◌≡◌, OnErr, IfErr, OnOk, Ok, Err, Some};
 ghost use Rattle.std.specs.List.{list_any, slice_split};
 ghost use Rattle.satip_tune.specs.Pieces.{is_byte, text_left};
 ghost use Rattle.satip_tune.specs.declared.keys.Key.{Key};
 ghost use Rattle.satip_query.specs.Queries.{is_given, new_query};
-ghost use Rattle.satip_query.specs.Reading.{Answers, fault_at, piece_gives, is_open as is_left_open, pids_of, query_of, with_known, with_piece, with_pieces, with_value};
+ghost use Rattle.satip_query.specs.Reading.{Answers, fault_at, piece_gives, is_open as is_left_open, pids_of, query_of, with_known, with_piece, with_pieces, with_value, result_map};
+ghost use Rattle.satip_query.specs.Values.{pid_list_of};
+ghost use Rattle.satip_query.specs.declared.queries.PidsGiven.TheVariants.{List as Listed};
 
 use crate::faults::QueryFault;
 use crate::queries::{PidsGiven, Query};
 use crate::values::{named_word, read_number_in, read_pid_list, read_roll_off};
+use satip_pids::PidList;
 use satip_tune::{
     Fec, Key, Modulation, Pol, System, ValueFault, cut, pilots_named, read_frequency, same_bytes,
 };
@@ -27,11 +30,11 @@ pub fn read(bytes: &[u8], into: &mut Query) -> Result<(), QueryFault>
     ensures first_fault { IfErr result (λ fault. query_of bytes.now ≡ Err fault) }
     ensures emptied { OnErr result (into.new ≡ new_query) }
 {
-    *into = Query::new();
+    into.clear();
     match read_pieces(bytes, into) {
         Ok(()) => Ok(()),
         Err(fault) => {
-            *into = Query::new();
+            into.clear();
             Err(fault)
         }
     }
@@ -116,25 +119,48 @@ fn put_value(key: Key, text: &[u8], into: &mut Query) -> Result<(), ValueFault>
         Key::Plts => into.change.plts = Some(named_word(pilots_named(text), text)?),
         Key::Sr => into.change.sr = Some(read_number_in(text, 1, 99999)? as u32),
         Key::Fec => into.change.fec = Some(named_word(Fec::named(text), text)?),
-        Key::Pids => into.pids = read_pids(text)?,
-        Key::Addpids => into.addpids = Some(read_pid_list(text)?),
-        Key::Delpids => into.delpids = Some(read_pid_list(text)?),
+        Key::Pids => read_pids(text, &mut into.pids)?,
+        Key::Addpids => read_list(text, &mut into.addpids)?,
+        Key::Delpids => read_list(text, &mut into.delpids)?,
     }
     Ok(())
 }
 
 #[tactic(auto, unfolding(crate::specs::Reading::pids_of))]
-fn read_pids(text: &[u8]) -> Result<PidsGiven, ValueFault>
-    ensures value { result ≡ pids_of text.now }
+fn read_pids(text: &[u8], into: &mut PidsGiven) -> Result<(), ValueFault>
+    ensures value { OnOk result (pids_of text.now ≡ Ok into.new) }
+    ensures fault { IfErr result (λ fault. pids_of text.now ≡ Err fault) }
 {
     if same_bytes(text, b"all") {
-        Ok(PidsGiven::All)
+        *into = PidsGiven::All;
+        Ok(())
     } else if same_bytes(text, b"none") {
-        Ok(PidsGiven::Empty)
+        *into = PidsGiven::Empty;
+        Ok(())
     } else {
-        match read_pid_list(text) {
-            Ok(list) => Ok(PidsGiven::List(list)),
-            Err(fault) => Err(fault),
-        }
+        read_listed(text, into)
+    }
+}
+
+// Reads a list in the place where it stays, since lists are large.
+fn read_listed(text: &[u8], into: &mut PidsGiven) -> Result<(), ValueFault>
+    ensures value { OnOk result (result_map Listed (pid_list_of text.now) ≡ Ok into.new) }
+    ensures fault { IfErr result (λ fault. pid_list_of text.now ≡ Err fault) }
+{
+    *into = PidsGiven::List(PidList::new());
+    match into {
+        PidsGiven::List(list) => read_pid_list(text, list),
+        _ => unreachable!(),
+    }
+}
+
+fn read_list(text: &[u8], into: &mut Option<PidList>) -> Result<(), ValueFault>
+    ensures value { OnOk result (result_map Some (pid_list_of text.now) ≡ Ok into.new) }
+    ensures fault { IfErr result (λ fault. pid_list_of text.now ≡ Err fault) }
+{
+    *into = Some(PidList::new());
+    match into {
+        Some(list) => read_pid_list(text, list),
+        None => unreachable!(),
     }
 }

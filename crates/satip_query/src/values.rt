@@ -6,7 +6,7 @@ ghost use Rattle.std.specs.Char.{is_ascii_alphanumeric};
 ghost use Rattle.std.specs.List.{list_all, slice_split};
 ghost use Rattle.satip_tune.specs.Pieces.{is_byte};
 ghost use Rattle.satip_tune.specs.declared.faults.ValueFault.TheVariants.{Malformed, NotAllowed};
-ghost use Rattle.satip_query.specs.Values.{are_decimal, is_word as is_word_text, named_or, number_in, pid_list_of, roll_off_of};
+ghost use Rattle.satip_query.specs.Values.{ListAnswers, are_decimal, is_word as is_word_text, named_or, number_in, pid_list_of, roll_off_of};
 
 use satip_base::read_number;
 use satip_pids::PidList;
@@ -79,12 +79,12 @@ fn is_decimal(text: &[u8]) -> bool
     }
 }
 
-/// Reads a list of 1 to 512 PIDs with commas between them.
+/// Reads a list of 1 to 512 PIDs with commas between them into an empty list, in place since lists are large.
 #[tactic(auto, unfolding(crate::specs::Values::pid_list_of))]
-pub fn read_pid_list(text: &[u8]) -> Result<PidList, ValueFault>
-    ensures value { result ≡ pid_list_of text.now }
+pub fn read_pid_list(text: &[u8], list: &mut PidList) -> Result<(), ValueFault>
+    requires empty { list.old ≡ [] }
+    ensures value { ListAnswers result (pid_list_of text.now) list.new }
 {
-    let mut list = PidList::new();
     let mut are_pids = true;
     let mut count: usize = 0;
     let mut left = Some(text);
@@ -97,11 +97,11 @@ pub fn read_pid_list(text: &[u8]) -> Result<PidList, ValueFault>
             return Err(ValueFault::Malformed);
         }
         count += 1;
-        are_pids = keep(number, &mut list) && are_pids;
+        are_pids = keep(number, list) && are_pids;
         left = next;
     }
     if are_pids {
-        Ok(list)
+        Ok(())
     } else {
         Err(ValueFault::NotAllowed)
     }

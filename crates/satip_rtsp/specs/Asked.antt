@@ -67,11 +67,6 @@ blank = record {
   ports = None;
 }
 
--- a request that is filled in place is the one that is wanted, but for the refusal, which is still to be put in
-abbrev pub Fills : {U : Type 0} → Result U Refusal → Request → Request → Type 0
-Fills (Ok done) wanted filled = wanted ≡ filled
-Fills (Err refusal) wanted filled = wanted ≡ record filled { refusal = Some refusal }
-
 -- a request that is refused
 abbrev pub refused : Option ℕ → Refusal → Request
 refused cseq refusal = record {

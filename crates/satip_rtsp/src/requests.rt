@@ -1,10 +1,10 @@
 //! What a message asks for.
-ghost use Rattle.std.specs.Prelude.{◌≡◌, ◌≢◌, ◌↔◌, ℕ, List, Some, None, Err, IsSome, OnErr, true, false, codes};
-ghost use Rattle.std.specs.Option.{option_copied};
+ghost use Rattle.std.specs.Prelude.{◌≡◌, ◌≢◌, ◌↔◌, ℕ, List, Some, None, Err, IsSome, OnErr, true, false, codes, take};
+ghost use Rattle.std.specs.Option.{option_copied, option_map};
 ghost use Rattle.std.specs.Str.{bytes_eq};
 ghost use Rattle.satip_query.specs.Queries.{new_query};
 ghost use Rattle.satip_query.specs.Reading.{Answers};
-ghost use Rattle.satip_rtsp.specs.Asked.{Fills, IsServed, asked, blank, broken as broken_request, cseq_of, is_options as is_options_method, method_named, ports_asked, query_read, required as requirement, required_in, with_method};
+ghost use Rattle.satip_rtsp.specs.Asked.{IsServed, asked, blank, broken as broken_request, cseq_of, is_options as is_options_method, method_named, ports_asked, query_read, required as requirement, required_in, with_method, with_target};
 ghost use Rattle.satip_rtsp.specs.Targets.{TargetParts, target_of};
 
 use crate::short::Short;
@@ -112,7 +112,7 @@ impl Request {
         ensures not_too_long { result.refusal ≢ Some Refusal.TooLong }
     {
         let mut request = blank();
-        fill_whole(message, &mut request);
+        fill(message, &mut request);
         request
     }
 
@@ -122,19 +122,21 @@ impl Request {
         ensures asked { self.new ≡ asked message.now }
     {
         self.clear();
-        fill_whole(message, self);
+        fill(message, self);
     }
 
-    // Asks for nothing from now on.
+    // Asks for nothing. A refusal is written only where it stands: it is large, and writes cost time.
     fn clear(&mut self)
         ensures blank { self.new ≡ blank }
     {
         self.cseq = None;
-        self.refusal = None;
+        if self.refusal.is_some() {
+            self.refusal = None;
+        }
         self.method = Method::Options;
         self.stream = None;
         self.session = SessionName::Absent;
-        clear_query(&mut self.query);
+        self.query.clear();
         self.ports = None;
     }
 
@@ -151,64 +153,57 @@ impl Request {
     }
 }
 
-// Puts what a message asks for in the place of a request that asks for nothing.
-fn fill_whole(message: &Message<'_>, into: &mut Request)
+// Puts what a message asks for in the place of a request that asks for nothing. The first refusal is put there
+// at once, since it is large.
+#[tactic(auto, unfolding(crate::specs::Asked::asked))]
+fn fill(message: &Message<'_>, into: &mut Request)
     requires blank { into.old ≡ blank }
     ensures asked { into.new ≡ asked message.now }
 {
-    if let Err(refusal) = fill(message, into) {
-        into.refusal = Some(refusal);
-    }
-}
-
-// Fills in what a message asks for, up to its first refusal.
-#[tactic(auto, unfolding(crate::specs::Asked::asked))]
-fn fill(message: &Message<'_>, into: &mut Request) -> Result<(), Refusal>
-    requires blank { into.old ≡ blank }
-    ensures filled { Fills result (asked message.now) into.new }
-{
     let Some(cseq) = read_cseq(message) else {
-        return Err(Refusal::NoCseq);
+        into.refusal = Some(Refusal::NoCseq);
+        return;
     };
     into.cseq = Some(cseq);
     if !same_bytes(message.version(), b"RTSP/1.0") {
-        return Err(Refusal::Version);
+        into.refusal = Some(Refusal::Version);
+        return;
     }
-    let Some(method) = Method::named(message.method()) else {
-        return Err(Refusal::Method);
-    };
-    fill_served(message, method, into)
+    match Method::named(message.method()) {
+        None => into.refusal = Some(Refusal::Method),
+        Some(method) => fill_served(message, method, into),
+    }
 }
 
 // Fills in what a message with a number, the version and a method asks for.
-fn fill_served(message: &Message<'_>, method: Method, into: &mut Request) -> Result<(), Refusal>
+fn fill_served(message: &Message<'_>, method: Method, into: &mut Request)
     requires blank { into.old ≡ record blank { cseq = into.old.cseq } }
-    ensures filled { (cseq : ℕ) → into.old.cseq ≡ Some cseq → Fills result (with_method cseq message.now (Some method)) into.new }
+    ensures asked { (cseq : ℕ) → into.old.cseq ≡ Some cseq → into.new ≡ with_method cseq message.now (Some method) }
 {
-    if let Some(kept) = required(message.header(b"Require")) {
-        return Err(Refusal::Require(kept));
+    match required(message.header(b"Require")) {
+        Some(value) => into.refusal = Some(Refusal::Require(Short::of(value))),
+        None => fill_aimed(message, method, into),
     }
+}
+
+// Fills in what a message that requires nothing asks for.
+fn fill_aimed(message: &Message<'_>, method: Method, into: &mut Request)
+    requires blank { into.old ≡ record blank { cseq = into.old.cseq } }
+    ensures asked { (cseq : ℕ) → into.old.cseq ≡ Some cseq
+        → into.new ≡ with_target cseq message.now method (target_of (is_options_method method) message.now.target) }
+{
     let Some(target) = Target::of(message.target(), is_options(method)) else {
-        return Err(Refusal::Target);
+        into.refusal = Some(Refusal::Target);
+        return;
     };
     if let Err(fault) = read_query(method, target.query(), &mut into.query) {
-        return Err(Refusal::Query(fault));
+        into.refusal = Some(Refusal::Query(fault));
+        return;
     }
     into.method = method;
     into.stream = target.stream();
     into.session = session_name(message.header(b"Session"));
     into.ports = ports_of(method, message.header(b"Transport"));
-    Ok(())
-}
-
-// A query that gives nothing from now on. Its lists stay as they are, unseen.
-fn clear_query(query: &mut Query)
-    ensures empty { query.new ≡ new_query }
-{
-    query.change = Query::new().change;
-    query.pids = PidsGiven::Absent;
-    query.addpids = None;
-    query.delpids = None;
 }
 
 // A request that asks for nothing.
@@ -239,13 +234,14 @@ fn read_cseq(message: &Message<'_>) -> Option<u32>
     }
 }
 
-fn required(value: Option<&[u8]>) -> Option<Short>
-    ensures kept { result ≡ requirement (option_copied value.entry) }
+// The value that names what is required.
+fn required(value: Option<&[u8]>) -> Option<&[u8]>
+    ensures kept { option_map (take 128) (option_copied result) ≡ requirement (option_copied value.entry) }
 {
     match value {
         None => None,
         Some(value) if value.is_empty() => None,
-        Some(value) => Some(Short::of(value)),
+        Some(value) => Some(value),
     }
 }
 

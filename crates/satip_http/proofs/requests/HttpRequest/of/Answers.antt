@@ -8,12 +8,12 @@ use Rattle.satip_http.proofs.requests.HttpRequest.of.Goals as goal
 pub returns : goal.returns
 returns c =
     let of_this : HttpRequest → Type 0 = λ r. Causes (is_served c.args.message.now.version) (bytes_eq c.args.message.now.method (codes "GET")) r.refusal in
-    let found : Causes (is_served c.args.message.now.version) (bytes_eq c.args.message.now.method (codes "GET")) c.read_request.result.refusal =
-    subst of_this (sym c.read_request.ensures.asked) (causes c.args.message.now) in
+    let found : Causes (is_served c.args.message.now.version) (bytes_eq c.args.message.now.method (codes "GET")) c.read.new.self.refusal =
+    subst of_this (sym c.read.ensures.asked) (causes c.args.message.now) in
     let target_of : HttpRequest → Type 0 = λ r. TargetCauses c.args.message.now r.refusal in
-    let aimed : TargetCauses c.args.message.now c.read_request.result.refusal = subst target_of (sym c.read_request.ensures.asked) (target_causes c.args.message.now) in
+    let aimed : TargetCauses c.args.message.now c.read.new.self.refusal = subst target_of (sym c.read.ensures.asked) (target_causes c.args.message.now) in
     record {
-      asked = c.read_request.ensures.asked;
+      asked = c.read.ensures.asked;
       version = found.version;
       method = found.method;
       target = aimed.target;
