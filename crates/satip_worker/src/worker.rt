@@ -2,6 +2,7 @@
 
 ghost use Rattle.std.specs.Prelude.{◌≡◌, ◌≢◌, ◌↔◌, ℕ, List, true};
 ghost use Rattle.satip_world.specs.Counts.{Rises};
+ghost use Rattle.satip_world.specs.Halls.{IsAtLimit};
 ghost use Rattle.satip_worker.specs.Drawing.{draw_at, before_draw};
 ghost use Rattle.satip_worker.specs.WorkerRun.{ServesOne, ServesDoors};
 
@@ -82,6 +83,7 @@ pub fn run_worker<R: Wait + Sync, S: Service, D: Doors, O: Outlet, P: Pacer>(
 
     // When each end comes.
     ensures closed { (result ≡ WorkerEnd.Closed) ↔ ((D.hall kit.new.doors).ended ≡ true) }
+    ensures at_limit { result ≡ WorkerEnd.Closed → D.by_limit → IsAtLimit (D.hall kit.new.doors) }
     ensures doors_fault { result ≡ WorkerEnd.DoorsFault
         → Rises (D.hall kit.old.doors).faults (D.hall kit.new.doors).faults }
     ensures calm { result ≢ WorkerEnd.DoorsFault

@@ -141,6 +141,8 @@ impl<'a> Doors for GatedDoors<'a> {
 
     ghost hall = { λ d. d.doors };
 
+    ghost by_limit = { ⊥ };
+
     fn next(&mut self) -> Door<GatedConn<'a>> {
         match self.doors.next() {
             Door::Came { kind, peer, conn } => Door::Came {
