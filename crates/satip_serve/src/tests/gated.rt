@@ -179,6 +179,14 @@ impl<'a> Outlet for GatedOutlet<'a> {
 
     ghost outbox = { λ o. o.outlet };
 
+    fn lock(&mut self) {
+        self.outlet.lock();
+    }
+
+    fn unlock(&mut self) {
+        self.outlet.unlock();
+    }
+
     fn send(&mut self, to: Address, bytes: &[u8]) -> Put {
         let put = self.outlet.send(to, bytes);
         if to.port == PORT {
