@@ -1,5 +1,5 @@
 -- What a burst gave.
-use Rattle.std.proofs.Common.{◌≡◌, ℕ, ◌≤◌, Bool, true, false, List, [], ◌∷◌, ◌++◌, length, flat_map, IsSome, Result, refl, ap, ◌∙◌, subst, arith}
+use Rattle.std.proofs.Common.{◌≡◌, ℕ, ◌≤◌, Bool, true, false, List, [], ◌∷◌, ◌++◌, length, flat_map, IsSome, Result, Ok, Err, refl, ap, ◌∙◌, subst, arith}
 use Rattle.satip_base.specs.Output.{Datagram, Output}
 use Rattle.satip_history.specs.declared.entry.Taken.{Taken}
 use Rattle.satip_history.specs.History.{entries}
@@ -11,8 +11,10 @@ use Rattle.satip_service.specs.declared.fault.ServiceFault.{ServiceFault}
 use Rattle.satip_service.specs.Known.{Known, AddsAll}
 use Rattle.satip_service.specs.Suits.{Suits}
 use Rattle.satip_world.specs.Deliveries.{Delivers}
-use Rattle.satip_world.specs.Outboxes.{Outbox}
+use Rattle.satip_world.specs.Outboxes.{Outbox, locked, unlocked}
+use Rattle.satip_world.proofs.DeliveryLemmas.{delivers_within, unsent_within}
 use Rattle.satip_pump.specs.Bundles.{Bundle, has_room}
+use Rattle.satip_pump.specs.Events.{Makes}
 use Rattle.satip_pump.specs.Loads.{Loaded, is_of, may_give, given_event, Gives, Took}
 use Rattle.satip_plain.specs.Pumping.{work_told}
 use Rattle.satip_pump.specs.Queues.{Waiting}
@@ -77,3 +79,32 @@ gave_by may_want k l tells o n f g q r w result is same first none burst =
 pub none_waits : (packets : List (List ℕ)) → length packets ≡ 0 → packets ≡ []
 none_waits [] none = refl
 none_waits (p ∷ ps) none = absurd (omega arith)
+
+-- an event that was made between a lock and an unlock
+pub makes_locked : (may_want : Bool) (k l : Known) (tells : Type 0) (o p m n : Outbox) (event : Event) (result : Result Answer ServiceFault)
+    → o.held ≡ false → p ≡ locked o → n ≡ unlocked m → Makes may_want k l tells p m event result → Makes may_want k l tells o n event result
+makes_locked may_want k l tells o p m n event (Ok answer) free into out made = record {
+  caller = made.caller;
+  out = made.out;
+  adds = made.adds;
+  suits = made.suits;
+  delivers = delivers_within tells o p m n made.out.datagrams into out made.delivers;
+}
+makes_locked may_want k l tells o p m n event (Err fault) free into out none = record {
+  unmade = none.unmade;
+  unsent = unsent_within o p m n free into out none.unsent;
+}
+
+-- packets that were given between a lock and an unlock
+pub gave_locked : (may_want : Bool) (front tune : ℕ) (work : Work) (k l : Known) (tells : Type 0) (o p m n : Outbox) (q r : Waiting) (result : Result Work ServiceFault)
+    → p ≡ locked o → n ≡ unlocked m → Gave may_want front tune work k l tells p m q r result → Gave may_want front tune work k l tells o n q r result
+gave_locked may_want front tune work k l tells o p m n q r result into out gave = record {
+  caller = gave.caller;
+  taken = gave.taken;
+  last = gave.last;
+  gives = gave.gives;
+  suit = gave.suit;
+  adds = gave.adds;
+  delivers = delivers_within tells o p m n (flat_map (λ t. t.out.datagrams) gave.taken) into out gave.delivers;
+  ends = gave.ends;
+}

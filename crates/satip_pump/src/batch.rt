@@ -101,6 +101,8 @@ impl Batch {
 
     /// Sends the datagrams, in order. One that can't be sent is left out.
     pub fn post<O: Outlet>(&self, outlet: &mut O)
+        requires held { (O.outbox outlet.old).held ≡ true }
+        ensures held { (O.outbox outlet.new).held ≡ true }
         ensures delivers { Delivers O.tells (O.outbox outlet.old) (O.outbox outlet.new) self.now.datagrams }
     {
         for place in 0..self.count() {
@@ -110,6 +112,8 @@ impl Batch {
 
     fn post_one<O: Outlet>(&self, place: usize, outlet: &mut O)
         requires within { place < length self.now.datagrams }
+        requires held { (O.outbox outlet.old).held ≡ true }
+        ensures held { (O.outbox outlet.new).held ≡ true }
         ensures delivers { IsSomeAnd (slice_get self.now.datagrams place)
             (λ datagram. Delivers O.tells (O.outbox outlet.old) (O.outbox outlet.new) (datagram ∷ [])) }
     {

@@ -1,4 +1,5 @@
 //! One event of a job.
+ghost use Rattle.std.specs.Prelude.{◌≡◌, true, false};
 ghost use Rattle.satip_pump.specs.Events.{Makes};
 
 use satip_base::Out;
@@ -13,6 +14,8 @@ pub(crate) fn make_event<S: Service, O: Outlet>(
     event: &Event,
     out: &mut Out,
 ) -> Result<Answer, ServiceFault>
+    requires free { (O.outbox outlet.old).held ≡ false }
+    ensures free { (O.outbox outlet.new).held ≡ false }
     ensures same { S.same service.old service.new }
     ensures makes { Makes (S.may_want service.old) (S.known service.old) (S.known service.new)
         O.tells (O.outbox outlet.old) (O.outbox outlet.new) event.now result }
@@ -30,6 +33,7 @@ fn call_and_post<S: Service, O: Outlet>(
     event: &Event,
     out: &mut Out,
 ) -> Result<Answer, ServiceFault>
+    requires held { (O.outbox outlet.old).held ≡ true }
     ensures same { S.same service.old service.new }
     ensures makes { Makes (S.may_want service.old) (S.known service.old) (S.known service.new)
         O.tells (O.outbox outlet.old) (O.outbox outlet.new) event.now result }

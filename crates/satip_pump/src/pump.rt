@@ -1,5 +1,5 @@
 //! The pump of a front end.
-ghost use Rattle.std.specs.Prelude.{◌≡◌, ◌+◌, ◌-◌, ◌<◌, ◌≤◌, ℕ, max, List, true, length, None};
+ghost use Rattle.std.specs.Prelude.{◌≡◌, ◌+◌, ◌-◌, ◌<◌, ◌≤◌, ℕ, max, List, true, false, length, None};
 ghost use Rattle.satip_plain.specs.Histories.{Item};
 ghost use Rattle.satip_service.specs.Known.{Known};
 ghost use Rattle.satip_world.specs.Outboxes.{Outbox};
@@ -42,6 +42,8 @@ fn give_some<S: Service, M: MuxStore, O: Outlet, P: Pacer>(
     requires work { is_of tuning.1 tuning.0 ≡ true }
     requires paced { pump.old.since < 64 }
     requires few { pump.old.since + length pump.old.reading.queue.packets ≤ 64 }
+    requires free { (O.outbox kit.old.outlet).held ≡ false }
+    ensures free { (O.outbox kit.new.outlet).held ≡ false }
     ensures same { S.same service.old service.new }
     ensures answered { (k : Known) (o : Outbox) (first : ℕ)
         → Feeds pump.old.front (M.recording kit.old.store) O.tells M.From.tells M.From.left k (S.known service.old) o (O.outbox kit.old.outlet)
@@ -85,6 +87,8 @@ fn tell_end<S: Service, F, O: Outlet>(
     out: &mut Out,
 ) -> Result<Work, ServiceFault>
     requires handed_back { pump.now.reading.source ≡ None }
+    requires free { (O.outbox outlet.old).held ≡ false }
+    ensures free { (O.outbox outlet.new).held ≡ false }
     ensures same { S.same service.old service.new }
     ensures works { Works (S.may_want service.old) (S.known service.old) (S.known service.new)
         O.tells (O.outbox outlet.old) (O.outbox outlet.new) (Event.Ended pump.now.front tune) result }
@@ -109,6 +113,8 @@ fn feed<R: Wait, S: Service, M: MuxStore, O: Outlet, P: Pacer>(
     requires work { is_of tuning.1 tuning.0 ≡ true }
     requires paced { pump.old.since < 64 }
     requires few { pump.old.since + length pump.old.reading.queue.packets ≤ 64 }
+    requires free { (O.outbox kit.old.outlet).held ≡ false }
+    ensures free { (O.outbox kit.new.outlet).held ≡ false }
     ensures same { S.same service.old service.new }
     ensures answered { (k : Known) (o : Outbox) (first : ℕ)
         → Feeds pump.old.front (M.recording kit.old.store) O.tells M.From.tells M.From.left k (S.known service.old) o (O.outbox kit.old.outlet)
@@ -147,6 +153,8 @@ fn tune<R: Wait, S: Service, M: MuxStore, O: Outlet, P: Pacer>(
 ) -> Result<Work, ServiceFault>
     requires paced { pump.old.since < 64 }
     requires few { pump.old.since + length pump.old.reading.queue.packets ≤ 64 }
+    requires free { (O.outbox kit.old.outlet).held ≡ false }
+    ensures free { (O.outbox kit.new.outlet).held ≡ false }
     ensures same { S.same service.old service.new }
     ensures answered { (k : Known) (o : Outbox) (first : ℕ)
         → Runs pump.old.front (M.recording kit.old.store) O.tells M.From.tells M.From.left k (S.known service.old) o (O.outbox kit.old.outlet)
@@ -189,6 +197,8 @@ pub fn run_pump<R: Wait + Sync, S: Service, M: MuxStore, O: Outlet, P: Pacer>(
     out: &mut Out,
     batch: &mut Batch,
 ) -> JobEnd
+    requires free { (O.outbox kit.old.outlet).held ≡ false }
+    ensures free { (O.outbox kit.new.outlet).held ≡ false }
     ensures same { S.same service.old service.new }
     ensures run { PumpRun front (M.recording kit.old.store) (S.known service.old) (S.known service.new)
         O.tells (O.outbox kit.old.outlet) (O.outbox kit.new.outlet) (M.faults kit.old.store) (M.faults kit.new.store) result }

@@ -1,5 +1,5 @@
 //! Pumps and a ticker over memory and a scripted service.
-ghost use Rattle.std.specs.Prelude.{◌≡◌, ℕ, List, [], ◌∷◌, None, Some};
+ghost use Rattle.std.specs.Prelude.{◌≡◌, ℕ, List, [], ◌∷◌, false, IfOk, None, Some};
 ghost use Rattle.satip_base.specs.Output.{empty};
 ghost use Rattle.satip_history.specs.History.{entry};
 ghost use Rattle.satip_plain.specs.Pumping.{Asking, Feeding, Finished, after_entry, tuned, moved, early_end, Pumps};
@@ -96,7 +96,9 @@ fn recording(
     Ok(text)
 }
 
-fn kit(alloc: Global, starts: &[u64], sends: &[u64]) -> Result<Kit, Fail> {
+fn kit(alloc: Global, starts: &[u64], sends: &[u64]) -> Result<Kit, Fail>
+    ensures free { IfOk result (λ kit. kit.outlet.held ≡ false) }
+{
     Ok(PumpKit {
         store: MemoryStore::make(alloc, starts)?,
         outlet: MemoryOutlet::make(alloc, sends)?,
@@ -109,7 +111,9 @@ fn pump<R: Wait + Sync>(
     alloc: Global,
     service: &mut Scripted,
     kit: &mut Kit,
-) -> Result<JobEnd, Want> {
+) -> Result<JobEnd, Want>
+    requires free { kit.old.outlet.held ≡ false }
+{
     let mut out = Out::make(alloc)?;
     let mut batch = Batch::make(alloc)?;
     Ok(run_pump(rt, service, 1, kit, &mut out, &mut batch))

@@ -1,5 +1,5 @@
 //! The ticker.
-ghost use Rattle.std.specs.Prelude.{◌≡◌, true};
+ghost use Rattle.std.specs.Prelude.{◌≡◌, true, false};
 ghost use Rattle.satip_pump.specs.Pauses.{TickPauses};
 ghost use Rattle.satip_pump.specs.TickRuns.{Ticked, TickRun};
 
@@ -19,6 +19,8 @@ fn tick<S: Service, O: Outlet>(
     now: u64,
     out: &mut Out,
 ) -> Option<JobEnd>
+    requires free { (O.outbox outlet.old).held ≡ false }
+    ensures free { (O.outbox outlet.new).held ≡ false }
     ensures same { S.same service.old service.new }
     ensures ticked { Ticked (S.may_want service.old) (S.known service.old) (S.known service.new)
         O.tells (O.outbox outlet.old) (O.outbox outlet.new) now result }
@@ -38,6 +40,8 @@ pub fn run_ticker<R: Wait + Sync, S: Service, C: Clock, O: Outlet, P: Pacer>(
     kit: &mut TickKit<C, O, P>,
     out: &mut Out,
 ) -> JobEnd
+    requires free { (O.outbox kit.old.outlet).held ≡ false }
+    ensures free { (O.outbox kit.new.outlet).held ≡ false }
     ensures same { S.same service.old service.new }
     ensures run { TickRun (S.known service.old) (S.known service.new) (C.dial kit.old.clock) (C.dial kit.new.clock)
         O.tells (O.outbox kit.old.outlet) (O.outbox kit.new.outlet) result }

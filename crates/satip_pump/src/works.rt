@@ -1,5 +1,5 @@
 //! Events that ask for work.
-ghost use Rattle.std.specs.Prelude.{◌≤◌, length};
+ghost use Rattle.std.specs.Prelude.{◌≡◌, ◌≤◌, length, true, false};
 ghost use Rattle.satip_pump.specs.Works.{AsksWork, Works, Gave};
 
 use crate::batch::Batch;
@@ -19,6 +19,8 @@ pub(crate) fn make_work<S: Service, O: Outlet>(
     out: &mut Out,
 ) -> Result<Work, ServiceFault>
     requires asks { AsksWork event.now }
+    requires free { (O.outbox outlet.old).held ≡ false }
+    ensures free { (O.outbox outlet.new).held ≡ false }
     ensures same { S.same service.old service.new }
     ensures works { Works (S.may_want service.old) (S.known service.old) (S.known service.new)
         O.tells (O.outbox outlet.old) (O.outbox outlet.new) event.now result }
@@ -41,6 +43,8 @@ pub(crate) fn give<S: Service, O: Outlet>(
     out: &mut Out,
     batch: &mut Batch,
 ) -> Result<Work, ServiceFault>
+    requires free { (O.outbox outlet.old).held ≡ false }
+    ensures free { (O.outbox outlet.new).held ≡ false }
     ensures same { S.same service.old service.new }
     ensures gave { Gave (S.may_want service.old) tuning.0 tuning.1 work (S.known service.old) (S.known service.new)
         O.tells (O.outbox outlet.old) (O.outbox outlet.new) queue.old queue.new result }
@@ -62,6 +66,7 @@ fn burst_and_post<S: Service, O: Outlet>(
     out: &mut Out,
     batch: &mut Batch,
 ) -> Result<Work, ServiceFault>
+    requires held { (O.outbox outlet.old).held ≡ true }
     ensures same { S.same service.old service.new }
     ensures gave { Gave (S.may_want service.old) tuning.0 tuning.1 work (S.known service.old) (S.known service.new)
         O.tells (O.outbox outlet.old) (O.outbox outlet.new) queue.old queue.new result }

@@ -32,7 +32,7 @@ pub struct RealDoors {
 }
 
 impl Model for RealDoors {
-    ghost use Rattle.std.specs.Prelude.{[], false};
+    ghost use Rattle.std.specs.Prelude.{◌≡◌, ◌≢◌, ◌≤◌, [], true, false};
     ghost use Rattle.satip_world.specs.Halls.{Hall};
 
     ghost Value = { Hall };
@@ -47,6 +47,8 @@ impl Model for RealDoors {
       given = [];
       returned = [];
     } };
+
+    ghost invariant = { λ d. d.ended ≡ true → (d.limit ≢ 0) × (d.limit ≤ d.count) };
 }
 
 impl RealDoors {
@@ -94,6 +96,8 @@ impl Doors for RealDoors {
     type Conn = RealConn;
 
     ghost hall = { λ d. d };
+
+    ghost by_limit = { Unit {0} };
 
     fn next(&mut self) -> Door<RealConn> {
         if self.ended {

@@ -64,6 +64,7 @@ pub struct RealOutlet<R: Wait + Drop> {
     rt: R,
     shared: Arc<SharedSocket>,
     faults: u64,
+    held: bool,
 }
 
 impl<R: Wait + Drop> Model for RealOutlet<R> {
@@ -72,7 +73,7 @@ impl<R: Wait + Drop> Model for RealOutlet<R> {
 
     ghost Value = { Outbox };
 
-    ghost view = { λ o. record { sent = []; faults = o.faults } };
+    ghost view = { λ o. record { sent = []; faults = o.faults; held = o.held } };
 }
 
 impl<R: Wait + Drop> RealOutlet<R> {
@@ -86,6 +87,7 @@ impl<R: Wait + Drop> RealOutlet<R> {
             rt,
             shared,
             faults: 0,
+            held: false,
         }
     }
 }
@@ -97,10 +99,14 @@ impl<R: Wait + Drop> Outlet for RealOutlet<R> {
 
     fn lock(&mut self) {
         self.shared.lock(&self.rt);
+        self.held = true;
     }
 
     fn unlock(&mut self) {
-        self.shared.unlock(&self.rt);
+        if self.held {
+            self.held = false;
+            self.shared.unlock(&self.rt);
+        }
     }
 
     fn send(&mut self, to: Address, bytes: &[u8]) -> Put {

@@ -3,6 +3,7 @@
 mod connections;
 mod faults;
 mod http;
+mod locks;
 mod messages;
 mod pumps;
 mod setting;

@@ -8,3 +8,4 @@ pub mod Kept
 pub mod StopRows
 pub mod RunRows
 pub mod PumpRows
+pub mod Unlocking

@@ -77,6 +77,8 @@ pub(crate) fn work_seat<R: Wait + Sync, D: Doors, O: Outlet, P: Pacer>(
         (worker_view D.hall O.outbox seat.old.kit) (known_by seat.old.caller.pass)
         (worker_view D.hall O.outbox seat.new.kit) (known_by seat.new.caller.pass) seat.new.end }
 {
+    // No job begins with its lock held.
+    seat.kit.outlet.unlock();
     let rt = seat.caller.rt;
     let end = work(
         rt,
@@ -98,6 +100,8 @@ pub(crate) fn pump_seat<R: Wait + Sync, M: MuxStore, O: Outlet, P: Pacer>(
         (pump_view M.recording M.faults M.lent M.peak O.outbox seat.old.kit) (known_by seat.old.caller.pass)
         (pump_view M.recording M.faults M.lent M.peak O.outbox seat.new.kit) (known_by seat.new.caller.pass) seat.new.end }
 {
+    // No job begins with its lock held.
+    seat.kit.outlet.unlock();
     let rt = seat.caller.rt;
     let end = pump(
         rt,
@@ -120,6 +124,8 @@ pub(crate) fn tick_seat<R: Wait + Sync, C: Clock, O: Outlet, P: Pacer>(
         (tick_view C.dial O.outbox seat.old.kit) (known_by seat.old.caller.pass)
         (tick_view C.dial O.outbox seat.new.kit) (known_by seat.new.caller.pass) seat.new.end }
 {
+    // No job begins with its lock held.
+    seat.kit.outlet.unlock();
     let rt = seat.caller.rt;
     let end = tick(rt, &mut seat.caller, &mut seat.kit, &mut seat.room);
     seat.end = end;

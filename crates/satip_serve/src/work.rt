@@ -20,6 +20,7 @@ pub(crate) fn work<R: Wait + Sync, S: Service, D: Doors, O: Outlet, P: Pacer>(
     number: u16,
     room: &mut Room,
 ) -> ServeEnd
+    requires free { (O.outbox kit.old.outlet).held ≡ false }
     ensures same { S.same service.old service.new }
     ensures did { S.may_want service.old ≡ false
         → WorkerDid D.Conn.tells O.tells number (worker_view D.hall O.outbox kit.old) (S.known service.old)
@@ -38,6 +39,7 @@ pub(crate) fn pump<R: Wait + Sync, S: Service, M: MuxStore, O: Outlet, P: Pacer>
     out: &mut Out,
     batch: &mut Batch,
 ) -> ServeEnd
+    requires free { (O.outbox kit.old.outlet).held ≡ false }
     ensures same { S.same service.old service.new }
     ensures did { S.may_want service.old ≡ false
         → PumpDid O.tells number (pump_view M.recording M.faults M.lent M.peak O.outbox kit.old) (S.known service.old)
@@ -54,6 +56,7 @@ pub(crate) fn tick<R: Wait + Sync, S: Service, C: Clock, O: Outlet, P: Pacer>(
     kit: &mut TickKit<C, O, P>,
     out: &mut Out,
 ) -> ServeEnd
+    requires free { (O.outbox kit.old.outlet).held ≡ false }
     ensures same { S.same service.old service.new }
     ensures did { S.may_want service.old ≡ false
         → TickerDid O.tells (tick_view C.dial O.outbox kit.old) (S.known service.old)

@@ -1,5 +1,5 @@
 -- What a service, an outlet and a connection do one after another.
-use Rattle.std.proofs.Common.{◌≡◌, ℕ, suc, ◌≤◌, ◌⊎◌, inl, inr, Bool, List, [], ◌++◌, append_assoc, arith, sym, ap, ◌∙◌, subst, refl}
+use Rattle.std.proofs.Common.{◌≡◌, ℕ, suc, ◌≤◌, ◌⊎◌, inl, inr, Bool, List, [], ◌∷◌, ◌++◌, append_assoc, arith, sym, ap, ◌∙◌, subst, refl, Result, Ok, Err}
 use Rattle.std.proofs.lemmas.List.{append-nil}
 use Rattle.std.proofs.lemmas.List.Concat.{flat_map-append}
 use Rattle.satip_base.specs.Output.{Datagram, Output}
@@ -9,16 +9,16 @@ use Rattle.satip_plain.specs.declared.answers.Answer.{Answer}
 use Rattle.satip_plain.specs.declared.events.Event.{Event}
 use Rattle.satip_world.specs.Counts.{Rises}
 use Rattle.satip_world.specs.Lines.{Line}
-use Rattle.satip_world.specs.Outboxes.{Outbox}
+use Rattle.satip_world.specs.Outboxes.{Outbox, locked, unlocked}
 use Rattle.satip_world.specs.Deliveries.{Delivers}
-use Rattle.satip_world.proofs.DeliveryLemmas.{delivers_none, delivers_then}
+use Rattle.satip_world.proofs.DeliveryLemmas.{delivers_none, delivers_then, delivers_within}
 use Rattle.satip_service.specs.Known.{Known}
 use Rattle.satip_service.specs.Calls.{Made, Unmade}
 use Rattle.satip_service.specs.declared.fault.ServiceFault.{ServiceFault}
 use Rattle.satip_service.proofs.Growing.{adds_nothing, adds_then, adds_one, adds_no_more}
 use Rattle.satip_worker.specs.Answers.{datagrams_of}
 use Rattle.satip_worker.specs.Progress.{Stage, Makes, Carries}
-use Rattle.satip_worker.specs.Making.{MadeEvent, UnmadeEvent}
+use Rattle.satip_worker.specs.Making.{MadeEvent, UnmadeEvent, MakesEvent}
 
 -- nothing was made yet
 pub makes_nothing : (tells : Type 0) (o : Stage) → Makes tells o o []
@@ -59,6 +59,30 @@ pub unmade_event : (tells : Type 0) (may_want may_want' : Bool) (k l : Known) (b
     (record { may_want = may_want'; known = l; outbox = before }) fault
 unmade_event tells may_want may_want' k l before fault same unmade = record {
   makes = record { may_want = same; adds = adds_no_more k l unmade.adds; delivers = delivers_none tells before };
+  cause = unmade.cause;
+}
+
+-- what was made between a lock and an unlock
+makes_within : (tells : Type 0) (may_want may_want' : Bool) (k l : Known) (o p m n : Outbox) (entries : List Item) → p ≡ locked o → n ≡ unlocked m
+    → Makes tells (record { may_want = may_want; known = k; outbox = p }) (record { may_want = may_want'; known = l; outbox = m }) entries
+    → Makes tells (record { may_want = may_want; known = k; outbox = o }) (record { may_want = may_want'; known = l; outbox = n }) entries
+makes_within tells may_want may_want' k l o p m n entries into out makes = record {
+  may_want = makes.may_want;
+  adds = makes.adds;
+  delivers = delivers_within tells o p m n (datagrams_of entries) into out makes.delivers;
+}
+
+pub event_locked : (tells : Type 0) (may_want may_want' : Bool) (k l : Known) (o p m n : Outbox) (event : Event) (out : Output) (result : Result Answer ServiceFault)
+    → p ≡ locked o → n ≡ unlocked m
+    → MakesEvent tells (record { may_want = may_want; known = k; outbox = p }) (record { may_want = may_want'; known = l; outbox = m }) event out result
+    → MakesEvent tells (record { may_want = may_want; known = k; outbox = o }) (record { may_want = may_want'; known = l; outbox = n }) event out result
+event_locked tells may_want may_want' k l o p m n event out (Ok answer) into freed made = record {
+  caller = made.caller;
+  suits = made.suits;
+  makes = makes_within tells may_want may_want' k l o p m n (entry made.caller event answer out ∷ []) into freed made.makes;
+}
+event_locked tells may_want may_want' k l o p m n event out (Err fault) into freed unmade = record {
+  makes = makes_within tells may_want may_want' k l o p m n [] into freed unmade.makes;
   cause = unmade.cause;
 }
 

@@ -114,11 +114,11 @@ module _ (ct ot : Type 0) (key : List ℕ) (stream : ℕ) (o n : Stage) (before 
     made = on.made;
   }
 
-  pub calm_end : Shut hall hall' → hall'.faults ≡ before.faults
+  pub calm_end : {by_limit : Type 0} → Shut by_limit hall hall' → hall'.faults ≡ before.faults
   calm_end shut = shut.faults ∙ on.some.faults
 
   -- the doors ended
-  pub serves_to_end : Shut hall hall' → ServesDoors ct ot key stream o n before hall' Closed
+  pub serves_to_end : {by_limit : Type 0} → Shut by_limit hall hall' → ServesDoors ct ot key stream o n before hall' Closed
   serves_to_end shut = record {
     returns = on.some.returns;
     entries = on.some.entries;

@@ -1,6 +1,6 @@
 //! One connection, of either kind.
 
-ghost use Rattle.std.specs.Prelude.{◌≡◌, ℕ, List, true};
+ghost use Rattle.std.specs.Prelude.{◌≡◌, ℕ, List, true, false};
 ghost use Rattle.satip_world.specs.Counts.{Rises};
 ghost use Rattle.satip_worker.specs.Drawing.{draw_at, before_draw};
 ghost use Rattle.satip_worker.specs.Served.{ServesConn};
@@ -32,6 +32,8 @@ pub fn serve_connection<R: Wait + Sync, S: Service, C: Conn, O: Outlet, P: Pacer
     draws: &mut Draws,
     room: &mut Room,
 ) -> ConnEnd
+    requires free { (O.outbox outlet.old).held ≡ false }
+    ensures free { (O.outbox outlet.new).held ≡ false }
     ensures same { S.same service.old service.new }
 
     // What was made, received and sent, and why the connection ended.

@@ -31,6 +31,8 @@ fn stream<R: Wait + Sync, S: Service, C: Conn, O: Outlet, P: Pacer>(
     out: &mut Out,
 ) -> ConnEnd
     requires open { (C.line conn.old).ended ≡ false }
+    requires free { (O.outbox outlet.old).held ≡ false }
+    ensures free { (O.outbox outlet.new).held ≡ false }
     ensures same { S.same service.old service.new }
     ensures streams { Streams C.tells O.tells session
         (record { may_want = S.may_want service.old; known = S.known service.old; outbox = O.outbox outlet.old })
@@ -70,6 +72,8 @@ pub(crate) fn serve_http<R: Wait + Sync, S: Service, C: Conn, O: Outlet, P: Pace
     room: &mut Room,
 ) -> ConnEnd
     requires new { room.old.framer ≡ new_framer }
+    requires free { (O.outbox outlet.old).held ≡ false }
+    ensures free { (O.outbox outlet.new).held ≡ false }
     ensures same { S.same service.old service.new }
     ensures serves { (key : List ℕ) (stream from : ℕ) → draws.old ≡ before_draw key stream from
         → (to : ℕ) × (draws.new ≡ before_draw key stream to) × ServesConn C.tells O.tells DoorKind.Http peer (draw_at key stream) from to

@@ -54,6 +54,8 @@ pub(crate) fn get<S: Service, C: Conn, O: Outlet>(
     outlet: &mut O,
     conn: &mut C,
 ) -> Getting
+    requires free { (O.outbox outlet.old).held ≡ false }
+    ensures free { (O.outbox outlet.new).held ≡ false }
     ensures same { S.same service.old service.new }
     ensures input { (C.line conn.new).ended ≡ (C.line conn.old).ended }
     ensures calm { (C.line conn.new).receive_faults ≡ (C.line conn.old).receive_faults }
@@ -93,6 +95,8 @@ pub(crate) fn pull<S: Service, C: Conn, O: Outlet>(
     outlet: &mut O,
     conn: &mut C,
 ) -> Pulling
+    requires free { (O.outbox outlet.old).held ≡ false }
+    ensures free { (O.outbox outlet.new).held ≡ false }
     ensures same { S.same service.old service.new }
     ensures input { (C.line conn.new).ended ≡ (C.line conn.old).ended }
     ensures calm { (C.line conn.new).receive_faults ≡ (C.line conn.old).receive_faults }
@@ -122,6 +126,8 @@ pub(crate) fn close<S: Service, O: Outlet>(
     outlet: &mut O,
 ) -> ConnEnd
     requires cause { is_unmade cause ≡ false }
+    requires free { (O.outbox outlet.old).held ≡ false }
+    ensures free { (O.outbox outlet.new).held ≡ false }
     ensures same { S.same service.old service.new }
     ensures closes { ClosesSession O.tells
         (record { may_want = S.may_want service.old; known = S.known service.old; outbox = O.outbox outlet.old })

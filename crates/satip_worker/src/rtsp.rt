@@ -35,6 +35,8 @@ fn turn<S: Service, C: Conn, O: Outlet>(
     outlet: &mut O,
     conn: &mut C,
 ) -> Turn
+    requires free { (O.outbox outlet.old).held ≡ false }
+    ensures free { (O.outbox outlet.new).held ≡ false }
     ensures same { S.same service.old service.new }
     ensures input { (C.line conn.new).ended ≡ (C.line conn.old).ended }
     ensures calm { (C.line conn.new).receive_faults ≡ (C.line conn.old).receive_faults }
@@ -72,6 +74,8 @@ fn close<S: Service, C: Conn, O: Outlet>(
     outlet: &mut O,
     conn: &mut C,
 ) -> Heard
+    requires free { (O.outbox outlet.old).held ≡ false }
+    ensures free { (O.outbox outlet.new).held ≡ false }
     ensures same { S.same service.old service.new }
     ensures input { (C.line conn.new).ended ≡ (C.line conn.old).ended }
     ensures calm { (C.line conn.new).receive_faults ≡ (C.line conn.old).receive_faults }
@@ -122,6 +126,8 @@ fn answer<S: Service, C: Conn, O: Outlet>(
     outlet: &mut O,
     conn: &mut C,
 ) -> Heard
+    requires free { (O.outbox outlet.old).held ≡ false }
+    ensures free { (O.outbox outlet.new).held ≡ false }
     ensures same { S.same service.old service.new }
     ensures input { (C.line conn.new).ended ≡ (C.line conn.old).ended }
     ensures calm { (C.line conn.new).receive_faults ≡ (C.line conn.old).receive_faults }
@@ -185,6 +191,8 @@ fn hear<S: Service, C: Conn, O: Outlet>(
 ) -> Heard
     requires goes_on { room.old.framer.ended ≡ None }
     requires space { length room.old.framer.bytes < capacity }
+    requires free { (O.outbox outlet.old).held ≡ false }
+    ensures free { (O.outbox outlet.new).held ≡ false }
     ensures same { S.same service.old service.new }
     ensures input { (C.line conn.new).ended ≡ (C.line conn.old).ended }
     ensures calm { (C.line conn.new).receive_faults ≡ (C.line conn.old).receive_faults }
@@ -226,6 +234,8 @@ pub(crate) fn serve_rtsp<R: Wait + Sync, S: Service, C: Conn, O: Outlet, P: Pace
     room: &mut Room,
 ) -> ConnEnd
     requires new { room.old.framer ≡ new_framer }
+    requires free { (O.outbox outlet.old).held ≡ false }
+    ensures free { (O.outbox outlet.new).held ≡ false }
     ensures same { S.same service.old service.new }
     ensures serves { (key : List ℕ) (stream from : ℕ) → draws.old ≡ before_draw key stream from
         → (to : ℕ) × (draws.new ≡ before_draw key stream to) × ServesConn C.tells O.tells DoorKind.Rtsp peer (draw_at key stream) from to

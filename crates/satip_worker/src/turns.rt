@@ -1,6 +1,6 @@
 //! One event of a connection: it is made, its datagrams leave, and its reply is sent.
 
-ghost use Rattle.std.specs.Prelude.{◌≡◌, ◌∷◌, []};
+ghost use Rattle.std.specs.Prelude.{◌≡◌, ◌∷◌, [], true, false};
 ghost use Rattle.satip_plain.specs.declared.events.Event.{Event};
 ghost use Rattle.satip_plain.specs.declared.answers.Answer.{Answer};
 ghost use Rattle.satip_service.specs.Calls.{Cause};
@@ -53,6 +53,8 @@ pub(crate) fn make<S: Service, O: Outlet>(
     out: &mut Out,
     outlet: &mut O,
 ) -> Result<Answer, ServiceFault>
+    requires free { (O.outbox outlet.old).held ≡ false }
+    ensures free { (O.outbox outlet.new).held ≡ false }
     ensures same { S.same service.old service.new }
     ensures makes { MakesEvent O.tells
         (record { may_want = S.may_want service.old; known = S.known service.old; outbox = O.outbox outlet.old })
@@ -72,6 +74,7 @@ fn call_and_post<S: Service, O: Outlet>(
     out: &mut Out,
     outlet: &mut O,
 ) -> Result<Answer, ServiceFault>
+    requires held { (O.outbox outlet.old).held ≡ true }
     ensures same { S.same service.old service.new }
     ensures makes { MakesEvent O.tells
         (record { may_want = S.may_want service.old; known = S.known service.old; outbox = O.outbox outlet.old })

@@ -1,7 +1,8 @@
 //! A worker: connections one after another.
 
-ghost use Rattle.std.specs.Prelude.{◌≡◌, ◌≢◌, ◌↔◌, ℕ, List, true};
+ghost use Rattle.std.specs.Prelude.{◌≡◌, ◌≢◌, ◌↔◌, ℕ, List, true, false};
 ghost use Rattle.satip_world.specs.Counts.{Rises};
+ghost use Rattle.satip_world.specs.Halls.{IsAtLimit};
 ghost use Rattle.satip_worker.specs.Drawing.{draw_at, before_draw};
 ghost use Rattle.satip_worker.specs.WorkerRun.{ServesOne, ServesDoors};
 
@@ -38,6 +39,8 @@ fn serve_one<R: Wait + Sync, S: Service, D: Doors, O: Outlet, P: Pacer>(
     draws: &mut Draws,
     room: &mut Room,
 ) -> ConnEnd
+    requires free { (O.outbox kit.old.outlet).held ≡ false }
+    ensures free { (O.outbox kit.new.outlet).held ≡ false }
     ensures same { S.same service.old service.new }
     ensures key { kit.new.key ≡ kit.old.key }
     ensures serves { (key : List ℕ) (stream from : ℕ) → draws.old ≡ before_draw key stream from
@@ -71,6 +74,8 @@ pub fn run_worker<R: Wait + Sync, S: Service, D: Doors, O: Outlet, P: Pacer>(
     number: u64,
     room: &mut Room,
 ) -> WorkerEnd
+    requires free { (O.outbox kit.old.outlet).held ≡ false }
+    ensures free { (O.outbox kit.new.outlet).held ≡ false }
     ensures same { S.same service.old service.new }
     ensures key { kit.new.key ≡ kit.old.key }
 
@@ -82,6 +87,7 @@ pub fn run_worker<R: Wait + Sync, S: Service, D: Doors, O: Outlet, P: Pacer>(
 
     // When each end comes.
     ensures closed { (result ≡ WorkerEnd.Closed) ↔ ((D.hall kit.new.doors).ended ≡ true) }
+    ensures at_limit { result ≡ WorkerEnd.Closed → D.by_limit → IsAtLimit (D.hall kit.new.doors) }
     ensures doors_fault { result ≡ WorkerEnd.DoorsFault
         → Rises (D.hall kit.old.doors).faults (D.hall kit.new.doors).faults }
     ensures calm { result ≢ WorkerEnd.DoorsFault

@@ -1,5 +1,5 @@
 -- Datagrams one after another.
-use Rattle.std.proofs.Common.{◌≡◌, ℕ, suc, ◌+◌, ◌≤◌, ◌⊎◌, List, [], ◌∷◌, ◌++◌, take, Option, Some, None, IsSomeAnd, slice_get, append_assoc, arith, sym, ap, ◌∙◌, subst, inl, inr, refl}
+use Rattle.std.proofs.Common.{◌≡◌, ℕ, suc, ◌+◌, ◌≤◌, ◌⊎◌, List, [], ◌∷◌, ◌++◌, take, Bool, true, false, Option, Some, None, IsSomeAnd, slice_get, append_assoc, arith, sym, ap, ◌∙◌, subst, inl, inr, refl}
 use Rattle.std.proofs.lemmas.List.{append-nil, take_more}
 use Rattle.std.proofs.lemmas.Option.{slice_get_within, get_or_from_slice_get}
 use Rattle.satip_base.specs.Output.{Datagram}
@@ -7,7 +7,7 @@ use Rattle.satip_base.specs.declared.network.Address.{Address}
 use Rattle.satip_base.specs.declared.streams.Put.{Put}
 use Rattle.satip_base.specs.declared.streams.Put.TheVariants.{Whole, Failed}
 use Rattle.satip_world.specs.Counts.{Rises}
-use Rattle.satip_world.specs.Outboxes.{Outbox, Posts}
+use Rattle.satip_world.specs.Outboxes.{Outbox, Posts, locked, unlocked}
 use Rattle.satip_world.specs.Deliveries.{LeavesOut, no_more, went, lost, Delivers}
 
 -- what is left out of one list after another
@@ -31,6 +31,48 @@ delivers_none tells o = record {
   faults = inl (omega arith);
   kept = omega arith;
 }
+
+-- the lock changes nothing of what was sent
+pub delivers_locked : (tells : Type 0) (o n : Outbox) (all : List Datagram) → Delivers tells (locked o) n all → Delivers tells o (unlocked n) all
+delivers_locked tells o n all d = record {
+  sent = d.sent;
+  missing = d.missing;
+  leaves_out = d.leaves_out;
+  content = d.content;
+  faults = d.faults;
+  kept = d.kept;
+}
+
+pub delivers_unlocked : (tells : Type 0) (o n : Outbox) (all : List Datagram) → Delivers tells (unlocked o) n all → Delivers tells o n all
+delivers_unlocked tells o n all d = record {
+  sent = d.sent;
+  missing = d.missing;
+  leaves_out = d.leaves_out;
+  content = d.content;
+  faults = d.faults;
+  kept = d.kept;
+}
+
+-- what was sent between a lock and an unlock
+pub delivers_within : (tells : Type 0) (o p m n : Outbox) (all : List Datagram) → p ≡ locked o → n ≡ unlocked m
+    → Delivers tells p m all → Delivers tells o n all
+delivers_within tells o p m n all into out d =
+    let P : Outbox → Type 0 = λ q. Delivers tells q m all in
+    let N : Outbox → Type 0 = λ q. Delivers tells o q all in
+    subst N (sym out) (delivers_locked tells o m all (subst P into d))
+
+-- an outlet that was locked and unlocked is as it was
+pub relocked : (o : Outbox) → o.held ≡ false → unlocked (locked o) ≡ o
+relocked o free = rw (sym free) refl
+
+-- nothing was sent between a lock and an unlock
+pub unsent_within : (o p m n : Outbox) → o.held ≡ false → p ≡ locked o → n ≡ unlocked m → m ≡ p → n ≡ o
+unsent_within o p m n free into out same = out ∙ ap (λ (q : Outbox). unlocked q) (same ∙ into) ∙ relocked o free
+
+-- a call of `send` leaves the lock as it is
+pub posts_held : (tells : Type 0) (o n : Outbox) (to : Address) (bytes : List ℕ) (put : Put) → Posts tells o n to bytes put → n.held ≡ o.held
+posts_held tells o n to bytes Whole posted = posted.held
+posts_held tells o n to bytes Failed failed = failed.held
 
 -- how faults add up
 faults_then : (a b c n m : ℕ) → (a + n ≤ b) ⊎ (18446744073709551615 ≤ b) → (b + m ≤ c) ⊎ (18446744073709551615 ≤ c) → b ≤ c

@@ -1,11 +1,11 @@
 -- What doors show, and what one call of them does.
-use Rattle.std.specs.Prelude.{◌≡◌, ℕ, ◌<◌, ◌⊎◌, Bool, true, false, List, [], ◌∷◌, ◌++◌}
+use Rattle.std.specs.Prelude.{◌≡◌, ◌≢◌, ℕ, ◌<◌, ◌≤◌, ◌⊎◌, Bool, true, false, List, [], ◌∷◌, ◌++◌}
 use Rattle.satip_base.specs.declared.network.Peer.{Peer}
 use Rattle.satip_world.specs.declared.doors.DoorKind.{DoorKind}
 use Rattle.satip_world.specs.declared.doors.ConnEnd.{ConnEnd}
 use Rattle.satip_world.specs.declared.doors.Door.{Door}
 use Rattle.satip_world.specs.declared.doors.Door.TheVariants.{Came, Idle, End, Failed}
-use Rattle.satip_world.specs.Counts.{Rises}
+use Rattle.satip_world.specs.Counts.{Rises, RisesByOne}
 use Rattle.satip_world.specs.Lines.{Line, fresh_line}
 
 -- a connection that came: what is spoken on it, and who is at its other end
@@ -20,7 +20,7 @@ pub record Return : Type 0 where
   pub line : Line
   pub end : ConnEnd
 
--- doors: after how many connections they end (never where it's 0), how many came, whether they ended, how often none had
+-- doors: after how many connections they end (no number where it's 0), how many came, whether they ended, how often none had
 -- come, how often they failed, and, where that is told, the connections that came and that were handed back
 pub record Hall : Type 0 where
   pub limit : ℕ
@@ -49,7 +49,7 @@ pub record LetIn (o n : Hall) (kind : DoorKind) (peer : Peer) (line : Line) : Ty
   pub after : n.ended ≡ false
   pub limit : n.limit ≡ o.limit
   pub within : (o.limit ≡ 0) ⊎ (o.count < o.limit)
-  pub count : Rises o.count n.count
+  pub count : RisesByOne o.count n.count
   pub idles : n.idles ≡ o.idles
   pub faults : n.faults ≡ o.faults
   pub fresh : line ≡ fresh_line
@@ -65,9 +65,15 @@ pub record HadNone (o n : Hall) : Type 0 where
   pub faults : n.faults ≡ o.faults
   pub content : Moved o n [] []
 
--- no further connection comes, for good
-pub record Shut (o n : Hall) : Type 0 where
+-- there is a limit, and so many connections came
+pub record IsAtLimit (hall : Hall) : Type 0 where
+  pub some : hall.limit ≢ 0
+  pub reached : hall.limit ≤ hall.count
+
+-- no further connection comes, for good; doors that end by their limit alone are at it
+pub record Shut (by_limit : Type 0) (o n : Hall) : Type 0 where
   pub after : n.ended ≡ true
+  pub at_limit : by_limit → IsAtLimit n
   pub limit : n.limit ≡ o.limit
   pub count : n.count ≡ o.count
   pub idles : n.idles ≡ o.idles
@@ -85,11 +91,11 @@ pub record FailedToOpen (o n : Hall) : Type 0 where
   pub content : Moved o n [] []
 
 -- one call of `next`, where a connection shows its line
-abbrev pub Opens : {C : Type 0} → (C → Line) → (o n : Hall) → Door C → Type 0
-Opens line o n (Came kind peer conn) = LetIn o n kind peer (line conn)
-Opens line o n Idle = HadNone o n
-Opens line o n End = Shut o n
-Opens line o n Failed = FailedToOpen o n
+abbrev pub Opens : {C : Type 0} → (by_limit : Type 0) → (C → Line) → (o n : Hall) → Door C → Type 0
+Opens by_limit line o n (Came kind peer conn) = LetIn o n kind peer (line conn)
+Opens by_limit line o n Idle = HadNone o n
+Opens by_limit line o n End = Shut by_limit o n
+Opens by_limit line o n Failed = FailedToOpen o n
 
 -- one call of `back`
 pub record HandsBack (o n : Hall) (kind : DoorKind) (peer : Peer) (line : Line) (end : ConnEnd) : Type 0 where

@@ -1,27 +1,38 @@
 -- What an outlet shows, and what one call of it does.
-use Rattle.std.specs.Prelude.{◌≡◌, ℕ, List, [], ◌∷◌, ◌++◌}
+use Rattle.std.specs.Prelude.{◌≡◌, ℕ, Bool, true, false, List, [], ◌∷◌, ◌++◌}
 use Rattle.satip_base.specs.Output.{Datagram}
 use Rattle.satip_base.specs.declared.network.Address.{Address}
 use Rattle.satip_base.specs.declared.streams.Put.{Put}
 use Rattle.satip_base.specs.declared.streams.Put.TheVariants.{Whole, Failed}
 use Rattle.satip_world.specs.Counts.{Rises}
 
--- an outlet: the datagrams that were sent, and how often a send failed
+-- an outlet: the datagrams that were sent, how often a send failed, and whether it holds the lock of its socket
 pub record Outbox : Type 0 where
   pub sent : List Datagram
   pub faults : ℕ
+  pub held : Bool
 
 -- nothing was sent yet
 abbrev pub fresh_outbox : Outbox
-fresh_outbox = record { sent = []; faults = 0 }
+fresh_outbox = record { sent = []; faults = 0; held = false }
+
+-- it takes the lock, and nothing else changes
+abbrev pub locked : Outbox → Outbox
+locked o = record o { held = true }
+
+-- it gives the lock back, where it holds it, and nothing else changes
+abbrev pub unlocked : Outbox → Outbox
+unlocked o = record o { held = false }
 
 -- a datagram was sent
 pub record Posted (tells : Type 0) (o n : Outbox) (to : Address) (bytes : List ℕ) : Type 0 where
+  pub held : n.held ≡ o.held
   pub faults : n.faults ≡ o.faults
   pub content : tells → n.sent ≡ o.sent ++ record { to = to; bytes = bytes } ∷ []
 
 -- a send failed, and no datagram was sent
 pub record FailedToPost (tells : Type 0) (o n : Outbox) : Type 0 where
+  pub held : n.held ≡ o.held
   pub faults : Rises o.faults n.faults
   pub content : tells → n.sent ≡ o.sent
 

@@ -51,9 +51,13 @@ pub trait Doors {
     // and the counts.
     ghost hall: { Self → Hall };
 
+    // Where this fact holds, always or never, the doors end by their limit alone, and so never
+    // where it is 0.
+    ghost by_limit: { Type 0 };
+
     /// Waits a while for the next connection. It comes with nothing received and nothing sent.
     fn next(&mut self) -> Door<Self::Conn>
-        ensures opens { Opens Self.Conn.line (hall self.old) (hall self.new) result };
+        ensures opens { Opens by_limit Self.Conn.line (hall self.old) (hall self.new) result };
 
     /// Takes a connection back, and how its service ended.
     fn back(&mut self, conn: Self::Conn, kind: DoorKind, peer: Peer, end: ConnEnd)

@@ -163,6 +163,8 @@ impl Doors for MemoryDoors {
 
     ghost hall = { λ d. d };
 
+    ghost by_limit = { ⊥ };
+
     fn next(&mut self) -> Door<MemoryConn> {
         if self.ended {
             return Door::End;

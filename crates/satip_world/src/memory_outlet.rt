@@ -24,6 +24,7 @@ pub struct MemoryOutlet {
     sent: Vec<Mail>,
     failures: Failures,
     faults: u64,
+    held: bool,
 }
 
 impl Model for MemoryOutlet {
@@ -33,7 +34,11 @@ impl Model for MemoryOutlet {
 
     ghost Value = { Outbox };
 
-    ghost view = { λ o. record { sent = map datagram_of o.sent.items; faults = o.faults } };
+    ghost view = { λ o. record {
+      sent = map datagram_of o.sent.items;
+      faults = o.faults;
+      held = o.held;
+    } };
 }
 
 impl MemoryOutlet {
@@ -48,6 +53,7 @@ impl MemoryOutlet {
             sent: Vec::new(alloc),
             failures: Failures::make(alloc, failing)?,
             faults: 0,
+            held: false,
         })
     }
 
@@ -85,6 +91,14 @@ impl Outlet for MemoryOutlet {
     ghost tells = { Unit {0} };
 
     ghost outbox = { λ o. o };
+
+    fn lock(&mut self) {
+        self.held = true;
+    }
+
+    fn unlock(&mut self) {
+        self.held = false;
+    }
 
     fn send(&mut self, to: Address, bytes: &[u8]) -> Put {
         if self.failures.meets_one() {

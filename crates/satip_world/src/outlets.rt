@@ -1,38 +1,42 @@
 //! Outlets: datagrams go out (RFC 3550 over UDP).
 
-ghost use Rattle.std.specs.Prelude.{◌≡◌, ◌<◌, ◌∷◌, [], length, IsSomeAnd, slice_get};
+ghost use Rattle.std.specs.Prelude.{◌≡◌, ◌<◌, ◌∷◌, [], length, true, IsSomeAnd, slice_get};
 ghost use Rattle.satip_world.specs.Deliveries.{Delivers};
 
 use satip_base::{Address, Out, Put};
 
 /// Where datagrams are sent from.
 pub trait Outlet {
-    ghost use Rattle.satip_world.specs.Outboxes.{Outbox, Posts};
+    ghost use Rattle.std.specs.Prelude.{true, false};
+    ghost use Rattle.satip_world.specs.Outboxes.{Outbox, Posts, locked, unlocked};
 
     // What is told of the content where this fact holds: always, or never.
     ghost tells: { Type 0 };
 
-    // The datagrams that were sent, and how often a send failed.
+    // The datagrams that were sent, how often a send failed, and whether it holds the lock.
     ghost outbox: { Self → Outbox };
 
     /// Begins an event whose datagrams are to leave before those of later events. Other outlets of
     /// the same socket wait in their `lock` until `unlock`; an outlet of its own has none to wait for.
     fn lock(&mut self)
-        ensures same { outbox self.new ≡ outbox self.old }
-    {}
+        requires free { (outbox self.old).held ≡ false }
+        ensures locked { outbox self.new ≡ locked (outbox self.old) };
 
-    /// Ends what `lock` began: the event's datagrams were sent.
+    /// Ends what `lock` began: the event's datagrams were sent. Where nothing was begun it does
+    /// nothing.
     fn unlock(&mut self)
-        ensures same { outbox self.new ≡ outbox self.old }
-    {}
+        ensures unlocked { outbox self.new ≡ unlocked (outbox self.old) };
 
-    /// Sends a datagram.
+    /// Sends a datagram of an event that `lock` began.
     fn send(&mut self, to: Address, bytes: &[u8]) -> Put
+        requires held { (outbox self.old).held ≡ true }
         ensures posts { Posts tells (outbox self.old) (outbox self.new) to bytes.now result };
 }
 
 /// Sends the datagrams of an event, in order. One that can't be sent is left out.
 pub fn post_all<O: Outlet>(out: &Out, outlet: &mut O)
+    requires held { (O.outbox outlet.old).held ≡ true }
+    ensures held { (O.outbox outlet.new).held ≡ true }
     ensures delivers { Delivers O.tells (O.outbox outlet.old) (O.outbox outlet.new) out.now.datagrams }
 {
     for place in 0..out.count() {
@@ -43,6 +47,8 @@ pub fn post_all<O: Outlet>(out: &Out, outlet: &mut O)
 // Sends the datagram at a place.
 fn post_one<O: Outlet>(out: &Out, place: usize, outlet: &mut O)
     requires within { place < length out.now.datagrams }
+    requires held { (O.outbox outlet.old).held ≡ true }
+    ensures held { (O.outbox outlet.new).held ≡ true }
     ensures delivers { IsSomeAnd (slice_get out.now.datagrams place)
         (λ datagram. Delivers O.tells (O.outbox outlet.old) (O.outbox outlet.new) (datagram ∷ [])) }
 {

@@ -1,5 +1,7 @@
 //! Each version over memory: what it gives, keeps and fails at.
 
+ghost use Rattle.std.specs.Prelude.{◌≡◌, false};
+
 use crate::*;
 use satip_base::{Address, Failed, Peer, Put, Source, Taken};
 use std::alloc::Global;
@@ -17,8 +19,14 @@ fn receive<C: Conn>(alloc: Global, conn: &mut C, most: usize) -> Result<(Receive
     Ok((answer, buf))
 }
 
-fn post<O: Outlet>(outlet: &mut O, port: u16, bytes: &[u8]) -> Put {
-    outlet.send(Address { ip: 1, port }, bytes)
+fn post<O: Outlet>(outlet: &mut O, port: u16, bytes: &[u8]) -> Put
+    requires free { (O.outbox outlet.old).held ≡ false }
+    ensures free { (O.outbox outlet.new).held ≡ false }
+{
+    outlet.lock();
+    let put = outlet.send(Address { ip: 1, port }, bytes);
+    outlet.unlock();
+    put
 }
 
 fn moment<C: Clock>(clock: &mut C) -> u64 {

@@ -1,4 +1,5 @@
 //! Connections over memory, and RTSP connections that end well.
+ghost use Rattle.std.specs.Prelude.{◌≡◌, false};
 
 use crate::tests::setting::{CLIENT, ask_of_stream, letters, solo, tick};
 use satip_base::Out;
@@ -12,7 +13,7 @@ use std::test::Fail;
 pub(crate) const SETUP: &[u8] =
     b"SETUP rtsp://192.168.1.10/?src=1&freq=11361.75&pol=h&ro=0.35&msys=dvbs2&mtype=8psk&plts=on&sr=22000&fec=23&pids=0,16,17&x_pmt=100 RTSP/1.0\r\nCSeq: 1\r\nTransport: RTP/AVP;unicast;client_port=1400-1401\r\n\r\n";
 
-const PLAY: &[u8] =
+pub(crate) const PLAY: &[u8] =
     b"PLAY rtsp://192.168.1.10/stream=1 RTSP/1.0\r\nCSeq: 2\r\nSession: 00000001ade0b876\r\n\r\n";
 
 const OPTIONS_OF_SESSION: &[u8] =
@@ -60,7 +61,9 @@ fn serve_with<R: Wait + Sync>(
     conn: &mut MemoryConn,
     outlet: &mut MemoryOutlet,
     room: &mut Room,
-) -> ConnEnd {
+) -> ConnEnd
+    requires free { outlet.old.held ≡ false }
+{
     let mut pacer = MemoryPacer::new();
     let mut draws = Draws::make(&KEY, 0);
     serve_connection(

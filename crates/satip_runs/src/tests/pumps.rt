@@ -1,4 +1,5 @@
 //! Pumps of the first front end, which a SETUP tuned.
+ghost use Rattle.std.specs.Prelude.{◌≡◌, false, IfOk};
 
 use crate::tests::setting::{ask, end, give, letters, packet_bytes, set_up, solo};
 use satip_base::{Out, Want};
@@ -35,7 +36,9 @@ fn kit(
     text: &[u8],
     takes: &[usize],
     failing: &[u64],
-) -> Result<Kit, Fail> {
+) -> Result<Kit, Fail>
+    ensures free { IfOk result (λ kit. kit.outlet.held ≡ false) }
+{
     let mut store = MemoryStore::make(alloc, starts)?;
     store.add(1, text, takes, failing)?;
     Ok(PumpKit {
@@ -68,7 +71,9 @@ fn run<R: Wait + Sync>(
     alloc: Global,
     solo: &mut Solo,
     kit: &mut Kit,
-) -> Result<JobEnd, Want> {
+) -> Result<JobEnd, Want>
+    requires free { kit.old.outlet.held ≡ false }
+{
     let mut out = Out::make(alloc)?;
     let mut batch = Batch::make(alloc)?;
     Ok(run_pump(rt, solo, 1, kit, &mut out, &mut batch))
@@ -88,7 +93,9 @@ fn pump<R: Wait + Sync>(
     alloc: Global,
     solo: &mut Solo,
     mut kit: Kit,
-) -> Result<Pumped, Fail> {
+) -> Result<Pumped, Fail>
+    requires free { kit.outlet.held ≡ false }
+{
     let end = run(rt, alloc, solo, &mut kit)?;
     let kinds = letters(alloc, solo)?;
     let last = answer_at(solo, kinds.len().saturating_sub(1));
@@ -101,7 +108,9 @@ fn pump<R: Wait + Sync>(
 }
 
 // Runs a pump over a service whose call 0 was the SETUP, with a Stop before the call of this number.
-fn pump_tuned<R: Wait + Sync>(rt: &R, alloc: Global, stop: u64, kit: Kit) -> Result<Pumped, Fail> {
+fn pump_tuned<R: Wait + Sync>(rt: &R, alloc: Global, stop: u64, kit: Kit) -> Result<Pumped, Fail>
+    requires free { kit.outlet.held ≡ false }
+{
     let mut solo = tuned(alloc, stop)?;
     pump(rt, alloc, &mut solo, kit)
 }

@@ -1,4 +1,5 @@
 //! Workers and the connections of their doors.
+ghost use Rattle.std.specs.Prelude.{◌≡◌, false, IfOk};
 
 use crate::tests::connections::{KEY, OPTIONS, OPTIONS_REPLY, SETUP, SETUP_REPLY, joined};
 use crate::tests::http::{GET, HEAD};
@@ -24,7 +25,9 @@ struct Worked {
 }
 
 // A kit with these doors.
-fn kit(alloc: Global, doors: MemoryDoors) -> Result<Kit, Fail> {
+fn kit(alloc: Global, doors: MemoryDoors) -> Result<Kit, Fail>
+    ensures free { IfOk result (λ kit. kit.outlet.held ≡ false) }
+{
     Ok(WorkerKit {
         doors,
         outlet: MemoryOutlet::make(alloc, &[])?,
@@ -62,7 +65,9 @@ fn sent(alloc: Global, doors: &MemoryDoors) -> Result<Vec<u8>, Fail> {
 }
 
 // Runs a worker over a service.
-fn run<R: Wait + Sync>(rt: &R, solo: &mut Solo, kit: &mut Kit, room: &mut Room) -> WorkerEnd {
+fn run<R: Wait + Sync>(rt: &R, solo: &mut Solo, kit: &mut Kit, room: &mut Room) -> WorkerEnd
+    requires free { kit.old.outlet.held ≡ false }
+{
     run_worker(rt, solo, kit, 0, room)
 }
 

@@ -141,6 +141,8 @@ impl<'a> Doors for GatedDoors<'a> {
 
     ghost hall = { λ d. d.doors };
 
+    ghost by_limit = { ⊥ };
+
     fn next(&mut self) -> Door<GatedConn<'a>> {
         match self.doors.next() {
             Door::Came { kind, peer, conn } => Door::Came {
@@ -176,6 +178,14 @@ impl<'a> Outlet for GatedOutlet<'a> {
     ghost tells = { Unit {0} };
 
     ghost outbox = { λ o. o.outlet };
+
+    fn lock(&mut self) {
+        self.outlet.lock();
+    }
+
+    fn unlock(&mut self) {
+        self.outlet.unlock();
+    }
 
     fn send(&mut self, to: Address, bytes: &[u8]) -> Put {
         let put = self.outlet.send(to, bytes);

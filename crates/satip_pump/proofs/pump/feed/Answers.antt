@@ -18,5 +18,5 @@ returns-clause-answered g c = λ k o first feeds.
 pub returns-clause-paces : goal.returns-clause-paces
 returns-clause-paces g c = λ own first paced. works_pace _ _ _ _ _ _ _ _ own first _ _ c.tell_end.ensures.works refl paced
 
-pub tell_end-requires : goal.tell_end-requires
-tell_end-requires g c = record { handed_back = c.fill.ensures.empty (none_waits c.fill.new.reading.queue.packets (omega arith)) }
+pub tell_end-requires-clause-handed_back : goal.tell_end-requires-clause-handed_back
+tell_end-requires-clause-handed_back g c = c.fill.ensures.empty (none_waits c.fill.new.reading.queue.packets (omega arith))

@@ -18,6 +18,7 @@ loop-init g c =
       works_pace _ _ _ _ _ _ _ _ _ _ _ _ c.make_work-answer.ensures.works refl (paced_none _ _),
       rw c.new.ensures.begun (omega arith),
       omega arith,
+      c.make_work-answer.ensures.free,
     )
 
 pub loop-preserved : goal.loop-preserved
@@ -38,4 +39,5 @@ loop-preserved g c =
       works_pace _ _ _ _ _ _ _ _ _ _ _ _ works refl (paced_idle _ _ _ _ _ _ (paced_owed _ _ _ _ _ _ nothing paced) c.pause.ensures.pauses),
       i.9,
       i.10,
+      c.make_work-answer-in-Ok-Nothing.ensures.free,
     )

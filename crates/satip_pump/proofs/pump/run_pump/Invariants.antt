@@ -1,5 +1,5 @@
 -- What the pump did so far, as its last answer told.
-use Rattle.std.proofs.Common.{◌≡◌, ◌+◌, ◌<◌, ◌≤◌, max, length}
+use Rattle.std.proofs.Common.{◌≡◌, ◌+◌, ◌<◌, ◌≤◌, max, false, length}
 use Rattle.satip_pump.specs.Pauses.{Paced, owed_by}
 use Rattle.satip_pump.specs.Readings.{held}
 use Rattle.satip_pump.specs.Runs.{Answered}
@@ -20,3 +20,4 @@ invariant-loop g l =
     l.pump.since (owed_by l.answer)
     × (g.M.MuxStore.lent l.kit.store ≡ g.M.MuxStore.lent l.fn.kit.store + held l.pump.reading.source)
     × (g.M.MuxStore.peak l.kit.store ≤ max (g.M.MuxStore.peak l.fn.kit.store) (g.M.MuxStore.lent l.fn.kit.store + 1))
+    × ((g.O.Outlet.outbox l.kit.outlet).held ≡ false)

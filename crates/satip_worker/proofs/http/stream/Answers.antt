@@ -4,7 +4,7 @@ use Rattle.satip_worker.proofs.StreamLemmas.{streams_from, streams_sent, streams
 use Rattle.satip_worker.proofs.http.stream.Goals as goal
 
 pub loop-init : goal.loop-init
-loop-init g c = (refl, c.requires.open, g.met.S.Service.same_self _, streams_from _ _ _ _ _, refl)
+loop-init g c = (refl, c.requires.open, g.met.S.Service.same_self _, streams_from _ _ _ _ _, refl, c.requires.free)
 
 pub loop-preserved-in-Sent : goal.loop-preserved-in-Sent
 loop-preserved-in-Sent g c = (
@@ -13,6 +13,7 @@ loop-preserved-in-Sent g c = (
   g.met.S.Service.same_then _ _ _ c.loop.invariant.2 c.pull.ensures.same,
   streams_sent _ _ _ _ _ _ _ _ _ c.loop.invariant.3 c.in-Sent.ensures.turns,
   c.pull.ensures.calm ∙ c.loop.invariant.4,
+  c.pull.ensures.free,
 )
 
 pub returns-in-Cut-clause-streams : goal.returns-in-Cut-clause-streams
@@ -33,6 +34,7 @@ loop-preserved-in-Got g c = (
   g.met.S.Service.same_then _ _ _ c.loop.invariant.2 c.pull.ensures.same,
   streams_got _ _ _ _ _ _ _ _ _ _ (streams_empty _ _ _ _ _ _ _ _ _ c.loop.invariant.3 c.in-Empty.ensures.turns) c.in-Got.ensures.receives,
   c.in-Got.ensures.receives.counts.receive_faults ∙ c.pull.ensures.calm ∙ c.loop.invariant.4,
+  c.pull.ensures.free,
 )
 
 pub loop-preserved : goal.loop-preserved
@@ -42,6 +44,7 @@ loop-preserved g c = (
   g.met.S.Service.same_then _ _ _ c.loop.invariant.2 c.pull.ensures.same,
   streams_idle _ _ _ _ _ _ _ _ (streams_empty _ _ _ _ _ _ _ _ _ c.loop.invariant.3 c.in-Empty.ensures.turns) c.in-Idle.ensures.receives,
   c.in-Idle.ensures.receives.receive_faults ∙ c.pull.ensures.calm ∙ c.loop.invariant.4,
+  c.pull.ensures.free,
 )
 
 pub returns-in-End-clause-streams : goal.returns-in-End-clause-streams

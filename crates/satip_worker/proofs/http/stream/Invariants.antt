@@ -13,3 +13,4 @@ invariant-loop g l =
     (record { may_want = g.S.Service.may_want l.service; known = g.S.Service.known l.service; outbox = g.O.Outlet.outbox l.outlet })
     (g.C.Conn.line l.initial.conn) (g.C.Conn.line l.conn)
     × ((g.C.Conn.line l.conn).receive_faults ≡ (g.C.Conn.line l.initial.conn).receive_faults)
+    × ((g.O.Outlet.outbox l.outlet).held ≡ false)

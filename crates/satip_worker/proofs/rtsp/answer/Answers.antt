@@ -16,6 +16,7 @@ messages-preserved g c = (
       (c.in-Message.ensures.told text before.0 before.1.leads) c.found_request-request.ensures.asked c.found_request-request.ensures.whole
       c.in-Sent.ensures.turns,
   c.turn.ensures.calm ∙ c.messages.invariant.3,
+  c.turn.ensures.free,
 )
 
 pub returns-in-Lost-clause-hears : goal.returns-in-Lost-clause-hears

@@ -1,4 +1,4 @@
-use Rattle.std.proofs.Common.{◌≡◌, ℕ, List, length}
+use Rattle.std.proofs.Common.{◌≡◌, ℕ, List, false, length}
 use Rattle.satip_frame.specs.Said.{Said}
 use Rattle.satip_frame.specs.Stream.{skip_newlines}
 use Rattle.satip_worker.specs.Hearing.{Course, Stands}
@@ -19,6 +19,7 @@ invariant-messages g l =
     (record { may_want = g.S.Service.may_want l.service; known = g.S.Service.known l.service; outbox = g.O.Outlet.outbox l.outlet })
     (g.C.Conn.line l.conn) l.draws received text answered l.room.framer)
     × ((g.C.Conn.line l.conn).receive_faults ≡ (g.C.Conn.line l.initial.conn).receive_faults)
+    × ((g.O.Outlet.outbox l.outlet).held ≡ false)
 
 -- each message takes some of the bytes
 abbrev pub decreases-messages : goal.decreases-messages

@@ -9,6 +9,7 @@ piece-init g c = (
   refl,
   λ course received text same listens. heard_none _ _ course _ _ _ received text _ _ listens,
   refl,
+  c.requires.free,
 )
 
 pub piece-preserved : goal.piece-preserved
@@ -23,6 +24,7 @@ piece-preserved g c = (
       let parts = piece_parts before.0 _ _ c.feed-count.result before.1 in
       (before.0 ++ take c.feed-count.result c.piece.rest.now, rw c.split_at.ensures.back parts, rw (← append_assoc text before.0 _) heard),
   c.answer.ensures.calm ∙ c.piece.invariant.4,
+  c.answer.ensures.free,
 )
 
 pub returns-in-Closed-clause-hears : goal.returns-in-Closed-clause-hears

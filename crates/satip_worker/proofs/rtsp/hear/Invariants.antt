@@ -1,4 +1,4 @@
-use Rattle.std.proofs.Common.{◌≡◌, ℕ, List, ◌++◌, length}
+use Rattle.std.proofs.Common.{◌≡◌, ℕ, List, ◌++◌, false, length}
 use Rattle.satip_worker.specs.Hearing.{Course, Listens}
 use Rattle.satip_worker.proofs.HearingLemmas.{IsOpen}
 use Rattle.satip_worker.proofs.rtsp.hear.Given as goal
@@ -19,6 +19,7 @@ invariant-piece g l =
     (record { may_want = g.S.Service.may_want l.service; known = g.S.Service.known l.service; outbox = g.O.Outlet.outbox l.outlet })
     (g.C.Conn.line l.conn) l.draws received (text ++ heard) l.room.framer)
     × ((g.C.Conn.line l.conn).receive_faults ≡ (g.C.Conn.line l.initial.conn).receive_faults)
+    × ((g.O.Outlet.outbox l.outlet).held ≡ false)
 
 -- each turn takes some of the piece
 abbrev pub decreases-piece : goal.decreases-piece

@@ -9,6 +9,7 @@ loop-init g c = (
   g.met.S.Service.same_self _,
   λ key stream from are. ([], listens_from _ _ _ _ _ c.requires.new are),
   refl,
+  c.requires.free,
 )
 
 pub loop-preserved-in-All : goal.loop-preserved-in-All
@@ -20,6 +21,7 @@ loop-preserved-in-All g c = (
       let before = c.loop.invariant.3 key stream from are in
       (_, c.in-All.ensures.hears _ _ _ refl (listens_got _ _ _ _ _ _ _ before.0 _ before.1 _ _ c.in-Got.ensures.receives)),
   c.hear.ensures.calm ∙ c.in-Got.ensures.receives.counts.receive_faults ∙ c.loop.invariant.4,
+  c.hear.ensures.free,
 )
 
 pub returns-in-Closed-clause-serves : goal.returns-in-Closed-clause-serves
@@ -49,6 +51,7 @@ loop-preserved g c = (
       let before = c.loop.invariant.3 key stream from are in
       (before.0, listens_idle _ _ _ _ _ _ _ before.0 _ before.1 c.in-Idle.ensures.receives),
   c.in-Idle.ensures.receives.receive_faults ∙ c.loop.invariant.4,
+  c.loop.invariant.5,
 )
 
 pub returns-in-End-clause-serves : goal.returns-in-End-clause-serves

@@ -1,4 +1,4 @@
-use Rattle.std.proofs.Common.{◌≡◌, ℕ, List, length}
+use Rattle.std.proofs.Common.{◌≡◌, ℕ, List, false, length}
 use Rattle.satip_worker.specs.Drawing.{before_draw}
 use Rattle.satip_worker.specs.Hearing.{Listens}
 use Rattle.satip_worker.proofs.HearingLemmas.{IsOpen}
@@ -22,3 +22,4 @@ invariant-loop g l =
     (record { may_want = g.S.Service.may_want l.service; known = g.S.Service.known l.service; outbox = g.O.Outlet.outbox l.outlet })
     (g.C.Conn.line l.conn) l.draws text text l.room.framer)
     × ((g.C.Conn.line l.conn).receive_faults ≡ (g.C.Conn.line l.initial.conn).receive_faults)
+    × ((g.O.Outlet.outbox l.outlet).held ≡ false)

@@ -3,11 +3,11 @@ use Rattle.satip_worker.proofs.WorkerLemmas.{serves_from, serves_idle, serves_to
 use Rattle.satip_worker.proofs.worker.run_worker.Goals as goal
 
 pub loop-init : goal.loop-init
-loop-init g c = (g.met.S.Service.same_self _, refl, serves_from _ _ _ _ _ _ _ c.make-draws.ensures.first)
+loop-init g c = (g.met.S.Service.same_self _, refl, serves_from _ _ _ _ _ _ _ c.make-draws.ensures.first, c.requires.free)
 
 pub loop-preserved : goal.loop-preserved
 loop-preserved g c =
-    (c.loop.invariant.0, c.loop.invariant.1, serves_idle _ _ _ _ _ _ _ _ _ _ c.loop.invariant.2 c.in-Idle.ensures.opens)
+    (c.loop.invariant.0, c.loop.invariant.1, serves_idle _ _ _ _ _ _ _ _ _ _ c.loop.invariant.2 c.in-Idle.ensures.opens, c.loop.invariant.3)
 
 pub returns-in-End-clause-serves : goal.returns-in-End-clause-serves
 returns-in-End-clause-serves g c = serves_to_end _ _ _ _ _ _ _ _ _ _ c.loop.invariant.2 c.in-End.ensures.opens
@@ -22,6 +22,7 @@ loop-preserved-in-Done g c =
       g.met.S.Service.same_then _ _ _ c.loop.invariant.0 c.serve_one.ensures.same,
       c.serve_one.ensures.key ∙ c.loop.invariant.1,
       serves_next _ _ _ _ _ _ _ _ _ _ _ _ _ on _ _ _ _ run.0 c.in-Came.ensures.opens run.1 run.2 refl,
+      c.serve_one.ensures.free,
     )
 
 pub loop-preserved-in-ReadFault : goal.loop-preserved-in-ReadFault
@@ -31,6 +32,7 @@ loop-preserved-in-ReadFault g c =
       g.met.S.Service.same_then _ _ _ c.loop.invariant.0 c.serve_one.ensures.same,
       c.serve_one.ensures.key ∙ c.loop.invariant.1,
       serves_next _ _ _ _ _ _ _ _ _ _ _ _ _ on _ _ _ _ run.0 c.in-Came.ensures.opens run.1 run.2 refl,
+      c.serve_one.ensures.free,
     )
 
 pub loop-preserved-in-WriteFault : goal.loop-preserved-in-WriteFault
@@ -40,6 +42,7 @@ loop-preserved-in-WriteFault g c =
       g.met.S.Service.same_then _ _ _ c.loop.invariant.0 c.serve_one.ensures.same,
       c.serve_one.ensures.key ∙ c.loop.invariant.1,
       serves_next _ _ _ _ _ _ _ _ _ _ _ _ _ on _ _ _ _ run.0 c.in-Came.ensures.opens run.1 run.2 refl,
+      c.serve_one.ensures.free,
     )
 
 pub returns-in-Spent-clause-serves : goal.returns-in-Spent-clause-serves

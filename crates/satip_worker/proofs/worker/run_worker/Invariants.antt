@@ -1,4 +1,4 @@
-use Rattle.std.proofs.Common.{◌≡◌}
+use Rattle.std.proofs.Common.{◌≡◌, false}
 use Rattle.satip_worker.proofs.WorkerLemmas.{ServesOn}
 use Rattle.satip_worker.proofs.worker.run_worker.Given as goal
 
@@ -11,3 +11,4 @@ invariant-loop g l =
     (record { may_want = g.S.Service.may_want l.initial.service; known = g.S.Service.known l.initial.service; outbox = g.O.Outlet.outbox l.initial.kit.outlet })
     (record { may_want = g.S.Service.may_want l.service; known = g.S.Service.known l.service; outbox = g.O.Outlet.outbox l.kit.outlet })
     (g.D.Doors.hall l.initial.kit.doors) (g.D.Doors.hall l.kit.doors) l.draws
+    × ((g.O.Outlet.outbox l.kit.outlet).held ≡ false)
