@@ -10,6 +10,7 @@ mod doors;
 mod key;
 mod listeners;
 mod outlet;
+mod report;
 mod store;
 #[cfg(test)]
 mod tests;
@@ -20,4 +21,5 @@ pub use doors::RealDoors;
 pub use key::read_key;
 pub use listeners::{BindFault, Listeners};
 pub use outlet::{RealOutlet, SharedSocket};
+pub use report::report_line;
 pub use store::{RealRecording, RealStore};
