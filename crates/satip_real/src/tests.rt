@@ -49,7 +49,7 @@ fn a_connection_is_heard_and_answered(rt: HostRuntime) -> Result<(), Fail> {
     let alloc = rt.alloc();
     let listeners = listen(&rt, 0, 0)?;
     let at = SocketAddr::from((Ipv4Addr::LOCALHOST, listeners.http_port()?));
-    let mut doors = RealDoors::new(rt, alloc, Arc::new(alloc, listeners)?, 1);
+    let mut doors = RealDoors::new(rt, Arc::new(alloc, listeners)?, 60, 1);
     assert!(rt; matches!(doors.next(), Door::Idle));
     let mut client = TcpStream::connect(&rt, at)?;
     let Door::Came { kind, peer, conn } = next_come(&mut doors) else {
@@ -97,7 +97,7 @@ fn a_long_reply_waits_for_its_client(rt: HostRuntime) -> Result<(), Fail> {
     let alloc = rt.alloc();
     let listeners = listen(&rt, 0, 0)?;
     let at = SocketAddr::from((Ipv4Addr::LOCALHOST, listeners.rtsp_port()?));
-    let mut doors = RealDoors::new(rt, alloc, Arc::new(alloc, listeners)?, 0);
+    let mut doors = RealDoors::new(rt, Arc::new(alloc, listeners)?, 60, 0);
     let client = TcpStream::connect(&rt, at)?;
     let Door::Came { kind, peer, conn } = next_come(&mut doors) else {
         return Err(Fail::from("no connection"));
@@ -129,16 +129,16 @@ fn a_port_in_use_is_refused(rt: HostRuntime) -> Result<(), Fail> {
     let port = listeners.rtsp_port()?;
     assert!(rt;
         matches!(
-            Listeners::bind(&rt, LOCALHOST, 0, port),
+            Listeners::bind(&rt, LOCALHOST, 0, port, 8),
             Err(BindFault::Http(_))
         )
     );
-    assert!(rt; Listeners::bind(&rt, 0xc000_0201, 0, 0).is_err());
+    assert!(rt; Listeners::bind(&rt, 0xc000_0201, 0, 0, 8).is_err());
     Ok(())
 }
 
 fn listen(rt: &HostRuntime, rtsp_port: u16, http_port: u16) -> Result<Listeners, Fail> {
-    match Listeners::bind(rt, LOCALHOST, rtsp_port, http_port) {
+    match Listeners::bind(rt, LOCALHOST, rtsp_port, http_port, 8) {
         Ok(listeners) => Ok(listeners),
         Err(_) => Err(Fail::from("no listeners")),
     }
@@ -154,7 +154,7 @@ fn client(rt: &HostRuntime) -> Result<(UdpSocket, u16), Fail> {
 
 #[test]
 fn a_datagram_arrives(rt: HostRuntime) -> Result<(), Fail> {
-    let shared = Arc::new(rt.alloc(), SharedSocket::bind(&rt, LOCALHOST)?)?;
+    let shared = Arc::new(rt.alloc(), SharedSocket::bind(rt, LOCALHOST)?)?;
     let (socket, port) = client(&rt)?;
     let mut outlet = RealOutlet::new(rt, shared);
     outlet.lock();
@@ -182,7 +182,7 @@ fn send_counts<R: Wait + Drop>(rt: R, shared: Arc<SharedSocket>, begun: Arc<Atom
 #[test]
 fn datagrams_of_three_threads_leave_in_order(rt: HostRuntime) -> Result<(), Fail> {
     let alloc = rt.alloc();
-    let shared = Arc::new(alloc, SharedSocket::bind(&rt, LOCALHOST)?)?;
+    let shared = Arc::new(alloc, SharedSocket::bind(rt, LOCALHOST)?)?;
     let begun = Arc::new(alloc, AtomicU64::new(0))?;
     let (socket, port) = client(&rt)?;
     let mut senders = Vec::new(alloc);
