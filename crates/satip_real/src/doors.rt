@@ -15,15 +15,18 @@ use std::sync::Arc;
 use std::time::Duration;
 use std::{io, thread};
 
-// How long doors wait for a connection, in milliseconds.
-const WAIT_MS: i32 = 50;
+// How long doors wait for a connection, in milliseconds. One that comes ends the wait.
+const WAIT_MS: i32 = 500;
+
+// How long doors wait where a connection can't be taken, in milliseconds.
+const SHORTAGE_MS: u64 = 50;
 
 // How many connections that were given up before they were accepted are dropped in one look.
 const LOOKS: u32 = 64;
 
-/// The doors of one worker. They wait 50 ms for the next connection at the RTSP listener or at the
-/// HTTP listener, and are idle where none came, or where the system has no place for it. Only the
-/// faults of a listener itself are theirs (EBADF, EINVAL and ENOTSOCK of accept(2)).
+/// The doors of one worker. They wait up to 500 ms for the next connection at the RTSP listener or
+/// at the HTTP listener, and are idle where none came, or where the system has no place for it, after
+/// 50 ms. Only the faults of a listener itself are theirs (EBADF, EINVAL and ENOTSOCK of accept(2)).
 ///
 /// A connection of which nothing can be read but its end is dropped. One that is handed back is
 /// closed.
@@ -107,7 +110,7 @@ fn rest(rt: &HostRuntime, listeners: &Listeners, error: &io::Error) {
             format_args!("a connection can't be taken: {error} (more descriptors: ulimit -n)"),
         );
     }
-    thread::sleep(rt, Duration::from_millis(WAIT_MS as u64));
+    thread::sleep(rt, Duration::from_millis(SHORTAGE_MS));
 }
 
 // The next connection; `None` where none waits, or where the system has no place for it.

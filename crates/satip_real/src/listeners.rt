@@ -48,8 +48,8 @@ impl Visitor {
     }
 }
 
-// A listener of which up to so many connections wait; more are seen as a slow connect by those who
-// come (listen(2)). Where the system refuses that length, it keeps its own.
+// A listener at which about so many connections wait to be accepted; who comes to a full one sees it
+// by a connect that doesn't end (listen(2)). Where the system refuses that length, its own stays.
 fn listen(net: &impl Net, ip: u32, port: u16, backlog: u16) -> io::Result<TcpListener> {
     let listener = TcpListener::bind(net, socket_addr(Address { ip, port }))?;
     c::listen(listener.as_raw_fd(), backlog as i32);
