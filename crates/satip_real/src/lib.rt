@@ -6,10 +6,17 @@
 mod addresses;
 mod clock;
 mod connection;
+mod destinations;
 mod doors;
+mod errors;
 mod key;
 mod listeners;
+mod options;
 mod outlet;
+mod readiness;
+mod report;
+mod silence;
+mod stopwatch;
 mod store;
 #[cfg(test)]
 mod tests;
@@ -20,4 +27,5 @@ pub use doors::RealDoors;
 pub use key::read_key;
 pub use listeners::{BindFault, Listeners};
 pub use outlet::{RealOutlet, SharedSocket};
+pub use report::{Throttle, report_line};
 pub use store::{RealRecording, RealStore};
