@@ -1,10 +1,11 @@
 #!/usr/bin/env python3
-"""Measures `satip serve` on loopback, beside a plain loop that only calls sendto at the same pace.
+"""Measures `satip serve` on loopback, beside plain loops that only send at the same pace: by sendto from one socket, and from a
+connected socket for each receiver. It counts the calls of the system by kind, too.
 
     python3 bench/serve.py [PROGRAM [SECONDS]]
 
 PROGRAM is crates/satip/out/satip without this word; `cd crates/satip && rt run -- --version` builds it.
-Needs python3, gcc and ffmpeg (for tools/make_recording.sh). Ports 18554 and 18875 of 127.0.0.1 are to be free."""
+Needs python3, gcc, strace and ffmpeg (for tools/make_recording.sh). Ports 18554 and 18875 of 127.0.0.1 are to be free."""
 
 import os
 import re
@@ -21,15 +22,17 @@ from count_late import Client, begin, receiver, skipped
 ADDRESS, RTSP_PORT = "127.0.0.1", 18554
 QUERY = "src=1&freq=11361.75&pol=h&msys=dvbs2&sr=22000&pids=all"
 RECEIVERS = (1, 16, 60)
+CALLS_SECONDS = 5
 
 class Receivers:
     """Sockets at even ports, read by one thread; the numbers tell what came late or is missing."""
 
     def __init__(self, count):
         self.socks = [receiver(ADDRESS) for _ in range(count)]
-        self.came = self.late = self.missing = 0
+        self.came = [0] * count
+        self.late = self.missing = 0
         self.open = True
-        self.threads = [threading.Thread(target=self.read, args=(sock,)) for sock in self.socks]
+        self.threads = [threading.Thread(target=self.read, args=(place, sock)) for place, sock in enumerate(self.socks)]
         self.lock = threading.Lock()
         for thread in self.threads:
             thread.start()
@@ -37,14 +40,14 @@ class Receivers:
     def ports(self):
         return [sock.getsockname()[1] for sock in self.socks]
 
-    def read(self, sock):
-        last, came, late, missing = None, 0, 0, 0
+    def read(self, place, sock):
+        last, late, missing = None, 0, 0
         while self.open:
             try:
                 number = int.from_bytes(sock.recv(2048)[2:4], "big")
             except TimeoutError:
                 continue
-            came += 1
+            self.came[place] += 1
             gap = skipped(last, number)
             if gap is None:
                 late += 1
@@ -52,7 +55,7 @@ class Receivers:
             missing += gap
             last = number
         with self.lock:
-            self.came, self.late, self.missing = self.came + came, self.late + late, self.missing + missing
+            self.late, self.missing = self.late + late, self.missing + missing
 
     def close(self):
         self.open = False
@@ -81,36 +84,48 @@ def configuration():
 
 
 def serve_to(count, server, seconds):
+    """CPU seconds of the server for each packet that came, its receivers, and its memory."""
     receivers = Receivers(count)
     client = Client(ADDRESS, RTSP_PORT)
     target, sessions = begin(client, f"rtsp://{ADDRESS}:{RTSP_PORT}/", QUERY, receivers.ports())
-    before = cpu_seconds(server.pid)
+    before, came = cpu_seconds(server.pid), sum(receivers.came)
     time.sleep(seconds)
-    used = cpu_seconds(server.pid) - before
+    used, came = cpu_seconds(server.pid) - before, sum(receivers.came) - came
     memory = resident_kb(server.pid)
+    print(f"{count} receivers: calls a second: {calls(server.pid, CALLS_SECONDS)}")
     for session in reversed(sessions):
         client.ask("TEARDOWN", target, f"Session: {session}")
     receivers.close()
     client.line.close()
-    return used, receivers, memory
+    return used / (7 * came), receivers, memory
 
 
-def loop_to(count, loop, seconds):
+def loop_to(count, loop, kind, seconds):
+    """CPU seconds of a plain loop for each packet."""
     receivers = Receivers(count)
-    done = subprocess.run([loop, str(seconds), *map(str, receivers.ports())], check=True, capture_output=True, text=True)
+    done = subprocess.run([loop, kind, str(seconds), *map(str, receivers.ports())], check=True, capture_output=True, text=True)
     receivers.close()
     words = done.stdout.split()
-    return int(words[1]), float(words[3])
+    return float(words[3]) / int(words[1])
+
+
+def calls(pid, seconds):
+    """Calls of the system a second by kind, most frequent first."""
+    with tempfile.NamedTemporaryFile("r") as table:
+        # it ends well where timeout interrupts it, and lets the program go on
+        subprocess.run(["timeout", "--signal=INT", str(seconds), "strace", "-c", "-f", "-o", table.name, "-p", str(pid)], stderr=subprocess.DEVNULL)
+        rows = [line.split() for line in table.read().splitlines()]
+    found = {row[-1]: int(row[3]) / seconds for row in rows if len(row) >= 5 and row[3].isdigit() and row[-1] != "total"}
+    return ", ".join(f"{name} {count:.0f}" for name, count in sorted(found.items(), key=lambda pair: -pair[1]))
 
 
 def measure_sending(server, loop, seconds):
     for count in RECEIVERS:
-        used, receivers, memory = serve_to(count, server, seconds)
-        sent, plain = loop_to(count, loop, seconds)
-        packets = 3200 * seconds * count
-        print(f"{count} receivers: {1e6 * used / packets:.3f} s of CPU a million packets; the plain loop {1e6 * plain / sent:.3f} s; "
-              f"factor {used / packets / (plain / sent):.2f}; datagrams {receivers.came}, late {receivers.late}, missing {receivers.missing}; "
-              f"resident {memory / 1024:.1f} MB")
+        each, receivers, memory = serve_to(count, server, seconds)
+        one, connected = (loop_to(count, loop, kind, seconds) for kind in ("one", "connected"))
+        print(f"{count} receivers: {1e6 * each:.3f} s of CPU a million packets; a loop of sendto {1e6 * one:.3f} s; "
+              f"a loop over connected sockets {1e6 * connected:.3f} s; factors {each / one:.2f} and {each / connected:.2f}; "
+              f"datagrams {sum(receivers.came)}, late {receivers.late}, missing {receivers.missing}; resident {memory / 1024:.1f} MB")
 
 
 def measure_requests(seconds):
@@ -147,6 +162,7 @@ def main():
             before = cpu_seconds(server.pid)
             time.sleep(5)
             print(f"no client: {(cpu_seconds(server.pid) - before) / 5:.3f} s of CPU a second, resident {resident_kb(server.pid) / 1024:.1f} MB")
+            print(f"no client: calls a second: {calls(server.pid, CALLS_SECONDS)}")
             measure_sending(server, loop, seconds)
             measure_requests(seconds)
         finally:

@@ -131,7 +131,7 @@ def main():
     time.sleep(1)
     strace.send_signal(signal.SIGINT)
     strace.wait()
-    goes_on = before > 0 and receiver.count_since(last_second) > 50
+    goes_on = before > 0 and receiver.count_since(last_second) >= 10
     alive = lives(pid)
     served = is_served(rtsp, http)
     receiver.on = False

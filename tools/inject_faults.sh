@@ -59,7 +59,7 @@ run_one() {
     SATIP_REPEAT=1 "$SATIP" serve "$folder/$1.toml" 0 2> "$folder/$1.log" &
     server=$!
     tries=0
-    until grep -q ' ready at ' "$folder/$1.log"; do
+    until [ -e "$folder/$1.log" ] && grep -q " ready at " "$folder/$1.log"; do
         tries=$((tries + 1))
         [ $tries -lt 200 ] || break
         sleep 0.1

@@ -53,7 +53,7 @@ END
     SATIP_PACE=recording "$satip" serve "$folder/$1.toml" 0 2> "$folder/$1.log" &
     server=$!
     tries=0
-    until grep -q ' ready at ' "$folder/$1.log"; do
+    until [ -e "$folder/$1.log" ] && grep -q " ready at " "$folder/$1.log"; do
         tries=$((tries + 1))
         [ $tries -lt 100 ] || { echo "the server isn't ready: $folder/$1.log"; exit 1; }
         sleep 0.1

@@ -11,7 +11,7 @@ use satip_pump::{PumpKit, TickKit};
 use satip_real::{RealClock, RealDoors, RealOutlet, RealPacer, RealStore, read_key};
 use satip_worker::WorkerKit;
 use std::alloc::Global;
-use std::sync::{Arc, Wait};
+use std::sync::Wait;
 
 /// A kit for each worker, one for the pump of each front end, and one for the ticker. Their doors
 /// share two listeners, their outlets one UDP socket.
@@ -25,7 +25,6 @@ pub struct RealKits<R: Wait + Drop> {
 fn worker_kit<R: Wait + Drop>(
     host: HostRuntime,
     rt: R,
-    alloc: Global,
     shared: &Shared,
     accepts: u32,
 ) -> Result<WorkerKit<RealDoors, RealOutlet<R>, RealPacer>, KitsFault>
@@ -34,9 +33,8 @@ fn worker_kit<R: Wait + Drop>(
     let Ok(key) = read_key(&host) else {
         return Err(KitsFault::Key);
     };
-    let listeners = Arc::try_clone(&shared.listeners)?;
     Ok(WorkerKit {
-        doors: RealDoors::new(host, alloc, listeners, accepts),
+        doors: shared.doors(host, accepts)?,
         outlet: shared.outlet(rt)?,
         pacer: RealPacer::new(host),
         key,
@@ -86,7 +84,7 @@ fn worker_kits<R: Wait + Copy + Drop>(
 {
     let mut kits = Vec::new(alloc);
     for _ in 0..count {
-        kits.push(worker_kit(host, rt, alloc, shared, accepts)?)?;
+        kits.push(worker_kit(host, rt, shared, accepts)?)?;
     }
     Ok(kits)
 }

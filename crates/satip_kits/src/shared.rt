@@ -7,17 +7,18 @@ use crate::settings::Settings;
 use satip_base::Text;
 use satip_config::Config;
 use satip_real::{
-    ClockStart, Listeners, Playing, Progress, RealClock, RealOutlet, RealPacer, RealStore,
-    SharedSocket,
+    ClockStart, Listeners, Playing, Progress, RealClock, RealDoors, RealOutlet, RealPacer,
+    RealStore, SharedSocket,
 };
 use std::alloc::Global;
 use std::sync::{Arc, Wait};
 
-/// The listeners, the UDP socket, the names of the recordings and how they are played, and the
-/// moment from which clocks count.
+/// The listeners and how long a client may be silent, the UDP socket, the names of the recordings
+/// and how they are played, and the moment from which clocks count.
 #[derive(Drop)]
 pub(crate) struct Shared {
-    pub(crate) listeners: Arc<Listeners>,
+    listeners: Arc<Listeners>,
+    timeout_s: u32,
     socket: Arc<SharedSocket>,
     files: Arc<Vec<Text>>,
     pub(crate) settings: Settings,
@@ -28,6 +29,7 @@ impl Shared {
     ghost use Rattle.std.specs.Prelude.{false};
     ghost use Rattle.satip_world.specs.Dials.{fresh_dial};
     ghost use Rattle.satip_real.specs.StoreCounts.{fresh_counts};
+    ghost use Rattle.satip_world.specs.Halls.{fresh_hall};
     ghost use Rattle.satip_world.specs.Outboxes.{fresh_outbox};
 
     /// Reads the settings and binds the sockets of a configuration.
@@ -37,18 +39,33 @@ impl Shared {
         config: &Config,
     ) -> Result<Shared, KitsFault> {
         let settings = Settings::read(host)?;
-        let listeners = Listeners::bind(host, config.address, config.rtsp_port, config.http_port)?;
-        let socket = match SharedSocket::bind(host, config.address) {
+        let listeners = Listeners::bind(
+            host,
+            config.address,
+            config.rtsp_port,
+            config.http_port,
+            config.workers,
+        )?;
+        let socket = match SharedSocket::bind(*host, config.address) {
             Ok(socket) => socket,
             Err(error) => return Err(KitsFault::Socket(error)),
         };
         Ok(Shared {
             listeners: Arc::new(alloc, listeners)?,
+            timeout_s: config.timeout,
             socket: Arc::new(alloc, socket)?,
             files: Arc::new(alloc, copy_all(alloc, &config.files)?)?,
             settings,
             start: ClockStart::read(host),
         })
+    }
+
+    /// Doors at the listeners that end after `accepts` connections, and never where it is 0.
+    pub(crate) fn doors(&self, host: HostRuntime, accepts: u32) -> Result<RealDoors, KitsFault>
+        ensures fresh { IfOk result (λ doors. doors ≡ fresh_hall accepts false) }
+    {
+        let listeners = Arc::try_clone(&self.listeners)?;
+        Ok(RealDoors::new(host, listeners, self.timeout_s, accepts))
     }
 
     /// An outlet at the UDP socket.

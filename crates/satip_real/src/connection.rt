@@ -1,128 +1,118 @@
 //! A TCP connection to one client.
 
-ghost use Rattle.std.specs.Prelude.{◌≡◌, false, IfOk};
+ghost use Rattle.std.specs.Prelude.{◌≡◌, false};
 ghost use Rattle.std.specs.Io.{ReadsAtMost};
 
+use crate::errors::is_passing;
+use crate::options::prepare;
+use crate::readiness::{has_input, takes_output};
+use crate::silence::Silence;
+use crate::stopwatch::Stopwatch;
 use mio::net::TcpStream;
-use mio::{Events, Interest, Poll, Token};
 use satip_base::Put;
-use satip_world::{Conn, Received};
-use std::alloc::Global;
+use satip_world::{Conn, ConnEnd, Received};
 use std::io;
 use std::io::{ErrorKind, Read, Write};
 use std::marker::Model;
-use std::net::{Net, Shutdown};
-use std::time::Duration;
+use std::net::Shutdown;
 
 // How long one wait for the client is, in milliseconds.
-const WAIT_MS: u64 = 50;
+const WAIT_MS: i32 = 50;
 
-// How many such waits a send takes at most.
+// How many such waits without progress a send takes at most.
 const SEND_WAITS: u32 = 200;
 
-const STREAM: Token = Token(0);
+// How long a closing connection waits for the client's end, in milliseconds.
+const LAST_WAIT_MS: u64 = 500;
 
-// How many pieces of input are dropped before a connection is closed.
-const LAST_READS: u32 = 16;
+// How many pieces of input a closing connection drops at most.
+const LAST_READS: u32 = 65536;
 
-// Whether a call is to be made again later.
-fn is_passing(kind: ErrorKind) -> bool {
-    matches!(kind, ErrorKind::WouldBlock | ErrorKind::Interrupted)
-}
-
-// A stream whose calls don't wait, and what waits until it is ready.
+// A stream whose calls don't wait.
 #[derive(Drop)]
 struct Socket {
     stream: TcpStream,
-    poll: Poll,
-    events: Events,
 }
 
 impl Socket {
-    fn open(net: &impl Net, alloc: Global, stream: TcpStream) -> io::Result<Socket> {
-        let mut stream = stream;
-        stream.set_nodelay(true)?;
-        let poll = Poll::new(net)?;
-        poll.registry()
-            .register(&mut stream, STREAM, Interest::READABLE)?;
-        let events = Events::with_capacity(alloc, 1)?;
-        Ok(Socket {
-            stream,
-            poll,
-            events,
-        })
-    }
-
-    // Waits until the stream is ready, up to 50 ms.
-    fn wait(&mut self, interest: Interest) -> io::Result<()> {
-        self.poll
-            .registry()
-            .reregister(&mut self.stream, STREAM, interest)?;
-        self.poll
-            .poll(&mut self.events, Some(Duration::from_millis(WAIT_MS)))
-    }
-
-    // Reads what came in, and waits for it once.
+    // Waits up to 50 ms for input, and reads it.
     fn read(&mut self, buf: &mut [u8]) -> io::Result<usize>
         ensures within { ReadsAtMost result buf.new }
     {
-        match self.stream.read(buf) {
-            Err(error) if is_passing(error.kind()) => {
-                self.wait(Interest::READABLE)?;
-                self.stream.read(buf)
-            }
-            answer => answer,
+        if !has_input(&self.stream, WAIT_MS) {
+            return Err(io::Error::from(ErrorKind::WouldBlock));
         }
+        self.stream.read(buf)
     }
 
     // Writes what the stream takes at once, and gives the rest.
     fn advance<'b>(&mut self, bytes: &'b [u8]) -> io::Result<&'b [u8]> {
         match self.stream.write(bytes) {
             Ok(count) => Ok(bytes.split_at(count).1),
-            Err(error) if is_passing(error.kind()) => Ok(bytes),
+            Err(error) if is_passing(&error) => Ok(bytes),
             Err(error) => Err(error),
         }
     }
 
-    // Writes all, and waits up to 200 times for the client.
+    // Writes all, and gives up after 200 waits in which the client took nothing.
     fn write(&mut self, bytes: &[u8]) -> io::Result<()> {
         let mut rest = self.advance(bytes)?;
-        for _ in 0..SEND_WAITS {
+        let mut waits = 0u32;
+        for _ in 0..u64::MAX {
             if rest.is_empty() {
+                return Ok(());
+            }
+            if waits >= SEND_WAITS {
                 break;
             }
-            self.wait(Interest::WRITABLE)?;
-            rest = self.advance(rest)?;
+            takes_output(&self.stream, WAIT_MS);
+            let left = self.advance(rest)?;
+            waits = if left.len() < rest.len() {
+                0
+            } else {
+                waits.saturating_add(1)
+            };
+            rest = left;
         }
-        if rest.is_empty() {
-            Ok(())
-        } else {
-            Err(io::Error::from(ErrorKind::TimedOut))
-        }
+        Err(io::Error::from(ErrorKind::TimedOut))
     }
 
-    // Ends the output and drops what came in: a stream that is closed with input in it is reset,
-    // and its client may lose the last reply.
-    fn finish(&mut self) {
+    // Ends the output, and drops what comes in until the client ends its own, up to 500 ms: a
+    // stream that is closed while its client sends is reset, and the client may lose the last
+    // reply.
+    fn finish(&mut self, watch: &Stopwatch) {
         if self.stream.shutdown(Shutdown::Write).is_err() {
             return;
         }
         let mut dropped = [0u8; 4096];
         for _ in 0..LAST_READS {
+            let left_ms = LAST_WAIT_MS.saturating_sub(watch.elapsed_ms());
+            if left_ms == 0 || !has_input(&self.stream, left_ms as i32) {
+                return;
+            }
             match self.stream.read(&mut dropped) {
                 Ok(0) => return,
                 Ok(_) => (),
+                Err(error) if is_passing(&error) => (),
                 Err(_) => return,
             }
         }
     }
 }
 
-/// A TCP connection to one client. A receive waits 50 ms for bytes, and is idle where none came. A
-/// send waits until the client takes all bytes, 200 times 50 ms at most, and then fails.
+/// A TCP connection to one client.
+///
+/// A receive waits 50 ms for bytes, and is idle where none came. It fails where the client was
+/// silent for longer than it may: over RTSP for longer than the seconds that the doors were given,
+/// over HTTP so before anything was sent to it, and 2 s where nothing ever came of it and others
+/// wait at the doors.
+///
+/// A send waits until the client takes all bytes, and fails after 200 waits of 50 ms in which it
+/// took nothing.
 #[derive(Drop)]
 pub struct RealConn {
     socket: Socket,
+    silence: Silence,
     ended: bool,
     idles: u64,
     receive_faults: u64,
@@ -148,24 +138,45 @@ impl Model for RealConn {
 impl RealConn {
     ghost use Rattle.satip_world.specs.Lines.{fresh_line};
 
-    /// A connection over a stream that was just accepted, with TCP_NODELAY set; an error where the
-    /// system has no place for it.
-    pub fn open(net: &impl Net, alloc: Global, stream: TcpStream) -> io::Result<RealConn>
-        ensures fresh { IfOk result (λ conn. conn ≡ fresh_line) }
+    /// A connection over a stream that was just accepted.
+    pub(crate) fn open(stream: TcpStream, silence: Silence) -> RealConn
+        ensures fresh { result ≡ fresh_line }
     {
-        Ok(RealConn {
-            socket: Socket::open(net, alloc, stream)?,
+        prepare(&stream);
+        RealConn {
+            socket: Socket { stream },
+            silence,
             ended: false,
             idles: 0,
             receive_faults: 0,
             send_faults: 0,
-        })
+        }
     }
 
-    /// Closes the connection.
-    pub(crate) fn close(self) {
+    // Reads what came, or tells that the client was silent for too long.
+    fn hear(&mut self, buf: &mut [u8]) -> io::Result<usize>
+        ensures within { ReadsAtMost result buf.new }
+        ensures same { self.new ≡ self.old }
+    {
+        match self.socket.read(buf) {
+            Ok(count) => {
+                self.silence.hear();
+                Ok(count)
+            }
+            Err(error) if is_passing(&error) && self.silence.is_over() => {
+                Err(io::Error::from(ErrorKind::TimedOut))
+            }
+            Err(error) => Err(error),
+        }
+    }
+
+    /// Closes the connection. A client that was served to the end has up to 500 ms to take the last
+    /// reply and end its own side.
+    pub(crate) fn close(self, rt: HostRuntime, end: ConnEnd) {
         let mut conn = self;
-        conn.socket.finish();
+        if end == ConnEnd::Done {
+            conn.socket.finish(&Stopwatch::start(rt));
+        }
     }
 }
 
@@ -178,13 +189,13 @@ impl Conn for RealConn {
         if self.ended {
             return Received::End;
         }
-        match self.socket.read(buf) {
+        match self.hear(buf) {
             Ok(0) => {
                 self.ended = true;
                 Received::End
             }
             Ok(count) => Received::Got(count),
-            Err(error) if is_passing(error.kind()) => {
+            Err(error) if is_passing(&error) => {
                 self.idles = self.idles.saturating_add(1);
                 Received::Idle
             }
@@ -196,6 +207,7 @@ impl Conn for RealConn {
     }
 
     fn send(&mut self, bytes: &[u8]) -> Put {
+        self.silence.answer();
         if self.socket.write(bytes).is_ok() {
             return Put::Whole;
         }

@@ -4,26 +4,37 @@ ghost use Rattle.std.specs.Prelude.{◌≡◌, false, IfOk, IfSome};
 ghost use Rattle.satip_world.specs.Lines.{fresh_line};
 
 use crate::connection::RealConn;
+use crate::errors::ends_listening;
 use crate::listeners::{Listeners, Visitor};
+use crate::report::report_line;
+use crate::silence::Silence;
 use satip_base::Peer;
 use satip_world::{ConnEnd, Door, DoorKind, Doors};
-use std::alloc::Global;
 use std::marker::Model;
 use std::sync::Arc;
 use std::time::Duration;
 use std::{io, thread};
 
-// How long doors wait where no connection came, in milliseconds.
-const WAIT_MS: u64 = 50;
+// How long doors wait for a connection, in milliseconds. One that comes ends the wait.
+const WAIT_MS: i32 = 500;
 
-/// The doors of one worker. They take the next connection at the RTSP listener, else at the HTTP
-/// listener; where there is none, or the system has no place for it, they wait 50 ms and are idle.
-/// A connection that is handed back is closed.
+// How long doors wait where a connection can't be taken, in milliseconds.
+const SHORTAGE_MS: u64 = 50;
+
+// How many connections that were given up before they were accepted are dropped in one look.
+const LOOKS: u32 = 64;
+
+/// The doors of one worker. They wait up to 500 ms for the next connection at the RTSP listener or
+/// at the HTTP listener, and are idle where none came, or where the system has no place for it, after
+/// 50 ms. Only the faults of a listener itself are theirs (EBADF, EINVAL and ENOTSOCK of accept(2)).
+///
+/// A connection of which nothing can be read but its end is dropped. One that is handed back is
+/// closed.
 #[derive(Drop)]
 pub struct RealDoors {
     rt: HostRuntime,
-    alloc: Global,
     listeners: Arc<Listeners>,
+    timeout_s: u32,
     limit: u32,
     count: u64,
     ended: bool,
@@ -52,14 +63,15 @@ impl Model for RealDoors {
 impl RealDoors {
     ghost use Rattle.satip_world.specs.Halls.{fresh_hall};
 
-    /// Doors that end after `limit` connections, and never where it is 0.
-    pub fn new(rt: HostRuntime, alloc: Global, listeners: Arc<Listeners>, limit: u32) -> RealDoors
+    /// Doors that end after `limit` connections, and never where it is 0. A client that is silent
+    /// for longer than `timeout_s` seconds is given up.
+    pub fn new(rt: HostRuntime, listeners: Arc<Listeners>, timeout_s: u32, limit: u32) -> RealDoors
         ensures fresh { result ≡ fresh_hall limit false }
     {
         RealDoors {
             rt,
-            alloc,
             listeners,
+            timeout_s,
             limit,
             count: 0,
             ended: false,
@@ -77,17 +89,49 @@ struct Guest {
     conn: RealConn,
 }
 
+// The next connection whose client is still there; `None` where none waits.
+fn next_visitor(listeners: &Listeners) -> io::Result<Option<Visitor>> {
+    let mut wait_ms = WAIT_MS;
+    for _ in 0..LOOKS {
+        match listeners.accept(wait_ms)? {
+            Some(visitor) if visitor.has_left() => wait_ms = 0,
+            found => return Ok(found),
+        }
+    }
+    Ok(None)
+}
+
+// Tells that connections can't be taken, and waits: those that came are still there, so the next
+// look would be at once.
+fn rest(rt: &HostRuntime, listeners: &Listeners, error: &io::Error) {
+    if listeners.shortages.is_due(rt) {
+        report_line(
+            rt,
+            format_args!("a connection can't be taken: {error} (more descriptors: ulimit -n)"),
+        );
+    }
+    thread::sleep(rt, Duration::from_millis(SHORTAGE_MS));
+}
+
 // The next connection; `None` where none waits, or where the system has no place for it.
-fn welcome(rt: &HostRuntime, alloc: Global, listeners: &Listeners) -> io::Result<Option<Guest>>
+fn welcome(rt: HostRuntime, listeners: &Arc<Listeners>, timeout_s: u32) -> io::Result<Option<Guest>>
     ensures fresh { IfOk result (λ came. IfSome came (λ guest. guest.conn ≡ fresh_line)) }
 {
-    let Some(Visitor { kind, peer, stream }) = listeners.accept()? else {
+    let Visitor { kind, peer, stream } = match next_visitor(listeners) {
+        Ok(Some(visitor)) => visitor,
+        Ok(None) => return Ok(None),
+        Err(error) if ends_listening(&error) => return Err(error),
+        Err(error) => {
+            rest(&rt, listeners, &error);
+            return Ok(None);
+        }
+    };
+    let Ok(listeners) = Arc::try_clone(listeners) else {
         return Ok(None);
     };
-    match RealConn::open(rt, alloc, stream) {
-        Ok(conn) => Ok(Some(Guest { kind, peer, conn })),
-        Err(_) => Ok(None),
-    }
+    let silence = Silence::begin(rt, kind, timeout_s, listeners);
+    let conn = RealConn::open(stream, silence);
+    Ok(Some(Guest { kind, peer, conn }))
 }
 
 impl Doors for RealDoors {
@@ -103,26 +147,29 @@ impl Doors for RealDoors {
             self.ended = true;
             return Door::End;
         }
-        match welcome(&self.rt, self.alloc, &self.listeners) {
+        match welcome(self.rt, &self.listeners, self.timeout_s) {
             Ok(Some(Guest { kind, peer, conn })) => {
                 self.count = self.count.saturating_add(1);
                 Door::Came { kind, peer, conn }
             }
             Ok(None) => {
-                thread::sleep(&self.rt, Duration::from_millis(WAIT_MS));
                 self.idles = self.idles.saturating_add(1);
                 Door::Idle
             }
-            Err(_) => {
+            Err(error) => {
+                report_line(
+                    &self.rt,
+                    format_args!("a worker ends, its listener failed: {error}"),
+                );
                 self.faults = self.faults.saturating_add(1);
                 Door::Failed
             }
         }
     }
 
-    fn back(&mut self, conn: RealConn, _kind: DoorKind, _peer: Peer, _end: ConnEnd) {
+    fn back(&mut self, conn: RealConn, _kind: DoorKind, _peer: Peer, end: ConnEnd) {
         // What doors show is known once they are read.
         let _ = &self.count;
-        conn.close();
+        conn.close(self.rt, end);
     }
 }

@@ -6,13 +6,17 @@
 mod addresses;
 mod clock;
 mod connection;
+mod destinations;
 mod doors;
+mod errors;
 mod key;
 mod listeners;
+mod options;
 mod outlet;
 mod pacer;
 mod pieces;
 mod progress;
+mod readiness;
 mod recording;
 mod recording_clock;
 #[cfg(test)]
@@ -20,6 +24,8 @@ mod recording_tests;
 mod references;
 mod report;
 mod shown;
+mod silence;
+mod stopwatch;
 mod store;
 #[cfg(test)]
 mod tests;
@@ -33,6 +39,6 @@ pub use outlet::{RealOutlet, SharedSocket};
 pub use pacer::RealPacer;
 pub use progress::Progress;
 pub use recording::{Playing, RealRecording, RecordingFault};
-pub use report::report_line;
+pub use report::{Throttle, report_line};
 pub use shown::Shown;
 pub use store::RealStore;

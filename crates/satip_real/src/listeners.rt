@@ -1,18 +1,23 @@
 //! The two listeners of the server.
 
 use crate::addresses::{peer_of, socket_addr};
+use crate::errors::is_passing;
+use crate::readiness::have_input;
+use crate::report::Throttle;
+use libc::net as c;
 use mio::net::{TcpListener, TcpStream};
 use satip_base::{Address, Peer};
 use satip_world::DoorKind;
 use std::io;
-use std::io::ErrorKind;
 use std::net::Net;
+use std::os::fd::AsRawFd;
 
 /// The listeners for RTSP and for HTTP, which all doors of the server share.
 #[derive(Drop)]
 pub struct Listeners {
     rtsp: TcpListener,
     http: TcpListener,
+    pub(crate) shortages: Throttle,
 }
 
 /// Why there are no listeners: an address that isn't the host's, a port in use, or one that the
@@ -33,32 +38,44 @@ pub(crate) struct Visitor {
     pub(crate) stream: TcpStream,
 }
 
+impl Visitor {
+    /// Whether nothing can be read of it but its end or a fault.
+    pub(crate) fn has_left(&self) -> bool {
+        match self.stream.peek(&mut [0u8; 1]) {
+            Ok(count) => count == 0,
+            Err(error) => !is_passing(&error),
+        }
+    }
+}
+
+// A listener at which about so many connections wait to be accepted; who comes to a full one sees it
+// by a connect that doesn't end (listen(2)). Where the system refuses that length, its own stays.
+fn listen(net: &impl Net, ip: u32, port: u16, backlog: u16) -> io::Result<TcpListener> {
+    let listener = TcpListener::bind(net, socket_addr(Address { ip, port }))?;
+    c::listen(listener.as_raw_fd(), backlog as i32);
+    Ok(listener)
+}
+
 impl Listeners {
-    /// Binds both listeners at an IPv4 address. At port 0 the system chooses one.
+    /// Binds both listeners at an IPv4 address. At port 0 the system chooses one. At each, about
+    /// `backlog` connections wait that weren't accepted.
     pub fn bind(
         net: &impl Net,
         ip: u32,
         rtsp_port: u16,
         http_port: u16,
+        backlog: u16,
     ) -> Result<Listeners, BindFault> {
-        let rtsp = match TcpListener::bind(
-            net,
-            socket_addr(Address {
-                ip,
-                port: rtsp_port,
-            }),
-        ) {
+        let rtsp = match listen(net, ip, rtsp_port, backlog) {
             Ok(rtsp) => rtsp,
             Err(error) => return Err(BindFault::Rtsp(error)),
         };
-        match TcpListener::bind(
-            net,
-            socket_addr(Address {
-                ip,
-                port: http_port,
+        match listen(net, ip, http_port, backlog) {
+            Ok(http) => Ok(Listeners {
+                rtsp,
+                http,
+                shortages: Throttle::new(),
             }),
-        ) {
-            Ok(http) => Ok(Listeners { rtsp, http }),
             Err(error) => Err(BindFault::Http(error)),
         }
     }
@@ -73,34 +90,33 @@ impl Listeners {
         Ok(self.http.local_addr()?.port())
     }
 
-    /// The next connection, one for RTSP first; `None` where none waits.
-    pub(crate) fn accept(&self) -> io::Result<Option<Visitor>> {
-        match accept_at(&self.rtsp, DoorKind::Rtsp)? {
-            Some(visitor) => Ok(Some(visitor)),
-            None => accept_at(&self.http, DoorKind::Http),
+    /// Whether a connection waits at one of them.
+    pub(crate) fn somebody_waits(&self) -> bool {
+        let (rtsp, http) = have_input(&self.rtsp, &self.http, 0);
+        rtsp || http
+    }
+
+    /// The next connection, one for RTSP first, after a wait of up to so many milliseconds; `None`
+    /// where none came.
+    pub(crate) fn accept(&self, wait_ms: i32) -> io::Result<Option<Visitor>> {
+        let (rtsp, http) = have_input(&self.rtsp, &self.http, wait_ms);
+        if rtsp {
+            if let Some(visitor) = accept_at(&self.rtsp, DoorKind::Rtsp)? {
+                return Ok(Some(visitor));
+            }
         }
+        if http {
+            return accept_at(&self.http, DoorKind::Http);
+        }
+        Ok(None)
     }
 }
 
-// The next connection at a listener. One that its client gave up meanwhile, or that the network
-// lost, counts as none.
+// The next connection at a listener; `None` where another worker was faster.
 fn accept_at(listener: &TcpListener, kind: DoorKind) -> io::Result<Option<Visitor>> {
     match listener.accept() {
         Ok((stream, addr)) => Ok(peer_of(addr).map(|peer| Visitor { kind, peer, stream })),
-        Err(error) if is_passing(error.kind()) => Ok(None),
+        Err(error) if error.kind() == io::ErrorKind::WouldBlock => Ok(None),
         Err(error) => Err(error),
     }
-}
-
-// Whether a later call may give a connection all the same (accept(2), "Error handling").
-fn is_passing(kind: ErrorKind) -> bool {
-    matches!(
-        kind,
-        ErrorKind::WouldBlock
-            | ErrorKind::Interrupted
-            | ErrorKind::ConnectionAborted
-            | ErrorKind::NetworkDown
-            | ErrorKind::NetworkUnreachable
-            | ErrorKind::HostUnreachable
-    )
 }

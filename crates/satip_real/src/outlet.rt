@@ -1,35 +1,31 @@
-//! Datagrams over one UDP socket, in the order of the events that they are of.
+//! Datagrams over UDP sockets, in the order of the events that they are of.
 
 ghost use Rattle.std.specs.Prelude.{◌≡◌};
 
-use crate::addresses::socket_addr;
-use libc::net as c;
-use mio::net::UdpSocket;
+use crate::destinations::Destinations;
 use satip_base::{Address, Put};
 use satip_world::Outlet;
 use std::io;
 use std::marker::Model;
-use std::net::Net;
-use std::os::fd::AsRawFd;
 use std::sync::{Arc, Condvar, Mutex, Wait};
 
-/// The UDP socket that all outlets of a server share. One of them at a time makes an event and sends
-/// its datagrams.
+/// The UDP sockets that all outlets of a server share. One of them at a time makes an event and
+/// sends its datagrams.
 #[derive(Drop)]
 pub struct SharedSocket {
-    socket: UdpSocket,
+    destinations: Mutex<Destinations>,
     locked: Mutex<bool>,
     unlocked: Condvar,
 }
 
 impl SharedSocket {
-    /// Binds a UDP socket at an IPv4 address and any port, with the largest send buffer that the
-    /// system gives without privilege.
-    pub fn bind(net: &impl Net, ip: u32) -> io::Result<SharedSocket> {
-        let socket = UdpSocket::bind(net, socket_addr(Address { ip, port: 0 }))?;
-        widen(&socket);
+    /// Binds a UDP socket at an IPv4 address and any port. Each destination is given a connected
+    /// socket of its own at that address when it is first sent to, up to 128 of them, the least
+    /// lately used being closed for a new one; where there can be none, it is sent to from the
+    /// first socket.
+    pub fn bind(rt: HostRuntime, ip: u32) -> io::Result<SharedSocket> {
         Ok(SharedSocket {
-            socket,
+            destinations: Mutex::new(Destinations::bind(rt, ip)?),
             locked: Mutex::new(false),
             unlocked: Condvar::new(),
         })
@@ -46,19 +42,15 @@ impl SharedSocket {
         *self.locked.lock(rt) = false;
         self.unlocked.notify_one();
     }
+
+    // Sends a datagram, whole or not at all.
+    fn send<R: Wait>(&self, rt: &R, to: Address, bytes: &[u8]) -> bool {
+        self.destinations.lock(rt).send(to, bytes)
+    }
 }
 
-// Asks for the largest send buffer. The system cuts it to its own limit; where it gives none, the
-// socket keeps the buffer that it has.
-fn widen(socket: &UdpSocket) {
-    let mut size = [0u8; 16];
-    let (bytes, _) = size.split_at_mut(4);
-    bytes.copy_from_slice(&i32::MAX.to_ne_bytes());
-    let _ = unsafe { c::setsockopt(socket.as_raw_fd(), c::SOL_SOCKET, c::SO_SNDBUF, &size, 4) };
-}
-
-/// An outlet at the shared UDP socket. A datagram that the socket doesn't take at once is a failed
-/// one. Between `lock` and `unlock` no other outlet of the socket is locked.
+/// An outlet at the shared UDP sockets. A datagram that its socket doesn't take at once, or refuses
+/// twice, is a failed one. Between `lock` and `unlock` no other outlet of the sockets is locked.
 #[derive(Drop)]
 pub struct RealOutlet<R: Wait + Drop> {
     rt: R,
@@ -104,10 +96,8 @@ impl<R: Wait + Drop> Outlet for RealOutlet<R> {
     }
 
     fn send(&mut self, to: Address, bytes: &[u8]) -> Put {
-        if let Ok(count) = self.shared.socket.send_to(bytes, socket_addr(to)) {
-            if count == bytes.len() {
-                return Put::Whole;
-            }
+        if self.shared.send(&self.rt, to, bytes) {
+            return Put::Whole;
         }
         self.faults = self.faults.saturating_add(1);
         Put::Failed

@@ -3,7 +3,11 @@
 use httpdate::HttpDate;
 use std::fmt::Display;
 use std::io::Print;
-use std::time::{SystemTime, UNIX_EPOCH};
+use std::sync::atomic::{AtomicU64, Ordering};
+use std::time::{Clock, SystemTime, UNIX_EPOCH};
+
+// How far two lines of one kind are apart at least, in seconds.
+const APART_S: u64 = 60;
 
 // The moment in UTC; `None` where the clock can't be read.
 fn date(rt: &HostRuntime) -> Option<HttpDate> {
@@ -21,5 +25,37 @@ pub fn report_line<D: Display + Drop>(rt: &HostRuntime, text: D) {
     };
     if let Ok(line) = line {
         let _ = rt.eprint(line);
+    }
+}
+
+/// When the next line of one kind may be written: a minute after the last. Several threads may ask.
+#[derive(Drop)]
+pub struct Throttle {
+    next_s: AtomicU64,
+}
+
+impl Throttle {
+    /// No line was written yet.
+    pub fn new() -> Throttle {
+        Throttle {
+            next_s: AtomicU64::new(0),
+        }
+    }
+
+    /// Whether a line may be written now; then none may for a minute. Never where the clock can't
+    /// be read.
+    pub fn is_due(&self, rt: &HostRuntime) -> bool {
+        let Ok(moment) = rt.monotonic() else {
+            return false;
+        };
+        let now_s = moment.as_secs();
+        let due_s = self.next_s.load(Ordering::SeqCst);
+        if now_s < due_s {
+            return false;
+        }
+        let next_s = now_s.saturating_add(APART_S);
+        self.next_s
+            .compare_exchange(due_s, next_s, Ordering::SeqCst, Ordering::SeqCst)
+            .is_ok()
     }
 }

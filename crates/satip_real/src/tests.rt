@@ -4,7 +4,7 @@ use crate::*;
 use satip_base::{Address, Peer, Put};
 use satip_world::{Conn, ConnEnd, Door, DoorKind, Doors, Outlet, Received};
 use std::io::{Read, Write};
-use std::net::{Ipv4Addr, SocketAddr, TcpStream, UdpSocket};
+use std::net::{Ipv4Addr, Shutdown, SocketAddr, TcpStream, UdpSocket};
 use std::sync::atomic::{AtomicU64, Ordering};
 use std::sync::{Arc, Wait};
 use std::test::Fail;
@@ -49,7 +49,7 @@ fn a_connection_is_heard_and_answered(rt: HostRuntime) -> Result<(), Fail> {
     let alloc = rt.alloc();
     let listeners = listen(&rt, 0, 0)?;
     let at = SocketAddr::from((Ipv4Addr::LOCALHOST, listeners.http_port()?));
-    let mut doors = RealDoors::new(rt, alloc, Arc::new(alloc, listeners)?, 1);
+    let mut doors = RealDoors::new(rt, Arc::new(alloc, listeners)?, 60, 1);
     assert!(rt; matches!(doors.next(), Door::Idle));
     let mut client = TcpStream::connect(&rt, at)?;
     let Door::Came { kind, peer, conn } = next_come(&mut doors) else {
@@ -97,7 +97,7 @@ fn a_long_reply_waits_for_its_client(rt: HostRuntime) -> Result<(), Fail> {
     let alloc = rt.alloc();
     let listeners = listen(&rt, 0, 0)?;
     let at = SocketAddr::from((Ipv4Addr::LOCALHOST, listeners.rtsp_port()?));
-    let mut doors = RealDoors::new(rt, alloc, Arc::new(alloc, listeners)?, 0);
+    let mut doors = RealDoors::new(rt, Arc::new(alloc, listeners)?, 60, 0);
     let client = TcpStream::connect(&rt, at)?;
     let Door::Came { kind, peer, conn } = next_come(&mut doors) else {
         return Err(Fail::from("no connection"));
@@ -123,22 +123,114 @@ fn sends_until_a_failure<C: Conn>(conn: &mut C) -> Put {
     Put::Whole
 }
 
+// Doors of a new server, and where its listener for RTSP is.
+fn open_doors(
+    rt: HostRuntime,
+    timeout_s: u32,
+    limit: u32,
+) -> Result<(RealDoors, SocketAddr), Fail> {
+    let listeners = listen(&rt, 0, 0)?;
+    let at = SocketAddr::from((Ipv4Addr::LOCALHOST, listeners.rtsp_port()?));
+    let listeners = Arc::new(rt.alloc(), listeners)?;
+    Ok((RealDoors::new(rt, listeners, timeout_s, limit), at))
+}
+
+#[test]
+fn doors_give_exactly_as_many_as_their_limit(rt: HostRuntime) -> Result<(), Fail> {
+    for limit in [2, 3] {
+        let (mut doors, at) = open_doors(rt, 60, limit)?;
+        let mut clients = Vec::new(rt.alloc());
+        for _ in 0..4 {
+            clients.push(TcpStream::connect(&rt, at)?)?;
+        }
+        for place in 0..limit {
+            assert!(rt;
+                matches!(next_come(&mut doors), Door::Came { .. }),
+                "{place} of {limit}"
+            );
+        }
+        assert!(rt; matches!(next_come(&mut doors), Door::End), "{limit}");
+        assert!(rt; matches!(next_come(&mut doors), Door::End), "{limit}");
+    }
+    Ok(())
+}
+
+#[test]
+fn a_silent_client_is_given_up(rt: HostRuntime) -> Result<(), Fail> {
+    let (mut doors, at) = open_doors(rt, 1, 0)?;
+    let mut client = TcpStream::connect(&rt, at)?;
+    let Door::Came { mut conn, .. } = next_come(&mut doors) else {
+        return Err(Fail::from("no connection"));
+    };
+    let mut buf = [0; 16];
+    client.write_all(b"ask")?;
+    assert_eq!(rt; receive(&mut conn, &mut buf), Received::Got(3));
+    assert_eq!(rt; conn.receive(&mut buf), Received::Idle);
+    assert_eq!(rt; receive(&mut conn, &mut buf), Received::Failed);
+    Ok(())
+}
+
+#[test]
+fn a_client_that_left_is_dropped(rt: HostRuntime) -> Result<(), Fail> {
+    let (mut doors, at) = open_doors(rt, 60, 0)?;
+    drop(TcpStream::connect(&rt, at)?);
+    let mut client = TcpStream::connect(&rt, at)?;
+    client.write_all(b"ask")?;
+    client.shutdown(Shutdown::Write)?;
+    let Door::Came { mut conn, .. } = next_come(&mut doors) else {
+        return Err(Fail::from("no connection"));
+    };
+    let mut buf = [0; 16];
+    assert_eq!(rt; receive(&mut conn, &mut buf), Received::Got(3));
+    assert_eq!(rt; receive(&mut conn, &mut buf), Received::End);
+    assert!(rt; matches!(doors.next(), Door::Idle));
+    Ok(())
+}
+
+// Writes a megabyte, and reads the reply.
+fn reply_after_a_megabyte(client: TcpStream) -> bool {
+    let mut client = client;
+    let (piece, mut reply) = ([7u8; 4096], [0u8; 3]);
+    for _ in 0..256 {
+        if client.write_all(&piece).is_err() {
+            return false;
+        }
+    }
+    client.read_exact(&mut reply).is_ok() && reply == *b"413"
+}
+
+#[test]
+fn a_client_that_still_sends_gets_its_last_reply(rt: HostRuntime) -> Result<(), Fail> {
+    let (mut doors, at) = open_doors(rt, 60, 0)?;
+    let client = TcpStream::connect(&rt, at)?;
+    let Door::Came { kind, peer, conn } = next_come(&mut doors) else {
+        return Err(Fail::from("no connection"));
+    };
+    let mut conn = conn;
+    let asker = thread::spawn(&rt, move || reply_after_a_megabyte(client))?;
+    assert_eq!(rt; receive(&mut conn, &mut [0; 16]), Received::Got(16));
+    assert_eq!(rt; conn.send(b"413"), Put::Whole);
+    doors.back(conn, kind, peer, ConnEnd::Done);
+    assert!(rt; asker.join(&rt));
+    Ok(())
+}
+
 #[test]
 fn a_port_in_use_is_refused(rt: HostRuntime) -> Result<(), Fail> {
     let listeners = listen(&rt, 0, 0)?;
     let port = listeners.rtsp_port()?;
     assert!(rt;
         matches!(
-            Listeners::bind(&rt, LOCALHOST, 0, port),
+            Listeners::bind(&rt, LOCALHOST, 0, port, 8),
             Err(BindFault::Http(_))
         )
     );
-    assert!(rt; Listeners::bind(&rt, 0xc000_0201, 0, 0).is_err());
+    assert!(rt; Listeners::bind(&rt, 0xc000_0201, 0, 0, 8).is_err());
     Ok(())
 }
 
 fn listen(rt: &HostRuntime, rtsp_port: u16, http_port: u16) -> Result<Listeners, Fail> {
-    match Listeners::bind(rt, LOCALHOST, rtsp_port, http_port) {
+    match Listeners::bind(rt, LOCALHOST, rtsp_port, http_port, 8) {
         Ok(listeners) => Ok(listeners),
         Err(_) => Err(Fail::from("no listeners")),
     }
@@ -154,7 +246,7 @@ fn client(rt: &HostRuntime) -> Result<(UdpSocket, u16), Fail> {
 
 #[test]
 fn a_datagram_arrives(rt: HostRuntime) -> Result<(), Fail> {
-    let shared = Arc::new(rt.alloc(), SharedSocket::bind(&rt, LOCALHOST)?)?;
+    let shared = Arc::new(rt.alloc(), SharedSocket::bind(rt, LOCALHOST)?)?;
     let (socket, port) = client(&rt)?;
     let mut outlet = RealOutlet::new(rt, shared);
     outlet.lock();
@@ -164,6 +256,48 @@ fn a_datagram_arrives(rt: HostRuntime) -> Result<(), Fail> {
     let mut buf = [0; 16];
     assert_eq!(rt; socket.recv_from(&mut buf)?.0, 3);
     assert!(rt; buf.starts_with(b"abc"));
+    Ok(())
+}
+
+#[test]
+fn a_datagram_after_a_refused_one_arrives(rt: HostRuntime) -> Result<(), Fail> {
+    let mut outlet = RealOutlet::new(
+        rt,
+        Arc::new(rt.alloc(), SharedSocket::bind(rt, LOCALHOST)?)?,
+    );
+    let (socket, port) = client(&rt)?;
+    drop(socket);
+    assert_eq!(rt; post(&mut outlet, port, b"lost"), Put::Whole);
+    let socket = UdpSocket::bind(&rt, SocketAddr::from((Ipv4Addr::LOCALHOST, port)))?;
+    socket.set_read_timeout(Some(Duration::from_secs(5)))?;
+    assert_eq!(rt; post(&mut outlet, port, b"abc"), Put::Whole);
+    let mut buf = [0; 16];
+    assert_eq!(rt; socket.recv_from(&mut buf)?.0, 3);
+    Ok(())
+}
+
+#[test]
+fn more_destinations_than_sockets_are_sent_to(rt: HostRuntime) -> Result<(), Fail> {
+    let mut outlet = RealOutlet::new(
+        rt,
+        Arc::new(rt.alloc(), SharedSocket::bind(rt, LOCALHOST)?)?,
+    );
+    let mut clients = Vec::new(rt.alloc());
+    for _ in 0..130 {
+        clients.push(client(&rt)?)?;
+    }
+    for text in [b"a", b"b"] {
+        for (_, port) in &clients {
+            assert_eq!(rt; post(&mut outlet, *port, text), Put::Whole);
+        }
+    }
+    let mut buf = [0; 16];
+    for (socket, _) in &clients {
+        for text in [b"a", b"b"] {
+            assert_eq!(rt; socket.recv_from(&mut buf)?.0, 1);
+            assert!(rt; buf.starts_with(text));
+        }
+    }
     Ok(())
 }
 
@@ -182,7 +316,7 @@ fn send_counts<R: Wait + Drop>(rt: R, shared: Arc<SharedSocket>, begun: Arc<Atom
 #[test]
 fn datagrams_of_three_threads_leave_in_order(rt: HostRuntime) -> Result<(), Fail> {
     let alloc = rt.alloc();
-    let shared = Arc::new(alloc, SharedSocket::bind(&rt, LOCALHOST)?)?;
+    let shared = Arc::new(alloc, SharedSocket::bind(rt, LOCALHOST)?)?;
     let begun = Arc::new(alloc, AtomicU64::new(0))?;
     let (socket, port) = client(&rt)?;
     let mut senders = Vec::new(alloc);

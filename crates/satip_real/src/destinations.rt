@@ -1,0 +1,105 @@
+//! A connected UDP socket for each destination.
+
+use crate::addresses::{socket_addr, socket_addr_v4};
+use crate::errors::lacks_room;
+use crate::options::widen;
+use crate::report::{Throttle, report_line};
+use lru::LruCache;
+use mio::net::UdpSocket;
+use satip_base::Address;
+use std::io;
+use std::net::{SocketAddr, SocketAddrV4};
+use std::num::NonZeroUsize;
+
+// How many destinations have a socket at a time: RTP and RTCP of 64 sessions.
+const SOCKETS: usize = 128;
+
+/// The sockets of the destinations that were lately sent to. Each has a send buffer of its own, so
+/// that datagrams that wait for one host leave the others theirs.
+#[derive(Drop)]
+pub(crate) struct Destinations {
+    rt: HostRuntime,
+    ip: u32,
+    common: UdpSocket,
+    connected: LruCache<SocketAddrV4, UdpSocket>,
+    refused: u64,
+    reports: Throttle,
+}
+
+// A UDP socket at an address and any port, with the largest send buffer that the system gives.
+fn open(rt: &HostRuntime, ip: u32) -> io::Result<UdpSocket> {
+    let socket = UdpSocket::bind(rt, socket_addr(Address { ip, port: 0 }))?;
+    widen(&socket);
+    Ok(socket)
+}
+
+fn open_connected(rt: &HostRuntime, ip: u32, to: SocketAddrV4) -> io::Result<UdpSocket> {
+    let socket = open(rt, ip)?;
+    socket.connect(SocketAddr::V4(to))?;
+    Ok(socket)
+}
+
+impl Destinations {
+    /// No destination yet, and a socket for those that can be given none of their own.
+    pub(crate) fn bind(rt: HostRuntime, ip: u32) -> io::Result<Destinations> {
+        let Some(capacity) = NonZeroUsize::new(SOCKETS) else {
+            unreachable!()
+        };
+        Ok(Destinations {
+            rt,
+            ip,
+            common: open(&rt, ip)?,
+            connected: LruCache::new(rt.alloc(), capacity)?,
+            refused: 0,
+            reports: Throttle::new(),
+        })
+    }
+
+    // Sends a datagram once, from the destination's own socket where it has one or can be given one.
+    fn try_send(&mut self, to: SocketAddrV4, bytes: &[u8]) -> io::Result<usize> {
+        if let Some(socket) = self.connected.get(&to) {
+            return socket.send(bytes);
+        }
+        let Ok(socket) = open_connected(&self.rt, self.ip, to) else {
+            return self.common.send_to(bytes, SocketAddr::V4(to));
+        };
+        let sent = socket.send(bytes);
+        let _ = self.connected.put(to, socket);
+        sent
+    }
+
+    /// Sends a datagram, whole or not at all. An error may be that of the last datagram to the same
+    /// destination (udp(7), ECONNREFUSED), so that the next call sends this one after all.
+    pub(crate) fn send(&mut self, to: Address, bytes: &[u8]) -> bool {
+        let to = socket_addr_v4(to);
+        let sent = match self.try_send(to, bytes) {
+            Err(error) if !lacks_room(&error) => self.try_send(to, bytes),
+            sent => sent,
+        };
+        match sent {
+            Ok(count) => count == bytes.len(),
+            Err(error) => {
+                self.note(&error);
+                false
+            }
+        }
+    }
+
+    // Counts the datagrams for which there was no room, and tells it once a minute at most.
+    fn note(&mut self, error: &io::Error) {
+        if !lacks_room(error) {
+            return;
+        }
+        self.refused = self.refused.saturating_add(1);
+        if self.reports.is_due(&self.rt) {
+            let refused = self.refused;
+            report_line(
+                &self.rt,
+                format_args!(
+                    "{refused} datagrams were refused since the start, send buffers are full \
+                     (larger ones: sysctl net.core.wmem_max)"
+                ),
+            );
+        }
+    }
+}
