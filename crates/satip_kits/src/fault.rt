@@ -1,12 +1,12 @@
 //! Why a server can't begin.
 
-use satip_base::Want;
-use satip_real::BindFault;
+use satip_base::{Text, Want};
+use satip_real::{BindFault, RecordingFault, Shown};
 use std::alloc::{AllocError, AllocFailed};
 use std::{fmt, io};
 
 /// Why there are no kits.
-#[derive(Debug, Drop)]
+#[derive(Drop)]
 pub enum KitsFault {
     /// The address and the port for RTSP can't be listened at.
     RtspPort(io::Error),
@@ -14,8 +14,16 @@ pub enum KitsFault {
     HttpPort(io::Error),
     /// There is no UDP socket at the address.
     Socket(io::Error),
-    /// The recording of a multiplex, by its number, can't be opened.
-    Recording(u16),
+    /// The recording of a multiplex, by its number and the name of its file, can't be played.
+    Recording {
+        mux: u16,
+        name: Text,
+        fault: RecordingFault,
+    },
+    /// `SATIP_PACE` is set and isn't `recording`.
+    Pace,
+    /// `SATIP_REPEAT` is set and isn't `1`.
+    Repeat,
     /// There are no random bytes for a worker's key.
     Key,
     /// There was no memory.
@@ -28,7 +36,15 @@ impl fmt::Display for KitsFault {
             KitsFault::RtspPort(error) => write!(f, "RTSP port: {error}"),
             KitsFault::HttpPort(error) => write!(f, "HTTP port: {error}"),
             KitsFault::Socket(error) => write!(f, "UDP socket: {error}"),
-            KitsFault::Recording(mux) => write!(f, "recording of mux.{mux} can't be opened"),
+            KitsFault::Recording { mux, name, fault } => {
+                let name = Shown(name);
+                write!(
+                    f,
+                    "recording of mux.{mux}, {name}, can't be played: {fault}"
+                )
+            }
+            KitsFault::Pace => f.write_str("SATIP_PACE has no value but recording"),
+            KitsFault::Repeat => f.write_str("SATIP_REPEAT has no value but 1"),
             KitsFault::Key => write!(f, "no random bytes"),
             KitsFault::Want => write!(f, "out of memory"),
         }

@@ -4,7 +4,8 @@ ghost use Rattle.std.specs.Prelude.{◌≡◌, All, IfOk, length};
 ghost use Rattle.satip_kits.specs.Unused.{IsUnusedWorker, IsUnusedPump, IsUnusedTick};
 
 use crate::fault::KitsFault;
-use crate::shared::Shared;
+use crate::ready::{recording_lengths, report_ready};
+use crate::shared::{Shared, pump_pacer};
 use satip_config::Config;
 use satip_pump::{PumpKit, TickKit};
 use satip_real::{RealClock, RealDoors, RealOutlet, RealPacer, RealStore, read_key};
@@ -47,10 +48,12 @@ fn pump_kit<R: Wait + Drop>(
 ) -> Result<PumpKit<RealStore, RealOutlet<R>, RealPacer>, KitsFault>
     ensures unused { IfOk result (λ kit. IsUnusedPump kit) }
 {
+    let progress = shared.progress(host.alloc())?;
+    let pacer = pump_pacer(host, &progress)?;
     Ok(PumpKit {
-        store: shared.store(host)?,
+        store: shared.store(host, progress)?,
         outlet: shared.outlet(rt)?,
-        pacer: RealPacer::new(host),
+        pacer,
     })
 }
 
@@ -62,7 +65,7 @@ fn tick_kit<R: Wait + Drop>(
     ensures unused { IfOk result (λ kit. IsUnusedTick kit) }
 {
     Ok(TickKit {
-        clock: RealClock::new(host),
+        clock: shared.clock(host),
         outlet: shared.outlet(rt)?,
         pacer: RealPacer::new(host),
     })
@@ -103,9 +106,9 @@ fn pump_kits<R: Wait + Copy + Drop>(
     Ok(kits)
 }
 
-/// Makes the kits of a configuration: it binds the address and ports, sees that each recording can
-/// be opened, and reads a key for each worker. Each worker's doors end after `accepts` connections,
-/// and never where it is 0.
+/// Makes the kits of a configuration: it reads the settings, binds the address and ports, sees that
+/// each recording can be played, reads a key for each worker, and says on standard error that the
+/// server is ready. Each worker's doors end after `accepts` connections, and never where it is 0.
 pub fn real_kits<R: Wait + Copy + Drop>(
     host: HostRuntime,
     rt: R,
@@ -120,12 +123,12 @@ pub fn real_kits<R: Wait + Copy + Drop>(
 {
     let alloc = host.alloc();
     let shared = Shared::open(&host, alloc, config)?;
-    if let Some(mux) = shared.store(host)?.first_missing() {
-        return Err(KitsFault::Recording(mux));
-    }
-    Ok(RealKits {
+    let lengths = recording_lengths(alloc, &shared.store(host, None)?, &config.files)?;
+    let kits = RealKits {
         workers: worker_kits(host, rt, alloc, &shared, config.workers, accepts)?,
         pumps: pump_kits(host, rt, alloc, &shared, config.fronts.len())?,
         tick: tick_kit(host, rt, &shared)?,
-    })
+    };
+    report_ready(&host, config, &shared, &lengths);
+    Ok(kits)
 }

@@ -3,6 +3,8 @@
 
 mod fault;
 mod kits;
+mod ready;
+mod settings;
 mod shared;
 #[cfg(test)]
 mod tests;

@@ -1,34 +1,44 @@
 //! What the kits of one server share.
 
+ghost use Rattle.std.specs.Prelude.{◌≡◌, IfOk};
+
 use crate::fault::KitsFault;
+use crate::settings::Settings;
 use satip_base::Text;
 use satip_config::Config;
-use satip_real::{Listeners, RealDoors, RealOutlet, RealStore, SharedSocket};
+use satip_real::{
+    ClockStart, Listeners, Playing, Progress, RealClock, RealDoors, RealOutlet, RealPacer,
+    RealStore, SharedSocket,
+};
 use std::alloc::Global;
 use std::sync::{Arc, Wait};
 
-/// The listeners and how long a client may be silent, the UDP socket, and the names of the
-/// recordings.
+/// The listeners and how long a client may be silent, the UDP socket, the names of the recordings
+/// and how they are played, and the moment from which clocks count.
 #[derive(Drop)]
 pub(crate) struct Shared {
     listeners: Arc<Listeners>,
     timeout_s: u32,
     socket: Arc<SharedSocket>,
     files: Arc<Vec<Text>>,
+    pub(crate) settings: Settings,
+    start: ClockStart,
 }
 
 impl Shared {
-    ghost use Rattle.std.specs.Prelude.{◌≡◌, false, IfOk};
+    ghost use Rattle.std.specs.Prelude.{false};
+    ghost use Rattle.satip_world.specs.Dials.{fresh_dial};
     ghost use Rattle.satip_real.specs.StoreCounts.{fresh_counts};
     ghost use Rattle.satip_world.specs.Halls.{fresh_hall};
     ghost use Rattle.satip_world.specs.Outboxes.{fresh_outbox};
 
-    /// Binds the sockets of a configuration.
+    /// Reads the settings and binds the sockets of a configuration.
     pub(crate) fn open(
         host: &HostRuntime,
         alloc: Global,
         config: &Config,
     ) -> Result<Shared, KitsFault> {
+        let settings = Settings::read(host)?;
         let listeners = Listeners::bind(
             host,
             config.address,
@@ -45,6 +55,8 @@ impl Shared {
             timeout_s: config.timeout,
             socket: Arc::new(alloc, socket)?,
             files: Arc::new(alloc, copy_all(alloc, &config.files)?)?,
+            settings,
+            start: ClockStart::read(host),
         })
     }
 
@@ -63,11 +75,47 @@ impl Shared {
         Ok(RealOutlet::new(rt, Arc::try_clone(&self.socket)?))
     }
 
-    /// A store of the recordings.
-    pub(crate) fn store(&self, host: HostRuntime) -> Result<RealStore, KitsFault>
+    /// A clock that counts from the start.
+    pub(crate) fn clock(&self, host: HostRuntime) -> RealClock
+        ensures fresh { result ≡ fresh_dial false }
+    {
+        RealClock::new(host, self.start)
+    }
+
+    /// What the store and the pacer of a pump share, where recordings play at their own rate.
+    pub(crate) fn progress(&self, alloc: Global) -> Result<Option<Arc<Progress>>, KitsFault> {
+        if !self.settings.paces {
+            return Ok(None);
+        }
+        Ok(Some(Arc::new(alloc, Progress::new())?))
+    }
+
+    /// A store of the recordings, which tell their clocks where there is something to tell them to.
+    pub(crate) fn store(
+        &self,
+        host: HostRuntime,
+        progress: Option<Arc<Progress>>,
+    ) -> Result<RealStore, KitsFault>
         ensures fresh { IfOk result (λ store. store ≡ fresh_counts) }
     {
-        Ok(RealStore::new(host, Arc::try_clone(&self.files)?))
+        let playing = Playing {
+            repeats: self.settings.repeats,
+            progress,
+        };
+        Ok(RealStore::new(host, Arc::try_clone(&self.files)?, playing))
+    }
+}
+
+/// The pacer of a pump, which follows a recording's clock where that is told.
+pub(crate) fn pump_pacer(
+    host: HostRuntime,
+    progress: &Option<Arc<Progress>>,
+) -> Result<RealPacer, KitsFault>
+    ensures none { IfOk result (λ pacer. pacer ≡ 0) }
+{
+    match progress {
+        Some(progress) => Ok(RealPacer::following(host, Arc::try_clone(progress)?)),
+        None => Ok(RealPacer::new(host)),
     }
 }
 

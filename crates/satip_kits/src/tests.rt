@@ -1,5 +1,6 @@
 //! Kits over loopback.
 
+use crate::settings::Settings;
 use crate::*;
 use satip_base::Text;
 use satip_config::Config;
@@ -7,6 +8,7 @@ use satip_real::{RealDoors, RealOutlet, RealPacer};
 use satip_worker::WorkerKit;
 use satip_world::{Door, Doors};
 use std::alloc::Global;
+use std::env::{Env, FillError};
 use std::sync::Wait;
 use std::test::Fail;
 use std::thread;
@@ -40,8 +42,76 @@ fn a_missing_recording_is_named(rt: HostRuntime) -> Result<(), Fail> {
         return Err(Fail::from("kits"));
     };
     let text = format!(in alloc; "{fault}")?;
-    assert_eq!(rt; text.as_str(), "recording of mux.1 can't be opened");
+    assert!(rt;
+        text.as_str().starts_with("recording of mux.1, no/such/recording.ts, can't be played: ")
+    );
     Ok(())
+}
+
+#[test]
+fn a_directory_and_a_device_are_no_recordings(rt: HostRuntime) -> Result<(), Fail> {
+    let alloc = rt.alloc();
+    for name in ["/", "/dev/null"] {
+        let mut config = config(alloc);
+        config.files.push(Text::of(alloc, name)?)?;
+        let Some(fault) = fault(rt, rt, &config) else {
+            return Err(Fail::from("kits"));
+        };
+        let text = format!(in alloc; "{fault}")?;
+        let wanted = format!(in alloc;
+            "recording of mux.1, {name}, can't be played: it is not a regular file"
+        )?;
+        assert!(rt; text.as_str() == wanted.as_str(), "at {name}");
+    }
+    Ok(())
+}
+
+// An environment of one variable.
+#[derive(Drop)]
+struct OneVar<'a> {
+    name: &'a str,
+    value: &'a str,
+}
+
+impl Env for OneVar<'_> {
+    fn arg(&self, _i: usize, _buf: &mut [u8]) -> Result<usize, FillError> {
+        Err(FillError::NotPresent)
+    }
+
+    fn var(&self, name: &str, buf: &mut [u8]) -> Result<usize, FillError> {
+        if name != self.name {
+            return Err(FillError::NotPresent);
+        }
+        let value = self.value.as_bytes();
+        match buf.get_mut(..value.len()) {
+            Some(front) => {
+                front.copy_from_slice(value);
+                Ok(value.len())
+            }
+            None => Err(FillError::TooLong),
+        }
+    }
+
+    fn var_at(&self, _i: usize, _buf: &mut [u8]) -> Result<usize, FillError> {
+        Err(FillError::NotPresent)
+    }
+}
+
+fn settings(name: &str, value: &str) -> Option<(bool, bool)> {
+    let settings = Settings::read(&OneVar { name, value }).ok()?;
+    Some((settings.paces, settings.repeats))
+}
+
+#[test]
+fn settings_have_one_value_each(rt: HostRuntime) {
+    assert_eq!(rt; settings("SATIP_PACE", "recording"), Some((true, false)));
+    assert_eq!(rt; settings("SATIP_PACE", ""), Some((false, false)));
+    assert_eq!(rt; settings("SATIP_PACE", "Recording"), None);
+    assert_eq!(rt; settings("SATIP_PACE", "recording and more"), None);
+    assert_eq!(rt; settings("SATIP_REPEAT", "1"), Some((false, true)));
+    assert_eq!(rt; settings("SATIP_REPEAT", ""), Some((false, false)));
+    assert_eq!(rt; settings("SATIP_REPEAT", "0"), None);
+    assert_eq!(rt; settings("PATH", "1"), Some((false, false)));
 }
 
 #[test]

@@ -1,1 +1,2 @@
 pub mod StoreCounts
+pub mod References

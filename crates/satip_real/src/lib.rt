@@ -13,19 +13,32 @@ mod key;
 mod listeners;
 mod options;
 mod outlet;
+mod pacer;
+mod pieces;
+mod progress;
 mod readiness;
+mod recording;
+mod recording_clock;
+#[cfg(test)]
+mod recording_tests;
+mod references;
 mod report;
+mod shown;
 mod silence;
 mod stopwatch;
 mod store;
 #[cfg(test)]
 mod tests;
 
-pub use clock::{RealClock, RealPacer};
+pub use clock::{ClockStart, RealClock};
 pub use connection::RealConn;
 pub use doors::RealDoors;
 pub use key::read_key;
 pub use listeners::{BindFault, Listeners};
 pub use outlet::{RealOutlet, SharedSocket};
+pub use pacer::RealPacer;
+pub use progress::Progress;
+pub use recording::{Playing, RealRecording, RecordingFault};
 pub use report::{Throttle, report_line};
-pub use store::{RealRecording, RealStore};
+pub use shown::Shown;
+pub use store::RealStore;

@@ -1,67 +1,25 @@
-//! Recordings in files.
+//! The recordings of the multiplexes.
 
-ghost use Rattle.std.specs.Prelude.{◌≡◌, [], IfSome};
+ghost use Rattle.std.specs.Prelude.{◌≡◌, [], IfOk};
 ghost use Rattle.satip_base.specs.Streams.{fresh_feed};
 ghost use Rattle.satip_real.specs.StoreCounts.{fresh_counts};
 
-use satip_base::{Failed, ReadSource, Source, Taken, Text};
+use crate::recording::{Playing, RealRecording, RecordingFault, file_length};
+use crate::report::report_line;
+use crate::shown::Shown;
+use satip_base::{Failed, Text};
 use satip_world::MuxStore;
-use std::fs;
-use std::fs::File;
+use std::fmt;
 use std::marker::Model;
-use std::rt::Files;
 use std::sync::Arc;
 
-/// A recording that is read from its file.
-#[derive(Drop)]
-pub struct RealRecording {
-    source: ReadSource<File>,
-    faults: u64,
-}
-
-impl Model for RealRecording {
-    ghost use Rattle.std.specs.Prelude.{[]};
-    ghost use Rattle.satip_base.specs.Streams.{Feed};
-
-    ghost Value = { Feed };
-
-    ghost view = { λ r. record {
-      left = [];
-      ended = r.source.ended;
-      faults = r.faults;
-      taken = r.source.taken;
-    } };
-}
-
-impl Source for RealRecording {
-    ghost tells = { ⊥ };
-
-    ghost left = { λ r. r.left };
-
-    ghost ended = { λ r. r.ended };
-
-    ghost faults = { λ r. r.faults };
-
-    ghost taken = { λ r. r.taken };
-
-    fn take(&mut self, buf: &mut [u8]) -> Taken {
-        match self.source.take(buf) {
-            Taken::Got(count) => Taken::Got(count),
-            Taken::End => Taken::End,
-            Taken::Failed => {
-                self.faults = self.faults.saturating_add(1);
-                Taken::Failed
-            }
-        }
-    }
-}
-
-/// The recordings of the multiplexes, each in the file of its name. A multiplex without a name, or
-/// whose file can't be opened, has none.
+/// The recordings of the multiplexes, each in the regular file of its name. A multiplex without a
+/// name, or whose file can't be opened, has none.
 #[derive(Drop)]
 pub struct RealStore {
     rt: HostRuntime,
     files: Arc<Vec<Text>>,
+    playing: Playing,
     faults: u64,
     lent: u64,
     peak: u64,
@@ -76,13 +34,14 @@ impl Model for RealStore {
 }
 
 impl RealStore {
-    /// A store whose multiplex `n` has the name at place `n - 1`.
-    pub fn new(rt: HostRuntime, files: Arc<Vec<Text>>) -> RealStore
+    /// A store whose multiplex `n` has the name at place `n - 1`, and that plays in this way.
+    pub fn new(rt: HostRuntime, files: Arc<Vec<Text>>, playing: Playing) -> RealStore
         ensures fresh { result ≡ fresh_counts }
     {
         RealStore {
             rt,
             files,
+            playing,
             faults: 0,
             lent: 0,
             peak: 0,
@@ -103,30 +62,58 @@ impl RealStore {
         self.peak
     }
 
-    /// The first multiplex, by its number, whose recording can't be opened now; `None` where all
-    /// can.
-    pub fn first_missing(&self) -> Option<u16> {
-        for place in 0..self.files.len() {
-            let mux = u16::try_from(place.saturating_add(1)).ok()?;
-            if open(&self.rt, &self.files, mux).is_none() {
-                return Some(mux);
-            }
+    /// The length of the file of a multiplex in bytes, or why it can't be played.
+    pub fn length(&self, mux: u16) -> Result<u64, RecordingFault> {
+        match name_of(&self.files, mux) {
+            Some(name) => file_length(&self.rt, name),
+            None => Err(RecordingFault::Unnamed),
         }
-        None
     }
 }
 
-// Opens the recording of a multiplex; `None` where it has none.
-fn open(rt: &HostRuntime, files: &[Text], mux: u16) -> Option<RealRecording>
-    ensures fresh { IfSome result (λ recording. recording ≡ fresh_feed []) }
+// The name of the file of a multiplex.
+fn name_of(files: &[Text], mux: u16) -> Option<&Text> {
+    files.get((mux as usize).checked_sub(1)?)
+}
+
+// Begins the recording of a multiplex. A fault is told on standard error.
+fn begin(
+    rt: &HostRuntime,
+    files: &[Text],
+    playing: &Playing,
+    mux: u16,
+) -> Result<RealRecording, RecordingFault>
+    ensures fresh { IfOk result (λ recording. recording ≡ fresh_feed []) }
 {
-    let place = (mux as usize).checked_sub(1)?;
-    let name = str::from_utf8(files.get(place)?.bytes()).ok()?;
-    let file = fs::open(rt, name).ok()?;
-    Some(RealRecording {
-        source: ReadSource::new(file),
-        faults: 0,
-    })
+    let Some(name) = name_of(files, mux) else {
+        return Err(RecordingFault::Unnamed);
+    };
+    match RealRecording::open(rt, name, playing) {
+        Ok(recording) => Ok(recording),
+        Err(fault) => {
+            report_line(
+                rt,
+                StartFault {
+                    name,
+                    fault: &fault,
+                },
+            );
+            Err(fault)
+        }
+    }
+}
+
+#[derive(Drop)]
+struct StartFault<'a> {
+    name: &'a Text,
+    fault: &'a RecordingFault,
+}
+
+impl fmt::Display for StartFault<'_> {
+    fn fmt<W: fmt::Write>(&self, f: &mut fmt::Formatter<W>) -> fmt::Result {
+        let (name, fault) = (Shown(self.name), self.fault);
+        write!(f, "recording {name} can't be played: {fault}")
+    }
 }
 
 impl MuxStore for RealStore {
@@ -147,13 +134,13 @@ impl MuxStore for RealStore {
             self.faults = self.faults.saturating_add(1);
             return Err(Failed);
         }
-        match open(&self.rt, &self.files, mux) {
-            Some(from) => {
+        match begin(&self.rt, &self.files, &self.playing, mux) {
+            Ok(from) => {
                 self.lent += 1;
                 self.peak = self.peak.max(self.lent);
                 Ok(from)
             }
-            None => {
+            Err(_) => {
                 self.faults = self.faults.saturating_add(1);
                 Err(Failed)
             }
@@ -162,7 +149,7 @@ impl MuxStore for RealStore {
 
     fn back(&mut self, from: RealRecording) {
         self.lent = self.lent.saturating_sub(1);
-        if from.faults != 0 {
+        if from.has_failed() {
             self.faults = self.faults.saturating_add(1);
         }
     }

@@ -1,8 +1,8 @@
 //! The adapters over loopback.
 
 use crate::*;
-use satip_base::{Address, Failed, Peer, Put, Source, Taken, Text};
-use satip_world::{Clock, Conn, ConnEnd, Door, DoorKind, Doors, MuxStore, Outlet, Pacer, Received};
+use satip_base::{Address, Peer, Put};
+use satip_world::{Conn, ConnEnd, Door, DoorKind, Doors, Outlet, Received};
 use std::io::{Read, Write};
 use std::net::{Ipv4Addr, Shutdown, SocketAddr, TcpStream, UdpSocket};
 use std::sync::atomic::{AtomicU64, Ordering};
@@ -332,51 +332,6 @@ fn datagrams_of_three_threads_leave_in_order(rt: HostRuntime) -> Result<(), Fail
     for sender in senders {
         sender.join(&rt);
     }
-    Ok(())
-}
-
-#[test]
-fn a_recording_is_read_from_its_file(rt: HostRuntime) -> Result<(), Fail> {
-    let alloc = rt.alloc();
-    let mut files = Vec::new(alloc);
-    for name in ["/dev/zero", "/dev/null", "no/such/recording.ts"] {
-        files.push(Text::of(alloc, name)?)?;
-    }
-    let mut store = RealStore::new(rt, Arc::new(alloc, files)?);
-    assert_eq!(rt; store.first_missing(), Some(3));
-    let mut buf = [7; 16];
-    for (mux, taken) in [(1, Taken::Got(16)), (2, Taken::End)] {
-        let Ok(mut from) = start(&mut store, mux) else {
-            return Err(Fail::from("no recording"));
-        };
-        assert_eq!(rt; from.take(&mut buf), taken, "at {mux}");
-        assert_eq!(rt; buf, [0; 16]);
-        assert_eq!(rt; store.lent(), 1, "at {mux}");
-        store.back(from);
-        assert_eq!(rt; store.lent(), 0, "at {mux}");
-    }
-    for mux in [0, 3, 4] {
-        assert!(rt; start(&mut store, mux).is_err(), "at {mux}");
-        assert_eq!(rt; store.lent(), 0, "at {mux}");
-    }
-    assert_eq!(rt; store.peak(), 1);
-    Ok(())
-}
-
-fn start<M: MuxStore>(store: &mut M, mux: u16) -> Result<M::From, Failed> {
-    store.start(mux)
-}
-
-fn time_a_pause<C: Clock, P: Pacer>(clock: &mut C, pacer: &mut P) -> (u64, u64) {
-    let before = clock.now();
-    pacer.pause();
-    (before, clock.now())
-}
-
-#[test]
-fn a_pause_takes_20_milliseconds(rt: HostRuntime) -> Result<(), Fail> {
-    let (before, after) = time_a_pause(&mut RealClock::new(rt), &mut RealPacer::new(rt));
-    assert!(rt; before > 1_700_000_000_000 && before.saturating_add(19) <= after);
     Ok(())
 }
 

@@ -1,0 +1,60 @@
+//! Settings from the environment.
+
+ghost use Rattle.std.specs.Prelude.{◌≡◌, ◌≢◌, [], true, false, Some, None};
+
+use crate::fault::KitsFault;
+use std::env::{Env, FillError};
+
+const PACE: &str = "SATIP_PACE";
+
+const REPEAT: &str = "SATIP_REPEAT";
+
+// Longer than every value that a setting has.
+const ROOM: usize = 16;
+
+/// How recordings are played.
+#[derive(Clone, Copy, PartialEq, Eq)]
+pub(crate) struct Settings {
+    /// At their own rate: `SATIP_PACE=recording`.
+    pub(crate) paces: bool,
+    /// Anew at their end: `SATIP_REPEAT=1`.
+    pub(crate) repeats: bool,
+}
+
+impl Settings {
+    /// Reads both. One that is empty counts as one that isn't set.
+    pub(crate) fn read(env: &impl Env) -> Result<Settings, KitsFault> {
+        let Some(paces) = read_switch(env, PACE, "recording") else {
+            return Err(KitsFault::Pace);
+        };
+        let Some(repeats) = read_switch(env, REPEAT, "1") else {
+            return Err(KitsFault::Repeat);
+        };
+        Ok(Settings { paces, repeats })
+    }
+}
+
+// Whether a variable has its one value; `None` where it has another.
+fn read_switch(env: &impl Env, name: &str, value: &str) -> Option<bool> {
+    let mut buf = [0; ROOM];
+    match env.var(name, &mut buf) {
+        Ok(count) => switch_of(&buf[..count], value),
+        Err(FillError::NotPresent) => Some(false),
+        Err(FillError::TooLong) => None,
+    }
+}
+
+// Whether a text is the one value of a switch, or empty; `None` where it is another.
+fn switch_of(text: &[u8], value: &str) -> Option<bool>
+    ensures off { text.now ≡ [] → result ≡ Some false }
+    ensures on { text.now ≡ value.now → text.now ≢ [] → result ≡ Some true }
+    ensures other { text.now ≢ value.now → text.now ≢ [] → result ≡ None }
+{
+    if text.is_empty() {
+        return Some(false);
+    }
+    if text == value.as_bytes() {
+        return Some(true);
+    }
+    None
+}
