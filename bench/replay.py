@@ -1,10 +1,11 @@
 #!/usr/bin/env python3
-"""Measures `satip replay` and `satip talk` on generated input.
+"""Measures `satip replay` and `satip talk` on generated input, and prints a table.
 
-    python3 bench/replay.py [PROGRAM]
+    python3 bench/replay.py [PROGRAM [WORD..]]
 
 PROGRAM is crates/satip/out/satip without this word; `cd crates/satip && rt run -- --version` builds it.
-Needs python3, and valgrind for the counts of instructions. Writes nothing into the repository."""
+With words, only the rows with one of them in their names are measured. Needs python3, and valgrind for the
+counts of instructions. Writes nothing into the repository."""
 
 import os
 import re
@@ -28,21 +29,35 @@ def configuration():
         return file.read().replace("timeout = 60", "timeout = 3600")
 
 
-def rtsp(number, text):
-    """The script line of an RTSP request, with this draw."""
+def call(kind, number, text):
+    """The script line of a text of this kind, from this client and with this draw."""
     draw = f"{number:08x}{number:08x}{number:04x}"
-    return f"rtsp 10.0.0.{number} {draw} {text.encode().hex()}\n"
+    return f"{kind} 10.0.0.{number} {draw} {text.encode().hex()}\n"
 
 
-def setup(number, target):
-    return rtsp(number, f"SETUP rtsp://192.168.1.10/{target} RTSP/1.0\r\nCSeq: {number}\r\n"
-                        f"Transport: RTP/AVP;unicast;client_port={5000 + 2 * number}-{5001 + 2 * number}\r\n\r\n")
+def rtsp(number, method, target, headers=""):
+    return call("rtsp", number, f"{method} rtsp://192.168.1.10/{target} RTSP/1.0\r\nCSeq: 9\r\n{headers}\r\n")
+
+
+def session(count, number):
+    """An id: how many sessions had been made with it, and its drawn word."""
+    return f"{count:08x}{number:08x}"
+
+
+def named(number, count=None):
+    return f"Session: {session(count or number, number)}\r\n"
+
+
+def transport(number):
+    return f"Transport: RTP/AVP;unicast;client_port={5000 + 2 * number}-{5001 + 2 * number}\r\n"
+
+
+def setup(number, target, headers=""):
+    return rtsp(number, "SETUP", target, transport(number) + headers)
 
 
 def play(number, stream, pids=""):
-    """The session's id is its place among those made, and its drawn word."""
-    return rtsp(number, f"PLAY rtsp://192.168.1.10/stream={stream}{pids} RTSP/1.0\r\nCSeq: 9\r\n"
-                        f"Session: {number:08x}{number:08x}\r\n\r\n")
+    return rtsp(number, "PLAY", f"stream={stream}{pids}", named(number))
 
 
 def opening():
@@ -60,24 +75,121 @@ def packet(front, place):
     return f"packet {front} 1 {(head + place.to_bytes(4, 'big') * 46).hex()}\n"
 
 
-def script(lines, packets):
-    """So many lines, of which so many are packets; the others are ticks, and a PLAY after each thousand."""
-    parts, made, clock = [opening()], 14, 0
-    every = max(1, (lines - made) // max(1, packets))
-    given = 0
-    while made < lines:
-        if made % every == 0 and given < packets:
-            parts.append(packet(1 + given % 2, given))
-            given += 1
-        elif made % 1000 == 999:
-            parts.append(play(1, 1, f"?pids={100 + made // 1000 % 7}"))
-        else:
-            clock += 1
-            parts.append(f"tick {clock}\n")
-        made += 1
+SESSIONS = 7
+GUEST = 100
+
+
+class Lines:
+    """Lines of each kind, behind the opening. The guest is one session more, founded and ended again."""
+
+    def __init__(self):
+        self.made = SESSIONS
+        self.counts = {}
+
+    def next(self, kind):
+        place = self.counts.get(kind, 0)
+        self.counts[kind] = place + 1
+        return getattr(self, kind)(place)
+
+    def tick(self, place):
+        return f"tick {place + 1}\n"
+
+    def packet(self, place):
+        return packet(1 + place % 2, place)
+
+    def ask(self, place):
+        return f"ask {1 + place % 2}\n"
+
+    def ended(self, place):
+        return f"ended {1 + place % 2} 9\n"
+
+    def options(self, place):
+        return rtsp(1, "OPTIONS", "", named(1))
+
+    def describe(self, place):
+        return rtsp(1, "DESCRIBE", "", named(1))
+
+    def setup(self, place):
+        return setup(1, "stream=1", named(1))
+
+    def play(self, place):
+        return play(1, 1, f"?pids={100 + place % 7},{200 + place % 5}")
+
+    def join(self, place):
+        self.made += 1
+        return setup(GUEST, "stream=1")
+
+    def teardown(self, place):
+        return rtsp(GUEST, "TEARDOWN", "", named(GUEST, self.made))
+
+    def get(self, place):
+        self.made += 1
+        return call("http", GUEST, f"GET /?{SECOND_MUX}&pids=100 HTTP/1.1\r\n\r\n")
+
+    def pull(self, place):
+        return f"pull {session(self.made, GUEST)}\n"
+
+    def close(self, place):
+        return f"close {session(self.made, GUEST)}\n"
+
+
+REQUESTS = ["options", "describe", "join", "play", "teardown", "get", "pull", "setup", "pull", "close"]
+
+
+def mixed(place):
+    """Of a hundred lines 50 packets, 45 asks, 2 ticks and 3 of the others."""
+    if place % 2 == 0:
+        return "packet"
+    if place % 50 == 1:
+        return "tick"
+    if place % 100 in (11, 45, 79):
+        return REQUESTS[(place // 100 * 3 + (place % 100) // 34) % len(REQUESTS)]
+    return "ask"
+
+
+def halves(place):
+    """Half packets, half ticks, and a PLAY after each thousand."""
+    return "packet" if place % 2 == 0 else "play" if place % 1000 == 999 else "tick"
+
+
+def eighth(place):
+    """One in eight a packet, and a PLAY after each thousand."""
+    return "packet" if place % 8 == 0 else "play" if place % 1000 == 999 else "tick"
+
+
+def in_turn(*kinds):
+    return lambda place: kinds[place % len(kinds)]
+
+
+def script(lines, kind_at, opened=()):
+    """So many lines behind the opening and these, each of the kind that its place has."""
+    made = Lines()
+    parts = [opening()] + [made.next(kind) for kind in opened]
+    parts += [made.next(kind_at(place)) for place in range(lines)]
     text = "".join(parts).encode()
     assert len(text) <= INPUT_LIMIT, len(text)
     return text
+
+
+# name, how many lines, and what they are
+ROWS = [
+    ("replay, half of the lines packets, half ticks", 300_000, halves, ()),
+    ("replay, one line in eight a packet, the others ticks", 900_000, eighth, ()),
+    ("replay, half of the lines packets, half asks", 300_000, in_turn("packet", "ask"), ()),
+    ("replay, mixed: 50 % packets, 45 % asks, 2 % ticks, 3 % others", 300_000, mixed, ()),
+    ("replay, tick", 300_000, in_turn("tick"), ()),
+    ("replay, packet", 150_000, in_turn("packet"), ()),
+    ("replay, ask", 300_000, in_turn("ask"), ()),
+    ("replay, ended", 300_000, in_turn("ended"), ()),
+    ("replay, OPTIONS", 50_000, in_turn("options"), ()),
+    ("replay, DESCRIBE", 50_000, in_turn("describe"), ()),
+    ("replay, SETUP of a session that lives", 50_000, in_turn("setup"), ()),
+    ("replay, PLAY with two PIDs", 50_000, in_turn("play"), ()),
+    ("replay, SETUP that joins and its TEARDOWN, in turn", 50_000, in_turn("join", "teardown"), ()),
+    ("replay, http and close, in turn", 50_000, in_turn("get", "close"), ()),
+    ("replay, pull of an empty queue", 300_000, in_turn("pull"), ("get",)),
+    ("replay, close of a session that is gone", 300_000, in_turn("close"), ()),
+]
 
 
 def run(words, folder, output):
@@ -113,21 +225,22 @@ def instructions(words, text, folder):
     return int(counted[0].split(":")[1])
 
 
-def measure(name, words, text, short, folder, unit=b"\n"):
-    """The least time for a text, the output dropped or in a file, and the instructions a line (or another
-    unit of it) between two short ones."""
+def measure(name, words, text, short, folder, unit):
+    """A row of the table: the least time for a text, the output dropped or in a file, and the instructions
+    a line (or another unit) between two short ones."""
     units = text.count(unit)
     with open(os.path.join(folder, "in"), "wb") as given:
         given.write(text)
     used, peak = min(run(words, folder, os.devnull) for _ in range(RUNS))
     out = os.path.join(folder, "out")
     stored, _ = min(run(words, folder, out) for _ in range(RUNS))
-    print(f"{name}: {units} of them, {len(text)} bytes in, {os.path.getsize(out)} bytes out: {used:.2f} s of CPU, "
-          f"{stored:.2f} s into a file, {units / used:,.0f} a second, peak {peak / 1024:.1f} MB")
+    each = "-"
     if shutil.which("valgrind"):
         few, many = short
-        each = (instructions(words, many, folder) - instructions(words, few, folder)) / (many.count(unit) - few.count(unit))
-        print(f"{name}: {each:,.0f} instructions each")
+        counted = instructions(words, many, folder) - instructions(words, few, folder)
+        each = f"{counted / (many.count(unit) - few.count(unit)):,.0f}"
+    print(f"| {name}: {units:,}, {len(text) / 1e6:.1f} MB in, {os.path.getsize(out) / 1e6:.1f} MB out | {used:.2f} s | "
+          f"{stored:.2f} s | {each} | {peak / 1024:.1f} MB |", flush=True)
 
 
 def options(count):
@@ -136,17 +249,18 @@ def options(count):
 
 def main():
     program = os.path.abspath(sys.argv[1] if len(sys.argv) > 1 else os.path.join(HERE, "..", "crates", "satip", "out", "satip"))
+    wanted = sys.argv[2:]
+    print("| run | CPU | into a file | instructions each | memory at most |\n|---|---|---|---|---|", flush=True)
     with tempfile.TemporaryDirectory() as folder:
         with open(os.path.join(folder, "bench.toml"), "w") as file:
             file.write(configuration())
-        words = [program, "replay", "bench.toml"]
-        few, many = script(3_000, 1_500), script(9_000, 4_500)
-        measure("replay, lines, half of them packets", words, script(300_000, 150_000), (few, many), folder)
-        few, many = script(10_000, 1_200), script(30_000, 3_600)
-        measure("replay, lines, most of them ticks", words, script(1_000_000, 120_000), (few, many), folder)
-        talk = [program, "talk"]
-        few, many = options(1_000), options(3_000)
-        measure("talk, requests", talk, options(200_000), (few, many), folder, b"OPTIONS")
+        for name, lines, kind_at, opened in ROWS:
+            if not wanted or any(word in name for word in wanted):
+                short = tuple(script(count, kind_at, opened) for count in (1_000, 5_000))
+                measure(name, [program, "replay", "bench.toml"], script(lines, kind_at, opened), short, folder, b"\n")
+        name = "talk, OPTIONS"
+        if not wanted or any(word in name for word in wanted):
+            measure(name, [program, "talk"], options(200_000), (options(1_000), options(3_000)), folder, b"OPTIONS")
 
 
 if __name__ == "__main__":

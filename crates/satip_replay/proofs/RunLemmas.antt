@@ -1,6 +1,6 @@
 -- A run that goes on event by event.
 use Rattle.std.proofs.Common.{◌≡◌, ℕ, List, [], ◌∷◌, ◌++◌, map, append_assoc, append-nil, refl, sym, ◌∙◌, ap, subst, Option, Some, None, Ok}
-use Rattle.std.specs.Prelude.{flat_map, IsSomeAnd}
+use Rattle.std.specs.Prelude.{flat_map}
 use Rattle.std.proofs.lemmas.List.Concat.{flat_map-append}
 use Rattle.satip_base.specs.Output.{Output}
 use Rattle.satip_base.specs.Streams.{Drain, Began, PutAll, FailedToPut}
@@ -11,20 +11,21 @@ use Rattle.satip_plain.specs.Types.{Config}
 use Rattle.satip_plain.specs.State.{State}
 use Rattle.satip_plain.specs.Steps.{Outcome, step}
 use Rattle.satip_plain.specs.Histories.{Item, after, after_from, datagram, opening}
-use Rattle.satip_script.specs.declared.lines.Line.TheVariants.{Event as EventLine}
-use Rattle.satip_script.specs.declared.lines.EventParts.{EventParts}
+use Rattle.satip_script.specs.declared.lines.Line.TheVariants.{Event as EventLine, Wrong}
+use Rattle.satip_script.specs.declared.parts.EventParts.{EventParts}
 use Rattle.satip_script.specs.Lines.{lines_of}
-use Rattle.satip_script.specs.Often.{AreParts, PartsGivenAfter}
-use Rattle.satip_script.specs.Reading.{IsLine}
+use Rattle.satip_script.specs.Forms.{Form}
+use Rattle.satip_script.specs.InParts.{PartsGivenAfter, form_in}
+use Rattle.satip_script.specs.Reading.{IsFormed}
 use Rattle.satip_script.specs.Scripts.{Gives, GivenAfter, IsScript}
 use Rattle.satip_script.specs.Runs.{output_with, item_of, run, run_from}
 use Rattle.satip_script.specs.Printed.{answer_line, datagram_line, entry_text, printed}
-use Rattle.satip_script.proofs.LawProofs.{line_is_one, run_grows, printed_grows}
+use Rattle.satip_script.proofs.LawProofs.{one_formed, run_grows, printed_grows}
 use Rattle.satip_core.specs.Held.{Held}
 use Rattle.satip_core.specs.Doing.{Did}
 use Rattle.satip_core.specs.Serving.{Stands, Steps}
 use Rattle.satip_replay.specs.Ends.{StopsWanting}
-use Rattle.satip_replay.specs.Runs.{Answered, AnswersNext, Moved, Passed, Midway}
+use Rattle.satip_replay.specs.Runs.{Answered, AnswersForm, AnswersNext, Moved, Passed, Midway}
 
 -- ---- the plain server
 
@@ -111,23 +112,25 @@ moved_entry before now text left entry a = record {
 
 -- the next event is answered by its parts
 pub parts_answered : (events : List Event) (left : List (List ℕ)) (old new : Held) (parts : EventParts) (said : Option Answer) (out : Output)
-    → ((e : Event) → AreParts parts e → IsSomeAnd said (λ answer. Steps old e new answer out))
+    → AnswersForm (form_in parts) old new out said
     → PartsGivenAfter events left (Some parts) → AnswersNext events left old new out said
 parts_answered events left old new parts None out steps given = absurd (steps given.0 given.1)
 parts_answered events left old new parts (Some answer) out steps given =
     record { event = given.0; given = given.2; steps = steps given.0 given.1 }
 
--- the event of the parts of one is answered
-pub steps_of : (old new : Held) (e f : Event) (said : Answer) (out : Output) → Steps old e new said out → f ≡ e → Steps old f new said out
-steps_of old new e f said out steps is = subst (λ g. Steps old g new said out) (sym is) steps
-
--- a line has one event
-pub same_steps : (line : List ℕ) (old new : Held) (e f : Event) (said : Answer) (out : Output) → IsLine line (EventLine e) → Steps old e new said out
-    → IsLine line (EventLine f) → Steps old f new said out
-same_steps line old new e f said out is steps has =
-    let lines : EventLine e ≡ EventLine f = line_is_one line (EventLine e) (EventLine f) is has in
+-- one event is asked for, and it is answered
+pub form_answered : (form : Option Form) (e : Event) (old new : Held) (said : Answer) (out : Output) → IsFormed form (EventLine e) → Steps old e new said out
+    → AnswersForm form old new out (Some said)
+form_answered form e old new said out is steps f has =
+    let lines : EventLine f ≡ EventLine e = one_formed form (EventLine f) (EventLine e) has is in
     let same : f ≡ e = cc in
-    steps_of old new e f said out steps same
+    subst (λ g. Steps old g new said out) (sym same) steps
+
+-- none is asked for
+pub form_wrong : (form : Option Form) (old new : Held) (said : Option Answer) (out : Output) → IsFormed form Wrong → AnswersForm form old new out said
+form_wrong form old new said out is f has =
+    let lines : EventLine f ≡ Wrong = one_formed form (EventLine f) Wrong has is in
+    cc lines
 
 -- ---- the loop
 

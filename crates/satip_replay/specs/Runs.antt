@@ -1,5 +1,5 @@
 -- A run in the middle of its script.
-use Rattle.std.specs.Prelude.{◌≡◌, ℕ, List, [], ◌++◌, Option, None, Some}
+use Rattle.std.specs.Prelude.{◌≡◌, ℕ, List, [], ◌++◌, Option, None, Some, IsSomeAnd}
 use Rattle.satip_base.specs.Output.{Output}
 use Rattle.satip_base.specs.Streams.{Drain, FailedToPut}
 use Rattle.satip_base.specs.declared.streams.Put.{Put}
@@ -8,6 +8,9 @@ use Rattle.satip_plain.specs.declared.answers.Answer.{Answer}
 use Rattle.satip_plain.specs.declared.events.Event.{Event}
 use Rattle.satip_plain.specs.declared.setting.Setting.{Setting}
 use Rattle.satip_plain.specs.Histories.{after}
+use Rattle.satip_script.specs.declared.lines.Line.TheVariants.{Event as EventLine}
+use Rattle.satip_script.specs.Forms.{Form}
+use Rattle.satip_script.specs.Reading.{IsFormed}
 use Rattle.satip_script.specs.Scripts.{Gives, GivenAfter}
 use Rattle.satip_script.specs.Runs.{run}
 use Rattle.satip_script.specs.Printed.{printed}
@@ -29,6 +32,10 @@ pub record Passed (tells : Type 0) (o n : Drain) (text left : List ℕ) : Type 0
 abbrev pub Passes : (tells : Type 0) (o n : Drain) (text left : List ℕ) → Put → Type 0
 Passes tells o n text left Whole = Passed tells o n text left
 Passes tells o n text left Failed = FailedToPut tells o n text
+
+-- what is asked for is answered by a step of the server, where it is an event
+abbrev pub AnswersForm : Option Form → Held → Held → Output → Option Answer → Type 0
+AnswersForm form old new out said = (e : Event) → IsFormed form (EventLine e) → IsSomeAnd said (λ answer. Steps old e new answer out)
 
 -- the first of these events was answered by a step of the server, and the others are left
 pub record Answered (events : List Event) (left : List (List ℕ)) (old new : Held) (answer : Answer) (out : Output) : Type 0 where

@@ -1,29 +1,38 @@
 //! The run of a script: each event is answered, and its entry is printed.
 
-ghost use Rattle.std.specs.Prelude.{◌≡◌, ◌<◌, ◌≤◌, [], List, Ok, length, IsSome, IsSomeAnd};
+ghost use Rattle.std.specs.Prelude.{◌≡◌, ◌<◌, ◌≤◌, [], List, Ok, length, option_map, IsSome};
 ghost use Rattle.satip_fronts.specs.FrontEnds.{IsNumbered};
 ghost use Rattle.satip_plain.specs.declared.events.Event.{Event as EventValue};
 ghost use Rattle.satip_plain.specs.Histories.{opening};
 ghost use Rattle.satip_script.specs.Scripts.{IsScript, Gives};
 ghost use Rattle.satip_script.specs.Runs.{run};
-ghost use Rattle.satip_script.specs.declared.lines.Line.TheVariants.{Event as EventLine};
-ghost use Rattle.satip_script.specs.Often.{AreParts};
-ghost use Rattle.satip_script.specs.Reading.{IsLine};
+ghost use Rattle.satip_script.specs.Forms.{Rtsp, Http, Other};
+ghost use Rattle.satip_script.specs.InParts.{call_in, form_in, packet_in};
 ghost use Rattle.satip_script.specs.Printed.{printed};
-ghost use Rattle.satip_core.specs.Serving.{Stands, Steps};
+ghost use Rattle.satip_core.specs.Serving.{Stands};
 ghost use Rattle.satip_replay.specs.Seen.{drain};
 ghost use Rattle.satip_replay.specs.Replays.{replayed};
 ghost use Rattle.satip_replay.specs.Ends.{RunEnds};
-ghost use Rattle.satip_replay.specs.Runs.{AnswersNext, Passes};
+ghost use Rattle.satip_replay.specs.Runs.{AnswersForm, AnswersNext, Passes};
 
 use crate::ends::ReplayEnd;
-use satip_base::{Out, Put, Sink};
+use satip_base::{Draw, Out, Peer, Put, Sink};
 use satip_config::Config;
 use satip_core::Server;
-use satip_frame::Framer;
+use satip_digits::read_packet;
+use satip_frame::{Break, Framer};
+use satip_http::HttpRequest;
 use satip_plain::Answer;
-use satip_script::{EventParts, Line, Script, print_entry, read_line};
+use satip_rtsp::Request;
+use satip_script::{EventParts, Script, print_entry, read_get, read_request};
 use std::alloc::Global;
+
+// What requests are read into, one after another, since they are large.
+#[derive(Drop)]
+struct Kept {
+    request: Request,
+    get: HttpRequest,
+}
 
 // So many bytes of printed text are gathered before they are written.
 const GATHERED: usize = 65536;
@@ -69,7 +78,11 @@ fn run_events<O: Sink>(
         (printed (run server.old.setting events)) result }
 {
     let mut lines = Script::of(script);
-    'events: while let Some(answer) = answer_next(server, &mut lines, framer, out) {
+    let mut kept = Kept {
+        request: Request::broken(Break::Bad),
+        get: HttpRequest::broken(Break::Bad),
+    };
+    'events: while let Some(answer) = answer_next(server, &mut lines, framer, &mut kept, out) {
         match print_entry(&answer, out, text) {
             Ok(()) => {}
             Err(_) => return ReplayEnd::OutOfMemory,
@@ -90,6 +103,7 @@ fn answer_next(
     server: &mut Server,
     lines: &mut Script,
     framer: &mut Framer,
+    kept: &mut Kept,
     out: &mut Out,
 ) -> Option<Answer>
     ensures setting { server.new.setting ≡ server.old.setting }
@@ -97,7 +111,7 @@ fn answer_next(
     ensures shorter { IsSome result → length lines.new < length lines.old }
 {
     match lines.next_parts() {
-        Some(parts) => answer_parts(server, &parts, framer, out),
+        Some(parts) => answer_parts(server, &parts, framer, kept, out),
         None => None,
     }
 }
@@ -107,39 +121,86 @@ fn answer_parts(
     server: &mut Server,
     parts: &EventParts,
     framer: &mut Framer,
+    kept: &mut Kept,
     out: &mut Out,
 ) -> Option<Answer>
     ensures setting { server.new.setting ≡ server.old.setting }
-    ensures steps { (event : EventValue) → AreParts parts.now event
-        → IsSomeAnd result (λ answer. Steps server.old event server.new answer out.new) }
+    ensures steps { AnswersForm (form_in parts.now) server.old server.new out.new result }
 {
     match parts {
+        EventParts::Rtsp { peer, draw, digits } => {
+            answer_rtsp(server, *peer, *draw, digits, framer, &mut kept.request, out)
+        }
+        EventParts::Http { peer, draw, digits } => {
+            answer_http(server, *peer, *draw, digits, framer, &mut kept.get, out)
+        }
         EventParts::Tick { now } => Some(Answer::Beat(server.tick(*now, out))),
         EventParts::Packet {
             front,
             tune,
-            packet,
-        } => Some(Answer::Work(server.packet(*front, *tune, packet, out))),
-        EventParts::Line(line) => answer_line(server, line, framer, out),
+            digits,
+        } => answer_packet(server, *front, *tune, digits, out),
+        EventParts::Ended { front, tune } => Some(Answer::Work(server.ended(*front, *tune, out))),
+        EventParts::Ask { front } => Some(Answer::Work(server.ask(*front, out))),
+        EventParts::Pull { session } => Some(Answer::Pulled(server.pull(*session, out))),
+        EventParts::Close { session } => Some(Answer::Closed(server.close(*session, out))),
+        EventParts::Stop => Some(Answer::Beat(server.stop(out))),
+        EventParts::Wrong => None,
     }
 }
 
-// The answer to the event of a line. Not inlined, so that ticks and packets need no room for an `Event`.
-#[inline(never)]
-fn answer_line(
+// The answer to the RTSP request of these digits; None where they say nothing.
+fn answer_rtsp(
     server: &mut Server,
-    line: &[u8],
+    peer: Peer,
+    draw: Draw,
+    digits: &[u8],
     framer: &mut Framer,
+    request: &mut Request,
     out: &mut Out,
 ) -> Option<Answer>
     ensures setting { server.new.setting ≡ server.old.setting }
-    ensures steps { (event : EventValue) → IsLine line.now (EventLine event)
-        → IsSomeAnd result (λ answer. Steps server.old event server.new answer out.new) }
+    ensures steps { AnswersForm (option_map Rtsp (call_in peer draw digits.now)) server.old server.new out.new result }
 {
-    match read_line(line, framer) {
-        Line::Event(event) => Some(server.event(&event, out)),
-        Line::Skip => None,
-        Line::Wrong => None,
+    if !read_request(digits, framer, request) {
+        return None;
+    }
+    Some(Answer::Replied(server.request(peer, draw, request, out)))
+}
+
+// The answer to the HTTP request of these digits; None where they say nothing.
+fn answer_http(
+    server: &mut Server,
+    peer: Peer,
+    draw: Draw,
+    digits: &[u8],
+    framer: &mut Framer,
+    request: &mut HttpRequest,
+    out: &mut Out,
+) -> Option<Answer>
+    ensures setting { server.new.setting ≡ server.old.setting }
+    ensures steps { AnswersForm (option_map Http (call_in peer draw digits.now)) server.old server.new out.new result }
+{
+    if !read_get(digits, framer, request) {
+        return None;
+    }
+    Some(Answer::Get(server.get(peer, draw, request, out)))
+}
+
+// The answer to the packet of these digits; None where they are none of a packet.
+fn answer_packet(
+    server: &mut Server,
+    front: u16,
+    tune: u64,
+    digits: &[u8],
+    out: &mut Out,
+) -> Option<Answer>
+    ensures setting { server.new.setting ≡ server.old.setting }
+    ensures steps { AnswersForm (option_map Other (packet_in front tune digits.now)) server.old server.new out.new result }
+{
+    match read_packet(digits) {
+        Some(packet) => Some(Answer::Work(server.packet(front, tune, &packet, out))),
+        None => None,
     }
 }
 

@@ -35,7 +35,7 @@ one_telling text event Wrong Skip x y = absurd y
 one_telling text event Wrong (EventLine f) x y = absurd (x y.0 y.1)
 one_telling text event Wrong Wrong x y = refl
 
-one_formed : (form : Option Form) (a b : Line) → IsFormed form a → IsFormed form b → a ≡ b
+pub one_formed : (form : Option Form) (a b : Line) → IsFormed form a → IsFormed form b → a ≡ b
 one_formed None a b x y = x ∙ sym y
 one_formed (Some (Rtsp call)) a b x y = one_telling call.text (rtsp_event call) a b x y
 one_formed (Some (Http call)) a b x y = one_telling call.text (http_event call) a b x y

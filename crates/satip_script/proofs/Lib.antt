@@ -1,5 +1,5 @@
 pub mod WordLemmas
-pub mod PacketLines
+pub mod PartLemmas
 pub mod TextLemmas
 pub mod LawProofs
 pub mod AppendLemmas

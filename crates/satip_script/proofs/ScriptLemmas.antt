@@ -4,15 +4,14 @@ use Rattle.std.proofs.lemmas.List.Splits.{length-slice_split}
 use Rattle.std.proofs.lemmas.List.Sums.{count_by-le-length}
 use Rattle.satip_tune.specs.Pieces.{is_byte}
 use Rattle.satip_plain.specs.declared.events.Event.{Event}
-use Rattle.satip_plain.specs.declared.events.Event.TheVariants.{Tick, Packet}
 use Rattle.satip_script.specs.declared.lines.Line.TheVariants.{Skip, Event as EventLine, Wrong}
-use Rattle.satip_script.specs.declared.lines.EventParts.{EventParts}
-use Rattle.satip_script.specs.declared.lines.EventParts.TheVariants.{Tick as TickParts, Packet as PacketParts, Line as OfLine}
+use Rattle.satip_script.specs.declared.parts.EventParts.{EventParts}
 use Rattle.satip_script.specs.Lines.{lines_of, is_skipped}
-use Rattle.satip_script.specs.Often.{HasParts, PartsGivenAfter}
+use Rattle.satip_script.specs.InParts.{AreParts, AreWrong, HasParts, PartsGivenAfter}
 use Rattle.satip_script.specs.Reading.{IsLine}
 use Rattle.satip_script.specs.Scripts.{with_event, ComesTo, IsScript, Gives, IsOver, HasNext, GivenAfter}
 use Rattle.satip_script.proofs.LawProofs.{line_is_one, line_is_kept}
+use Rattle.satip_script.proofs.PartLemmas.{line_of_parts, parts_of_line}
 
 -- ---- the whole text
 
@@ -127,18 +126,21 @@ module _ (first now left : List (List ℕ)) (line : List ℕ) (is : now ≡ line
   event_given e event events x = gives_event line left events e event (subst (λ ls. Gives ls events) is (passed.given events x))
 
   pub parts_given : (parts : EventParts) → HasParts line (Some parts) → (events : List Event) → Gives first events → PartsGivenAfter events left (Some parts)
-  parts_given (TickParts now) has events x = (Tick now, refl, event_given (Tick now) has events x)
-  parts_given (PacketParts front tune packet) has events x =
-      (Packet front tune packet, refl, event_given (Packet front tune packet) has events x)
-  parts_given (OfLine same) has events x =
+  parts_given parts has events x =
       let e = gives_kept line left events has.kept (subst (λ ls. Gives ls events) is (passed.given events x)) in
-      (e.0, subst (λ l. IsLine l (EventLine e.0)) (sym has.is) e.1, event_given e.0 e.1 events x)
+      (e.0, parts_of_line line parts (EventLine e.0) has e.1, event_given e.0 e.1 events x)
+
+  pub next_parts : (parts : EventParts) → HasParts line (Some parts) → (e : Event) → AreParts parts e → HasNext first e left
+  next_parts parts has e are = next_event e (line_of_parts line parts (EventLine e) has are)
 
   pub event_shorter : length left < length first
   event_shorter = omega (arith, passed.shorter, ap length is)
 
   pub over_wrong : IsLine line Wrong → IsOver first
   over_wrong wrong = passed.over (subst IsOver (sym is) (inl wrong))
+
+  pub parts_wrong : (parts : EventParts) → HasParts line (Some parts) → AreWrong parts → IsOver first
+  parts_wrong parts has wrong = over_wrong (line_of_parts line parts Wrong has wrong)
 
   pub wrong_given : IsLine line Wrong → (events : List Event) → Gives first events → events ≡ []
   wrong_given wrong events x = absurd (gives_wrong line left events wrong (subst (λ ls. Gives ls events) is (passed.given events x)))

@@ -1,7 +1,6 @@
 -- What private functions say of their parts.
 use Rattle.std.specs.Prelude.{◌≡◌, ℕ, Bool, false, List, [], ◌∷◌, ◌++◌, Option, None, Some, Result, Ok, Err, IsSomeAnd}
 use Rattle.std.specs.Borrow.{Bor}
-use Rattle.hex.specs.Hex.{decode_of}
 use Rattle.httparse.specs.Pieces.{is_newline}
 use Rattle.satip_base.specs.declared.outcomes.Want.{Want}
 use Rattle.satip_frame.specs.Held.{Held}
@@ -9,27 +8,27 @@ use Rattle.satip_frame.specs.Stream.{Broken, Begins, Messages}
 use Rattle.satip_plain.specs.Types.{Draw, Peer}
 use Rattle.satip_script.specs.declared.messages.Look.{Look}
 use Rattle.satip_script.specs.declared.messages.Look.TheVariants.{Whole as LookWhole, NotWhole as LookNotWhole, Nothing}
+use Rattle.satip_script.specs.Lines.{three_words}
 use Rattle.satip_script.specs.Forms.{Call}
-use Rattle.satip_script.specs.Texts.{TellsNothing}
+use Rattle.satip_script.specs.InParts.{call_in}
+use Rattle.satip_script.specs.Texts.{Told, Tells, TellsNothing}
+use Rattle.std.specs.List.{slice_split}
+use Rattle.satip_tune.specs.Pieces.{is_byte}
 
 -- the words that were found
 abbrev pub pair_now : Option (Bor (List ℕ) × Bor (List ℕ)) → Option (List ℕ × List ℕ)
 pair_now None = None
 pair_now (Some (a, b)) = Some (a.now, b.now)
 
-abbrev pub triple_now : Option (Bor (List ℕ) × Bor (List ℕ) × Bor (List ℕ)) → Option (List ℕ × List ℕ × List ℕ)
-triple_now None = None
-triple_now (Some (a, b, c)) = Some (a.now, b.now, c.now)
+-- the first two words and what stands behind them, or too few for three words
+abbrev pub AreTwoAndRest : List (List ℕ) → Option (Bor (List ℕ) × Bor (List ℕ) × Bor (List ℕ)) → Type 0
+AreTwoAndRest words None = three_words words ≡ None
+AreTwoAndRest words (Some (first, second, rest)) = words ≡ first.now ∷ second.now ∷ slice_split (is_byte 32) rest.now
 
--- a call whose text stands in these digits
-pub record IsCall (peer : Peer) (draw : Draw) (digits : List ℕ) (call : Option Call) : Type 0 where
-  pub text : List ℕ
-  pub decoded : decode_of digits ≡ Ok text
-  pub is : call ≡ Some (record { peer = peer; draw = draw; text = text })
-
-abbrev pub AreCall : Option (Peer × Draw × Bor (List ℕ)) → Option Call → Type 0
-AreCall None call = call ≡ None
-AreCall (Some (peer, draw, digits)) call = IsCall peer draw digits.now call
+-- the call of who sends, a draw and digits
+abbrev pub call_told : Option (Peer × Draw × Bor (List ℕ)) → Option Call
+call_told None = None
+call_told (Some (peer, draw, digits)) = call_in peer draw digits.now
 
 -- whether a text begins with CR or LF
 abbrev pub begins_with_newline : List ℕ → Bool
@@ -41,6 +40,18 @@ abbrev pub Sees : List ℕ → Held → Look → Type 0
 Sees text held LookWhole = IsSomeAnd held.found (λ m. Begins text m [])
 Sees text held (LookNotWhole cause) = Messages text [] (Broken cause)
 Sees text held Nothing = TellsNothing text
+
+-- the same of what digits say, if they are any
+abbrev pub SeesIn : Option (List ℕ) → Held → Look → Type 0
+SeesIn None held LookWhole = ⊥
+SeesIn None held (LookNotWhole cause) = ⊥
+SeesIn None held Nothing = Unit {0}
+SeesIn (Some text) held look = Sees text held look
+
+-- the digits are those of a text that says something
+abbrev pub Says : Option (List ℕ) → Type 0
+Says None = ⊥
+Says (Some text) = (told : Told) × Tells text told
 
 -- bytes were appended, or some of them where memory was refused
 abbrev pub Appended : Result Unit Want → List ℕ → List ℕ → List ℕ → Type 0

@@ -8,5 +8,5 @@ pub mod Runs
 pub mod Printed
 pub mod Inner
 pub mod Laws
-pub mod Often
+pub mod InParts
 pub mod Checks

@@ -1,22 +1,17 @@
-//! One line of a script.
-ghost use Rattle.std.specs.Prelude.{◌≡◌, option_map};
-ghost use Rattle.satip_tune.specs.Pieces.{pieces_left};
-ghost use Rattle.satip_script.specs.Lines.{is_skipped as is_skipped_text, three_words as only_three};
-ghost use Rattle.satip_script.specs.Forms.{Rtsp, Http, call_by, form_named};
+//! One line of a script as a whole.
+ghost use Rattle.std.specs.Prelude.{◌≡◌, List, ℕ, option_map};
+ghost use Rattle.satip_script.specs.Forms.{Rtsp, Http, Other};
 ghost use Rattle.satip_script.specs.Reading.{IsFormed, IsLine};
-ghost use Rattle.satip_script.specs.Inner.{AreCall};
-ghost use Rattle.satip_script.specs.Often.{IsOftenForm, IsOften, HasParts};
+ghost use Rattle.satip_script.specs.InParts.{call_in, form_in, packet_in};
 
-use crate::events::{packet_words, read_event, tick_of_word};
 use crate::messages::{read_get, read_request};
-use crate::pieces::cut;
-use crate::words::{read_draw, three_words};
-use satip_base::{Draw, Peer, read_ip};
-use satip_digits::{are_digits, read_packet};
-use satip_frame::Framer;
+use crate::parts::{EventParts, read_parts};
+use satip_base::{Draw, Peer};
+use satip_digits::read_packet;
+use satip_frame::{Break, Framer};
+use satip_http::HttpRequest;
 use satip_plain::Event;
-use satip_ts::Packet;
-use satip_tune::same_bytes;
+use satip_rtsp::Request;
 
 /// What a line of a script is.
 #[derive(Drop)]
@@ -34,182 +29,74 @@ pub enum Line {
 pub fn read_line(line: &[u8], framer: &mut Framer) -> Line
     ensures line { IsLine line.now result }
 {
-    if is_skipped(line) {
-        return Line::Skip;
+    match read_parts(line) {
+        Some(parts) => read_whole(&parts, framer),
+        None => Line::Skip,
     }
-    let (kind, rest) = cut(line, b' ');
-    read_kind(kind, rest, framer)
 }
 
-/// The lines that a script has most of: an event of a few words, far smaller than an `Event`.
-#[derive(Drop)]
-pub(crate) enum Often<'a> {
-    /// An empty line, or a comment.
-    Skip,
-    Tick {
-        now: u64,
-    },
-    /// A packet by its digits; where these are none of a packet, a wrong line.
-    Packet {
-        front: u16,
-        tune: u64,
-        digits: &'a [u8],
-    },
-    /// Some other line.
-    Other,
-}
-
-/// Reads a line that is skipped, a tick or a packet.
-pub(crate) fn read_often<'a>(line: &'a [u8]) -> Often<'a>
-    ensures often { IsOften line.now result }
+// The event of these parts.
+fn read_whole(parts: &EventParts, framer: &mut Framer) -> Line
+    ensures line { IsFormed (form_in parts.now) result }
 {
-    if is_skipped(line) {
-        return Often::Skip;
-    }
-    let (kind, rest) = cut(line, b' ');
-    read_often_kind(kind, rest)
-}
-
-#[tactic(auto, unfolding(crate::specs::Forms::form_named, crate::specs::Forms::event_of))]
-fn read_often_kind<'a>(kind: &[u8], rest: Option<&'a [u8]>) -> Often<'a>
-    ensures often { IsOftenForm (form_named kind.now (pieces_left 32 rest.entry)) result }
-{
-    if same_bytes(kind, b"rtsp") {
-        return Often::Other;
-    }
-    if same_bytes(kind, b"http") {
-        return Often::Other;
-    }
-    if same_bytes(kind, b"tick") {
-        return match tick_of_word(rest) {
-            Some(now) => Often::Tick { now },
-            None => Often::Other,
-        };
-    }
-    if same_bytes(kind, b"packet") {
-        return match packet_words(rest) {
-            Some((front, tune, digits)) => Often::Packet {
-                front,
-                tune,
-                digits,
-            },
-            None => Often::Other,
-        };
-    }
-    Often::Other
-}
-
-/// An event of a script: a tick or a packet, of which a script has most, by its parts, since an
-/// `Event` is far larger, and any other event by its line.
-#[derive(Drop)]
-pub enum EventParts<'a> {
-    Tick {
-        now: u64,
-    },
-    Packet {
-        front: u16,
-        tune: u64,
-        packet: Packet,
-    },
-    /// What `read_line` reads: an event, or a wrong line.
-    Line(&'a [u8]),
-}
-
-/// The parts of a line's event; None where the line is skipped.
-pub(crate) fn read_parts<'a>(line: &'a [u8]) -> Option<EventParts<'a>>
-    ensures parts { HasParts line.now result }
-{
-    match read_often(line) {
-        Often::Skip => None,
-        Often::Tick { now } => Some(EventParts::Tick { now }),
-        Often::Packet {
+    match parts {
+        EventParts::Rtsp { peer, draw, digits } => read_rtsp(*peer, *draw, digits, framer),
+        EventParts::Http { peer, draw, digits } => read_http(*peer, *draw, digits, framer),
+        EventParts::Tick { now } => Line::Event(Event::Tick { now: *now }),
+        EventParts::Packet {
             front,
             tune,
             digits,
-        } => match read_packet(digits) {
-            Some(packet) => Some(EventParts::Packet {
-                front,
-                tune,
-                packet,
-            }),
-            None => Some(EventParts::Line(line)),
-        },
-        Often::Other => Some(EventParts::Line(line)),
+        } => read_packet_line(*front, *tune, digits),
+        EventParts::Ended { front, tune } => Line::Event(Event::Ended {
+            front: *front,
+            tune: *tune,
+        }),
+        EventParts::Ask { front } => Line::Event(Event::Ask { front: *front }),
+        EventParts::Pull { session } => Line::Event(Event::Pull { session: *session }),
+        EventParts::Close { session } => Line::Event(Event::Close { session: *session }),
+        EventParts::Stop => Line::Event(Event::Stop),
+        EventParts::Wrong => Line::Wrong,
     }
 }
 
-fn is_skipped(line: &[u8]) -> bool
-    ensures test { result ≡ is_skipped_text line.now }
+fn read_packet_line(front: u16, tune: u64, digits: &[u8]) -> Line
+    ensures line { IsFormed (option_map Other (packet_in front tune digits.now)) result }
 {
-    match line {
-        [] => true,
-        [first, ..] => *first == b'#',
-    }
-}
-
-#[tactic(auto, unfolding(crate::specs::Forms::form_named))]
-fn read_kind(kind: &[u8], rest: Option<&[u8]>, framer: &mut Framer) -> Line
-    ensures line { IsFormed (form_named kind.now (pieces_left 32 rest.entry)) result }
-{
-    if same_bytes(kind, b"rtsp") {
-        return read_rtsp(rest, framer);
-    }
-    if same_bytes(kind, b"http") {
-        return read_http(rest, framer);
-    }
-    match read_event(kind, rest) {
-        Some(event) => Line::Event(event),
-        None => Line::Wrong,
-    }
-}
-
-fn read_rtsp(rest: Option<&[u8]>, framer: &mut Framer) -> Line
-    ensures line { IsFormed (option_map Rtsp (call_by (only_three (pieces_left 32 rest.entry)))) result }
-{
-    let Some((peer, draw, digits)) = read_call(rest) else {
-        return Line::Wrong;
-    };
-    match read_request(digits, framer) {
-        Some(request) => Line::Event(Event::Request {
-            peer,
-            draw,
-            request,
+    match read_packet(digits) {
+        Some(packet) => Line::Event(Event::Packet {
+            front,
+            tune,
+            packet,
         }),
         None => Line::Wrong,
     }
 }
 
-fn read_http(rest: Option<&[u8]>, framer: &mut Framer) -> Line
-    ensures line { IsFormed (option_map Http (call_by (only_three (pieces_left 32 rest.entry)))) result }
+fn read_rtsp(peer: Peer, draw: Draw, digits: &[u8], framer: &mut Framer) -> Line
+    ensures line { IsFormed (option_map Rtsp (call_in peer draw digits.now)) result }
 {
-    let Some((peer, draw, digits)) = read_call(rest) else {
+    let mut request = Request::broken(Break::Bad);
+    if !read_request(digits, framer, &mut request) {
         return Line::Wrong;
-    };
-    match read_get(digits, framer) {
-        Some(request) => Line::Event(Event::Get {
-            peer,
-            draw,
-            request,
-        }),
-        None => Line::Wrong,
     }
+    Line::Event(Event::Request {
+        peer,
+        draw,
+        request,
+    })
 }
 
-// Who sends, the draw, and the digits of what is sent.
-fn read_call<'a>(rest: Option<&'a [u8]>) -> Option<(Peer, Draw, &'a [u8])>
-    ensures call { AreCall result (call_by (only_three (pieces_left 32 rest.entry))) }
+fn read_http(peer: Peer, draw: Draw, digits: &[u8], framer: &mut Framer) -> Line
+    ensures line { IsFormed (option_map Http (call_in peer draw digits.now)) result }
 {
-    let Some((peer, draw, digits)) = three_words(rest) else {
-        return None;
-    };
-    let Some(ip) = read_ip(peer) else {
-        return None;
-    };
-    let Some(draw) = read_draw(draw) else {
-        return None;
-    };
-    if !are_digits(digits) {
-        return None;
+    let mut request = HttpRequest::broken(Break::Bad);
+    if !read_get(digits, framer, &mut request) {
+        return Line::Wrong;
     }
-    Some((Peer { ip }, draw, digits))
+    Line::Event(Event::Get {
+        peer,
+        draw,
+        request,
+    })
 }

@@ -1,17 +1,24 @@
 //! What the bytes of a line's last word say.
-ghost use Rattle.std.specs.Prelude.{◌≡◌, ℕ, ◌+◌, ◌*◌, ◌≤◌, [], ◌++◌, List, length, None, true, IsOk, IsSome, IsSomeAnd, MatchOption};
+ghost use Rattle.std.specs.Prelude.{◌≡◌, ℕ, ◌+◌, ◌*◌, ◌≤◌, [], ◌++◌, List, length, None, true, IsOk, IsSome, IsSomeAnd};
+ghost use Rattle.std.specs.Bool.{OnTrue, OnFalse};
 ghost use Rattle.hex.specs.Hex.{decode_of};
 ghost use Rattle.satip_frame.specs.Stream.{Unfinished, skip_newlines, Messages, Leads};
-ghost use Rattle.satip_rtsp.specs.Asked.{asked};
-ghost use Rattle.satip_http.specs.Gets.{asked as asked_over_http};
-ghost use Rattle.satip_script.specs.Texts.{Told, Tells, TellsNothing, request_of, get_of};
-ghost use Rattle.satip_script.specs.Inner.{Sees, begins_with_newline as newline_first};
+ghost use Rattle.satip_rtsp.specs.Asked.{asked, broken};
+ghost use Rattle.satip_http.specs.Gets.{asked as asked_over_http, broken as broken_over_http};
+ghost use Rattle.satip_digits.specs.Digits.{bytes_of};
+ghost use Rattle.satip_script.specs.Texts.{request_of, get_of};
+ghost use Rattle.satip_script.specs.InParts.{Asks, AsksNothing};
+ghost use Rattle.satip_script.specs.Inner.{Says, Sees, SeesIn, begins_with_newline as newline_first};
 
+use satip_digits::are_digits;
 use satip_frame::{Break, Framer, Step};
 use satip_http::HttpRequest;
 use satip_rtsp::Request;
 
 const ROOM: usize = 12288;
+
+// The bytes of most messages; fewer are cleared for them.
+const SHORT: usize = 512;
 
 // What was seen of a text.
 #[derive(Clone, Copy, Debug, PartialEq, Eq)]
@@ -24,52 +31,100 @@ enum Look {
     Nothing,
 }
 
-/// The RTSP request that the bytes of these digits are; None where they are neither one message nor
-/// broken.
-pub(crate) fn read_request(digits: &[u8], framer: &mut Framer) -> Option<Request>
-    requires { IsOk (decode_of digits.now) }
-    ensures request { (text : List ℕ) → decode_of digits.now ≡ Ok text
-        → MatchOption result (TellsNothing text) (λ r. (told : Told) × Tells text told × (r ≡ request_of told)) }
+/// Puts the RTSP request that the bytes of these digits are in the place of an older one. False where
+/// they are no digits, or neither one message nor broken. The framer's bytes are lost.
+pub fn read_request(digits: &[u8], framer: &mut Framer, into: &mut Request) -> bool
+    ensures asked { OnTrue result (Asks request_of (bytes_of digits.now) into.new) }
+    ensures nothing { OnFalse result (AsksNothing (bytes_of digits.now)) }
+    ensures same { OnFalse result (into.new ≡ into.old) }
 {
-    match see(digits, framer) {
-        Look::Whole => Some(found_request(framer)),
-        Look::NotWhole(cause) => Some(Request::broken(cause)),
-        Look::Nothing => None,
+    match look_in(digits, framer) {
+        Look::Whole => {
+            read_found_request(framer, into);
+            true
+        }
+        Look::NotWhole(cause) => {
+            break_request(cause, into);
+            true
+        }
+        Look::Nothing => false,
     }
 }
 
-/// The HTTP request that the bytes of these digits are; None where they are neither one message nor
-/// broken.
-pub(crate) fn read_get(digits: &[u8], framer: &mut Framer) -> Option<HttpRequest>
-    requires { IsOk (decode_of digits.now) }
-    ensures request { (text : List ℕ) → decode_of digits.now ≡ Ok text
-        → MatchOption result (TellsNothing text) (λ r. (told : Told) × Tells text told × (r ≡ get_of told)) }
+/// Puts the HTTP request that the bytes of these digits are in the place of an older one. False where
+/// they are no digits, or neither one message nor broken. The framer's bytes are lost.
+pub fn read_get(digits: &[u8], framer: &mut Framer, into: &mut HttpRequest) -> bool
+    ensures asked { OnTrue result (Asks get_of (bytes_of digits.now) into.new) }
+    ensures nothing { OnFalse result (AsksNothing (bytes_of digits.now)) }
+    ensures same { OnFalse result (into.new ≡ into.old) }
 {
-    match see(digits, framer) {
-        Look::Whole => Some(found_get(framer)),
-        Look::NotWhole(cause) => Some(HttpRequest::broken(cause)),
-        Look::Nothing => None,
+    match look_in(digits, framer) {
+        Look::Whole => {
+            read_found_get(framer, into);
+            true
+        }
+        Look::NotWhole(cause) => {
+            break_get(cause, into);
+            true
+        }
+        Look::Nothing => false,
     }
 }
 
-fn found_request(framer: &Framer) -> Request
+/// Whether the bytes of these digits are one message or broken. No request is made of them.
+pub(crate) fn says(digits: &[u8], framer: &mut Framer) -> bool
+    ensures yes { OnTrue result (Says (bytes_of digits.now)) }
+    ensures no { OnFalse result (AsksNothing (bytes_of digits.now)) }
+{
+    match look_in(digits, framer) {
+        Look::Whole => true,
+        Look::NotWhole(_) => true,
+        Look::Nothing => false,
+    }
+}
+
+fn read_found_request(framer: &Framer, into: &mut Request)
     requires { IsSome framer.now.found }
-    ensures asked { IsSomeAnd framer.now.found (λ message. result ≡ asked message) }
+    ensures asked { IsSomeAnd framer.now.found (λ message. into.new ≡ asked message) }
 {
     match framer.message() {
-        Some(message) => Request::of(&message),
+        Some(message) => into.read(&message),
         None => unreachable!(),
     }
 }
 
-fn found_get(framer: &Framer) -> HttpRequest
+fn read_found_get(framer: &Framer, into: &mut HttpRequest)
     requires { IsSome framer.now.found }
-    ensures asked { IsSomeAnd framer.now.found (λ message. result ≡ asked_over_http message) }
+    ensures asked { IsSomeAnd framer.now.found (λ message. into.new ≡ asked_over_http message) }
 {
     match framer.message() {
-        Some(message) => HttpRequest::of(&message),
+        Some(message) => *into = HttpRequest::of(&message),
         None => unreachable!(),
     }
+}
+
+// Not inlined, so that a whole message needs no room for a second request.
+#[inline(never)]
+fn break_request(cause: Break, into: &mut Request)
+    ensures broken { into.new ≡ broken cause }
+{
+    *into = Request::broken(cause);
+}
+
+#[inline(never)]
+fn break_get(cause: Break, into: &mut HttpRequest)
+    ensures broken { into.new ≡ broken_over_http cause }
+{
+    *into = HttpRequest::broken(cause);
+}
+
+fn look_in(digits: &[u8], framer: &mut Framer) -> Look
+    ensures sees { SeesIn (bytes_of digits.now) framer.new result }
+{
+    if !are_digits(digits) {
+        return Look::Nothing;
+    }
+    see(digits, framer)
 }
 
 fn see(digits: &[u8], framer: &mut Framer) -> Look
@@ -162,7 +217,34 @@ fn feed_digits(digits: &[u8], framer: &mut Framer)
     ensures bytes { (text : List ℕ) → decode_of digits.now ≡ Ok text → framer.new.bytes ≡ framer.old.bytes ++ text }
     ensures ended { framer.new.ended ≡ None }
 {
-    let mut room = [0u8; ROOM];
+    if digits.len() <= 2 * SHORT {
+        feed_through(&mut [0u8; SHORT], digits, framer);
+    } else {
+        feed_many(digits, framer);
+    }
+}
+
+// Not inlined, so that only a long message clears so many bytes.
+#[inline(never)]
+fn feed_many(digits: &[u8], framer: &mut Framer)
+    requires hex { IsOk (decode_of digits.now) }
+    requires goes_on { framer.old.ended ≡ None }
+    requires room { 2 * length framer.old.bytes + length digits.now ≤ 24576 }
+    ensures bytes { (text : List ℕ) → decode_of digits.now ≡ Ok text → framer.new.bytes ≡ framer.old.bytes ++ text }
+    ensures ended { framer.new.ended ≡ None }
+{
+    feed_through(&mut [0u8; ROOM], digits, framer);
+}
+
+// Decodes digits into room that is large enough, and feeds their bytes.
+fn feed_through(room: &mut [u8], digits: &[u8], framer: &mut Framer)
+    requires hex { IsOk (decode_of digits.now) }
+    requires enough { length digits.now ≤ 2 * length room.old }
+    requires goes_on { framer.old.ended ≡ None }
+    requires room { 2 * length framer.old.bytes + length digits.now ≤ 24576 }
+    ensures bytes { (text : List ℕ) → decode_of digits.now ≡ Ok text → framer.new.bytes ≡ framer.old.bytes ++ text }
+    ensures ended { framer.new.ended ≡ None }
+{
     let (bytes, _) = room.split_at_mut(digits.len() / 2);
     let _ = hex::decode_to_slice(digits, bytes);
     framer.feed(bytes);

@@ -1,13 +1,16 @@
 //! A whole script: checked first, and then read again, event by event.
 ghost use Rattle.std.specs.Prelude.{◌≡◌, ℕ, ◌∷◌, ◌<◌, [], List, length, Ok, Err, IsNone, IsSome, IfNone, IfSome, MatchOption};
+ghost use Rattle.std.specs.Bool.{OnTrue, OnFalse};
 ghost use Rattle.satip_plain.specs.declared.events.Event.{Event as EventValue};
 ghost use Rattle.satip_plain.specs.Values.{IsEvent};
 ghost use Rattle.satip_script.specs.Lines.{lines_of};
-ghost use Rattle.satip_script.specs.Checks.{IsChecked};
-ghost use Rattle.satip_script.specs.Often.{AreParts, AreWrong, PartsGivenAfter};
+ghost use Rattle.satip_script.specs.Checks.{IsChecked, IsOfEvent};
+ghost use Rattle.satip_script.specs.InParts.{AreParts, AreWrong, PartsGivenAfter};
 ghost use Rattle.satip_script.specs.Scripts.{IsScript, Gives, IsOver, HasNext, GivenAfter};
 
-use crate::lines::{EventParts, Line, Often, read_line, read_often, read_parts};
+use crate::lines::{Line, read_line};
+use crate::messages::says;
+use crate::parts::{EventParts, read_parts};
 use crate::pieces::cut;
 use satip_digits::is_packet;
 use satip_frame::Framer;
@@ -43,23 +46,32 @@ enum Check {
 fn check_line(line: &[u8], framer: &mut Framer) -> Check
     ensures check { IsChecked line.now result }
 {
-    match read_often(line) {
-        Often::Skip => Check::Skip,
-        Often::Tick { .. } => Check::Right,
-        Often::Packet { digits, .. } if is_packet(digits) => Check::Right,
-        Often::Packet { .. } => check_other(line, framer),
-        Often::Other => check_other(line, framer),
+    let Some(parts) = read_parts(line) else {
+        return Check::Skip;
+    };
+    if is_event(&parts, framer) {
+        Check::Right
+    } else {
+        Check::Wrong
     }
 }
 
-#[inline(never)]
-fn check_other(line: &[u8], framer: &mut Framer) -> Check
-    ensures check { IsChecked line.now result }
+// Whether these are the parts of an event. None is made.
+fn is_event(parts: &EventParts, framer: &mut Framer) -> bool
+    ensures yes { OnTrue result (IsOfEvent parts.now) }
+    ensures no { OnFalse result (AreWrong parts.now) }
 {
-    match read_line(line, framer) {
-        Line::Skip => Check::Skip,
-        Line::Event(_) => Check::Right,
-        Line::Wrong => Check::Wrong,
+    match parts {
+        EventParts::Rtsp { digits, .. } => says(digits, framer),
+        EventParts::Http { digits, .. } => says(digits, framer),
+        EventParts::Tick { .. } => true,
+        EventParts::Packet { digits, .. } => is_packet(digits),
+        EventParts::Ended { .. } => true,
+        EventParts::Ask { .. } => true,
+        EventParts::Pull { .. } => true,
+        EventParts::Close { .. } => true,
+        EventParts::Stop => true,
+        EventParts::Wrong => false,
     }
 }
 

@@ -12,9 +12,12 @@ ghost use Rattle.satip_script.specs.Lines.{lines_of, words_of, is_skipped};
 ghost use Rattle.satip_script.specs.Forms.{Other, Rtsp, form_of};
 ghost use Rattle.satip_script.specs.Printed.{entry_text, datagram_line};
 
-use crate::{EventParts, Line, Script, check_script, print_entry, read_line};
+use crate::{
+    EventParts, Line, Script, check_script, print_entry, read_get, read_line, read_request,
+};
 use satip_base::{Address, Draw, Out, Peer, Ports, SessionId};
-use satip_frame::Framer;
+use satip_digits::read_packet;
+use satip_frame::{Break, Framer};
 use satip_http::{HttpRefusal, HttpRequest};
 use satip_plain::{Answer, Beat, Closed, Event, GetAnswer, Pulled, Replied, Work};
 use satip_rtsp::{Method, Refusal, Request, SessionName};
@@ -227,19 +230,21 @@ fn packets_have_188_bytes_and_begin_with_47(rt: HostRuntime) -> Result<(), Fail>
 
 // Whether the line is a packet's whose bytes begin and end with these three.
 fn is_packet_line(line: &[u8], first: &[u8], last: &[u8]) -> bool {
-    let Some(parts) = Script::of(line).next_parts() else {
+    let Some(EventParts::Packet { digits, .. }) = Script::of(line).next_parts() else {
         return false;
     };
-    match &parts {
-        EventParts::Packet { packet, .. } => {
-            &packet.bytes()[..3] == first && &packet.bytes()[185..] == last
-        }
-        _ => false,
+    match read_packet(digits) {
+        Some(packet) => &packet.bytes()[..3] == first && &packet.bytes()[185..] == last,
+        None => false,
     }
 }
 
-fn is_unread_line(line: &[u8]) -> bool {
-    matches!(Script::of(line).next_parts(), Some(EventParts::Line(_)))
+// Whether the line is a packet's by its words alone.
+fn is_no_packet_line(line: &[u8]) -> bool {
+    match Script::of(line).next_parts() {
+        Some(EventParts::Packet { digits, .. }) => read_packet(digits).is_none(),
+        _ => false,
+    }
 }
 
 #[test]
@@ -252,11 +257,11 @@ fn packets_are_checked_and_decoded(rt: HostRuntime) -> Result<(), Fail> {
     assert!(rt; is_packet_line(&line, b"\x47\x00\x10", b"\x00\xaf\xb9"));
     let other = packet_line(rt.alloc(), b"\x74\x00\x10", 188)?;
     assert_eq!(rt; check_script(&other, framer), Some(1));
-    assert!(rt; is_unread_line(&other));
+    assert!(rt; is_no_packet_line(&other));
     let mut no_digit = packet_line(rt.alloc(), b"\x47\x00\x10", 187)?;
     no_digit.extend_from_slice(b"0g")?;
     assert_eq!(rt; check_script(&no_digit, framer), Some(1));
-    assert!(rt; is_unread_line(&no_digit));
+    assert!(rt; is_no_packet_line(&no_digit));
     Ok(())
 }
 
@@ -401,9 +406,149 @@ fn events_come_in_their_order(rt: HostRuntime) -> Result<(), Fail> {
 fn events_come_in_parts(rt: HostRuntime) -> Result<(), Fail> {
     let mut script = Script::of(b"# a run\ntick 1000\n\nask 1\ntick\n");
     assert!(rt; matches!(script.next_parts(), Some(EventParts::Tick { now: 1000 })));
-    assert!(rt; matches!(script.next_parts(), Some(EventParts::Line(b"ask 1"))));
-    assert!(rt; matches!(script.next_parts(), Some(EventParts::Line(b"tick"))));
+    assert!(rt; matches!(script.next_parts(), Some(EventParts::Ask { front: 1 })));
+    assert!(rt; matches!(script.next_parts(), Some(EventParts::Wrong)));
     assert!(rt; script.next_parts().is_none());
+    Ok(())
+}
+
+// What requests are read into, one after another.
+#[derive(Drop)]
+struct Kept {
+    framer: Framer,
+    request: Request,
+    get: HttpRequest,
+}
+
+// Whether an RTSP line says the same in parts and as a whole.
+fn same_request(peer: Peer, draw: Draw, digits: &[u8], line: &[u8], kept: &mut Kept) -> bool {
+    let reads = read_request(digits, &mut kept.framer, &mut kept.request);
+    match read_line(line, &mut kept.framer) {
+        Line::Event(
+            Event::Request {
+                peer: by,
+                draw: drawn,
+                request,
+            },
+        ) => reads && peer == by && draw == drawn && kept.request == request,
+        Line::Wrong => !reads,
+        _ => false,
+    }
+}
+
+// Whether an HTTP line says the same in parts and as a whole.
+fn same_get(peer: Peer, draw: Draw, digits: &[u8], line: &[u8], kept: &mut Kept) -> bool {
+    let reads = read_get(digits, &mut kept.framer, &mut kept.get);
+    match read_line(line, &mut kept.framer) {
+        Line::Event(
+            Event::Get {
+                peer: by,
+                draw: drawn,
+                request,
+            },
+        ) => reads && peer == by && draw == drawn && kept.get == request,
+        Line::Wrong => !reads,
+        _ => false,
+    }
+}
+
+// Whether a packet's line says the same in parts and as a whole.
+fn same_packet(front: u16, tune: u64, digits: &[u8], line: &[u8], framer: &mut Framer) -> bool {
+    match (read_packet(digits), read_line(line, framer)) {
+        (
+            Some(packet),
+            Line::Event(
+                Event::Packet {
+                    front: at,
+                    tune: by,
+                    packet: same,
+                },
+            ),
+        ) => front == at && tune == by && packet == same,
+        (None, Line::Wrong) => true,
+        _ => false,
+    }
+}
+
+// Whether a line says the same in parts and as a whole.
+fn is_same(line: &[u8], kept: &mut Kept) -> bool {
+    match Script::of(line).next_parts() {
+        Some(EventParts::Rtsp { peer, draw, digits }) => {
+            same_request(peer, draw, digits, line, kept)
+        }
+        Some(EventParts::Http { peer, draw, digits }) => same_get(peer, draw, digits, line, kept),
+        Some(
+            EventParts::Packet {
+                front,
+                tune,
+                digits,
+            },
+        ) => same_packet(front, tune, digits, line, &mut kept.framer),
+        Some(parts) => is_same_short(&parts, read_line(line, &mut kept.framer)),
+        None => matches!(read_line(line, &mut kept.framer), Line::Skip),
+    }
+}
+
+fn is_same_short(parts: &EventParts, line: Line) -> bool {
+    match (parts, line) {
+        (EventParts::Tick { now }, Line::Event(Event::Tick { now: same })) => *now == same,
+        (
+            EventParts::Ended { front, tune },
+            Line::Event(
+                Event::Ended {
+                    front: at,
+                    tune: by,
+                },
+            ),
+        ) => { *front == at && *tune == by }
+        (EventParts::Ask { front }, Line::Event(Event::Ask { front: at })) => *front == at,
+        (EventParts::Pull { session }, Line::Event(Event::Pull { session: of })) => *session == of,
+        (EventParts::Close { session }, Line::Event(Event::Close { session: of })) => {
+            *session == of
+        }
+        (EventParts::Stop, Line::Event(Event::Stop)) => true,
+        (EventParts::Wrong, Line::Wrong) => true,
+        _ => false,
+    }
+}
+
+const ADDING: &[u8] =
+    b"PLAY rtsp://192.168.1.10/stream=1?addpids=100,200&delpids=16 RTSP/1.0\r\nCSeq: 9\r\nSession: 000000010000000a\r\n\r\n";
+
+#[test]
+fn lines_say_the_same_in_parts_and_whole(rt: HostRuntime) -> Result<(), Fail> {
+    let alloc = rt.alloc();
+    let mut kept = Kept {
+        framer: Framer::make(alloc)?,
+        request: Request::broken(Break::Bad),
+        get: HttpRequest::broken(Break::Bad),
+    };
+    for line in [
+        b"".as_slice(),
+        b"# stop".as_slice(),
+        b"tick 59999".as_slice(),
+        b"tick".as_slice(),
+        b"ended 1 2".as_slice(),
+        b"ended 2 1 ".as_slice(),
+        b"ask 65535".as_slice(),
+        b"ask 65536".as_slice(),
+        b"pull 000000010000000a".as_slice(),
+        b"close 000000010000000a".as_slice(),
+        b"close 000000010000000A".as_slice(),
+        b"stop".as_slice(),
+        b"stop ".as_slice(),
+        b"packet 1 1 47 00".as_slice(),
+        b"rtsp 192.168.1.20 0000000a11223344ffff 61 62".as_slice(),
+        b"http 192.168.1.20 0000000a11223344ffff 6".as_slice(),
+    ] {
+        assert!(rt; is_same(line, &mut kept));
+    }
+    let packet = packet_line(alloc, b"\x47\x00\x10", 188)?;
+    assert!(rt; is_same(&packet, &mut kept));
+    for text in [SETUP, ADDING, GET, OPTIONS, b"hello\r\n\r\n", b"\r\n"] {
+        assert!(rt; is_same(&line_with(alloc, b"rtsp", text)?, &mut kept));
+        assert!(rt; is_same(&line_with(alloc, b"http", text)?, &mut kept));
+    }
     Ok(())
 }
 

@@ -2,11 +2,11 @@
 ghost use Rattle.std.specs.Prelude.{◌≡◌, option_map};
 ghost use Rattle.std.specs.Option.{option_copied};
 ghost use Rattle.satip_tune.specs.Pieces.{pieces_left};
-ghost use Rattle.satip_script.specs.Lines.{one_word as only_word, two_words as only_two, three_words as only_three};
+ghost use Rattle.satip_script.specs.Lines.{one_word as only_word, two_words as only_two};
 ghost use Rattle.std.specs.Int.{from_be_bytes, w16, w32};
 ghost use Rattle.satip_script.specs.Parts.{draw_of};
 ghost use Rattle.satip_digits.specs.Digits.{sized_bytes};
-ghost use Rattle.satip_script.specs.Inner.{pair_now, triple_now};
+ghost use Rattle.satip_script.specs.Inner.{pair_now, AreTwoAndRest};
 
 use crate::pieces::cut;
 use satip_base::Draw;
@@ -44,10 +44,13 @@ pub(crate) fn two_words<'a>(rest: Option<&'a [u8]>) -> Option<(&'a [u8], &'a [u8
     Some((first, second))
 }
 
-/// The only three words of what is left of a line.
-#[tactic(auto, using(crate::proofs::WordLemmas::word_counts), unfolding(crate::specs::Lines::three_words))]
-pub(crate) fn three_words<'a>(rest: Option<&'a [u8]>) -> Option<(&'a [u8], &'a [u8], &'a [u8])>
-    ensures words { triple_now result ≡ only_three (pieces_left 32 rest.entry) }
+/// The first two words of what is left of a line, and what stands behind them, with any spaces that
+/// it has; None where there is nothing behind them.
+#[tactic(auto, unfolding(crate::specs::Lines::three_words))]
+pub(crate) fn two_words_and_rest<'a>(
+    rest: Option<&'a [u8]>,
+) -> Option<(&'a [u8], &'a [u8], &'a [u8])>
+    ensures words { AreTwoAndRest (pieces_left 32 rest.entry) result }
 {
     let Some(rest) = rest else {
         return None;
@@ -58,10 +61,7 @@ pub(crate) fn three_words<'a>(rest: Option<&'a [u8]>) -> Option<(&'a [u8], &'a [
     let (second, Some(rest)) = cut(rest, SPACE) else {
         return None;
     };
-    let (third, None) = cut(rest, SPACE) else {
-        return None;
-    };
-    Some((first, second, third))
+    Some((first, second, rest))
 }
 
 /// A draw of 20 digits: 8 of its word, 8 of its SSRC, 4 of its first number.

@@ -1,15 +1,14 @@
 use Rattle.std.proofs.Common.{refl}
 use Rattle.satip_rtsp.specs.Asked.{asked}
-use Rattle.satip_script.specs.Texts.{NotWhole, request_of}
-use Rattle.satip_script.proofs.TextLemmas.{found_told}
+use Rattle.satip_script.specs.Texts.{request_of}
+use Rattle.satip_digits.specs.Digits.{bytes_of}
+use Rattle.satip_script.proofs.PartLemmas.{asks_whole, asks_broken}
 use Rattle.satip_script.proofs.messages.read_request.Goals as goal
 
-pub returns-in-Whole : goal.returns-in-Whole
-returns-in-Whole c = record {
-  request = λ text h. found_told c.see.new.framer.found text asked request_of (λ m. refl) c.found_request.result (c.in-Whole.ensures.sees text h) c.found_request.ensures.asked;
-}
+pub returns-in-Whole-clause-asked : goal.returns-in-Whole-clause-asked
+returns-in-Whole-clause-asked c =
+    asks_whole (bytes_of c.args.digits.now) c.look_in.new.framer asked request_of (λ m. refl) c.read_found_request.new.into c.in-Whole.ensures.sees c.read_found_request.ensures.asked
 
-pub returns-in-NotWhole : goal.returns-in-NotWhole
-returns-in-NotWhole c = record {
-  request = λ text h. (NotWhole c.in-NotWhole.cause, c.in-NotWhole.ensures.sees text h, c.broken.ensures.broken);
-}
+pub returns-in-NotWhole-clause-asked : goal.returns-in-NotWhole-clause-asked
+returns-in-NotWhole-clause-asked c =
+    asks_broken (bytes_of c.args.digits.now) c.look_in.new.framer c.in-NotWhole.cause request_of c.break_request.new.into c.in-NotWhole.ensures.sees c.break_request.ensures.broken

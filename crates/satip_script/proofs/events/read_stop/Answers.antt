@@ -1,7 +1,0 @@
-use Rattle.std.proofs.Common.{sym}
-use Rattle.satip_tune.specs.Pieces.{is_byte}
-use Rattle.satip_script.proofs.WordLemmas.{past_none}
-use Rattle.satip_script.proofs.events.read_stop.Goals as goal
-
-pub returns-in-Some : goal.returns-in-Some
-returns-in-Some c = rw c.in-Some.is (record { event = sym (past_none (is_byte 32) c.in-Some.field-0.now) })
