@@ -13,7 +13,7 @@
 # Without a mark it is run whole by `bash -e`, for ten minutes at most. A line that ends with a comment that begins
 # '# by hand' isn't run. Needs bash, python3 and what README's commands need (Debian: ffmpeg, curl, vlc-bin, vlc-plugin-base,
 # gstreamer1.0-tools, gstreamer1.0-plugins-good, gstreamer1.0-plugins-bad); a command that isn't to be had is a failure.
-# cvlc as root needs `VLC_USER`, the name of a plain user, who then runs it.
+# VLC refuses root: where this is run as root, cvlc runs as the user that VLC_USER names, nobody without it.
 set -u
 top=$(cd "$(dirname "$0")/.." && pwd)
 readme=$(realpath "${1:-$top/README.md}")
@@ -140,9 +140,21 @@ run_block() {
     esac
 }
 
+# A cvlc ahead of the real one in PATH.
+let_root_play() {
+    local user=${VLC_USER:-nobody}
+    printf '#!/bin/sh\nexec runuser -u %s -- env HOME=/tmp %s "$@"\n' "$user" "$(command -v cvlc)" \
+        > "$scratch/bin/cvlc"
+    chmod 755 "$scratch" "$scratch/bin" "$scratch/bin/cvlc"
+    PATH=$scratch/bin:$PATH
+}
+
 trap finish EXIT
 trap 'exit 1' INT TERM
-mkdir "$scratch/blocks" "$scratch/work"
+mkdir "$scratch/blocks" "$scratch/work" "$scratch/bin"
+if [ "$(id -u)" -eq 0 ] && command -v cvlc > "$scratch/null"; then
+    let_root_play
+fi
 ln -s "$top"/* "$scratch/work/"
 cut_blocks
 cd "$scratch/work" || exit 1
