@@ -3,13 +3,15 @@
 
     tools/channels.py CONFIG [--table | --m3u | --vdr]
 
-  --table   for people: number, name, PIDs, bit rate and length of the recording, size of the picture (without a word too)
-  --m3u     a playlist: each programme by satip:// for VLC, then each by http:// for every other player
+  --table   for people: number, name, PIDs, bit rate and length of the recording, size of the
+            picture (without a word too)
+  --m3u     a playlist: each programme by satip:// for VLC, then each by http:// for other players
   --vdr     lines for VDR's channels.conf, for its plugin satip
 
-Needs python3 (3.11 or later) and ffprobe (Debian: apt-get install ffmpeg). File names of the configuration are those of
-the folder that this is started in, as for `satip serve`. A recording without programmes is told on standard error and
-left out; the status is 1 where one was, 2 where the configuration can't be read.
+Needs python3 (3.11 or later) and ffprobe (Debian: apt-get install ffmpeg). File names of the
+configuration are those of the folder that this is started in, as for `satip serve`. A recording
+without programmes is told on standard error and left out; the status is 1 where one was, 2 where
+the configuration can't be read.
 """
 
 import argparse
@@ -30,7 +32,8 @@ class Server:
     http_port: int
 
     def url(self, scheme, query):
-        return f"{scheme}://{self.address}:{self.rtsp_port if scheme == 'satip' else self.http_port}/?{query}"
+        port = self.rtsp_port if scheme == "satip" else self.http_port
+        return f"{scheme}://{self.address}:{port}/?{query}"
 
 
 @dataclass
@@ -50,7 +53,7 @@ class Channel:
 
 
 def channels_of(config):
-    """The channels, and whether each multiplex has one."""
+    """The channels, and whether each multiplex has one; says why one has none."""
     channels, whole = [], True
     for mux_number, mux in enumerate(config.get("mux", []), 1):
         try:
@@ -108,7 +111,7 @@ def vdr_pids(programme):
 
 
 def vdr(_, channels):
-    """Each channel by the grammar of vdr(5); the plugin takes the field RID for the position, 0 for 1."""
+    """By the grammar of vdr(5); the plugin takes the field RID for the position, 0 for 1."""
     for it in channels:
         mux = it.mux
         second = mux["msys"] == "dvbs2"
@@ -124,19 +127,26 @@ def read(path):
     try:
         with open(path, "rb") as file:
             config = tomllib.load(file)
-        return config, Server(config["address"], config.get("rtsp_port", 554), config.get("http_port", 8875))
+        ports = config.get("rtsp_port", 554), config.get("http_port", 8875)
+        return config, Server(config["address"], *ports)
     except (OSError, tomllib.TOMLDecodeError, KeyError) as error:
         print(f"{path}: {error}", file=sys.stderr)
         sys.exit(2)
+
+
+FORMS = (
+    ("--table", table, "for people"),
+    ("--m3u", m3u, "a playlist"),
+    ("--vdr", vdr, "lines for VDR's channels.conf"),
+)
 
 
 def main():
     words = argparse.ArgumentParser(description="Writes the channels of a configuration of satip.")
     words.add_argument("config", metavar="CONFIG", help="the configuration, as satip.toml")
     form = words.add_mutually_exclusive_group()
-    form.add_argument("--table", dest="form", action="store_const", const=table, help="for people")
-    form.add_argument("--m3u", dest="form", action="store_const", const=m3u, help="a playlist")
-    form.add_argument("--vdr", dest="form", action="store_const", const=vdr, help="for channels.conf")
+    for word, write, told in FORMS:
+        form.add_argument(word, dest="form", action="store_const", const=write, help=told)
     given = words.parse_args()
     config, server = read(given.config)
     channels, whole = channels_of(config)

@@ -3,9 +3,10 @@
 #
 #   tools/install.sh [PREFIX]
 #
-# PREFIX is /usr/local without the word. A packager sets DESTDIR, which goes in front of every path that is written and stands in
-# none of the files. PROGRAM names the program, crates/satip/out/satip without it (`cd crates/satip && rt run -- --version`
-# builds it). Nothing is started, and /etc is left alone. Needs coreutils and sed alone.
+# PREFIX is /usr/local without the word. A packager sets DESTDIR, which goes in front of every path
+# that is written and stands in none of the files. PROGRAM names the program, crates/satip/out/satip
+# without it (`cd crates/satip && rt run -- --version` builds it). Nothing is started, and /etc is
+# left alone. Needs coreutils and sed alone.
 set -eu
 top=$(cd "$(dirname "$0")/.." && pwd)
 prefix=${1:-/usr/local}

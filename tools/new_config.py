@@ -3,12 +3,14 @@
 
     tools/new_config.py [--address ADDRESS] [--to CONFIG] [--force] FILE..
 
-Each FILE becomes a multiplex of its own, and each of up to 16 gets a front end. CONFIG is satip.toml without the word; one
-that stands is only written over with --force. ADDRESS is that of this machine on its network without the word. The ports are
-554 and 8875 where they are free and may be opened, else the next free ones from 18554 and 18875 on.
+Each FILE becomes a multiplex of its own, and each of up to 16 gets a front end. CONFIG is
+satip.toml without the word; one that stands is only written over with --force. ADDRESS is that of
+this machine on its network without the word. The ports are 554 and 8875 where they are free and
+may be opened, else the next free ones from 18554 and 18875 on.
 
-Of each file it says whether it is a transport stream, its rate, and what SATIP_PACE=recording is good for. Needs python3 and
-ffprobe (Debian: apt-get install ffmpeg). The status is 1 where a file was left out, 2 where nothing was written.
+Of each file it says whether it is a transport stream, its rate, and what SATIP_PACE=recording is
+good for. Needs python3 and ffprobe (Debian: apt-get install ffmpeg). The status is 1 where a file
+was left out, 2 where nothing was written.
 """
 
 import argparse
@@ -25,7 +27,7 @@ MOST_FRONTENDS, MOST_MUXES, LONGEST_NAME = 16, 256, 255
 FIRST_MHZ, STEP_MHZ = 10704, 8
 
 HEAD = """\
-# A configuration of satip, written by tools/new_config.py. examples/satip.toml says what each line is.
+# Written by tools/new_config.py. examples/satip.toml says what each line is.
 address = {address}
 rtsp_port = {rtsp}
 http_port = {http}
@@ -87,20 +89,21 @@ def pace_text(rate):
 def taken(paths):
     """The recordings that can be played, and whether each file is one; says what each file is."""
     recordings, whole = [], True
-    for path in map(os.path.abspath, paths):
+    for path in paths:
         try:
-            if len(os.fsencode(path)) > LONGEST_NAME:
-                raise NoRecording(f"its name has more than {LONGEST_NAME} bytes")
             recording = probe(path)
+            if len(os.fsencode(os.path.abspath(path))) > LONGEST_NAME:
+                raise NoRecording(f"its whole path has more than {LONGEST_NAME} bytes")
             if len(recordings) == MOST_MUXES:
-                raise NoRecording(f"left out, since a configuration has at most {MOST_MUXES} multiplexes")
+                raise NoRecording(f"one more than the {MOST_MUXES} that a configuration has")
         except NoRecording as fault:
-            print(f"{path}: {fault}")
+            print(f"{path}: left out: {fault}")
             whole = False
             continue
         names = ", ".join(it.name for it in recording.programmes) or "no programme in its tables"
         told = f"transport stream, {rate_text(recording.bit_rate)}, {clock_text(recording.seconds)}"
-        print(f"{path}: {told} ({names}); {pace_text(recording.bit_rate)}")
+        print(f"{path}: {told} ({names});")
+        print(f"    {pace_text(recording.bit_rate)}")
         recordings.append(recording)
     return recordings, whole
 
@@ -110,7 +113,7 @@ def config_text(address, rtsp, http, recordings):
     text = HEAD.format(address=json.dumps(address), rtsp=rtsp, http=http)
     text += FRONTEND * min(len(recordings), MOST_FRONTENDS)
     for place, recording in enumerate(recordings):
-        file = json.dumps(recording.path, ensure_ascii=False)
+        file = json.dumps(os.path.abspath(recording.path), ensure_ascii=False)
         text += MUX.format(freq=FIRST_MHZ + STEP_MHZ * place, file=file)
     return text
 

@@ -1,6 +1,7 @@
-"""What recordings hold, read by ffprobe (Debian: apt-get install ffmpeg), for channels.py and new_config.py.
+"""What recordings hold, for channels.py and new_config.py.
 
-The tables of a transport stream (PAT, PMT, SDT; ISO 13818-1, EN 300 468) are read by ffprobe alone.
+The tables of a transport stream (PAT, PMT, SDT; ISO 13818-1, EN 300 468) are read by ffprobe alone
+(Debian: apt-get install ffmpeg).
 """
 
 import json
@@ -9,7 +10,7 @@ import subprocess
 import sys
 from dataclasses import dataclass, field
 
-# 64 packets of 188 bytes every 20 ms, in bit/s: the pace of `satip serve` without SATIP_PACE=recording.
+# 64 packets of 188 bytes every 20 ms: the pace of serve in bit/s without SATIP_PACE=recording.
 EVEN_PACE = 64 * 188 * 8 * 50
 
 

@@ -3,8 +3,8 @@
 
     tools/try_balancer.py [--readers 200] [--seconds 10] [--program PROGRAM]
 
-It starts four servers at 127.0.1.11 to 127.0.1.14, HAProxy by examples/haproxy.cfg at 127.0.1.10, and
-the readers. After some seconds it kills the second server, starts it again 3 seconds later, as
+It starts four servers at 127.0.1.11 to 127.0.1.14, HAProxy by examples/haproxy.cfg at 127.0.1.10,
+and the readers. After some seconds it kills the second server, starts it again 3 seconds later, as
 systemd's Restart does, and goes on for as many seconds once all readers are back. It ends with
 status 0 where
 
@@ -59,7 +59,7 @@ file = "a.ts"
 
 
 class Reader:
-    """One after another, connections to the balancer; each is compared with the recording as it comes."""
+    """Connections to the balancer, one after another; what comes is compared with the recording."""
 
     def __init__(self, recording):
         self.recording = recording
@@ -99,7 +99,7 @@ class Reader:
             self.compare(data)
 
     def take_head(self, data, selector):
-        """The reply's head; one without a stream, as 503 while no server has room, is asked again."""
+        """The reply's head; where it begins no stream, as 503, the reader asks again."""
         self.head += data
         head, found, rest = self.head.partition(b"\r\n\r\n")
         if not found:
@@ -126,7 +126,7 @@ class Reader:
     def compare(self, data):
         end = self.place + len(data)
         if self.recording[self.place : end] != data and not self.faults:
-            self.faults.append(f"{self.server}: another byte than the recording's near {self.place}")
+            self.faults.append(f"{self.server}: not the recording's bytes near {self.place}")
         moment = time.monotonic()
         if self.last is not None:
             self.longest_gap = max(self.longest_gap, moment - self.last)
@@ -192,7 +192,7 @@ class Run:
 def wait_for(address, port, process):
     for _ in range(100):
         if process.poll() is not None:
-            sys.exit(f"what was to listen at {address}:{port} ended with status {process.returncode}")
+            sys.exit(f"{address}:{port}: its process ended with status {process.returncode}")
         try:
             socket.create_connection((address, port), timeout=1).close()
             return

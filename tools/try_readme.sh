@@ -3,17 +3,20 @@
 #
 #   tools/try_readme.sh [README]
 #
-# Each fenced block that begins with ```sh is run, in a scratch folder that has each entry of the repository by a link and
-# keeps what earlier blocks wrote. A block's mark is an HTML comment on the line above its fence:
+# Each fenced block that begins with ```sh is run, in a scratch folder that has each entry of the
+# repository by a link and keeps what earlier blocks wrote. A block's mark is an HTML comment on the
+# line above its fence:
 #
-#   <!-- try: skip, REASON -->   nothing of it is run, and REASON is printed
-#   <!-- try: server -->         it goes on in the background until README ends or the next such block begins
-#   <!-- try: N seconds -->      each line is a command of its own that gets N seconds; being ended by that is no failure
+#   <!-- try: skip, REASON -->   nothing of it is run
+#   <!-- try: server -->         it goes on in the background until README ends, or till the next one
+#   <!-- try: N seconds -->      each line is a command of its own that gets N seconds; being ended
+#                                by that is no failure
 #
-# Without a mark it is run whole by `bash -e`, for ten minutes at most. A line that ends with a comment that begins
-# '# by hand' isn't run. Needs bash, python3 and what README's commands need (Debian: ffmpeg, curl, vlc-bin, vlc-plugin-base,
-# gstreamer1.0-tools, gstreamer1.0-plugins-good, gstreamer1.0-plugins-bad); a command that isn't to be had is a failure.
-# VLC refuses root: where this is run as root, cvlc runs as the user that VLC_USER names, nobody without it.
+# Without a mark it is run whole by `bash -e`, for ten minutes at most. A line that ends with a
+# comment that begins '# by hand' isn't run. Needs bash, python3 and what README's commands need (Debian:
+# ffmpeg, curl, vlc-bin, vlc-plugin-base, gstreamer1.0-tools, gstreamer1.0-plugins-good,
+# gstreamer1.0-plugins-bad, haproxy); a command that isn't to be had is a failure. VLC refuses root:
+# where this is run as root, cvlc runs as the user that VLC_USER names, nobody without it.
 set -u
 top=$(cd "$(dirname "$0")/.." && pwd)
 readme=$(realpath "${1:-$top/README.md}")
@@ -29,7 +32,7 @@ cut_blocks() {
         /^```/ && !other && $0 == "```sh" {
             inside = 1; name = sprintf("%s/%03d.sh", folder, ++count)
             mark = ""
-            if (match(before, /^<!-- try: .* -->$/)) mark = substr(before, 11, length(before) - 14)
+            if (before ~ /^<!-- try: .* -->$/) mark = substr(before, 11, length(before) - 14)
             file = sprintf("%s/%03d.mark", folder, count)
             printf "%s", mark > file; close(file); printf "" > name
             next
@@ -81,10 +84,12 @@ start_server() {
 opened_by() {
     python3 - "$1" << 'PYTHON'
 import glob, os, sys
+group = int(sys.argv[1])
 listening = {line.split()[9] for line in open("/proc/net/tcp") if line.split()[3] == "0A"}
 for file in glob.glob("/proc/[0-9]*/fd/*"):
     try:
-        if os.getpgid(int(file.split("/")[2])) == int(sys.argv[1]) and os.readlink(file)[8:-1] in listening:
+        inode = os.readlink(file).removeprefix("socket:[").removesuffix("]")
+        if inode in listening and os.getpgid(int(file.split("/")[2])) == group:
             sys.exit(0)
     except OSError:
         continue
@@ -143,8 +148,8 @@ run_block() {
 # A cvlc ahead of the real one in PATH.
 let_root_play() {
     local user=${VLC_USER:-nobody}
-    printf '#!/bin/sh\nexec runuser -u %s -- env HOME=/tmp %s "$@"\n' "$user" "$(command -v cvlc)" \
-        > "$scratch/bin/cvlc"
+    printf '#!/bin/sh\nexec runuser -u %s -- env HOME=/tmp %s "$@"\n' \
+        "$user" "$(command -v cvlc)" > "$scratch/bin/cvlc"
     chmod 755 "$scratch" "$scratch/bin" "$scratch/bin/cvlc"
     PATH=$scratch/bin:$PATH
 }
