@@ -208,13 +208,31 @@ def spread(readers):
     return ", ".join(f"{name} {number}" for name, number in count.items())
 
 
+def cpu_seconds(process):
+    with open(f"/proc/{process.pid}/stat", encoding="ascii") as file:
+        fields = file.read().rsplit(")", 1)[1].split()
+    return (int(fields[11]) + int(fields[12])) / os.sysconf("SC_CLK_TCK")
+
+
+def measure(run, seconds):
+    """Goes on for so long, and says what that cost."""
+    parts = {"HAProxy": [run.balancer], "the servers": list(run.servers.values())}
+    before = {name: sum(map(cpu_seconds, part)) for name, part in parts.items()}
+    bytes_before = sum(reader.bytes for reader in run.readers)
+    run.go_on(seconds)
+    gigabytes = (sum(reader.bytes for reader in run.readers) - bytes_before) / 1e9
+    used = {name: sum(map(cpu_seconds, part)) - before[name] for name, part in parts.items()}
+    told = ", ".join(f"{name} {it / gigabytes:.2f}" for name, it in used.items())
+    print(f"{gigabytes * 8000 / seconds:.0f} Mbit/s to all; seconds of CPU a gigabyte: {told}")
+
+
 def try_it(run, seconds):
     """Whether all holds; says what was seen."""
     if not run.go_on(30, run.all_served):
         served = sum(reader.is_served() for reader in run.readers)
         sys.exit(f"only {served} of {len(run.readers)} readers got a stream")
     print(f"{len(run.readers)} readers have a stream: {spread(run.readers)}")
-    run.go_on(seconds)
+    measure(run, seconds)
     losing = [reader for reader in run.readers if reader.server == KILLED]
     before = {id(reader): reader.connections for reader in run.readers}
     run.kill_server(KILLED)
