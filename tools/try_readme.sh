@@ -4,17 +4,19 @@
 #   tools/try_readme.sh [README]
 #
 # Each fenced block that begins with ```sh is run, in a scratch folder that has each entry of the
-# repository by a link and keeps what earlier blocks wrote. A block's mark is an HTML comment on the
-# line above its fence:
+# repository by a link and keeps what earlier blocks wrote. A block's mark is an HTML comment on
+# the line above its fence:
 #
 #   <!-- try: skip, REASON -->   nothing of it is run
-#   <!-- try: server -->         it goes on in the background until README ends, or till the next one
+#   <!-- try: server -->         it goes on in the background till README ends, or the next one
 #   <!-- try: N seconds -->      each line is a command of its own that gets N seconds; being ended
 #                                by that is no failure
+#   <!-- try: N seconds beside -->   the same, but all beside each other: each begins two seconds
+#                                behind the one before it
 #
 # Without a mark it is run whole by `bash -e`, for ten minutes at most. A line that ends with a
-# comment that begins '# by hand' isn't run. Needs bash, python3 and what README's commands need (Debian:
-# ffmpeg, curl, vlc-bin, vlc-plugin-base, gstreamer1.0-tools, gstreamer1.0-plugins-good,
+# comment that begins '# by hand' isn't run. Needs bash, python3 and what README's commands need
+# (Debian: ffmpeg, curl, vlc-bin, vlc-plugin-base, gstreamer1.0-tools, gstreamer1.0-plugins-good,
 # gstreamer1.0-plugins-bad, haproxy); a command that isn't to be had is a failure. VLC refuses root:
 # where this is run as root, cvlc runs as the user that VLC_USER names, nobody without it.
 set -u
@@ -60,7 +62,7 @@ say_failed() {
     failed=$((failed + 1))
 }
 
-# A port that listens, of those that the server of this group opened, is what the next block waits for.
+# The next block waits until a process of the server's group has a port that listens.
 start_server() {
     stop_server
     setsid bash -e "$1" < /dev/null 2> "$scratch/server" &
@@ -68,16 +70,21 @@ start_server() {
     for _ in $(seq 100); do
         sleep 0.2
         if ! kill -0 "$server" 2> "$scratch/null"; then
-            sed 's/^/    /' "$scratch/server"
+            show "$scratch/server"
             server=
             return 1
         fi
         if opened_by "$server"; then
-            sed 's/^/    /' "$scratch/server"
+            show "$scratch/server"
             return 0
         fi
     done
     return 1
+}
+
+# The last lines of what a command told.
+show() {
+    tail -20 "$1" | cut -c1-160 | sed 's/^/    /'
 }
 
 # Whether a process of the group has a listening socket, by /proc alone.
@@ -97,26 +104,59 @@ sys.exit(1)
 PYTHON
 }
 
-# Each command of a block for some seconds; one that goes over lines by '\' is one.
-run_lines() {
-    local seconds=$1 command=
+# The commands of a block into `commands`; one that goes over lines by '\' is one.
+read_commands() {
+    local line command=
+    commands=()
     while IFS= read -r line || [ -n "$line" ]; do
-        if [ "${line%\\}" != "$line" ]; then
-            command+="${line%\\}"
-            continue
-        fi
-        command+=$line
-        case $command in '' | '#'*) command=; continue ;; esac
-        echo "  \$ $command"
-        timeout --kill-after=5 "$seconds" bash -e -c "$command" < /dev/null > "$scratch/told" 2>&1
-        status=$?
-        ran=$((ran + 1))
-        if [ $status -ne 0 ] && [ $status -ne 124 ]; then
-            sed 's/^/    /' "$scratch/told" | tail -20
-            say_failed "$command" "status $status"
-        fi
+        command+=${line%\\}
+        [ "${line%\\}" = "$line" ] || continue
+        case $command in '' | '#'*) ;; *) commands+=("$command") ;; esac
         command=
-    done < "$2"
+    done < "$1"
+}
+
+# One command for some seconds; what it told goes to a file of its own.
+run_for() {
+    timeout --kill-after=5 "$1" bash -e -c "$2" < /dev/null > "$3" 2>&1
+}
+
+# 124 is what timeout(1) tells of a command that it ended. VLC goes on where it can't play.
+judge() {
+    ran=$((ran + 1))
+    if [ "$1" -ne 0 ] && [ "$1" -ne 124 ]; then
+        show "$3"
+        say_failed "$2" "status $1"
+    elif grep -q 'unable to open' "$3"; then
+        show "$3"
+        say_failed "$2" "it opened nothing"
+    fi
+}
+
+run_lines() {
+    local command
+    read_commands "$2"
+    for command in "${commands[@]}"; do
+        echo "  \$ $command"
+        run_for "$1" "$command" "$scratch/told"
+        judge $? "$command" "$scratch/told"
+    done
+}
+
+# Each command begins two seconds behind the one before it.
+run_beside() {
+    local place pids=()
+    read_commands "$2"
+    for place in "${!commands[@]}"; do
+        echo "  \$ ${commands[place]} &"
+        run_for "$1" "${commands[place]}" "$scratch/told.$place" &
+        pids+=($!)
+        sleep 2
+    done
+    for place in "${!commands[@]}"; do
+        wait "${pids[place]}"
+        judge $? "${commands[place]}" "$scratch/told.$place"
+    done
 }
 
 run_whole() {
@@ -124,7 +164,7 @@ run_whole() {
     timeout --kill-after=5 600 bash -e "$1" < /dev/null > "$scratch/told" 2>&1
     status=$?
     ran=$((ran + 1))
-    sed 's/^/    /' "$scratch/told" | tail -20
+    show "$scratch/told"
     [ $status -eq 0 ] || say_failed "the block above" "status $status"
 }
 
@@ -140,6 +180,7 @@ run_block() {
         start_server "$1" || say_failed "the server above" "it opened no port"
         ;;
     [1-9]*' seconds') run_lines "${mark% seconds}" "$1" ;;
+    [1-9]*' seconds beside') run_beside "${mark% seconds beside}" "$1" ;;
     '') run_whole "$1" ;;
     *) say_failed "the mark" "'$mark' isn't one" ;;
     esac
