@@ -22,6 +22,7 @@ from dataclasses import dataclass
 sys.dont_write_bytecode = True
 from recordings import NoRecording, Programme, Recording, clock_text, probe, rate_text
 
+MUX_KEYS = ("src", "freq", "pol", "msys", "sr", "file")
 PLAYLIST_GROUPS = (("satip", "SAT>IP"), ("http", "HTTP"))
 
 
@@ -124,14 +125,21 @@ def vdr(_, channels):
 
 
 def read(path):
+    """A configuration and its server; only what is used here is looked at."""
     try:
         with open(path, "rb") as file:
             config = tomllib.load(file)
         ports = config.get("rtsp_port", 554), config.get("http_port", 8875)
+        for mux in config.get("mux", []):
+            for key in MUX_KEYS:
+                _ = mux[key]
         return config, Server(config["address"], *ports)
-    except (OSError, tomllib.TOMLDecodeError, KeyError) as error:
-        print(f"{path}: {error}", file=sys.stderr)
-        sys.exit(2)
+    except KeyError as key:
+        fault = f"no {key}"
+    except (OSError, tomllib.TOMLDecodeError) as error:
+        fault = error
+    print(f"{path}: {fault}", file=sys.stderr)
+    sys.exit(2)
 
 
 FORMS = (
