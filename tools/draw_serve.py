@@ -5,7 +5,7 @@
 
 It makes two recordings, a configuration by tools/new_config.py, starts the server, prints its
 channels by tools/channels.py, and takes a stream by curl. Each line of the picture is one that a
-command wrote, but for the prompts. Needs python3, ffmpeg and curl (Debian: apt-get install ffmpeg
+command wrote, but for the prompts and for the scratch folder's name, which is told as ~. Needs python3, ffmpeg and curl (Debian: apt-get install ffmpeg
 curl), and PROGRAM, which is crates/satip/out/satip without the word (`cd crates/satip && rt run --
 --version` builds it). Ports from 18554 and 18875 on of 127.0.0.1 are to be free.
 """
@@ -42,11 +42,11 @@ def make_recordings(folder):
 class Screen:
     """The lines of a terminal, each with its style."""
 
-    def __init__(self):
-        self.lines = []
+    def __init__(self, folder):
+        self.folder, self.lines = folder, []
 
     def put(self, style, text):
-        for line in text.expandtabs().splitlines():
+        for line in text.replace(self.folder, "~").expandtabs().splitlines():
             rest = line.rstrip()
             while len(rest) > COLUMNS:
                 cut = rest.rfind(" ", COLUMNS // 2, COLUMNS) + 1 or COLUMNS
@@ -54,11 +54,11 @@ class Screen:
                 rest = "    " + rest[cut:]
             self.lines.append((style, rest))
 
-    def run(self, command, folder, environment, status=0):
+    def run(self, command, environment, status=0):
         """A command, as one would type it in the folder, and what it wrote; how it is to end."""
         self.put("prompt", f"$ {command}")
         ran = subprocess.run(
-            ["bash", "-c", command], cwd=folder, env=environment, text=True, timeout=60,
+            ["bash", "-c", command], cwd=self.folder, env=environment, text=True, timeout=60,
             stdin=subprocess.DEVNULL, stdout=subprocess.PIPE, stderr=subprocess.STDOUT, check=False,
         )
         if ran.returncode != status:
@@ -101,18 +101,18 @@ def serve(screen, folder, environment, port):
     return server
 
 
-def session(screen, folder, environment):
-    screen.run("tools/new_config.py --address 127.0.0.1 news.ts film.ts", folder, environment)
-    config, address = read(f"{folder}/satip.toml")
-    server = serve(screen, folder, environment, address.rtsp_port)
+def session(screen, environment):
+    screen.run("tools/new_config.py --address 127.0.0.1 news.ts film.ts", environment)
+    config, address = read(f"{screen.folder}/satip.toml")
+    server = serve(screen, screen.folder, environment, address.rtsp_port)
     try:
-        screen.run("tools/channels.py satip.toml", folder, environment)
+        screen.run("tools/channels.py satip.toml", environment)
         freq = config["mux"][0]["freq"]
         url = address.url("http", f"freq={freq}&pol=h&msys=dvbs2&sr=22000&pids=all")
         # 124 is what timeout(1) tells of a command that it ended.
-        screen.run(f"timeout 3 curl -s '{url}' > stream.ts", folder, environment, status=124)
+        screen.run(f"timeout 3 curl -s '{url}' > stream.ts", environment, status=124)
         look = "ffprobe -hide_banner stream.ts 2>&1 | grep -E 'service_name|Stream'"
-        screen.run(look, folder, environment)
+        screen.run(look, environment)
     finally:
         server.kill()
         server.wait()
@@ -124,14 +124,14 @@ def main():
     words.add_argument("--to", metavar="PICTURE", default=f"{TOP}/docs/serve.svg")
     given = words.parse_args()
     signal.signal(signal.SIGTERM, lambda *_: sys.exit(1))
-    screen = Screen()
     with tempfile.TemporaryDirectory(prefix="satip-") as folder:
+        screen = Screen(folder)
         make_recordings(folder)
         os.mkdir(f"{folder}/bin")
         os.symlink(os.path.abspath(given.program), f"{folder}/bin/satip")
         os.symlink(f"{TOP}/tools", f"{folder}/tools")
         path = f"{folder}/bin:{os.environ['PATH']}"
-        session(screen, folder, {**os.environ, "PATH": path})
+        session(screen, {**os.environ, "PATH": path})
     with open(given.to, "w", encoding="utf-8") as file:
         file.write("\n".join(screen.svg()) + "\n")
     print(f"{given.to}: {len(screen.lines)} lines")
