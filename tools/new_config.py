@@ -16,12 +16,14 @@ was left out, 2 where nothing was written.
 import argparse
 import json
 import os
+import shutil
 import socket
 import sys
 
 sys.dont_write_bytecode = True
 from recordings import EVEN_PACE, NoRecording, clock_text, probe, rate_text
 
+BUILT = os.path.join(os.path.dirname(os.path.abspath(__file__)), "../crates/satip/out/satip")
 MOST_FRONTENDS, MOST_MUXES, LONGEST_NAME = 16, 256, 255
 # Multiplexes stand further apart than the 2 MHz by which a client may miss one.
 FIRST_MHZ, STEP_MHZ = 10704, 8
@@ -121,8 +123,9 @@ def config_text(address, rtsp, http, recordings):
 def say_what_to_start(config, recordings):
     own = [it for it in recordings if it.bit_rate and abs(EVEN_PACE / it.bit_rate - 1) > 0.02]
     pace = "SATIP_PACE=recording " if own else ""
+    program = "satip" if shutil.which("satip") else os.path.relpath(BUILT)
     print(f"{config} is written. Start the server, which plays each recording again at its end:")
-    print(f"    {pace}SATIP_REPEAT=1 satip serve {config} 0")
+    print(f"    {pace}SATIP_REPEAT=1 {program} serve {config} 0")
     print(f"and see its channels by tools/channels.py {config}, or --m3u for a playlist.")
 
 
