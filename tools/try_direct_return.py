@@ -30,7 +30,7 @@ from count_late import Client, receiver, skipped
 TOP = os.path.dirname(os.path.dirname(os.path.abspath(__file__)))
 ADDRESS, PORT = "10.77.0.10", 554
 SERVERS = range(1, 5)
-NAME = f"satip{os.getpid()}"
+NAME = f"satip{os.getpid()}-"
 # Bytes of requests and acknowledgements that a client sends at most; a second of RTP has 600,000.
 MOST_PASSED = 4000
 QUERY = "src=1&freq=11361.75&pol=h&msys=dvbs2&sr=22000&pids=all"
