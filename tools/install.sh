@@ -1,0 +1,40 @@
+#!/bin/sh
+# Installs the program, its manual page, the examples and the unit of systemd below a prefix.
+#
+#   tools/install.sh [PREFIX]
+#
+# PREFIX is /usr/local without the word. A packager sets DESTDIR, which goes in front of every path
+# that is written and stands in none of the files. PROGRAM names the program, crates/satip/out/satip
+# without it (`cd crates/satip && rt run -- --version` builds it). Nothing is started, and /etc is
+# left alone. Needs coreutils and sed alone.
+set -eu
+top=$(cd "$(dirname "$0")/.." && pwd)
+prefix=${1:-/usr/local}
+program=${PROGRAM:-$top/crates/satip/out/satip}
+case $prefix in
+/*) ;;
+*)
+    echo "usage: [DESTDIR=FOLDER] [PROGRAM=FILE] $0 [PREFIX], PREFIX from the root on" >&2
+    exit 2
+    ;;
+esac
+if [ ! -x "$program" ]; then
+    echo "$program isn't there: (cd crates/satip && rt run -- --version) builds it" >&2
+    exit 1
+fi
+to=${DESTDIR:-}$prefix
+unit=$(mktemp)
+trap 'rm -f "$unit"' EXIT
+sed "s|/usr/local/bin/satip|$prefix/bin/satip|" "$top/examples/satip.service" > "$unit"
+
+put() {
+    install -D -m "$1" "$2" "$to/$3"
+    echo "$to/$3"
+}
+
+put 755 "$program" bin/satip
+put 644 "$top/docs/satip.1" share/man/man1/satip.1
+for example in satip.toml session.script haproxy.cfg; do
+    put 644 "$top/examples/$example" "share/doc/satip/examples/$example"
+done
+put 644 "$unit" lib/systemd/system/satip.service
