@@ -1,7 +1,8 @@
 //! What a query makes of a stream's tuning and PIDs.
 
-ghost use Rattle.std.specs.Prelude.{◌≡◌, ◌<◌, All};
-ghost use Rattle.satip_pids.specs.Pids.{add_pids, choose_pids, if_given, remove_pids, set_pids, Every};
+ghost use Rattle.std.specs.Prelude.{◌≡◌, false, Ok, Err, MatchOption};
+ghost use Rattle.std.specs.Result.{result_err};
+ghost use Rattle.satip_pids.specs.Pids.{Pids, add_pids, choose_pids, if_given, remove_pids};
 ghost use Rattle.satip_plain.specs.Streams.{asked_pids as pids_asked, changed_tuning as tuning_changed, choice_of, other_than as tuning_other_than, to_set as tuning_to_set};
 
 use satip_pids::{PidFault, PidList, PidSet};
@@ -42,72 +43,70 @@ fn other_than(old: Option<Tuning>, new: Tuning) -> Option<Tuning>
     }
 }
 
-/// The PIDs that a query makes of these: the whole set first, then what is added, then what is removed;
-/// the first fault, else.
-pub fn asked_pids(pids: &PidSet, query: &Query) -> Result<PidSet, PidFault>
-    ensures asked { result ≡ pids_asked pids.now query.now }
+/// Puts the PIDs that a query makes of these in their place: the whole set first, then what is added, then
+/// what is removed. The first fault, else, and then the set is to be dropped.
+pub fn asked_pids(pids: &mut PidSet, query: &Query) -> Option<PidFault>
+    ensures asked { MatchOption result (pids_asked pids.old query.now ≡ Ok pids.new)
+        (λ fault. pids_asked pids.old query.now ≡ Err fault) }
 {
-    match chosen(pids, &query.pids) {
-        Err(fault) => Err(fault),
-        Ok(set) => match added(&set, &query.addpids) {
-            Err(fault) => Err(fault),
-            Ok(set) => removed(&set, &query.delpids),
-        },
+    if let Some(fault) = choose(pids, &query.pids) {
+        return Some(fault);
     }
+    if let Some(fault) = add(pids, &query.addpids) {
+        return Some(fault);
+    }
+    remove(pids, &query.delpids)
 }
 
-fn chosen(pids: &PidSet, given: &PidsGiven) -> Result<PidSet, PidFault>
-    ensures chosen { result ≡ choose_pids pids.now (choice_of given.now) }
+/// The first fault of the PIDs that a query makes of these.
+pub fn pids_fault(pids: &PidSet, query: &Query) -> Option<PidFault>
+    ensures fault { result ≡ result_err (pids_asked pids.now query.now) }
+{
+    if !asks_pids(query) {
+        return None;
+    }
+    let mut set = *pids;
+    asked_pids(&mut set, query)
+}
+
+/// Whether a query says which PIDs are wanted: without a list, these stay as they are.
+pub fn asks_pids(query: &Query) -> bool
+    ensures stay { result ≡ false → (old : Pids) → pids_asked old query.now ≡ Ok old }
+{
+    query.pids.are_given() || query.addpids.is_some() || query.delpids.is_some()
+}
+
+fn choose(pids: &mut PidSet, given: &PidsGiven) -> Option<PidFault>
+    ensures chosen { MatchOption result (choose_pids pids.old (choice_of given.now) ≡ Ok pids.new)
+        (λ fault. choose_pids pids.old (choice_of given.now) ≡ Err fault) }
 {
     match given {
-        PidsGiven::Absent => Ok(*pids),
-        PidsGiven::All => Ok(all_pids()),
-        PidsGiven::Empty => set_of(&[]),
-        PidsGiven::List(list) => set_of(list.as_slice()),
+        PidsGiven::Absent => None,
+        PidsGiven::All => {
+            pids.set_all();
+            None
+        }
+        PidsGiven::Empty => pids.set(&[]).err(),
+        PidsGiven::List(list) => pids.set(list.as_slice()).err(),
     }
 }
 
-fn all_pids() -> PidSet
-    ensures every { result ≡ Every }
+fn add(pids: &mut PidSet, list: &Option<PidList>) -> Option<PidFault>
+    ensures added { MatchOption result (if_given add_pids list.now pids.old ≡ Ok pids.new)
+        (λ fault. if_given add_pids list.now pids.old ≡ Err fault) }
 {
-    let mut set = PidSet::new();
-    set.set_all();
-    set
-}
-
-fn set_of(list: &[u16]) -> Result<PidSet, PidFault>
-    requires below { All (λ pid. pid < 8192) list.now }
-    ensures set { result ≡ set_pids list.now }
-{
-    let mut set = PidSet::new();
-    match set.set(list) {
-        Ok(()) => Ok(set),
-        Err(fault) => Err(fault),
-    }
-}
-
-fn added(pids: &PidSet, list: &Option<PidList>) -> Result<PidSet, PidFault>
-    ensures added { result ≡ if_given add_pids list.now pids.now }
-{
-    let mut set = *pids;
     match list {
-        None => Ok(set),
-        Some(list) => match set.add(list.as_slice()) {
-            Ok(()) => Ok(set),
-            Err(fault) => Err(fault),
-        },
+        None => None,
+        Some(list) => pids.add(list.as_slice()).err(),
     }
 }
 
-fn removed(pids: &PidSet, list: &Option<PidList>) -> Result<PidSet, PidFault>
-    ensures removed { result ≡ if_given remove_pids list.now pids.now }
+fn remove(pids: &mut PidSet, list: &Option<PidList>) -> Option<PidFault>
+    ensures removed { MatchOption result (if_given remove_pids list.now pids.old ≡ Ok pids.new)
+        (λ fault. if_given remove_pids list.now pids.old ≡ Err fault) }
 {
-    let mut set = *pids;
     match list {
-        None => Ok(set),
-        Some(list) => match set.remove(list.as_slice()) {
-            Ok(()) => Ok(set),
-            Err(fault) => Err(fault),
-        },
+        None => None,
+        Some(list) => pids.remove(list.as_slice()).err(),
     }
 }

@@ -3,4 +3,4 @@
 
 mod asking;
 
-pub use asking::{asked_pids, changed_tuning, to_set};
+pub use asking::{asked_pids, asks_pids, changed_tuning, pids_fault, to_set};

@@ -11,7 +11,7 @@ ghost use Rattle.satip_refusals.specs.Told.{told_if};
 
 use crate::places::{is_setup, names_none, stream_meant};
 use crate::refusals::{Refused, of_pids, of_tuning, telling};
-use satip_asking::{asked_pids, changed_tuning, to_set};
+use satip_asking::{changed_tuning, pids_fault, to_set};
 use satip_pids::PidSet;
 use satip_query::{Query, RefusalBody};
 use satip_rtsp::Request;
@@ -58,7 +58,7 @@ pub fn of_change(
     if let Some(refused) = key_missing(tuning, &query.change) {
         return Some(refused);
     }
-    if let Some(refused) = of_pids(asked_pids(pids, query)) {
+    if let Some(refused) = of_pids(pids_fault(pids, query)) {
         return Some(refused);
     }
     let full = makes & parts.is_full();

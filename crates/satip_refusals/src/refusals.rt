@@ -1,12 +1,14 @@
 //! Refusals: the status of each cause, and its text where it has one.
 
-ghost use Rattle.std.specs.Prelude.{◌≡◌, Some, Err, IfSome};
+ghost use Rattle.std.specs.Prelude.{◌≡◌, Some, Result, Err, IfSome};
+ghost use Rattle.std.specs.Result.{result_err};
+ghost use Rattle.satip_pids.specs.Pids.{Pids};
 ghost use Rattle.satip_rtsp.specs.Replies.{IsStatus};
 ghost use Rattle.satip_plain.specs.Refusals.{of_http_message as http_message_refused, of_message as message_refused, of_pids as pids_refused, of_query_fault as query_refused, of_tuning as tuning_refused, plainly as plain_refusal, telling as telling_refusal};
 ghost use Rattle.satip_refusals.specs.Told.{told, told_if};
 
 use satip_http::HttpRefusal;
-use satip_pids::{PidFault, PidSet};
+use satip_pids::PidFault;
 use satip_query::{QueryFault, RefusalBody};
 use satip_rtsp::Refusal;
 use satip_tune::{Key, Tuning};
@@ -96,13 +98,13 @@ pub fn of_tuning(tuning: Result<Tuning, Key>) -> Option<Refused>
 }
 
 /// The refusal of a change of PIDs, where it is at fault.
-pub fn of_pids(pids: Result<PidSet, PidFault>) -> Option<Refused>
+pub fn of_pids(fault: Option<PidFault>) -> Option<Refused>
     ensures known { IfSome result (λ refused. IsStatus refused.status) }
-    ensures refused { told_if result ≡ pids_refused pids }
+    ensures refused { (pids : Result Pids PidFault) → fault ≡ result_err pids → told_if result ≡ pids_refused pids }
 {
-    match pids {
-        Ok(_) => None,
-        Err(fault) => Some(of_pid_fault(fault)),
+    match fault {
+        None => None,
+        Some(fault) => Some(of_pid_fault(fault)),
     }
 }
 

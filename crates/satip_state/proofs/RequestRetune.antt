@@ -1,6 +1,6 @@
 -- The parts go on to stand for the plain state where a stream is tuned.
 use Rattle.std.proofs.Common.{◌≡◌, ◌∙◌, ℕ, ◌-◌, ◌<◌, ◌≤◌, ◌==◌, ◌&&◌, not, Bool, true, false, cond, List, [], ◌∷◌, Option, None, Some, map, filter, find, length, slice_get, slice_set, is_some, refl, ap, sym, subst, arith, append-nil}
-use Rattle.std.proofs.Common.{inl, inr, ◌⊎◌}
+use Rattle.std.proofs.Common.{inl, inr, ◌⊎◌, Ok}
 use Rattle.std.specs.List.{list_any}
 use Rattle.std.specs.Option.{option_map, option_and_then, option_flatten, option_map_or}
 use Rattle.std.proofs.lemmas.Bool.{cases_eq, eqb-true, eq-eqb, ne_eqb, true≢false}
@@ -26,7 +26,7 @@ use Rattle.satip_flow.specs.Subscriptions.{IsFrontOrNone}
 use Rattle.satip_plain.specs.Types.{Change, Config, Query}
 use Rattle.satip_plain.specs.State.{Row, State, Stream, change_where, is_at, stream_of}
 use Rattle.satip_plain.specs.Sending.{each_of, let_go, settle}
-use Rattle.satip_plain.specs.Streams.{change_by, change_stream, freed, new_pids, outlook_of, put_at, retune, to_set, tuned}
+use Rattle.satip_plain.specs.Streams.{asked_pids, change_by, change_stream, freed, new_pids, outlook_of, pids_or, put_at, retune, to_set, tuned}
 use Rattle.satip_plain.specs.Histories.{datagram}
 use Rattle.satip_state.specs.Kept.{Kept}
 use Rattle.satip_state.specs.Placing.{placed_in}
@@ -282,6 +282,22 @@ selected_by c v w st s number row pids query sound found is stands =
     change_sets number 0 (λ t. record t { pids = pids }) (stream_in row) row.tuning row.front pids st.streams rise at refl
     ∙ sym (change_sets number 0 (λ t. record t { pids = new_pids t.pids query }) (stream_in row) row.tuning row.front pids st.streams rise at (ap (λ p. set_stream row.tuning row.front p (stream_in row)) (sym is))) in
     subst (λ ts. StandsFor c w (record st { streams = ts })) same stands
+
+-- a query that says nothing of PIDs leaves each stream's as they are
+pub unasked_stays : (c : Config) (v : Kept) (st : State) → StandsFor c v st → (number : ℕ) (query : Query) → ((old : Pids) → asked_pids old query ≡ Ok old)
+    → StandsFor c v (change_stream number (λ t. record t { pids = new_pids t.pids query }) st)
+unasked_stays c v st s number query stay = subst (λ ts. StandsFor c v (record st { streams = ts })) (sym (same st.streams)) s
+  where
+    kept : (old : Pids) → new_pids old query ≡ old
+    kept old = ap (pids_or old) (stay old)
+
+    chosen : (b : Bool) (t : Stream) → cond b (record t { pids = new_pids t.pids query }) t ≡ t
+    chosen true t = ap (λ (p : Pids). record t { pids = p }) (kept t.pids)
+    chosen false t = refl
+
+    same : (ts : List Stream) → change_where (λ (t : Stream). t.number == number) (λ (t : Stream). record t { pids = new_pids t.pids query }) ts ≡ ts
+    same [] = refl
+    same (t ∷ ts) = ap (λ (x : Stream). x ∷ change_where (λ (t : Stream). t.number == number) (λ (t : Stream). record t { pids = new_pids t.pids query }) ts) (chosen (t.number == number) t) ∙ ap (λ (xs : List Stream). t ∷ xs) (same ts)
 
 -- tuning first, then PIDs
 pub changed_moves : (c : Config) (v w : Kept) (o n : Output) (st : State) (number : ℕ) (query : Query) → Moved c v o n (option_map_or (retune c number st) (to_set (option_and_then (λ (t : Stream). t.tuning) (stream_of st number)) query.change) (settle st))

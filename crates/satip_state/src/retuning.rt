@@ -10,7 +10,7 @@ ghost use Rattle.satip_state.specs.Placing.{placed_in};
 ghost use Rattle.satip_state.specs.Standing.{Moved, StandsFor};
 
 use crate::parts::Parts;
-use satip_asking::{asked_pids, to_set};
+use satip_asking::{asked_pids, asks_pids, to_set};
 use satip_base::Out;
 use satip_pids::PidSet;
 use satip_query::Query;
@@ -90,26 +90,31 @@ impl Parts {
         self.retune(number, &tuning, out);
     }
 
-    /// A stream selects the PIDs that a query makes of its own.
+    /// A stream selects the PIDs that a query makes of its own. Without a list these stay, and nothing is
+    /// copied: a set is large.
     fn select_by(&mut self, number: u16, query: &Query)
         ensures selected { (c : Config) (st : State) → StandsFor c self.old st → StandsFor c self.new
             (change_stream number (λ t. record t { pids = pids_after t.pids query.now }) st) }
     {
+        if !asks_pids(query) {
+            return;
+        }
         self.table.known();
         let Some(stream) = self.table.find_stream(number) else {
             return;
         };
-        let pids = new_pids(&stream.pids, query);
+        let mut pids = stream.pids;
+        put_asked(&mut pids, &stream.pids, query);
         self.change_pids(number, &pids);
     }
 }
 
-/// The PIDs after a query: the same where it is refused.
-fn new_pids(old: &PidSet, query: &Query) -> PidSet
-    ensures pids { result ≡ pids_after old.now query.now }
+/// Puts the PIDs after a query in the place of the old ones: the same where it is refused.
+fn put_asked(pids: &mut PidSet, old: &PidSet, query: &Query)
+    requires old { pids.old ≡ old.now }
+    ensures pids { pids.new ≡ pids_after old.now query.now }
 {
-    match asked_pids(old, query) {
-        Ok(pids) => pids,
-        Err(_) => *old,
+    if asked_pids(pids, query).is_some() {
+        *pids = *old;
     }
 }

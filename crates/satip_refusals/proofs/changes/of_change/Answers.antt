@@ -1,5 +1,4 @@
 use Rattle.std.proofs.Common.{◌∙◌, ◌&&◌, Bool, Some, ap, sym}
-use Rattle.satip_plain.specs.Refusals.{of_pids}
 use Rattle.satip_refusals.proofs.PlaceLemmas.{first_now, first_none}
 use Rattle.satip_refusals.proofs.changes.of_change.Goals as goal
 
@@ -7,5 +6,5 @@ pub returns-then-full-clause-refused : goal.returns-then-full-clause-refused
 returns-then-full-clause-refused c = λ cfg st stands.
     ap Some c.telling.ensures.telling
     ∙ first_now _ _ _ (sym c.if-full.true ∙ ap (λ (full : Bool). c.args.makes && full) (c.is_full.ensures.full cfg st stands))
-    ∙ first_none _ _ (c.in_default-of_pids.ensures.refused ∙ ap of_pids c.asked_pids.ensures.asked)
+    ∙ first_none _ _ (c.in_default-of_pids.ensures.refused _ c.pids_fault.ensures.fault)
     ∙ first_none _ _ c.in_default.ensures.missing

@@ -1,9 +1,14 @@
-use Rattle.std.proofs.Common.{sym, subst}
+use Rattle.std.proofs.Common.{sym, subst, rules}
 use Rattle.satip_state.specs.contracts.parts.Parts.{the_view}
 use Rattle.satip_state.specs.Standing.{StandsFor}
 use Rattle.satip_state.proofs.RequestPids.{stream_unchanged}
-use Rattle.satip_state.proofs.RequestRetune.{selected_by}
+use Rattle.satip_state.proofs.RequestRetune.{selected_by, unasked_stays}
 use Rattle.satip_state.proofs.parts.Parts.select_by.Goals as goal
+
+pub returns-then-not-asks_pids : goal.returns-then-not-asks_pids
+returns-then-not-asks_pids c = record {
+  selected = λ g st s. unasked_stays g c.args.self.now st s c.args.number c.args.query.now (c.asks_pids.ensures.stay (search rules));
+}
 
 pub returns-in_default : goal.returns-in_default
 returns-in_default c = record {
@@ -12,6 +17,6 @@ returns-in_default c = record {
 
 pub returns : goal.returns
 returns c = record {
-  selected = λ g st s. selected_by g (the_view c.self.inside) c.change_pids.new.self st (subst (λ v. StandsFor g v st) (sym c.self.view_is) s) c.args.number c.in-Some.stream.now c.new_pids-pids.result c.args.query.now
-      c.known.ensures.sound (sym c.in-Some.ensures.found) c.new_pids-pids.ensures.pids (c.change_pids.ensures.changed g st s);
+  selected = λ g st s. selected_by g (the_view c.self.inside) c.change_pids.new.self st (subst (λ v. StandsFor g v st) (sym c.self.view_is) s) c.args.number c.in-Some.stream.now c.put_asked.new.pids c.args.query.now
+      c.known.ensures.sound (sym c.in-Some.ensures.found) c.put_asked.ensures.pids (c.change_pids.ensures.changed g st s);
 }
