@@ -96,8 +96,8 @@ impl Destinations {
             report_line(
                 &self.rt,
                 format_args!(
-                    "{refused} datagrams were refused since the start, send buffers are full \
-                     (larger ones: sysctl net.core.wmem_max)"
+                    "datagrams refused since the start by full send buffers: {refused} \
+                     (for larger ones: sysctl net.core.wmem_max)"
                 ),
             );
         }

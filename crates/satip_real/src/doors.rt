@@ -4,7 +4,7 @@ ghost use Rattle.std.specs.Prelude.{◌≡◌, false, IfOk, IfSome};
 ghost use Rattle.satip_world.specs.Lines.{fresh_line};
 
 use crate::connection::RealConn;
-use crate::errors::ends_listening;
+use crate::errors::{ends_listening, lacks_descriptors};
 use crate::listeners::{Listeners, Visitor};
 use crate::report::report_line;
 use crate::silence::Silence;
@@ -103,13 +103,13 @@ fn next_visitor(listeners: &Listeners) -> io::Result<Option<Visitor>> {
     Ok(None)
 }
 
-// Tells that connections can't be taken, and waits: those that came are still there, so the next
-// look would be at once.
+// Waits where a connection can't be taken: it is still there, so the next look would be at once. A
+// shortage of descriptors is told.
 fn rest(rt: &HostRuntime, listeners: &Listeners, error: &io::Error) {
-    if listeners.shortages.is_due(rt) {
+    if lacks_descriptors(error) && listeners.shortages.is_due(rt) {
         report_line(
             rt,
-            format_args!("a connection can't be taken: {error} (more descriptors: ulimit -n)"),
+            format_args!("connections can't be taken: {error} (for more descriptors: ulimit -n)"),
         );
     }
     thread::sleep(rt, Duration::from_millis(SHORTAGE_MS));

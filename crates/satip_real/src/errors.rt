@@ -3,6 +3,8 @@
 use std::io;
 
 // Errors that the crate `libc` doesn't name (errno(3)).
+const ENFILE: i32 = 23;
+
 const ENOBUFS: i32 = 105;
 
 /// Whether a call on a connection is to be made again later: it would have waited, a signal cut it
@@ -24,6 +26,11 @@ pub(crate) fn ends_listening(error: &io::Error) -> bool {
         error.raw_os_error(),
         Some(libc::EBADF | libc::EINVAL | libc::ENOTSOCK)
     )
+}
+
+/// Whether the process or the system has no further descriptor.
+pub(crate) fn lacks_descriptors(error: &io::Error) -> bool {
+    matches!(error.raw_os_error(), Some(libc::EMFILE | ENFILE))
 }
 
 /// Whether a send buffer or the system had no room for a datagram (send(2)).
