@@ -7,8 +7,8 @@
 #   tools/inject_faults.sh [CALL..]
 #
 # Without a word it tries all calls of the list below. JOBS runs go side by side, 4 without it; each takes about 8 seconds.
-# An error of `read`, `openat`, `statx` and `lseek` may be the recording's own: its stream may end there. EBADF, EINVAL and ENOTSOCK of
-# `accept4` are faults of the listener itself, which end workers, so they are left out.
+# An error of `read`, `openat`, `statx` and `lseek` may be the recording's own: its stream may end there. EBADF, EINVAL and
+# ENOTSOCK of `accept4` are faults of the listener itself, which end workers, so they are left out.
 # Needs crates/satip/out/satip (`cd crates/satip && rt run -- --version` builds it; SATIP names another), the right to
 # trace it, ports from 20000 on of 127.0.0.1, and the Debian packages strace, python3 and ffmpeg.
 set -eu
@@ -47,6 +47,7 @@ errors_of() {
         shutdown) echo EBADF EINVAL ENOTCONN ENOTSOCK ;;
         clock_nanosleep) echo EFAULT EINTR EINVAL EOPNOTSUPP ;;
         close) echo EBADF EINTR EIO ENOSPC EDQUOT ;;
+        ioctl) echo EBADF EFAULT EINVAL ENOTTY ;;
         *) echo "no errors are known of $1" >&2; exit 2 ;;
     esac
 }
@@ -72,7 +73,7 @@ run_one() {
 
 
 calls=${*:-accept4 recvfrom sendto poll epoll_wait epoll_ctl read openat statx lseek socket bind connect setsockopt \
-getsockopt shutdown clock_nanosleep write close}
+getsockopt ioctl shutdown clock_nanosleep write close}
 number=0
 for call in $calls; do
     for error in $(errors_of "$call"); do
