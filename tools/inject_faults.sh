@@ -1,8 +1,8 @@
 #!/bin/sh
 # Makes the system calls of `serve` fail now and then, by each error that the manual pages name for them, one run for each:
 # while one client streams over RTP and others come and go over RTSP and HTTP, the server has to live, the stream has to go
-# on, and a client that comes afterwards has to be served. It prints a table of calls, errors and results, and the status
-# is 1 where one of them fails.
+# on, and a client that comes afterwards has to be served. It prints a table of calls, errors with how many calls failed by
+# them, and results, and the status is 1 where one of them fails. 0 stands where the server doesn't make the call.
 #
 #   tools/inject_faults.sh [CALL..]
 #
@@ -65,8 +65,8 @@ run_one() {
         [ $tries -lt 200 ] || break
         sleep 0.1
     done
-    result=$(timeout 60 python3 "$top/tools/inject_client.py" $server $rtsp $http "$2" "$3" 2> "$folder/$1.client") ||
-        result="failed: $(tail -1 "$folder/$1.client")"
+    result=$(timeout 60 python3 "$top/tools/inject_client.py" $server $rtsp $http "$2" "$3" "$folder/$1.calls" 2> "$folder/$1.client") ||
+        result="0 failed: $(tail -1 "$folder/$1.client")"
     kill $server 2> /dev/null || true
     echo "$2 $3 $result" > "$folder/$1.result"
 }
@@ -89,8 +89,9 @@ for call in $calls; do
     good="" own="" bad=""
     for result in $(seq 1 $number); do
         [ -s "$folder/$result.result" ] || continue
-        read -r of error outcome < "$folder/$result.result"
+        read -r of error count outcome < "$folder/$result.result"
         [ "$of" = "$call" ] || continue
+        error="$error($count)"
         case $call:$outcome in
             *:"lives streams served") good="$good $error" ;;
             read:"lives stopped served" | openat:"lives stopped served" | statx:"lives stopped served" | lseek:"lives stopped served")
