@@ -1,10 +1,11 @@
 #!/usr/bin/env python3
 """The clients of inject_faults.sh: one that streams over RTP, others that come and go, and one that comes afterwards.
 
-    inject_client.py PID RTSP_PORT HTTP_PORT CALL ERROR
+    inject_client.py PID RTSP_PORT HTTP_PORT CALL ERROR LOG
 
-It lets strace(1) make each 11th CALL of the process PID fail with ERROR from the 7th on, for some seconds, and prints one
-line of three words: whether the server lives, the stream went on, and a later client was served.
+It lets strace(1) make each 11th CALL of each thread of the process PID fail with ERROR from the 7th on, and of calls that are
+rare each second from the first on, for some seconds, and prints one line of four words: how many calls failed so, and
+whether the server lives, the stream went on, and a later client was served. LOG gets the calls.
 """
 import re
 import signal
@@ -15,6 +16,8 @@ import threading
 import time
 
 TUNING = "src=1&freq=11361.75&pol=h&msys=dvbs2&sr=22000&pids=all"
+OTHER_TUNING = "src=1&freq=12402&pol=v&msys=dvbs&sr=27500&pids=all"
+RARE = ("openat", "statx", "lseek", "socket", "bind", "connect", "setsockopt", "getsockopt", "ioctl", "shutdown", "close")
 SECONDS = 4
 
 
@@ -26,11 +29,11 @@ def ask(port, text, timeout=4):
         return client.recv(4096).decode("latin1")
 
 
-def stream(port, timeout=4):
+def stream(port, timeout=4, tuning=TUNING):
     """How many bytes an HTTP client gets in half a second."""
     with socket.create_connection(("127.0.0.1", port), timeout) as client:
         client.settimeout(timeout)
-        client.sendall(f"GET /?{TUNING} HTTP/1.1\r\nHost: a\r\n\r\n".encode())
+        client.sendall(f"GET /?{tuning} HTTP/1.1\r\nHost: a\r\n\r\n".encode())
         count, end = 0, time.monotonic() + 0.5
         while time.monotonic() < end:
             part = client.recv(65536)
@@ -88,7 +91,7 @@ def come_and_go(rtsp, http, end):
                 ask(rtsp, f"OPTIONS rtsp://127.0.0.1/ RTSP/1.0\r\nCSeq: {turn}\r\n\r\n", 1)
                 ask(rtsp, f"DESCRIBE rtsp://127.0.0.1/ RTSP/1.0\r\nCSeq: {turn}\r\n\r\n", 1)
             else:
-                stream(http, 1)
+                stream(http, 1, OTHER_TUNING)
         except OSError:
             pass
 
@@ -116,12 +119,14 @@ def is_served(rtsp, http):
 
 def main():
     pid, rtsp, http, call, error = int(sys.argv[1]), int(sys.argv[2]), int(sys.argv[3]), sys.argv[4], sys.argv[5]
+    log, when = sys.argv[6], "1+2" if call in RARE else "7+11"
     receiver = Receiver(rtsp)
-    time.sleep(0.5)
-    before = receiver.count_since(0)
+    patience = time.monotonic() + 10
+    while not receiver.times and time.monotonic() < patience:
+        time.sleep(0.1)
     strace = subprocess.Popen(
-        ["strace", "-f", "-q", "-o", "/dev/null", "-p", str(pid), "-e", f"trace={call}",
-         "-e", f"inject={call}:error={error}:when=7+11"], stderr=subprocess.DEVNULL)
+        ["strace", "-f", "-q", "-o", log, "-p", str(pid), "-e", f"trace={call}",
+         "-e", f"inject={call}:error={error}:when={when}"], stderr=subprocess.DEVNULL)
     end = time.monotonic() + SECONDS
     guests = [threading.Thread(target=come_and_go, args=(rtsp, http, end), daemon=True) for _ in range(3)]
     for guest in guests:
@@ -131,11 +136,13 @@ def main():
     time.sleep(1)
     strace.send_signal(signal.SIGINT)
     strace.wait()
-    goes_on = before > 0 and receiver.count_since(last_second) >= 10
+    goes_on = receiver.count_since(last_second) >= 10
     alive = lives(pid)
     served = is_served(rtsp, http)
     receiver.on = False
-    print("lives" if alive else "ended", "streams" if goes_on else "stopped", "served" if served else "unserved")
+    with open(log) as lines:
+        failed = sum(1 for line in lines if "(INJECTED)" in line)
+    print(failed, "lives" if alive else "ended", "streams" if goes_on else "stopped", "served" if served else "unserved")
 
 
 main()

@@ -1,14 +1,14 @@
 #!/bin/sh
 # Makes the system calls of `serve` fail now and then, by each error that the manual pages name for them, one run for each:
 # while one client streams over RTP and others come and go over RTSP and HTTP, the server has to live, the stream has to go
-# on, and a client that comes afterwards has to be served. It prints a table of calls, errors and results, and the status
-# is 1 where one of them fails.
+# on, and a client that comes afterwards has to be served. It prints a table of calls, errors with how many calls failed by
+# them, and results, and the status is 1 where one of them fails. 0 stands where the server doesn't make the call.
 #
 #   tools/inject_faults.sh [CALL..]
 #
 # Without a word it tries all calls of the list below. JOBS runs go side by side, 4 without it; each takes about 8 seconds.
-# An error of `read`, `openat`, `statx` and `lseek` may be the recording's own: its stream may end there. EBADF, EINVAL and ENOTSOCK of
-# `accept4` are faults of the listener itself, which end workers, so they are left out.
+# An error of `read`, `openat`, `statx` and `lseek` may be the recording's own: its stream may end there. EBADF, EINVAL and
+# ENOTSOCK of `accept4` are faults of the listener itself, which end workers, so they are left out.
 # Needs crates/satip/out/satip (`cd crates/satip && rt run -- --version` builds it; SATIP names another), the right to
 # trace it, ports from 20000 on of 127.0.0.1, and the Debian packages strace, python3 and ffmpeg.
 set -eu
@@ -47,6 +47,7 @@ errors_of() {
         shutdown) echo EBADF EINVAL ENOTCONN ENOTSOCK ;;
         clock_nanosleep) echo EFAULT EINTR EINVAL EOPNOTSUPP ;;
         close) echo EBADF EINTR EIO ENOSPC EDQUOT ;;
+        ioctl) echo EBADF EFAULT EINVAL ENOTTY ;;
         *) echo "no errors are known of $1" >&2; exit 2 ;;
     esac
 }
@@ -64,15 +65,15 @@ run_one() {
         [ $tries -lt 200 ] || break
         sleep 0.1
     done
-    result=$(timeout 60 python3 "$top/tools/inject_client.py" $server $rtsp $http "$2" "$3" 2> "$folder/$1.client") ||
-        result="failed: $(tail -1 "$folder/$1.client")"
+    result=$(timeout 60 python3 "$top/tools/inject_client.py" $server $rtsp $http "$2" "$3" "$folder/$1.calls" 2> "$folder/$1.client") ||
+        result="0 failed: $(tail -1 "$folder/$1.client")"
     kill $server 2> /dev/null || true
     echo "$2 $3 $result" > "$folder/$1.result"
 }
 
 
 calls=${*:-accept4 recvfrom sendto poll epoll_wait epoll_ctl read openat statx lseek socket bind connect setsockopt \
-getsockopt shutdown clock_nanosleep write close}
+getsockopt ioctl shutdown clock_nanosleep write close}
 number=0
 for call in $calls; do
     for error in $(errors_of "$call"); do
@@ -88,8 +89,9 @@ for call in $calls; do
     good="" own="" bad=""
     for result in $(seq 1 $number); do
         [ -s "$folder/$result.result" ] || continue
-        read -r of error outcome < "$folder/$result.result"
+        read -r of error count outcome < "$folder/$result.result"
         [ "$of" = "$call" ] || continue
+        error="$error($count)"
         case $call:$outcome in
             *:"lives streams served") good="$good $error" ;;
             read:"lives stopped served" | openat:"lives stopped served" | statx:"lives stopped served" | lseek:"lives stopped served")

@@ -103,14 +103,15 @@ if command -v cvlc > /dev/null; then
     as=
     [ "$(id -u)" -ne 0 ] || as="setpriv --reuid nobody --clear-groups env HOME=/tmp"
     timeout 60 $as cvlc --intf dummy --vout dummy --aout dummy --no-interact -vv --run-time 30 "$url" vlc://quit 2> "$folder/vlc.log" || true
-    if ! grep -q 'using video decoder module\|EsOutAdd\|ES_OUT' "$folder/vlc.log" && ! grep -q -i 'video' "$folder/vlc.log"; then
+    late=$(grep -c -i -E 'called too late|too late to be displayed' "$folder/vlc.log" || true)
+    if ! grep -q 'using video decoder module' "$folder/vlc.log"; then
         echo "VLC: it did not play, see $folder/vlc.log"
         failed=1
-    elif grep -i -E 'discontinu|PCR .*late|playback too late|ES_OUT_SET_\(GROUP_\)PCR' "$folder/vlc.log" | sort | uniq -c | head -5 | grep .; then
+    elif grep -i 'discontinu' "$folder/vlc.log" | head -5 | grep .; then
         echo "VLC: not clean, see $folder/vlc.log"
         failed=1
     else
-        echo "VLC: 30 s without a discontinuity"
+        echo "VLC: 30 s without a discontinuity, $late lines that something was late"
     fi
     stop
 else

@@ -294,7 +294,7 @@ fn clocked(rt: HostRuntime, count: u64, step: u64) -> Result<Vec<u8>, Fail> {
 #[test]
 fn a_pause_follows_the_recording(rt: HostRuntime) -> Result<(), Fail> {
     // 8 packets in 5 ms, so 64 in 40 ms; and 8 in 0.5 ms, so 64 in 4 ms.
-    for (word, step, least, most) in [("slow", 135_000, 375, 460), ("fast", 13_500, 50, 120)] {
+    for (word, step, least, most) in [("slow", 135_000, 375, 1500), ("fast", 13_500, 50, 190)] {
         let file = scratch_file(rt, word, &clocked(rt, 640, step)?)?;
         let progress = Arc::new(rt.alloc(), Progress::new())?;
         let mut pacer = RealPacer::following(rt, Arc::try_clone(&progress)?);
