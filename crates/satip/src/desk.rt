@@ -1,6 +1,6 @@
 //! The desk over the system: its files, sockets, clock and random bytes. It tells nothing of them.
 
-ghost use Rattle.std.specs.Prelude.{◌≡◌, [], length, IfOk, IfSome};
+ghost use Rattle.std.specs.Prelude.{◌≡◌, [], None, length, IfOk, IfSome};
 ghost use Rattle.satip_base.specs.Streams.{fresh_feed};
 ghost use Rattle.satip.specs.Standings.{AreFreshKits};
 
@@ -14,6 +14,7 @@ use std::fs;
 use std::fs::File;
 use std::marker::Model;
 use std::rt::Files;
+use std::snapshot::Snapshot;
 use std::sync::Wait;
 
 /// The file of a configuration.
@@ -56,29 +57,20 @@ pub type RealJobs<R> = Jobs<RealDoors, RealOutlet<R>, RealPacer, RealStore, Real
 pub struct RealDesk<R: Wait + Copy + Drop + Send> {
     host: HostRuntime,
     rt: R,
-    gave: bool,
+    given: Option<Snapshot<RealJobs<R>>>,
     faults: u64,
 }
 
-impl<R: Wait + Copy + Drop + Send> Model for RealDesk<R> {
-    ghost use Rattle.satip.specs.Standings.{Standing};
-
-    ghost Value = { Standing };
-
-    ghost view = { λ d. record { gave = d.gave; faults = d.faults } };
-}
-
 impl<R: Wait + Copy + Drop + Send> RealDesk<R> {
-    ghost use Rattle.satip.specs.Standings.{at_first};
-
     /// A desk that never failed and gave no kits.
     pub fn new(host: HostRuntime, rt: R) -> RealDesk<R>
-        ensures fresh { result ≡ at_first }
+        ensures given { result.given ≡ None }
+        ensures faults { result.faults ≡ 0 }
     {
         RealDesk {
             host,
             rt,
-            gave: false,
+            given: None,
             faults: 0,
         }
     }
@@ -125,7 +117,8 @@ fn open_kits<R: Wait + Copy + Drop>(
 }
 
 impl<R: Wait + Copy + Drop + Send> Desk for RealDesk<R> {
-    ghost use Rattle.std.specs.Prelude.{None};
+    ghost use Rattle.std.specs.Prelude.{None, option_map};
+    ghost use Rattle.satip.specs.Standings.{real_view};
 
     type Config = ConfigFile;
 
@@ -143,7 +136,7 @@ impl<R: Wait + Copy + Drop + Send> Desk for RealDesk<R> {
 
     ghost faults = { λ d. d.faults };
 
-    ghost gave = { λ d. d.gave };
+    ghost given = { λ d. option_map (λ kits. real_view kits.value) d.given };
 
     fn jobs(
         &mut self,
@@ -153,7 +146,7 @@ impl<R: Wait + Copy + Drop + Send> Desk for RealDesk<R> {
     ) -> Result<RealJobs<R>, JobsFault> {
         match open_kits(self.host, self.rt, config, accepts) {
             Ok(jobs) => {
-                self.gave = true;
+                self.given = Some(Snapshot::of(&jobs));
                 Ok(jobs)
             }
             Err(KitsFault::Want) => Err(JobsFault::Want),

@@ -2,6 +2,8 @@
 #![tactic(auto)]
 
 mod desk;
+#[cfg(test)]
+mod tests;
 
 use desk::RealDesk;
 use satip_base::{ReadSource, Sink, Text, Want, WriteSink};

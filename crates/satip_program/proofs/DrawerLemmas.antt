@@ -1,12 +1,18 @@
 -- The texts of a list of drawers.
-use Rattle.std.proofs.Common.{◌≡◌, ℕ, Bool, true, false, List, [], ◌∷◌, map, Some, cond, ap, ◌∙◌}
+use Rattle.std.proofs.Common.{◌≡◌, ℕ, Bool, true, false, List, [], ◌∷◌, map, Some, cond, refl, sym, ap, ◌∙◌}
 use Rattle.std.specs.List.{find}
 use Rattle.std.specs.Str.{bytes_eq}
 use Rattle.satip_base.specs.Streams.{Feed, fresh_feed}
-use Rattle.satip_world.specs.Recordings.{IsStarted}
+use Rattle.satip_world.specs.Dials.{Dial}
+use Rattle.satip_world.specs.Halls.{Hall}
+use Rattle.satip_world.specs.Outboxes.{Outbox}
+use Rattle.satip_world.specs.Recordings.{IsStarted, Shelf, recording_in}
+use Rattle.satip_pump.specs.declared.kits.PumpKit.{PumpKit}
+use Rattle.satip_serve.specs.Views.{PumpView, pump_view}
+use Rattle.satip_serve.specs.declared.kits.Jobs.{Jobs}
 use Rattle.satip_program.specs.declared.memory_desk.Drawer.{Drawer}
 use Rattle.satip_program.specs.Cabinets.{text_in, text_if}
-use Rattle.satip_program.specs.Drawers.{row_of}
+use Rattle.satip_program.specs.Drawers.{row_of, shelf_kit, shelf_view, given_kits, given_view, memory_view}
 
 -- one drawer more in front
 text_before : (name : List ℕ) (first drawer : Drawer) (drawers : List Drawer) (b : Bool)
@@ -35,3 +41,18 @@ text_started name drawers drawer feed text found same fresh =
       faults = ap (λ (f : Feed). f.faults) fresh;
       holds = (tt, ap (λ (f : Feed). f.left) fresh ∙ same);
     }
+
+-- what is seen of the pumps that were given
+pumps_seen : {P : Type 0} (kits : List (PumpKit Shelf Outbox P))
+    → map (pump_view (λ (s : Shelf) mux. recording_in s.recordings mux) (λ (s : Shelf). s.faults) (λ (s : Shelf). s.lent) (λ (s : Shelf). s.peak) (λ (o : Outbox). o)) kits
+    ≡ map shelf_view (map shelf_kit kits)
+pumps_seen [] = refl
+pumps_seen (kit ∷ kits) = ap (λ (views : List PumpView). shelf_view (shelf_kit kit) ∷ views) (pumps_seen kits)
+
+-- the kits that are kept show what those show that are given
+pub kits_seen : {P : Type 0} (jobs : Jobs Hall Outbox P Shelf Dial) → given_view (given_kits jobs) ≡ memory_view jobs
+kits_seen jobs = ap (λ (pumps : List PumpView). record {
+  workers = (given_kits jobs).workers;
+  pumps = pumps;
+  ticker = (given_kits jobs).ticker;
+}) (sym (pumps_seen jobs.pumps.items))

@@ -7,3 +7,4 @@ pub mod DrawerLemmas
 pub mod OutcomeLemmas
 pub mod AcceptsLemmas
 pub mod ServingLemmas
+mod StatusLemmas

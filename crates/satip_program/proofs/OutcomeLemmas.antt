@@ -10,7 +10,7 @@ use Rattle.satip_program.proofs.TalkLemmas.{part_of_first}
 use Rattle.satip_program.specs.Commands.{Form, Talk, Replay, Help, Version, help, version, configuration_line, script_line}
 use Rattle.satip_program.specs.declared.outcomes.Outcome.{Outcome}
 use Rattle.satip_program.specs.declared.outcomes.Outcome.TheVariants.{Done, Usage, Configuration, Script, InputFault, OutputFault, TooLong, OutOfMemory}
-use Rattle.satip_program.specs.Outcomes.{status_of, line_for, outcome_of, TalkEnds, EndsEarly, NothingDone, PrintEnds}
+use Rattle.satip_program.specs.Outcomes.{status_of, line_for, outcome_of, TalkRuns, EndsEarly, NothingDone, PrintEnds}
 use Rattle.satip_program.specs.Replaying.{Given, Unopened, ReplayRuns, RunEnds}
 
 -- nothing is a beginning
@@ -30,7 +30,7 @@ early_from_nothing in_tells out_tells i j o n nothing = record {
 }
 
 -- a talk that doesn't end well has sent a beginning
-talk_early : (in_tells out_tells : Type 0) (i j : Feed) (o n : Drain) (outcome : Outcome) → TalkEnds in_tells out_tells i j o n outcome
+pub talk_early : (in_tells out_tells : Type 0) (i j : Feed) (o n : Drain) (outcome : Outcome) → TalkRuns in_tells out_tells i j o n outcome
     → (status_of outcome ≡ 0 → ⊥) → EndsEarly in_tells out_tells i j o n
 talk_early in_tells out_tells i j o n Done ends other = absurd (other refl)
 talk_early in_tells out_tells i j o n Usage ends other = absurd ends
@@ -40,13 +40,6 @@ talk_early in_tells out_tells i j o n InputFault ends other = ends.early
 talk_early in_tells out_tells i j o n OutputFault ends other = ends.early
 talk_early in_tells out_tells i j o n TooLong ends other = ends.early
 talk_early in_tells out_tells i j o n OutOfMemory ends other = early_from_nothing in_tells out_tells i j o n ends
-
-pub ends_early : (ct it ot : Type 0) (text : List ℕ → Option (List ℕ)) (before now : ℕ) (i j : Feed) (o n : Drain) (form : Option Form) (config : Option Feed) (outcome : Outcome)
-    → RunEnds ct it ot text before now i j o n form config outcome → form ≡ Some Talk → (status_of outcome ≡ 0 → ⊥)
-    → EndsEarly it ot i j o n
-ends_early ct it ot text before now i j o n form config outcome ends is other =
-    let P : Option Form → Type 0 = λ f. RunEnds ct it ot text before now i j o n f config outcome in
-    talk_early it ot i j o n outcome (subst P is ends) other
 
 -- a text was asked for, and written
 pub run_helps : (ct it ot : Type 0) (text : List ℕ → Option (List ℕ)) (before now : ℕ) (i j : Feed) (o n : Drain) (form : Option Form) (config : Option Feed) (outcome printed : Outcome)
@@ -82,7 +75,7 @@ ends_of ct it ot a b i j o n ends.TooLong done output memory configuration scrip
 ends_of ct it ot a b i j o n ends.OutOfMemory done output memory configuration script input long = memory refl
 
 -- only a replay has the statuses 3 and 4
-talk_status : (it ot : Type 0) (i j : Feed) (o n : Drain) (outcome : Outcome) (status : ℕ) → TalkEnds it ot i j o n outcome
+talk_status : (it ot : Type 0) (i j : Feed) (o n : Drain) (outcome : Outcome) (status : ℕ) → TalkRuns it ot i j o n outcome
     → 3 ≤ status → status ≤ 4 → status_of outcome ≡ status → ⊥
 talk_status it ot i j o n Done status ends least most is = omega (arith, least, is)
 talk_status it ot i j o n Usage status ends least most is = absurd ends

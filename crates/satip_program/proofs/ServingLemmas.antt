@@ -1,6 +1,8 @@
 -- How a serve is told, and what no other command answers.
-use Rattle.std.proofs.Common.{◌≡◌, ℕ, ◌<◌, ◌≤◌, ◌⊎◌, ◌↔◌, inl, inr, List, Option, Some, None, IfSome, IsSomeAnd, MatchOption, refl, sym, ap, ◌∙◌, ⊎_elim, arith}
+use Rattle.std.proofs.Common.{◌≡◌, ℕ, ◌<◌, ◌≤◌, ◌⊎◌, ◌↔◌, inl, inr, List, Option, Some, None, IfSome, IsSomeAnd, MatchOption, refl, sym, ap, subst, ◌∙◌, ⊎_elim, arith}
 use Rattle.satip_base.specs.Streams.{Rose}
+use Rattle.satip_history.specs.Lists.{Has}
+use Rattle.satip_program.specs.Ends.{serve_statuses}
 use Rattle.satip_world.specs.Counts.{Rises}
 use Rattle.satip_serving.specs.Servings.{IsServingOf}
 use Rattle.satip_config.specs.declared.fault.ConfigFault.{ConfigFault}
@@ -107,3 +109,15 @@ pub settled_told : {C : Type 0} (config : Option C) (faults : C → ℕ) (text :
     → IfSome config (λ source. (Rose 0 (faults source) → ⊥) → IsServingOf text end) → IfSome config (λ source. (Rose 0 (faults source) → ⊥) → IsServeSettled text status)
 settled_told None faults text end status of settled = settled
 settled_told (Some source) faults text end status of settled = λ still. record { ending = end; told = of; ends = settled still }
+
+-- the statuses of a serve
+has_end : (end : ServingEnd) → Has (serving_status end) serve_statuses
+has_end serving.Served = inl refl
+has_end (serving.Configuration fault) = inr (inl refl)
+has_end serving.InputFault = inr (inr (inl refl))
+has_end serving.DoorsFault = inr (inr (inr (inl refl)))
+has_end serving.HistoryFull = inr (inr (inr (inr (inl refl))))
+has_end serving.OutOfMemory = inr (inr (inr (inr (inr (inl refl)))))
+
+pub serve_has : (end : ServingEnd) (status : ℕ) → status ≡ serving_status end → Has status serve_statuses
+serve_has end status of = let P : ℕ → Type 0 = λ s. Has s serve_statuses in subst P (sym of) (has_end end)

@@ -186,9 +186,9 @@ ends_by_input in_tells out_tells i j k o n taken framer talker goes failed = rec
 
 -- one byte too many was taken
 pub ends_by_length : (in_tells out_tells : Type 0) (i j k : Feed) (o n : Drain) (taken count : ℕ) (framer : Held) (talker : Talker) (buf : List ℕ)
-    → Goes in_tells out_tells i j o n taken framer talker → TookBytes in_tells j k buf count → taken + count ≡ input_limit + 1
+    → Goes in_tells out_tells i j o n taken framer talker → TookBytes in_tells j k buf count → taken ≡ input_limit → taken + count ≡ input_limit + 1
     → EndsByLength in_tells out_tells i k o n
-ends_by_length in_tells out_tells i j k o n taken count framer talker buf goes took long = record {
+ends_by_length in_tells out_tells i j k o n taken count framer talker buf goes took full long = record {
   early = record {
     text = goes.text ++ take count buf;
     read = read_more in_tells i j k goes.text buf count goes.read took;
@@ -196,6 +196,22 @@ ends_by_length in_tells out_tells i j k o n taken count framer talker buf goes t
         (part_of_stands out_tells o n [] goes.text goes.listens.messages framer talker goes.listens.stands);
   };
   long = length-more goes.text buf count took.within ∙ ap (λ (c : ℕ). c + count) goes.counted ∙ long;
+  in_time = record {
+    earlier = goes.text;
+    piece = take count buf;
+    whole = refl;
+    short = omega (arith, length-take count buf, took.within, full, long);
+    messages = goes.listens.messages;
+    unbroken = goes.listens.read;
+  };
+  last = omega (arith, length-take count buf, took.within, full, long);
   in_faults = took.faults ∙ goes.in_faults;
   out_faults = goes.listens.stands.faults;
 }
+
+-- a take can pass the limit only where all bytes before it were taken
+pub at_limit : (taken room count : ℕ) → taken ≤ input_limit → (taken < input_limit → taken + room ≤ input_limit) → count ≤ room → input_limit < taken + count
+    → taken ≡ input_limit
+at_limit taken room count short below within over =
+    let all : taken < input_limit → ⊥ = λ less. omega (arith, below less, within, over) in
+    omega (arith, short, all)

@@ -1,21 +1,35 @@
 -- What a desk over memory shows.
 use Rattle.std.specs.Prelude.{ℕ, Bool, true, false, List, [], ◌∷◌, Option, Some, None}
 use Rattle.std.specs.Str.{bytes_eq}
+use Rattle.satip_world.specs.Outboxes.{Outbox}
+use Rattle.satip_world.specs.Recordings.{Shelf}
+use Rattle.satip_serve.specs.Views.{WorkerView, TickView}
+
+-- a pump's kit over memory: its store, and what its outlet was given
+pub record ShelfKit : Type 0 where
+  pub store : Shelf
+  pub outbox : Outbox
+
+-- kits over memory, as they were given
+pub record GivenKits : Type 0 where
+  pub workers : List WorkerView
+  pub pumps : List ShelfKit
+  pub ticker : TickView
 
 -- names with the texts of their configurations and which takes of each fail, for how many connections kits are laid,
--- whether the kits were given, how many opens are still to fail, and how often the desk failed
+-- the kits if they were given, how many opens are still to fail, and how often the desk failed
 pub record Cabinet : Type 0 where
   pub texts : List (List ℕ × List ℕ)
   pub failing_takes : List (List ℕ)
   pub laid : Option ℕ
-  pub gave : Bool
+  pub given : Option GivenKits
   pub failing : ℕ
   pub faults : ℕ
 
 -- no name has a text, and so many opens are to fail
 abbrev pub empty_cabinet : ℕ → Cabinet
 empty_cabinet failing =
-    record { texts = []; failing_takes = []; laid = None; gave = false; failing = failing; faults = 0 }
+    record { texts = []; failing_takes = []; laid = None; given = None; failing = failing; faults = 0 }
 
 -- this text where the test holds, and else another
 abbrev pub text_if : Bool → List ℕ → Option (List ℕ) → Option (List ℕ)

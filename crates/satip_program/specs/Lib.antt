@@ -8,3 +8,4 @@ pub mod Hearing
 pub mod Outcomes
 pub mod Replaying
 pub mod Serving
+pub mod Ends

@@ -95,10 +95,12 @@ pub record EndsByOutput (in_tells out_tells : Type 0) (i j : Feed) (o n : Drain)
   pub in_faults : j.faults ≡ i.faults
   pub rose : Rose o.faults n.faults
 
--- one byte too many was taken
+-- one byte too many was taken, and no closing reply came sooner
 pub record EndsByLength (in_tells out_tells : Type 0) (i j : Feed) (o n : Drain) : Type 0 where
   pub early : EndsEarly in_tells out_tells i j o n
   pub long : length early.text ≡ input_limit + 1
+  pub in_time : StopsInTime early.text
+  pub last : length in_time.piece ≡ 1
   pub in_faults : j.faults ≡ i.faults
   pub out_faults : n.faults ≡ o.faults
 
@@ -108,15 +110,15 @@ pub record NothingDone (i j : Feed) (o n : Drain) : Type 0 where
   pub output : n ≡ o
 
 -- how a talk ends
-abbrev pub TalkEnds : (in_tells out_tells : Type 0) (i j : Feed) (o n : Drain) → Outcome → Type 0
-TalkEnds in_tells out_tells i j o n Done = EndsWell in_tells out_tells i j o n
-TalkEnds in_tells out_tells i j o n Usage = ⊥
-TalkEnds in_tells out_tells i j o n (Configuration fault) = ⊥
-TalkEnds in_tells out_tells i j o n (Script number) = ⊥
-TalkEnds in_tells out_tells i j o n InputFault = EndsByInput in_tells out_tells i j o n
-TalkEnds in_tells out_tells i j o n OutputFault = EndsByOutput in_tells out_tells i j o n
-TalkEnds in_tells out_tells i j o n TooLong = EndsByLength in_tells out_tells i j o n
-TalkEnds in_tells out_tells i j o n OutOfMemory = NothingDone i j o n
+abbrev pub TalkRuns : (in_tells out_tells : Type 0) (i j : Feed) (o n : Drain) → Outcome → Type 0
+TalkRuns in_tells out_tells i j o n Done = EndsWell in_tells out_tells i j o n
+TalkRuns in_tells out_tells i j o n Usage = ⊥
+TalkRuns in_tells out_tells i j o n (Configuration fault) = ⊥
+TalkRuns in_tells out_tells i j o n (Script number) = ⊥
+TalkRuns in_tells out_tells i j o n InputFault = EndsByInput in_tells out_tells i j o n
+TalkRuns in_tells out_tells i j o n OutputFault = EndsByOutput in_tells out_tells i j o n
+TalkRuns in_tells out_tells i j o n TooLong = EndsByLength in_tells out_tells i j o n
+TalkRuns in_tells out_tells i j o n OutOfMemory = NothingDone i j o n
 
 -- a text was written to the output, and nothing was taken
 pub record Prints (put : Type 0) (i j : Feed) : Type 0 where

@@ -1,12 +1,12 @@
 //! A desk over memory.
 
-ghost use Rattle.std.specs.Prelude.{◌≡◌, ◌∷◌, None, Some, length, map, IfOk, IfSome, OnOk, OnErr};
+ghost use Rattle.std.specs.Prelude.{◌≡◌, ◌∷◌, None, Some, length, map, option_map, IfOk, IfSome, OnOk, OnErr};
 ghost use Rattle.std.specs.Option.{option_copied};
 ghost use Rattle.std.specs.List.{find};
 ghost use Rattle.std.specs.Str.{bytes_eq};
 ghost use Rattle.satip_world.specs.Recordings.{IsStarted};
 ghost use Rattle.satip_program.specs.Cabinets.{text_in};
-ghost use Rattle.satip_program.specs.Drawers.{row_of, AreNewKits};
+ghost use Rattle.satip_program.specs.Drawers.{row_of, AreNewKits, given_view};
 
 use satip_base::{Failed, MemorySource, Text, Want};
 use satip_config::Config;
@@ -15,6 +15,7 @@ use satip_serving::{Desk, JobsFault};
 use satip_world::{MemoryClock, MemoryDoors, MemoryOutlet, MemoryPacer, MemoryStore};
 use std::alloc::Global;
 use std::marker::Model;
+use std::snapshot::Snapshot;
 
 // A name, the text of its configuration, and which takes of it are to fail.
 #[derive(Drop)]
@@ -40,7 +41,7 @@ pub struct MemoryDesk {
     alloc: Global,
     drawers: Vec<Drawer>,
     laid: Option<Laid>,
-    gave: bool,
+    given: Option<Snapshot<MemoryJobs>>,
     failing: u64,
     faults: u64,
 }
@@ -50,7 +51,7 @@ impl Model for MemoryDesk {
     ghost use Rattle.std.specs.Prelude.{map, option_map};
     ghost use Rattle.satip_program.specs.Drawers.{row_of};
     ghost use Rattle.std.specs.Prelude.{IfSome};
-    ghost use Rattle.satip_program.specs.Drawers.{AreNewKits};
+    ghost use Rattle.satip_program.specs.Drawers.{AreNewKits, given_kits};
 
     ghost Value = { Cabinet };
 
@@ -58,7 +59,7 @@ impl Model for MemoryDesk {
       texts = map row_of d.drawers.items;
       failing_takes = map (λ drawer. drawer.failing.items) d.drawers.items;
       laid = option_map (λ laid. laid.accepts) d.laid;
-      gave = d.gave;
+      given = option_map (λ kits. given_kits kits.value) d.given;
       failing = d.failing;
       faults = d.faults;
     } };
@@ -78,7 +79,7 @@ impl MemoryDesk {
             alloc,
             drawers: Vec::new(alloc),
             laid: None,
-            gave: false,
+            given: None,
             failing,
             faults: 0,
         }
@@ -102,7 +103,7 @@ impl MemoryDesk {
         ensures laid { self.new.laid ≡ self.old.laid }
         ensures failing { self.new.failing ≡ self.old.failing }
         ensures faults { self.new.faults ≡ self.old.faults }
-        ensures gave { self.new.gave ≡ self.old.gave }
+        ensures given { self.new.given ≡ self.old.given }
     {
         let (Ok(name), Ok(text), Ok(failing)) = (
             Vec::from_slice(self.alloc, name.as_bytes()),
@@ -187,8 +188,9 @@ impl Desk for MemoryDesk {
 
     ghost faults = { λ d. d.faults };
 
-    ghost gave = { λ d. d.gave };
+    ghost given = { λ d. option_map given_view d.given };
 
+    #[tactic(auto, using(crate::proofs::DrawerLemmas::kits_seen))]
     fn jobs(
         &mut self,
         _alloc: Global,
@@ -202,7 +204,7 @@ impl Desk for MemoryDesk {
             config.fronts.len(),
         ) {
             Some(jobs) => {
-                self.gave = true;
+                self.given = Some(Snapshot::of(&jobs));
                 Ok(jobs)
             }
             None => {

@@ -6,7 +6,7 @@ ghost use Rattle.satip_frame.specs.Held.{new_framer};
 ghost use Rattle.satip_replay.specs.Seen.{feed, drain};
 ghost use Rattle.satip_replay.specs.Reading.{GetsAtMost};
 ghost use Rattle.satip_program.specs.Talking.{HasAnswered};
-ghost use Rattle.satip_program.specs.Outcomes.{TalkEnds, input_limit};
+ghost use Rattle.satip_program.specs.Outcomes.{TalkRuns, input_limit};
 
 use crate::conversation::{Conversation, Heard};
 use crate::outcomes::Outcome;
@@ -20,7 +20,7 @@ const PIECE: usize = 4096;
 /// Answers what comes in until the input ends, a closing reply was sent, or something fails. All memory
 /// is taken before any input.
 pub(crate) fn talk<I: Source, O: Sink>(alloc: Global, input: &mut I, output: &mut O) -> Outcome
-    ensures ends { TalkEnds I.tells O.tells
+    ensures ends { TalkRuns I.tells O.tells
         (feed I.left I.ended I.faults I.taken input.old) (feed I.left I.ended I.faults I.taken input.new)
         (drain O.sent O.faults output.old) (drain O.sent O.faults output.new)
         result }
@@ -39,7 +39,7 @@ fn converse<I: Source, O: Sink>(
     requires framer { conversation.old.framer ≡ new_framer }
     requires talker { HasAnswered conversation.old.talker [] }
     requires gathered { conversation.old.gathered ≡ [] }
-    ensures ends { TalkEnds I.tells O.tells
+    ensures ends { TalkRuns I.tells O.tells
         (feed I.left I.ended I.faults I.taken input.old) (feed I.left I.ended I.faults I.taken input.new)
         (drain O.sent O.faults output.old) (drain O.sent O.faults output.new)
         result }

@@ -1,6 +1,6 @@
 //! The top call: what the program does with its words, its input, its output, its errors and its desk.
 
-ghost use Rattle.std.specs.Prelude.{true, false, map, MatchBool, ◌≡◌, ◌↔◌, ◌⊎◌, ℕ, ◌+◌, ◌-◌, ◌<◌, ◌≤◌, List, Some, None, length, option_map, IsSome, IsNone, IfSome, IsSomeAnd, MatchOption};
+ghost use Rattle.std.specs.Prelude.{true, map, ◌≡◌, ◌↔◌, ◌⊎◌, ℕ, ◌+◌, ◌-◌, ◌<◌, ◌≤◌, List, Some, None, option_map, IsSome, IsNone, IfSome, IsSomeAnd, MatchOption};
 ghost use Rattle.satip_base.specs.Streams.{Feed, Rose};
 ghost use Rattle.satip_world.specs.Counts.{Rises};
 ghost use Rattle.satip_config.specs.declared.fault.ConfigFault.{ConfigFault as Fault};
@@ -9,16 +9,18 @@ ghost use Rattle.satip_replay.specs.Replays.{configuration_limit, Replayed, Conf
 ghost use Rattle.satip_replay.specs.Ends.{EndsByConfiguration, EndsByScript, EndsByInput, EndsByOutput, EndsByLength, EndsByWant, Refused};
 ghost use Rattle.satip_serve.specs.Done.{IsFull};
 ghost use Rattle.satip_serve.specs.ServeRuns.{ServeRun, HasFault};
-ghost use Rattle.satip_history.specs.Lists.{Each};
+ghost use Rattle.satip_history.specs.Lists.{Each, Has};
+ghost use Rattle.satip_turn.specs.Shown.{IsOf};
 ghost use Rattle.satip_serve.specs.Views.{worker_view, pump_view, tick_view};
 ghost use Rattle.satip_serving.specs.declared.serving.ServingEnd.{ServingEnd as End};
 ghost use Rattle.satip_serving.specs.declared.serving.ServingEnd.TheVariants.{Served as AllServed, Configuration, InputFault, DoorsFault, HistoryFull, OutOfMemory};
 ghost use Rattle.satip_serving.specs.Laws.{SendsSelected, ObeysOwners, TellsBusy, PlaysRecordings};
+ghost use Rattle.satip_serving.specs.Given.{jobs_view, ComeBack, ComeUnused};
 ghost use Rattle.satip_serving.specs.Servings.{GivenFrom, AreUnused, IsOneOf, IsNeitherOf, IsEndOfRun};
 ghost use Rattle.satip_program.specs.Serving.{serving_status, serving_line, IsServeSettled};
 ghost use Rattle.satip_program.specs.Commands.{serve_of, Talk, Replay, Help, Version, command_of, config_named, help, version, line_of, configuration_line, script_line};
-ghost use Rattle.satip_program.specs.Talk.{Answered};
-ghost use Rattle.satip_program.specs.Outcomes.{input_limit, line_for, NothingDone, EndsEarly, ReadsInTime, PrintEnds, Shows, Says};
+ghost use Rattle.satip_program.specs.Ends.{replay_statuses, serve_statuses, TalkEnds};
+ghost use Rattle.satip_program.specs.Outcomes.{input_limit, line_for, NothingDone, PrintEnds, Shows, Says};
 ghost use Rattle.satip_program.specs.Replaying.{Given, RunEnds, ReplayRuns, IsSettled};
 
 use crate::commands::{Command, Serve, read_serve, read_words};
@@ -80,7 +82,7 @@ pub fn satip<R: Threads + Wait + Sync, K: Desk, I: Source, O: Sink, E: Sink>(
     errors: &mut E,
     desk: &mut K,
 ) -> Ended<K>
-    requires new { K.gave desk.old ≡ false }
+    requires new { K.given desk.old ≡ None }
 
     // Which words there are, and what they do.
     ensures usage { (result.status ≡ 2) ↔ ((command_of words.now ≡ None) × (serve_of words.now ≡ None)) }
@@ -97,14 +99,10 @@ pub fn satip<R: Threads + Wait + Sync, K: Desk, I: Source, O: Sink, E: Sink>(
         version result.status }
 
     // A talk: the replies to the whole input, or a beginning of the replies to what was taken.
-    ensures replies { command_of words.now ≡ Some Talk → result.status ≡ 0 → I.tells
-        → Answered O.tells (O.sent output.old) (O.sent output.new) (I.left input.old) }
-    ensures beginning { command_of words.now ≡ Some Talk → (result.status ≡ 0 → ⊥)
-        → EndsEarly I.tells O.tells
+    ensures talk { command_of words.now ≡ Some Talk → TalkEnds I.tells O.tells
         (feed I.left I.ended I.faults I.taken input.old) (feed I.left I.ended I.faults I.taken input.new)
-        (drain O.sent O.faults output.old) (drain O.sent O.faults output.new) }
-    ensures in_time { command_of words.now ≡ Some Talk → result.status ≡ 0 → ReadsInTime I.tells
-        (feed I.left I.ended I.faults I.taken input.old) (feed I.left I.ended I.faults I.taken input.new) }
+        (drain O.sent O.faults output.old) (drain O.sent O.faults output.new)
+        result.status }
 
     // A replay: the printed run of the script by the configuration that the desk gave, a beginning of it, or nothing.
     ensures replayed { (name : List ℕ) → command_of words.now ≡ Some (Replay name) → result.status ≡ 0
@@ -151,6 +149,7 @@ pub fn satip<R: Threads + Wait + Sync, K: Desk, I: Source, O: Sink, E: Sink>(
     ensures texts { K.text desk.new ≡ K.text desk.old }
 
     // When each status comes.
+    ensures replay_status { (name : List ℕ) → command_of words.now ≡ Some (Replay name) → Has result.status replay_statuses }
     ensures configuration { serve_of words.now ≡ None → result.status ≡ 3 → (name : List ℕ) × (fault : Fault)
         × (command_of words.now ≡ Some (Replay name))
         × Says E.tells (drain E.sent E.faults errors.old) (drain E.sent E.faults errors.new) (configuration_line fault)
@@ -173,13 +172,6 @@ pub fn satip<R: Threads + Wait + Sync, K: Desk, I: Source, O: Sink, E: Sink>(
     ensures output_fault { result.status ≡ 6 → Rose (O.faults output.old) (O.faults output.new) }
     ensures too_long { (result.status ≡ 8) ↔ (input_limit < I.taken input.new - I.taken input.old) }
     ensures limit { I.taken input.new ≤ I.taken input.old + input_limit + 1 }
-    ensures out_of_memory { command_of words.now ≡ Some Talk → result.status ≡ 70 → NothingDone
-        (feed I.left I.ended I.faults I.taken input.old) (feed I.left I.ended I.faults I.taken input.new)
-        (drain O.sent O.faults output.old) (drain O.sent O.faults output.new) }
-    ensures settled { command_of words.now ≡ Some Talk → I.tells → length (I.left input.old) ≤ input_limit
-        → (Rose (I.faults input.old) (I.faults input.new) → ⊥)
-        → (Rose (O.faults output.old) (O.faults output.new) → ⊥)
-        → (result.status ≡ 0) ⊎ (result.status ≡ 70) }
     ensures settled_replay { (name : List ℕ) (text : List ℕ) → command_of words.now ≡ Some (Replay name)
         → K.text desk.old name ≡ Some text → I.tells
         → (Rose (K.faults desk.old) (K.faults desk.new) → ⊥)
@@ -188,6 +180,8 @@ pub fn satip<R: Threads + Wait + Sync, K: Desk, I: Source, O: Sink, E: Sink>(
         → IsSettled text (I.left input.old) result.status }
 
     // A serve: the jobs ran by the configuration of the desk's text, over one history that keeps the laws.
+    ensures serve_status { IfSome (serve_of words.now) (λ _. Has result.status serve_statuses) }
+    ensures pass { IfSome result.last (λ last. IsOf last.pass last.server) }
     ensures served_by { IfSome (serve_of words.now) (λ serve. IfSome result.last (λ last. IsSomeAnd result.config (λ source.
         GivenFrom K.Config.tells (K.text desk.old serve.name) (λ before. Configured K.Config.tells before
         (feed K.Config.left K.Config.ended K.Config.faults K.Config.taken source) last.server.setting.config)))) }
@@ -208,8 +202,13 @@ pub fn satip<R: Threads + Wait + Sync, K: Desk, I: Source, O: Sink, E: Sink>(
         (λ _. (K.faults desk.new ≡ K.faults desk.old) ⊎ ((result.status ≡ 7) × IsNone result.last))) }
     ensures serve_read { IfSome (serve_of words.now) (λ _. (result.status ≡ 5 → ⊥) → IsSomeAnd result.config (λ source. K.Config.faults source ≡ 0)) }
 
-    // Where the desk gave its kits, they are among what the jobs left, or no job began with them.
-    ensures kits { MatchBool (K.gave desk.new) (IsOneOf result.last result.unused) (IsNeitherOf result.last result.unused) }
+    // Where the desk gave its kits, those are what the jobs left, each at its place, or no job began with them, and they
+    // come back as they were, but for one reading of the clock.
+    ensures kits { MatchOption (K.given desk.new) (IsNeitherOf result.last result.unused) (λ _. IsOneOf result.last result.unused) }
+    ensures kits_left { IfSome result.last (λ last. IsSomeAnd (K.given desk.new) (λ given. ComeBack given
+        (jobs_view K.Doors.hall K.Outlet.outbox K.Store.recording K.Store.faults K.Store.lent K.Store.peak K.Clock.dial last.jobs))) }
+    ensures kits_unused { IfSome result.unused (λ kits. IsSomeAnd (K.given desk.new) (λ given. ComeUnused given
+        (jobs_view K.Doors.hall K.Outlet.outbox K.Store.recording K.Store.faults K.Store.lent K.Store.peak K.Clock.dial kits))) }
     ensures begun { IfSome result.last (λ _. (result.status ≡ 0) ⊎ (result.status ≡ 7) ⊎ (result.status ≡ 9)) }
     ensures unused_status { IfSome result.unused (λ _. result.status ≡ 70) }
     ensures unused_kits { IfSome (serve_of words.now) (λ serve. IfSome result.unused (λ kits. AreUnused serve.accepts
@@ -231,7 +230,7 @@ pub fn satip<R: Threads + Wait + Sync, K: Desk, I: Source, O: Sink, E: Sink>(
         → IfSome result.config (λ source. (Rose 0 (K.Config.faults source) → ⊥) → IsServeSettled text result.status)) }
     ensures doors_fault { result.status ≡ 7 → MatchOption result.last (Rises (K.faults desk.old) (K.faults desk.new))
         (λ last. HasFault (map (worker_view K.Doors.hall K.Outlet.outbox) last.jobs.workers.items)) }
-    ensures no_kits { result.status ≡ 7 → IsNone result.last → K.gave desk.new ≡ false }
+    ensures no_kits { result.status ≡ 7 → IsNone result.last → K.given desk.new ≡ None }
     ensures history_full { result.status ≡ 9 → IsSomeAnd result.last (λ last. IsFull last.pass.seen) }
 
     // What is told of it.
@@ -254,9 +253,15 @@ fn run_serve<R: Threads + Wait + Sync, K: Desk, E: Sink>(
     errors: &mut E,
     desk: &mut K,
 ) -> Ended<K>
-    requires new { K.gave desk.old ≡ false }
+    requires new { K.given desk.old ≡ None }
     ensures texts { K.text desk.new ≡ K.text desk.old }
-    ensures kits { MatchBool (K.gave desk.new) (IsOneOf result.last result.unused) (IsNeitherOf result.last result.unused) }
+    ensures kits { MatchOption (K.given desk.new) (IsNeitherOf result.last result.unused) (λ _. IsOneOf result.last result.unused) }
+    ensures kits_left { IfSome result.last (λ last. IsSomeAnd (K.given desk.new) (λ given. ComeBack given
+        (jobs_view K.Doors.hall K.Outlet.outbox K.Store.recording K.Store.faults K.Store.lent K.Store.peak K.Clock.dial last.jobs))) }
+    ensures kits_unused { IfSome result.unused (λ kits. IsSomeAnd (K.given desk.new) (λ given. ComeUnused given
+        (jobs_view K.Doors.hall K.Outlet.outbox K.Store.recording K.Store.faults K.Store.lent K.Store.peak K.Clock.dial kits))) }
+    ensures status_is { Has result.status serve_statuses }
+    ensures pass { IfSome result.last (λ last. IsOf last.pass last.server) }
     ensures served_by { IfSome result.last (λ last. IsSomeAnd result.config (λ source.
         GivenFrom K.Config.tells (K.text desk.old name.now) (λ before. Configured K.Config.tells before
         (feed K.Config.left K.Config.ended K.Config.faults K.Config.taken source) last.server.setting.config))) }
@@ -280,7 +285,7 @@ fn run_serve<R: Threads + Wait + Sync, K: Desk, E: Sink>(
         ↔ MatchOption result.config (Rises (K.faults desk.old) (K.faults desk.new)) (λ source. Rose 0 (K.Config.faults source)) }
     ensures settled { (text : List ℕ) → K.text desk.old name.now ≡ Some text → IfSome result.config (λ source.
         (Rose 0 (K.Config.faults source) → ⊥) → IsServeSettled text result.status) }
-    ensures no_kits { result.status ≡ 7 → IsNone result.last → K.gave desk.new ≡ false }
+    ensures no_kits { result.status ≡ 7 → IsNone result.last → K.given desk.new ≡ None }
     ensures ends { (end : End) × (result.status ≡ serving_status end)
         × Says E.tells (drain E.sent E.faults errors.old) (drain E.sent E.faults errors.new) (serving_line end)
         × IfSome result.last (λ _. IsEndOfRun end)
@@ -333,14 +338,10 @@ pub fn offline<K: Desk, I: Source, O: Sink, E: Sink>(
         version result.status }
 
     // A talk: the replies to the whole input, or a beginning of the replies to what was taken.
-    ensures replies { command_of words.now ≡ Some Talk → result.status ≡ 0 → I.tells
-        → Answered O.tells (O.sent output.old) (O.sent output.new) (I.left input.old) }
-    ensures beginning { command_of words.now ≡ Some Talk → (result.status ≡ 0 → ⊥)
-        → EndsEarly I.tells O.tells
+    ensures talk { command_of words.now ≡ Some Talk → TalkEnds I.tells O.tells
         (feed I.left I.ended I.faults I.taken input.old) (feed I.left I.ended I.faults I.taken input.new)
-        (drain O.sent O.faults output.old) (drain O.sent O.faults output.new) }
-    ensures in_time { command_of words.now ≡ Some Talk → result.status ≡ 0 → ReadsInTime I.tells
-        (feed I.left I.ended I.faults I.taken input.old) (feed I.left I.ended I.faults I.taken input.new) }
+        (drain O.sent O.faults output.old) (drain O.sent O.faults output.new)
+        result.status }
 
     // A replay: the printed run of the script by the configuration that the desk gave, a beginning of it, or nothing.
     ensures replayed { (name : List ℕ) → command_of words.now ≡ Some (Replay name) → result.status ≡ 0
@@ -387,12 +388,13 @@ pub fn offline<K: Desk, I: Source, O: Sink, E: Sink>(
     ensures texts { K.text desk.new ≡ K.text desk.old }
 
     // No kits are asked of the desk.
-    ensures kits { K.gave desk.new ≡ K.gave desk.old }
+    ensures kits { K.given desk.new ≡ K.given desk.old }
     ensures no_last { result.last ≡ None }
     ensures no_unused { result.unused ≡ None }
     ensures no_serving { (result.status ≡ 7 → ⊥) × (result.status ≡ 9 → ⊥) }
 
     // When each status comes.
+    ensures replay_status { (name : List ℕ) → command_of words.now ≡ Some (Replay name) → Has result.status replay_statuses }
     ensures configuration { result.status ≡ 3 → (name : List ℕ) × (fault : Fault)
         × (command_of words.now ≡ Some (Replay name))
         × Says E.tells (drain E.sent E.faults errors.old) (drain E.sent E.faults errors.new) (configuration_line fault)
@@ -415,13 +417,6 @@ pub fn offline<K: Desk, I: Source, O: Sink, E: Sink>(
     ensures output_fault { result.status ≡ 6 → Rose (O.faults output.old) (O.faults output.new) }
     ensures too_long { (result.status ≡ 8) ↔ (input_limit < I.taken input.new - I.taken input.old) }
     ensures limit { I.taken input.new ≤ I.taken input.old + input_limit + 1 }
-    ensures out_of_memory { command_of words.now ≡ Some Talk → result.status ≡ 70 → NothingDone
-        (feed I.left I.ended I.faults I.taken input.old) (feed I.left I.ended I.faults I.taken input.new)
-        (drain O.sent O.faults output.old) (drain O.sent O.faults output.new) }
-    ensures settled { command_of words.now ≡ Some Talk → I.tells → length (I.left input.old) ≤ input_limit
-        → (Rose (I.faults input.old) (I.faults input.new) → ⊥)
-        → (Rose (O.faults output.old) (O.faults output.new) → ⊥)
-        → (result.status ≡ 0) ⊎ (result.status ≡ 70) }
     ensures settled_replay { (name : List ℕ) (text : List ℕ) → command_of words.now ≡ Some (Replay name)
         → K.text desk.old name ≡ Some text → I.tells
         → (Rose (K.faults desk.old) (K.faults desk.new) → ⊥)
@@ -460,7 +455,7 @@ fn run<K: Desk, I: Source, O: Sink>(
     ensures no_config { config_named (command_of words.now) ≡ None → IsNone result.config }
     ensures desk { config_named (command_of words.now) ≡ None → desk.new ≡ desk.old }
     ensures texts { K.text desk.new ≡ K.text desk.old }
-    ensures kits { K.gave desk.new ≡ K.gave desk.old }
+    ensures kits { K.given desk.new ≡ K.given desk.old }
 {
     match read_words(words) {
         None => alone(Outcome::Usage),
@@ -496,7 +491,7 @@ fn replay_by<K: Desk, I: Source, O: Sink>(
         (option_map (feed K.Config.left K.Config.ended K.Config.faults K.Config.taken) result.config)
         result.outcome }
     ensures texts { K.text desk.new ≡ K.text desk.old }
-    ensures kits { K.gave desk.new ≡ K.gave desk.old }
+    ensures kits { K.given desk.new ≡ K.given desk.old }
 {
     match desk.config(name) {
         Ok(mut config) => {

@@ -1,6 +1,8 @@
-//! Runs of the command `serve` over memory. It has nothing but tests.
+//! Runs of the whole program over memory, of `serve` and of `talk`. It has nothing but tests.
 #![tactic(auto)]
 
+#[cfg(test)]
+mod faults;
 #[cfg(test)]
 mod meeting;
 #[cfg(test)]
@@ -9,3 +11,5 @@ mod refused;
 mod serving;
 #[cfg(test)]
 mod shared;
+#[cfg(test)]
+mod talking;

@@ -10,6 +10,7 @@ use satip_program::{Desk, Jobs, JobsFault, satip};
 use satip_pump::{PumpKit, TickKit};
 use satip_world::{MemoryClock, MemoryDoors, MemoryOutlet, MemoryPacer, MemoryStore, Pacer};
 use std::alloc::Global;
+use std::snapshot::Snapshot;
 use std::sync::atomic::{AtomicBool, AtomicU64, Ordering};
 use std::test::Fail;
 use std::thread;
@@ -123,12 +124,13 @@ fn kits<'a>(alloc: Global, accepts: u32, meeting: &'a Meeting) -> Result<Meeting
 struct MeetingDesk<'a> {
     alloc: Global,
     meeting: &'a Meeting,
-    gave: bool,
+    given: Option<Snapshot<MeetingJobs<'a>>>,
     faults: u64,
 }
 
 impl<'a> Desk for MeetingDesk<'a> {
-    ghost use Rattle.std.specs.Prelude.{None};
+    ghost use Rattle.std.specs.Prelude.{None, option_map};
+    ghost use Rattle.satip_program.specs.Drawers.{memory_view};
 
     type Config = MemorySource;
 
@@ -146,7 +148,7 @@ impl<'a> Desk for MeetingDesk<'a> {
 
     ghost faults = { λ d. d.faults };
 
-    ghost gave = { λ d. d.gave };
+    ghost given = { λ d. option_map (λ kits. memory_view kits.value) d.given };
 
     fn jobs(
         &mut self,
@@ -160,7 +162,7 @@ impl<'a> Desk for MeetingDesk<'a> {
         }
         match kits(alloc, accepts, self.meeting) {
             Ok(jobs) => {
-                self.gave = true;
+                self.given = Some(Snapshot::of(&jobs));
                 Ok(jobs)
             }
             Err(Want) => Err(JobsFault::Want),
@@ -186,7 +188,7 @@ fn all_jobs_of_a_serve_meet(rt: HostRuntime) -> Result<(), Fail> {
     let mut desk = MeetingDesk {
         alloc,
         meeting: &meeting,
-        gave: false,
+        given: None,
         faults: 0,
     };
     let mut input = MemorySource::make(alloc, b"", &[], &[])?;

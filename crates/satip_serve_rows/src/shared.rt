@@ -1,30 +1,74 @@
-//! What the runs have in common: their words, and the kit of a worker.
+//! What the runs have in common: their words, the program's run over memory, and the kit of a worker.
 
-ghost use Rattle.std.specs.Prelude.{◌≡◌, true, IfOk};
+ghost use Rattle.std.specs.Prelude.{◌≡◌, true, None, IfOk};
 ghost use Rattle.satip_world.specs.Halls.{fresh_hall};
 ghost use Rattle.satip_world.specs.Outboxes.{fresh_outbox};
 
-use satip_base::{Peer, Text, Want};
+use satip_base::{MemorySink, MemorySource, Peer, Text, Want};
+use satip_program::{Desk, Ended, satip};
 use satip_worker::WorkerKit;
 use satip_world::{ConnEnd, DoorKind, MemoryConn, MemoryDoors, MemoryOutlet, Pacer};
 use std::alloc::Global;
+use std::sync::Wait;
 use std::test::Fail;
+use std::thread::Threads;
 
-const OPTIONS: &[u8] = b"OPTIONS * RTSP/1.0\r\nCSeq: 1\r\n\r\n";
+/// A request of the options.
+pub const OPTIONS: &[u8] = b"OPTIONS * RTSP/1.0\r\nCSeq: 1\r\n\r\n";
 
-const OK: &[u8] =
+/// The reply to it.
+pub const OK: &[u8] =
     b"RTSP/1.0 200 OK\r\nCSeq: 1\r\nPublic: OPTIONS, DESCRIBE, SETUP, PLAY, TEARDOWN\r\n\r\n";
+
+/// The words of a command line.
+pub fn words_of(alloc: Global, names: &[&str]) -> Result<Vec<Text>, Fail> {
+    let mut words = Vec::new(alloc);
+    for name in names {
+        words.push(Text::of(alloc, name)?)?;
+    }
+    Ok(words)
+}
 
 /// A serve of c1.toml, of one connection a worker.
 pub fn words(alloc: Global) -> Result<Vec<Text>, Fail> {
-    Ok(Vec::from_array(
-        alloc,
-        [
-            Text::of(alloc, "serve")?,
-            Text::of(alloc, "c1.toml")?,
-            Text::of(alloc, "1")?,
-        ],
-    )?)
+    words_of(alloc, &["serve", "c1.toml", "1"])
+}
+
+/// How the program ended, and what it wrote.
+pub struct Ran<K: Desk> {
+    pub ended: Ended<K>,
+    pub output: MemorySink,
+    pub errors: MemorySink,
+}
+
+impl<K: Desk> Drop for Ran<K> {
+    fn drop(self) {
+        let Ran {
+            ended: _,
+            output: _,
+            errors: _,
+        } = self;
+    }
+}
+
+/// Runs the program.
+pub fn run<R: Threads + Wait + Sync, K: Desk>(
+    rt: &R,
+    alloc: Global,
+    words: &[Text],
+    input: &mut MemorySource,
+    desk: &mut K,
+) -> Result<Ran<K>, Fail>
+    requires new { K.given desk.old ≡ None }
+{
+    let mut output = MemorySink::make(alloc, &[], 0)?;
+    let mut errors = MemorySink::make(alloc, &[], 0)?;
+    let ended = satip(rt, alloc, words, input, &mut output, &mut errors, desk);
+    Ok(Ran {
+        ended,
+        output,
+        errors,
+    })
 }
 
 // Doors by which one RTSP connection comes, with one message.

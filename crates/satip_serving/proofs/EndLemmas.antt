@@ -1,5 +1,5 @@
 -- How serving ends, by how the run of its jobs does, and the kits of a run that didn't begin.
-use Rattle.std.proofs.Common.{◌≡◌, true, sym, ap, ◌∙◌, subst, ℕ, List, Option, map}
+use Rattle.std.proofs.Common.{◌≡◌, true, refl, sym, ap, ◌∙◌, subst, ℕ, List, [], ◌∷◌, Option, map}
 use Rattle.satip_history.specs.Lists.{Each}
 use Rattle.satip_world.specs.Dials.{Dial, Reads}
 use Rattle.satip_world.specs.Halls.{Hall}
@@ -8,7 +8,9 @@ use Rattle.satip_pump.specs.declared.kits.PumpKit.{PumpKit}
 use Rattle.satip_pump.specs.declared.kits.TickKit.{TickKit}
 use Rattle.satip_worker.specs.declared.kits.WorkerKit.{WorkerKit}
 use Rattle.satip_serve.specs.Fresh.{AreFresh, FreshWorker, FreshPump, Unused}
-use Rattle.satip_serve.specs.Views.{WorkerView, worker_view, pump_view, tick_view}
+use Rattle.satip_serve.specs.Views.{WorkerView, PumpView, worker_view, pump_view, tick_view}
+use Rattle.satip_serve.specs.declared.kits.Jobs.{Jobs}
+use Rattle.satip_serving.specs.Given.{jobs_view, ComeBack, ComeUnused}
 use Rattle.satip_serve.specs.declared.end.ServeEnd.{ServeEnd}
 use Rattle.satip_serve.specs.declared.end.ServeEnd.TheVariants as serves
 use Rattle.satip_plain.specs.Histories.{Item}
@@ -54,4 +56,40 @@ unused_of hall outbox recording faults lent peak dial accepts workers workers' p
     reads = subst (λ d. Reads d (dial tick'.clock) same.moment) fresh.ticker_is.dial same.read;
     outbox = ap outbox same.outlet ∙ fresh.ticker_is.outbox;
   };
+}
+
+-- the keys of workers, and the recordings of pumps, as they are seen
+keys_seen : {D O P : Type 0} (hall : D → Hall) (outbox : O → Outbox) (kits : List (WorkerKit D O P))
+    → map (λ (w : WorkerView). w.key) (map (worker_view hall outbox) kits) ≡ map (λ (kit : WorkerKit D O P). kit.key) kits
+keys_seen hall outbox [] = refl
+keys_seen hall outbox (kit ∷ kits) = ap (λ (keys : List (List ℕ)). kit.key ∷ keys) (keys_seen hall outbox kits)
+
+recordings_seen : {M O P : Type 0} (recording : M → ℕ → Option (List ℕ)) (faults lent peak : M → ℕ) (outbox : O → Outbox) (kits : List (PumpKit M O P))
+    → map (λ (p : PumpView). p.recording) (map (pump_view recording faults lent peak outbox) kits) ≡ map (λ (kit : PumpKit M O P). recording kit.store) kits
+recordings_seen recording faults lent peak outbox [] = refl
+recordings_seen recording faults lent peak outbox (kit ∷ kits) =
+    ap (λ (all : List (ℕ → Option (List ℕ))). recording kit.store ∷ all) (recordings_seen recording faults lent peak outbox kits)
+
+-- kits come back at their places
+pub come_back : {D O P M C : Type 0} (hall : D → Hall) (outbox : O → Outbox) (recording : M → ℕ → Option (List ℕ)) (faults lent peak : M → ℕ) (dial : C → Dial)
+    (jobs left : Jobs D O P M C)
+    → map (λ (kit : WorkerKit D O P). kit.key) left.workers.items ≡ map (λ (kit : WorkerKit D O P). kit.key) jobs.workers.items
+    → map (λ (kit : PumpKit M O P). recording kit.store) left.pumps.items ≡ map (λ (kit : PumpKit M O P). recording kit.store) jobs.pumps.items
+    → ComeBack (jobs_view hall outbox recording faults lent peak dial jobs) (jobs_view hall outbox recording faults lent peak dial left)
+come_back hall outbox recording faults lent peak dial jobs left keys recordings = record {
+  keys = keys_seen hall outbox left.workers.items ∙ keys ∙ sym (keys_seen hall outbox jobs.workers.items);
+  recordings = recordings_seen recording faults lent peak outbox left.pumps.items ∙ recordings
+      ∙ sym (recordings_seen recording faults lent peak outbox jobs.pumps.items);
+}
+
+-- kits that are the same but for one reading of the clock show the same
+pub come_unused : {D O P M C : Type 0} (hall : D → Hall) (outbox : O → Outbox) (recording : M → ℕ → Option (List ℕ)) (faults lent peak : M → ℕ) (dial : C → Dial)
+    (jobs left : Jobs D O P M C) → Unused dial jobs.workers.items left.workers.items jobs.pumps.items left.pumps.items jobs.tick left.tick
+    → ComeUnused (jobs_view hall outbox recording faults lent peak dial jobs) (jobs_view hall outbox recording faults lent peak dial left)
+come_unused hall outbox recording faults lent peak dial jobs left same = record {
+  workers = ap (λ kits. map (worker_view hall outbox) kits) same.workers_same;
+  pumps = ap (λ kits. map (pump_view recording faults lent peak outbox) kits) same.pumps_same;
+  moment = same.moment;
+  clock = same.read;
+  outbox = ap outbox same.outlet;
 }

@@ -1,10 +1,11 @@
 //! What opens the files that the words name, and makes the kits of a server's jobs.
 
-ghost use Rattle.std.specs.Prelude.{◌≡◌, ℕ, Bool, true, false, List, Option, length, map, IfOk, IfErr, OnOk, OnErr};
+ghost use Rattle.std.specs.Prelude.{◌≡◌, ℕ, List, Option, Some, None, length, map, IfOk, IfErr, OnOk, OnErr};
 ghost use Rattle.satip_world.specs.Counts.{Rises};
 ghost use Rattle.satip_serve.specs.Views.{worker_view, pump_view, tick_view};
 ghost use Rattle.satip_serve.specs.Fresh.{AreFresh};
 ghost use Rattle.satip_serving.specs.Desks.{FailsFor};
+ghost use Rattle.satip_serving.specs.Given.{JobsView, jobs_view};
 
 use satip_base::{Failed, Source, Text};
 use satip_config::Config;
@@ -49,13 +50,13 @@ pub trait Desk {
     // How often a call failed.
     ghost faults: { Self → ℕ };
 
-    // Whether the desk has given its kits.
-    ghost gave: { Self → Bool };
+    // The kits that the desk gave, if it gave them, as they were then.
+    ghost given: { Self → Option JobsView };
 
     /// Opens the configuration of a name, from its beginning.
     fn config(&mut self, name: &Text) -> Result<Self::Config, Failed>
         ensures texts { text self.new ≡ text self.old }
-        ensures kits { gave self.new ≡ gave self.old }
+        ensures kits { given self.new ≡ given self.old }
         ensures started { IfOk result (λ source. IsStarted Self.Config.tells
             (record { left = Self.Config.left source; ended = Self.Config.ended source; faults = Self.Config.faults source; taken = Self.Config.taken source })
             (text self.old name.now)) }
@@ -71,10 +72,11 @@ pub trait Desk {
         config: &Config,
         accepts: u32,
     ) -> Result<Jobs<Self::Doors, Self::Outlet, Self::Pacer, Self::Store, Self::Clock>, JobsFault>
-        requires { gave self.old ≡ false }
+        requires { given self.old ≡ None }
         ensures texts { text self.new ≡ text self.old }
-        ensures given { OnOk result (gave self.new ≡ true) }
-        ensures kept { OnErr result (gave self.new ≡ false) }
+        ensures kits { IfOk result (λ jobs. given self.new ≡ Some (jobs_view Self.Doors.hall Self.Outlet.outbox
+            Self.Store.recording Self.Store.faults Self.Store.lent Self.Store.peak Self.Clock.dial jobs)) }
+        ensures kept { OnErr result (given self.new ≡ None) }
         ensures workers { IfOk result (λ jobs. length jobs.workers.items ≡ config.now.workers) }
         ensures pumps { IfOk result (λ jobs. length jobs.pumps.items ≡ length config.now.fronts) }
         ensures fresh { IfOk result (λ jobs. AreFresh accepts

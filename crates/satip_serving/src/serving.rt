@@ -1,6 +1,6 @@
 //! `serve`: a configuration is read, the desk gives the kits of all jobs, and the jobs serve.
 
-ghost use Rattle.std.specs.Prelude.{◌≡◌, ℕ, ◌⊎◌, List, true, false, Some, None, length, map, IfSome, IsNone, IsSomeAnd, MatchBool, MatchOption};
+ghost use Rattle.std.specs.Prelude.{◌≡◌, ℕ, ◌⊎◌, List, true, Some, None, length, map, IfSome, IsNone, IsSomeAnd, MatchOption};
 ghost use Rattle.satip_base.specs.Streams.{Rose};
 ghost use Rattle.satip_config.specs.declared.fault.ConfigFault.{ConfigFault as Fault};
 ghost use Rattle.satip_fronts.specs.FrontEnds.{IsNumbered};
@@ -12,7 +12,9 @@ ghost use Rattle.satip_serve.specs.ServeRuns.{ServeRun, HasFault};
 ghost use Rattle.satip_history.specs.Lists.{Each};
 ghost use Rattle.satip_serve.specs.Fresh.{AreFresh};
 ghost use Rattle.satip_serve.specs.Views.{worker_view, pump_view, tick_view};
+ghost use Rattle.satip_turn.specs.Shown.{IsOf};
 ghost use Rattle.satip_world.specs.Counts.{Rises};
+ghost use Rattle.satip_serving.specs.Given.{jobs_view, ComeBack, ComeUnused};
 ghost use Rattle.satip_serving.specs.Laws.{SendsSelected, ObeysOwners, TellsBusy, PlaysRecordings};
 ghost use Rattle.satip_serving.specs.Servings.{GivenFrom, HasNoConfiguration, EndsAs, end_of_run, IsServingOf, IsEndOfRun, AreUnused, IsOneOf, IsNeitherOf};
 
@@ -115,6 +117,13 @@ fn serve_jobs<
         (map (pump_view M.recording M.faults M.lent M.peak O.outbox) jobs.pumps.items)
         (tick_view C.dial O.outbox jobs.tick) }
     ensures one { IsOneOf result.last result.unused }
+    ensures kits_left { IfSome result.last (λ last. ComeBack
+        (jobs_view D.hall O.outbox M.recording M.faults M.lent M.peak C.dial jobs)
+        (jobs_view D.hall O.outbox M.recording M.faults M.lent M.peak C.dial last.jobs)) }
+    ensures kits_unused { IfSome result.unused (λ kits. ComeUnused
+        (jobs_view D.hall O.outbox M.recording M.faults M.lent M.peak C.dial jobs)
+        (jobs_view D.hall O.outbox M.recording M.faults M.lent M.peak C.dial kits)) }
+    ensures of { IfSome result.last (λ last. IsOf last.pass last.server) }
     ensures config { IfSome result.last (λ last. last.server.setting.config ≡ config) }
     ensures run { IfSome result.last (λ last. ServeRun D.Conn.tells O.tells last.server.setting _accepts last.pass.seen last.pass.kept
         (map (worker_view D.hall O.outbox) last.jobs.workers.items)
@@ -159,9 +168,14 @@ fn serve_source<R: Threads + Wait + Sync, K: Desk>(
     accepts: u32,
     desk: &mut K,
 ) -> Left<K::Doors, K::Outlet, K::Pacer, K::Store, K::Clock>
-    requires new { K.gave desk.old ≡ false }
+    requires new { K.given desk.old ≡ None }
     ensures texts { K.text desk.new ≡ K.text desk.old }
-    ensures kits { MatchBool (K.gave desk.new) (IsOneOf result.last result.unused) (IsNeitherOf result.last result.unused) }
+    ensures kits { MatchOption (K.given desk.new) (IsNeitherOf result.last result.unused) (λ _. IsOneOf result.last result.unused) }
+    ensures kits_left { IfSome result.last (λ last. IsSomeAnd (K.given desk.new) (λ given. ComeBack given
+        (jobs_view K.Doors.hall K.Outlet.outbox K.Store.recording K.Store.faults K.Store.lent K.Store.peak K.Clock.dial last.jobs))) }
+    ensures kits_unused { IfSome result.unused (λ kits. IsSomeAnd (K.given desk.new) (λ given. ComeUnused given
+        (jobs_view K.Doors.hall K.Outlet.outbox K.Store.recording K.Store.faults K.Store.lent K.Store.peak K.Clock.dial kits))) }
+    ensures of { IfSome result.last (λ last. IsOf last.pass last.server) }
     ensures config { IfSome result.last (λ last. Configured K.Config.tells
         (feed K.Config.left K.Config.ended K.Config.faults K.Config.taken source.old) (feed K.Config.left K.Config.ended K.Config.faults K.Config.taken source.new)
         last.server.setting.config) }
@@ -185,7 +199,7 @@ fn serve_source<R: Threads + Wait + Sync, K: Desk>(
     ensures served { result.end ≡ ServingEnd.Served → IsSomeAnd result.last (λ last. Each (λ w. w.hall.ended ≡ true) (map (worker_view K.Doors.hall K.Outlet.outbox) last.jobs.workers.items)) }
     ensures doors_fault { result.end ≡ ServingEnd.DoorsFault → MatchOption result.last (Rises (K.faults desk.old) (K.faults desk.new))
         (λ last. HasFault (map (worker_view K.Doors.hall K.Outlet.outbox) last.jobs.workers.items)) }
-    ensures no_kits { result.end ≡ ServingEnd.DoorsFault → IsNone result.last → K.gave desk.new ≡ false }
+    ensures no_kits { result.end ≡ ServingEnd.DoorsFault → IsNone result.last → K.given desk.new ≡ None }
     ensures history_full { result.end ≡ ServingEnd.HistoryFull → IsSomeAnd result.last (λ last. IsFull last.pass.seen) }
     ensures out_of_memory { IfSome result.unused (λ _. result.end ≡ ServingEnd.OutOfMemory) }
     ensures unused { IfSome result.unused (λ kits. AreUnused accepts
@@ -225,13 +239,19 @@ pub fn serve_by<R: Threads + Wait + Sync, K: Desk>(
     accepts: u32,
     desk: &mut K,
 ) -> Served<K>
-    requires new { K.gave desk.old ≡ false }
+    requires new { K.given desk.old ≡ None }
     ensures texts { K.text desk.new ≡ K.text desk.old }
 
-    // Where the desk gave its kits, they are among what the jobs left, or no job began with them.
-    ensures kits { MatchBool (K.gave desk.new) (IsOneOf result.last result.unused) (IsNeitherOf result.last result.unused) }
+    // Where the desk gave its kits, those are what the jobs left, each at its place, or no job began with them, and they
+    // come back as they were, but for one reading of the clock.
+    ensures kits { MatchOption (K.given desk.new) (IsNeitherOf result.last result.unused) (λ _. IsOneOf result.last result.unused) }
+    ensures kits_left { IfSome result.last (λ last. IsSomeAnd (K.given desk.new) (λ given. ComeBack given
+        (jobs_view K.Doors.hall K.Outlet.outbox K.Store.recording K.Store.faults K.Store.lent K.Store.peak K.Clock.dial last.jobs))) }
+    ensures kits_unused { IfSome result.unused (λ kits. IsSomeAnd (K.given desk.new) (λ given. ComeUnused given
+        (jobs_view K.Doors.hall K.Outlet.outbox K.Store.recording K.Store.faults K.Store.lent K.Store.peak K.Clock.dial kits))) }
 
-    // The jobs' run: its configuration is that of the desk's text.
+    // The jobs' run: its pass is one of its server, and its configuration is that of the desk's text.
+    ensures of { IfSome result.last (λ last. IsOf last.pass last.server) }
     ensures config { IfSome result.last (λ last. IsSomeAnd result.config (λ source.
         GivenFrom K.Config.tells (K.text desk.old name.now) (λ before. Configured K.Config.tells before
         (feed K.Config.left K.Config.ended K.Config.faults K.Config.taken source) last.server.setting.config))) }
@@ -263,7 +283,7 @@ pub fn serve_by<R: Threads + Wait + Sync, K: Desk>(
     ensures served { result.end ≡ ServingEnd.Served → IsSomeAnd result.last (λ last. Each (λ w. w.hall.ended ≡ true) (map (worker_view K.Doors.hall K.Outlet.outbox) last.jobs.workers.items)) }
     ensures doors_fault { result.end ≡ ServingEnd.DoorsFault → MatchOption result.last (Rises (K.faults desk.old) (K.faults desk.new))
         (λ last. HasFault (map (worker_view K.Doors.hall K.Outlet.outbox) last.jobs.workers.items)) }
-    ensures no_kits { result.end ≡ ServingEnd.DoorsFault → IsNone result.last → K.gave desk.new ≡ false }
+    ensures no_kits { result.end ≡ ServingEnd.DoorsFault → IsNone result.last → K.given desk.new ≡ None }
     ensures history_full { result.end ≡ ServingEnd.HistoryFull → IsSomeAnd result.last (λ last. IsFull last.pass.seen) }
     ensures out_of_memory { IfSome result.unused (λ _. result.end ≡ ServingEnd.OutOfMemory) }
 

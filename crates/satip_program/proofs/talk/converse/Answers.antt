@@ -1,5 +1,5 @@
 use Rattle.std.proofs.Common.{arith, refl, lit<, ◌∙◌}
-use Rattle.satip_program.proofs.TurnLemmas.{goes_from, goes_more, ends_closed, ends_by_output, ends_by_input, ends_by_length}
+use Rattle.satip_program.proofs.TurnLemmas.{goes_from, goes_more, ends_closed, ends_by_output, ends_by_input, ends_by_length, at_limit}
 use Rattle.satip_program.proofs.talk.converse.Goals as goal
 
 pub input-init : goal.input-init
@@ -13,6 +13,7 @@ input-init g c = (
 pub returns-then-taken-gt-LIMIT : goal.returns-then-taken-gt-LIMIT
 returns-then-taken-gt-LIMIT g c = record {
   ends = ends_by_length _ _ _ _ _ _ _ _ _ _ _ _ c.input.invariant.2 c.in-Got.ensures.takes
+      (at_limit _ _ _ c.input.invariant.2.short c.room_for.ensures.below c.in-Got.ensures.room c.if-taken-gt-LIMIT.true)
       (omega (arith, c.room_for.ensures.limit, c.in-Got.ensures.room, c.if-taken-gt-LIMIT.true));
 }
 

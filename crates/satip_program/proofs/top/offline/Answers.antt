@@ -1,13 +1,16 @@
 use Rattle.std.proofs.Common.{◌∙◌, sym}
 use Rattle.satip_replay.specs.Seen.{feed, drain}
 use Rattle.satip_program.specs.Outcomes.{Says}
-use Rattle.satip_program.proofs.OutcomeLemmas.{ends_early, run_faults, run_wrongs}
+use Rattle.satip_program.proofs.OutcomeLemmas.{run_faults, run_wrongs}
+use Rattle.satip_program.proofs.StatusLemmas.{run_talks, replay_status}
 use Rattle.satip_program.proofs.ServingLemmas.{never_doors, never_full}
 use Rattle.satip_program.proofs.top.offline.Goals as goal
 
-pub returns-clause-beginning : goal.returns-clause-beginning
-returns-clause-beginning g c = λ talk other.
-    ends_early _ _ _ _ _ _ _ _ _ _ _ _ _ c.run-outcome.ensures.ends talk (λ well. other (c.status.ensures.status ∙ well))
+pub returns-clause-talk : goal.returns-clause-talk
+returns-clause-talk g c = λ talk. run_talks _ _ _ _ _ _ _ _ _ _ _ _ _ _ c.run-outcome.ensures.ends c.status.ensures.status talk
+
+pub returns-clause-replay_status : goal.returns-clause-replay_status
+returns-clause-replay_status g c = λ name is. replay_status _ _ _ _ _ _ _ _ _ _ _ _ _ _ c.run-outcome.ensures.ends c.status.ensures.status name is
 
 pub returns-clause-configuration : goal.returns-clause-configuration
 returns-clause-configuration g c = λ is.

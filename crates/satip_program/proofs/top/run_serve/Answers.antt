@@ -1,6 +1,6 @@
 use Rattle.std.proofs.Common.{sym, ap, ◌∙◌}
 use Rattle.satip_program.specs.Serving.{serving_status}
-use Rattle.satip_program.proofs.ServingLemmas.{ends_by_doors, input_told, config_told, settled_told}
+use Rattle.satip_program.proofs.ServingLemmas.{ends_by_doors, input_told, config_told, settled_told, serve_has}
 use Rattle.satip_program.proofs.top.run_serve.Goals as goal
 
 pub returns-clause-config : goal.returns-clause-config
@@ -20,3 +20,6 @@ returns-clause-settled g c = λ text told.
 
 pub returns-clause-no_kits : goal.returns-clause-no_kits
 returns-clause-no_kits g c = λ is. c.serve_by-end.ensures.no_kits (ends_by_doors c.serve_by-end.result.end (sym c.status_of_serving.ensures.status ∙ is))
+
+pub returns-clause-status_is : goal.returns-clause-status_is
+returns-clause-status_is g c = serve_has c.serve_by-end.result.end _ c.status_of_serving.ensures.status

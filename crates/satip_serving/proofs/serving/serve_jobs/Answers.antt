@@ -1,4 +1,4 @@
-use Rattle.satip_serving.proofs.EndLemmas.{told_served, told_fault, told_full, unused_of}
+use Rattle.satip_serving.proofs.EndLemmas.{told_served, told_fault, told_full, unused_of, come_back, come_unused}
 use Rattle.satip_serving.proofs.PumpPackets.{plays_recordings}
 use Rattle.satip_serving.proofs.serving.serve_jobs.Goals as goal
 
@@ -20,3 +20,13 @@ returns-in-Err-clause-unused g c = unused_of _ _ _ _ _ _ _ _ _ _ _ _ _ _ c.requi
 pub returns-in-Ok-clause-recordings : goal.returns-in-Ok-clause-recordings
 returns-in-Ok-clause-recordings g c =
     plays_recordings _ _ _ _ _ _ _ _ _ (c.in-Ok.ensures.run c.args._accepts c.requires.fresh) c.keeps_laws.ensures.recordings
+
+pub returns-in-Ok-clause-kits_left : goal.returns-in-Ok-clause-kits_left
+returns-in-Ok-clause-kits_left g c =
+    come_back g.D.Doors.hall g.O.Outlet.outbox g.M.MuxStore.recording g.M.MuxStore.faults g.M.MuxStore.lent g.M.MuxStore.peak g.C.Clock.dial c.args.jobs
+    c.in-Ok.last.jobs c.in-Ok.ensures.keys c.in-Ok.ensures.recordings
+
+pub returns-in-Err-clause-kits_unused : goal.returns-in-Err-clause-kits_unused
+returns-in-Err-clause-kits_unused g c =
+    come_unused g.D.Doors.hall g.O.Outlet.outbox g.M.MuxStore.recording g.M.MuxStore.faults g.M.MuxStore.lent g.M.MuxStore.peak g.C.Clock.dial c.args.jobs
+    c.in-Err.jobs c.in-Err.ensures.unused

@@ -1,0 +1,151 @@
+//! The command `serve` over loopback, and what the real desk can't have.
+
+use crate::desk::RealDesk;
+use satip_base::{MemorySink, MemorySource, Text};
+use satip_program::satip;
+use std::alloc::Global;
+use std::io::{Read, Write};
+use std::net::{Ipv4Addr, SocketAddr, TcpStream};
+use std::sync::Wait;
+use std::test::Fail;
+use std::thread::Threads;
+use std::time::Duration;
+use std::{fs, thread};
+
+const OPTIONS: &[u8] = b"OPTIONS * RTSP/1.0\r\nCSeq: 1\r\n\r\n";
+
+const REPLY: &[u8] =
+    b"RTSP/1.0 200 OK\r\nCSeq: 1\r\nPublic: OPTIONS, DESCRIBE, SETUP, PLAY, TEARDOWN\r\n\r\n";
+
+const CONFIGURATION: &[u8] =
+    b"address = \"127.0.0.1\"\nrtsp_port = 18554\nhttp_port = 18875\nworkers = 1\n\
+[[frontend]]\nsources = [1]\nsystems = [\"dvbs\"]\n";
+
+// What a run came to, and what it wrote.
+#[derive(Drop)]
+struct Ran {
+    status: u8,
+    configured: bool,
+    left: bool,
+    unused: bool,
+    output: MemorySink,
+    errors: MemorySink,
+}
+
+// A serve by the real desk of one connection a worker, whose configuration is this text.
+fn serve<R: Threads + Wait + Sync + Copy + Drop + Send>(
+    host: HostRuntime,
+    rt: R,
+    name: &str,
+    text: &[u8],
+) -> Result<Ran, Fail> {
+    let alloc = host.alloc();
+    fs::write(&host, name, text)?;
+    let words = words(alloc, name)?;
+    let mut input = MemorySource::make(alloc, b"", &[], &[])?;
+    let mut output = MemorySink::make(alloc, &[], 0)?;
+    let mut errors = MemorySink::make(alloc, &[], 0)?;
+    let mut desk = RealDesk::new(host, rt);
+    let ended = satip(
+        &rt,
+        alloc,
+        &words,
+        &mut input,
+        &mut output,
+        &mut errors,
+        &mut desk,
+    );
+    fs::remove_file(&host, name)?;
+    Ok(Ran {
+        status: ended.status,
+        configured: ended.config.is_some(),
+        left: ended.last.is_some(),
+        unused: ended.unused.is_some(),
+        output,
+        errors,
+    })
+}
+
+fn words(alloc: Global, name: &str) -> Result<Vec<Text>, Fail> {
+    let mut words = Vec::new(alloc);
+    for word in ["serve", name, "1"] {
+        words.push(Text::of(alloc, word)?)?;
+    }
+    Ok(words)
+}
+
+// Whether the one reply to one request came, and then the end, once the server listens.
+fn is_answered(rt: HostRuntime) -> bool {
+    let at = SocketAddr::from((Ipv4Addr::LOCALHOST, 18554));
+    for _ in 0..500 {
+        match TcpStream::connect(&rt, at) {
+            Ok(stream) => return asks(stream),
+            Err(_) => thread::sleep(&rt, Duration::from_millis(10)),
+        }
+    }
+    false
+}
+
+fn asks(mut stream: TcpStream) -> bool {
+    let mut reply = [0u8; 128];
+    let reply = &mut reply[..REPLY.len()];
+    stream
+        .set_read_timeout(Some(Duration::from_secs(20)))
+        .is_ok()
+        && stream.write_all(OPTIONS).is_ok()
+        && stream.read_exact(reply).is_ok()
+        && *reply == *REPLY
+}
+
+#[test]
+fn a_request_is_answered_over_loopback(rt: HostRuntime) -> Result<(), Fail> {
+    let client = thread::spawn(&rt, move || is_answered(rt))?;
+    let ran = serve(rt, rt, "loopback.toml", CONFIGURATION)?;
+    assert!(rt; client.join(&rt));
+    assert_eq!(rt; ran.status, 0);
+    assert!(rt; ran.configured && ran.left && !ran.unused);
+    assert_eq!(rt; ran.output.sent(), b"".as_slice());
+    assert_eq!(rt; ran.errors.sent(), b"".as_slice());
+    Ok(())
+}
+
+// Whether a serve tells that it has no kits.
+fn has_no_kits<R: Threads + Wait + Sync + Copy + Drop + Send>(
+    host: HostRuntime,
+    rt: R,
+    name: &str,
+    text: &[u8],
+) -> Result<bool, Fail> {
+    let ran = serve(host, rt, name, text)?;
+    let told = ran.errors.sent() == b"doors fault\n".as_slice();
+    let silent = ran.output.sent() == b"".as_slice();
+    Ok(ran.status == 7 && ran.configured && !ran.left && !ran.unused && told && silent)
+}
+
+#[test]
+fn a_recording_that_cannot_be_opened_is_a_fault(rt: HostRuntime) -> Result<(), Fail> {
+    let text = b"address = \"127.0.0.1\"\nrtsp_port = 18556\nhttp_port = 18877\n\
+[[frontend]]\nsources = [1]\nsystems = [\"dvbs\"]\n\
+[[mux]]\nsrc = 1\nfreq = \"11494\"\npol = \"h\"\n\
+msys = \"dvbs\"\nsr = 22000\nfile = \"no/such/recording.ts\"\n";
+    assert!(rt; has_no_kits(rt, rt, "recording.toml", text)?);
+    Ok(())
+}
+
+// The address is one of those for documentation, which no machine has.
+#[test]
+fn an_address_that_is_not_ours_is_a_fault(rt: HostRuntime) -> Result<(), Fail> {
+    let text = b"address = \"192.0.2.1\"\nrtsp_port = 18558\nhttp_port = 18879\n\
+[[frontend]]\nsources = [1]\nsystems = [\"dvbs\"]\n";
+    assert!(rt; has_no_kits(rt, rt, "address.toml", text)?);
+    Ok(())
+}
+
+// Both listeners can't have one port.
+#[test]
+fn a_port_in_use_is_a_fault(rt: HostRuntime) -> Result<(), Fail> {
+    let text = b"address = \"127.0.0.1\"\nrtsp_port = 18560\nhttp_port = 18560\n\
+[[frontend]]\nsources = [1]\nsystems = [\"dvbs\"]\n";
+    assert!(rt; has_no_kits(rt, rt, "port.toml", text)?);
+    Ok(())
+}
