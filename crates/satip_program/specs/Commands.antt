@@ -77,12 +77,17 @@ config_named None = None
 abbrev pub usage : List ℕ
 usage = codes "usage: satip talk | replay CONFIG | serve CONFIG ACCEPTS | stress SEED COUNT\n"
 
--- what --help writes: the forms, and a line for each command that is built
+-- what --help writes: the forms, a line for each command that is built with an example of it, and where more stands
 abbrev pub help : List ℕ
 help = usage
-    ++ codes "talk: one RTSP connection, from standard input to standard output\n"
-    ++ codes "replay: the events of the script on standard input, run by the configuration in the file CONFIG\n"
     ++ codes "serve: clients, by the configuration in the file CONFIG; each worker ends after ACCEPTS connections, and never where it is 0\n"
+    ++ codes "    satip serve satip.toml 0\n"
+    ++ codes "    SATIP_PACE=recording plays each recording at its own rate, SATIP_REPEAT=1 again at its end\n"
+    ++ codes "replay: the events of the script on standard input, run by the configuration in the file CONFIG\n"
+    ++ codes "    satip replay examples/satip.toml < examples/session.script\n"
+    ++ codes "talk: one RTSP connection, from standard input to standard output\n"
+    ++ codes "    satip talk < requests\n"
+    ++ codes "manual: man satip, or docs/satip.1; statuses: docs/PROTOCOL.md; configuration: examples/satip.toml\n"
 
 -- what --version writes
 abbrev pub version : List ℕ

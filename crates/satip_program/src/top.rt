@@ -36,8 +36,19 @@ use std::alloc::Global;
 use std::sync::Wait;
 use std::thread::Threads;
 
-const HELP: &[u8] =
-    b"usage: satip talk | replay CONFIG | serve CONFIG ACCEPTS | stress SEED COUNT\ntalk: one RTSP connection, from standard input to standard output\nreplay: the events of the script on standard input, run by the configuration in the file CONFIG\nserve: clients, by the configuration in the file CONFIG; each worker ends after ACCEPTS connections, and never where it is 0\n";
+const HELP: &[u8] = b"usage: satip talk | replay CONFIG | serve CONFIG ACCEPTS | stress SEED COUNT\n\
+    serve: clients, by the configuration in the file CONFIG; each worker ends after ACCEPTS \
+    connections, and never where it is 0\n\
+    \x20   satip serve satip.toml 0\n\
+    \x20   SATIP_PACE=recording plays each recording at its own rate, SATIP_REPEAT=1 again at its \
+    end\n\
+    replay: the events of the script on standard input, run by the configuration in the file \
+    CONFIG\n\
+    \x20   satip replay examples/satip.toml < examples/session.script\n\
+    talk: one RTSP connection, from standard input to standard output\n\
+    \x20   satip talk < requests\n\
+    manual: man satip, or docs/satip.1; statuses: docs/PROTOCOL.md; configuration: \
+    examples/satip.toml\n";
 
 const VERSION: &[u8] = b"satip 0.1.0\n";
 
