@@ -148,8 +148,8 @@ def mixed(place):
 
 
 def halves(place):
-    """Half packets, half ticks, and a PLAY after each thousand."""
-    return "packet" if place % 2 == 0 else "play" if place % 1000 == 999 else "tick"
+    """Of a thousand lines 500 packets, then ticks, of which the first sends what is held, and a PLAY."""
+    return "packet" if place % 1000 < 500 else "play" if place % 1000 == 999 else "tick"
 
 
 def eighth(place):
@@ -173,7 +173,7 @@ def script(lines, kind_at, opened=()):
 
 # name, how many lines, and what they are
 ROWS = [
-    ("replay, half of the lines packets, half ticks", 300_000, halves, ()),
+    ("replay, 500 packets and 500 ticks by turns", 300_000, halves, ()),
     ("replay, one line in eight a packet, the others ticks", 900_000, eighth, ()),
     ("replay, half of the lines packets, half asks", 300_000, in_turn("packet", "ask"), ()),
     ("replay, mixed: 50 % packets, 45 % asks, 2 % ticks, 3 % others", 300_000, mixed, ()),
@@ -256,7 +256,7 @@ def main():
             file.write(configuration())
         for name, lines, kind_at, opened in ROWS:
             if not wanted or any(word in name for word in wanted):
-                short = tuple(script(count, kind_at, opened) for count in (1_000, 5_000))
+                short = tuple(script(count, kind_at, opened) for count in (1_000, 4_000))
                 measure(name, [program, "replay", "bench.toml"], script(lines, kind_at, opened), short, folder, b"\n")
         name = "talk, OPTIONS"
         if not wanted or any(word in name for word in wanted):

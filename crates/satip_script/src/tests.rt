@@ -452,20 +452,17 @@ fn same_get(peer: Peer, draw: Draw, digits: &[u8], line: &[u8], kept: &mut Kept)
     }
 }
 
-// Whether a packet's line says the same in parts and as a whole.
-fn same_packet(front: u16, tune: u64, digits: &[u8], line: &[u8], framer: &mut Framer) -> bool {
-    match (read_packet(digits), read_line(line, framer)) {
-        (
-            Some(packet),
-            Line::Event(
-                Event::Packet {
-                    front: at,
-                    tune: by,
-                    packet: same,
-                },
-            ),
-        ) => front == at && tune == by && packet == same,
-        (None, Line::Wrong) => true,
+// Whether a packet's line says the same in parts and as a whole, but for the packet's bytes.
+fn same_packet(front: u16, tune: u64, digits: &[u8], line: Line) -> bool {
+    match line {
+        Line::Event(
+            Event::Packet {
+                front: at,
+                tune: by,
+                ..
+            },
+        ) => { front == at && tune == by && read_packet(digits).is_some() }
+        Line::Wrong => read_packet(digits).is_none(),
         _ => false,
     }
 }
@@ -483,7 +480,7 @@ fn is_same(line: &[u8], kept: &mut Kept) -> bool {
                 tune,
                 digits,
             },
-        ) => same_packet(front, tune, digits, line, &mut kept.framer),
+        ) => same_packet(front, tune, digits, read_line(line, &mut kept.framer)),
         Some(parts) => is_same_short(&parts, read_line(line, &mut kept.framer)),
         None => matches!(read_line(line, &mut kept.framer), Line::Skip),
     }
