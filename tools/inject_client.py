@@ -46,15 +46,15 @@ def stream(port, timeout=4, tuning=TUNING):
 class Receiver:
     """A client that streams over RTP and keeps its session alive."""
 
-    def __init__(self, rtsp):
+    def __init__(self, rtsp, tuning=TUNING):
         self.rtsp = rtsp
         self.socket, self.port = self.bind()
         self.socket.settimeout(0.2)
         self.times = []
-        reply = ask(rtsp, f"SETUP rtsp://127.0.0.1/?{TUNING} RTSP/1.0\r\nCSeq: 1\r\n"
+        reply = ask(rtsp, f"SETUP rtsp://127.0.0.1/?{tuning} RTSP/1.0\r\nCSeq: 1\r\n"
                           f"Transport: RTP/AVP;unicast;client_port={self.port}-{self.port + 1}\r\n\r\n")
         self.session = re.search(r"Session: *([^;\r]+)", reply).group(1)
-        number = re.search(r"com.ses.streamID: *(\d+)", reply).group(1)
+        self.number = number = re.search(r"com.ses.streamID: *(\d+)", reply).group(1)
         reply = ask(rtsp, f"PLAY rtsp://127.0.0.1/stream={number} RTSP/1.0\r\nCSeq: 2\r\nSession: {self.session}\r\n\r\n")
         assert " 200 " in reply, reply
         self.on = True
@@ -77,6 +77,10 @@ class Receiver:
             except OSError:
                 pass
 
+    def end(self):
+        self.on = False
+        ask(self.rtsp, f"TEARDOWN rtsp://127.0.0.1/stream={self.number} RTSP/1.0\r\nCSeq: 3\r\nSession: {self.session}\r\n\r\n", 1)
+
     def count_since(self, moment):
         return sum(1 for when in self.times if when >= moment)
 
@@ -87,12 +91,16 @@ def come_and_go(rtsp, http, end):
     while time.monotonic() < end:
         turn += 1
         try:
-            if turn % 2:
+            if turn % 3 == 0:
+                guest = Receiver(rtsp, OTHER_TUNING)
+                time.sleep(0.2)
+                guest.end()
+            elif turn % 3 == 1:
                 ask(rtsp, f"OPTIONS rtsp://127.0.0.1/ RTSP/1.0\r\nCSeq: {turn}\r\n\r\n", 1)
                 ask(rtsp, f"DESCRIBE rtsp://127.0.0.1/ RTSP/1.0\r\nCSeq: {turn}\r\n\r\n", 1)
             else:
                 stream(http, 1, OTHER_TUNING)
-        except OSError:
+        except (OSError, AttributeError, AssertionError):
             pass
 
 
