@@ -1,7 +1,7 @@
 //! The two listeners of the server.
 
 use crate::addresses::{peer_of, socket_addr};
-use crate::errors::is_passing;
+use crate::errors::{ends_listening, is_passing};
 use crate::readiness::have_input;
 use crate::report::Throttle;
 use libc::net as c;
@@ -112,8 +112,16 @@ impl Listeners {
     }
 }
 
-// The next connection at a listener; `None` where another worker was faster.
+// The next connection at a listener; `None` where another worker was faster. An error of the listener
+// comes again at once; one of the new connection, which has to be made non-blocking, doesn't.
 fn accept_at(listener: &TcpListener, kind: DoorKind) -> io::Result<Option<Visitor>> {
+    match accept_once(listener, kind) {
+        Err(error) if ends_listening(&error) => accept_once(listener, kind),
+        answer => answer,
+    }
+}
+
+fn accept_once(listener: &TcpListener, kind: DoorKind) -> io::Result<Option<Visitor>> {
     match listener.accept() {
         Ok((stream, addr)) => Ok(peer_of(addr).map(|peer| Visitor { kind, peer, stream })),
         Err(error) if error.kind() == io::ErrorKind::WouldBlock => Ok(None),
