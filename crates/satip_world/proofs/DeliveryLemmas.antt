@@ -1,5 +1,5 @@
 -- Datagrams one after another.
-use Rattle.std.proofs.Common.{◌≡◌, ℕ, suc, ◌+◌, ◌≤◌, ◌⊎◌, List, [], ◌∷◌, ◌++◌, take, Bool, true, false, Option, Some, None, IsSomeAnd, slice_get, append_assoc, arith, sym, ap, ◌∙◌, subst, inl, inr, refl}
+use Rattle.std.proofs.Common.{◌≡◌, ℕ, suc, ◌+◌, ◌≤◌, ◌⊎◌, List, [], ◌∷◌, ◌++◌, take, false, Option, Some, None, IsSomeAnd, slice_get, append_assoc, arith, sym, ap, ◌∙◌, subst, inl, inr, refl}
 use Rattle.std.proofs.lemmas.List.{append-nil, take_more}
 use Rattle.std.proofs.lemmas.Option.{slice_get_within, get_or_from_slice_get}
 use Rattle.satip_base.specs.Output.{Datagram}
