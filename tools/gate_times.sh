@@ -1,0 +1,106 @@
+#!/usr/bin/env bash
+# Tells what the gate costs, in processor seconds and seconds that passed: each crate's check, the check of its tests, and its
+# must-fail edits, the dearest first. It needs nothing but the kit and procps.
+#   tools/gate_times.sh record LOG [NAME..]   runs `rt ci --anew [NAME..]` at the top, alone on the machine, and writes LOG as it goes
+#   tools/gate_times.sh LOG                   prints the table of a log
+# A line of LOG is one check: its kind (library, tests, seed or edit), its crate, its edit or -, and both times.
+set -euo pipefail
+top=$(cd "$(dirname "$0")/.." && pwd)
+
+usage() {
+  sed -n '2,6s/^# //p' "$0" >&2
+  exit 2
+}
+
+# Names the check that a process makes, from its words; nothing for any other process.
+name_of() {
+  local -a words
+  mapfile -d '' -t words 2>/dev/null <"/proc/$1/cmdline" || return 0
+  local kind= crate= number= at
+  [[ ${words[0]-} == */rattle ]] || return 0
+  case ${words[1]-} in build) kind=library ;; check) kind=seed ;; *) return 0 ;; esac
+  for at in "${!words[@]}"; do
+    case ${words[at]} in
+      --crate-name) crate=${words[at + 1]} ;;
+      --test) kind=tests ;;
+      */rt-edits-*/[0-9]*) kind=edit number=${words[at]##*/} ;;
+    esac
+  done
+  [[ -n $crate ]] || return 0
+  printf '%s %s %s' "$kind" "$crate" "$(edit_of "$crate" "$number")"
+}
+
+# The name of a crate's edit, by its place in the order of names.
+edit_of() {
+  [[ -n $2 ]] || { printf -- '-'; return; }
+  local -a edits=("$top/crates/$1/must-fail/"*.edit)
+  basename "${edits[$2]}" .edit
+}
+
+# Once a second, what each check has used so far.
+watch_checks() {
+  local hz pid stat
+  hz=$(getconf CLK_TCK)
+  while sleep 1; do
+    for pid in $(pgrep -x rattle); do
+      stat=$(cat "/proc/$pid/stat" 2>/dev/null) || continue
+      read -r -a stat <<<"${stat##*) }"
+      local key=$pid:${stat[19]}
+      [[ -n ${check[$key]-} ]] || check[$key]=$(name_of "$pid")
+      used[$key]=$(((stat[11] + stat[12] + stat[13] + stat[14]) / hz))
+      first[$key]=${first[$key]-$SECONDS}
+      last[$key]=$SECONDS
+    done
+  done
+}
+
+write_log() {
+  local key
+  for key in "${!check[@]}"; do
+    [[ -n ${check[$key]} ]] || continue
+    printf '%s %s %s\n' "${check[$key]}" "${used[$key]}" "$((last[$key] - first[$key] + 1))"
+  done >"$1"
+}
+
+record() {
+  declare -A check used first last
+  local log=$1
+  shift
+  (cd "$top" && rt ci --anew "$@") >"$log.out" 2>&1 &
+  local gate=$!
+  # The subshell's end writes the log, however it ends.
+  (
+    trap 'write_log "$log"' EXIT
+    trap 'exit 0' TERM INT
+    watch_checks
+  ) &
+  local watch=$!
+  local status=0
+  wait "$gate" || status=$?
+  kill "$watch" && wait "$watch" || true
+  tail -n 1 "$log.out"
+  return "$status"
+}
+
+table() {
+  awk '
+    { cpu[$1] += $4; n[$1]++; all += $4 }
+    END { for (k in cpu) printf "%-8s %5d checks %8d s\n", k, n[k], cpu[k]; printf "%-8s %21d s\n", "all", all }' "$1"
+  local kind
+  for kind in library tests edit; do
+    printf '\nThe dearest of kind %s: processor seconds, seconds that passed\n' "$kind"
+    awk -v kind="$kind" '$1 == kind { print $4, $5, $2, ($3 == "-" ? "" : $3) }' "$1" | sort -rn | head -20
+  done
+  printf '\nEdits by crate: how many, processor seconds with their seed\n'
+  awk '$1 == "edit" { n[$2]++ } $1 == "edit" || $1 == "seed" { s[$2] += $4 } END { for (c in s) print s[c], n[c] + 0, c }' "$1" | sort -rn
+}
+
+case ${1-} in
+  "" | -*) usage ;;
+  record)
+    [[ $# -ge 2 ]] || usage
+    shift
+    record "$@"
+    ;;
+  *) table "$1" ;;
+esac
