@@ -1,4 +1,5 @@
-//! The program: `satip_program::satip` over the words, the standard streams, the files and the exit status.
+//! The program: `satip_program::satip` over the words, the standard streams, the files and the exit
+//! status.
 #![tactic(auto)]
 
 mod desk;

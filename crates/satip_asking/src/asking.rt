@@ -9,8 +9,8 @@ use satip_pids::{PidFault, PidList, PidSet};
 use satip_query::{PidsGiven, Query};
 use satip_tune::{Change, Key, Tuning, first, merge};
 
-/// The tuning that a change with at least one key makes, of the old one or of none; the first key that is
-/// needed and not given, else.
+/// The tuning that a change with at least one key makes, of the old one or of none; the first key
+/// that is needed and not given, else.
 pub fn changed_tuning(old: Option<Tuning>, change: &Change) -> Result<Tuning, Key>
     ensures changed { result ≡ tuning_changed old change.now }
 {
@@ -43,8 +43,8 @@ fn other_than(old: Option<Tuning>, new: Tuning) -> Option<Tuning>
     }
 }
 
-/// Puts the PIDs that a query makes of these in their place: the whole set first, then what is added, then
-/// what is removed. The first fault, else, and then the set is to be dropped.
+/// Puts the PIDs that a query makes of these in their place: the whole set first, then what is
+/// added, then what is removed. The first fault, else, and then the set is to be dropped.
 pub fn asked_pids(pids: &mut PidSet, query: &Query) -> Option<PidFault>
     ensures asked { MatchOption result (pids_asked pids.old query.now ≡ Ok pids.new)
         (λ fault. pids_asked pids.old query.now ≡ Err fault) }

@@ -57,8 +57,8 @@ impl HttpRequest {
         request
     }
 
-    /// Puts the request of a message in the place of an older one, whatever that was: a request is large, and
-    /// moves cost time.
+    /// Puts the request of a message in the place of an older one, whatever that was: a request is
+    /// large, and moves cost time.
     pub fn read(&mut self, message: &Message<'_>)
         ensures asked { self.new ≡ asked message.now }
     {
@@ -89,7 +89,8 @@ fn blank() -> HttpRequest
     }
 }
 
-// Puts what a message asks for in the place of a query that gives nothing; the first refusal, where there is one.
+// Puts what a message asks for in the place of a query that gives nothing; the first refusal, where
+// there is one.
 #[tactic(auto, unfolding(crate::specs::Gets::asked))]
 fn fill(message: &Message<'_>, into: &mut Query) -> Option<HttpRefusal>
     requires empty { into.old ≡ new_query }

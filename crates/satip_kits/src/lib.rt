@@ -1,4 +1,5 @@
-//! What all jobs of a server work with, over the system: its sockets, files, clock and random bytes.
+//! What all jobs of a server work with, over the system: its sockets, files, clock and random
+//! bytes.
 #![tactic(auto)]
 
 mod fault;

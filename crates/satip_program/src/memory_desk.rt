@@ -85,8 +85,9 @@ impl MemoryDesk {
         }
     }
 
-    /// Puts in kits with which nothing was done, whose doors end after `accepts` connections. They are
-    /// given for this number alone, and for a configuration with as many workers and front ends.
+    /// Puts in kits with which nothing was done, whose doors end after `accepts` connections. They
+    /// are given for this number alone, and for a configuration with as many workers and front
+    /// ends.
     pub fn lay(&mut self, accepts: u32, jobs: MemoryJobs)
         requires new { AreNewKits accepts jobs }
         ensures laid { self.new ≡ record self.old { laid = Some accepts } }

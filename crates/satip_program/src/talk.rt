@@ -17,8 +17,8 @@ const LIMIT: u64 = 67108864;
 
 const PIECE: usize = 4096;
 
-/// Answers what comes in until the input ends, a closing reply was sent, or something fails. All memory
-/// is taken before any input.
+/// Answers what comes in until the input ends, a closing reply was sent, or something fails. All
+/// memory is taken before any input.
 pub(crate) fn talk<I: Source, O: Sink>(alloc: Global, input: &mut I, output: &mut O) -> Outcome
     ensures ends { TalkRuns I.tells O.tells
         (feed I.left I.ended I.faults I.taken input.old) (feed I.left I.ended I.faults I.taken input.new)
@@ -65,7 +65,8 @@ fn converse<I: Source, O: Sink>(
     }
 }
 
-// How many bytes the next take may give: one at the limit, which tells whether the input is too long.
+// How many bytes the next take may give: one at the limit, which tells whether the input is too
+// long.
 fn room_for(taken: u64) -> usize
     requires { taken ≤ input_limit }
     ensures some { 1 ≤ result }

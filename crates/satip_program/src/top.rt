@@ -1,4 +1,5 @@
-//! The top call: what the program does with its words, its input, its output, its errors and its desk.
+//! The top call: what the program does with its words, its input, its output, its errors and its
+//! desk.
 
 ghost use Rattle.std.specs.Prelude.{true, map, ◌≡◌, ◌↔◌, ◌⊎◌, ℕ, ◌+◌, ◌-◌, ◌<◌, ◌≤◌, List, Some, None, option_map, IsSome, IsNone, IfSome, IsSomeAnd, MatchOption};
 ghost use Rattle.satip_base.specs.Streams.{Feed, Rose};
@@ -36,7 +37,8 @@ use std::alloc::Global;
 use std::sync::Wait;
 use std::thread::Threads;
 
-const HELP: &[u8] = b"usage: satip talk | replay CONFIG | serve CONFIG ACCEPTS | stress SEED COUNT\n\
+const HELP: &[u8] =
+    b"usage: satip talk | replay CONFIG | serve CONFIG ACCEPTS | stress SEED COUNT\n\
     serve: clients, by the configuration in the file CONFIG; each worker ends after ACCEPTS \
     connections, and never where it is 0\n\
     \x20   satip serve satip.toml 0\n\
@@ -115,7 +117,8 @@ pub fn satip<R: Threads + Wait + Sync, K: Desk, I: Source, O: Sink, E: Sink>(
         (drain O.sent O.faults output.old) (drain O.sent O.faults output.new)
         result.status }
 
-    // A replay: the printed run of the script by the configuration that the desk gave, a beginning of it, or nothing.
+    // A replay: the printed run of the script by the configuration that the desk gave, a beginning
+    // of it, or nothing.
     ensures replayed { (name : List ℕ) → command_of words.now ≡ Some (Replay name) → result.status ≡ 0
         → IsSomeAnd result.config (λ source.
         Given K.Config.tells (K.text desk.old name) (λ before. Replayed K.Config.tells I.tells O.tells before
@@ -190,7 +193,8 @@ pub fn satip<R: Threads + Wait + Sync, K: Desk, I: Source, O: Sink, E: Sink>(
         → (Rose (I.faults input.old) (I.faults input.new) → ⊥)
         → IsSettled text (I.left input.old) result.status }
 
-    // A serve: the jobs ran by the configuration of the desk's text, over one history that keeps the laws.
+    // A serve: the jobs ran by the configuration of the desk's text, over one history that keeps
+    // the laws.
     ensures serve_status { IfSome (serve_of words.now) (λ _. Has result.status serve_statuses) }
     ensures pass { IfSome result.last (λ last. IsOf last.pass last.server) }
     ensures served_by { IfSome (serve_of words.now) (λ serve. IfSome result.last (λ last. IsSomeAnd result.config (λ source.
@@ -207,14 +211,15 @@ pub fn satip<R: Threads + Wait + Sync, K: Desk, I: Source, O: Sink, E: Sink>(
     ensures recordings { IfSome result.last (λ last. PlaysRecordings last.server.setting last.pass.seen
         (map (pump_view K.Store.recording K.Store.faults K.Store.lent K.Store.peak K.Outlet.outbox) last.jobs.pumps.items)) }
 
-    // The configuration of a serve is given back, unless the desk failed to open it; its count rises then, or where it gives
-    // no kits. With any other status than 5 the source of it never failed.
+    // The configuration of a serve is given back, unless the desk failed to open it; its count
+    // rises then, or where it gives no kits. With any other status than 5 the source of it never
+    // failed.
     ensures serve_config { IfSome (serve_of words.now) (λ _. MatchOption result.config (Rises (K.faults desk.old) (K.faults desk.new))
         (λ _. (K.faults desk.new ≡ K.faults desk.old) ⊎ ((result.status ≡ 7) × IsNone result.last))) }
     ensures serve_read { IfSome (serve_of words.now) (λ _. (result.status ≡ 5 → ⊥) → IsSomeAnd result.config (λ source. K.Config.faults source ≡ 0)) }
 
-    // Where the desk gave its kits, those are what the jobs left, each at its place, or no job began with them, and they
-    // come back as they were, but for one reading of the clock.
+    // Where the desk gave its kits, those are what the jobs left, each at its place, or no job
+    // began with them, and they come back as they were, but for one reading of the clock.
     ensures kits { MatchOption (K.given desk.new) (IsNeitherOf result.last result.unused) (λ _. IsOneOf result.last result.unused) }
     ensures kits_left { IfSome result.last (λ last. IsSomeAnd (K.given desk.new) (λ given. ComeBack given
         (jobs_view K.Doors.hall K.Outlet.outbox K.Store.recording K.Store.faults K.Store.lent K.Store.peak K.Clock.dial last.jobs))) }
@@ -325,7 +330,8 @@ fn run_serve<R: Threads + Wait + Sync, K: Desk, E: Sink>(
     }
 }
 
-/// The commands that wait for nobody: `talk`, `replay`, `--help` and `--version`. It always returns.
+/// The commands that wait for nobody: `talk`, `replay`, `--help` and `--version`. It always
+/// returns.
 pub fn offline<K: Desk, I: Source, O: Sink, E: Sink>(
     alloc: Global,
     words: &[Text],
@@ -354,7 +360,8 @@ pub fn offline<K: Desk, I: Source, O: Sink, E: Sink>(
         (drain O.sent O.faults output.old) (drain O.sent O.faults output.new)
         result.status }
 
-    // A replay: the printed run of the script by the configuration that the desk gave, a beginning of it, or nothing.
+    // A replay: the printed run of the script by the configuration that the desk gave, a beginning
+    // of it, or nothing.
     ensures replayed { (name : List ℕ) → command_of words.now ≡ Some (Replay name) → result.status ≡ 0
         → IsSomeAnd result.config (λ source.
         Given K.Config.tells (K.text desk.old name) (λ before. Replayed K.Config.tells I.tells O.tells before

@@ -132,7 +132,8 @@ impl Batch {
         self.heads.len()
     }
 
-    /// The datagram at a place, from 0, and where it goes; `None` where `place` isn't below the count.
+    /// The datagram at a place, from 0, and where it goes; `None` where `place` isn't below the
+    /// count.
     pub fn datagram(&self, place: usize) -> Option<(Address, &[u8])>
         ensures datagram { shown result ≡ slice_get self.now.datagrams place }
     {

@@ -186,9 +186,9 @@ fn tune<R: Wait, S: Service, M: MuxStore, O: Outlet, P: Pacer>(
 
 /// Asks what to read for a front end, reads it and gives its packets and its end, until the service
 /// stops. Packets are given in bursts of at most 64; the datagrams of each event go to the outlet
-/// after its burst. It pauses after every 64 packets, and where it is told to do nothing. Each source
-/// that the store lent is handed back: before its end is told, before another start, and where the
-/// pump ends. It waits.
+/// after its burst. It pauses after every 64 packets, and where it is told to do nothing. Each
+/// source that the store lent is handed back: before its end is told, before another start, and
+/// where the pump ends. It waits.
 pub fn run_pump<R: Wait + Sync, S: Service, M: MuxStore, O: Outlet, P: Pacer>(
     rt: &R,
     service: &mut S,

@@ -25,7 +25,8 @@ const FIRST: Work = Work::Tune { mux: 1, tune: 1 };
 
 const SECOND: Work = Work::Tune { mux: 2, tune: 2 };
 
-// An answer that names the number that is read for leaves the recording as it is, another begins one.
+// An answer that names the number that is read for leaves the recording as it is, another begins
+// one.
 fn rows_of_tunings(a: Packet, b: Packet)
     ensures told { after_entry (λ _. None) (Asking None) (entry 0 (Event.Ask 1) (Answer.Work (Work.Tune 1 5)) empty)
         ≡ Feeding (record { tune = 5; left = None }) }

@@ -38,8 +38,8 @@ impl Query {
         }
     }
 
-    /// Gives nothing, as a new query. A list is written only where it is given: each is large, and writes
-    /// cost time.
+    /// Gives nothing, as a new query. A list is written only where it is given: each is large, and
+    /// writes cost time.
     pub fn clear(&mut self)
         ensures empty { self.new ≡ new_query }
     {

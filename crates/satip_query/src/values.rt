@@ -79,7 +79,8 @@ fn is_decimal(text: &[u8]) -> bool
     }
 }
 
-/// Reads a list of 1 to 512 PIDs with commas between them into an empty list, in place since lists are large.
+/// Reads a list of 1 to 512 PIDs with commas between them into an empty list, in place since lists
+/// are large.
 #[tactic(auto, unfolding(crate::specs::Values::pid_list_of))]
 pub fn read_pid_list(text: &[u8], list: &mut PidList) -> Result<(), ValueFault>
     requires empty { list.old ≡ [] }

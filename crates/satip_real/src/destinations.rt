@@ -55,7 +55,8 @@ impl Destinations {
         })
     }
 
-    // Sends a datagram once, from the destination's own socket where it has one or can be given one.
+    // Sends a datagram once, from the destination's own socket where it has one or can be given
+    // one.
     fn try_send(&mut self, to: SocketAddrV4, bytes: &[u8]) -> io::Result<usize> {
         if let Some(socket) = self.connected.get(&to) {
             return socket.send(bytes);

@@ -1,6 +1,6 @@
-//! The outside as the system has it: TCP connections by two listeners, one UDP socket, recordings in
-//! files, the system's clock and a sleeping pacer. No contract can say what they give or take, so
-//! they tell nothing of content, and keep the counts.
+//! The outside as the system has it: TCP connections by two listeners, one UDP socket, recordings
+//! in files, the system's clock and a sleeping pacer. No contract can say what they give or take,
+//! so they tell nothing of content, and keep the counts.
 #![tactic(auto)]
 
 mod addresses;

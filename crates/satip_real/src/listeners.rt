@@ -48,8 +48,9 @@ impl Visitor {
     }
 }
 
-// A listener at which about so many connections wait to be accepted; who comes to a full one sees it
-// by a connect that doesn't end (listen(2)). Where the system refuses that length, its own stays.
+// A listener at which about so many connections wait to be accepted; who comes to a full one sees
+// it by a connect that doesn't end (listen(2)). Where the system refuses that length, its own
+// stays.
 fn listen(net: &impl Net, ip: u32, port: u16, backlog: u16) -> io::Result<TcpListener> {
     let listener = TcpListener::bind(net, socket_addr(Address { ip, port }))?;
     c::listen(listener.as_raw_fd(), backlog as i32);
@@ -112,8 +113,9 @@ impl Listeners {
     }
 }
 
-// The next connection at a listener; `None` where another worker was faster. An error of the listener
-// comes again at once; one of the new connection, which has to be made non-blocking, doesn't.
+// The next connection at a listener; `None` where another worker was faster. An error of the
+// listener comes again at once; one of the new connection, which has to be made non-blocking,
+// doesn't.
 fn accept_at(listener: &TcpListener, kind: DoorKind) -> io::Result<Option<Visitor>> {
     match accept_once(listener, kind) {
         Err(error) if ends_listening(&error) => accept_once(listener, kind),

@@ -18,7 +18,8 @@ use satip_rtsp::Request;
 use satip_state::Parts;
 use satip_tune::{Change, Tuning};
 
-// The refusal of a tuning key that is given where there is no tuning yet, and not all that are needed.
+// The refusal of a tuning key that is given where there is no tuning yet, and not all that are
+// needed.
 fn key_missing(old: Option<Tuning>, change: &Change) -> Option<Refused>
     ensures known { IfSome result (λ refused. IsStatus refused.status) }
     ensures missing { told_if result ≡ missing_key old change.now }
@@ -41,8 +42,8 @@ fn front_missing(parts: &Parts, stream: Option<u16>, old: Option<Tuning>, change
     }
 }
 
-/// Why a query is refused for a stream that has this number, tuning and PIDs, or that is yet to be founded;
-/// `makes` where it also makes a session.
+/// Why a query is refused for a stream that has this number, tuning and PIDs, or that is yet to be
+/// founded; `makes` where it also makes a session.
 pub fn of_change(
     parts: &Parts,
     stream: Option<u16>,

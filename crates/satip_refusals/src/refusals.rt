@@ -13,8 +13,8 @@ use satip_query::{QueryFault, RefusalBody};
 use satip_rtsp::Refusal;
 use satip_tune::{Key, Tuning};
 
-/// The status with which a request is refused (RFC 2326, section 7.1.1), and the text that says why, where
-/// there is one (SAT>IP 1.2.2, 3.5.9).
+/// The status with which a request is refused (RFC 2326, section 7.1.1), and the text that says
+/// why, where there is one (SAT>IP 1.2.2, 3.5.9).
 #[derive(Clone, Copy, Debug, PartialEq, Eq)]
 pub struct Refused {
     pub status: u16,

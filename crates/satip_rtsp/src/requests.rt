@@ -46,7 +46,8 @@ pub enum Refusal {
     Query(QueryFault),
 }
 
-/// The session that a request names (RFC 2326, section 12.37): none, that of an id, or one that no id names.
+/// The session that a request names (RFC 2326, section 12.37): none, that of an id, or one that no
+/// id names.
 #[derive(Clone, Copy, Debug, PartialEq, Eq)]
 pub enum SessionName {
     Absent,
@@ -54,7 +55,8 @@ pub enum SessionName {
     Other,
 }
 
-/// A request. Under a refusal the fields behind it are `Options`, None, `Absent`, the empty query and None.
+/// A request. Under a refusal the fields behind it are `Options`, None, `Absent`, the empty query
+/// and None.
 #[derive(Clone, Copy, Debug, PartialEq, Eq)]
 pub struct Request {
     pub cseq: Option<u32>,
@@ -116,8 +118,8 @@ impl Request {
         request
     }
 
-    /// Puts the request of a message in the place of an older one, whatever that was: a request is large, and
-    /// moves cost time.
+    /// Puts the request of a message in the place of an older one, whatever that was: a request is
+    /// large, and moves cost time.
     pub fn read(&mut self, message: &Message<'_>)
         ensures asked { self.new ≡ asked message.now }
     {
@@ -125,7 +127,8 @@ impl Request {
         fill(message, self);
     }
 
-    // Asks for nothing. A refusal is written only where it stands: it is large, and writes cost time.
+    // Asks for nothing. A refusal is written only where it stands: it is large, and writes cost
+    // time.
     fn clear(&mut self)
         ensures blank { self.new ≡ blank }
     {
@@ -153,8 +156,8 @@ impl Request {
     }
 }
 
-// Puts what a message asks for in the place of a request that asks for nothing. The first refusal is put there
-// at once, since it is large.
+// Puts what a message asks for in the place of a request that asks for nothing. The first refusal
+// is put there at once, since it is large.
 #[tactic(auto, unfolding(crate::specs::Asked::asked))]
 fn fill(message: &Message<'_>, into: &mut Request)
     requires blank { into.old ≡ blank }

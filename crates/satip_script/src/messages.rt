@@ -31,8 +31,8 @@ enum Look {
     Nothing,
 }
 
-/// Puts the RTSP request that the bytes of these digits are in the place of an older one. False where
-/// they are no digits, or neither one message nor broken. The framer's bytes are lost.
+/// Puts the RTSP request that the bytes of these digits are in the place of an older one. False
+/// where they are no digits, or neither one message nor broken. The framer's bytes are lost.
 pub fn read_request(digits: &[u8], framer: &mut Framer, into: &mut Request) -> bool
     ensures asked { OnTrue result (Asks request_of (bytes_of digits.now) into.new) }
     ensures nothing { OnFalse result (AsksNothing (bytes_of digits.now)) }
@@ -51,8 +51,8 @@ pub fn read_request(digits: &[u8], framer: &mut Framer, into: &mut Request) -> b
     }
 }
 
-/// Puts the HTTP request that the bytes of these digits are in the place of an older one. False where
-/// they are no digits, or neither one message nor broken. The framer's bytes are lost.
+/// Puts the HTTP request that the bytes of these digits are in the place of an older one. False
+/// where they are no digits, or neither one message nor broken. The framer's bytes are lost.
 pub fn read_get(digits: &[u8], framer: &mut Framer, into: &mut HttpRequest) -> bool
     ensures asked { OnTrue result (Asks get_of (bytes_of digits.now) into.new) }
     ensures nothing { OnFalse result (AsksNothing (bytes_of digits.now)) }
@@ -170,8 +170,8 @@ fn begins_with_newline(digits: &[u8]) -> bool
     byte[0] == b'\r' || byte[0] == b'\n'
 }
 
-// Looks at a text that begins with neither CR nor LF. All of it but its last byte is looked at first,
-// since what a framer then finds has something behind it.
+// Looks at a text that begins with neither CR nor LF. All of it but its last byte is looked at
+// first, since what a framer then finds has something behind it.
 fn look_at(digits: &[u8], framer: &mut Framer) -> Look
     requires hex { IsOk (decode_of digits.now) }
     requires some { 2 ≤ length digits.now }

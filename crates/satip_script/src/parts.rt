@@ -121,7 +121,8 @@ fn read_http_words<'a>(rest: Option<&'a [u8]>) -> EventParts<'a>
     }
 }
 
-// Who sends, the draw, and the digits of what is sent. A space is no digit, so none is looked for there.
+// Who sends, the draw, and the digits of what is sent. A space is no digit, so none is looked for
+// there.
 #[tactic(auto, using(crate::proofs::WordLemmas::call_of_rest))]
 fn call_words<'a>(rest: Option<&'a [u8]>) -> Option<(Peer, Draw, &'a [u8])>
     ensures call { call_told result ≡ call_by (only_three (pieces_left 32 rest.entry)) }

@@ -1,4 +1,5 @@
-//! What the runs have in common: their words, the program's run over memory, and the kit of a worker.
+//! What the runs have in common: their words, the program's run over memory, and the kit of a
+//! worker.
 
 ghost use Rattle.std.specs.Prelude.{◌≡◌, true, None, IfOk};
 ghost use Rattle.satip_world.specs.Halls.{fresh_hall};
@@ -81,7 +82,8 @@ fn doors(alloc: Global, accepts: u32, idle: &[u64]) -> Result<MemoryDoors, Want>
     Ok(doors)
 }
 
-/// The kit of a worker to which one connection comes. Its doors are idle at the looks with these numbers.
+/// The kit of a worker to which one connection comes. Its doors are idle at the looks with these
+/// numbers.
 pub fn worker<P: Pacer + Drop>(
     alloc: Global,
     accepts: u32,

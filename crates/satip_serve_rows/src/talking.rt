@@ -1,4 +1,5 @@
-//! A talk of two requests, of which the second stands behind the longest head, and behind one that is too long.
+//! A talk of two requests, of which the second stands behind the longest head, and behind one that
+//! is too long.
 
 use crate::shared::{OK, OPTIONS, run, words_of};
 use satip_base::MemorySource;

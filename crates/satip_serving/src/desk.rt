@@ -63,9 +63,9 @@ pub trait Desk {
         ensures no_fault { IfOk result (λ _. faults self.new ≡ faults self.old) }
         ensures failed { OnErr result (Rises (faults self.old) (faults self.new)) };
 
-    /// A kit for each worker of the configuration, one for the pump of each of its front ends, and one
-    /// for the ticker. Nothing was done with them; each worker's doors end after `accepts` connections,
-    /// and never where it is 0.
+    /// A kit for each worker of the configuration, one for the pump of each of its front ends, and
+    /// one for the ticker. Nothing was done with them; each worker's doors end after `accepts`
+    /// connections, and never where it is 0.
     fn jobs(
         &mut self,
         alloc: Global,

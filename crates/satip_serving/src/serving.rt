@@ -230,8 +230,8 @@ pub struct Served<K: Desk> {
     pub unused: Option<Jobs<K::Doors, K::Outlet, K::Pacer, K::Store, K::Clock>>,
 }
 
-/// Serves by the configuration of this name, with the kits of the desk. Each worker's doors end after
-/// `accepts` connections, and never where it is 0. It waits.
+/// Serves by the configuration of this name, with the kits of the desk. Each worker's doors end
+/// after `accepts` connections, and never where it is 0. It waits.
 pub fn serve_by<R: Threads + Wait + Sync, K: Desk>(
     rt: &R,
     alloc: Global,
@@ -242,15 +242,16 @@ pub fn serve_by<R: Threads + Wait + Sync, K: Desk>(
     requires new { K.given desk.old ≡ None }
     ensures texts { K.text desk.new ≡ K.text desk.old }
 
-    // Where the desk gave its kits, those are what the jobs left, each at its place, or no job began with them, and they
-    // come back as they were, but for one reading of the clock.
+    // Where the desk gave its kits, those are what the jobs left, each at its place, or no job
+    // began with them, and they come back as they were, but for one reading of the clock.
     ensures kits { MatchOption (K.given desk.new) (IsNeitherOf result.last result.unused) (λ _. IsOneOf result.last result.unused) }
     ensures kits_left { IfSome result.last (λ last. IsSomeAnd (K.given desk.new) (λ given. ComeBack given
         (jobs_view K.Doors.hall K.Outlet.outbox K.Store.recording K.Store.faults K.Store.lent K.Store.peak K.Clock.dial last.jobs))) }
     ensures kits_unused { IfSome result.unused (λ kits. IsSomeAnd (K.given desk.new) (λ given. ComeUnused given
         (jobs_view K.Doors.hall K.Outlet.outbox K.Store.recording K.Store.faults K.Store.lent K.Store.peak K.Clock.dial kits))) }
 
-    // The jobs' run: its pass is one of its server, and its configuration is that of the desk's text.
+    // The jobs' run: its pass is one of its server, and its configuration is that of the desk's
+    // text.
     ensures of { IfSome result.last (λ last. IsOf last.pass last.server) }
     ensures config { IfSome result.last (λ last. IsSomeAnd result.config (λ source.
         GivenFrom K.Config.tells (K.text desk.old name.now) (λ before. Configured K.Config.tells before
@@ -265,7 +266,8 @@ pub fn serve_by<R: Threads + Wait + Sync, K: Desk>(
     ensures recordings { IfSome result.last (λ last. PlaysRecordings last.server.setting last.pass.seen
         (map (pump_view K.Store.recording K.Store.faults K.Store.lent K.Store.peak K.Outlet.outbox) last.jobs.pumps.items)) }
 
-    // The configuration is given back, unless the desk failed to open it. Its count rises then, or where it gives no kits.
+    // The configuration is given back, unless the desk failed to open it. Its count rises then, or
+    // where it gives no kits.
     ensures opened { MatchOption result.config (Rises (K.faults desk.old) (K.faults desk.new))
         (λ _. (K.faults desk.new ≡ K.faults desk.old) ⊎ ((result.end ≡ ServingEnd.DoorsFault) × IsNone result.last)) }
 

@@ -20,8 +20,8 @@ use satip_tune::{Change, Tuning};
 const STREAMS: u16 = 64;
 
 impl Parts {
-    /// Tunes a living stream: what is held for its sessions leaves, and it comes to the front end that is to
-    /// be had for this tuning. Where none is to be had, it stays where it was.
+    /// Tunes a living stream: what is held for its sessions leaves, and it comes to the front end
+    /// that is to be had for this tuning. Where none is to be had, it stays where it was.
     pub fn retune(&mut self, number: u16, tuning: &Tuning, out: &mut Out)
         requires bytes { 84992 ≤ out.old.datagram_spare }
         requires count { 64 ≤ out.old.count_spare }
@@ -57,8 +57,8 @@ impl Parts {
         self.fronts.known();
     }
 
-    /// Changes a living stream by a query: its tuning first, then its PIDs. Where the query gives no whole
-    /// tuning, that of the stream or PIDs that are refused, it changes nothing of these.
+    /// Changes a living stream by a query: its tuning first, then its PIDs. Where the query gives
+    /// no whole tuning, that of the stream or PIDs that are refused, it changes nothing of these.
     pub fn change_by(&mut self, number: u16, query: &Query, out: &mut Out)
         requires bytes { 84992 ≤ out.old.datagram_spare }
         requires count { 64 ≤ out.old.count_spare }
@@ -71,7 +71,8 @@ impl Parts {
         self.select_by(number, query);
     }
 
-    /// Sets the tuning of a living stream that a change asks for, unless it is the stream's already.
+    /// Sets the tuning of a living stream that a change asks for, unless it is the stream's
+    /// already.
     fn tune_by(&mut self, number: u16, change: &Change, out: &mut Out)
         requires bytes { 84992 ≤ out.old.datagram_spare }
         requires count { 64 ≤ out.old.count_spare }
@@ -90,8 +91,8 @@ impl Parts {
         self.retune(number, &tuning, out);
     }
 
-    /// A stream selects the PIDs that a query makes of its own. Without a list these stay, and nothing is
-    /// copied: a set is large.
+    /// A stream selects the PIDs that a query makes of its own. Without a list these stay, and
+    /// nothing is copied: a set is large.
     fn select_by(&mut self, number: u16, query: &Query)
         ensures selected { (c : Config) (st : State) → StandsFor c self.old st → StandsFor c self.new
             (change_stream number (λ t. record t { pids = pids_after t.pids query.now }) st) }

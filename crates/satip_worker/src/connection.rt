@@ -18,9 +18,9 @@ use std::sync::Wait;
 /// or the service makes no entry of an event.
 ///
 /// On an RTSP connection (RFC 2326) each message is one request, and what is no message is one
-/// more; the datagrams of each leave by the outlet, and its reply is sent. On an HTTP connection the
-/// first message is a GET (SAT>IP 1.2.2, 3.5.1); the packets of its session are sent as they come.
-/// Each message takes one draw. An idle connection waits.
+/// more; the datagrams of each leave by the outlet, and its reply is sent. On an HTTP connection
+/// the first message is a GET (SAT>IP 1.2.2, 3.5.1); the packets of its session are sent as they
+/// come. Each message takes one draw. An idle connection waits.
 pub fn serve_connection<R: Wait + Sync, S: Service, C: Conn, O: Outlet, P: Pacer>(
     rt: &R,
     service: &mut S,

@@ -76,9 +76,9 @@ impl Model for MemoryDoors {
 impl MemoryDoors {
     ghost use Rattle.satip_world.specs.Halls.{fresh_hall};
 
-    /// Doors that end after `limit` connections, and, where it is 0, once no further one is to come.
-    /// Of the calls of `next`, counted from 1, those in `idle` find no connection and those in
-    /// `failing` fail.
+    /// Doors that end after `limit` connections, and, where it is 0, once no further one is to
+    /// come. Of the calls of `next`, counted from 1, those in `idle` find no connection and those
+    /// in `failing` fail.
     pub fn make(
         alloc: Global,
         limit: u32,

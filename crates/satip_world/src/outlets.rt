@@ -17,7 +17,8 @@ pub trait Outlet {
     ghost outbox: { Self → Outbox };
 
     /// Begins an event whose datagrams are to leave before those of later events. Other outlets of
-    /// the same socket wait in their `lock` until `unlock`; an outlet of its own has none to wait for.
+    /// the same socket wait in their `lock` until `unlock`; an outlet of its own has none to wait
+    /// for.
     fn lock(&mut self)
         requires free { (outbox self.old).held ≡ false }
         ensures locked { outbox self.new ≡ locked (outbox self.old) };

@@ -145,7 +145,8 @@ fn a_clock_shows_its_moments_and_a_pacer_counts(rt: HostRuntime) -> Result<(), F
     Ok(())
 }
 
-// What a call of `next` came to: R or H for a connection, and else I, E or F. What came is handed back.
+// What a call of `next` came to: R or H for a connection, and else I, E or F. What came is handed
+// back.
 fn turn(doors: &mut MemoryDoors) -> u8 {
     match next(doors) {
         Door::Came { kind, peer, conn } => {

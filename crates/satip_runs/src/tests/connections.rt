@@ -34,8 +34,8 @@ pub(crate) const OPTIONS_REPLY: &[u8] =
 /// number 23872 (the first words of the ChaCha20 stream of this key).
 pub(crate) const KEY: [u8; 32] = [0; 32];
 
-/// What serving a connection came to: its end, the kinds of all entries, the bytes that were sent on
-/// it, and how many datagrams left.
+/// What serving a connection came to: its end, the kinds of all entries, the bytes that were sent
+/// on it, and how many datagrams left.
 #[derive(Drop)]
 pub(crate) struct Seen {
     pub end: ConnEnd,

@@ -107,7 +107,8 @@ fn pump<R: Wait + Sync>(
     })
 }
 
-// Runs a pump over a service whose call 0 was the SETUP, with a Stop before the call of this number.
+// Runs a pump over a service whose call 0 was the SETUP, with a Stop before the call of this
+// number.
 fn pump_tuned<R: Wait + Sync>(rt: &R, alloc: Global, stop: u64, kit: Kit) -> Result<Pumped, Fail>
     requires free { kit.outlet.held ≡ false }
 {

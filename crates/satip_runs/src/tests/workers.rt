@@ -13,8 +13,8 @@ use std::test::Fail;
 
 type Kit = WorkerKit<MemoryDoors, MemoryOutlet, MemoryPacer>;
 
-// What a worker came to: its end, the kinds of all entries, and how many connections it handed back,
-// whether each was done, and what was sent on them, one after another.
+// What a worker came to: its end, the kinds of all entries, and how many connections it handed
+// back, whether each was done, and what was sent on them, one after another.
 #[derive(Drop)]
 struct Worked {
     end: WorkerEnd,
