@@ -34,14 +34,20 @@ fn receive<C: Conn>(conn: &mut C, buf: &mut [u8; 16]) -> Received {
     Received::Idle
 }
 
+// Sends a datagram as an event of its own. The first call does nothing, since nothing was begun.
 fn post<O: Outlet>(outlet: &mut O, port: u16, bytes: &[u8]) -> Put {
-    outlet.send(
-        Address {
-            ip: LOCALHOST,
-            port,
-        },
-        bytes,
-    )
+    outlet.unlock();
+    outlet.lock();
+    let put = outlet.send(local(port), bytes);
+    outlet.unlock();
+    put
+}
+
+fn local(port: u16) -> Address {
+    Address {
+        ip: LOCALHOST,
+        port,
+    }
 }
 
 #[test]
@@ -308,7 +314,7 @@ fn send_counts<R: Wait + Drop>(rt: R, shared: Arc<SharedSocket>, begun: Arc<Atom
         outlet.lock();
         let count = begun.fetch_add(1, Ordering::SeqCst);
         thread::yield_now();
-        post(&mut outlet, port, &count.to_be_bytes());
+        outlet.send(local(port), &count.to_be_bytes());
         outlet.unlock();
     }
 }
