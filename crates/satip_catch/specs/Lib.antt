@@ -1,2 +1,6 @@
 pub mod Packets
 pub mod Rtp
+pub mod Caught
+pub mod Catching
+pub mod Held
+pub mod Rows

@@ -2,10 +2,20 @@
 //! those that come late in order.
 #![tactic(auto)]
 
+mod catcher;
+mod holding;
+mod item;
+mod laws;
+mod packets;
 mod rtp;
+mod tail;
 #[cfg(test)]
 mod tests;
 mod view;
 
+pub use catcher::Catcher;
+pub use item::Item;
+pub use laws::worked_rows;
+pub use packets::Packets;
 pub use rtp::read_rtp;
 pub use view::RtpView;

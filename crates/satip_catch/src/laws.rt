@@ -1,0 +1,13 @@
+//! What is caught of few datagrams, as the contract of a function with an empty body.
+ghost use Rattle.std.specs.Prelude.{◌≡◌, true, false, [], ◌∷◌};
+ghost use Rattle.satip_catch.specs.Caught.{caught};
+ghost use Rattle.satip_catch.specs.Rows.{datagrams, data_of, gap_of};
+
+/// Datagrams that change places are caught in order, each once, and what never came is a gap. A
+/// number is passed once a datagram came that is 64 ahead of it.
+pub fn worked_rows()
+    ensures reordered { caught true (datagrams (65534 ∷ 0 ∷ 65535 ∷ 0 ∷ 3 ∷ []))
+        ≡ data_of 65534 ∷ data_of 65535 ∷ data_of 0 ∷ gap_of 1 2 ∷ data_of 3 ∷ [] }
+    ensures passed { caught false (datagrams (10 ∷ 75 ∷ 11 ∷ 12 ∷ []))
+        ≡ data_of 10 ∷ gap_of 11 1 ∷ data_of 12 ∷ [] }
+{}
