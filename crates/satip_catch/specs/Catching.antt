@@ -68,8 +68,8 @@ taken d c =
     else c
 
 -- how many places needn't be waited for: all at the end, else those before the last 64
-abbrev pub due : Catch → ℕ
-due c = if c.finished then length c.held else length c.held - 64
+abbrev pub due : Bool → List (Option (List ℕ)) → ℕ
+due finished held = if finished then length held else length held - 64
 
 -- how many of the first n places are missing, before the first that isn't
 abbrev pub missing : ℕ → List (Option (List ℕ)) → ℕ
@@ -89,7 +89,7 @@ item_of next n (None ∷ held) = gap next (missing n (None ∷ held))
 
 -- the next item, if one can be handed up
 abbrev pub next_item : Catch → Option Item
-next_item c = item_of c.next (due c) c.held
+next_item c = item_of c.next (due c.finished c.held) c.held
 
 -- how many places an item has
 abbrev pub places : Option Item → ℕ

@@ -13,7 +13,7 @@ pub record Datagram : Type 0 where
 -- the arrivals: the datagrams of the first one's source
 abbrev pub arrivals : List Datagram → List Datagram
 arrivals [] = []
-arrivals (d ∷ ds) = d ∷ filter (λ x. x.ssrc == d.ssrc) ds
+arrivals (d ∷ ds) = d ∷ filter (λ x. d.ssrc == x.ssrc) ds
 
 -- an arrival at its index: None where that is before the first arrival's
 pub record Placed : Type 0 where

@@ -4,3 +4,4 @@ pub mod Caught
 pub mod Catching
 pub mod Held
 pub mod Rows
+pub mod Runs

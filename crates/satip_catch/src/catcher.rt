@@ -12,7 +12,7 @@ use std::alloc::Global;
 use std::marker::Model;
 
 /// Puts the datagrams of one source in order, each at most once. It waits for a missing one until
-/// 64 later numbers have begun. All memory is taken when it is made.
+/// one came whose number is 64 or more ahead. All memory is taken when it is made.
 #[derive(Drop)]
 pub struct Catcher {
     source: Option<u32>,
@@ -23,16 +23,16 @@ pub struct Catcher {
 }
 
 impl Model for Catcher {
-    ghost use Rattle.std.specs.Prelude.{◌≡◌, ◌++◌};
+    ghost use Rattle.std.specs.Prelude.{◌≡◌};
     ghost use Rattle.satip_catch.specs.Catching.{Catch};
-    ghost use Rattle.satip_catch.specs.Held.{tail_held, IsNear};
+    ghost use Rattle.satip_catch.specs.Held.{held_by, IsNear};
 
     ghost Value = { Catch };
 
     ghost view = { λ c. record {
       source = c.source;
       next = c.next;
-      held = c.ring.items ++ tail_held c.tail;
+      held = held_by c.ring c.tail;
       finished = c.finished;
     } };
 

@@ -1,8 +1,8 @@
 //! What a catcher holds: places in a ring, and the newest datagram behind them.
-ghost use Rattle.std.specs.Prelude.{◌≡◌, ◌≢◌, ◌⊎◌, ◌+◌, ◌-◌, ◌<◌, ◌≤◌, [], ◌∷◌, ◌++◌, ◌==◌, length, drop, replicate, get_or, Option, None, Some, is_some, if◌then◌else◌};
+ghost use Rattle.std.specs.Prelude.{◌≡◌, ◌+◌, ◌<◌, ◌≤◌, [], ◌∷◌, ◌++◌, ◌==◌, length, drop, replicate, get_or, Option, None, Some, is_some, if◌then◌else◌};
 ghost use Rattle.circular_buffer.specs.Buffer.{buffer};
-ghost use Rattle.satip_catch.specs.Catching.{is_new, missing, put};
-ghost use Rattle.satip_catch.specs.Held.{tail_held, IsNear};
+ghost use Rattle.satip_catch.specs.Catching.{due, is_new, missing, put};
+ghost use Rattle.satip_catch.specs.Held.{IsNear, held_by, tail_held};
 
 use crate::packets::Packets;
 use crate::tail::Tail;
@@ -20,7 +20,7 @@ pub(crate) type Ring = HeapCircularBuffer<Option<Packets>>;
 pub(crate) fn due_of(ring: &Ring, tail: &Option<Tail>, finished: bool) -> u32
     requires near { IsNear tail.now }
     requires capacity { ring.now.capacity ≡ 64 }
-    ensures due { result ≡ (if finished then length (ring.now.items ++ tail_held tail.now) else length (ring.now.items ++ tail_held tail.now) - 64) }
+    ensures due { result ≡ due finished (held_by ring.now tail.now) }
     ensures within { result < 65536 }
 {
     let behind = match tail {
@@ -39,8 +39,8 @@ pub(crate) fn due_of(ring: &Ring, tail: &Option<Tail>, finished: bool) -> u32
 /// Moves the newest datagram into the ring, behind the places that are missing before it.
 pub(crate) fn settle(ring: &mut Ring, tail: &mut Option<Tail>)
     requires capacity { ring.old.capacity ≡ 64 }
-    requires room { length (ring.old.items ++ tail_held tail.old) ≤ 64 }
-    ensures ring { ring.new ≡ buffer (ring.old.items ++ tail_held tail.old) 64 }
+    requires room { length (held_by ring.old tail.old) ≤ 64 }
+    ensures ring { ring.new ≡ buffer (held_by ring.old tail.old) 64 }
     ensures tail { tail.new ≡ None }
 {
     let Some(Tail { skip, packets }) = tail.take() else {
@@ -66,7 +66,8 @@ pub(crate) fn hold(ring: &mut Ring, tail: &mut Option<Tail>, ahead: usize, packe
     requires capacity { ring.old.capacity ≡ 64 }
     requires settled { tail.old ≡ None }
     ensures new { result ≡ is_new ahead ring.old.items }
-    ensures held { ring.new.items ++ tail_held tail.new ≡ (if result then put ahead packets.now ring.old.items else ring.old.items) }
+    ensures held { held_by ring.new tail.new
+        ≡ (if result then put ahead packets.now ring.old.items else ring.old.items) }
     ensures near { IsNear tail.new }
     ensures capacity { ring.new.capacity ≡ 64 }
 {
@@ -89,7 +90,9 @@ fn fill(ring: &mut Ring, at: usize, packets: &[u8]) -> bool
     requires few { length packets.now ≤ 1316 }
     requires within { at < length ring.old.items }
     ensures new { result ≡ is_new at ring.old.items }
-    ensures held { ring.new ≡ buffer (if result then put at packets.now ring.old.items else ring.old.items) ring.old.capacity }
+    ensures held { ring.new.items
+        ≡ (if result then put at packets.now ring.old.items else ring.old.items) }
+    ensures capacity { ring.new.capacity ≡ ring.old.capacity }
 {
     let Some(place) = ring.get_mut(at) else {
         return false;
@@ -104,8 +107,9 @@ fn fill(ring: &mut Ring, at: usize, packets: &[u8]) -> bool
 /// Takes the packets of the first place, if they came.
 pub(crate) fn pop_first(ring: &mut Ring, tail: &mut Option<Tail>) -> Option<Packets>
     requires near { IsNear tail.old }
-    ensures first { result ≡ get_or (ring.old.items ++ tail_held tail.old) 0 None }
-    ensures left { ring.new.items ++ tail_held tail.new ≡ drop (if is_some result then 1 else 0) (ring.old.items ++ tail_held tail.old) }
+    ensures first { result ≡ get_or (held_by ring.old tail.old) 0 None }
+    ensures left { held_by ring.new tail.new
+        ≡ drop (if is_some result then 1 else 0) (held_by ring.old tail.old) }
     ensures near { IsNear tail.new }
     ensures capacity { ring.new.capacity ≡ ring.old.capacity }
 {
@@ -119,7 +123,8 @@ pub(crate) fn pop_first(ring: &mut Ring, tail: &mut Option<Tail>) -> Option<Pack
 fn pop_tail(tail: &mut Option<Tail>) -> Option<Packets>
     requires near { IsNear tail.old }
     ensures first { result ≡ get_or (tail_held tail.old) 0 None }
-    ensures left { tail_held tail.new ≡ drop (if is_some result then 1 else 0) (tail_held tail.old) }
+    ensures left { tail_held tail.new
+        ≡ drop (if is_some result then 1 else 0) (tail_held tail.old) }
     ensures near { IsNear tail.new }
 {
     match tail {
@@ -139,8 +144,8 @@ fn pop_tail(tail: &mut Option<Tail>) -> Option<Packets>
 /// Drops the first places that are missing, at most `most`, and answers their number.
 pub(crate) fn pass_missing(ring: &mut Ring, tail: &mut Option<Tail>, most: u32) -> u32
     requires near { IsNear tail.old }
-    ensures missing { result ≡ missing most (ring.old.items ++ tail_held tail.old) }
-    ensures left { ring.new.items ++ tail_held tail.new ≡ drop result (ring.old.items ++ tail_held tail.old) }
+    ensures missing { result ≡ missing most (held_by ring.old tail.old) }
+    ensures left { held_by ring.new tail.new ≡ drop result (held_by ring.old tail.old) }
     ensures within { result ≤ most }
     ensures near { IsNear tail.new }
     ensures capacity { ring.new.capacity ≡ ring.old.capacity }

@@ -2,7 +2,6 @@ use Rattle.std.proofs.Common.{◌≡◌, ℕ, ◌<◌, List, length, Option, Non
 use Rattle.std.proofs.lemmas.Bool.Decides.{nat_tests}
 use Rattle.std.proofs.lemmas.List.{set-get_or}
 use Rattle.std.proofs.lemmas.Option.{get_or_from_slice_get}
-use Rattle.circular_buffer.specs.Buffer.{buffer}
 use Rattle.satip_catch.specs.Catching.{is_new}
 use Rattle.satip_catch.proofs.holding.fill.Goals as goal
 
@@ -14,7 +13,7 @@ returns-then-is_some-clause-held c =
     let items = c.args.ring.now.items in
     let at = c.args.at in
     let e = get_or_from_slice_get items at c.in-Some.place.now None (sym c.in-Some.ensures.value) in
-    ap (λ ys. buffer ys c.args.ring.now.capacity) (ap (λ v. set items at v) (sym e) ∙ set-get_or items at None)
+    ap (λ v. set items at v) (sym e) ∙ set-get_or items at None
 
 pub returns-clause-new : goal.returns-clause-new
 returns-clause-new c =
