@@ -1,0 +1,111 @@
+-- What is caught of datagrams that come in any order, over the whole list of them.
+use Rattle.std.specs.Prelude.{ℕ, ◌+◌, ◌-◌, ◌%◌, ◌==◌, nat_le, nat_lt, max, zero, suc, Bool, false, if◌then◌else◌, List, [], ◌∷◌, ◌++◌, filter, Option, None, Some}
+use Rattle.std.specs.List.{list_any}
+use Rattle.satip_catch.specs.declared.item.Item.{Item}
+use Rattle.satip_catch.specs.declared.item.Item.TheVariants.{Data, Gap}
+
+-- a datagram: its sequence number, its source, and the bytes of its packets
+pub record Datagram : Type 0 where
+  pub number : ℕ
+  pub ssrc : ℕ
+  pub packets : List ℕ
+
+-- the arrivals: the datagrams of the first one's source
+abbrev pub arrivals : List Datagram → List Datagram
+arrivals [] = []
+arrivals (d ∷ ds) = d ∷ filter (λ x. d.ssrc == x.ssrc) ds
+
+-- an arrival at its index: None where that is before the first arrival's
+pub record Placed : Type 0 where
+  pub index : Option ℕ
+  pub packets : List ℕ
+
+-- from m - 32768 to m + 32767 the index that is so far ahead of m, modulo 65536
+abbrev pub index_ahead : ℕ → ℕ → Option ℕ
+index_ahead m ahead =
+    if nat_lt ahead 32768 then Some (m + ahead)
+    else if nat_le (65536 - ahead) m then Some (m + ahead - 65536) else None
+
+-- the index of a sequence number, where m is the greatest index so far
+unfoldable pub index_of : ℕ → ℕ → ℕ → Option ℕ
+index_of first m number = index_ahead m ((number + 65536 - (first + m) % 65536) % 65536)
+
+abbrev pub greater : ℕ → Option ℕ → ℕ
+greater m None = m
+greater m (Some i) = max m i
+
+abbrev pub place_from : ℕ → ℕ → List Datagram → List Placed
+place_from first m [] = []
+place_from first m (d ∷ ds) =
+    record { index = index_of first m d.number; packets = d.packets }
+    ∷ place_from first (greater m (index_of first m d.number)) ds
+
+-- the first arrival has index 0
+abbrev pub placed : List Datagram → List Placed
+placed [] = []
+placed (d ∷ ds) = record { index = Some 0; packets = d.packets } ∷ place_from d.number 0 ds
+
+-- the greatest index
+abbrev pub greatest : List Placed → ℕ
+greatest [] = 0
+greatest (p ∷ ps) = greater (greatest ps) p.index
+
+abbrev pub is_index : ℕ → Option ℕ → Bool
+is_index i None = false
+is_index i (Some j) = i == j
+
+-- whether some arrival has this index
+abbrev pub has_arrived : ℕ → List Placed → Bool
+has_arrived i ps = list_any (λ p. is_index i p.index) ps
+
+-- of n indices, from i on, the first that no arrival has; the next one where each has arrived
+abbrev pub first_missing : ℕ → ℕ → List Placed → ℕ
+first_missing zero i ps = i
+first_missing (suc n) i ps = if has_arrived i ps then first_missing n (i + 1) ps else i
+
+-- every index below this one is settled: of the last 64, up to the greatest, the first that no arrival has
+abbrev pub passed : List Placed → ℕ
+passed [] = 0
+passed (p ∷ ps) = first_missing 64 (greatest (p ∷ ps) - 63) (p ∷ ps)
+
+-- the packets of an index that is in time: when its first arrival came, it wasn't passed
+abbrev pub packets_of : List Placed → List Placed → ℕ → Option (List ℕ)
+packets_of before [] i = None
+packets_of before (p ∷ ps) i =
+    if is_index i p.index
+    then (if nat_le (passed before) i then Some p.packets else None)
+    else packets_of (before ++ p ∷ []) ps i
+
+-- an item for one index in front of other items: without packets it belongs to the gap that they begin with
+abbrev pub with_item : ℕ → Option (List ℕ) → List Item → List Item
+with_item number (Some packets) items = Data number packets ∷ items
+with_item number None (Gap from count ∷ items) = Gap number (count + 1) ∷ items
+with_item number None items = Gap number 1 ∷ items
+
+-- the items of n indices, from i on
+abbrev pub items_from : ℕ → List Placed → ℕ → ℕ → List Item
+items_from first ps i zero = []
+items_from first ps i (suc n) =
+    with_item ((first + i) % 65536) (packets_of [] ps i) (items_from first ps (i + 1) n)
+
+-- each arrival hands up what it passes
+abbrev pub items_by : ℕ → List Placed → List Placed → List Item
+items_by first before [] = []
+items_by first before (p ∷ ps) =
+    items_from first (before ++ p ∷ []) (passed before) (passed (before ++ p ∷ []) - passed before)
+    ++ items_by first (before ++ p ∷ []) ps
+
+-- the end hands up the rest, up to the greatest index
+abbrev pub last_items : ℕ → List Placed → List Item
+last_items first [] = []
+last_items first (p ∷ ps) =
+    items_from first (p ∷ ps) (passed (p ∷ ps)) (greatest (p ∷ ps) + 1 - passed (p ∷ ps))
+
+abbrev pub caught_from : Bool → List Datagram → List Item
+caught_from finished [] = []
+caught_from finished (d ∷ ds) =
+    items_by d.number [] (placed (d ∷ ds)) ++ (if finished then last_items d.number (placed (d ∷ ds)) else [])
+
+-- the items of these datagrams, before the end or with it
+abbrev pub caught : Bool → List Datagram → List Item
+caught finished ds = caught_from finished (arrivals ds)

@@ -1,0 +1,7 @@
+pub mod Packets
+pub mod Rtp
+pub mod Caught
+pub mod Catching
+pub mod Held
+pub mod Rows
+pub mod Runs

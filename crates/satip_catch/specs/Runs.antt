@@ -1,0 +1,40 @@
+-- A catcher that takes datagrams one after another, and hands up all that it can after each.
+use Rattle.std.specs.Prelude.{ℕ, ◌≡◌, ◌<◌, zero, suc, true, false, List, [], ◌∷◌, ◌++◌, length}
+use Rattle.std.specs.List.{All}
+use Rattle.std.specs.Option.{option_to_list}
+use Rattle.satip_catch.specs.Caught.{Datagram, caught}
+use Rattle.satip_catch.specs.Catching.{Catch, catching, taken, ended, next_item, after_item}
+use Rattle.satip_catch.specs.declared.item.Item.{Item}
+
+-- the items of n calls of `next`
+abbrev pub items_of : ℕ → Catch → List Item
+items_of zero c = []
+items_of (suc n) c = option_to_list (next_item c) ++ items_of n (after_item c)
+
+abbrev pub after_items : ℕ → Catch → Catch
+after_items zero c = c
+after_items (suc n) c = after_items n (after_item c)
+
+-- each item has a place at least, so as many calls as there are places ask for all
+abbrev pub all_items : Catch → List Item
+all_items c = items_of (length c.held) c
+
+abbrev pub drained : Catch → Catch
+drained c = after_items (length c.held) c
+
+-- what is handed up while these datagrams are taken, and what the catcher is then
+abbrev pub handed_up : Catch → List Datagram → List Item
+handed_up c [] = []
+handed_up c (d ∷ ds) = all_items (taken d c) ++ handed_up (drained (taken d c)) ds
+
+abbrev pub after_all : Catch → List Datagram → Catch
+after_all c [] = c
+after_all c (d ∷ ds) = after_all (drained (taken d c)) ds
+
+-- the items are what is caught of these datagrams, before the end and with it
+pub record CatchesAll (ds : List Datagram) : Type 0 where
+  pub before_end : handed_up catching ds ≡ caught false ds
+  pub with_end : handed_up catching ds ++ all_items (ended (after_all catching ds)) ≡ caught true ds
+
+abbrev pub AlwaysCatchesAll : Type 0
+AlwaysCatchesAll = (ds : List Datagram) → All (λ d. d.number < 65536) ds → CatchesAll ds

@@ -1,0 +1,3 @@
+//! Reading and catching on few datagrams.
+mod catching;
+mod reading;
