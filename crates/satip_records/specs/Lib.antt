@@ -1,0 +1,6 @@
+pub mod Fields
+pub mod Requests
+pub mod Records
+pub mod Lines
+pub mod Sheets
+pub mod RoomFields
