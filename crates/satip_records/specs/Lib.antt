@@ -4,3 +4,4 @@ pub mod Records
 pub mod Lines
 pub mod Sheets
 pub mod RoomFields
+pub mod Rows

@@ -6,8 +6,10 @@ mod lines;
 mod records;
 mod requests;
 mod room;
+mod rows;
 #[cfg(test)]
 mod tests;
 
 pub use lines::{write_entry, write_start};
 pub use room::LineRoom;
+pub use rows::worked_lines;
