@@ -32,7 +32,7 @@ pub fn write_entry(
     line.write_number(caller);
     line.write(b" ");
     encode_record(event, *answer, out, line);
-    line.write(b"\n");
+    line.end();
 }
 
 /// Puts the line of the moment at which a history starts, in milliseconds, in the place of an older
@@ -44,7 +44,7 @@ pub fn write_start(now: u64, line: &mut LineRoom)
     line.clear();
     line.write(b"start ");
     line.write_number(now);
-    line.write(b"\n");
+    line.end();
 }
 
 fn known_out(out: &Out)

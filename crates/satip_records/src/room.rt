@@ -1,6 +1,6 @@
 //! The room for one line.
 
-ghost use Rattle.std.specs.Prelude.{◌≡◌, ◌+◌, ◌*◌, ◌<◌, ◌≤◌, [], length, decimal, IfOk};
+ghost use Rattle.std.specs.Prelude.{◌≡◌, ◌*◌, ◌≤◌, [], codes, length, decimal, IfOk};
 ghost use Rattle.satip_records.specs.Sheets.{WroteText, WroteHex};
 ghost use Rattle.satip_records.specs.Fields.{u8_text, u16_text, u32_text, u64_text};
 
@@ -73,6 +73,14 @@ impl LineRoom {
         self.write(Buffer::new().format(number).as_bytes());
     }
 
+    // Ends the line.
+    pub(crate) fn end(&mut self)
+        requires room { 1 ≤ self.old.spare }
+        ensures wrote { WroteText self.old (codes "\n") self.new }
+    {
+        self.write(b"\n");
+    }
+
     // Appends bytes in lower-case digits.
     pub(crate) fn encode(&mut self, bytes: &[u8])
         requires room { 2 * length bytes.now ≤ self.old.spare }
@@ -96,7 +104,8 @@ impl LineRoom {
         requires room { 4 ≤ self.old.spare }
         ensures wrote { WroteHex self.old (u16_text number) self.new }
     {
-        self.encode(&number.to_be_bytes());
+        let bytes: [u8; 2] = number.to_be_bytes();
+        self.encode(&bytes);
     }
 
     #[tactic(auto, unfolding(crate::specs::Fields::u32_text))]
@@ -104,7 +113,8 @@ impl LineRoom {
         requires room { 8 ≤ self.old.spare }
         ensures wrote { WroteHex self.old (u32_text number) self.new }
     {
-        self.encode(&number.to_be_bytes());
+        let bytes: [u8; 4] = number.to_be_bytes();
+        self.encode(&bytes);
     }
 
     #[tactic(auto, unfolding(crate::specs::Fields::u64_text))]
@@ -112,6 +122,7 @@ impl LineRoom {
         requires room { 16 ≤ self.old.spare }
         ensures wrote { WroteHex self.old (u64_text number) self.new }
     {
-        self.encode(&number.to_be_bytes());
+        let bytes: [u8; 8] = number.to_be_bytes();
+        self.encode(&bytes);
     }
 }

@@ -22,8 +22,8 @@ encode_record-requires c =
       );
     }
 
-pub write-requires-4 : goal.write-requires-4
-write-requires-4 c =
+pub end-requires : goal.end-requires
+end-requires c =
     let empty : c.clear.new.self.spare ≡ 1048576 = ap (λ (s : Sheet). s.spare) c.clear.ensures.empty in
     record {
       room = omega (
@@ -43,10 +43,10 @@ write-requires-4 c =
 pub returns-clause-short : goal.returns-clause-short
 unfolding entry_line
 returns-clause-short c =
-    let line : c.write-4.new.self.text ≡ entry_line c.args.place c.args.caller c.args.event.now c.args.answer.now c.args.out.now.reply c.args.out.now.datagrams =
+    let line : c.end.new.self.text ≡ entry_line c.args.place c.args.caller c.args.event.now c.args.answer.now c.args.out.now.reply c.args.out.now.datagrams =
     whole c.clear.ensures.empty (
     c.write.ensures.wrote and c.write_number.ensures.wrote and c.write-2.ensures.wrote and c.write_number-2.ensures.wrote
-    and c.write-3.ensures.wrote and digits c.encode_record.ensures.wrote and c.write-4.ensures.wrote)
+    and c.write-3.ensures.wrote and digits c.encode_record.ensures.wrote and c.end.ensures.wrote)
     in
     subst (λ (t : List ℕ). length t < 800000) (sym line) (
     line_bound c.args.place c.args.caller c.args.event.now c.args.answer.now c.args.out.now c.ranges.place.fits c.ranges.caller.fits

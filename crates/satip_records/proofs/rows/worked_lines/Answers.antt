@@ -13,7 +13,7 @@ use Rattle.satip_records.proofs.rows.worked_lines.Goals as goal
 -- a line whose two numbers have these digits
 line_by : (place caller : ℕ) (p c : List ℕ) (event : Event) (answer : Answer) (reply : List ℕ) (datagrams : List Datagram)
     → decimal place ≡ p → decimal caller ≡ c → entry_line place caller event answer reply datagrams
-      ≡ codes "entry " ++ (p ++ (codes " " ++ (c ++ (codes " " ++ (encode_lower (record_text event answer reply datagrams) ++ codes "\n")))))
+    ≡ codes "entry " ++ (p ++ (codes " " ++ (c ++ (codes " " ++ (encode_lower (record_text event answer reply datagrams) ++ codes "\n")))))
 unfolding entry_line
 line_by place caller p c event answer reply datagrams is_p is_c = rw (is_p, is_c) refl
 
