@@ -5,3 +5,4 @@ pub mod Lines
 pub mod Sheets
 pub mod RoomFields
 pub mod Rows
+pub mod Reading

@@ -3,6 +3,7 @@
 
 mod fields;
 mod lines;
+mod reading;
 mod records;
 mod requests;
 mod room;
@@ -11,5 +12,6 @@ mod rows;
 mod tests;
 
 pub use lines::{write_entry, write_start};
+pub use reading::Reading;
 pub use room::LineRoom;
 pub use rows::worked_lines;
