@@ -4,6 +4,7 @@
 mod fields;
 mod lines;
 mod reading;
+mod reading_fields;
 mod records;
 mod requests;
 mod room;

@@ -1,8 +1,8 @@
 //! The parts of a record, read from the front of its bytes.
 
 ghost use Rattle.std.specs.Prelude.{◌≡◌, ◌++◌, IfSome};
-ghost use Rattle.satip_records.specs.Fields.{u8_text, u16_text, u32_text, u64_text, bool_text, option_text};
-ghost use Rattle.satip_records.specs.Reading.{behind, read_u8 as u8_read, read_u16 as u16_read, read_u32 as u32_read, read_u64 as u64_read, read_bool as bool_read, read_option};
+ghost use Rattle.satip_records.specs.Fields.{u8_text, u16_text, u32_text, u64_text, bool_text};
+ghost use Rattle.satip_records.specs.Reading.{behind, read_u8 as u8_read, read_u16 as u16_read, read_u32 as u32_read, read_u64 as u64_read, read_bool as bool_read};
 
 use std::marker::Model;
 
@@ -100,22 +100,5 @@ impl<'a> Reading<'a> {
             1 => Some(true),
             _ => None,
         }
-    }
-
-    #[tactic(auto, unfolding(crate::specs::Reading::read_option))]
-    pub fn read_option_u16(&mut self) -> Option<Option<u16>>
-        ensures read { behind result self.new ≡ read_option u16_read self.old }
-        ensures front { IfSome result (λ x. self.old ≡ option_text u16_text x ++ self.new) }
-    {
-        let Some(given) = self.read_bool() else {
-            return None;
-        };
-        if !given {
-            return Some(None);
-        }
-        let Some(value) = self.read_u16() else {
-            return None;
-        };
-        Some(Some(value))
     }
 }
