@@ -29,6 +29,10 @@ then_read (Some (x, rest)) next = next x rest
 abbrev pub ReadsAgain : {T : Type 0} → (T → Type 0) → (T → List ℕ) → (List ℕ → Option (T × List ℕ)) → Type 0
 ReadsAgain {T = T} Is text read = (x : T) (rest : List ℕ) → Is x → read (text x ++ rest) ≡ Some (x, rest)
 
+-- no text of a value that Is holds of begins another's
+abbrev pub NoneBegins : {T : Type 0} → (T → Type 0) → (T → List ℕ) → Type 0
+NoneBegins {T = T} Is text = (x y : T) (p q : List ℕ) → Is x → Is y → text x ++ p ≡ text y ++ q → (x ≡ y) × (p ≡ q)
+
 unfoldable pub read_u8 : List ℕ → Option (ℕ × List ℕ)
 read_u8 [] = None
 read_u8 (byte ∷ rest) = Some (byte, rest)
@@ -87,29 +91,29 @@ read_fec bytes = then_read (read_u8 bytes) (λ place rest. behind (fec_of place)
 
 unfoldable pub read_id : List ℕ → Option (SessionId × List ℕ)
 read_id bytes =
-    then_read (read_u32 bytes) (λ count after_count. 
+    then_read (read_u32 bytes) (λ count after_count.
     then_read (read_u32 after_count) (λ word more. Some (record { count = count; word = word }, more)))
 
 unfoldable pub read_draw : List ℕ → Option (Draw × List ℕ)
 read_draw bytes =
-    then_read (read_u32 bytes) (λ word after_word. 
-    then_read (read_u32 after_word) (λ ssrc after_ssrc. 
+    then_read (read_u32 bytes) (λ word after_word.
+    then_read (read_u32 after_word) (λ ssrc after_ssrc.
     then_read (read_u16 after_ssrc) (λ first more. Some (record { word = word; ssrc = ssrc; first = first }, more))))
 
 unfoldable pub read_ports : List ℕ → Option (Ports × List ℕ)
 read_ports bytes =
-    then_read (read_u16 bytes) (λ rtp after_rtp. 
+    then_read (read_u16 bytes) (λ rtp after_rtp.
     then_read (read_u16 after_rtp) (λ rtcp more. Some (record { rtp = rtp; rtcp = rtcp }, more)))
 
 unfoldable pub read_change : List ℕ → Option (Change × List ℕ)
 read_change bytes =
-    then_read (read_option read_u16 bytes) (λ fe after_fe. 
-    then_read (read_option read_u8 after_fe) (λ src after_src. 
-    then_read (read_option read_u32 after_src) (λ freq after_freq. 
-    then_read (read_option read_pol after_freq) (λ pol after_pol. 
-    then_read (read_option read_roll_off after_pol) (λ ro after_ro. 
-    then_read (read_option read_system after_ro) (λ msys after_msys. 
-    then_read (read_option read_modulation after_msys) (λ mtype after_mtype. 
-    then_read (read_option read_bool after_mtype) (λ plts after_plts. 
-    then_read (read_option read_u32 after_plts) (λ sr after_sr. 
+    then_read (read_option read_u16 bytes) (λ fe after_fe.
+    then_read (read_option read_u8 after_fe) (λ src after_src.
+    then_read (read_option read_u32 after_src) (λ freq after_freq.
+    then_read (read_option read_pol after_freq) (λ pol after_pol.
+    then_read (read_option read_roll_off after_pol) (λ ro after_ro.
+    then_read (read_option read_system after_ro) (λ msys after_msys.
+    then_read (read_option read_modulation after_msys) (λ mtype after_mtype.
+    then_read (read_option read_bool after_mtype) (λ plts after_plts.
+    then_read (read_option read_u32 after_plts) (λ sr after_sr.
     then_read (read_option read_fec after_sr) (λ fec more. Some (record { fe = fe; src = src; freq = freq; pol = pol; ro = ro; msys = msys; mtype = mtype; plts = plts; sr = sr; fec = fec }, more)))))))))))

@@ -2,6 +2,7 @@
 #![tactic(auto)]
 
 mod fields;
+mod laws;
 mod lines;
 mod reading;
 mod reading_fields;
@@ -12,6 +13,7 @@ mod rows;
 #[cfg(test)]
 mod tests;
 
+pub use laws::{no_part_begins_another, parts_are_read_again};
 pub use lines::{write_entry, write_start};
 pub use reading::Reading;
 pub use room::LineRoom;

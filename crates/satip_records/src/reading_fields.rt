@@ -328,6 +328,17 @@ impl Reading<'_> {
         let Some(fec) = self.read_option_fec() else {
             return None;
         };
-        Some(Change { fe, src, freq, pol, ro, msys, mtype, plts, sr, fec })
+        Some(Change {
+            fe,
+            src,
+            freq,
+            pol,
+            ro,
+            msys,
+            mtype,
+            plts,
+            sr,
+            fec,
+        })
     }
 }
