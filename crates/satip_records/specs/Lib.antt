@@ -6,3 +6,4 @@ pub mod Sheets
 pub mod RoomFields
 pub mod Rows
 pub mod Reading
+pub mod ReadingAnswers

@@ -5,6 +5,7 @@ mod fields;
 mod laws;
 mod lines;
 mod reading;
+mod reading_answers;
 mod reading_fields;
 mod records;
 mod requests;
