@@ -1,5 +1,5 @@
 -- How answers are read from the front of some bytes.
-use Rattle.std.specs.Prelude.{ℕ, ◌==◌, Bool, true, false, if◌then◌else◌, List, [], ◌∷◌, Option, Some, None}
+use Rattle.std.specs.Prelude.{ℕ, ◌<◌, ◌^◌, ◌==◌, Bool, true, false, if◌then◌else◌, List, [], ◌∷◌, Option, Some, None}
 use Rattle.satip_plain.specs.declared.answers.Answer.{Answer}
 use Rattle.satip_plain.specs.declared.answers.Answer.TheVariants.{Replied as RepliedIs, Get as GetIs, Beat as BeatIs, Work as WorkIs, Pulled as PulledIs, Closed as ClosedIs}
 use Rattle.satip_plain.specs.declared.answers.Replied.{Replied}
@@ -13,6 +13,7 @@ use Rattle.satip_plain.specs.declared.answers.Pulled.{Pulled}
 use Rattle.satip_plain.specs.declared.answers.Pulled.TheVariants.{Bytes, Empty, Gone as PulledGone}
 use Rattle.satip_plain.specs.declared.answers.Closed.{Closed}
 use Rattle.satip_plain.specs.declared.answers.Closed.TheVariants.{Yes, Gone}
+use Rattle.satip_plain.specs.Values.{IsId}
 use Rattle.satip_records.specs.Reading.{behind, then_read, read_u8, read_u16, read_u64, read_bool, read_id}
 
 unfoldable pub read_replied : List ℕ → Option (Replied × List ℕ)
@@ -73,3 +74,29 @@ answer_behind place rest =
 
 unfoldable pub read_answer : List ℕ → Option (Answer × List ℕ)
 read_answer bytes = then_read (read_u8 bytes) answer_behind
+
+-- the numbers of an answer are within their types
+abbrev pub IsReplied : Replied → Type 0
+IsReplied replied = replied.status < 2 ^ 16
+
+abbrev pub IsGet : GetAnswer → Type 0
+IsGet (Started id) = IsId id
+IsGet (Refused status) = status < 2 ^ 16
+
+abbrev pub IsWork : Work → Type 0
+IsWork (Tune mux tune) = (mux < 2 ^ 16) × (tune < 2 ^ 64)
+IsWork Nothing = Unit {0}
+IsWork Stopping = Unit {0}
+
+abbrev pub IsPulled : Pulled → Type 0
+IsPulled (Bytes count) = count < 2 ^ 64
+IsPulled Empty = Unit {0}
+IsPulled PulledGone = Unit {0}
+
+abbrev pub IsAnswer : Answer → Type 0
+IsAnswer (RepliedIs replied) = IsReplied replied
+IsAnswer (GetIs get) = IsGet get
+IsAnswer (BeatIs beat) = Unit {0}
+IsAnswer (WorkIs work) = IsWork work
+IsAnswer (PulledIs pulled) = IsPulled pulled
+IsAnswer (ClosedIs closed) = Unit {0}

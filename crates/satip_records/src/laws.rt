@@ -3,6 +3,8 @@
 ghost use Rattle.std.specs.Prelude.{◌<◌, ◌^◌};
 ghost use Rattle.satip_plain.specs.Values.{ArePorts, IsChange, IsDraw, IsId};
 ghost use Rattle.satip_records.specs.Fields.{bool_text, draw_text, fec_text, id_text, modulation_text, pol_text, ports_text, roll_off_text, system_text, u16_text, u32_text, u64_text, u8_text};
+ghost use Rattle.satip_records.specs.Records.{answer_text};
+ghost use Rattle.satip_records.specs.ReadingAnswers.{IsAnswer, read_answer};
 ghost use Rattle.satip_records.specs.Requests.{change_text};
 ghost use Rattle.satip_records.specs.Reading.{NoneBegins, ReadsAgain, read_bool, read_change, read_draw, read_fec, read_id, read_modulation, read_pol, read_ports, read_roll_off, read_system, read_u16, read_u32, read_u64, read_u8};
 
@@ -22,6 +24,7 @@ pub fn parts_are_read_again()
     ensures draw { ReadsAgain IsDraw draw_text read_draw }
     ensures ports { ReadsAgain ArePorts ports_text read_ports }
     ensures change { ReadsAgain IsChange change_text read_change }
+    ensures answer { ReadsAgain IsAnswer answer_text read_answer }
 {}
 
 /// No text of a small part begins another's.
@@ -30,4 +33,5 @@ pub fn no_part_begins_another()
     ensures draw { NoneBegins IsDraw draw_text }
     ensures ports { NoneBegins ArePorts ports_text }
     ensures change { NoneBegins IsChange change_text }
+    ensures answer { NoneBegins IsAnswer answer_text }
 {}

@@ -1,3 +1,6 @@
+use Rattle.satip_records.specs.Records.{answer_text}
+use Rattle.satip_records.specs.ReadingAnswers.{IsAnswer, read_answer}
+use Rattle.satip_records.proofs.AnswersAgain.{answer_again}
 use Rattle.satip_plain.specs.Values.{IsId, IsDraw, ArePorts, IsChange}
 use Rattle.satip_records.specs.Fields.{id_text, draw_text, ports_text}
 use Rattle.satip_records.specs.Requests.{change_text}
@@ -16,3 +19,6 @@ returns-clause-ports c = none_begins ArePorts ports_text read_ports ports_again
 
 pub returns-clause-change : goal.returns-clause-change
 returns-clause-change c = none_begins IsChange change_text read_change change_again
+
+pub returns-clause-answer : goal.returns-clause-answer
+returns-clause-answer c = none_begins IsAnswer answer_text read_answer answer_again

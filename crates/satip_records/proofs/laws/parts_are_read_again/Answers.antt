@@ -1,3 +1,4 @@
+use Rattle.satip_records.proofs.AnswersAgain.{answer_again}
 use Rattle.satip_records.proofs.Again.{u8_again, u16_again, u32_again, u64_again, bool_again, pol_again, roll_off_again, system_again, modulation_again, fec_again, id_again, draw_again, ports_again, change_again}
 use Rattle.satip_records.proofs.laws.parts_are_read_again.Goals as goal
 
@@ -42,3 +43,6 @@ returns-clause-ports c = ports_again
 
 pub returns-clause-change : goal.returns-clause-change
 returns-clause-change c = change_again
+
+pub returns-clause-answer : goal.returns-clause-answer
+returns-clause-answer c = answer_again
