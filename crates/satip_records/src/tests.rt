@@ -158,3 +158,32 @@ fn refusals_packets_and_ids_are_written(rt: HostRuntime) -> Result<(), Fail> {
     );
     Ok(())
 }
+
+#[test]
+fn parts_are_read_from_the_front(rt: HostRuntime) {
+    let mut reading = Reading::new(b"\x01\x01\x02\x00\x00\x00\x07\x00\x00\x00\x08\x01\x00\x02");
+    assert_eq!(rt; reading.read_option_u16(), Some(Some(258)));
+    assert_eq!(rt; reading.read_id(), Some(SessionId { count: 7, word: 8 }));
+    assert_eq!(rt; reading.read_bool(), Some(true));
+    assert_eq!(rt; reading.read_option_pol(), Some(None));
+    assert_eq!(rt; reading.read_bool(), None);
+    assert_eq!(rt; Reading::new(b"\x01\x02").read_u32(), None);
+    assert_eq!(rt; Reading::new(b"\x09").read_fec(), None);
+    assert_eq!(rt; Reading::new(b"\x08").read_fec(), Some(Fec::F910));
+}
+
+#[test]
+fn answers_are_read_from_the_front(rt: HostRuntime) {
+    let mut reading = Reading::new(
+        b"\x02\x01\x03\x00\x00\x03\x00\x00\x00\x00\x00\x00\x00\x09\x00\x00\xc8\x01\x06",
+    );
+    assert_eq!(rt; reading.read_answer(), Some(Answer::Beat(Beat::Stopping)));
+    let tune = Answer::Work(Work::Tune { mux: 3, tune: 9 });
+    assert_eq!(rt; reading.read_answer(), Some(tune));
+    let replied = Answer::Replied(Replied {
+        status: 200,
+        closing: true,
+    });
+    assert_eq!(rt; reading.read_answer(), Some(replied));
+    assert_eq!(rt; reading.read_answer(), None);
+}
