@@ -1,5 +1,5 @@
 -- What is written is read again.
-use Rattle.std.proofs.Common.{◌≡◌, ℕ, zero, suc, ◌+◌, ◌*◌, ◌/◌, ◌%◌, ◌^◌, ◌≤◌, ◌<◌, Bool, true, false, List, [], ◌∷◌, ◌++◌, length, append_assoc, Option, Some, None, arith, refl, sym, ◌∙◌, ap, subst}
+use Rattle.std.proofs.Common.{◌≡◌, ℕ, ◌^◌, ◌<◌, true, false, List, [], ◌++◌, append_assoc, Option, Some, None, arith, refl, sym, ◌∙◌, ap}
 use Rattle.std.specs.Prelude.{IfSome}
 use Rattle.satip_tune.specs.declared.signal.Pol.{Pol}
 use Rattle.satip_tune.specs.declared.signal.Pol.TheVariants.{H, V, L, R}
@@ -14,7 +14,7 @@ use Rattle.satip_tune.specs.declared.signal.Fec.TheVariants.{F12, F23, F34, F56,
 use Rattle.satip_plain.specs.Values.{IsId, IsDraw, ArePorts, IsChange}
 use Rattle.satip_records.specs.Fields.{u8_text, u16_text, u32_text, u64_text, bool_text, option_text, id_text, draw_text, ports_text, pol_text, roll_off_text, system_text, modulation_text, fec_text}
 use Rattle.satip_records.specs.Requests.{change_text}
-use Rattle.satip_records.specs.Reading.{behind, then_read, ReadsAgain, read_u8, read_u16, read_u32, read_u64, read_bool, read_option, option_behind, read_id, read_draw, read_ports, read_pol, read_roll_off, read_system, read_modulation, read_fec, read_change, NoneBegins}
+use Rattle.satip_records.specs.Reading.{ReadsAgain, read_u8, read_u16, read_u32, read_u64, read_bool, read_option, read_id, read_draw, read_ports, read_pol, read_roll_off, read_system, read_modulation, read_fec, read_change, NoneBegins}
 
 pub u8_again : ReadsAgain (λ n. n < 2 ^ 8) u8_text read_u8
 unfolding read_u8 u8_text

@@ -1,7 +1,5 @@
 -- Answers are read again.
-use Rattle.std.proofs.Common.{◌≡◌, ℕ, ◌<◌, ◌^◌, Bool, true, false, List, [], ◌∷◌, ◌++◌, append_assoc, Option, Some, None, refl}
-use Rattle.satip_plain.specs.Values.{IsId}
-use Rattle.satip_plain.specs.declared.answers.Answer.{Answer}
+use Rattle.std.proofs.Common.{◌≡◌, ℕ, List, ◌++◌, append_assoc, Some, refl}
 use Rattle.satip_plain.specs.declared.answers.Answer.TheVariants.{Replied as RepliedIs, Get as GetIs, Beat as BeatIs, Work as WorkIs, Pulled as PulledIs, Closed as ClosedIs}
 use Rattle.satip_plain.specs.declared.answers.GetAnswer.TheVariants.{Started, Refused}
 use Rattle.satip_plain.specs.declared.answers.Beat.{Beat}

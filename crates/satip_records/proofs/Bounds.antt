@@ -1,12 +1,10 @@
 -- How long records and lines are at most.
 use Rattle.std.proofs.Common.{◌≡◌, ℕ, zero, suc, ◌+◌, ◌*◌, ◌≤◌, ◌<◌, ◌^◌, Bool, true, false, List, [], ◌∷◌, ◌++◌, length, length-append, append_assoc, take, flat_map, decimal, codes, Option, Some, None, arith, refl, sym, ◌∙◌, ap, subst}
-use Rattle.std.specs.Prelude.{IfSome, sum_by}
+use Rattle.std.specs.Prelude.{IfSome}
 use Rattle.std.proofs.lemmas.List.Concat.{length-flat_map}
 use Rattle.hex.specs.Hex.{lower_digits, encode_lower}
 use Rattle.hex.proofs.HexLemmas.{length-encode_with}
-use Rattle.satip_base.specs.Output.{Datagram, Output, IsWithinRoom, datagram_bytes}
-use Rattle.satip_base.specs.declared.identity.SessionId.{SessionId}
-use Rattle.satip_base.specs.declared.identity.Draw.{Draw}
+use Rattle.satip_base.specs.Output.{Datagram, Output, IsWithinRoom}
 use Rattle.satip_base.specs.declared.network.Ports.{Ports}
 use Rattle.satip_base.proofs.NumberLemmas.{length-decimal_u64}
 use Rattle.satip_pids.specs.Pids.{IsPidList}
@@ -48,12 +46,12 @@ use Rattle.satip_plain.specs.declared.answers.Beat.TheVariants.{Going, Stopping 
 use Rattle.satip_plain.specs.declared.answers.Work.TheVariants.{Tune, Nothing, Stopping}
 use Rattle.satip_plain.specs.declared.answers.Pulled.TheVariants.{Bytes, Empty, Gone as PulledGone}
 use Rattle.satip_plain.specs.declared.answers.Closed.TheVariants.{Yes, Gone}
-use Rattle.satip_records.specs.Fields.{u8_text, u16_text, u32_text, u64_text, bool_text, option_text, pid_list_text, id_text, draw_text, ports_text, address_text, pol_text, roll_off_text, system_text, modulation_text, fec_text, key_text}
-use Rattle.satip_records.specs.Requests.{change_text, pids_text, query_text, fault_text, method_text, short_text, refusal_text, name_text, request_text, http_refusal_text, http_request_text}
-use Rattle.satip_records.specs.Records.{event_text, replied_text, bytes_text, datagram_text, answer_text, record_text}
+use Rattle.satip_records.specs.Fields.{u8_text, u16_text, u32_text, bool_text, option_text, pid_list_text, ports_text, pol_text, roll_off_text, system_text, modulation_text, fec_text, key_text}
+use Rattle.satip_records.specs.Requests.{change_text, pids_text, query_text, fault_text, method_text, refusal_text, name_text, request_text, http_refusal_text, http_request_text}
+use Rattle.satip_records.specs.Records.{event_text, datagram_text, answer_text, record_text}
 use Rattle.satip_records.specs.Lines.{entry_line}
 use Rattle.satip_records.specs.Sheets.{Sheet, WroteText, WroteHex}
-use Rattle.satip_records.proofs.Writing.{length-u8, length-u16, length-u32, length-u64, number_lengths}
+use Rattle.satip_records.proofs.Writing.{length-u8, length-u16, length-u32, length-u64}
 use Rattle.satip_records.proofs.Lists.{length-pids}
 
 -- ---- small parts

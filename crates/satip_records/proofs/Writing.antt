@@ -3,7 +3,7 @@ use Rattle.std.proofs.Common.{◌≡◌, ℕ, ◌+◌, ◌*◌, ◌≤◌, List,
 use Rattle.hex.specs.Hex.{lower_digits, encode_lower}
 use Rattle.satip_digits.proofs.HexDigits.{encode-append}
 use Rattle.satip_records.specs.Fields.{u8_text, u16_text, u32_text, u64_text}
-use Rattle.satip_records.specs.Sheets.{Sheet, WroteText, WroteHex}
+use Rattle.satip_records.specs.Sheets.{Sheet, WroteHex}
 
 -- one text after another
 infixr 20 ◌then◌

@@ -1,5 +1,5 @@
 -- The record of an entry of a history: its event, its answer, the reply and the datagrams.
-use Rattle.std.specs.Prelude.{ℕ, List, [], ◌∷◌, ◌++◌, length}
+use Rattle.std.specs.Prelude.{ℕ, List, ◌++◌, length}
 use Rattle.satip_base.specs.Output.{Datagram}
 use Rattle.satip_plain.specs.declared.events.Event.{Event}
 use Rattle.satip_plain.specs.declared.events.Event.TheVariants.{Request as Asked, Get as Got, Tick, Packet, Ended, Ask, Pull, Close, Stop}

@@ -1,5 +1,5 @@
 -- The bytes of requests: each field in turn, in the order in which the types declare them.
-use Rattle.std.specs.Prelude.{ℕ, List, [], ◌∷◌, ◌++◌, length}
+use Rattle.std.specs.Prelude.{ℕ, List, ◌++◌, length}
 use Rattle.satip_tune.specs.declared.tunings.Change.{Change}
 use Rattle.satip_query.specs.declared.queries.Query.{Query}
 use Rattle.satip_query.specs.declared.queries.PidsGiven.{PidsGiven}

@@ -1,5 +1,5 @@
 -- Entries whose lines are worked out by hand.
-use Rattle.std.specs.Prelude.{◌≡◌, ℕ, true, false, List, [], ◌∷◌, codes, Some, None}
+use Rattle.std.specs.Prelude.{◌≡◌, true, false, List, [], ◌∷◌, codes, Some, None}
 use Rattle.satip_tune.specs.declared.signal.Pol.TheVariants.{L}
 use Rattle.satip_tune.specs.declared.signal.RollOff.TheVariants.{R20}
 use Rattle.satip_tune.specs.declared.signal.System.TheVariants.{Dvbs2}

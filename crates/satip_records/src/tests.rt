@@ -1,5 +1,7 @@
 //! Lines whose digits were worked out by hand from the rules of records.
 
+ghost use Rattle.std.specs.Prelude.{◌<◌};
+
 use crate::*;
 use satip_base::{Address, Draw, Out, Peer, Ports, SessionId};
 use satip_http::{HttpRefusal, HttpRequest};

@@ -1,4 +1,4 @@
-use Rattle.std.proofs.Common.{◌≡◌, ◌+◌, ◌*◌, ◌≤◌, ◌<◌, List, ℕ, length, arith, ap, sym, subst}
+use Rattle.std.proofs.Common.{◌≡◌, ◌<◌, List, ℕ, length, arith, ap, sym, subst}
 use Rattle.satip_base.proofs.NumberLemmas.{length-decimal_u64}
 use Rattle.satip_records.specs.Lines.{entry_line}
 use Rattle.satip_records.specs.Sheets.{Sheet}

@@ -1,4 +1,4 @@
-use Rattle.std.proofs.Common.{◌≡◌, ◌<◌, ◌^◌, List, ℕ, length, Some, sym, arith}
+use Rattle.std.proofs.Common.{sym, arith}
 use Rattle.satip_base.specs.Output.{Datagram}
 use Rattle.satip_records.specs.Records.{datagram_text}
 use Rattle.satip_records.proofs.Lists.{is_there, room_more, within_datagrams, wrote_more}

@@ -1,9 +1,6 @@
-use Rattle.std.proofs.Common.{◌≡◌, List, ℕ, take, get_or, flat_map, Some, subst, arith}
-use Rattle.std.proofs.lemmas.List.{take_all}
-use Rattle.std.specs.List.{slice_get}
+use Rattle.std.proofs.Common.{ℕ, get_or, arith}
 use Rattle.std.proofs.lemmas.Option.{slice_get-get_or}
 use Rattle.satip_records.specs.Fields.{u16_text}
-use Rattle.satip_records.specs.Sheets.{WroteHex}
 use Rattle.satip_records.proofs.Writing.{length-u16}
 use Rattle.satip_records.proofs.Lists.{room_more, wrote_more}
 use Rattle.satip_records.proofs.requests.encode_pids.Goals as goal
