@@ -1,0 +1,5 @@
+pub mod Writing
+pub mod Lists
+pub mod Bounds
+pub mod Again
+pub mod AnswersAgain

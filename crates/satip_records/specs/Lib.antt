@@ -1,0 +1,9 @@
+pub mod Fields
+pub mod Requests
+pub mod Records
+pub mod Lines
+pub mod Sheets
+pub mod RoomFields
+pub mod Rows
+pub mod Reading
+pub mod ReadingAnswers

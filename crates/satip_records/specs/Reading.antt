@@ -1,0 +1,119 @@
+-- How the parts of a record are read from the front of some bytes: the value and the bytes behind it, or None where they begin with none.
+use Rattle.std.specs.Prelude.{◌≡◌, ℕ, ◌+◌, ◌*◌, ◌==◌, Bool, true, false, if◌then◌else◌, List, [], ◌∷◌, ◌++◌, Option, Some, None}
+use Rattle.satip_base.specs.declared.identity.SessionId.{SessionId}
+use Rattle.satip_base.specs.declared.identity.Draw.{Draw}
+use Rattle.satip_base.specs.declared.network.Ports.{Ports}
+use Rattle.satip_tune.specs.declared.signal.Pol.{Pol}
+use Rattle.satip_tune.specs.declared.signal.Pol.TheVariants.{H, V, L, R}
+use Rattle.satip_tune.specs.declared.signal.RollOff.{RollOff}
+use Rattle.satip_tune.specs.declared.signal.RollOff.TheVariants.{R35, R25, R20}
+use Rattle.satip_tune.specs.declared.signal.System.{System}
+use Rattle.satip_tune.specs.declared.signal.System.TheVariants.{Dvbs, Dvbs2}
+use Rattle.satip_tune.specs.declared.signal.Modulation.{Modulation}
+use Rattle.satip_tune.specs.declared.signal.Modulation.TheVariants.{Qpsk, Psk8}
+use Rattle.satip_tune.specs.declared.signal.Fec.{Fec}
+use Rattle.satip_tune.specs.declared.signal.Fec.TheVariants.{F12, F23, F34, F56, F78, F89, F35, F45, F910}
+use Rattle.satip_tune.specs.declared.tunings.Change.{Change}
+
+-- a value that was read, and what stands behind it
+abbrev pub behind : {T : Type 0} → Option T → List ℕ → Option (T × List ℕ)
+behind None rest = None
+behind (Some x) rest = Some (x, rest)
+
+-- what is read behind another value
+abbrev pub then_read : {T U : Type 0} → Option (T × List ℕ) → (T → List ℕ → Option (U × List ℕ)) → Option (U × List ℕ)
+then_read None next = None
+then_read (Some (x, rest)) next = next x rest
+
+-- each value that Is holds of is read again from its text, whatever stands behind that
+abbrev pub ReadsAgain : {T : Type 0} → (T → Type 0) → (T → List ℕ) → (List ℕ → Option (T × List ℕ)) → Type 0
+ReadsAgain {T = T} Is text read = (x : T) (rest : List ℕ) → Is x → read (text x ++ rest) ≡ Some (x, rest)
+
+-- no text of a value that Is holds of begins another's
+abbrev pub NoneBegins : {T : Type 0} → (T → Type 0) → (T → List ℕ) → Type 0
+NoneBegins {T = T} Is text = (x y : T) (p q : List ℕ) → Is x → Is y → text x ++ p ≡ text y ++ q → (x ≡ y) × (p ≡ q)
+
+unfoldable pub read_u8 : List ℕ → Option (ℕ × List ℕ)
+read_u8 [] = None
+read_u8 (byte ∷ rest) = Some (byte, rest)
+
+unfoldable pub read_u16 : List ℕ → Option (ℕ × List ℕ)
+read_u16 bytes = then_read (read_u8 bytes) (λ high rest. then_read (read_u8 rest) (λ low more. Some (high * 256 + low, more)))
+
+unfoldable pub read_u32 : List ℕ → Option (ℕ × List ℕ)
+read_u32 bytes = then_read (read_u16 bytes) (λ high rest. then_read (read_u16 rest) (λ low more. Some (high * 65536 + low, more)))
+
+unfoldable pub read_u64 : List ℕ → Option (ℕ × List ℕ)
+read_u64 bytes = then_read (read_u32 bytes) (λ high rest. then_read (read_u32 rest) (λ low more. Some (high * 4294967296 + low, more)))
+
+abbrev pub bool_of : ℕ → Option Bool
+bool_of place = if place == 0 then Some false else if place == 1 then Some true else None
+
+unfoldable pub read_bool : List ℕ → Option (Bool × List ℕ)
+read_bool bytes = then_read (read_u8 bytes) (λ place rest. behind (bool_of place) rest)
+
+abbrev pub option_behind : {T : Type 0} → (List ℕ → Option (T × List ℕ)) → Bool → List ℕ → Option (Option T × List ℕ)
+option_behind read false rest = Some (None, rest)
+option_behind read true rest = then_read (read rest) (λ x more. Some (Some x, more))
+
+unfoldable pub read_option : {T : Type 0} → (List ℕ → Option (T × List ℕ)) → List ℕ → Option (Option T × List ℕ)
+read_option read bytes = then_read (read_bool bytes) (option_behind read)
+
+abbrev pub pol_of : ℕ → Option Pol
+pol_of place = if place == 0 then Some H else if place == 1 then Some V else if place == 2 then Some L else if place == 3 then Some R else None
+
+unfoldable pub read_pol : List ℕ → Option (Pol × List ℕ)
+read_pol bytes = then_read (read_u8 bytes) (λ place rest. behind (pol_of place) rest)
+
+abbrev pub roll_off_of : ℕ → Option RollOff
+roll_off_of place = if place == 0 then Some R35 else if place == 1 then Some R25 else if place == 2 then Some R20 else None
+
+unfoldable pub read_roll_off : List ℕ → Option (RollOff × List ℕ)
+read_roll_off bytes = then_read (read_u8 bytes) (λ place rest. behind (roll_off_of place) rest)
+
+abbrev pub system_of : ℕ → Option System
+system_of place = if place == 0 then Some Dvbs else if place == 1 then Some Dvbs2 else None
+
+unfoldable pub read_system : List ℕ → Option (System × List ℕ)
+read_system bytes = then_read (read_u8 bytes) (λ place rest. behind (system_of place) rest)
+
+abbrev pub modulation_of : ℕ → Option Modulation
+modulation_of place = if place == 0 then Some Qpsk else if place == 1 then Some Psk8 else None
+
+unfoldable pub read_modulation : List ℕ → Option (Modulation × List ℕ)
+read_modulation bytes = then_read (read_u8 bytes) (λ place rest. behind (modulation_of place) rest)
+
+abbrev pub fec_of : ℕ → Option Fec
+fec_of place = if place == 0 then Some F12 else if place == 1 then Some F23 else if place == 2 then Some F34 else if place == 3 then Some F56 else if place == 4 then Some F78 else if place == 5 then Some F89 else if place == 6 then Some F35 else if place == 7 then Some F45 else if place == 8 then Some F910 else None
+
+unfoldable pub read_fec : List ℕ → Option (Fec × List ℕ)
+read_fec bytes = then_read (read_u8 bytes) (λ place rest. behind (fec_of place) rest)
+
+unfoldable pub read_id : List ℕ → Option (SessionId × List ℕ)
+read_id bytes =
+    then_read (read_u32 bytes) (λ count after_count.
+    then_read (read_u32 after_count) (λ word more. Some (record { count = count; word = word }, more)))
+
+unfoldable pub read_draw : List ℕ → Option (Draw × List ℕ)
+read_draw bytes =
+    then_read (read_u32 bytes) (λ word after_word.
+    then_read (read_u32 after_word) (λ ssrc after_ssrc.
+    then_read (read_u16 after_ssrc) (λ first more. Some (record { word = word; ssrc = ssrc; first = first }, more))))
+
+unfoldable pub read_ports : List ℕ → Option (Ports × List ℕ)
+read_ports bytes =
+    then_read (read_u16 bytes) (λ rtp after_rtp.
+    then_read (read_u16 after_rtp) (λ rtcp more. Some (record { rtp = rtp; rtcp = rtcp }, more)))
+
+unfoldable pub read_change : List ℕ → Option (Change × List ℕ)
+read_change bytes =
+    then_read (read_option read_u16 bytes) (λ fe after_fe.
+    then_read (read_option read_u8 after_fe) (λ src after_src.
+    then_read (read_option read_u32 after_src) (λ freq after_freq.
+    then_read (read_option read_pol after_freq) (λ pol after_pol.
+    then_read (read_option read_roll_off after_pol) (λ ro after_ro.
+    then_read (read_option read_system after_ro) (λ msys after_msys.
+    then_read (read_option read_modulation after_msys) (λ mtype after_mtype.
+    then_read (read_option read_bool after_mtype) (λ plts after_plts.
+    then_read (read_option read_u32 after_plts) (λ sr after_sr.
+    then_read (read_option read_fec after_sr) (λ fec more. Some (record { fe = fe; src = src; freq = freq; pol = pol; ro = ro; msys = msys; mtype = mtype; plts = plts; sr = sr; fec = fec }, more)))))))))))

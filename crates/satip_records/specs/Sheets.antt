@@ -1,0 +1,18 @@
+-- What a room for a line holds.
+use Rattle.std.specs.Prelude.{◌≡◌, ℕ, ◌+◌, ◌*◌, List, ◌++◌, length}
+use Rattle.hex.specs.Hex.{encode_lower}
+
+-- a text, and how many bytes more there is room for
+pub record Sheet : Type 0 where
+  pub text : List ℕ
+  pub spare : ℕ
+
+-- bytes were appended
+pub record WroteText (o : Sheet) (bs : List ℕ) (n : Sheet) : Type 0 where
+  pub text : n.text ≡ o.text ++ bs
+  pub spare : n.spare + length bs ≡ o.spare
+
+-- bytes were appended in lower-case digits
+pub record WroteHex (o : Sheet) (bs : List ℕ) (n : Sheet) : Type 0 where
+  pub text : n.text ≡ o.text ++ encode_lower bs
+  pub spare : n.spare + 2 * length bs ≡ o.spare

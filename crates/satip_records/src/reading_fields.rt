@@ -1,0 +1,344 @@
+//! The small parts of a record, read from the front of its bytes.
+
+ghost use Rattle.std.specs.Prelude.{◌≡◌, ◌++◌, IfSome};
+ghost use Rattle.satip_records.specs.Fields.{u8_text, u16_text, u32_text, bool_text, option_text, id_text, draw_text, ports_text, pol_text, roll_off_text, system_text, modulation_text, fec_text};
+ghost use Rattle.satip_records.specs.Requests.{change_text};
+ghost use Rattle.satip_records.specs.Reading.{behind, read_u8 as u8_read, read_u16 as u16_read, read_u32 as u32_read, read_bool as bool_read, read_option, read_id as id_read, read_draw as draw_read, read_ports as ports_read, read_pol as pol_read, read_roll_off as roll_off_read, read_system as system_read, read_modulation as modulation_read, read_fec as fec_read, read_change as change_read};
+
+use crate::reading::Reading;
+use satip_base::{Draw, Ports, SessionId};
+use satip_tune::{Change, Fec, Modulation, Pol, RollOff, System};
+
+impl Reading<'_> {
+    #[tactic(auto, unfolding(crate::specs::Reading::read_pol))]
+    pub fn read_pol(&mut self) -> Option<Pol>
+        ensures read { behind result self.new ≡ pol_read self.old }
+        ensures front { IfSome result (λ x. self.old ≡ pol_text x ++ self.new) }
+    {
+        let Some(place) = self.read_u8() else {
+            return None;
+        };
+        match place {
+            0 => Some(Pol::H),
+            1 => Some(Pol::V),
+            2 => Some(Pol::L),
+            3 => Some(Pol::R),
+            _ => None,
+        }
+    }
+
+    #[tactic(auto, unfolding(crate::specs::Reading::read_roll_off))]
+    pub fn read_roll_off(&mut self) -> Option<RollOff>
+        ensures read { behind result self.new ≡ roll_off_read self.old }
+        ensures front { IfSome result (λ x. self.old ≡ roll_off_text x ++ self.new) }
+    {
+        let Some(place) = self.read_u8() else {
+            return None;
+        };
+        match place {
+            0 => Some(RollOff::R35),
+            1 => Some(RollOff::R25),
+            2 => Some(RollOff::R20),
+            _ => None,
+        }
+    }
+
+    #[tactic(auto, unfolding(crate::specs::Reading::read_system))]
+    pub fn read_system(&mut self) -> Option<System>
+        ensures read { behind result self.new ≡ system_read self.old }
+        ensures front { IfSome result (λ x. self.old ≡ system_text x ++ self.new) }
+    {
+        let Some(place) = self.read_u8() else {
+            return None;
+        };
+        match place {
+            0 => Some(System::Dvbs),
+            1 => Some(System::Dvbs2),
+            _ => None,
+        }
+    }
+
+    #[tactic(auto, unfolding(crate::specs::Reading::read_modulation))]
+    pub fn read_modulation(&mut self) -> Option<Modulation>
+        ensures read { behind result self.new ≡ modulation_read self.old }
+        ensures front { IfSome result (λ x. self.old ≡ modulation_text x ++ self.new) }
+    {
+        let Some(place) = self.read_u8() else {
+            return None;
+        };
+        match place {
+            0 => Some(Modulation::Qpsk),
+            1 => Some(Modulation::Psk8),
+            _ => None,
+        }
+    }
+
+    #[tactic(auto, unfolding(crate::specs::Reading::read_fec))]
+    pub fn read_fec(&mut self) -> Option<Fec>
+        ensures read { behind result self.new ≡ fec_read self.old }
+        ensures front { IfSome result (λ x. self.old ≡ fec_text x ++ self.new) }
+    {
+        let Some(place) = self.read_u8() else {
+            return None;
+        };
+        match place {
+            0 => Some(Fec::F12),
+            1 => Some(Fec::F23),
+            2 => Some(Fec::F34),
+            3 => Some(Fec::F56),
+            4 => Some(Fec::F78),
+            5 => Some(Fec::F89),
+            6 => Some(Fec::F35),
+            7 => Some(Fec::F45),
+            8 => Some(Fec::F910),
+            _ => None,
+        }
+    }
+
+    #[tactic(auto, unfolding(crate::specs::Reading::read_option))]
+    pub fn read_option_u8(&mut self) -> Option<Option<u8>>
+        ensures read { behind result self.new ≡ read_option u8_read self.old }
+        ensures front { IfSome result (λ x. self.old ≡ option_text u8_text x ++ self.new) }
+    {
+        let Some(given) = self.read_bool() else {
+            return None;
+        };
+        if !given {
+            return Some(None);
+        }
+        let Some(value) = self.read_u8() else {
+            return None;
+        };
+        Some(Some(value))
+    }
+
+    #[tactic(auto, unfolding(crate::specs::Reading::read_option))]
+    pub fn read_option_u16(&mut self) -> Option<Option<u16>>
+        ensures read { behind result self.new ≡ read_option u16_read self.old }
+        ensures front { IfSome result (λ x. self.old ≡ option_text u16_text x ++ self.new) }
+    {
+        let Some(given) = self.read_bool() else {
+            return None;
+        };
+        if !given {
+            return Some(None);
+        }
+        let Some(value) = self.read_u16() else {
+            return None;
+        };
+        Some(Some(value))
+    }
+
+    #[tactic(auto, unfolding(crate::specs::Reading::read_option))]
+    pub fn read_option_u32(&mut self) -> Option<Option<u32>>
+        ensures read { behind result self.new ≡ read_option u32_read self.old }
+        ensures front { IfSome result (λ x. self.old ≡ option_text u32_text x ++ self.new) }
+    {
+        let Some(given) = self.read_bool() else {
+            return None;
+        };
+        if !given {
+            return Some(None);
+        }
+        let Some(value) = self.read_u32() else {
+            return None;
+        };
+        Some(Some(value))
+    }
+
+    #[tactic(auto, unfolding(crate::specs::Reading::read_option))]
+    pub fn read_option_bool(&mut self) -> Option<Option<bool>>
+        ensures read { behind result self.new ≡ read_option bool_read self.old }
+        ensures front { IfSome result (λ x. self.old ≡ option_text bool_text x ++ self.new) }
+    {
+        let Some(given) = self.read_bool() else {
+            return None;
+        };
+        if !given {
+            return Some(None);
+        }
+        let Some(value) = self.read_bool() else {
+            return None;
+        };
+        Some(Some(value))
+    }
+
+    #[tactic(auto, unfolding(crate::specs::Reading::read_option))]
+    pub fn read_option_pol(&mut self) -> Option<Option<Pol>>
+        ensures read { behind result self.new ≡ read_option pol_read self.old }
+        ensures front { IfSome result (λ x. self.old ≡ option_text pol_text x ++ self.new) }
+    {
+        let Some(given) = self.read_bool() else {
+            return None;
+        };
+        if !given {
+            return Some(None);
+        }
+        let Some(value) = self.read_pol() else {
+            return None;
+        };
+        Some(Some(value))
+    }
+
+    #[tactic(auto, unfolding(crate::specs::Reading::read_option))]
+    pub fn read_option_roll_off(&mut self) -> Option<Option<RollOff>>
+        ensures read { behind result self.new ≡ read_option roll_off_read self.old }
+        ensures front { IfSome result (λ x. self.old ≡ option_text roll_off_text x ++ self.new) }
+    {
+        let Some(given) = self.read_bool() else {
+            return None;
+        };
+        if !given {
+            return Some(None);
+        }
+        let Some(value) = self.read_roll_off() else {
+            return None;
+        };
+        Some(Some(value))
+    }
+
+    #[tactic(auto, unfolding(crate::specs::Reading::read_option))]
+    pub fn read_option_system(&mut self) -> Option<Option<System>>
+        ensures read { behind result self.new ≡ read_option system_read self.old }
+        ensures front { IfSome result (λ x. self.old ≡ option_text system_text x ++ self.new) }
+    {
+        let Some(given) = self.read_bool() else {
+            return None;
+        };
+        if !given {
+            return Some(None);
+        }
+        let Some(value) = self.read_system() else {
+            return None;
+        };
+        Some(Some(value))
+    }
+
+    #[tactic(auto, unfolding(crate::specs::Reading::read_option))]
+    pub fn read_option_modulation(&mut self) -> Option<Option<Modulation>>
+        ensures read { behind result self.new ≡ read_option modulation_read self.old }
+        ensures front { IfSome result (λ x. self.old ≡ option_text modulation_text x ++ self.new) }
+    {
+        let Some(given) = self.read_bool() else {
+            return None;
+        };
+        if !given {
+            return Some(None);
+        }
+        let Some(value) = self.read_modulation() else {
+            return None;
+        };
+        Some(Some(value))
+    }
+
+    #[tactic(auto, unfolding(crate::specs::Reading::read_option))]
+    pub fn read_option_fec(&mut self) -> Option<Option<Fec>>
+        ensures read { behind result self.new ≡ read_option fec_read self.old }
+        ensures front { IfSome result (λ x. self.old ≡ option_text fec_text x ++ self.new) }
+    {
+        let Some(given) = self.read_bool() else {
+            return None;
+        };
+        if !given {
+            return Some(None);
+        }
+        let Some(value) = self.read_fec() else {
+            return None;
+        };
+        Some(Some(value))
+    }
+
+    #[tactic(auto, unfolding(crate::specs::Reading::read_id))]
+    pub fn read_id(&mut self) -> Option<SessionId>
+        ensures read { behind result self.new ≡ id_read self.old }
+        ensures front { IfSome result (λ x. self.old ≡ id_text x ++ self.new) }
+    {
+        let Some(count) = self.read_u32() else {
+            return None;
+        };
+        let Some(word) = self.read_u32() else {
+            return None;
+        };
+        Some(SessionId { count, word })
+    }
+
+    #[tactic(auto, unfolding(crate::specs::Reading::read_draw))]
+    pub fn read_draw(&mut self) -> Option<Draw>
+        ensures read { behind result self.new ≡ draw_read self.old }
+        ensures front { IfSome result (λ x. self.old ≡ draw_text x ++ self.new) }
+    {
+        let Some(word) = self.read_u32() else {
+            return None;
+        };
+        let Some(ssrc) = self.read_u32() else {
+            return None;
+        };
+        let Some(first) = self.read_u16() else {
+            return None;
+        };
+        Some(Draw { word, ssrc, first })
+    }
+
+    #[tactic(auto, unfolding(crate::specs::Reading::read_ports))]
+    pub fn read_ports(&mut self) -> Option<Ports>
+        ensures read { behind result self.new ≡ ports_read self.old }
+        ensures front { IfSome result (λ x. self.old ≡ ports_text x ++ self.new) }
+    {
+        let Some(rtp) = self.read_u16() else {
+            return None;
+        };
+        let Some(rtcp) = self.read_u16() else {
+            return None;
+        };
+        Some(Ports { rtp, rtcp })
+    }
+
+    #[tactic(auto, unfolding(crate::specs::Reading::read_change, crate::specs::Requests::change_text))]
+    pub fn read_change(&mut self) -> Option<Change>
+        ensures read { behind result self.new ≡ change_read self.old }
+        ensures front { IfSome result (λ x. self.old ≡ change_text x ++ self.new) }
+    {
+        let Some(fe) = self.read_option_u16() else {
+            return None;
+        };
+        let Some(src) = self.read_option_u8() else {
+            return None;
+        };
+        let Some(freq) = self.read_option_u32() else {
+            return None;
+        };
+        let Some(pol) = self.read_option_pol() else {
+            return None;
+        };
+        let Some(ro) = self.read_option_roll_off() else {
+            return None;
+        };
+        let Some(msys) = self.read_option_system() else {
+            return None;
+        };
+        let Some(mtype) = self.read_option_modulation() else {
+            return None;
+        };
+        let Some(plts) = self.read_option_bool() else {
+            return None;
+        };
+        let Some(sr) = self.read_option_u32() else {
+            return None;
+        };
+        let Some(fec) = self.read_option_fec() else {
+            return None;
+        };
+        Some(Change {
+            fe,
+            src,
+            freq,
+            pol,
+            ro,
+            msys,
+            mtype,
+            plts,
+            sr,
+            fec,
+        })
+    }
+}
