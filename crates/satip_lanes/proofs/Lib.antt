@@ -1,2 +1,3 @@
 pub mod RingLemmas
 pub mod FrameLemmas
+pub mod LaneLemmas

@@ -1,3 +1,6 @@
-pub mod Rings
 pub mod Frames
 pub mod Framed
+pub mod Lanes
+pub mod Rings
+pub mod Rooms
+pub mod Standing
