@@ -23,10 +23,10 @@ cut_joined ((b ∷ f) ∷ fs) (suc most) each fits =
     let all = (b ∷ f) ++ concat fs in
     let size : frame_size all ≡ length (b ∷ f) = frame_size-front (b ∷ f) (concat fs) each.0.head ∙ sym each.0.whole in
     ap₂ ◌∷◌
-      (ap (λ n. take n all) size ∙ take_at (b ∷ f) (concat fs) (length (b ∷ f)) refl)
-      (ap (λ n. cut_frames most (drop n all)) size
-      ∙ ap (cut_frames most) (drop_at (b ∷ f) (concat fs) (length (b ∷ f)) refl)
-      ∙ cut_joined fs most each.1 (omega (arith, fits, each.0.head, length-append (b ∷ f) (concat fs))))
+    (ap (λ n. take n all) size ∙ take_at (b ∷ f) (concat fs) (length (b ∷ f)) refl)
+    (ap (λ n. cut_frames most (drop n all)) size
+    ∙ ap (cut_frames most) (drop_at (b ∷ f) (concat fs) (length (b ∷ f)) refl)
+    ∙ cut_joined fs most each.1 (omega (arith, fits, each.0.head, length-append (b ∷ f) (concat fs))))
 
 pub frames_of-joined : (frames : List (List ℕ)) → AllFrames frames → frames_of (concat frames) ≡ frames
 frames_of-joined frames each = cut_joined frames (length (concat frames)) each (omega arith)
@@ -89,7 +89,7 @@ concat-first_later room (f ∷ fs) = each (leb (length f) room) (concat-first_la
         → concat (first_frames (room - length f) fs) ++ concat (later_frames (room - length f) fs) ≡ concat fs
         → concat (cond t (f ∷ first_frames (room - length f) fs) []) ++ concat (cond t (later_frames (room - length f) fs) (f ∷ fs)) ≡ f ++ concat fs
     each true rest = append_assoc f (concat (first_frames (room - length f) fs)) (concat (later_frames (room - length f) fs))
-      ∙ ap (λ bs. f ++ bs) rest
+        ∙ ap (λ bs. f ++ bs) rest
     each false rest = refl
 
 all_later : (room : ℕ) (frames : List (List ℕ)) → AllFrames frames → AllFrames (later_frames room frames)
@@ -193,7 +193,7 @@ past_more bytes count size past some is fits =
     let rest = drop count bytes in
     let front = front_past bytes count past some in
     let behind : drop (count + size) bytes ≡ drop (frame_size rest) rest =
-      ap (λ n. drop (count + n) bytes) is ∙ sym (drop-drop (frame_size rest) count bytes) in
+    ap (λ n. drop (count + n) bytes) is ∙ sym (drop-drop (frame_size rest) count bytes) in
     let left : 65536 - (count + size) ≡ (65536 - count) - frame_size rest = omega (arith, is) in
     let more = first_size_more (65536 - count) rest front (omega (arith, is, fits)) in
     let same = ap₂ first_size left behind in

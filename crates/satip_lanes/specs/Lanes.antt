@@ -55,8 +55,8 @@ is_channel_port port = nat_le 1 port && nat_le port 256
 abbrev pub put_in : ℕ → List ℕ → Lane → Lane
 put_in port bytes lane =
     if is_channel_port port && not lane.broken then
-        (if fits_behind lane.frames bytes then record lane { frames = lane.frames ++ frame (port - 1) bytes ∷ [] }
-        else record lane { broken = true })
+    (if fits_behind lane.frames bytes then record lane { frames = lane.frames ++ frame (port - 1) bytes ∷ [] }
+    else record lane { broken = true })
     else lane
 
 abbrev pub put_to : Address → List ℕ → PlainLanes → PlainLanes

@@ -81,7 +81,11 @@ impl Lane {
         if !self.frames.is_empty() {
             return Drained::Frames(self.frames.drain(out));
         }
-        if self.broken { Drained::Broken } else { Drained::Empty }
+        if self.broken {
+            Drained::Broken
+        } else {
+            Drained::Empty
+        }
     }
 }
 

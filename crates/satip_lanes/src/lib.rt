@@ -3,8 +3,12 @@
 
 mod lane;
 mod lanes;
+mod laws;
 mod queue;
 mod ring;
+#[cfg(test)]
+mod tests;
 
 pub use lane::Drained;
 pub use lanes::Lanes;
+pub use laws::{frames_keep_order, held_by_number, numbers_rise};

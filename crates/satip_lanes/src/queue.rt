@@ -70,7 +70,8 @@ impl Queue {
         if !fits(self.ring.len(), count) {
             return false;
         }
-        self.ring.push(&[b'$', channel, (count / 256) as u8, (count % 256) as u8]);
+        self.ring
+            .push(&[b'$', channel, (count / 256) as u8, (count % 256) as u8]);
         self.ring.push(datagram);
         true
     }

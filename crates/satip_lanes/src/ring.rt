@@ -101,7 +101,11 @@ fn place_behind(start: usize, count: usize) -> usize
     ensures within { result < 524288 }
 {
     let place = start + count;
-    if place < RING_BYTES { place } else { place - RING_BYTES }
+    if place < RING_BYTES {
+        place
+    } else {
+        place - RING_BYTES
+    }
 }
 
 // Writes a piece at a place that is counted from `start` on.

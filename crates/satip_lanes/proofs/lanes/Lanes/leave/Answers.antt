@@ -16,6 +16,6 @@ invariant_of-self c =
       room = omega (arith, sound.room, c.remove.ensures.capacity);
       queue_room = omega (arith, sound.queue_room, c.push_reserved.ensures.capacity);
       queues = subst (All (λ queue. queue ≡ [])) (sym c.push_reserved.ensures.items)
-        (All-push (λ queue. queue ≡ []) c.self.inside.spare.items c.into_queue.result sound.queues c.into_queue.ensures.empty);
+          (All-push (λ queue. queue ≡ []) c.self.inside.spare.items c.into_queue.result sound.queues c.into_queue.ensures.empty);
       all_queues = omega (arith, sound.all_queues, c.remove.ensures.len, c.push_reserved.ensures.len);
     }

@@ -14,6 +14,6 @@ returns c =
     let changed = c.put_at.ensures.changed nobody ∙ sym (stands.changed (put_in c.args.to.port c.args.datagram.now) nobody) in
     record {
       put = subst (λ (lanes : PlainLanes). record { given = c.self.inside.given; held = c.put_at.new.lanes.items } ≡ put_to c.args.to c.args.datagram.now lanes)
-        c.self.view_is
-        (ap (λ held. (let l : PlainLanes = record { given = c.self.inside.given; held = held } in l)) changed)
+          c.self.view_is
+          (ap (λ held. (let l : PlainLanes = record { given = c.self.inside.given; held = held } in l)) changed);
     }

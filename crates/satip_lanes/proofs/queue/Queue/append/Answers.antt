@@ -11,7 +11,7 @@ returns-then-not-fits-clause-fits c =
 pub returns-then-not-fits-clause-appended : goal.returns-then-not-fits-clause-appended
 returns-then-not-fits-clause-appended c =
     let no = fits_frames c.self.inside.ring c.args.datagram.now c.args.self.now c.len.result false c.self.invariant c.self.view_is c.len.ensures.count
-      c.if-not-fits.ensures.fits in
+    c.if-not-fits.ensures.fits in
     ap (λ b. cond b (c.args.self.now ++ frame c.args.channel c.args.datagram.now ∷ []) c.args.self.now) no
 
 pub invariant_of-self : goal.invariant_of-self
@@ -27,8 +27,8 @@ returns-clause-fits c =
 pub returns-clause-appended : goal.returns-clause-appended
 returns-clause-appended c =
     let yes = fits_frames c.self.inside.ring c.args.datagram.now c.args.self.now c.len.result true c.self.invariant c.self.view_is c.len.ensures.count
-      c.if-not-fits.ensures.fits in
+    c.if-not-fits.ensures.fits in
     let more = one_more_frame c.self.inside.ring c.push.new.self c.push-2.new.self c.args.channel c.args.datagram.now c.self.invariant
-      c.push.ensures.pushed c.push-2.ensures.pushed in
+    c.push.ensures.pushed c.push-2.ensures.pushed in
     more.frames ∙ ap (λ fs. fs ++ frame c.args.channel c.args.datagram.now ∷ []) c.self.view_is
     ∙ ap (λ b. cond b (c.args.self.now ++ frame c.args.channel c.args.datagram.now ∷ []) c.args.self.now) yes
