@@ -31,7 +31,7 @@ pub(crate) struct Lane {
 }
 
 impl Lane {
-    /// A lane of which nothing is known yet. The queue is empty.
+    /// The lane of a connection that just entered, with an empty queue.
     pub(crate) fn new(number: u32, frames: Queue) -> Lane
         requires empty { frames ≡ [] }
         ensures fresh { result ≡ fresh_lane number }
@@ -43,6 +43,7 @@ impl Lane {
         }
     }
 
+    /// The number that the connection was given.
     pub(crate) fn number(&self) -> u32
         ensures number { result ≡ self.now.number }
     {
