@@ -1,0 +1,4 @@
+pub mod RingLemmas
+pub mod FrameLemmas
+pub mod LaneLemmas
+pub mod LawLemmas
