@@ -1,9 +1,15 @@
 -- What the run of a command comes to, by its status.
-use Rattle.std.specs.Prelude.{◌≡◌, ℕ, ◌≤◌, ◌⊎◌, List, [], ◌∷◌, ◌++◌, length}
+use Rattle.std.specs.Prelude.{◌≡◌, ℕ, ◌+◌, ◌≤◌, ◌⊎◌, List, [], ◌∷◌, ◌++◌, length, Option, Some, IfSome, IsSomeAnd, MatchOption}
 use Rattle.satip_base.specs.Streams.{Feed, Drain, Rose}
+use Rattle.satip_world.specs.Counts.{Rises}
+use Rattle.satip_config.specs.declared.fault.ConfigFault.{ConfigFault}
 use Rattle.satip_history.specs.Lists.{Has}
+use Rattle.satip_replay.specs.Replays.{configuration_limit, Replayed}
+use Rattle.satip_replay.specs.Ends.{EndsByConfiguration, EndsByScript, EndsByInput, EndsByOutput, EndsByLength, EndsByWant}
+use Rattle.satip_program.specs.Commands.{configuration_line, script_line}
 use Rattle.satip_program.specs.Talk.{Answered}
-use Rattle.satip_program.specs.Outcomes.{input_limit, IsBroken, EndsEarly, ReadsInTime, NothingDone}
+use Rattle.satip_program.specs.Outcomes.{input_limit, IsBroken, EndsEarly, ReadsInTime, NothingDone, Says}
+use Rattle.satip_program.specs.Replaying.{Given, IsSettled}
 
 -- the statuses of a talk, of a replay and of a serve
 abbrev pub talk_statuses : List ℕ
@@ -42,3 +48,37 @@ pub record TalkEnds (in_tells out_tells : Type 0) (i j : Feed) (o n : Drain) (st
   -- where neither failed and the input is within the limit, all of it was answered, or there was no memory
   pub settled : in_tells → IsWithinLimit i.left → (Rose i.faults j.faults → ⊥) → (Rose o.faults n.faults → ⊥)
       → (status ≡ 0) ⊎ (status ≡ 70)
+
+-- a replay: the text of its configuration where the desk tells it, the desk's count of faults before and behind it, the
+-- source that the desk gave, if it gave one, as it is behind it, its input, its output and its errors before and behind
+-- it, and its status
+pub record ReplayEnds {C : Type 0} (config_tells in_tells out_tells error_tells : Type 0) (text : Option (List ℕ)) (before now : ℕ)
+    (view : C → Feed) (source : Option C) (i j : Feed) (o n e m : Drain) (status : ℕ) : Type 0 where
+  pub status_is : Has status replay_statuses
+  -- with 0 the printed run of the script was written, with 6 or 70 a beginning of it, and with any other status nothing
+  pub replayed : status ≡ 0 → IsSomeAnd source (λ s.
+      Given config_tells text (λ a. Replayed config_tells in_tells out_tells a (view s) i j o n))
+  pub replayed_partly : status ≡ 6 → IsSomeAnd source (λ s.
+      Given config_tells text (λ a. EndsByOutput config_tells in_tells out_tells a (view s) i j o n))
+  pub wants : status ≡ 70 → IsSomeAnd source (λ s.
+      Given config_tells text (λ a. EndsByWant config_tells in_tells out_tells a (view s) i j o n))
+  pub nothing_written : (status ≡ 0 → ⊥) → (status ≡ 6 → ⊥) → (status ≡ 70 → ⊥) → n ≡ o
+  -- with 5 the configuration or the input failed, and with 8 one byte of input too many was taken
+  pub input : status ≡ 5 → IfSome source (λ s.
+      Given config_tells text (λ a. EndsByInput config_tells a (view s) i j o n))
+  pub long : status ≡ 8 → IsSomeAnd source (λ s.
+      Given config_tells text (λ a. EndsByLength config_tells in_tells a (view s) i j o n))
+  -- with 3 the configuration has a fault, and with 4 the script has a wrong line, which is told
+  pub configuration : status ≡ 3 → (fault : ConfigFault) × Says error_tells e m (configuration_line fault)
+      × IsSomeAnd source (λ s.
+      Given config_tells text (λ a. EndsByConfiguration config_tells a (view s) i j o n fault))
+  pub script : status ≡ 4 → (number : ℕ) × Says error_tells e m (script_line number)
+      × IsSomeAnd source (λ s.
+      Given config_tells text (λ a. EndsByScript config_tells in_tells a (view s) i j o n number))
+  -- the configuration is given back as it was read, unless the desk failed to open it
+  pub config : MatchOption source (Rises before now) (λ _. now ≡ before)
+  pub config_limit : IfSome source (λ s.
+      Given config_tells text (λ a. (view s).taken ≤ a.taken + configuration_limit + 1))
+  -- where nothing failed the texts of the configuration and of the script say the status
+  pub settled : (told : List ℕ) → text ≡ Some told → in_tells → (Rose before now → ⊥)
+      → (IsSomeAnd source (λ s. Rose 0 (view s).faults) → ⊥) → (Rose i.faults j.faults → ⊥) → IsSettled told i.left status

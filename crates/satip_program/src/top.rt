@@ -6,8 +6,8 @@ ghost use Rattle.satip_base.specs.Streams.{Feed, Rose};
 ghost use Rattle.satip_world.specs.Counts.{Rises};
 ghost use Rattle.satip_config.specs.declared.fault.ConfigFault.{ConfigFault as Fault};
 ghost use Rattle.satip_replay.specs.Seen.{feed, drain};
-ghost use Rattle.satip_replay.specs.Replays.{configuration_limit, Replayed, Configured};
-ghost use Rattle.satip_replay.specs.Ends.{EndsByConfiguration, EndsByScript, EndsByInput, EndsByOutput, EndsByLength, EndsByWant, Refused};
+ghost use Rattle.satip_replay.specs.Replays.{Configured};
+ghost use Rattle.satip_replay.specs.Ends.{Refused};
 ghost use Rattle.satip_serve.specs.Done.{IsFull};
 ghost use Rattle.satip_serve.specs.ServeRuns.{ServeRun, HasFault};
 ghost use Rattle.satip_history.specs.Lists.{Each, Has};
@@ -19,10 +19,10 @@ ghost use Rattle.satip_serving.specs.Laws.{SendsSelected, ObeysOwners, TellsBusy
 ghost use Rattle.satip_serving.specs.Given.{jobs_view, ComeBack, ComeUnused};
 ghost use Rattle.satip_serving.specs.Servings.{GivenFrom, AreUnused, IsOneOf, IsNeitherOf, IsEndOfRun};
 ghost use Rattle.satip_program.specs.Serving.{serving_status, serving_line, IsServeSettled};
-ghost use Rattle.satip_program.specs.Commands.{serve_of, Talk, Replay, Help, Version, command_of, config_named, help, version, line_of, configuration_line, script_line};
-ghost use Rattle.satip_program.specs.Ends.{replay_statuses, serve_statuses, TalkEnds};
+ghost use Rattle.satip_program.specs.Commands.{serve_of, Talk, Replay, Help, Version, command_of, config_named, help, version, line_of, configuration_line};
+ghost use Rattle.satip_program.specs.Ends.{serve_statuses, TalkEnds, ReplayEnds};
 ghost use Rattle.satip_program.specs.Outcomes.{input_limit, line_for, NothingDone, PrintEnds, Shows, Says};
-ghost use Rattle.satip_program.specs.Replaying.{Given, RunEnds, ReplayRuns, IsSettled};
+ghost use Rattle.satip_program.specs.Replaying.{RunEnds, ReplayRuns};
 
 use crate::commands::{Command, Serve, read_serve, read_words};
 use crate::outcomes::Outcome;
@@ -56,9 +56,10 @@ const VERSION: &[u8] = b"satip 0.1.0\n";
 
 /// How a run ended.
 pub struct Ended<K: Desk> {
-    /// 0 where all went well; 2 where the words are in no form; 3 where the configuration has a fault, 4 where
-    /// the script has a wrong line; 5, 6 where the input, the output failed; 7 where the doors of a worker or
-    /// the desk failed; 8 where the input is too long; 9 where the history is full; 70 where there was no memory.
+    /// 0 where all went well; 2 where the words are in no form; 3 where the configuration has a
+    /// fault, 4 where the script has a wrong line; 5, 6 where the input, the output failed; 7 where
+    /// the doors of a worker or the desk failed; 8 where the input is too long; 9 where the history
+    /// is full; 70 where there was no memory.
     pub status: u8,
     /// The configuration that the desk gave, as far as it was read.
     pub config: Option<K::Config>,
@@ -98,100 +99,58 @@ pub fn satip<R: Threads + Wait + Sync, K: Desk, I: Source, O: Sink, E: Sink>(
     requires new { K.given desk.old ≡ None }
 
     // Which words there are, and what they do.
-    ensures usage { (result.status ≡ 2) ↔ ((command_of words.now ≡ None) × (serve_of words.now ≡ None)) }
+    ensures usage { (result.status ≡ 2)
+        ↔ ((command_of words.now ≡ None) × (serve_of words.now ≡ None)) }
     ensures unused { command_of words.now ≡ None → NothingDone
-        (feed I.left I.ended I.faults I.taken input.old) (feed I.left I.ended I.faults I.taken input.new)
+        (feed I.left I.ended I.faults I.taken input.old)
+        (feed I.left I.ended I.faults I.taken input.new)
         (drain O.sent O.faults output.old) (drain O.sent O.faults output.new) }
     ensures help { command_of words.now ≡ Some Help → Shows O.tells
-        (feed I.left I.ended I.faults I.taken input.old) (feed I.left I.ended I.faults I.taken input.new)
+        (feed I.left I.ended I.faults I.taken input.old)
+        (feed I.left I.ended I.faults I.taken input.new)
         (drain O.sent O.faults output.old) (drain O.sent O.faults output.new)
         help result.status }
     ensures version { command_of words.now ≡ Some Version → Shows O.tells
-        (feed I.left I.ended I.faults I.taken input.old) (feed I.left I.ended I.faults I.taken input.new)
+        (feed I.left I.ended I.faults I.taken input.old)
+        (feed I.left I.ended I.faults I.taken input.new)
         (drain O.sent O.faults output.old) (drain O.sent O.faults output.new)
         version result.status }
 
     // A talk: the replies to the whole input, or a beginning of the replies to what was taken.
     ensures talk { command_of words.now ≡ Some Talk → TalkEnds I.tells O.tells
-        (feed I.left I.ended I.faults I.taken input.old) (feed I.left I.ended I.faults I.taken input.new)
+        (feed I.left I.ended I.faults I.taken input.old)
+        (feed I.left I.ended I.faults I.taken input.new)
         (drain O.sent O.faults output.old) (drain O.sent O.faults output.new)
         result.status }
 
-    // A replay: the printed run of the script by the configuration that the desk gave, a beginning
-    // of it, or nothing.
-    ensures replayed { (name : List ℕ) → command_of words.now ≡ Some (Replay name) → result.status ≡ 0
-        → IsSomeAnd result.config (λ source.
-        Given K.Config.tells (K.text desk.old name) (λ before. Replayed K.Config.tells I.tells O.tells before
-        (feed K.Config.left K.Config.ended K.Config.faults K.Config.taken source)
-        (feed I.left I.ended I.faults I.taken input.old) (feed I.left I.ended I.faults I.taken input.new)
-        (drain O.sent O.faults output.old) (drain O.sent O.faults output.new))) }
-    ensures replayed_partly { (name : List ℕ) → command_of words.now ≡ Some (Replay name) → result.status ≡ 6
-        → IsSomeAnd result.config (λ source.
-        Given K.Config.tells (K.text desk.old name) (λ before. EndsByOutput K.Config.tells I.tells O.tells before
-        (feed K.Config.left K.Config.ended K.Config.faults K.Config.taken source)
-        (feed I.left I.ended I.faults I.taken input.old) (feed I.left I.ended I.faults I.taken input.new)
-        (drain O.sent O.faults output.old) (drain O.sent O.faults output.new))) }
-    ensures replay_wants { (name : List ℕ) → command_of words.now ≡ Some (Replay name) → result.status ≡ 70
-        → IsSomeAnd result.config (λ source.
-        Given K.Config.tells (K.text desk.old name) (λ before. EndsByWant K.Config.tells I.tells O.tells before
-        (feed K.Config.left K.Config.ended K.Config.faults K.Config.taken source)
-        (feed I.left I.ended I.faults I.taken input.old) (feed I.left I.ended I.faults I.taken input.new)
-        (drain O.sent O.faults output.old) (drain O.sent O.faults output.new))) }
-    ensures replay_input { (name : List ℕ) → command_of words.now ≡ Some (Replay name) → result.status ≡ 5
-        → IfSome result.config (λ source.
-        Given K.Config.tells (K.text desk.old name) (λ before. EndsByInput K.Config.tells before
-        (feed K.Config.left K.Config.ended K.Config.faults K.Config.taken source)
-        (feed I.left I.ended I.faults I.taken input.old) (feed I.left I.ended I.faults I.taken input.new)
-        (drain O.sent O.faults output.old) (drain O.sent O.faults output.new))) }
-    ensures replay_long { (name : List ℕ) → command_of words.now ≡ Some (Replay name) → result.status ≡ 8
-        → IsSomeAnd result.config (λ source.
-        Given K.Config.tells (K.text desk.old name) (λ before. EndsByLength K.Config.tells I.tells before
-        (feed K.Config.left K.Config.ended K.Config.faults K.Config.taken source)
-        (feed I.left I.ended I.faults I.taken input.old) (feed I.left I.ended I.faults I.taken input.new)
-        (drain O.sent O.faults output.old) (drain O.sent O.faults output.new))) }
-    ensures nothing_written { IsSome (config_named (command_of words.now))
-        → (result.status ≡ 0 → ⊥) → (result.status ≡ 6 → ⊥) → (result.status ≡ 70 → ⊥)
-        → drain O.sent O.faults output.new ≡ drain O.sent O.faults output.old }
+    // A replay of the script by the configuration that the desk gave.
+    ensures replay { (name : List ℕ) → command_of words.now ≡ Some (Replay name)
+        → ReplayEnds K.Config.tells I.tells O.tells E.tells
+        (K.text desk.old name) (K.faults desk.old) (K.faults desk.new)
+        (feed K.Config.left K.Config.ended K.Config.faults K.Config.taken) result.config
+        (feed I.left I.ended I.faults I.taken input.old)
+        (feed I.left I.ended I.faults I.taken input.new)
+        (drain O.sent O.faults output.old) (drain O.sent O.faults output.new)
+        (drain E.sent E.faults errors.old) (drain E.sent E.faults errors.new)
+        result.status }
 
-    // The configuration is given back as it was read.
-    ensures config { IsSome (config_named (command_of words.now))
-        → MatchOption result.config (Rises (K.faults desk.old) (K.faults desk.new)) (λ _. K.faults desk.new ≡ K.faults desk.old) }
-    ensures config_limit { (name : List ℕ) → command_of words.now ≡ Some (Replay name) → IfSome result.config (λ source.
-        Given K.Config.tells (K.text desk.old name) (λ before. K.Config.taken source ≤ before.taken + configuration_limit + 1)) }
-    ensures no_config { serve_of words.now ≡ None → config_named (command_of words.now) ≡ None → IsNone result.config }
-    ensures desk { serve_of words.now ≡ None → config_named (command_of words.now) ≡ None → desk.new ≡ desk.old }
+    // Only what names a configuration opens one, or asks anything of the desk.
+    ensures no_config { serve_of words.now ≡ None → config_named (command_of words.now) ≡ None
+        → IsNone result.config }
+    ensures desk { serve_of words.now ≡ None → config_named (command_of words.now) ≡ None
+        → desk.new ≡ desk.old }
     ensures texts { K.text desk.new ≡ K.text desk.old }
 
     // When each status comes.
-    ensures replay_status { (name : List ℕ) → command_of words.now ≡ Some (Replay name) → Has result.status replay_statuses }
-    ensures configuration { serve_of words.now ≡ None → result.status ≡ 3 → (name : List ℕ) × (fault : Fault)
-        × (command_of words.now ≡ Some (Replay name))
-        × Says E.tells (drain E.sent E.faults errors.old) (drain E.sent E.faults errors.new) (configuration_line fault)
-        × IsSomeAnd result.config (λ source.
-        Given K.Config.tells (K.text desk.old name) (λ before. EndsByConfiguration K.Config.tells before
-        (feed K.Config.left K.Config.ended K.Config.faults K.Config.taken source)
-        (feed I.left I.ended I.faults I.taken input.old) (feed I.left I.ended I.faults I.taken input.new)
-        (drain O.sent O.faults output.old) (drain O.sent O.faults output.new) fault)) }
-    ensures script { result.status ≡ 4 → (name : List ℕ) × (number : ℕ)
-        × (command_of words.now ≡ Some (Replay name))
-        × Says E.tells (drain E.sent E.faults errors.old) (drain E.sent E.faults errors.new) (script_line number)
-        × IsSomeAnd result.config (λ source.
-        Given K.Config.tells (K.text desk.old name) (λ before. EndsByScript K.Config.tells I.tells before
-        (feed K.Config.left K.Config.ended K.Config.faults K.Config.taken source)
-        (feed I.left I.ended I.faults I.taken input.old) (feed I.left I.ended I.faults I.taken input.new)
-        (drain O.sent O.faults output.old) (drain O.sent O.faults output.new) number)) }
+    ensures configuration { serve_of words.now ≡ None → result.status ≡ 3
+        → IsSome (config_named (command_of words.now)) }
+    ensures script { result.status ≡ 4 → IsSome (config_named (command_of words.now)) }
     ensures input_fault { result.status ≡ 5 → Rose (K.faults desk.old) (K.faults desk.new)
         ⊎ IsSomeAnd result.config (λ source. Rose 0 (K.Config.faults source))
         ⊎ Rose (I.faults input.old) (I.faults input.new) }
     ensures output_fault { result.status ≡ 6 → Rose (O.faults output.old) (O.faults output.new) }
     ensures too_long { (result.status ≡ 8) ↔ (input_limit < I.taken input.new - I.taken input.old) }
     ensures limit { I.taken input.new ≤ I.taken input.old + input_limit + 1 }
-    ensures settled_replay { (name : List ℕ) (text : List ℕ) → command_of words.now ≡ Some (Replay name)
-        → K.text desk.old name ≡ Some text → I.tells
-        → (Rose (K.faults desk.old) (K.faults desk.new) → ⊥)
-        → (IsSomeAnd result.config (λ source. Rose 0 (K.Config.faults source)) → ⊥)
-        → (Rose (I.faults input.old) (I.faults input.new) → ⊥)
-        → IsSettled text (I.left input.old) result.status }
 
     // A serve: the jobs ran by the configuration of the desk's text, over one history that keeps
     // the laws.
@@ -343,64 +302,39 @@ pub fn offline<K: Desk, I: Source, O: Sink, E: Sink>(
     // Which words there are, and what they do.
     ensures usage { (result.status ≡ 2) ↔ (command_of words.now ≡ None) }
     ensures unused { command_of words.now ≡ None → NothingDone
-        (feed I.left I.ended I.faults I.taken input.old) (feed I.left I.ended I.faults I.taken input.new)
+        (feed I.left I.ended I.faults I.taken input.old)
+        (feed I.left I.ended I.faults I.taken input.new)
         (drain O.sent O.faults output.old) (drain O.sent O.faults output.new) }
     ensures help { command_of words.now ≡ Some Help → Shows O.tells
-        (feed I.left I.ended I.faults I.taken input.old) (feed I.left I.ended I.faults I.taken input.new)
+        (feed I.left I.ended I.faults I.taken input.old)
+        (feed I.left I.ended I.faults I.taken input.new)
         (drain O.sent O.faults output.old) (drain O.sent O.faults output.new)
         help result.status }
     ensures version { command_of words.now ≡ Some Version → Shows O.tells
-        (feed I.left I.ended I.faults I.taken input.old) (feed I.left I.ended I.faults I.taken input.new)
+        (feed I.left I.ended I.faults I.taken input.old)
+        (feed I.left I.ended I.faults I.taken input.new)
         (drain O.sent O.faults output.old) (drain O.sent O.faults output.new)
         version result.status }
 
     // A talk: the replies to the whole input, or a beginning of the replies to what was taken.
     ensures talk { command_of words.now ≡ Some Talk → TalkEnds I.tells O.tells
-        (feed I.left I.ended I.faults I.taken input.old) (feed I.left I.ended I.faults I.taken input.new)
+        (feed I.left I.ended I.faults I.taken input.old)
+        (feed I.left I.ended I.faults I.taken input.new)
         (drain O.sent O.faults output.old) (drain O.sent O.faults output.new)
         result.status }
 
-    // A replay: the printed run of the script by the configuration that the desk gave, a beginning
-    // of it, or nothing.
-    ensures replayed { (name : List ℕ) → command_of words.now ≡ Some (Replay name) → result.status ≡ 0
-        → IsSomeAnd result.config (λ source.
-        Given K.Config.tells (K.text desk.old name) (λ before. Replayed K.Config.tells I.tells O.tells before
-        (feed K.Config.left K.Config.ended K.Config.faults K.Config.taken source)
-        (feed I.left I.ended I.faults I.taken input.old) (feed I.left I.ended I.faults I.taken input.new)
-        (drain O.sent O.faults output.old) (drain O.sent O.faults output.new))) }
-    ensures replayed_partly { (name : List ℕ) → command_of words.now ≡ Some (Replay name) → result.status ≡ 6
-        → IsSomeAnd result.config (λ source.
-        Given K.Config.tells (K.text desk.old name) (λ before. EndsByOutput K.Config.tells I.tells O.tells before
-        (feed K.Config.left K.Config.ended K.Config.faults K.Config.taken source)
-        (feed I.left I.ended I.faults I.taken input.old) (feed I.left I.ended I.faults I.taken input.new)
-        (drain O.sent O.faults output.old) (drain O.sent O.faults output.new))) }
-    ensures replay_wants { (name : List ℕ) → command_of words.now ≡ Some (Replay name) → result.status ≡ 70
-        → IsSomeAnd result.config (λ source.
-        Given K.Config.tells (K.text desk.old name) (λ before. EndsByWant K.Config.tells I.tells O.tells before
-        (feed K.Config.left K.Config.ended K.Config.faults K.Config.taken source)
-        (feed I.left I.ended I.faults I.taken input.old) (feed I.left I.ended I.faults I.taken input.new)
-        (drain O.sent O.faults output.old) (drain O.sent O.faults output.new))) }
-    ensures replay_input { (name : List ℕ) → command_of words.now ≡ Some (Replay name) → result.status ≡ 5
-        → IfSome result.config (λ source.
-        Given K.Config.tells (K.text desk.old name) (λ before. EndsByInput K.Config.tells before
-        (feed K.Config.left K.Config.ended K.Config.faults K.Config.taken source)
-        (feed I.left I.ended I.faults I.taken input.old) (feed I.left I.ended I.faults I.taken input.new)
-        (drain O.sent O.faults output.old) (drain O.sent O.faults output.new))) }
-    ensures replay_long { (name : List ℕ) → command_of words.now ≡ Some (Replay name) → result.status ≡ 8
-        → IsSomeAnd result.config (λ source.
-        Given K.Config.tells (K.text desk.old name) (λ before. EndsByLength K.Config.tells I.tells before
-        (feed K.Config.left K.Config.ended K.Config.faults K.Config.taken source)
-        (feed I.left I.ended I.faults I.taken input.old) (feed I.left I.ended I.faults I.taken input.new)
-        (drain O.sent O.faults output.old) (drain O.sent O.faults output.new))) }
-    ensures nothing_written { IsSome (config_named (command_of words.now))
-        → (result.status ≡ 0 → ⊥) → (result.status ≡ 6 → ⊥) → (result.status ≡ 70 → ⊥)
-        → drain O.sent O.faults output.new ≡ drain O.sent O.faults output.old }
+    // A replay of the script by the configuration that the desk gave.
+    ensures replay { (name : List ℕ) → command_of words.now ≡ Some (Replay name)
+        → ReplayEnds K.Config.tells I.tells O.tells E.tells
+        (K.text desk.old name) (K.faults desk.old) (K.faults desk.new)
+        (feed K.Config.left K.Config.ended K.Config.faults K.Config.taken) result.config
+        (feed I.left I.ended I.faults I.taken input.old)
+        (feed I.left I.ended I.faults I.taken input.new)
+        (drain O.sent O.faults output.old) (drain O.sent O.faults output.new)
+        (drain E.sent E.faults errors.old) (drain E.sent E.faults errors.new)
+        result.status }
 
-    // The configuration is given back as it was read.
-    ensures config { IsSome (config_named (command_of words.now))
-        → MatchOption result.config (Rises (K.faults desk.old) (K.faults desk.new)) (λ _. K.faults desk.new ≡ K.faults desk.old) }
-    ensures config_limit { (name : List ℕ) → command_of words.now ≡ Some (Replay name) → IfSome result.config (λ source.
-        Given K.Config.tells (K.text desk.old name) (λ before. K.Config.taken source ≤ before.taken + configuration_limit + 1)) }
+    // Only what names a configuration opens one, or asks anything of the desk.
     ensures no_config { config_named (command_of words.now) ≡ None → IsNone result.config }
     ensures desk { config_named (command_of words.now) ≡ None → desk.new ≡ desk.old }
     ensures texts { K.text desk.new ≡ K.text desk.old }
@@ -412,35 +346,14 @@ pub fn offline<K: Desk, I: Source, O: Sink, E: Sink>(
     ensures no_serving { (result.status ≡ 7 → ⊥) × (result.status ≡ 9 → ⊥) }
 
     // When each status comes.
-    ensures replay_status { (name : List ℕ) → command_of words.now ≡ Some (Replay name) → Has result.status replay_statuses }
-    ensures configuration { result.status ≡ 3 → (name : List ℕ) × (fault : Fault)
-        × (command_of words.now ≡ Some (Replay name))
-        × Says E.tells (drain E.sent E.faults errors.old) (drain E.sent E.faults errors.new) (configuration_line fault)
-        × IsSomeAnd result.config (λ source.
-        Given K.Config.tells (K.text desk.old name) (λ before. EndsByConfiguration K.Config.tells before
-        (feed K.Config.left K.Config.ended K.Config.faults K.Config.taken source)
-        (feed I.left I.ended I.faults I.taken input.old) (feed I.left I.ended I.faults I.taken input.new)
-        (drain O.sent O.faults output.old) (drain O.sent O.faults output.new) fault)) }
-    ensures script { result.status ≡ 4 → (name : List ℕ) × (number : ℕ)
-        × (command_of words.now ≡ Some (Replay name))
-        × Says E.tells (drain E.sent E.faults errors.old) (drain E.sent E.faults errors.new) (script_line number)
-        × IsSomeAnd result.config (λ source.
-        Given K.Config.tells (K.text desk.old name) (λ before. EndsByScript K.Config.tells I.tells before
-        (feed K.Config.left K.Config.ended K.Config.faults K.Config.taken source)
-        (feed I.left I.ended I.faults I.taken input.old) (feed I.left I.ended I.faults I.taken input.new)
-        (drain O.sent O.faults output.old) (drain O.sent O.faults output.new) number)) }
+    ensures configuration { result.status ≡ 3 → IsSome (config_named (command_of words.now)) }
+    ensures script { result.status ≡ 4 → IsSome (config_named (command_of words.now)) }
     ensures input_fault { result.status ≡ 5 → Rose (K.faults desk.old) (K.faults desk.new)
         ⊎ IsSomeAnd result.config (λ source. Rose 0 (K.Config.faults source))
         ⊎ Rose (I.faults input.old) (I.faults input.new) }
     ensures output_fault { result.status ≡ 6 → Rose (O.faults output.old) (O.faults output.new) }
     ensures too_long { (result.status ≡ 8) ↔ (input_limit < I.taken input.new - I.taken input.old) }
     ensures limit { I.taken input.new ≤ I.taken input.old + input_limit + 1 }
-    ensures settled_replay { (name : List ℕ) (text : List ℕ) → command_of words.now ≡ Some (Replay name)
-        → K.text desk.old name ≡ Some text → I.tells
-        → (Rose (K.faults desk.old) (K.faults desk.new) → ⊥)
-        → (IsSomeAnd result.config (λ source. Rose 0 (K.Config.faults source)) → ⊥)
-        → (Rose (I.faults input.old) (I.faults input.new) → ⊥)
-        → IsSettled text (I.left input.old) result.status }
 
     // What is told of it.
     ensures errors { (result.status ≡ 3 → ⊥) → (result.status ≡ 4 → ⊥) → Says E.tells
@@ -464,8 +377,10 @@ fn run<K: Desk, I: Source, O: Sink>(
     output: &mut O,
     desk: &mut K,
 ) -> Ending<K>
-    ensures ends { RunEnds K.Config.tells I.tells O.tells (K.text desk.old) (K.faults desk.old) (K.faults desk.new)
-        (feed I.left I.ended I.faults I.taken input.old) (feed I.left I.ended I.faults I.taken input.new)
+    ensures ends { RunEnds K.Config.tells I.tells O.tells
+        (K.text desk.old) (K.faults desk.old) (K.faults desk.new)
+        (feed I.left I.ended I.faults I.taken input.old)
+        (feed I.left I.ended I.faults I.taken input.new)
         (drain O.sent O.faults output.old) (drain O.sent O.faults output.new)
         (command_of words.now)
         (option_map (feed K.Config.left K.Config.ended K.Config.faults K.Config.taken) result.config)
@@ -503,8 +418,10 @@ fn replay_by<K: Desk, I: Source, O: Sink>(
     output: &mut O,
     desk: &mut K,
 ) -> Ending<K>
-    ensures runs { ReplayRuns K.Config.tells I.tells O.tells (K.text desk.old name.now) (K.faults desk.old) (K.faults desk.new)
-        (feed I.left I.ended I.faults I.taken input.old) (feed I.left I.ended I.faults I.taken input.new)
+    ensures runs { ReplayRuns K.Config.tells I.tells O.tells
+        (K.text desk.old name.now) (K.faults desk.old) (K.faults desk.new)
+        (feed I.left I.ended I.faults I.taken input.old)
+        (feed I.left I.ended I.faults I.taken input.new)
         (drain O.sent O.faults output.old) (drain O.sent O.faults output.new)
         (option_map (feed K.Config.left K.Config.ended K.Config.faults K.Config.taken) result.config)
         result.outcome }
