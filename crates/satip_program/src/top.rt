@@ -1,14 +1,12 @@
 //! The top call: what the program does with its words, its input, its output, its errors and its
 //! desk.
 
-ghost use Rattle.std.specs.Prelude.{◌≡◌, ◌↔◌, ◌⊎◌, ℕ, ◌+◌, ◌-◌, ◌<◌, ◌≤◌, List, Some, None, option_map, IsSome, IsNone, IfSome, IsSomeAnd, MatchOption};
+ghost use Rattle.std.specs.Prelude.{◌≡◌, ◌↔◌, ◌⊎◌, ℕ, ◌+◌, ◌-◌, ◌<◌, ◌≤◌, List, Some, None, option_map, IsSome, IsNone, IfSome, IsSomeAnd};
 ghost use Rattle.satip_base.specs.Streams.{Feed, Rose};
-ghost use Rattle.satip_world.specs.Counts.{Rises};
-ghost use Rattle.satip_history.specs.Lists.{Has};
 ghost use Rattle.satip_replay.specs.Seen.{feed, drain};
 ghost use Rattle.satip_serving.specs.Given.{jobs_view};
 ghost use Rattle.satip_program.specs.Commands.{serve_of, Talk, Replay, Help, Version, command_of, config_named, help, version, line_of};
-ghost use Rattle.satip_program.specs.Ends.{serve_statuses, TalkEnds, ReplayEnds, ServeEnds};
+ghost use Rattle.satip_program.specs.Ends.{TalkEnds, ReplayEnds, ServeEnds};
 ghost use Rattle.satip_program.specs.Outcomes.{input_limit, NothingDone, PrintEnds, Shows, Says};
 ghost use Rattle.satip_program.specs.Replaying.{RunEnds, ReplayRuns};
 
@@ -187,10 +185,6 @@ fn run_serve<R: Threads + Wait + Sync, K: Desk, E: Sink>(
         (K.given desk.new) result.last result.unused
         (drain E.sent E.faults errors.old) (drain E.sent E.faults errors.new)
         result.status }
-    ensures status_is { Has result.status serve_statuses }
-    ensures input { (result.status ≡ 5)
-        ↔ MatchOption result.config (Rises (K.faults desk.old) (K.faults desk.new))
-        (λ source. Rose 0 (K.Config.faults source)) }
     ensures errors { (result.status ≡ 3 → ⊥) → Says E.tells
         (drain E.sent E.faults errors.old) (drain E.sent E.faults errors.new)
         (line_of result.status) }

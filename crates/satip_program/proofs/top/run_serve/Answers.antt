@@ -41,14 +41,6 @@ returns-clause-ends g c = record {
   history_full = λ is. c.serve_by-end.ensures.history_full (ends_by_full c.serve_by-end.result.end (sym c.status_of_serving.ensures.status ∙ is));
 }
 
-pub returns-clause-status_is : goal.returns-clause-status_is
-returns-clause-status_is g c = serve_has c.serve_by-end.result.end _ c.status_of_serving.ensures.status
-
-pub returns-clause-input : goal.returns-clause-input
-returns-clause-input g c =
-    input_told c.serve_by-end.result.config g.K.Config.Source.faults _ c.serve_by-end.result.end _ c.status_of_serving.ensures.status
-    c.serve_by-end.ensures.input_fault c.serve_by-end.ensures.read_through
-
 pub returns-clause-errors : goal.returns-clause-errors
 returns-clause-errors g c = λ other.
     line_told
