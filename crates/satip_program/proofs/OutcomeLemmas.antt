@@ -1,5 +1,5 @@
 -- What each outcome tells.
-use Rattle.std.proofs.Common.{◌≡◌, ℕ, ◌≤◌, List, [], append-nil, refl, sym, ◌∙◌, ap, subst, arith, Option, Some, None, option_map, IsSomeAnd}
+use Rattle.std.proofs.Common.{◌≡◌, ℕ, ◌≤◌, List, [], append-nil, refl, sym, ◌∙◌, ap, subst, arith, Option, Some, None, IsSome}
 use Rattle.satip_base.specs.Streams.{Feed, Drain}
 use Rattle.satip_config.specs.declared.fault.ConfigFault.{ConfigFault}
 use Rattle.satip_replay.specs.Replays.{Replayed}
@@ -7,11 +7,11 @@ use Rattle.satip_replay.specs.Ends.{ReplayEnds, EndsByConfiguration, EndsByScrip
 use Rattle.satip_replay.specs.declared.ends.ReplayEnd.{ReplayEnd}
 use Rattle.satip_replay.specs.declared.ends.ReplayEnd.TheVariants as ends
 use Rattle.satip_program.proofs.TalkLemmas.{part_of_first}
-use Rattle.satip_program.specs.Commands.{Form, Talk, Replay, Help, Version, help, version, configuration_line, script_line}
+use Rattle.satip_program.specs.Commands.{Form, Talk, Replay, Help, Version, config_named, help, version}
 use Rattle.satip_program.specs.declared.outcomes.Outcome.{Outcome}
 use Rattle.satip_program.specs.declared.outcomes.Outcome.TheVariants.{Done, Usage, Configuration, Script, InputFault, OutputFault, TooLong, OutOfMemory}
-use Rattle.satip_program.specs.Outcomes.{status_of, line_for, outcome_of, TalkRuns, EndsEarly, NothingDone, PrintEnds}
-use Rattle.satip_program.specs.Replaying.{Given, Unopened, ReplayRuns, RunEnds}
+use Rattle.satip_program.specs.Outcomes.{status_of, TalkRuns, EndsEarly, NothingDone, PrintEnds}
+use Rattle.satip_program.specs.Replaying.{ReplayRuns, RunEnds}
 
 -- nothing is a beginning
 early_from_nothing : (in_tells out_tells : Type 0) (i j : Feed) (o n : Drain) → NothingDone i j o n → EndsEarly in_tells out_tells i j o n
@@ -98,7 +98,7 @@ print_status ot i j o n text TooLong status ends least most is = absurd ends
 print_status ot i j o n text OutOfMemory status ends least most is = absurd ends
 
 -- a run with such a status is that of a replay
-pub record IsReplay (ct it ot : Type 0) (text : List ℕ → Option (List ℕ)) (before now : ℕ) (i j : Feed) (o n : Drain) (form : Option Form) (config : Option Feed) (outcome : Outcome) : Type 0 where
+record IsReplay (ct it ot : Type 0) (text : List ℕ → Option (List ℕ)) (before now : ℕ) (i j : Feed) (o n : Drain) (form : Option Form) (config : Option Feed) (outcome : Outcome) : Type 0 where
   pub name : List ℕ
   pub named : form ≡ Some (Replay name)
   pub runs : ReplayRuns ct it ot (text name) before now i j o n config outcome
@@ -119,90 +119,10 @@ replay_of ct it ot text before now i j o n (Some Help) config outcome status end
 replay_of ct it ot text before now i j o n (Some Version) config outcome status ends least most is =
     absurd (print_status ot i j o n version outcome status ends least most is)
 
--- the status is that of the end
-status_told : (outcome other : Outcome) (status : ℕ) → outcome ≡ other → status_of outcome ≡ status → status_of other ≡ status
-status_told outcome other status told is = sym (ap (λ (x : Outcome). status_of x) told) ∙ is
-
--- the configuration has a fault, which is told
-abbrev pub FaultTold : (Line : List ℕ → Type 0) (ct : Type 0) (a b i j : Feed) (o n : Drain) → Type 0
-FaultTold Line ct a b i j o n = (fault : ConfigFault) × Line (configuration_line fault) × EndsByConfiguration ct a b i j o n fault
-
-fault_told : (Line : List ℕ → Type 0) (ct it ot : Type 0) (a b i j : Feed) (o n : Drain) (outcome : Outcome) (ending : ReplayEnd)
-    → outcome ≡ outcome_of ending → ReplayEnds ct it ot a b i j o n ending → status_of outcome ≡ 3 → Line (line_for outcome)
-    → FaultTold Line ct a b i j o n
-fault_told Line ct it ot a b i j o n outcome (ends.Configuration fault) told ends is line =
-    let L : Outcome → Type 0 = λ x. Line (line_for x) in
-    (fault, subst L told line, ends)
-fault_told Line ct it ot a b i j o n outcome ends.Done told ends is line = absurd (cc (status_told outcome Done 3 told is))
-fault_told Line ct it ot a b i j o n outcome (ends.Script number) told ends is line = absurd (cc (status_told outcome (Script number) 3 told is))
-fault_told Line ct it ot a b i j o n outcome ends.InputFault told ends is line = absurd (cc (status_told outcome InputFault 3 told is))
-fault_told Line ct it ot a b i j o n outcome ends.OutputFault told ends is line = absurd (cc (status_told outcome OutputFault 3 told is))
-fault_told Line ct it ot a b i j o n outcome ends.TooLong told ends is line = absurd (cc (status_told outcome TooLong 3 told is))
-fault_told Line ct it ot a b i j o n outcome ends.OutOfMemory told ends is line = absurd (cc (status_told outcome OutOfMemory 3 told is))
-
--- the script has a wrong line, which is told
-abbrev pub LineTold : (Line : List ℕ → Type 0) (ct it : Type 0) (a b i j : Feed) (o n : Drain) → Type 0
-LineTold Line ct it a b i j o n = (number : ℕ) × Line (script_line number) × EndsByScript ct it a b i j o n number
-
-line_told : (Line : List ℕ → Type 0) (ct it ot : Type 0) (a b i j : Feed) (o n : Drain) (outcome : Outcome) (ending : ReplayEnd)
-    → outcome ≡ outcome_of ending → ReplayEnds ct it ot a b i j o n ending → status_of outcome ≡ 4 → Line (line_for outcome)
-    → LineTold Line ct it a b i j o n
-line_told Line ct it ot a b i j o n outcome (ends.Script number) told ends is line =
-    let L : Outcome → Type 0 = λ x. Line (line_for x) in
-    (number, subst L told line, ends)
-line_told Line ct it ot a b i j o n outcome ends.Done told ends is line = absurd (cc (status_told outcome Done 4 told is))
-line_told Line ct it ot a b i j o n outcome (ends.Configuration fault) told ends is line = absurd (cc (status_told outcome (Configuration fault) 4 told is))
-line_told Line ct it ot a b i j o n outcome ends.InputFault told ends is line = absurd (cc (status_told outcome InputFault 4 told is))
-line_told Line ct it ot a b i j o n outcome ends.OutputFault told ends is line = absurd (cc (status_told outcome OutputFault 4 told is))
-line_told Line ct it ot a b i j o n outcome ends.TooLong told ends is line = absurd (cc (status_told outcome TooLong 4 told is))
-line_told Line ct it ot a b i j o n outcome ends.OutOfMemory told ends is line = absurd (cc (status_told outcome OutOfMemory 4 told is))
-
--- where the desk gave no configuration the status is 5
-unopened_status : (before now : ℕ) (i j : Feed) (o n : Drain) (outcome : Outcome) → Unopened before now i j o n outcome → status_of outcome ≡ 5
-unopened_status before now i j o n outcome unopened = ap (λ (x : Outcome). status_of x) unopened.told
-
--- status 3: the configuration that the desk gave has a fault
-fault_given : {C : Type 0} (f : C → Feed) (Line : List ℕ → Type 0) (ct it ot : Type 0) (text : Option (List ℕ)) (before now : ℕ) (i j : Feed) (o n : Drain) (config : Option C) (outcome : Outcome)
-    → ReplayRuns ct it ot text before now i j o n (option_map f config) outcome → status_of outcome ≡ 3 → Line (line_for outcome)
-    → (fault : ConfigFault) × Line (configuration_line fault)
-    × IsSomeAnd config (λ source. Given ct text (λ a. EndsByConfiguration ct a (f source) i j o n fault))
-fault_given f Line ct it ot text before now i j o n None outcome runs is line =
-    let five = unopened_status before now i j o n outcome runs in
-    let none : ⊥ = omega (arith, five, is) in
-    absurd none
-fault_given f Line ct it ot text before now i j o n (Some source) outcome runs is line =
-    let given = runs.given in
-    let told = fault_told Line ct it ot given.source (f source) i j o n outcome given.said.ending given.said.told given.said.ends is line in
-    (told.0, told.1, record { source = given.source; started = given.started; said = told.2 })
-
-pub run_faults : {C : Type 0} (f : C → Feed) (Line : List ℕ → Type 0) (ct it ot : Type 0) (text : List ℕ → Option (List ℕ)) (before now : ℕ) (i j : Feed) (o n : Drain) (form : Option Form) (config : Option C) (outcome : Outcome)
-    → RunEnds ct it ot text before now i j o n form (option_map f config) outcome → status_of outcome ≡ 3 → Line (line_for outcome)
-    → (name : List ℕ) × (fault : ConfigFault) × (form ≡ Some (Replay name)) × Line (configuration_line fault)
-    × IsSomeAnd config (λ source. Given ct (text name) (λ a. EndsByConfiguration ct a (f source) i j o n fault))
-run_faults f Line ct it ot text before now i j o n form config outcome ends is line =
-    let replay = replay_of ct it ot text before now i j o n form (option_map f config) outcome 3 ends (omega arith) (omega arith) is in
-    let given = fault_given f Line ct it ot (text replay.name) before now i j o n config outcome replay.runs is line in
-    (replay.name, given.0, replay.named, given.1, given.2)
-
--- status 4: the script has a wrong line
-line_given : {C : Type 0} (f : C → Feed) (Line : List ℕ → Type 0) (ct it ot : Type 0) (text : Option (List ℕ)) (before now : ℕ) (i j : Feed) (o n : Drain) (config : Option C) (outcome : Outcome)
-    → ReplayRuns ct it ot text before now i j o n (option_map f config) outcome → status_of outcome ≡ 4 → Line (line_for outcome)
-    → (number : ℕ) × Line (script_line number)
-    × IsSomeAnd config (λ source. Given ct text (λ a. EndsByScript ct it a (f source) i j o n number))
-line_given f Line ct it ot text before now i j o n None outcome runs is line =
-    let five = unopened_status before now i j o n outcome runs in
-    let none : ⊥ = omega (arith, five, is) in
-    absurd none
-line_given f Line ct it ot text before now i j o n (Some source) outcome runs is line =
-    let given = runs.given in
-    let told = line_told Line ct it ot given.source (f source) i j o n outcome given.said.ending given.said.told given.said.ends is line in
-    (told.0, told.1, record { source = given.source; started = given.started; said = told.2 })
-
-pub run_wrongs : {C : Type 0} (f : C → Feed) (Line : List ℕ → Type 0) (ct it ot : Type 0) (text : List ℕ → Option (List ℕ)) (before now : ℕ) (i j : Feed) (o n : Drain) (form : Option Form) (config : Option C) (outcome : Outcome)
-    → RunEnds ct it ot text before now i j o n form (option_map f config) outcome → status_of outcome ≡ 4 → Line (line_for outcome)
-    → (name : List ℕ) × (number : ℕ) × (form ≡ Some (Replay name)) × Line (script_line number)
-    × IsSomeAnd config (λ source. Given ct (text name) (λ a. EndsByScript ct it a (f source) i j o n number))
-run_wrongs f Line ct it ot text before now i j o n form config outcome ends is line =
-    let replay = replay_of ct it ot text before now i j o n form (option_map f config) outcome 4 ends (omega arith) (omega arith) is in
-    let given = line_given f Line ct it ot (text replay.name) before now i j o n config outcome replay.runs is line in
-    (replay.name, given.0, replay.named, given.1, given.2)
+-- a run with such a status asks for a configuration
+pub run_named : (ct it ot : Type 0) (text : List ℕ → Option (List ℕ)) (before now : ℕ) (i j : Feed) (o n : Drain) (form : Option Form) (config : Option Feed) (outcome : Outcome) (status : ℕ)
+    → RunEnds ct it ot text before now i j o n form config outcome → 3 ≤ status → status ≤ 4 → status_of outcome ≡ status → IsSome (config_named form)
+run_named ct it ot text before now i j o n form config outcome status ends least most is =
+    let replay = replay_of ct it ot text before now i j o n form config outcome status ends least most is in
+    let P : Option Form → Type 0 = λ f. IsSome (config_named f) in
+    subst P (sym replay.named) refl

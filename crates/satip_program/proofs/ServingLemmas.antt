@@ -4,11 +4,11 @@ use Rattle.satip_base.specs.Streams.{Rose}
 use Rattle.satip_history.specs.Lists.{Has}
 use Rattle.satip_program.specs.Ends.{serve_statuses}
 use Rattle.satip_world.specs.Counts.{Rises}
-use Rattle.satip_serving.specs.Servings.{IsServingOf}
+use Rattle.satip_serving.specs.Servings.{IsServingOf, IsEndOfRun}
 use Rattle.satip_config.specs.declared.fault.ConfigFault.{ConfigFault}
 use Rattle.satip_serving.specs.declared.serving.ServingEnd.{ServingEnd}
 use Rattle.satip_serving.specs.declared.serving.ServingEnd.TheVariants as serving
-use Rattle.satip_program.specs.Commands.{configuration_line}
+use Rattle.satip_program.specs.Commands.{line_of, configuration_line}
 use Rattle.satip_program.specs.Outcomes.{status_of}
 use Rattle.satip_program.specs.Serving.{serving_status, serving_line, IsServeSettled}
 use Rattle.satip_program.specs.declared.outcomes.Outcome.{Outcome}
@@ -67,6 +67,56 @@ ends_by_doors serving.InputFault is = absurd (omega (arith, is))
 ends_by_doors serving.DoorsFault is = refl
 ends_by_doors serving.HistoryFull is = absurd (omega (arith, is))
 ends_by_doors serving.OutOfMemory is = absurd (omega (arith, is))
+
+pub ends_by_serving : (end : ServingEnd) → serving_status end ≡ 0 → end ≡ serving.Served
+ends_by_serving serving.Served is = refl
+ends_by_serving (serving.Configuration fault) is = absurd (omega (arith, is))
+ends_by_serving serving.InputFault is = absurd (omega (arith, is))
+ends_by_serving serving.DoorsFault is = absurd (omega (arith, is))
+ends_by_serving serving.HistoryFull is = absurd (omega (arith, is))
+ends_by_serving serving.OutOfMemory is = absurd (omega (arith, is))
+
+pub ends_by_full : (end : ServingEnd) → serving_status end ≡ 9 → end ≡ serving.HistoryFull
+ends_by_full serving.Served is = absurd (omega (arith, is))
+ends_by_full (serving.Configuration fault) is = absurd (omega (arith, is))
+ends_by_full serving.InputFault is = absurd (omega (arith, is))
+ends_by_full serving.DoorsFault is = absurd (omega (arith, is))
+ends_by_full serving.HistoryFull is = refl
+ends_by_full serving.OutOfMemory is = absurd (omega (arith, is))
+
+-- jobs that began ended with one of three statuses
+run_status : (end : ServingEnd) (status : ℕ) → status ≡ serving_status end → IsEndOfRun end → (status ≡ 0) ⊎ (status ≡ 7) ⊎ (status ≡ 9)
+run_status serving.Served status of began = inl of
+run_status (serving.Configuration fault) status of began = absurd began
+run_status serving.InputFault status of began = absurd began
+run_status serving.DoorsFault status of began = inr (inl of)
+run_status serving.HistoryFull status of began = inr (inr of)
+run_status serving.OutOfMemory status of began = absurd began
+
+pub begun_told : {L : Type 0} (last : Option L) (end : ServingEnd) (status : ℕ) → status ≡ serving_status end → IfSome last (λ _. IsEndOfRun end)
+    → IfSome last (λ _. (status ≡ 0) ⊎ (status ≡ 7) ⊎ (status ≡ 9))
+begun_told None end status of began = began
+begun_told (Some left) end status of began = run_status end status of began
+
+pub unused_told : {J : Type 0} (unused : Option J) (end : ServingEnd) (status : ℕ) → status ≡ serving_status end
+    → IfSome unused (λ _. end ≡ serving.OutOfMemory) → IfSome unused (λ _. status ≡ 70)
+unused_told None end status of none = none
+unused_told (Some kits) end status of none = of ∙ ap serving_status none
+
+-- the line of each status but 3
+pub line_told : (Line : List ℕ → Type 0) (end : ServingEnd) (status : ℕ) → status ≡ serving_status end → Line (serving_line end) → (status ≡ 3 → ⊥)
+    → Line (line_of status)
+line_told Line serving.Served status of line other =
+    let L : ℕ → Type 0 = λ n. Line (line_of n) in subst L (sym of) line
+line_told Line (serving.Configuration fault) status of line other = absurd (other of)
+line_told Line serving.InputFault status of line other =
+    let L : ℕ → Type 0 = λ n. Line (line_of n) in subst L (sym of) line
+line_told Line serving.DoorsFault status of line other =
+    let L : ℕ → Type 0 = λ n. Line (line_of n) in subst L (sym of) line
+line_told Line serving.HistoryFull status of line other =
+    let L : ℕ → Type 0 = λ n. Line (line_of n) in subst L (sym of) line
+line_told Line serving.OutOfMemory status of line other =
+    let L : ℕ → Type 0 = λ n. Line (line_of n) in subst L (sym of) line
 
 -- status 5 comes exactly where the configuration wasn't opened, or its source failed
 is_input : (end : ServingEnd) → (end ≡ serving.InputFault) ⊎ (end ≡ serving.InputFault → ⊥)

@@ -1,18 +1,18 @@
 -- What a talk and a replay come to, by their statuses.
-use Rattle.std.proofs.Common.{◌≡◌, ℕ, ◌+◌, ◌<◌, ◌≤◌, ◌⊎◌, inl, inr, List, [], ◌∷◌, ◌++◌, length, length-append, append_assoc, refl, sym, ◌∙◌, ap, subst, arith, Option, Some, None}
+use Rattle.std.proofs.Common.{◌≡◌, ℕ, ◌≤◌, ◌⊎◌, inl, inr, List, [], ◌∷◌, ◌++◌, length, length-append, append_assoc, refl, sym, ◌∙◌, ap, subst, arith, Option, Some}
 use Rattle.satip_base.specs.Streams.{Feed, Drain, Rose}
 use Rattle.satip_frame.specs.Said.{Said}
-use Rattle.satip_frame.specs.Stream.{Tail, Unfinished, Broken, Messages}
+use Rattle.satip_frame.specs.Stream.{Unfinished, Broken, Messages}
 use Rattle.satip_frame.proofs.StreamLemmas.{one_list, broken_stays}
 use Rattle.satip_history.specs.Lists.{Has}
 use Rattle.satip_replay.specs.declared.ends.ReplayEnd.{ReplayEnd}
 use Rattle.satip_replay.specs.declared.ends.ReplayEnd.TheVariants as ends
 use Rattle.satip_program.proofs.OutcomeLemmas.{talk_early}
-use Rattle.satip_program.specs.Commands.{Form, Talk, Replay}
+use Rattle.satip_program.specs.Commands.{Form, Talk}
 use Rattle.satip_program.specs.declared.outcomes.Outcome.{Outcome}
 use Rattle.satip_program.specs.declared.outcomes.Outcome.TheVariants.{Done, Usage, Configuration, Script, InputFault, OutputFault, TooLong, OutOfMemory}
 use Rattle.satip_program.specs.Outcomes.{input_limit, status_of, outcome_of, TalkRuns, EndsEarly, EndsByLength, NothingDone}
-use Rattle.satip_program.specs.Replaying.{ReplayRuns, RunEnds}
+use Rattle.satip_program.specs.Replaying.{RunEnds}
 use Rattle.satip_program.specs.Ends.{talk_statuses, replay_statuses, ClosesInTime, IsWithinLimit, TalkEnds}
 
 -- of two beginnings of one text the shorter is a beginning of the longer
@@ -100,7 +100,7 @@ run_talks ct it ot text before now i j o n form config outcome status ends told 
     subst Q (sym told) (talk_ends it ot i j o n outcome (subst P is ends))
 
 -- the status of a replay, by its end
-has_end : (ending : ReplayEnd) → Has (status_of (outcome_of ending)) replay_statuses
+pub has_end : (ending : ReplayEnd) → Has (status_of (outcome_of ending)) replay_statuses
 has_end ends.Done = inl refl
 has_end (ends.Configuration fault) = inr (inl refl)
 has_end (ends.Script number) = inr (inr (inl refl))
@@ -108,20 +108,3 @@ has_end ends.InputFault = inr (inr (inr (inl refl)))
 has_end ends.OutputFault = inr (inr (inr (inr (inl refl))))
 has_end ends.TooLong = inr (inr (inr (inr (inr (inl refl)))))
 has_end ends.OutOfMemory = inr (inr (inr (inr (inr (inr (inl refl))))))
-
-replay_has : (ct it ot : Type 0) (text : Option (List ℕ)) (before now : ℕ) (i j : Feed) (o n : Drain) (config : Option Feed) (outcome : Outcome)
-    → ReplayRuns ct it ot text before now i j o n config outcome → Has (status_of outcome) replay_statuses
-replay_has ct it ot text before now i j o n None outcome runs =
-    let P : Outcome → Type 0 = λ x. Has (status_of x) replay_statuses in
-    subst P (sym runs.told) (inr (inr (inr (inl refl))))
-replay_has ct it ot text before now i j o n (Some b) outcome runs =
-    let P : Outcome → Type 0 = λ x. Has (status_of x) replay_statuses in
-    subst P (sym runs.given.said.told) (has_end runs.given.said.ending)
-
-pub replay_status : (ct it ot : Type 0) (text : List ℕ → Option (List ℕ)) (before now : ℕ) (i j : Feed) (o n : Drain) (form : Option Form) (config : Option Feed) (outcome : Outcome) (status : ℕ)
-    → RunEnds ct it ot text before now i j o n form config outcome → status ≡ status_of outcome → (name : List ℕ) → form ≡ Some (Replay name)
-    → Has status replay_statuses
-replay_status ct it ot text before now i j o n form config outcome status ends told name is =
-    let P : Option Form → Type 0 = λ f. RunEnds ct it ot text before now i j o n f config outcome in
-    let Q : ℕ → Type 0 = λ s. Has s replay_statuses in
-    subst Q (sym told) (replay_has ct it ot (text name) before now i j o n config outcome (subst P is ends))

@@ -1,28 +1,14 @@
 //! The top call: what the program does with its words, its input, its output, its errors and its
 //! desk.
 
-ghost use Rattle.std.specs.Prelude.{true, map, ◌≡◌, ◌↔◌, ◌⊎◌, ℕ, ◌+◌, ◌-◌, ◌<◌, ◌≤◌, List, Some, None, option_map, IsSome, IsNone, IfSome, IsSomeAnd, MatchOption};
+ghost use Rattle.std.specs.Prelude.{◌≡◌, ◌↔◌, ◌⊎◌, ℕ, ◌+◌, ◌-◌, ◌<◌, ◌≤◌, List, Some, None, option_map, IsSome, IsNone, IfSome, IsSomeAnd};
 ghost use Rattle.satip_base.specs.Streams.{Feed, Rose};
-ghost use Rattle.satip_world.specs.Counts.{Rises};
-ghost use Rattle.satip_config.specs.declared.fault.ConfigFault.{ConfigFault as Fault};
 ghost use Rattle.satip_replay.specs.Seen.{feed, drain};
-ghost use Rattle.satip_replay.specs.Replays.{configuration_limit, Replayed, Configured};
-ghost use Rattle.satip_replay.specs.Ends.{EndsByConfiguration, EndsByScript, EndsByInput, EndsByOutput, EndsByLength, EndsByWant, Refused};
-ghost use Rattle.satip_serve.specs.Done.{IsFull};
-ghost use Rattle.satip_serve.specs.ServeRuns.{ServeRun, HasFault};
-ghost use Rattle.satip_history.specs.Lists.{Each, Has};
-ghost use Rattle.satip_turn.specs.Shown.{IsOf};
-ghost use Rattle.satip_serve.specs.Views.{worker_view, pump_view, tick_view};
-ghost use Rattle.satip_serving.specs.declared.serving.ServingEnd.{ServingEnd as End};
-ghost use Rattle.satip_serving.specs.declared.serving.ServingEnd.TheVariants.{Served as AllServed, Configuration, InputFault, DoorsFault, HistoryFull, OutOfMemory};
-ghost use Rattle.satip_serving.specs.Laws.{SendsSelected, ObeysOwners, TellsBusy, PlaysRecordings};
-ghost use Rattle.satip_serving.specs.Given.{jobs_view, ComeBack, ComeUnused};
-ghost use Rattle.satip_serving.specs.Servings.{GivenFrom, AreUnused, IsOneOf, IsNeitherOf, IsEndOfRun};
-ghost use Rattle.satip_program.specs.Serving.{serving_status, serving_line, IsServeSettled};
-ghost use Rattle.satip_program.specs.Commands.{serve_of, Talk, Replay, Help, Version, command_of, config_named, help, version, line_of, configuration_line, script_line};
-ghost use Rattle.satip_program.specs.Ends.{replay_statuses, serve_statuses, TalkEnds};
-ghost use Rattle.satip_program.specs.Outcomes.{input_limit, line_for, NothingDone, PrintEnds, Shows, Says};
-ghost use Rattle.satip_program.specs.Replaying.{Given, RunEnds, ReplayRuns, IsSettled};
+ghost use Rattle.satip_serving.specs.Given.{jobs_view};
+ghost use Rattle.satip_program.specs.Commands.{serve_of, Talk, Replay, Help, Version, command_of, config_named, help, version, line_of};
+ghost use Rattle.satip_program.specs.Ends.{TalkEnds, ReplayEnds, ServeEnds};
+ghost use Rattle.satip_program.specs.Outcomes.{input_limit, NothingDone, PrintEnds, Shows, Says};
+ghost use Rattle.satip_program.specs.Replaying.{RunEnds, ReplayRuns};
 
 use crate::commands::{Command, Serve, read_serve, read_words};
 use crate::outcomes::Outcome;
@@ -56,9 +42,10 @@ const VERSION: &[u8] = b"satip 0.1.0\n";
 
 /// How a run ended.
 pub struct Ended<K: Desk> {
-    /// 0 where all went well; 2 where the words are in no form; 3 where the configuration has a fault, 4 where
-    /// the script has a wrong line; 5, 6 where the input, the output failed; 7 where the doors of a worker or
-    /// the desk failed; 8 where the input is too long; 9 where the history is full; 70 where there was no memory.
+    /// 0 where all went well; 2 where the words are in no form; 3 where the configuration has a
+    /// fault, 4 where the script has a wrong line; 5, 6 where the input, the output failed; 7 where
+    /// the doors of a worker or the desk failed; 8 where the input is too long; 9 where the history
+    /// is full; 70 where there was no memory.
     pub status: u8,
     /// The configuration that the desk gave, as far as it was read.
     pub config: Option<K::Config>,
@@ -98,156 +85,75 @@ pub fn satip<R: Threads + Wait + Sync, K: Desk, I: Source, O: Sink, E: Sink>(
     requires new { K.given desk.old ≡ None }
 
     // Which words there are, and what they do.
-    ensures usage { (result.status ≡ 2) ↔ ((command_of words.now ≡ None) × (serve_of words.now ≡ None)) }
+    ensures usage { (result.status ≡ 2)
+        ↔ ((command_of words.now ≡ None) × (serve_of words.now ≡ None)) }
     ensures unused { command_of words.now ≡ None → NothingDone
-        (feed I.left I.ended I.faults I.taken input.old) (feed I.left I.ended I.faults I.taken input.new)
+        (feed I.left I.ended I.faults I.taken input.old)
+        (feed I.left I.ended I.faults I.taken input.new)
         (drain O.sent O.faults output.old) (drain O.sent O.faults output.new) }
     ensures help { command_of words.now ≡ Some Help → Shows O.tells
-        (feed I.left I.ended I.faults I.taken input.old) (feed I.left I.ended I.faults I.taken input.new)
+        (feed I.left I.ended I.faults I.taken input.old)
+        (feed I.left I.ended I.faults I.taken input.new)
         (drain O.sent O.faults output.old) (drain O.sent O.faults output.new)
         help result.status }
     ensures version { command_of words.now ≡ Some Version → Shows O.tells
-        (feed I.left I.ended I.faults I.taken input.old) (feed I.left I.ended I.faults I.taken input.new)
+        (feed I.left I.ended I.faults I.taken input.old)
+        (feed I.left I.ended I.faults I.taken input.new)
         (drain O.sent O.faults output.old) (drain O.sent O.faults output.new)
         version result.status }
 
     // A talk: the replies to the whole input, or a beginning of the replies to what was taken.
     ensures talk { command_of words.now ≡ Some Talk → TalkEnds I.tells O.tells
-        (feed I.left I.ended I.faults I.taken input.old) (feed I.left I.ended I.faults I.taken input.new)
+        (feed I.left I.ended I.faults I.taken input.old)
+        (feed I.left I.ended I.faults I.taken input.new)
         (drain O.sent O.faults output.old) (drain O.sent O.faults output.new)
         result.status }
 
-    // A replay: the printed run of the script by the configuration that the desk gave, a beginning
-    // of it, or nothing.
-    ensures replayed { (name : List ℕ) → command_of words.now ≡ Some (Replay name) → result.status ≡ 0
-        → IsSomeAnd result.config (λ source.
-        Given K.Config.tells (K.text desk.old name) (λ before. Replayed K.Config.tells I.tells O.tells before
-        (feed K.Config.left K.Config.ended K.Config.faults K.Config.taken source)
-        (feed I.left I.ended I.faults I.taken input.old) (feed I.left I.ended I.faults I.taken input.new)
-        (drain O.sent O.faults output.old) (drain O.sent O.faults output.new))) }
-    ensures replayed_partly { (name : List ℕ) → command_of words.now ≡ Some (Replay name) → result.status ≡ 6
-        → IsSomeAnd result.config (λ source.
-        Given K.Config.tells (K.text desk.old name) (λ before. EndsByOutput K.Config.tells I.tells O.tells before
-        (feed K.Config.left K.Config.ended K.Config.faults K.Config.taken source)
-        (feed I.left I.ended I.faults I.taken input.old) (feed I.left I.ended I.faults I.taken input.new)
-        (drain O.sent O.faults output.old) (drain O.sent O.faults output.new))) }
-    ensures replay_wants { (name : List ℕ) → command_of words.now ≡ Some (Replay name) → result.status ≡ 70
-        → IsSomeAnd result.config (λ source.
-        Given K.Config.tells (K.text desk.old name) (λ before. EndsByWant K.Config.tells I.tells O.tells before
-        (feed K.Config.left K.Config.ended K.Config.faults K.Config.taken source)
-        (feed I.left I.ended I.faults I.taken input.old) (feed I.left I.ended I.faults I.taken input.new)
-        (drain O.sent O.faults output.old) (drain O.sent O.faults output.new))) }
-    ensures replay_input { (name : List ℕ) → command_of words.now ≡ Some (Replay name) → result.status ≡ 5
-        → IfSome result.config (λ source.
-        Given K.Config.tells (K.text desk.old name) (λ before. EndsByInput K.Config.tells before
-        (feed K.Config.left K.Config.ended K.Config.faults K.Config.taken source)
-        (feed I.left I.ended I.faults I.taken input.old) (feed I.left I.ended I.faults I.taken input.new)
-        (drain O.sent O.faults output.old) (drain O.sent O.faults output.new))) }
-    ensures replay_long { (name : List ℕ) → command_of words.now ≡ Some (Replay name) → result.status ≡ 8
-        → IsSomeAnd result.config (λ source.
-        Given K.Config.tells (K.text desk.old name) (λ before. EndsByLength K.Config.tells I.tells before
-        (feed K.Config.left K.Config.ended K.Config.faults K.Config.taken source)
-        (feed I.left I.ended I.faults I.taken input.old) (feed I.left I.ended I.faults I.taken input.new)
-        (drain O.sent O.faults output.old) (drain O.sent O.faults output.new))) }
-    ensures nothing_written { IsSome (config_named (command_of words.now))
-        → (result.status ≡ 0 → ⊥) → (result.status ≡ 6 → ⊥) → (result.status ≡ 70 → ⊥)
-        → drain O.sent O.faults output.new ≡ drain O.sent O.faults output.old }
+    // A replay of the script by the configuration that the desk gave.
+    ensures replay { (name : List ℕ) → command_of words.now ≡ Some (Replay name)
+        → ReplayEnds K.Config.tells I.tells O.tells E.tells
+        (K.text desk.old name) (K.faults desk.old) (K.faults desk.new)
+        (feed K.Config.left K.Config.ended K.Config.faults K.Config.taken) result.config
+        (feed I.left I.ended I.faults I.taken input.old)
+        (feed I.left I.ended I.faults I.taken input.new)
+        (drain O.sent O.faults output.old) (drain O.sent O.faults output.new)
+        (drain E.sent E.faults errors.old) (drain E.sent E.faults errors.new)
+        result.status }
 
-    // The configuration is given back as it was read.
-    ensures config { IsSome (config_named (command_of words.now))
-        → MatchOption result.config (Rises (K.faults desk.old) (K.faults desk.new)) (λ _. K.faults desk.new ≡ K.faults desk.old) }
-    ensures config_limit { (name : List ℕ) → command_of words.now ≡ Some (Replay name) → IfSome result.config (λ source.
-        Given K.Config.tells (K.text desk.old name) (λ before. K.Config.taken source ≤ before.taken + configuration_limit + 1)) }
-    ensures no_config { serve_of words.now ≡ None → config_named (command_of words.now) ≡ None → IsNone result.config }
-    ensures desk { serve_of words.now ≡ None → config_named (command_of words.now) ≡ None → desk.new ≡ desk.old }
+    // Only what names a configuration opens one, or asks anything of the desk.
+    ensures no_config { serve_of words.now ≡ None → config_named (command_of words.now) ≡ None
+        → IsNone result.config }
+    ensures desk { serve_of words.now ≡ None → config_named (command_of words.now) ≡ None
+        → desk.new ≡ desk.old }
     ensures texts { K.text desk.new ≡ K.text desk.old }
 
     // When each status comes.
-    ensures replay_status { (name : List ℕ) → command_of words.now ≡ Some (Replay name) → Has result.status replay_statuses }
-    ensures configuration { serve_of words.now ≡ None → result.status ≡ 3 → (name : List ℕ) × (fault : Fault)
-        × (command_of words.now ≡ Some (Replay name))
-        × Says E.tells (drain E.sent E.faults errors.old) (drain E.sent E.faults errors.new) (configuration_line fault)
-        × IsSomeAnd result.config (λ source.
-        Given K.Config.tells (K.text desk.old name) (λ before. EndsByConfiguration K.Config.tells before
-        (feed K.Config.left K.Config.ended K.Config.faults K.Config.taken source)
-        (feed I.left I.ended I.faults I.taken input.old) (feed I.left I.ended I.faults I.taken input.new)
-        (drain O.sent O.faults output.old) (drain O.sent O.faults output.new) fault)) }
-    ensures script { result.status ≡ 4 → (name : List ℕ) × (number : ℕ)
-        × (command_of words.now ≡ Some (Replay name))
-        × Says E.tells (drain E.sent E.faults errors.old) (drain E.sent E.faults errors.new) (script_line number)
-        × IsSomeAnd result.config (λ source.
-        Given K.Config.tells (K.text desk.old name) (λ before. EndsByScript K.Config.tells I.tells before
-        (feed K.Config.left K.Config.ended K.Config.faults K.Config.taken source)
-        (feed I.left I.ended I.faults I.taken input.old) (feed I.left I.ended I.faults I.taken input.new)
-        (drain O.sent O.faults output.old) (drain O.sent O.faults output.new) number)) }
+    ensures configuration { serve_of words.now ≡ None → result.status ≡ 3
+        → IsSome (config_named (command_of words.now)) }
+    ensures script { result.status ≡ 4 → IsSome (config_named (command_of words.now)) }
     ensures input_fault { result.status ≡ 5 → Rose (K.faults desk.old) (K.faults desk.new)
         ⊎ IsSomeAnd result.config (λ source. Rose 0 (K.Config.faults source))
         ⊎ Rose (I.faults input.old) (I.faults input.new) }
     ensures output_fault { result.status ≡ 6 → Rose (O.faults output.old) (O.faults output.new) }
     ensures too_long { (result.status ≡ 8) ↔ (input_limit < I.taken input.new - I.taken input.old) }
     ensures limit { I.taken input.new ≤ I.taken input.old + input_limit + 1 }
-    ensures settled_replay { (name : List ℕ) (text : List ℕ) → command_of words.now ≡ Some (Replay name)
-        → K.text desk.old name ≡ Some text → I.tells
-        → (Rose (K.faults desk.old) (K.faults desk.new) → ⊥)
-        → (IsSomeAnd result.config (λ source. Rose 0 (K.Config.faults source)) → ⊥)
-        → (Rose (I.faults input.old) (I.faults input.new) → ⊥)
-        → IsSettled text (I.left input.old) result.status }
 
     // A serve: the jobs ran by the configuration of the desk's text, over one history that keeps
-    // the laws.
-    ensures serve_status { IfSome (serve_of words.now) (λ _. Has result.status serve_statuses) }
-    ensures pass { IfSome result.last (λ last. IsOf last.pass last.server) }
-    ensures served_by { IfSome (serve_of words.now) (λ serve. IfSome result.last (λ last. IsSomeAnd result.config (λ source.
-        GivenFrom K.Config.tells (K.text desk.old serve.name) (λ before. Configured K.Config.tells before
-        (feed K.Config.left K.Config.ended K.Config.faults K.Config.taken source) last.server.setting.config)))) }
-    ensures run { IfSome (serve_of words.now) (λ serve. IfSome result.last (λ last.
-        ServeRun K.Doors.Conn.tells K.Outlet.tells last.server.setting serve.accepts last.pass.seen last.pass.kept
-        (map (worker_view K.Doors.hall K.Outlet.outbox) last.jobs.workers.items)
-        (map (pump_view K.Store.recording K.Store.faults K.Store.lent K.Store.peak K.Outlet.outbox) last.jobs.pumps.items)
-        (tick_view K.Clock.dial K.Outlet.outbox last.jobs.tick))) }
-    ensures payload { IfSome result.last (λ last. SendsSelected last.server.setting last.pass.seen) }
-    ensures owners { IfSome result.last (λ last. ObeysOwners last.server.setting last.pass.seen) }
-    ensures busy { IfSome result.last (λ last. TellsBusy last.server.setting last.pass.seen) }
-    ensures recordings { IfSome result.last (λ last. PlaysRecordings last.server.setting last.pass.seen
-        (map (pump_view K.Store.recording K.Store.faults K.Store.lent K.Store.peak K.Outlet.outbox) last.jobs.pumps.items)) }
-
-    // The configuration of a serve is given back, unless the desk failed to open it; its count
-    // rises then, or where it gives no kits. With any other status than 5 the source of it never
-    // failed.
-    ensures serve_config { IfSome (serve_of words.now) (λ _. MatchOption result.config (Rises (K.faults desk.old) (K.faults desk.new))
-        (λ _. (K.faults desk.new ≡ K.faults desk.old) ⊎ ((result.status ≡ 7) × IsNone result.last))) }
-    ensures serve_read { IfSome (serve_of words.now) (λ _. (result.status ≡ 5 → ⊥) → IsSomeAnd result.config (λ source. K.Config.faults source ≡ 0)) }
-
-    // Where the desk gave its kits, those are what the jobs left, each at its place, or no job
-    // began with them, and they come back as they were, but for one reading of the clock.
-    ensures kits { MatchOption (K.given desk.new) (IsNeitherOf result.last result.unused) (λ _. IsOneOf result.last result.unused) }
-    ensures kits_left { IfSome result.last (λ last. IsSomeAnd (K.given desk.new) (λ given. ComeBack given
-        (jobs_view K.Doors.hall K.Outlet.outbox K.Store.recording K.Store.faults K.Store.lent K.Store.peak K.Clock.dial last.jobs))) }
-    ensures kits_unused { IfSome result.unused (λ kits. IsSomeAnd (K.given desk.new) (λ given. ComeUnused given
-        (jobs_view K.Doors.hall K.Outlet.outbox K.Store.recording K.Store.faults K.Store.lent K.Store.peak K.Clock.dial kits))) }
-    ensures begun { IfSome result.last (λ _. (result.status ≡ 0) ⊎ (result.status ≡ 7) ⊎ (result.status ≡ 9)) }
-    ensures unused_status { IfSome result.unused (λ _. result.status ≡ 70) }
-    ensures unused_kits { IfSome (serve_of words.now) (λ serve. IfSome result.unused (λ kits. AreUnused serve.accepts
-        (map (worker_view K.Doors.hall K.Outlet.outbox) kits.workers.items)
-        (map (pump_view K.Store.recording K.Store.faults K.Store.lent K.Store.peak K.Outlet.outbox) kits.pumps.items)
-        (tick_view K.Clock.dial K.Outlet.outbox kits.tick))) }
-
-    // When each status of a serve comes.
-    ensures served { IfSome (serve_of words.now) (λ _. result.status ≡ 0 → IsSomeAnd result.last (λ last.
-        Each (λ w. w.hall.ended ≡ true) (map (worker_view K.Doors.hall K.Outlet.outbox) last.jobs.workers.items))) }
-    ensures serve_configuration { IfSome (serve_of words.now) (λ serve. result.status ≡ 3 → (fault : Fault)
-        × Says E.tells (drain E.sent E.faults errors.old) (drain E.sent E.faults errors.new) (configuration_line fault)
-        × IsSomeAnd result.config (λ source.
-        GivenFrom K.Config.tells (K.text desk.old serve.name) (λ before. Refused K.Config.tells before
-        (feed K.Config.left K.Config.ended K.Config.faults K.Config.taken source) fault))) }
-    ensures serve_input { IfSome (serve_of words.now) (λ _. (result.status ≡ 5)
-        ↔ MatchOption result.config (Rises (K.faults desk.old) (K.faults desk.new)) (λ source. Rose 0 (K.Config.faults source))) }
-    ensures settled_serve { IfSome (serve_of words.now) (λ serve. (text : List ℕ) → K.text desk.old serve.name ≡ Some text
-        → IfSome result.config (λ source. (Rose 0 (K.Config.faults source) → ⊥) → IsServeSettled text result.status)) }
-    ensures doors_fault { result.status ≡ 7 → MatchOption result.last (Rises (K.faults desk.old) (K.faults desk.new))
-        (λ last. HasFault (map (worker_view K.Doors.hall K.Outlet.outbox) last.jobs.workers.items)) }
-    ensures no_kits { result.status ≡ 7 → IsNone result.last → K.given desk.new ≡ None }
-    ensures history_full { result.status ≡ 9 → IsSomeAnd result.last (λ last. IsFull last.pass.seen) }
+    // the laws. Nothing else asks for kits, or runs jobs.
+    ensures serve { IfSome (serve_of words.now) (λ serve.
+        ServeEnds K.Config.tells K.Doors.Conn.tells K.Outlet.tells E.tells
+        serve.accepts (K.text desk.old serve.name) (K.faults desk.old) (K.faults desk.new)
+        (feed K.Config.left K.Config.ended K.Config.faults K.Config.taken) result.config
+        (jobs_view K.Doors.hall K.Outlet.outbox K.Store.recording K.Store.faults
+        K.Store.lent K.Store.peak K.Clock.dial)
+        (K.given desk.new) result.last result.unused
+        (drain E.sent E.faults errors.old) (drain E.sent E.faults errors.new)
+        result.status) }
+    ensures kits { serve_of words.now ≡ None → K.given desk.new ≡ None }
+    ensures no_last { serve_of words.now ≡ None → result.last ≡ None }
+    ensures no_unused { serve_of words.now ≡ None → result.unused ≡ None }
+    ensures no_serving { serve_of words.now ≡ None
+        → (result.status ≡ 7 → ⊥) × (result.status ≡ 9 → ⊥) }
 
     // What is told of it.
     ensures errors { (result.status ≡ 3 → ⊥) → (result.status ≡ 4 → ⊥) → Says E.tells
@@ -271,49 +177,17 @@ fn run_serve<R: Threads + Wait + Sync, K: Desk, E: Sink>(
 ) -> Ended<K>
     requires new { K.given desk.old ≡ None }
     ensures texts { K.text desk.new ≡ K.text desk.old }
-    ensures kits { MatchOption (K.given desk.new) (IsNeitherOf result.last result.unused) (λ _. IsOneOf result.last result.unused) }
-    ensures kits_left { IfSome result.last (λ last. IsSomeAnd (K.given desk.new) (λ given. ComeBack given
-        (jobs_view K.Doors.hall K.Outlet.outbox K.Store.recording K.Store.faults K.Store.lent K.Store.peak K.Clock.dial last.jobs))) }
-    ensures kits_unused { IfSome result.unused (λ kits. IsSomeAnd (K.given desk.new) (λ given. ComeUnused given
-        (jobs_view K.Doors.hall K.Outlet.outbox K.Store.recording K.Store.faults K.Store.lent K.Store.peak K.Clock.dial kits))) }
-    ensures status_is { Has result.status serve_statuses }
-    ensures pass { IfSome result.last (λ last. IsOf last.pass last.server) }
-    ensures served_by { IfSome result.last (λ last. IsSomeAnd result.config (λ source.
-        GivenFrom K.Config.tells (K.text desk.old name.now) (λ before. Configured K.Config.tells before
-        (feed K.Config.left K.Config.ended K.Config.faults K.Config.taken source) last.server.setting.config))) }
-    ensures run { IfSome result.last (λ last. ServeRun K.Doors.Conn.tells K.Outlet.tells last.server.setting accepts last.pass.seen last.pass.kept
-        (map (worker_view K.Doors.hall K.Outlet.outbox) last.jobs.workers.items)
-        (map (pump_view K.Store.recording K.Store.faults K.Store.lent K.Store.peak K.Outlet.outbox) last.jobs.pumps.items)
-        (tick_view K.Clock.dial K.Outlet.outbox last.jobs.tick)) }
-    ensures payload { IfSome result.last (λ last. SendsSelected last.server.setting last.pass.seen) }
-    ensures owners { IfSome result.last (λ last. ObeysOwners last.server.setting last.pass.seen) }
-    ensures busy { IfSome result.last (λ last. TellsBusy last.server.setting last.pass.seen) }
-    ensures recordings { IfSome result.last (λ last. PlaysRecordings last.server.setting last.pass.seen
-        (map (pump_view K.Store.recording K.Store.faults K.Store.lent K.Store.peak K.Outlet.outbox) last.jobs.pumps.items)) }
-    ensures unused { IfSome result.unused (λ kits. AreUnused accepts
-        (map (worker_view K.Doors.hall K.Outlet.outbox) kits.workers.items)
-        (map (pump_view K.Store.recording K.Store.faults K.Store.lent K.Store.peak K.Outlet.outbox) kits.pumps.items)
-        (tick_view K.Clock.dial K.Outlet.outbox kits.tick)) }
-    ensures config { MatchOption result.config (Rises (K.faults desk.old) (K.faults desk.new))
-        (λ _. (K.faults desk.new ≡ K.faults desk.old) ⊎ ((result.status ≡ 7) × IsNone result.last)) }
-    ensures read { (result.status ≡ 5 → ⊥) → IsSomeAnd result.config (λ source. K.Config.faults source ≡ 0) }
-    ensures input { (result.status ≡ 5)
-        ↔ MatchOption result.config (Rises (K.faults desk.old) (K.faults desk.new)) (λ source. Rose 0 (K.Config.faults source)) }
-    ensures settled { (text : List ℕ) → K.text desk.old name.now ≡ Some text → IfSome result.config (λ source.
-        (Rose 0 (K.Config.faults source) → ⊥) → IsServeSettled text result.status) }
-    ensures no_kits { result.status ≡ 7 → IsNone result.last → K.given desk.new ≡ None }
-    ensures ends { (end : End) × (result.status ≡ serving_status end)
-        × Says E.tells (drain E.sent E.faults errors.old) (drain E.sent E.faults errors.new) (serving_line end)
-        × IfSome result.last (λ _. IsEndOfRun end)
-        × IfSome result.unused (λ _. end ≡ OutOfMemory)
-        × ((fault : Fault) → end ≡ Configuration fault → IsSomeAnd result.config (λ source.
-        GivenFrom K.Config.tells (K.text desk.old name.now) (λ before. Refused K.Config.tells before
-        (feed K.Config.left K.Config.ended K.Config.faults K.Config.taken source) fault)))
-        × (end ≡ InputFault → MatchOption result.config (Rises (K.faults desk.old) (K.faults desk.new)) (λ source. Rose 0 (K.Config.faults source)))
-        × (end ≡ AllServed → IsSomeAnd result.last (λ last. Each (λ w. w.hall.ended ≡ true) (map (worker_view K.Doors.hall K.Outlet.outbox) last.jobs.workers.items)))
-        × (end ≡ DoorsFault → MatchOption result.last (Rises (K.faults desk.old) (K.faults desk.new))
-        (λ last. HasFault (map (worker_view K.Doors.hall K.Outlet.outbox) last.jobs.workers.items)))
-        × (end ≡ HistoryFull → IsSomeAnd result.last (λ last. IsFull last.pass.seen)) }
+    ensures ends { ServeEnds K.Config.tells K.Doors.Conn.tells K.Outlet.tells E.tells
+        accepts (K.text desk.old name.now) (K.faults desk.old) (K.faults desk.new)
+        (feed K.Config.left K.Config.ended K.Config.faults K.Config.taken) result.config
+        (jobs_view K.Doors.hall K.Outlet.outbox K.Store.recording K.Store.faults
+        K.Store.lent K.Store.peak K.Clock.dial)
+        (K.given desk.new) result.last result.unused
+        (drain E.sent E.faults errors.old) (drain E.sent E.faults errors.new)
+        result.status }
+    ensures errors { (result.status ≡ 3 → ⊥) → Says E.tells
+        (drain E.sent E.faults errors.old) (drain E.sent E.faults errors.new)
+        (line_of result.status) }
 {
     let Served {
         end,
@@ -343,64 +217,39 @@ pub fn offline<K: Desk, I: Source, O: Sink, E: Sink>(
     // Which words there are, and what they do.
     ensures usage { (result.status ≡ 2) ↔ (command_of words.now ≡ None) }
     ensures unused { command_of words.now ≡ None → NothingDone
-        (feed I.left I.ended I.faults I.taken input.old) (feed I.left I.ended I.faults I.taken input.new)
+        (feed I.left I.ended I.faults I.taken input.old)
+        (feed I.left I.ended I.faults I.taken input.new)
         (drain O.sent O.faults output.old) (drain O.sent O.faults output.new) }
     ensures help { command_of words.now ≡ Some Help → Shows O.tells
-        (feed I.left I.ended I.faults I.taken input.old) (feed I.left I.ended I.faults I.taken input.new)
+        (feed I.left I.ended I.faults I.taken input.old)
+        (feed I.left I.ended I.faults I.taken input.new)
         (drain O.sent O.faults output.old) (drain O.sent O.faults output.new)
         help result.status }
     ensures version { command_of words.now ≡ Some Version → Shows O.tells
-        (feed I.left I.ended I.faults I.taken input.old) (feed I.left I.ended I.faults I.taken input.new)
+        (feed I.left I.ended I.faults I.taken input.old)
+        (feed I.left I.ended I.faults I.taken input.new)
         (drain O.sent O.faults output.old) (drain O.sent O.faults output.new)
         version result.status }
 
     // A talk: the replies to the whole input, or a beginning of the replies to what was taken.
     ensures talk { command_of words.now ≡ Some Talk → TalkEnds I.tells O.tells
-        (feed I.left I.ended I.faults I.taken input.old) (feed I.left I.ended I.faults I.taken input.new)
+        (feed I.left I.ended I.faults I.taken input.old)
+        (feed I.left I.ended I.faults I.taken input.new)
         (drain O.sent O.faults output.old) (drain O.sent O.faults output.new)
         result.status }
 
-    // A replay: the printed run of the script by the configuration that the desk gave, a beginning
-    // of it, or nothing.
-    ensures replayed { (name : List ℕ) → command_of words.now ≡ Some (Replay name) → result.status ≡ 0
-        → IsSomeAnd result.config (λ source.
-        Given K.Config.tells (K.text desk.old name) (λ before. Replayed K.Config.tells I.tells O.tells before
-        (feed K.Config.left K.Config.ended K.Config.faults K.Config.taken source)
-        (feed I.left I.ended I.faults I.taken input.old) (feed I.left I.ended I.faults I.taken input.new)
-        (drain O.sent O.faults output.old) (drain O.sent O.faults output.new))) }
-    ensures replayed_partly { (name : List ℕ) → command_of words.now ≡ Some (Replay name) → result.status ≡ 6
-        → IsSomeAnd result.config (λ source.
-        Given K.Config.tells (K.text desk.old name) (λ before. EndsByOutput K.Config.tells I.tells O.tells before
-        (feed K.Config.left K.Config.ended K.Config.faults K.Config.taken source)
-        (feed I.left I.ended I.faults I.taken input.old) (feed I.left I.ended I.faults I.taken input.new)
-        (drain O.sent O.faults output.old) (drain O.sent O.faults output.new))) }
-    ensures replay_wants { (name : List ℕ) → command_of words.now ≡ Some (Replay name) → result.status ≡ 70
-        → IsSomeAnd result.config (λ source.
-        Given K.Config.tells (K.text desk.old name) (λ before. EndsByWant K.Config.tells I.tells O.tells before
-        (feed K.Config.left K.Config.ended K.Config.faults K.Config.taken source)
-        (feed I.left I.ended I.faults I.taken input.old) (feed I.left I.ended I.faults I.taken input.new)
-        (drain O.sent O.faults output.old) (drain O.sent O.faults output.new))) }
-    ensures replay_input { (name : List ℕ) → command_of words.now ≡ Some (Replay name) → result.status ≡ 5
-        → IfSome result.config (λ source.
-        Given K.Config.tells (K.text desk.old name) (λ before. EndsByInput K.Config.tells before
-        (feed K.Config.left K.Config.ended K.Config.faults K.Config.taken source)
-        (feed I.left I.ended I.faults I.taken input.old) (feed I.left I.ended I.faults I.taken input.new)
-        (drain O.sent O.faults output.old) (drain O.sent O.faults output.new))) }
-    ensures replay_long { (name : List ℕ) → command_of words.now ≡ Some (Replay name) → result.status ≡ 8
-        → IsSomeAnd result.config (λ source.
-        Given K.Config.tells (K.text desk.old name) (λ before. EndsByLength K.Config.tells I.tells before
-        (feed K.Config.left K.Config.ended K.Config.faults K.Config.taken source)
-        (feed I.left I.ended I.faults I.taken input.old) (feed I.left I.ended I.faults I.taken input.new)
-        (drain O.sent O.faults output.old) (drain O.sent O.faults output.new))) }
-    ensures nothing_written { IsSome (config_named (command_of words.now))
-        → (result.status ≡ 0 → ⊥) → (result.status ≡ 6 → ⊥) → (result.status ≡ 70 → ⊥)
-        → drain O.sent O.faults output.new ≡ drain O.sent O.faults output.old }
+    // A replay of the script by the configuration that the desk gave.
+    ensures replay { (name : List ℕ) → command_of words.now ≡ Some (Replay name)
+        → ReplayEnds K.Config.tells I.tells O.tells E.tells
+        (K.text desk.old name) (K.faults desk.old) (K.faults desk.new)
+        (feed K.Config.left K.Config.ended K.Config.faults K.Config.taken) result.config
+        (feed I.left I.ended I.faults I.taken input.old)
+        (feed I.left I.ended I.faults I.taken input.new)
+        (drain O.sent O.faults output.old) (drain O.sent O.faults output.new)
+        (drain E.sent E.faults errors.old) (drain E.sent E.faults errors.new)
+        result.status }
 
-    // The configuration is given back as it was read.
-    ensures config { IsSome (config_named (command_of words.now))
-        → MatchOption result.config (Rises (K.faults desk.old) (K.faults desk.new)) (λ _. K.faults desk.new ≡ K.faults desk.old) }
-    ensures config_limit { (name : List ℕ) → command_of words.now ≡ Some (Replay name) → IfSome result.config (λ source.
-        Given K.Config.tells (K.text desk.old name) (λ before. K.Config.taken source ≤ before.taken + configuration_limit + 1)) }
+    // Only what names a configuration opens one, or asks anything of the desk.
     ensures no_config { config_named (command_of words.now) ≡ None → IsNone result.config }
     ensures desk { config_named (command_of words.now) ≡ None → desk.new ≡ desk.old }
     ensures texts { K.text desk.new ≡ K.text desk.old }
@@ -412,35 +261,14 @@ pub fn offline<K: Desk, I: Source, O: Sink, E: Sink>(
     ensures no_serving { (result.status ≡ 7 → ⊥) × (result.status ≡ 9 → ⊥) }
 
     // When each status comes.
-    ensures replay_status { (name : List ℕ) → command_of words.now ≡ Some (Replay name) → Has result.status replay_statuses }
-    ensures configuration { result.status ≡ 3 → (name : List ℕ) × (fault : Fault)
-        × (command_of words.now ≡ Some (Replay name))
-        × Says E.tells (drain E.sent E.faults errors.old) (drain E.sent E.faults errors.new) (configuration_line fault)
-        × IsSomeAnd result.config (λ source.
-        Given K.Config.tells (K.text desk.old name) (λ before. EndsByConfiguration K.Config.tells before
-        (feed K.Config.left K.Config.ended K.Config.faults K.Config.taken source)
-        (feed I.left I.ended I.faults I.taken input.old) (feed I.left I.ended I.faults I.taken input.new)
-        (drain O.sent O.faults output.old) (drain O.sent O.faults output.new) fault)) }
-    ensures script { result.status ≡ 4 → (name : List ℕ) × (number : ℕ)
-        × (command_of words.now ≡ Some (Replay name))
-        × Says E.tells (drain E.sent E.faults errors.old) (drain E.sent E.faults errors.new) (script_line number)
-        × IsSomeAnd result.config (λ source.
-        Given K.Config.tells (K.text desk.old name) (λ before. EndsByScript K.Config.tells I.tells before
-        (feed K.Config.left K.Config.ended K.Config.faults K.Config.taken source)
-        (feed I.left I.ended I.faults I.taken input.old) (feed I.left I.ended I.faults I.taken input.new)
-        (drain O.sent O.faults output.old) (drain O.sent O.faults output.new) number)) }
+    ensures configuration { result.status ≡ 3 → IsSome (config_named (command_of words.now)) }
+    ensures script { result.status ≡ 4 → IsSome (config_named (command_of words.now)) }
     ensures input_fault { result.status ≡ 5 → Rose (K.faults desk.old) (K.faults desk.new)
         ⊎ IsSomeAnd result.config (λ source. Rose 0 (K.Config.faults source))
         ⊎ Rose (I.faults input.old) (I.faults input.new) }
     ensures output_fault { result.status ≡ 6 → Rose (O.faults output.old) (O.faults output.new) }
     ensures too_long { (result.status ≡ 8) ↔ (input_limit < I.taken input.new - I.taken input.old) }
     ensures limit { I.taken input.new ≤ I.taken input.old + input_limit + 1 }
-    ensures settled_replay { (name : List ℕ) (text : List ℕ) → command_of words.now ≡ Some (Replay name)
-        → K.text desk.old name ≡ Some text → I.tells
-        → (Rose (K.faults desk.old) (K.faults desk.new) → ⊥)
-        → (IsSomeAnd result.config (λ source. Rose 0 (K.Config.faults source)) → ⊥)
-        → (Rose (I.faults input.old) (I.faults input.new) → ⊥)
-        → IsSettled text (I.left input.old) result.status }
 
     // What is told of it.
     ensures errors { (result.status ≡ 3 → ⊥) → (result.status ≡ 4 → ⊥) → Says E.tells
@@ -464,11 +292,14 @@ fn run<K: Desk, I: Source, O: Sink>(
     output: &mut O,
     desk: &mut K,
 ) -> Ending<K>
-    ensures ends { RunEnds K.Config.tells I.tells O.tells (K.text desk.old) (K.faults desk.old) (K.faults desk.new)
-        (feed I.left I.ended I.faults I.taken input.old) (feed I.left I.ended I.faults I.taken input.new)
+    ensures ends { RunEnds K.Config.tells I.tells O.tells
+        (K.text desk.old) (K.faults desk.old) (K.faults desk.new)
+        (feed I.left I.ended I.faults I.taken input.old)
+        (feed I.left I.ended I.faults I.taken input.new)
         (drain O.sent O.faults output.old) (drain O.sent O.faults output.new)
         (command_of words.now)
-        (option_map (feed K.Config.left K.Config.ended K.Config.faults K.Config.taken) result.config)
+        (option_map (feed K.Config.left K.Config.ended K.Config.faults K.Config.taken)
+        result.config)
         result.outcome }
     ensures no_config { config_named (command_of words.now) ≡ None → IsNone result.config }
     ensures desk { config_named (command_of words.now) ≡ None → desk.new ≡ desk.old }
@@ -503,10 +334,13 @@ fn replay_by<K: Desk, I: Source, O: Sink>(
     output: &mut O,
     desk: &mut K,
 ) -> Ending<K>
-    ensures runs { ReplayRuns K.Config.tells I.tells O.tells (K.text desk.old name.now) (K.faults desk.old) (K.faults desk.new)
-        (feed I.left I.ended I.faults I.taken input.old) (feed I.left I.ended I.faults I.taken input.new)
+    ensures runs { ReplayRuns K.Config.tells I.tells O.tells
+        (K.text desk.old name.now) (K.faults desk.old) (K.faults desk.new)
+        (feed I.left I.ended I.faults I.taken input.old)
+        (feed I.left I.ended I.faults I.taken input.new)
         (drain O.sent O.faults output.old) (drain O.sent O.faults output.new)
-        (option_map (feed K.Config.left K.Config.ended K.Config.faults K.Config.taken) result.config)
+        (option_map (feed K.Config.left K.Config.ended K.Config.faults K.Config.taken)
+        result.config)
         result.outcome }
     ensures texts { K.text desk.new ≡ K.text desk.old }
     ensures kits { K.given desk.new ≡ K.given desk.old }
