@@ -4,6 +4,7 @@ ghost use Rattle.std.specs.Prelude.{◌≡◌};
 
 use satip_base::{Failed, Source, Taken};
 use satip_world::MuxStore;
+use std::marker::Model;
 
 /// So many transport packets of PID 16, one at a time.
 #[derive(Drop)]
@@ -50,11 +51,20 @@ pub struct ReelStore {
     peak: u64,
 }
 
+impl Model for ReelStore {
+    ghost use Rattle.std.specs.Prelude.{[]};
+    ghost use Rattle.satip_world.specs.Recordings.{Shelf};
+
+    ghost Value = { Shelf };
+
+    ghost view = { λ s. record { recordings = []; faults = s.faults; lent = s.lent; peak = s.peak } };
+}
+
 impl ReelStore {
+    ghost use Rattle.satip_world.specs.Recordings.{empty_shelf};
+
     pub fn new(packets: u64) -> ReelStore
-        ensures faults { result.faults ≡ 0 }
-        ensures lent { result.lent ≡ 0 }
-        ensures peak { result.peak ≡ 0 }
+        ensures empty { result ≡ empty_shelf }
     {
         ReelStore {
             packets,
@@ -66,11 +76,11 @@ impl ReelStore {
 }
 
 impl MuxStore for ReelStore {
-    ghost use Rattle.std.specs.Prelude.{None};
+    ghost use Rattle.satip_world.specs.Recordings.{recording_in};
 
     type From = Reel;
 
-    ghost recording = { λ _ _. None };
+    ghost recording = { λ s mux. recording_in s.recordings mux };
 
     ghost faults = { λ s. s.faults };
 

@@ -2,8 +2,10 @@
 //! each of two front ends, and the ticker.
 
 ghost use Rattle.std.specs.Prelude.{◌≡◌, length, false, IfOk};
+ghost use Rattle.satip_program.specs.Drawers.{AreNewKits};
 ghost use Rattle.satip_world.specs.Halls.{fresh_hall};
 ghost use Rattle.satip_world.specs.Outboxes.{fresh_outbox};
+ghost use Rattle.satip_world.specs.Recordings.{empty_shelf};
 
 use crate::counting::{CountingOutlet, LookingPacer, StillClock};
 use crate::deeds::{Deeds, Gate, OPEN, Place};
@@ -88,9 +90,7 @@ fn pump<'a>(
     deeds: &'a Deeds,
     plan: Plan,
 ) -> PumpKit<ReelStore, CountingOutlet<'a>, LookingPacer<'a>>
-    ensures faults { result.store.faults ≡ 0 }
-    ensures lent { result.store.lent ≡ 0 }
-    ensures peak { result.store.peak ≡ 0 }
+    ensures store { result.store ≡ empty_shelf }
     ensures outbox { result.outlet ≡ fresh_outbox }
 {
     PumpKit {
@@ -108,6 +108,7 @@ fn kits<'a>(
 ) -> Result<WaitingJobs<'a>, Want>
     ensures workers { IfOk result (λ jobs. length jobs.workers.items ≡ 2) }
     ensures pumps { IfOk result (λ jobs. length jobs.pumps.items ≡ 2) }
+    ensures new { IfOk result (AreNewKits accepts) }
 {
     let workers = [
         worker(alloc, deeds, plan, Place::First, accepts)?,
@@ -160,7 +161,7 @@ impl<'a> WaitingDesk<'a> {
 
 impl<'a> Desk for WaitingDesk<'a> {
     ghost use Rattle.std.specs.Prelude.{None, option_map};
-    ghost use Rattle.satip_serving.specs.Given.{jobs_view};
+    ghost use Rattle.satip_program.specs.Drawers.{memory_view};
 
     type Config = MemorySource;
 
@@ -178,7 +179,7 @@ impl<'a> Desk for WaitingDesk<'a> {
 
     ghost faults = { λ d. d.faults };
 
-    ghost given = { λ d. option_map (λ kits. jobs_view (λ h. h) (λ o. o) (λ _ _. None) (λ s. s.faults) (λ s. s.lent) (λ s. s.peak) (λ d. d) kits.value) d.given };
+    ghost given = { λ d. option_map (λ kits. memory_view kits.value) d.given };
 
     fn jobs(
         &mut self,
