@@ -3,8 +3,9 @@
 #
 #   tools/refuse_memory.sh
 #
-# The runs: `replay` of examples/session.script, and the test of `serve` with two workers over memory. A replay ends as with all
-# memory, or with status 70 and a beginning of its output; a serve ends well, or gives its kits back.
+# The runs: `replay` of a SETUP, a tick, its PLAY, six packets and a second tick, which are lines of examples/session.script; and
+# the test of `serve` with two workers that play a recording together. A replay ends as with all memory, or with status 70 and a
+# beginning of its output; a serve ends well, or with status 70, or its desk had no memory.
 # Needs cc, crates/satip/out/satip (`cd crates/satip && rt run -- --version` builds it) and
 # crates/satip_serve_rows/out/satip_serve_rows_tests (`cd crates/satip_serve_rows && rt test` builds it).
 set -eu
@@ -32,13 +33,19 @@ begins() {
     head -c "$(wc -c < "$folder/output")" "$folder/whole" | cmp -s - "$folder/output"
 }
 
+# The SETUP, the PLAY, the first six packets and both ticks of the example.
+session() {
+    awk '/^tick/ || (/^rtsp/ && ++requests < 3) || (/^packet/ && ++packets < 7)' "$top/examples/session.script"
+}
+
 replay() {
-    "$top/crates/satip/out/satip" replay "$top/examples/satip.toml" < "$top/examples/session.script" > "$folder/whole"
+    session > "$folder/script"
+    "$top/crates/satip/out/satip" replay "$top/examples/satip.toml" < "$folder/script" > "$folder/whole"
     number=1
     usual=0
     wants=0
     while :; do
-        refuse "$number" "$top/crates/satip/out/satip" replay "$top/examples/satip.toml" < "$top/examples/session.script"
+        refuse "$number" "$top/crates/satip/out/satip" replay "$top/examples/satip.toml" < "$folder/script"
         case $status in
         99) break ;;
         0) cmp -s "$folder/whole" "$folder/output" && usual=$((usual + 1)) || echo "replay, request $number: status 0 with another output" ;;
@@ -65,4 +72,4 @@ serve() {
 }
 
 replay
-serve "refused::two_workers_serve_or_their_kits_come_back"
+serve "together::two_workers_play_a_recording_together"

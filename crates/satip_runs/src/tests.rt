@@ -5,6 +5,8 @@ mod faults;
 mod http;
 mod locks;
 mod messages;
+mod noting;
 mod pumps;
 mod setting;
+mod sharing;
 mod workers;

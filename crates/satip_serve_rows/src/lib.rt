@@ -2,9 +2,15 @@
 #![tactic(auto)]
 
 #[cfg(test)]
+mod counting;
+#[cfg(test)]
+mod deeds;
+#[cfg(test)]
 mod faults;
 #[cfg(test)]
 mod meeting;
+#[cfg(test)]
+mod reel;
 #[cfg(test)]
 mod refused;
 #[cfg(test)]
@@ -13,3 +19,9 @@ mod serving;
 mod shared;
 #[cfg(test)]
 mod talking;
+#[cfg(test)]
+mod together;
+#[cfg(test)]
+mod waiting;
+#[cfg(test)]
+mod waiting_desk;

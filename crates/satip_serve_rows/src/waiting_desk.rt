@@ -1,0 +1,212 @@
+//! A desk over devices that wait for each other: two workers with one connection each, a pump for
+//! each of two front ends, and the ticker.
+
+ghost use Rattle.std.specs.Prelude.{◌≡◌, length, false, IfOk};
+ghost use Rattle.satip_program.specs.Drawers.{AreNewKits};
+ghost use Rattle.satip_world.specs.Halls.{fresh_hall};
+ghost use Rattle.satip_world.specs.Outboxes.{fresh_outbox};
+ghost use Rattle.satip_world.specs.Recordings.{empty_shelf};
+
+use crate::counting::{CountingOutlet, LookingPacer, StillClock};
+use crate::deeds::{Deeds, Gate, OPEN, Place};
+use crate::reel::ReelStore;
+use crate::waiting::{Piece, WaitingDoors};
+use satip_base::{Failed, MemorySource, Text, Want};
+use satip_config::Config;
+use satip_program::{Desk, Jobs, JobsFault};
+use satip_pump::{PumpKit, TickKit};
+use satip_worker::WorkerKit;
+use std::alloc::Global;
+use std::snapshot::Snapshot;
+
+/// Two front ends, and two multiplexes that they receive.
+const C1: &[u8] = b"address = \"192.168.1.10\"
+workers = 2
+[[frontend]]
+sources = [1]
+systems = [\"dvbs\", \"dvbs2\"]
+[[frontend]]
+sources = [1]
+systems = [\"dvbs\", \"dvbs2\"]
+[[mux]]
+src = 1
+freq = \"11361.75\"
+pol = \"h\"
+msys = \"dvbs2\"
+sr = 22000
+file = \"a.ts\"
+[[mux]]
+src = 1
+freq = \"12402\"
+pol = \"v\"
+msys = \"dvbs\"
+sr = 27500
+file = \"b.ts\"
+";
+
+/// How often a pause of a pump or of the ticker looks at least.
+const LOOKS: u64 = 100_000;
+
+/// The packets of the first multiplex's recording.
+const PACKETS: u64 = 200;
+
+/// What two clients do, the port to which datagrams of RTP go, and what the pumps wait for.
+#[derive(Clone, Copy)]
+pub struct Plan {
+    pub first: &'static [Piece],
+    pub second: &'static [Piece],
+    pub port: u16,
+    pub pumps: Gate,
+}
+
+type WaitingJobs<'a> =
+    Jobs<WaitingDoors<'a>, CountingOutlet<'a>, LookingPacer<'a>, ReelStore, StillClock<'a>>;
+
+type WaitingWorker<'a> = WorkerKit<WaitingDoors<'a>, CountingOutlet<'a>, LookingPacer<'a>>;
+
+fn worker<'a>(
+    alloc: Global,
+    deeds: &'a Deeds,
+    plan: Plan,
+    place: Place,
+    accepts: u32,
+) -> Result<WaitingWorker<'a>, Want>
+    ensures hall { IfOk result (λ kit. kit.doors ≡ fresh_hall accepts false) }
+    ensures outbox { IfOk result (λ kit. kit.outlet ≡ fresh_outbox) }
+{
+    let pieces = match place {
+        Place::First => plan.first,
+        Place::Second => plan.second,
+    };
+    Ok(WorkerKit {
+        doors: WaitingDoors::make(alloc, deeds, place, pieces, accepts)?,
+        outlet: CountingOutlet::new(deeds, plan.port),
+        pacer: LookingPacer::new(deeds, 0, OPEN),
+        key: [0; 32],
+    })
+}
+
+fn pump<'a>(
+    deeds: &'a Deeds,
+    plan: Plan,
+) -> PumpKit<ReelStore, CountingOutlet<'a>, LookingPacer<'a>>
+    ensures store { result.store ≡ empty_shelf }
+    ensures outbox { result.outlet ≡ fresh_outbox }
+{
+    PumpKit {
+        store: ReelStore::new(PACKETS),
+        outlet: CountingOutlet::new(deeds, plan.port),
+        pacer: LookingPacer::new(deeds, LOOKS, plan.pumps),
+    }
+}
+
+fn kits<'a>(
+    alloc: Global,
+    deeds: &'a Deeds,
+    plan: Plan,
+    accepts: u32,
+) -> Result<WaitingJobs<'a>, Want>
+    ensures workers { IfOk result (λ jobs. length jobs.workers.items ≡ 2) }
+    ensures pumps { IfOk result (λ jobs. length jobs.pumps.items ≡ 2) }
+    ensures new { IfOk result (AreNewKits accepts) }
+{
+    let workers = [
+        worker(alloc, deeds, plan, Place::First, accepts)?,
+        worker(alloc, deeds, plan, Place::Second, accepts)?,
+    ];
+    let pumps = [pump(deeds, plan), pump(deeds, plan)];
+    let tick = TickKit {
+        clock: StillClock::new(deeds),
+        outlet: CountingOutlet::new(deeds, plan.port),
+        pacer: LookingPacer::new(deeds, LOOKS, OPEN),
+    };
+    let (Ok(workers), Ok(pumps)) = (
+        Vec::from_array(alloc, workers),
+        Vec::from_array(alloc, pumps),
+    ) else {
+        return Err(Want);
+    };
+    Ok(Jobs {
+        workers,
+        pumps,
+        tick,
+    })
+}
+
+/// A desk that has one configuration for each name, and the kits for it. It tells no text.
+#[derive(Drop)]
+pub struct WaitingDesk<'a> {
+    alloc: Global,
+    deeds: &'a Deeds,
+    plan: Plan,
+    given: Option<Snapshot<WaitingJobs<'a>>>,
+    faults: u64,
+}
+
+impl<'a> WaitingDesk<'a> {
+    ghost use Rattle.std.specs.Prelude.{None};
+
+    pub fn new(alloc: Global, deeds: &'a Deeds, plan: Plan) -> WaitingDesk<'a>
+        ensures given { result.given ≡ None }
+    {
+        WaitingDesk {
+            alloc,
+            deeds,
+            plan,
+            given: None,
+            faults: 0,
+        }
+    }
+}
+
+impl<'a> Desk for WaitingDesk<'a> {
+    ghost use Rattle.std.specs.Prelude.{None, option_map};
+    ghost use Rattle.satip_program.specs.Drawers.{memory_view};
+
+    type Config = MemorySource;
+
+    type Doors = WaitingDoors<'a>;
+
+    type Outlet = CountingOutlet<'a>;
+
+    type Pacer = LookingPacer<'a>;
+
+    type Store = ReelStore;
+
+    type Clock = StillClock<'a>;
+
+    ghost text = { λ _ _. None };
+
+    ghost faults = { λ d. d.faults };
+
+    ghost given = { λ d. option_map (λ kits. memory_view kits.value) d.given };
+
+    fn jobs(
+        &mut self,
+        alloc: Global,
+        config: &Config,
+        accepts: u32,
+    ) -> Result<WaitingJobs<'a>, JobsFault> {
+        if config.workers != 2 || config.fronts.len() != 2 {
+            self.faults = self.faults.saturating_add(1);
+            return Err(JobsFault::Failed);
+        }
+        match kits(alloc, self.deeds, self.plan, accepts) {
+            Ok(jobs) => {
+                self.given = Some(Snapshot::of(&jobs));
+                Ok(jobs)
+            }
+            Err(Want) => Err(JobsFault::Want),
+        }
+    }
+
+    fn config(&mut self, _name: &Text) -> Result<MemorySource, Failed> {
+        match MemorySource::make(self.alloc, C1, &[], &[]) {
+            Ok(source) => Ok(source),
+            Err(Want) => {
+                self.faults = self.faults.saturating_add(1);
+                Err(Failed)
+            }
+        }
+    }
+}
