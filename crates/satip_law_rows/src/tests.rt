@@ -1,5 +1,5 @@
 //! Worked runs with HTTP sessions, each computed from the definitions.
-ghost use Rattle.std.specs.Prelude.{◌≡◌, List, [], ◌∷◌, codes, true, false};
+ghost use Rattle.std.specs.Prelude.{◌≡◌, List, [], ◌∷◌, true, false};
 ghost use Rattle.satip_plain.specs.declared.events.Event.TheVariants.{Close};
 ghost use Rattle.satip_plain.specs.Examples.{get_second, id_of, packet_on, setup, setup_with, teardown_in, to_second, with_change};
 ghost use Rattle.satip_readings.specs.Busy.{IsToldBusy};
