@@ -10,6 +10,7 @@ use std::thread;
 
 // The bytes before the transport packets of a datagram (RFC 3550, 5.1), and those of a packet.
 const HEAD: u64 = 12;
+
 const PACKET: u64 = 188;
 
 /// An outlet that counts transport packets that go to a port for RTP, and keeps nothing.

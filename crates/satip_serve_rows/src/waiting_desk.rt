@@ -59,8 +59,13 @@ pub struct Plan {
     pub pumps: Gate,
 }
 
-type WaitingJobs<'a> =
-    Jobs<WaitingDoors<'a>, CountingOutlet<'a>, LookingPacer<'a>, ReelStore, StillClock<'a>>;
+type WaitingJobs<'a> = Jobs<
+    WaitingDoors<'a>,
+    CountingOutlet<'a>,
+    LookingPacer<'a>,
+    ReelStore,
+    StillClock<'a>,
+>;
 
 type WaitingWorker<'a> = WorkerKit<WaitingDoors<'a>, CountingOutlet<'a>, LookingPacer<'a>>;
 

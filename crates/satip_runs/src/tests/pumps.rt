@@ -49,7 +49,12 @@ fn kit(
 }
 
 // A recording of so many packets, with bytes before and behind them.
-pub(crate) fn recording(alloc: Global, before: &[u8], count: u8, behind: &[u8]) -> Result<Vec<u8>, Fail> {
+pub(crate) fn recording(
+    alloc: Global,
+    before: &[u8],
+    count: u8,
+    behind: &[u8],
+) -> Result<Vec<u8>, Fail> {
     let mut text = Vec::from_slice(alloc, before)?;
     for _ in 0..count {
         text.extend_from_slice(&packet_bytes())?;
