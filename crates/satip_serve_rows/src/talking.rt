@@ -14,7 +14,7 @@ const BAD: &[u8] = b"RTSP/1.0 400 Bad Request\r\nConnection: close\r\n\r\n";
 // A request whose head has so many bytes, and a second one behind it.
 fn two_requests(alloc: Global, head: usize) -> Result<Vec<u8>, Fail> {
     let mut text = Vec::from_slice(alloc, b"OPTIONS * RTSP/1.0\r\nCSeq: 1\r\nX: ")?;
-    while text.len() < head.saturating_sub(4) {
+    for _ in text.len()..head.saturating_sub(4) {
         text.push(b'x')?;
     }
     text.extend_from_slice(b"\r\n\r\n")?;
