@@ -5,8 +5,6 @@ mod faults;
 mod http;
 mod locks;
 mod messages;
-mod noting;
 mod pumps;
 mod setting;
-mod sharing;
 mod workers;

@@ -49,12 +49,7 @@ fn kit(
 }
 
 // A recording of so many packets, with bytes before and behind them.
-pub(crate) fn recording(
-    alloc: Global,
-    before: &[u8],
-    count: u8,
-    behind: &[u8],
-) -> Result<Vec<u8>, Fail> {
+fn recording(alloc: Global, before: &[u8], count: u8, behind: &[u8]) -> Result<Vec<u8>, Fail> {
     let mut text = Vec::from_slice(alloc, before)?;
     for _ in 0..count {
         text.extend_from_slice(&packet_bytes())?;
@@ -64,7 +59,7 @@ pub(crate) fn recording(
 }
 
 // A service whose call 0 was the SETUP.
-pub(crate) fn tuned(alloc: Global, stop: u64) -> Result<Solo, Fail> {
+fn tuned(alloc: Global, stop: u64) -> Result<Solo, Fail> {
     let mut out = Out::make(alloc)?;
     let mut solo = solo(alloc, Some(stop))?;
     set_up(&mut solo, &mut out)?;

@@ -1,6 +1,5 @@
 //! The server of the rows: two front ends that reach the first position, and two multiplexes.
-ghost use Rattle.std.specs.Prelude.{◌≡◌, ◌≤◌, [], length, IfOk};
-ghost use Rattle.satip_fronts.specs.FrontEnds.{IsNumbered};
+ghost use Rattle.std.specs.Prelude.{◌≡◌, [], IfOk};
 ghost use Rattle.satip_core.specs.Serving.{StandsAfter};
 
 use satip_base::{Draw, Out, Peer, Ports, SessionId};
@@ -60,11 +59,8 @@ fn muxes(alloc: Global) -> Result<[Mux; 2], Fail> {
     Ok([first, second])
 }
 
-/// The configuration.
-pub(crate) fn config(alloc: Global) -> Result<Config, Fail>
-    ensures few { IfOk result (λ config. length config.fronts ≤ 16) }
-    ensures numbered { IfOk result (λ config. IsNumbered 1 config.fronts) }
-    ensures received { IfOk result (λ config. length config.muxes ≤ 256) }
+fn server(alloc: Global) -> Result<Server, Fail>
+    ensures history { IfOk result (λ server. StandsAfter server []) }
 {
     let mut fronts = Vec::new(alloc);
     fronts.push(front(1))?;
@@ -73,7 +69,7 @@ pub(crate) fn config(alloc: Global) -> Result<Config, Fail>
     let mut muxes = Vec::new(alloc);
     muxes.push(first)?;
     muxes.push(second)?;
-    Ok(Config {
+    let config = Config {
         address: 3232235786,
         rtsp_port: 554,
         http_port: 8875,
@@ -82,13 +78,8 @@ pub(crate) fn config(alloc: Global) -> Result<Config, Fail>
         fronts,
         muxes,
         files: Vec::new(alloc),
-    })
-}
-
-fn server(alloc: Global) -> Result<Server, Fail>
-    ensures history { IfOk result (λ server. StandsAfter server []) }
-{
-    Ok(Server::make(alloc, config(alloc)?, 0)?)
+    };
+    Ok(Server::make(alloc, config, 0)?)
 }
 
 /// The server before its first event, with a Stop before the call of this number.
@@ -168,8 +159,8 @@ fn packet(packet: Packet) -> Event {
 }
 
 // Makes an event.
-fn make<S: Service>(service: &mut S, event: &Event, out: &mut Out) -> Result<Answer, Fail> {
-    Ok(service.call(event, out).ok().ok_or("answer")?)
+fn make(solo: &mut Solo, event: &Event, out: &mut Out) -> Result<Answer, Fail> {
+    Ok(solo.call(event, out).ok().ok_or("answer")?)
 }
 
 // The status of the reply to a request, or 0 where it is another event.
@@ -181,11 +172,11 @@ fn status(answer: Answer) -> u16 {
 }
 
 /// Makes the SETUP that founds the first stream.
-pub(crate) fn set_up<S: Service>(service: &mut S, out: &mut Out) -> Result<u16, Fail> {
+pub(crate) fn set_up(solo: &mut Solo, out: &mut Out) -> Result<u16, Fail> {
     let mut query = Query::new();
     read(TUNING, &mut query).ok().ok_or("query")?;
     let setup = setup(query);
-    Ok(status(make(service, &setup, out)?))
+    Ok(status(make(solo, &setup, out)?))
 }
 
 /// Makes the PLAY of the first session.
