@@ -30,6 +30,7 @@ class Receivers:
     def __init__(self, count):
         self.socks = [receiver(ADDRESS) for _ in range(count)]
         self.came = [0] * count
+        self.packets = [0] * count
         self.late = self.missing = 0
         self.open = True
         self.threads = [threading.Thread(target=self.read, args=(place, sock)) for place, sock in enumerate(self.socks)]
@@ -44,10 +45,13 @@ class Receivers:
         last, late, missing = None, 0, 0
         while self.open:
             try:
-                number = int.from_bytes(sock.recv(2048)[2:4], "big")
+                datagram = sock.recv(2048)
             except TimeoutError:
                 continue
+            number = int.from_bytes(datagram[2:4], "big")
             self.came[place] += 1
+            # a datagram that a tick sends off has less than seven
+            self.packets[place] += (len(datagram) - 12) // 188
             gap = skipped(last, number)
             if gap is None:
                 late += 1
@@ -88,16 +92,16 @@ def serve_to(count, server, seconds):
     receivers = Receivers(count)
     client = Client(ADDRESS, RTSP_PORT)
     target, sessions = begin(client, f"rtsp://{ADDRESS}:{RTSP_PORT}/", QUERY, receivers.ports())
-    before, came = cpu_seconds(server.pid), sum(receivers.came)
+    before, packets = cpu_seconds(server.pid), sum(receivers.packets)
     time.sleep(seconds)
-    used, came = cpu_seconds(server.pid) - before, sum(receivers.came) - came
+    used, packets = cpu_seconds(server.pid) - before, sum(receivers.packets) - packets
     memory = resident_kb(server.pid)
     print(f"{count} receivers: calls a second: {calls(server.pid, CALLS_SECONDS)}")
     for session in reversed(sessions):
         client.ask("TEARDOWN", target, f"Session: {session}")
     receivers.close()
     client.line.close()
-    return used / (7 * came), receivers, memory
+    return used / packets, receivers, memory
 
 
 def loop_to(count, loop, kind, seconds):

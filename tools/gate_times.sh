@@ -5,6 +5,8 @@
 #   tools/gate_times.sh LOG                   prints the table of a log
 # A line of LOG is one check: its kind (library, tests, seed or edit), its crate, its edit or -, and both times.
 set -euo pipefail
+# Edits are numbered in the order of their bytes.
+export LC_ALL=C
 top=$(cd "$(dirname "$0")/.." && pwd)
 
 usage() {
@@ -18,12 +20,15 @@ name_of() {
   mapfile -d '' -t words 2>/dev/null <"/proc/$1/cmdline" || return 0
   local kind= crate= number= at
   [[ ${words[0]-} == */rattle ]] || return 0
-  case ${words[1]-} in build) kind=library ;; check) kind=seed ;; *) return 0 ;; esac
+  # A check over nothing that was proved before is an edit's, that of a crate with a single one.
+  case ${words[1]-} in build) kind=library ;; check) kind=edit number=0 ;; *) return 0 ;; esac
   for at in "${!words[@]}"; do
     case ${words[at]} in
       --crate-name) crate=${words[at + 1]} ;;
-      --test) kind=tests ;;
-      */rt-edits-*/[0-9]*) kind=edit number=${words[at]##*/} ;;
+      --test) kind=tests number= ;;
+      */rt-edits-*/[0-9]*) number=${words[at]##*/} ;;
+      */rt-edits-*/seed) kind=seed number= ;;
+      */rt-proved-*/checked) kind=library number= ;;
     esac
   done
   [[ -n $crate ]] || return 0
@@ -34,22 +39,42 @@ name_of() {
 edit_of() {
   [[ -n $2 ]] || { printf -- '-'; return; }
   local -a edits=("$top/crates/$1/must-fail/"*.edit)
-  basename "${edits[$2]}" .edit
+  basename "${edits[$2]-unknown}" .edit
 }
 
-# Once a second, what each check has used so far.
+# The words of a process's stat behind its name.
+stat_of() {
+  local text
+  text=$(cat "/proc/$1/stat" 2>/dev/null) && printf '%s' "${text##*) }"
+}
+
+# Once a second, what each check has used so far, with the processes that it started.
 watch_checks() {
-  local hz pid stat
+  local hz pid root key text ticks
+  local -a stat
+  local -A now
   hz=$(getconf CLK_TCK)
   while sleep 1; do
-    for pid in $(pgrep -x rattle); do
-      stat=$(cat "/proc/$pid/stat" 2>/dev/null) || continue
-      read -r -a stat <<<"${stat##*) }"
-      local key=$pid:${stat[19]}
-      [[ -n ${check[$key]-} ]] || check[$key]=$(name_of "$pid")
-      used[$key]=$(((stat[11] + stat[12] + stat[13] + stat[14]) / hz))
+    now=()
+    for pid in $(pgrep -x 'rattle|antt-kernel'); do
+      root=$pid
+      text=$(stat_of "$pid") || continue
+      read -r -a stat <<<"$text"
+      ticks=$((stat[11] + stat[12] + stat[13] + stat[14]))
+      if [[ $(cat "/proc/${stat[1]}/comm" 2>/dev/null) == rattle ]]; then
+        root=${stat[1]}
+        text=$(stat_of "$root") || continue
+        read -r -a stat <<<"$text"
+      fi
+      key=$root:${stat[19]}
+      [[ -n ${check[$key]-} ]] || check[$key]=$(name_of "$root")
+      now[$key]=$((${now[$key]-0} + ticks))
       first[$key]=${first[$key]-$SECONDS}
       last[$key]=$SECONDS
+    done
+    for key in "${!now[@]}"; do
+      ticks=$((now[$key] / hz))
+      if ((ticks > ${used[$key]:-0})); then used[$key]=$ticks; fi
     done
   done
 }
@@ -58,7 +83,7 @@ write_log() {
   local key
   for key in "${!check[@]}"; do
     [[ -n ${check[$key]} ]] || continue
-    printf '%s %s %s\n' "${check[$key]}" "${used[$key]}" "$((last[$key] - first[$key] + 1))"
+    printf '%s %s %s\n' "${check[$key]}" "${used[$key]:-0}" "$((last[$key] - first[$key] + 1))"
   done >"$1"
 }
 

@@ -18,7 +18,7 @@ JOBS=${JOBS:-4}
 folder=$(mktemp -d)
 trap 'rm -rf "$folder"' EXIT
 export SATIP folder top
-"$top/tools/make_recording.sh" "$folder/a.ts" 20
+"$top/tools/make_recording.sh" "$folder/a.ts" 2
 
 # The errors of a call: those that its manual page names, and of a socket those that socket(7), ip(7) and tcp(7) add.
 errors_of() {

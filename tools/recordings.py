@@ -74,7 +74,7 @@ def ask_ffprobe(path):
     try:
         ran = subprocess.run(words, stdin=subprocess.DEVNULL, capture_output=True, check=False)
     except FileNotFoundError:
-        sys.exit("ffprobe isn't to be had (Debian: apt-get install ffmpeg)")
+        sys.exit("ffprobe isn't installed (Debian: apt-get install ffmpeg)")
     if ran.returncode != 0:
         lines = ran.stderr.decode(errors="replace").strip().splitlines() or ["ffprobe failed"]
         raise NoRecording(lines[-1].removeprefix(f"file:{path}: "))

@@ -1,4 +1,4 @@
-"""A server of the built program, and plain clients of it, for the tries in this folder.
+"""A server of the built program, its configuration, and plain clients, for the tries in here.
 
 The program is crates/satip/out/satip, or the one that SATIP_PROGRAM names."""
 import os
@@ -9,31 +9,108 @@ import sys
 import tempfile
 import time
 
-QUERY = "src=1&freq=11361.75&pol=h&msys=dvbs2&sr=22000"
-PROGRAM = os.path.join(os.path.dirname(os.path.abspath(__file__)), "..", "crates", "satip", "out", "satip")
+FREQUENCIES = ("11361.75", "11422.75", "11464.25", "11494.25")
+QUERIES = [f"src=1&freq={freq}&pol=h&msys=dvbs2&sr=22000" for freq in FREQUENCIES]
+QUERY = QUERIES[0]
+TOP = os.path.dirname(os.path.dirname(os.path.abspath(__file__)))
+PROGRAM = os.path.join(TOP, "crates", "satip", "out", "satip")
 PACKETS_A_SECOND = 3200
+FRONT_END = """\
+[[frontend]]
+sources = [1]
+systems = ["dvbs", "dvbs2"]
+"""
+MULTIPLEX = """\
+[[mux]]
+src = 1
+freq = "{freq}"
+pol = "h"
+msys = "dvbs2"
+sr = 22000
+file = "{file}"
+"""
+
+
+def configuration(
+    address, rtsp_port=18554, http_port=18875, workers=8, timeout=60, fronts=1, files=("a.ts",)
+):
+    """A configuration with a multiplex for each file, those that QUERIES ask for."""
+    head = (
+        f'address = "{address}"\nrtsp_port = {rtsp_port}\nhttp_port = {http_port}\n'
+        f"timeout = {timeout}\nworkers = {workers}\n"
+    )
+    muxes = [MULTIPLEX.format(freq=freq, file=file) for freq, file in zip(FREQUENCIES, files)]
+    return head + FRONT_END * fronts + "".join(muxes)
+
+
+def free_ports(address):
+    """Two ports of an address that nobody listens at."""
+    with socket.socket() as first, socket.socket() as second:
+        first.bind((address, 0))
+        second.bind((address, 0))
+        return first.getsockname()[1], second.getsockname()[1]
+
+
+def program_words(folder):
+    """The program; where WITHOUT is in the environment, without what its edge does at faults."""
+    program = os.path.abspath(os.environ.get("SATIP_PROGRAM", PROGRAM))
+    if "WITHOUT" not in os.environ:
+        return [program]
+    library = os.path.join(folder, "without_edge.so")
+    source = os.path.join(TOP, "tools", "without_edge.c")
+    subprocess.run(["cc", "-O2", "-shared", "-fPIC", "-o", library, source], check=True)
+    return ["env", f"LD_PRELOAD={library}", program]
+
+
+def wait_for(address, port, process):
+    """Until the process listens there; ends the try where it doesn't within 20 seconds."""
+    for _ in range(100):
+        if process.poll() is not None:
+            sys.exit(f"{address}:{port}: its process ended with status {process.returncode}")
+        try:
+            socket.create_connection((address, port), timeout=1).close()
+            return
+        except OSError:
+            time.sleep(0.2)
+    sys.exit(f"nothing listens at {address}:{port}")
 
 
 class Server:
-    """Serves a recording of so many seconds whose packets have the PID 256, at one address."""
+    """Serves recordings of so many seconds whose packets have the PID 256, at one address."""
 
-    def __init__(self, address, workers=8, timeout=60, fronts=1, seconds=60, before=()):
+    def __init__(
+        self,
+        address,
+        workers=8,
+        timeout=60,
+        fronts=1,
+        seconds=60,
+        before=(),
+        ports=(18554, 18875),
+        accepts=0,
+        files=("a.ts",),
+    ):
         self.folder = tempfile.TemporaryDirectory()
-        with open(os.path.join(self.folder.name, "a.ts"), "wb") as file:
-            file.write((b"\x47\x01\x00\x10" + bytes(184)) * PACKETS_A_SECOND * seconds)
-        front = '[[frontend]]\nsources = [1]\nsystems = ["dvbs", "dvbs2"]\n'
-        with open(os.path.join(self.folder.name, "try.toml"), "w") as file:
-            file.write(
-                f'address = "{address}"\nrtsp_port = 18554\nhttp_port = 18875\ntimeout = {timeout}\nworkers = {workers}\n'
-                f'{front * fronts}[[mux]]\nsrc = 1\nfreq = "11361.75"\npol = "h"\nmsys = "dvbs2"\nsr = 22000\nfile = "a.ts"\n'
-            )
-        self.errors = open(os.path.join(self.folder.name, "errors"), "w+")
-        self.address = address
-        program = os.path.abspath(os.environ.get("SATIP_PROGRAM", PROGRAM))
+        self.address, self.ports = address, ports
+        for name in files:
+            with open(self.path(name), "wb") as file:
+                file.write((b"\x47\x01\x00\x10" + bytes(184)) * PACKETS_A_SECOND * seconds)
+        with open(self.path("try.toml"), "w") as file:
+            file.write(configuration(address, *ports, workers, timeout, fronts, files))
+        self.errors = open(self.path("errors"), "w+")
+        program = program_words(self.folder.name)
         self.process = subprocess.Popen(
-            [*before, program, "serve", "try.toml", "0"], cwd=self.folder.name, stderr=self.errors
+            [*before, *program, "serve", "try.toml", str(accepts)],
+            cwd=self.folder.name,
+            stderr=self.errors,
         )
-        time.sleep(2)
+        for _ in range(100):
+            if not self.lives() or ": ready at " in self.said():
+                break
+            time.sleep(0.2)
+
+    def path(self, name):
+        return os.path.join(self.folder.name, name)
 
     def lives(self):
         return self.process.poll() is None
@@ -41,6 +118,13 @@ class Server:
     def said(self):
         self.errors.seek(0)
         return self.errors.read()
+
+    def status(self, seconds):
+        """The status with which it ends in so many seconds; None where it doesn't."""
+        try:
+            return self.process.wait(seconds)
+        except subprocess.TimeoutExpired:
+            return None
 
     def close(self):
         self.process.kill()
@@ -52,11 +136,12 @@ class Server:
 class Rtsp:
     """A connection over which requests are made one after another."""
 
-    def __init__(self, address, timeout=5, source=""):
-        self.line = socket.create_connection((address, 18554), timeout=timeout, source_address=(source, 0))
+    def __init__(self, address, timeout=5, source="", port=18554):
+        server = (address, port)
+        self.line = socket.create_connection(server, timeout=timeout, source_address=(source, 0))
         self.line.settimeout(timeout)
         self.host = self.line.getsockname()[0]
-        self.base = f"rtsp://{address}:18554/"
+        self.base = f"rtsp://{address}:{port}/"
         self.count = 0
 
     def ask(self, method, target, *headers):
@@ -71,10 +156,10 @@ class Rtsp:
             reply += piece
         return reply.decode()
 
-    def play(self, port, target=None):
+    def play(self, port, target=None, query=QUERY):
         """Founds a stream, or joins one, and plays; the stream's URL and the session."""
         transport = f"Transport: RTP/AVP;unicast;client_port={port}-{port + 1}"
-        head = self.ask("SETUP", target or f"{self.base}?{QUERY}&pids=all", transport)
+        head = self.ask("SETUP", target or f"{self.base}?{query}&pids=all", transport)
         if not head.startswith("RTSP/1.0 200 "):
             raise ConnectionError(head.splitlines()[0])
         session = re.search(r"Session: *([0-9a-f]+)", head).group(1)
@@ -86,11 +171,11 @@ class Rtsp:
         self.line.close()
 
 
-def options(address, timeout=5):
+def options(address, timeout=5, port=18554):
     """Seconds until a new client had its OPTIONS answered; None where it wasn't in time."""
     begun = time.monotonic()
     try:
-        client = Rtsp(address, timeout)
+        client = Rtsp(address, timeout, port=port)
         answered = client.ask("OPTIONS", "*").startswith("RTSP/1.0 200 ")
         client.close()
     except OSError:
@@ -123,14 +208,16 @@ def arrived(sock, seconds):
 
 
 class Link:
-    """Two network namespaces with one link between them: `near` has 10.23.0.1 and `far` 10.23.0.2."""
+    """Two network namespaces with a link between them: `near` has 10.23.0.1, `far` 10.23.0.2."""
 
     def __init__(self):
         self.near, self.far = f"satip-near-{os.getpid()}", f"satip-far-{os.getpid()}"
         for space in (self.near, self.far):
             ip("netns", "add", space)
-        ip("-n", self.near, "link", "add", "near0", "type", "veth", "peer", "name", "far0", "netns", self.far)
-        for space, device, address in ((self.near, "near0", "10.23.0.1/24"), (self.far, "far0", "10.23.0.2/24")):
+        peer = ("peer", "name", "far0", "netns", self.far)
+        ip("-n", self.near, "link", "add", "near0", "type", "veth", *peer)
+        ends = ((self.near, "near0", "10.23.0.1/24"), (self.far, "far0", "10.23.0.2/24"))
+        for space, device, address in ends:
             ip("-n", space, "addr", "add", address, "dev", device)
             ip("-n", space, "link", "set", device, "up")
             ip("-n", space, "link", "set", "lo", "up")

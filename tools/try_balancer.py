@@ -30,6 +30,9 @@ import sys
 import tempfile
 import time
 
+sys.dont_write_bytecode = True
+from serving import QUERY, configuration, wait_for
+
 TOP = os.path.dirname(os.path.dirname(os.path.abspath(__file__)))
 BALANCER = ("127.0.1.10", 18875)
 SERVERS = {f"satip{number}": f"127.0.1.1{number}" for number in range(1, 5)}
@@ -38,24 +41,6 @@ RECORDING_SECONDS = 120
 PACKET = 188
 # So many bytes of a stream stand at one place of the recording alone.
 TELLING = 64 * PACKET
-QUERY = "src=1&freq=11361.75&pol=h&msys=dvbs2&sr=22000&pids=all"
-
-CONFIG = """\
-address = "{address}"
-rtsp_port = 18554
-http_port = 18875
-workers = 64
-[[frontend]]
-sources = [1]
-systems = ["dvbs2"]
-[[mux]]
-src = 1
-freq = "11361.75"
-pol = "h"
-msys = "dvbs2"
-sr = 22000
-file = "a.ts"
-"""
 
 
 class Reader:
@@ -70,7 +55,7 @@ class Reader:
 
     def connect(self, selector):
         self.sock = socket.create_connection(BALANCER, timeout=10)
-        self.sock.sendall(f"GET /?{QUERY} HTTP/1.1\r\nHost: satip\r\n\r\n".encode())
+        self.sock.sendall(f"GET /?{QUERY}&pids=all HTTP/1.1\r\nHost: satip\r\n\r\n".encode())
         self.sock.setblocking(False)
         self.begun, self.place, self.head = time.monotonic(), None, b""
         self.server = None
@@ -148,7 +133,7 @@ class Run:
     def start_server(self, name):
         config = f"{name}.toml"
         with open(f"{self.folder}/{config}", "w", encoding="ascii") as file:
-            file.write(CONFIG.format(address=SERVERS[name]))
+            file.write(configuration(SERVERS[name], workers=64))
         words = [self.program, "serve", config, "0"]
         self.servers[name] = subprocess.Popen(words, cwd=self.folder, stderr=subprocess.DEVNULL)
 
@@ -187,18 +172,6 @@ class Run:
 
     def all_served(self):
         return all(reader.is_served() for reader in self.readers)
-
-
-def wait_for(address, port, process):
-    for _ in range(100):
-        if process.poll() is not None:
-            sys.exit(f"{address}:{port}: its process ended with status {process.returncode}")
-        try:
-            socket.create_connection((address, port), timeout=1).close()
-            return
-        except OSError:
-            time.sleep(0.1)
-    sys.exit(f"nothing listens at {address}:{port}")
 
 
 def spread(readers):

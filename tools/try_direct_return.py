@@ -26,28 +26,14 @@ import time
 
 sys.dont_write_bytecode = True
 from count_late import Client, receiver, skipped
+from serving import QUERY, configuration
 
 TOP = os.path.dirname(os.path.dirname(os.path.abspath(__file__)))
-ADDRESS, PORT = "10.77.0.10", 554
+ADDRESS, RTSP_PORT, HTTP_PORT = "10.77.0.10", 554, 8875
 SERVERS = range(1, 5)
 NAME = f"satip{os.getpid()}-"
 # Bytes of requests and acknowledgements that a client sends at most; a second of RTP has 600,000.
 MOST_PASSED = 4000
-QUERY = "src=1&freq=11361.75&pol=h&msys=dvbs2&sr=22000&pids=all"
-CONFIG = f"""\
-address = "{ADDRESS}"
-workers = 64
-[[frontend]]
-sources = [1]
-systems = ["dvbs2"]
-[[mux]]
-src = 1
-freq = "11361.75"
-pol = "h"
-msys = "dvbs2"
-sr = 22000
-file = "a.ts"
-"""
 
 
 def run(*words, **more):
@@ -98,7 +84,7 @@ table netdev satip {{
     }}
     chain balance {{
         type filter hook ingress device "e0" priority 0; policy accept;
-        ip daddr {ADDRESS} tcp dport {PORT} jump to_server
+        ip daddr {ADDRESS} tcp dport {RTSP_PORT} jump to_server
         ip daddr {ADDRESS} meta l4proto udp jump to_server
     }}
 }}
@@ -127,11 +113,12 @@ class Guest(Client):
     """A client with an address of its own, and a socket for RTP there."""
 
     def __init__(self, own):
-        self.line = socket.create_connection((ADDRESS, PORT), timeout=10, source_address=(own, 0))
+        server = (ADDRESS, RTSP_PORT)
+        self.line = socket.create_connection(server, timeout=10, source_address=(own, 0))
         self.count, self.sock = 0, receiver(own)
         port = self.sock.getsockname()[1]
         transport = f"Transport: RTP/AVP;unicast;client_port={port}-{port + 1}"
-        head = self.ask("SETUP", f"rtsp://{ADDRESS}/?{QUERY}", transport)
+        head = self.ask("SETUP", f"rtsp://{ADDRESS}/?{QUERY}&pids=all", transport)
         self.session = re.search(r"Session: *([0-9a-f]+)", head).group(1)
         self.stream = re.search(r"streamID: *([0-9]+)", head, re.I).group(1)
         self.came = self.missing = 0
@@ -175,7 +162,7 @@ def watch(own_addresses, seconds):
 
 def serve(folder, program):
     with open(f"{folder}/satip.toml", "w", encoding="ascii") as file:
-        file.write(CONFIG)
+        file.write(configuration(ADDRESS, RTSP_PORT, HTTP_PORT, workers=64))
     words = (program, "serve", "satip.toml", "0")
     return [subprocess.Popen(inside(f"s{it}", *words), cwd=folder) for it in SERVERS]
 

@@ -1,21 +1,24 @@
 #!/bin/sh
-# Plays recordings of 1.5, 8 and 30 Mbit/s at their own rate (SATIP_PACE=recording), and ends with what clients measured:
-# a client's rate over 10 s has to be within 2 % of the recording's, and FFmpeg and VLC have to play the one of 8 Mbit/s
-# for 30 s without a discontinuity. The status is 1 where one of them fails.
+# Plays recordings of 1.5, 8 and 30 Mbit/s at their own rate (SATIP_PACE=recording), and ends with
+# what clients measured: a client's rate over 10 s has to be within 2 % of the recording's, and
+# FFmpeg and VLC have to play the one of 8 Mbit/s for 30 s without a discontinuity. The status is 1
+# where one of them fails.
 #
 #   tools/try_pace.sh [FOLDER]
 #
 # FOLDER gets the recordings, configurations and logs; without the word it is a new one.
-# Needs crates/satip/out/satip (`cd crates/satip && rt run -- --version` builds it; SATIP names another), ports 18654 and
-# 18975 of 127.0.0.1, and the Debian packages ffmpeg, python3 and, for VLC, vlc-bin and vlc-plugin-base. Without VLC it says
-# so and leaves that out. VLC doesn't run as root: it is run as the user nobody there.
+# Needs crates/satip/out/satip (`cd crates/satip && rt run -- --version` builds it; SATIP names
+# another), ports 18654 and 18975 of 127.0.0.1, and the Debian packages ffmpeg, python3 and, for
+# VLC, vlc-bin and vlc-plugin-base. Without VLC it says so and leaves that out. VLC doesn't run as
+# root: it is run as the user nobody there.
 set -eu
 top=$(cd "$(dirname "$0")/.." && pwd)
 satip=${SATIP:-$top/crates/satip/out/satip}
 folder=${1:-$(mktemp -d)}
 mkdir -p "$folder"
 chmod 755 "$folder"
-url="http://127.0.0.1:18975/?src=1&freq=11361.75&pol=h&msys=dvbs2&sr=22000&pids=all"
+query="/?src=1&freq=11361.75&pol=h&msys=dvbs2&sr=22000&pids=all"
+url="http://127.0.0.1:18975$query"
 failed=0
 server=
 stop() {
@@ -30,26 +33,17 @@ trap stop EXIT
 # RATE in kbit/s: makes the recording, and serves it.
 serve() {
     file="$folder/$1.ts"
-    picture=$(($1 * 80 / 100 - 300))
+    picture=$(($1 * 80 / 100 - 300))k
     [ -s "$file" ] || ffmpeg -hide_banner -loglevel error -y \
-        -f lavfi -i "testsrc2=size=720x576:rate=25" -f lavfi -i "sine=frequency=440:sample_rate=48000" -t 45 \
-        -c:v mpeg2video -pix_fmt yuv420p -b:v ${picture}k -minrate ${picture}k -maxrate ${picture}k -bufsize ${picture}k -g 12 \
+        -f lavfi -i "testsrc2=size=720x576:rate=25" \
+        -f lavfi -i "sine=frequency=440:sample_rate=48000" -t 45 \
+        -c:v mpeg2video -pix_fmt yuv420p -b:v $picture -minrate $picture -maxrate $picture \
+        -bufsize $picture -g 12 \
         -c:a mp2 -b:a 192k -f mpegts -muxrate "${1}k" -pat_period 0.1 "$file"
-    cat > "$folder/$1.toml" <<END
-address = "127.0.0.1"
-rtsp_port = 18654
-http_port = 18975
-[[frontend]]
-sources = [1]
-systems = ["dvbs", "dvbs2"]
-[[mux]]
-src = 1
-freq = "11361.75"
-pol = "h"
-msys = "dvbs2"
-sr = 22000
-file = "$file"
-END
+    PYTHONPATH="$top/tools" python3 -B -c '
+import sys
+from serving import configuration
+print(configuration("127.0.0.1", 18654, 18975, files=[sys.argv[1]]))' "$file" > "$folder/$1.toml"
     SATIP_PACE=recording "$satip" serve "$folder/$1.toml" 0 2> "$folder/$1.log" &
     server=$!
     tries=0
@@ -62,12 +56,12 @@ END
 
 # The rate of a client in kbit/s, over 10 s from the third second on.
 measure() {
-    python3 - "$1" <<'END'
+    python3 - "$1" "$query" <<'END'
 import socket, sys, time
 
 rate = int(sys.argv[1])
 client = socket.create_connection(("127.0.0.1", 18975))
-client.sendall(b"GET /?src=1&freq=11361.75&pol=h&msys=dvbs2&sr=22000&pids=all HTTP/1.1\r\nHost: a\r\n\r\n")
+client.sendall(f"GET {sys.argv[2]} HTTP/1.1\r\nHost: a\r\n\r\n".encode())
 client.recv(1)
 begin = time.monotonic() + 2
 while time.monotonic() < begin:
@@ -89,7 +83,8 @@ for rate in 1500 8000 30000; do
 done
 
 serve 8000
-ffmpeg -hide_banner -nostats -loglevel warning -i "$url" -t 30 -f null - 2> "$folder/ffmpeg.log" || failed=1
+ffmpeg -hide_banner -nostats -loglevel warning -i "$url" -t 30 -f null - \
+    2> "$folder/ffmpeg.log" || failed=1
 if grep -i -E 'discontinu|corrupt|non.monoton|invalid' "$folder/ffmpeg.log"; then
     echo "FFmpeg: not clean, see $folder/ffmpeg.log"
     failed=1
@@ -102,7 +97,8 @@ if command -v cvlc > /dev/null; then
     serve 8000
     as=
     [ "$(id -u)" -ne 0 ] || as="setpriv --reuid nobody --clear-groups env HOME=/tmp"
-    timeout 60 $as cvlc --intf dummy --vout dummy --aout dummy --no-interact -vv --run-time 30 "$url" vlc://quit 2> "$folder/vlc.log" || true
+    timeout 60 $as cvlc --intf dummy --vout dummy --aout dummy --no-interact -vv --run-time 30 \
+        "$url" vlc://quit 2> "$folder/vlc.log" || true
     late=$(grep -c -i -E 'called too late|too late to be displayed' "$folder/vlc.log" || true)
     if ! grep -q 'using video decoder module' "$folder/vlc.log"; then
         echo "VLC: it did not play, see $folder/vlc.log"

@@ -17,8 +17,9 @@
 # Without a mark it is run whole by `bash -e`, for ten minutes at most. A line that ends with a
 # comment that begins '# by hand' isn't run. Needs bash, python3 and what README's commands need
 # (Debian: ffmpeg, curl, vlc-bin, vlc-plugin-base, gstreamer1.0-tools, gstreamer1.0-plugins-good,
-# gstreamer1.0-plugins-bad, haproxy); a command that isn't to be had is a failure. VLC refuses root:
-# where this is run as root, cvlc runs as the user that VLC_USER names, nobody without it.
+# gstreamer1.0-plugins-bad); a command that isn't installed is a failure. VLC refuses root: where
+# this is run as root, cvlc runs as the user that VLC_USER names, nobody without it. Where there is
+# no display, its pictures and its sound go nowhere.
 set -u
 top=$(cd "$(dirname "$0")/.." && pwd)
 readme=$(realpath "${1:-$top/README.md}")
@@ -186,11 +187,13 @@ run_block() {
     esac
 }
 
-# A cvlc ahead of the real one in PATH.
-let_root_play() {
-    local user=${VLC_USER:-nobody}
-    printf '#!/bin/sh\nexec runuser -u %s -- env HOME=/tmp %s "$@"\n' \
-        "$user" "$(command -v cvlc)" > "$scratch/bin/cvlc"
+# A cvlc ahead of the real one in PATH, for root and for a machine without a display.
+let_vlc_play() {
+    local words=(exec)
+    [ "$(id -u)" -ne 0 ] || words+=(runuser -u "${VLC_USER:-nobody}" -- env HOME=/tmp)
+    words+=("$(command -v cvlc)")
+    [ -n "${DISPLAY:-}${WAYLAND_DISPLAY:-}" ] || words+=(--vout dummy --aout dummy)
+    printf '#!/bin/sh\n%s "$@"\n' "${words[*]}" > "$scratch/bin/cvlc"
     chmod 755 "$scratch" "$scratch/bin" "$scratch/bin/cvlc"
     PATH=$scratch/bin:$PATH
 }
@@ -198,8 +201,8 @@ let_root_play() {
 trap finish EXIT
 trap 'exit 1' INT TERM
 mkdir "$scratch/blocks" "$scratch/work" "$scratch/bin"
-if [ "$(id -u)" -eq 0 ] && command -v cvlc > "$scratch/null"; then
-    let_root_play
+if command -v cvlc > "$scratch/null"; then
+    let_vlc_play
 fi
 ln -s "$top"/* "$scratch/work/"
 cut_blocks

@@ -1,0 +1,311 @@
+#!/usr/bin/env python3
+"""Has system calls of a serving server fail, and looks for the line on standard error of each.
+
+    tools/try_fault_lines.py
+
+strace(1) makes them fail: the listener of one worker, reads of one recording, datagrams of one
+pump, accept4 for want of descriptors, writes to standard error, and the start of threads; one
+recording is taken away. Each line has to come with its time, its cause and, where the table of
+docs/PROTOCOL.md has brackets, its advice, once, and again behind a minute where it counts, while
+clients of the rest are served; and where the server ends, the line of its status is the last. That
+a thread can't be started no line tells: the server is to serve by those that it has.
+
+Ends with status 1 where that isn't so, as with WITHOUT=1 in the environment, where no such line is
+written. It takes 75 seconds, and needs crates/satip/out/satip (`cd crates/satip && rt run --
+--version` builds it) or SATIP_PROGRAM, the right to trace it, and the Debian packages strace and
+python3; cc with WITHOUT. Its ports are free ones of 127.0.23.4.
+"""
+
+import email.utils
+import os
+import re
+import signal
+import socket
+import subprocess
+import sys
+import time
+
+sys.dont_write_bytecode = True
+from serving import QUERIES, Checks, Rtsp, Server, arrived, free_ports, options, receiver
+
+ADDRESS = "127.0.23.4"
+REFUSED = re.compile(r"datagrams refused since .* full send buffers: (\d+) \(.*wmem_max\)")
+checks = Checks()
+
+
+def start(**words):
+    return Server(ADDRESS, ports=free_ports(ADDRESS), **words)
+
+
+class Player:
+    """A client that plays a multiplex, and has its connection no more."""
+
+    def __init__(self, server, query=QUERIES[0]):
+        client = Rtsp(ADDRESS, port=server.ports[0])
+        self.sock = receiver(client.host)
+        self.server = server
+        self.target, self.session = client.play(self.sock.getsockname()[1], query=query)
+        client.close()
+
+    def goes_on(self, seconds=2):
+        arrived(self.sock, 0.3)
+        return arrived(self.sock, seconds) > 50
+
+    def tear_down(self):
+        client = Rtsp(ADDRESS, port=self.server.ports[0])
+        client.ask("TEARDOWN", self.target, f"Session: {self.session}")
+        client.close()
+
+
+class Injection:
+    """strace(1) while it makes a call of a server fail, of all its threads or of one."""
+
+    def __init__(self, server, call, fault, *words, thread=None, trace=None):
+        self.log = server.path(f"{call}.log")
+        pid = str(thread or server.process.pid)
+        whose = ["-p", pid] if thread else ["-f", "-p", pid]
+        traced = ["-e", f"trace={trace or call}", "-e", f"inject={call}:{fault}"]
+        self.strace = subprocess.Popen(
+            ["strace", "-qq", "-yy", "-s", "80", "-o", self.log, *whose, *traced, *words],
+            stderr=subprocess.DEVNULL,
+        )
+        while tracer_of(pid) == 0 and self.strace.poll() is None:
+            time.sleep(0.05)
+        time.sleep(0.3)
+
+    def end(self):
+        """Lets the calls be; the lines of those that were traced."""
+        self.strace.send_signal(signal.SIGINT)
+        self.strace.wait()
+        with open(self.log) as file:
+            return file.read().splitlines()
+
+
+def tracer_of(pid):
+    with open(f"/proc/{pid}/status") as file:
+        return int(re.search(r"TracerPid:\s*(\d+)", file.read()).group(1))
+
+
+def threads_that(server, call, pattern):
+    """The threads that make such a call, those that make it most often first."""
+    log = server.path("threads.log")
+    words = ["strace", "-f", "-qq", "-yy", "-o", log, "-e", f"trace={call}"]
+    with subprocess.Popen([*words, "-p", str(server.process.pid)]) as strace:
+        time.sleep(2.5)
+        strace.send_signal(signal.SIGINT)
+    with open(log) as file:
+        made = [line.split()[0] for line in file if re.search(pattern, line)]
+    return sorted(set(made), key=made.count, reverse=True)
+
+
+def workers_of(server):
+    """The threads that wait at both listeners."""
+    return threads_that(server, "poll", r"poll\(\[.*TCP:.*TCP:.*\], 2, ")
+
+
+def come_until(server, holds):
+    """Connections that say nothing, one after another, until something holds."""
+    for _ in range(40):
+        if holds():
+            return
+        try:
+            socket.create_connection((ADDRESS, server.ports[0]), timeout=1).close()
+        except OSError:
+            pass
+        time.sleep(0.2)
+
+
+def lines_of(server):
+    """The lines of the edge but the first: moment and text."""
+    parted = [re.fullmatch(r"(.* GMT): (.*)", line) for line in server.said().splitlines()]
+    return [(line.group(1), line.group(2)) for line in parted if line][1:]
+
+
+def told(server, pattern, seconds=5):
+    """What the server told by such a line, in so many seconds: the lines that did."""
+    end = time.monotonic() + seconds
+    while True:
+        found = [line for line in lines_of(server) if re.fullmatch(pattern, line[1])]
+        if found or time.monotonic() > end:
+            return found
+        time.sleep(0.1)
+
+
+def check_line(server, pattern, what):
+    """Whether one such line came, at this time."""
+    found = told(server, pattern)
+    checks.check(len(found) == 1, f"{what}: one line tells it: {found}")
+    for moment, _ in found:
+        off = time.time() - email.utils.parsedate_to_datetime(moment).timestamp()
+        checks.check(-1 <= off < 8, f"{what}: with its time: {off:.1f} s ago")
+
+
+def check_rest(server, player, what):
+    checks.check(player.goes_on(), f"{what}: a stream goes on")
+    took = options(ADDRESS, port=server.ports[0])
+    checks.check(took is not None, f"{what}: a client comes in: {took and round(took, 2)} s")
+
+
+def one_worker_fails():
+    server = start(workers=3)
+    try:
+        player = Player(server)
+        count = len(os.listdir(f"/proc/{server.process.pid}/task"))
+        checks.check(count == 5, f"3 workers, a pump and the ticker are {count} threads")
+        what = "a worker's listener fails"
+        fault = Injection(server, "accept4", "error=EBADF", thread=workers_of(server)[0])
+        come_until(server, lambda: lines_of(server))
+        check_line(server, r"a worker ends, its listener failed: Bad file descriptor.*", what)
+        fault.end()
+        check_rest(server, player, what)
+    finally:
+        server.close()
+
+
+def status_comes_last():
+    server = start(workers=2, accepts=1)
+    try:
+        fault = Injection(server, "accept4", "error=EBADF", thread=workers_of(server)[0])
+        what = "one worker served its client, one failed"
+        took = options(ADDRESS, port=server.ports[0])
+        come_until(server, lambda: not server.lives())
+        status = server.status(5)
+        fault.end()
+        checks.check(took is not None, f"{what}: {took and round(took, 2)} s")
+        checks.check(status == 7, f"{what}: status {status}")
+        check_line(server, r"a worker ends, its listener failed: .*", what)
+        last = server.said().splitlines()[-1]
+        checks.check(last == "doors fault", f"{what}: the last line is '{last}'")
+    finally:
+        server.close()
+
+
+def one_recording_fails():
+    server = start(workers=4, fronts=2, files=("a.ts", "b.ts"))
+    try:
+        failing, other = Player(server), Player(server, QUERIES[1])
+        checks.check(failing.goes_on() and other.goes_on(), "two recordings play")
+        fault = Injection(server, "read", "error=EIO", "-P", server.path("a.ts"))
+        what = "a recording can't be read on"
+        check_line(server, r"recording a\.ts can't be read on, .*[Ii]nput/output error.*", what)
+        checks.check(not failing.goes_on(1), f"{what}: its stream ends")
+        check_rest(server, other, what)
+        checks.check(len(told(server, "recording a.*")) == 1, f"{what}: it is told once")
+        fault.end()
+        failing.tear_down()
+        checks.check(Player(server).goes_on(), f"{what}: it plays again when it can be read")
+    finally:
+        server.close()
+
+
+def one_recording_goes():
+    server = start(workers=4, fronts=2, files=("a.ts", "b.ts"))
+    try:
+        other = Player(server)
+        what = "a recording is taken away"
+        os.remove(server.path("b.ts"))
+        gone = Player(server, QUERIES[1])
+        check_line(server, r"recording b\.ts can't be played: .*[Nn]o such file.*", what)
+        check_rest(server, other, what)
+        gone.tear_down()
+        what = "a FIFO stands in its place"
+        os.mkfifo(server.path("b.ts"))
+        Player(server, QUERIES[1])
+        check_line(server, r"recording b\.ts can't be played: it is not a regular file", what)
+        check_rest(server, other, what)
+    finally:
+        server.close()
+
+
+def no_descriptors():
+    server = start(workers=4)
+    try:
+        player = Player(server)
+        fault = Injection(server, "accept4", "error=EMFILE:when=1+2")
+        what = "accept4 has no descriptor"
+        took = [options(ADDRESS, port=server.ports[0]) for _ in range(5)]
+        checks.check(None not in took, f"{what}: clients come in between")
+        check_line(server, r"connections can't be taken: .*Too many open files.*ulimit -n.*", what)
+        check_rest(server, player, what)
+        failed = sum("EMFILE" in line for line in fault.end())
+        checks.check(failed > 1, f"{what}: {failed} calls failed")
+    finally:
+        server.close()
+
+
+def no_standard_error():
+    server = start(workers=4)
+    try:
+        player = Player(server)
+        gone = ("-e", "inject=write:error=EPIPE:signal=SIGPIPE")
+        shortage = "error=EMFILE:when=1+2"
+        fault = Injection(server, "accept4", shortage, *gone, trace="accept4,write")
+        for _ in range(3):
+            options(ADDRESS, port=server.ports[0])
+        what = "nobody reads standard error"
+        lost = sum("EPIPE" in line for line in fault.end())
+        checks.check(lost > 0 and lines_of(server) == [], f"{what}: {lost} line is lost")
+        check_rest(server, player, what)
+    finally:
+        server.close()
+
+
+def no_threads():
+    faults = ["-e", "trace=clone,clone3", "-e", "inject=clone,clone3:error=EAGAIN"]
+    before = ("strace", "-D", "-f", "-qq", "-o", "/dev/null", *faults)
+    server = start(workers=4, before=before)
+    try:
+        what = "no thread can be started"
+        count = len(os.listdir(f"/proc/{server.process.pid}/task"))
+        took = options(ADDRESS, port=server.ports[0])
+        checks.check(took is not None, f"{what}: a client is served, {count} thread")
+        checks.check(count == 1 and lines_of(server) == [], f"{what}: the count alone shows it")
+    finally:
+        server.close()
+
+
+class Refusals:
+    """Each second datagram of one pump is refused, for longer than a minute."""
+
+    what = "datagrams are refused"
+
+    def __init__(self):
+        repeats = ("env", "SATIP_REPEAT=1")
+        self.server = start(workers=4, timeout=200, before=repeats)
+        self.player = Player(self.server)
+        pump = threads_that(self.server, "sendto", "<UDP")[0]
+        fault = "error=EAGAIN:when=2+2"
+        self.begun = time.monotonic()
+        self.fault = Injection(self.server, "sendto", fault, thread=pump, trace="sendto,write")
+
+    def check_first(self):
+        check_line(self.server, REFUSED, self.what)
+        check_rest(self.server, self.player, self.what)
+
+    def check_second(self):
+        time.sleep(max(0, self.begun + 64 - time.monotonic()))
+        counts = [int(REFUSED.fullmatch(text).group(1)) for _, text in told(self.server, REFUSED)]
+        checks.check(len(counts) == 2, f"{self.what}: two lines in 64 s, of {counts} datagrams")
+        refused, wanted = 0, []
+        for line in self.fault.end():
+            refused += "(INJECTED)" in line
+            if "datagrams refused" in line:
+                wanted.append(refused)
+        checks.check(counts == wanted, f"{self.what}: so many were, by strace: {wanted}")
+        check_rest(self.server, self.player, self.what)
+
+
+refusals = Refusals()
+try:
+    refusals.check_first()
+    one_worker_fails()
+    status_comes_last()
+    one_recording_fails()
+    one_recording_goes()
+    no_descriptors()
+    no_standard_error()
+    no_threads()
+    refusals.check_second()
+finally:
+    refusals.server.close()
+checks.end()
