@@ -5,7 +5,7 @@ use Rattle.satip_history.specs.Lists.{Each}
 use Rattle.satip_kits.specs.Unused.{IsUnusedWorker, IsUnusedPump, IsUnusedTick}
 use Rattle.satip_pump.specs.declared.kits.PumpKit.{PumpKit}
 use Rattle.satip_pump.specs.declared.kits.TickKit.{TickKit}
-use Rattle.satip_real.specs.StoreCounts.{StoreCounts}
+use Rattle.satip_recordings.specs.StoreCounts.{StoreCounts, counts_view}
 use Rattle.satip_worker.specs.declared.kits.WorkerKit.{WorkerKit}
 use Rattle.satip_world.specs.Dials.{Dial}
 use Rattle.satip_world.specs.Halls.{Hall}
@@ -20,12 +20,12 @@ each_of_all f P Q holds (x ∷ xs) all = (holds x (All-head P x xs all), each_of
 pub kits_fresh : (accepts : ℕ) (workers : List (WorkerKit Hall Outbox ℕ)) (pumps : List (PumpKit StoreCounts Outbox ℕ)) (tick : TickKit Dial Outbox ℕ)
     → All (IsUnusedWorker accepts) workers → All IsUnusedPump pumps → IsUnusedTick tick
     → AreFresh accepts (map (worker_view (λ (h : Hall). h) (λ (o : Outbox). o)) workers)
-    (map (pump_view (λ (s : StoreCounts) (mux : ℕ). None) (λ (s : StoreCounts). s.faults) (λ (s : StoreCounts). s.lent) (λ (s : StoreCounts). s.peak) (λ (o : Outbox). o)) pumps)
+    (map (pump_view counts_view (λ (o : Outbox). o)) pumps)
     (tick_view (λ (d : Dial). d) (λ (o : Outbox). o) tick)
 kits_fresh accepts workers pumps tick new_workers new_pumps new_tick = record {
   workers_are = each_of_all (worker_view (λ (h : Hall). h) (λ (o : Outbox). o)) (IsUnusedWorker accepts) (FreshWorker accepts)
       (λ kit new. record { told = false; hall = new.doors; outbox = new.outlet }) workers new_workers;
-  pumps_are = each_of_all (pump_view (λ (s : StoreCounts) (mux : ℕ). None) (λ (s : StoreCounts). s.faults) (λ (s : StoreCounts). s.lent) (λ (s : StoreCounts). s.peak) (λ (o : Outbox). o)) IsUnusedPump FreshPump
+  pumps_are = each_of_all (pump_view counts_view (λ (o : Outbox). o)) IsUnusedPump FreshPump
       (λ kit new. record {
         faults = ap (λ (s : StoreCounts). s.faults) new.store;
         lent = ap (λ (s : StoreCounts). s.lent) new.store;

@@ -1,6 +1,6 @@
 -- The kits that the desk over the system gives.
 use Rattle.std.specs.Prelude.{ℕ, None, map}
-use Rattle.satip_real.specs.StoreCounts.{StoreCounts}
+use Rattle.satip_recordings.specs.StoreCounts.{StoreCounts, counts_view}
 use Rattle.satip_serve.specs.declared.kits.Jobs.{Jobs}
 use Rattle.satip_serve.specs.Fresh.{AreFresh}
 use Rattle.satip_serve.specs.Views.{worker_view, pump_view, tick_view}
@@ -13,10 +13,9 @@ use Rattle.satip_world.specs.Outboxes.{Outbox}
 abbrev pub AreFreshKits : ℕ → Jobs Hall Outbox ℕ StoreCounts Dial → Type 0
 AreFreshKits accepts jobs = AreFresh accepts
     (map (worker_view (λ (h : Hall). h) (λ (o : Outbox). o)) jobs.workers.items)
-    (map (pump_view (λ (s : StoreCounts) (mux : ℕ). None) (λ (s : StoreCounts). s.faults) (λ (s : StoreCounts). s.lent) (λ (s : StoreCounts). s.peak) (λ (o : Outbox). o)) jobs.pumps.items)
+    (map (pump_view counts_view (λ (o : Outbox). o)) jobs.pumps.items)
     (tick_view (λ (d : Dial). d) (λ (o : Outbox). o) jobs.tick)
 
 -- what is seen of kits over the system; they tell no recordings
 abbrev pub real_view : Jobs Hall Outbox ℕ StoreCounts Dial → JobsView
-real_view jobs = jobs_view (λ (h : Hall). h) (λ (o : Outbox). o) (λ (s : StoreCounts) (mux : ℕ). None)
-    (λ (s : StoreCounts). s.faults) (λ (s : StoreCounts). s.lent) (λ (s : StoreCounts). s.peak) (λ (d : Dial). d) jobs
+real_view jobs = jobs_view (λ (h : Hall). h) (λ (o : Outbox). o) counts_view (λ (d : Dial). d) jobs

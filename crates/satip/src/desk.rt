@@ -8,7 +8,8 @@ use satip_base::{Failed, ReadSource, Sink, Source, Taken, Text, WriteSink};
 use satip_config::Config;
 use satip_kits::{KitsFault, real_kits};
 use satip_program::{Desk, Jobs, JobsFault};
-use satip_real::{RealClock, RealDoors, RealOutlet, RealPacer, RealStore};
+use satip_real::{RealClock, RealDoors, RealOutlet};
+use satip_recordings::{RealPacer, RealStore};
 use std::alloc::Global;
 use std::fs;
 use std::fs::File;
@@ -36,13 +37,7 @@ impl Source for ConfigFile {
 
     ghost tells = { ⊥ };
 
-    ghost left = { λ _. [] };
-
-    ghost ended = { λ f. f.ended };
-
-    ghost faults = { λ f. f.faults };
-
-    ghost taken = { λ f. f.taken };
+    ghost feed = { λ f. record { left = []; ended = f.ended; faults = f.faults; taken = f.taken } };
 
     fn take(&mut self, buf: &mut [u8]) -> Taken {
         self.source.take(buf)

@@ -65,7 +65,7 @@ pub fn pids_fault(pids: &PidSet, query: &Query) -> Option<PidFault>
     if !asks_pids(query) {
         return None;
     }
-    let mut set = *pids;
+    let mut set = pids.copy();
     asked_pids(&mut set, query)
 }
 

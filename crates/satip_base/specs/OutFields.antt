@@ -1,5 +1,6 @@
 -- How an `Out` keeps what it holds: the datagrams one behind the other in one list of bytes.
 use Rattle.std.specs.Prelude.{◌≡◌, ℕ, ◌-◌, ◌≤◌, List, [], ◌∷◌, map, slice_range, vec_len, vec_capacity}
+use Rattle.satip_base.specs.declared.limits.TheConstants.{REPLY_BYTES, EVENT_BYTES, EVENT_DATAGRAMS}
 use Rattle.satip_base.specs.declared.out.Head.{Head}
 use Rattle.satip_base.specs.declared.out.Out.TheInside.{Inside}
 use Rattle.satip_base.specs.Output.{Output, Datagram}
@@ -18,17 +19,17 @@ abbrev pub output_of : Inside → Output
 output_of o = record {
   reply = o.reply.items;
   datagrams = map (cut_of o.bytes.items) o.heads.items;
-  reply_spare = 131072 - vec_len o.reply;
-  datagram_spare = 262144 - vec_len o.bytes;
-  count_spare = 256 - vec_len o.heads;
+  reply_spare = REPLY_BYTES - vec_len o.reply;
+  datagram_spare = EVENT_BYTES - vec_len o.bytes;
+  count_spare = EVENT_DATAGRAMS - vec_len o.heads;
 }
 
 -- all its memory is there, and the heads' parts make up the bytes
 pub record IsSound (o : Inside) : Type 0 where
-  pub reply : vec_len o.reply ≤ 131072
-  pub reply_room : 131072 ≤ vec_capacity o.reply
-  pub bytes : vec_len o.bytes ≤ 262144
-  pub bytes_room : 262144 ≤ vec_capacity o.bytes
-  pub heads : vec_len o.heads ≤ 256
-  pub heads_room : 256 ≤ vec_capacity o.heads
+  pub reply : vec_len o.reply ≤ REPLY_BYTES
+  pub reply_room : REPLY_BYTES ≤ vec_capacity o.reply
+  pub bytes : vec_len o.bytes ≤ EVENT_BYTES
+  pub bytes_room : EVENT_BYTES ≤ vec_capacity o.bytes
+  pub heads : vec_len o.heads ≤ EVENT_DATAGRAMS
+  pub heads_room : EVENT_DATAGRAMS ≤ vec_capacity o.heads
   pub tiles : Tiles 0 (vec_len o.bytes) o.heads.items

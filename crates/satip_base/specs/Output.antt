@@ -2,6 +2,7 @@
 use Rattle.std.specs.Prelude.{◌≡◌, ℕ, ◌+◌, List, [], ◌∷◌, ◌++◌, length, sum_by, Option, Some, None}
 use Rattle.std.specs.Borrow.{Bor}
 use Rattle.satip_base.specs.declared.network.Address.{Address}
+use Rattle.satip_base.specs.declared.limits.TheConstants.{REPLY_BYTES, EVENT_BYTES, EVENT_DATAGRAMS}
 
 -- a datagram, and where it goes
 pub record Datagram : Type 0 where
@@ -18,7 +19,7 @@ pub record Output : Type 0 where
 
 -- nothing is written yet
 abbrev pub empty : Output
-empty = record { reply = []; datagrams = []; reply_spare = 131072; datagram_spare = 262144; count_spare = 256 }
+empty = record { reply = []; datagrams = []; reply_spare = REPLY_BYTES; datagram_spare = EVENT_BYTES; count_spare = EVENT_DATAGRAMS }
 
 -- how many bytes the datagrams have together
 abbrev pub datagram_bytes : List Datagram → ℕ
@@ -26,9 +27,9 @@ datagram_bytes datagrams = sum_by (λ d. length d.bytes) datagrams
 
 -- what is written and what is left make up the room
 pub record IsWithinRoom (o : Output) : Type 0 where
-  pub reply : o.reply_spare + length o.reply ≡ 131072
-  pub bytes : o.datagram_spare + datagram_bytes o.datagrams ≡ 262144
-  pub count : o.count_spare + length o.datagrams ≡ 256
+  pub reply : o.reply_spare + length o.reply ≡ REPLY_BYTES
+  pub bytes : o.datagram_spare + datagram_bytes o.datagrams ≡ EVENT_BYTES
+  pub count : o.count_spare + length o.datagrams ≡ EVENT_DATAGRAMS
 
 -- bytes were appended to the reply
 pub record Wrote (o : Output) (bs : List ℕ) (n : Output) : Type 0 where

@@ -25,7 +25,12 @@ impl<R: Read + Drop> Model for ReadSource<R> {
 
     ghost Value = { Feed };
 
-    ghost view = { λ s. record { left = []; ended = s.ended; faults = s.faults; taken = s.tally.bytes } };
+    ghost view = { λ s. record {
+      left = [];
+      ended = s.ended;
+      faults = s.faults;
+      taken = s.tally.bytes;
+    } };
 }
 
 impl<R: Read + Drop> ReadSource<R> {
@@ -50,13 +55,7 @@ impl<R: Read + Drop> Source for ReadSource<R> {
 
     ghost tells = { ⊥ };
 
-    ghost left = { λ _. [] };
-
-    ghost ended = { λ s. s.ended };
-
-    ghost faults = { λ s. s.faults };
-
-    ghost taken = { λ s. s.taken };
+    ghost feed = { λ s. record { left = []; ended = s.ended; faults = s.faults; taken = s.taken } };
 
     fn take(&mut self, buf: &mut [u8]) -> Taken {
         if self.ended {
@@ -128,9 +127,7 @@ impl<W: Write + Drop> Sink for WriteSink<W> {
 
     ghost tells = { ⊥ };
 
-    ghost sent = { λ _. [] };
-
-    ghost faults = { λ s. s.faults };
+    ghost drain = { λ s. record { sent = []; faults = s.faults } };
 
     fn put(&mut self, bytes: &[u8]) -> Put {
         if self.writer.write_all(bytes).is_ok() && self.writer.flush().is_ok() {

@@ -3,6 +3,7 @@
 
 mod adapters;
 mod identity;
+pub mod limits;
 mod memory;
 mod network;
 mod numbers;

@@ -64,17 +64,23 @@ impl Model for MemorySource {
 
     ghost Value = { Feed };
 
-    ghost view = { λ s. record { left = drop s.place s.text.items; ended = s.ended; faults = s.faults; taken = s.place } };
+    ghost view = { λ s. record {
+      left = drop s.place s.text.items;
+      ended = s.ended;
+      faults = s.faults;
+      taken = s.place;
+    } };
 
-    ghost invariant = { λ s. (s.place ≤ length s.text.items) × (s.ended ≡ true → s.place ≡ length s.text.items) };
+    ghost invariant = { λ s. (s.place ≤ length s.text.items)
+        × (s.ended ≡ true → s.place ≡ length s.text.items) };
 }
 
 impl MemorySource {
     ghost use Rattle.satip_base.specs.Streams.{fresh_feed};
 
-    /// A source of the text. The takes give at most as many bytes as `pieces` has one after the other,
-    /// and at least one, then as many as there is room for. The takes with a number, from 1, in
-    /// `failing` fail.
+    /// A source of the text. The takes give at most as many bytes as `pieces` has one after the
+    /// other, and at least one, then as many as there is room for. The takes with a number, from 1,
+    /// in `failing` fail.
     pub fn make(
         alloc: Global,
         text: &[u8],
@@ -101,13 +107,7 @@ impl MemorySource {
 impl Source for MemorySource {
     ghost tells = { Unit {0} };
 
-    ghost left = { λ s. s.left };
-
-    ghost ended = { λ s. s.ended };
-
-    ghost faults = { λ s. s.faults };
-
-    ghost taken = { λ s. s.taken };
+    ghost feed = { λ s. s };
 
     fn take(&mut self, buf: &mut [u8]) -> Taken {
         if self.ended {
@@ -181,9 +181,7 @@ fn keep(sent: &mut Vec<u8>, bytes: &[u8]) -> bool
 impl Sink for MemorySink {
     ghost tells = { Unit {0} };
 
-    ghost sent = { λ s. s.sent };
-
-    ghost faults = { λ s. s.faults };
+    ghost drain = { λ s. s };
 
     fn put(&mut self, bytes: &[u8]) -> Put {
         if self.failures.meets_one() {

@@ -5,17 +5,12 @@ ghost use Rattle.satip_base.specs.Output.{empty, shown, IsWithinRoom, Wrote, Sen
 ghost use Rattle.satip_base.specs.Texts.{address_text, id_text};
 
 use crate::identity::SessionId;
+use crate::limits::{EVENT_BYTES, EVENT_DATAGRAMS, REPLY_BYTES};
 use crate::network::Address;
 use crate::outcomes::Want;
 use itoa::Buffer;
 use std::alloc::Global;
 use std::marker::Model;
-
-const REPLY_ROOM: usize = 131072;
-
-const BYTES_ROOM: usize = 262144;
-
-const HEADS_ROOM: usize = 256;
 
 /// A reply and a list of datagrams, with room for 131072 bytes of reply and for 256 datagrams of
 /// 262144 bytes together. All memory is taken when it is made.
@@ -52,9 +47,9 @@ impl Out {
         ensures ok { IfOk result (λ out. out ≡ empty) }
     {
         let (Ok(reply), Ok(bytes), Ok(heads)) = (
-            Vec::with_capacity(alloc, REPLY_ROOM),
-            Vec::with_capacity(alloc, BYTES_ROOM),
-            Vec::with_capacity(alloc, HEADS_ROOM),
+            Vec::with_capacity(alloc, REPLY_BYTES),
+            Vec::with_capacity(alloc, EVENT_BYTES),
+            Vec::with_capacity(alloc, EVENT_DATAGRAMS),
         ) else {
             return Err(Want);
         };
@@ -89,7 +84,15 @@ impl Out {
         self.heads.len()
     }
 
-    /// The datagram at a place, from 0, and where it goes; `None` where `place` isn't below the count.
+    /// How many more bytes of datagrams there is room for.
+    pub fn room(&self) -> usize
+        ensures room { result ≡ self.now.datagram_spare }
+    {
+        EVENT_BYTES - self.bytes.len()
+    }
+
+    /// The datagram at a place, from 0, and where it goes; `None` where `place` isn't below the
+    /// count.
     pub fn datagram(&self, place: usize) -> Option<(Address, &[u8])>
         ensures datagram { shown result ≡ slice_get self.now.datagrams place }
     {
@@ -137,6 +140,16 @@ impl Out {
         ensures wrote { Wrote self.old (id_text id) self.new }
     {
         self.write(&id.text());
+    }
+
+    /// Appends a whole datagram.
+    pub fn append(&mut self, to: Address, bytes: &[u8])
+        requires count_room { self.old.count_spare ≢ 0 }
+        requires room { length bytes.now ≤ self.old.datagram_spare }
+        ensures sent { Sends self.old to bytes.now self.new }
+    {
+        self.begin(to);
+        self.extend(bytes);
     }
 
     /// Begins an empty datagram.

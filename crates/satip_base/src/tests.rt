@@ -64,8 +64,17 @@ fn an_out_keeps_a_reply_and_datagrams(rt: HostRuntime) -> Result<(), Fail> {
     assert!(rt; address == to);
     assert_eq!(rt; bytes, b"abcdef".as_slice());
     assert!(rt; out.datagram(2).is_none());
+    assert_eq!(rt; out.room(), 262138);
+    out.append(to, b"gh");
+    assert_eq!(rt; out.count(), 3);
+    let Some((_, last)) = out.datagram(2) else {
+        return Err(Fail::from("no last datagram"));
+    };
+    assert_eq!(rt; last, b"gh".as_slice());
+    assert_eq!(rt; out.room(), 262136);
     out.clear();
     assert_eq!(rt; out.count(), 0);
+    assert_eq!(rt; out.room(), 262144);
     out.write_id(SessionId { count: 2, word: 3 });
     assert_eq!(rt; out.reply(), b"0000000200000003".as_slice());
     Ok(())

@@ -72,7 +72,7 @@ reach-all : (held : List (Option (List ℕ))) → reach (length held) held ≡ l
 reach-all [] = refl
 reach-all (slot ∷ held) = omega (arith, reach-all held)
 
-last_items-cons : (first : ℕ) (ps : List Placed) → 0 < length ps
+pub last_items-cons : (first : ℕ) (ps : List Placed) → 0 < length ps
     → last_items first ps ≡ items_from first ps (passed ps) (greatest ps + 1 - passed ps)
 last_items-cons first [] h = absurd (omega arith)
 last_items-cons first (p ∷ ps) h = refl

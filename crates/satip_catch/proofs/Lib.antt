@@ -5,3 +5,4 @@ pub mod IndexLemmas
 pub mod TakeLemmas
 pub mod RunLemmas
 pub mod AllLemmas
+pub mod OrderLemmas

@@ -17,7 +17,7 @@ pub record Catch : Type 0 where
 abbrev pub catching : Catch
 catching = record { source = None; next = 0; held = []; finished = false }
 
--- all that can be handed up before the next datagram was handed up, and the end wasn't told
+-- the end wasn't told, and at most 64 places are held, as they are once `next` has answered None
 pub record Rests (c : Catch) : Type 0 where
   pub unfinished : c.finished ≡ false
   pub few : length c.held ≤ 64

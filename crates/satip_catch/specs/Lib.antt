@@ -5,3 +5,4 @@ pub mod Catching
 pub mod Held
 pub mod Rows
 pub mod Runs
+pub mod Order

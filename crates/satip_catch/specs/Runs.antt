@@ -31,10 +31,14 @@ abbrev pub after_all : Catch → List Datagram → Catch
 after_all c [] = c
 after_all c (d ∷ ds) = after_all (drained (taken d c)) ds
 
+-- what a new catcher hands up of these datagrams, with the end told
+abbrev pub all_handed_up : List Datagram → List Item
+all_handed_up ds = handed_up catching ds ++ all_items (ended (after_all catching ds))
+
 -- the items are what is caught of these datagrams, before the end and with it
 pub record CatchesAll (ds : List Datagram) : Type 0 where
   pub before_end : handed_up catching ds ≡ caught false ds
-  pub with_end : handed_up catching ds ++ all_items (ended (after_all catching ds)) ≡ caught true ds
+  pub with_end : all_handed_up ds ≡ caught true ds
 
 abbrev pub AlwaysCatchesAll : Type 0
 AlwaysCatchesAll = (ds : List Datagram) → All (λ d. d.number < 65536) ds → CatchesAll ds

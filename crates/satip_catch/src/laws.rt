@@ -2,6 +2,7 @@
 //! empty body.
 ghost use Rattle.std.specs.Prelude.{◌≡◌, true, false, [], ◌∷◌};
 ghost use Rattle.satip_catch.specs.Caught.{caught};
+ghost use Rattle.satip_catch.specs.Order.{AlwaysCatchesInOrder};
 ghost use Rattle.satip_catch.specs.Rows.{datagrams, data_of, gap_of};
 ghost use Rattle.satip_catch.specs.Runs.{AlwaysCatchesAll};
 
@@ -18,4 +19,12 @@ pub fn worked_rows()
 /// each: its items are what is caught of them all, before the end and with it.
 pub fn always_catches_all()
     ensures caught { AlwaysCatchesAll }
+{}
+
+/// Whatever first number a sender begins with, and in whatever order its datagrams come, as often
+/// as they like, each less than 1024 behind the newest before it: with the end told, each datagram
+/// from the first arrival up to the newest is in exactly one item, as data or as part of a gap, in
+/// the sender's order, and packets are unchanged.
+pub fn always_catches_in_order()
+    ensures caught { AlwaysCatchesInOrder }
 {}

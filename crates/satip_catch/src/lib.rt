@@ -15,7 +15,7 @@ mod view;
 
 pub use catcher::Catcher;
 pub use item::Item;
-pub use laws::{always_catches_all, worked_rows};
+pub use laws::{always_catches_all, always_catches_in_order, worked_rows};
 pub use packets::Packets;
 pub use rtp::read_rtp;
 pub use view::RtpView;

@@ -50,7 +50,8 @@ fn source_places(items: &[Value]) -> [bool; 256]
 /// Whether an item names the system.
 fn names_system(item: &Value, system: System) -> bool
     ensures value { result
-        ≡ option_map_or (system_eq system) (option_and_then system_named (as_str (view item.now))) false }
+        ≡ option_map_or (system_eq system) (option_and_then system_named (as_str (view item.now)))
+        false }
 {
     match system_of(item) {
         Some(System::Dvbs) => match system {
@@ -68,7 +69,8 @@ fn names_system(item: &Value, system: System) -> bool
 /// Whether some item names the system.
 fn name_system(items: &[Value], system: System) -> bool
     ensures value { result ≡ list_any
-        (λ v. option_map_or (system_eq system) (option_and_then system_named (as_str (view v))) false)
+        (λ v. option_map_or (system_eq system) (option_and_then system_named (as_str (view v)))
+        false)
         items.now }
 {
     items.iter().any(|item| names_system(item, system))
@@ -200,7 +202,8 @@ fn read_fronts(alloc: Global, items: &[Value]) -> Result<Vec<Front>, ConfigFault
 #[tactic(auto, unfolding(crate::specs::Config::fronts_in))]
 pub(crate) fn fronts_in(alloc: Global, items: &[Value]) -> Result<Vec<Front>, ConfigFault>
     ensures ok { IfOk result (λ fronts. fronts_in (map view items.now) ≡ Ok fronts.items) }
-    ensures fault { IfErr result (λ e. e ≢ ConfigFault.Want → fronts_in (map view items.now) ≡ Err e) }
+    ensures fault { IfErr result (λ e. e ≢ ConfigFault.Want
+        → fronts_in (map view items.now) ≡ Err e) }
 {
     check_tables(items, ConfigKey::top(ConfigName::Frontend), 1, 16)?;
     read_fronts(alloc, items)

@@ -14,6 +14,3 @@ pub use configuration::Config;
 pub use fault::ConfigFault;
 pub use key::{ConfigKey, ConfigName, ConfigTable};
 pub use read::read_config;
-
-#[cfg(test)]
-mod tests;

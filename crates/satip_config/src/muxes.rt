@@ -42,7 +42,8 @@ pub(crate) fn mux_at(alloc: Global, table: &Table, number: u16) -> Result<(Mux, 
 fn read_muxes(alloc: Global, items: &[Value]) -> Result<(Vec<Mux>, Vec<Text>), ConfigFault>
     requires { length items.now ≤ 256 }
     ensures ok { IfOk result (λ found.
-        recordings (filter_map (λ v. as_table (view v)) items.now) ≡ Ok (found.0.items, found.1.items)) }
+        recordings (filter_map (λ v. as_table (view v)) items.now)
+        ≡ Ok (found.0.items, found.1.items)) }
     ensures fault { IfErr result (λ e. e ≢ ConfigFault.Want
         → recordings (filter_map (λ v. as_table (view v)) items.now) ≡ Err e) }
 {
@@ -71,7 +72,8 @@ pub(crate) fn recordings_in(
 ) -> Result<(Vec<Mux>, Vec<Text>), ConfigFault>
     ensures ok { IfOk result (λ found.
         recordings_in (map view items.now) ≡ Ok (found.0.items, found.1.items)) }
-    ensures fault { IfErr result (λ e. e ≢ ConfigFault.Want → recordings_in (map view items.now) ≡ Err e) }
+    ensures fault { IfErr result (λ e. e ≢ ConfigFault.Want
+        → recordings_in (map view items.now) ≡ Err e) }
 {
     check_tables(items, ConfigKey::top(ConfigName::Mux), 0, 256)?;
     read_muxes(alloc, items)

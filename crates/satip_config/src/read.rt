@@ -15,18 +15,18 @@ use crate::muxes::recordings_in;
 use crate::values::{array, array_at, number_or, value_at};
 use crate::words::address_at;
 use satip_base::Text;
+use satip_base::limits::CONFIGURATION;
 use satip_tune::{Front, Mux};
 use std::alloc::Global;
 use toml::Table;
 
 /// How many bytes a configuration may have.
-const MOST_BYTES: usize = 1_048_576;
-
 /// The front ends of a document.
 #[tactic(auto, unfolding(crate::specs::Config::fronts_of))]
 fn fronts_of(alloc: Global, table: &Table) -> Result<Vec<Front>, ConfigFault>
     ensures ok { IfOk result (λ fronts. fronts_of (table_view table.now) ≡ Ok fronts.items) }
-    ensures fault { IfErr result (λ e. e ≢ ConfigFault.Want → fronts_of (table_view table.now) ≡ Err e) }
+    ensures fault { IfErr result (λ e. e ≢ ConfigFault.Want
+        → fronts_of (table_view table.now) ≡ Err e) }
 {
     let items = array_at(table, ConfigKey::top(ConfigName::Frontend))?;
     fronts_in(alloc, items)
@@ -37,7 +37,8 @@ fn fronts_of(alloc: Global, table: &Table) -> Result<Vec<Front>, ConfigFault>
 fn recordings_of(alloc: Global, table: &Table) -> Result<(Vec<Mux>, Vec<Text>), ConfigFault>
     ensures ok { IfOk result (λ found.
         recordings_of (table_view table.now) ≡ Ok (found.0.items, found.1.items)) }
-    ensures fault { IfErr result (λ e. e ≢ ConfigFault.Want → recordings_of (table_view table.now) ≡ Err e) }
+    ensures fault { IfErr result (λ e. e ≢ ConfigFault.Want
+        → recordings_of (table_view table.now) ≡ Err e) }
 {
     let key = ConfigKey::top(ConfigName::Mux);
     match value_at(table, key) {
@@ -87,10 +88,10 @@ fn text_of(bytes: &[u8]) -> Option<&str>
 fn document_of(alloc: Global, bytes: &[u8]) -> Result<Table, ConfigFault>
     ensures ok { IfOk result (λ table. document_of bytes.now ≡ Ok (table_view table)) }
     ensures fault { IfErr result (λ e. e ≢ ConfigFault.Want → document_of bytes.now ≡ Err e) }
-    ensures long { IfErr result (λ e. (e ≡ ConfigFault.Long) ↔ (1048576 < length bytes.now)) }
+    ensures long { IfErr result (λ e. (e ≡ ConfigFault.Long) ↔ (CONFIGURATION < length bytes.now)) }
     ensures not_toml { IfErr result (λ e. e ≡ ConfigFault.NotToml → document bytes.now ≡ None) }
 {
-    if bytes.len() > MOST_BYTES {
+    if bytes.len() > CONFIGURATION {
         return Err(ConfigFault::Long);
     }
     let text = text_of(bytes).ok_or(ConfigFault::NotToml)?;
@@ -101,16 +102,17 @@ fn document_of(alloc: Global, bytes: &[u8]) -> Result<Table, ConfigFault>
     }
 }
 
-/// Reads a configuration: TOML with the keys of the table in docs/PROTOCOL.md; other keys are ignored.
-/// The fault is the first one, in the order of that table: of one key a wrong kind comes before a value
-/// that isn't allowed, and `Long` and `NotToml` come before both. Only `Want` says nothing of the text.
+/// Reads a configuration: TOML with the keys of the table in docs/PROTOCOL.md; other keys are
+/// ignored. The fault is the first one, in the order of that table: of one key a wrong kind comes
+/// before a value that isn't allowed, and `Long` and `NotToml` come before both. Only `Want` says
+/// nothing of the text.
 #[tactic(auto, unfolding(crate::specs::Config::config))]
 pub fn read_config(alloc: Global, bytes: &[u8]) -> Result<Config, ConfigFault>
     ensures ok { IfOk result (λ c. config bytes.now ≡ Ok c) }
     ensures fault { IfErr result (λ e. e ≢ ConfigFault.Want → config bytes.now ≡ Err e) }
 
     // When the faults come that aren't those of a key.
-    ensures long { (result ≡ Err ConfigFault.Long) ↔ (1048576 < length bytes.now) }
+    ensures long { (result ≡ Err ConfigFault.Long) ↔ (CONFIGURATION < length bytes.now) }
     ensures not_toml { result ≡ Err ConfigFault.NotToml → document bytes.now ≡ None }
 
     // What a configuration that is read always keeps.

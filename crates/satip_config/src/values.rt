@@ -1,4 +1,5 @@
-//! What stands at the keys of a table: first whether it has the right kind, then whether it is allowed.
+//! What stands at the keys of a table: first whether it has the right kind, then whether it is
+//! allowed.
 ghost use Rattle.std.specs.Prelude.{◌≡◌, ◌≤◌, Ok, Err, map, length, IfOk, IfSome, is_some, MatchResult, option_map};
 ghost use Rattle.std.specs.List.{list_all, filter_map};
 ghost use Rattle.toml.specs.Data.{as_integer, as_table};
@@ -143,7 +144,8 @@ pub(crate) fn check_tables(
     most: usize,
 ) -> Result<(), ConfigFault>
     ensures value { MatchResult result
-        (λ _. tables_in least most key (map view items.now) ≡ Ok (filter_map (λ v. as_table (view v)) items.now))
+        (λ _. tables_in least most key (map view items.now)
+        ≡ Ok (filter_map (λ v. as_table (view v)) items.now))
         (λ e. tables_in least most key (map view items.now) ≡ Err e) }
     ensures few { IfOk result (λ _. length items.now ≤ most) }
 {

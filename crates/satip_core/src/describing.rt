@@ -10,18 +10,17 @@ ghost use Rattle.satip_state.specs.Standing.{StandsFor};
 ghost use Rattle.satip_core.specs.Describing.{if_wanted, is_wanted as is_wanted_stream, views_of};
 
 use satip_base::Out;
+use satip_base::limits::SESSIONS;
 use satip_config::Config;
 use satip_pids::PidSet;
 use satip_rtcp::StreamView;
 use satip_rtsp::write_describe;
 use satip_sdp::{sdp_length, write_sdp};
 use satip_state::Parts;
+use std::array;
 
-// So many streams live at most.
-const STREAMS: usize = 64;
-
-/// Appends the reply to DESCRIBE: its head, and the SDP of the named stream or of all (RFC 2326, section
-/// 10.2; SAT>IP 1.2.2, 3.5.7).
+/// Appends the reply to DESCRIBE: its head, and the SDP of the named stream or of all (RFC 2326,
+/// section 10.2; SAT>IP 1.2.2, 3.5.7).
 #[tactic(auto, using(satip_rtsp::proofs::ReplyLemmas::reply_bounds))]
 pub fn write_description(
     config: &Config,
@@ -33,9 +32,10 @@ pub fn write_description(
     requires cleared { out.old ≡ empty }
     requires fronts { length config.now.fronts ≤ 16 }
     ensures wrote { (st : State) → StandsFor config.now parts.now st → Wrote out.old
-        (describe_head cseq config.now.address (length (description config.now st named)) ++ description config.now st named) out.new }
+        (describe_head cseq config.now.address (length (description config.now st named))
+        ++ description config.now st named) out.new }
 {
-    let mut views = [no_view(); STREAMS];
+    let mut views: [StreamView; SESSIONS] = array::from_fn(|_place| no_view());
     let count = view_all(parts, named, &mut views);
     let shown = views.split_at(count).0;
     let fronts = config.fronts.as_slice().len() as u16;
@@ -58,15 +58,15 @@ fn no_view() -> StreamView {
 
 // Puts the wanted streams into the list, from its beginning, and answers how many they are.
 fn view_all(parts: &Parts, named: Option<u16>, views: &mut [StreamView]) -> usize
-    requires room { length views.old ≡ 64 }
-    ensures few { result ≤ 64 }
-    ensures size { length views.new ≡ 64 }
+    requires room { length views.old ≡ SESSIONS }
+    ensures few { result ≤ SESSIONS }
+    ensures size { length views.new ≡ SESSIONS }
     ensures views { (c : Configured) (st : State) → StandsFor c parts.now st
         → take result views.new ≡ views_of st named st.streams }
 {
     parts.known();
     let mut count = 0;
-    for place in 0..STREAMS {
+    for place in 0..SESSIONS {
         count = put_view(views, count, named, parts.view_at(place));
     }
     count

@@ -46,7 +46,8 @@ fn start(
 ) -> GetAnswer
     requires cleared { out.old ≡ empty }
     ensures did { (st : State) → StandsFor config.now parts.old st → is_full st ≡ false
-        → Did config.now parts.new (Get result) out.new (started config.now peer draw request.now st) }
+        → Did config.now parts.new (Get result) out.new
+        (started config.now peer draw request.now st) }
 {
     match parts.found(true, peer, draw, NO_PORTS) {
         None => refuse(telling(503, RefusalBody::NoMoreSessions), out),
@@ -69,7 +70,8 @@ pub fn answer_get(
 ) -> GetAnswer
     requires cleared { out.old ≡ empty }
     ensures did { (st : State) → StandsFor config.now parts.old st
-        → Did config.now parts.new (Get result) out.new (on_get config.now peer draw request.now st) }
+        → Did config.now parts.new (Get result) out.new
+        (on_get config.now peer draw request.now st) }
 {
     match decide_get(parts, request) {
         Some(refused) => refuse(refused, out),

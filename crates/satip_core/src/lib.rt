@@ -8,8 +8,7 @@ mod replies;
 mod requests;
 mod served;
 mod server;
-#[cfg(test)]
-mod tests;
 mod values;
 
+pub use satip_plain::{Answer, Beat, Closed, Event, GetAnswer, Pulled, Replied, Setting, Work};
 pub use server::Server;

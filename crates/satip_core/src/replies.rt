@@ -38,8 +38,8 @@ fn closes(refusal: &Refusal) -> bool
     }
 }
 
-/// Appends the reply to a request that is refused: a message that can't be read has no CSeq, and an option
-/// that is required is named (RFC 2326, section 12.32).
+/// Appends the reply to a request that is refused: a message that can't be read has no CSeq, and an
+/// option that is required is named (RFC 2326, section 12.32).
 pub fn write_refusal(request: &Request, refused: &Refused, out: &mut Out)
     requires status { IsStatus refused.now.status }
     requires room { 256 ≤ out.old.reply_spare }

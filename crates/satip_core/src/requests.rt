@@ -52,7 +52,8 @@ fn id_of(session: Option<Session>) -> Option<SessionId>
 // The session that is heard of: the named one, where the message itself is right.
 fn heard_id(parts: &Parts, request: &Request) -> Option<SessionId>
     ensures heard { (c : Configured) (st : State) → StandsFor c parts.now st
-        → result ≡ (if is_none request.now.refusal then option_map (λ s. s.id) (session_named_by st request.now.session) else None) }
+        → result ≡ (if is_none request.now.refusal then option_map (λ s. s.id)
+        (session_named_by st request.now.session) else None) }
 {
     let id = id_of(session_named(parts, request.session));
     match request.refusal {
@@ -76,7 +77,11 @@ fn hear(parts: &mut Parts, request: &Request)
 fn refuse(request: &Request, refused: &Refused, out: &mut Out) -> Replied
     requires cleared { out.old ≡ empty }
     requires status { IsStatus refused.now.status }
-    ensures answer { result ≡ record { status = refused.now.status; closing = is_closing_request request.now } }
+    ensures answer { result ≡ record {
+      status = refused.now.status;
+      closing = is_closing_request
+          request.now;
+    } }
     ensures wrote { Wrote out.old (reply_to_refused request.now (told refused.now)) out.new }
 {
     write_refusal(request, refused, out);
@@ -103,7 +108,8 @@ fn options(parts: &Parts, cseq: Option<u32>, name: SessionName, out: &mut Out) -
 #[tactic(auto, using(satip_rtsp::proofs::ReplyLemmas::reply_bounds))]
 fn teardown(parts: &mut Parts, cseq: Option<u32>, name: SessionName, out: &mut Out) -> Replied
     requires cleared { out.old ≡ empty }
-    ensures did { (c : Configured) (st : State) → StandsFor c parts.old st → Did c parts.new (AnswerReplied result) out.new
+    ensures did { (c : Configured) (st : State) → StandsFor c parts.old st
+        → Did c parts.new (AnswerReplied result) out.new
         (torn_down cseq st (option_map (λ s. s.id) (session_named_by st name))) }
 {
     match id_of(session_named(parts, name)) {
@@ -136,7 +142,8 @@ fn move_session(
 ) -> Option<(SessionId, u16)>
     ensures given { result ≡ option_map (λ number. (id, number)) stream }
     ensures moved { (c : Configured) (st : State) → StandsFor c parts.old st
-        → StandsFor c parts.new (change_session id (λ s. record s { peer = peer; ports = ports }) st) }
+        → StandsFor c parts.new (change_session id (λ s. record s { peer = peer; ports = ports })
+        st) }
 {
     parts.move_to(id, peer, ports);
     match stream {
@@ -158,7 +165,8 @@ fn make_session(
         → result ≡ Some (next_id st draw, unwrap_or stream (least_free st.streams)) }
     ensures made { (c : Configured) (st : State) → StandsFor c parts.old st → is_full st ≡ false
         → IfSome stream (λ number. is_none (stream_of st number) ≡ false)
-        → StandsFor c parts.new (option_map_or (λ number. join false peer draw ports number st) stream (found false peer draw ports st)) }
+        → StandsFor c parts.new (option_map_or (λ number. join false peer draw ports number st)
+        stream (found false peer draw ports st)) }
 {
     match stream {
         None => parts.found(false, peer, draw, ports),
@@ -169,7 +177,8 @@ fn make_session(
     }
 }
 
-// The session of a SETUP comes to its place: its id, and the number of its stream. None where none can be made.
+// The session of a SETUP comes to its place: its id, and the number of its stream. None where none
+// can be made.
 fn place_session(
     parts: &mut Parts,
     peer: Peer,
@@ -177,7 +186,8 @@ fn place_session(
     ports: Ports,
     request: &Request,
 ) -> Option<(SessionId, u16)>
-    ensures placed { (c : Configured) (st : State) → StandsFor c parts.old st → MaySetUp st request.now
+    ensures placed { (c : Configured) (st : State) → StandsFor c parts.old st
+        → MaySetUp st request.now
         → SetUpAs c parts.new peer draw ports request.now st result }
 {
     match id_of(session_named(parts, request.session)) {
@@ -197,7 +207,8 @@ fn set_up(
 ) -> Replied
     requires cleared { out.old ≡ empty }
     ensures did { (st : State) → StandsFor config.now parts.old st → MaySetUp st request.now
-        → Did config.now parts.new (AnswerReplied result) out.new (setup config.now peer draw request.now st) }
+        → Did config.now parts.new (AnswerReplied result) out.new
+        (setup config.now peer draw request.now st) }
 {
     let ports = ports_of(request.ports);
     match place_session(parts, peer, draw, ports, request) {
@@ -255,8 +266,10 @@ fn accept(
 ) -> Replied
     requires cleared { out.old ≡ empty }
     requires standing { Standing config.now parts.old }
-    ensures did { (st : State) → StandsFor config.now parts.old st → Accepted config.now st request.now
-        → Did config.now parts.new (AnswerReplied result) out.new (done_by request.now.method config.now peer draw request.now st) }
+    ensures did { (st : State) → StandsFor config.now parts.old st
+        → Accepted config.now st request.now
+        → Did config.now parts.new (AnswerReplied result) out.new
+        (done_by request.now.method config.now peer draw request.now st) }
 {
     match request.method {
         Method::Options => options(parts, request.cseq, request.session, out),
@@ -270,7 +283,8 @@ fn accept(
     }
 }
 
-/// An RTSP request is answered. A session that it names was heard of, where the message itself is right.
+/// An RTSP request is answered. A session that it names was heard of, where the message itself is
+/// right.
 pub fn answer_request(
     config: &Config,
     parts: &mut Parts,
@@ -282,7 +296,8 @@ pub fn answer_request(
     requires cleared { out.old ≡ empty }
     requires standing { Standing config.now parts.old }
     ensures did { (st : State) → StandsFor config.now parts.old st
-        → Did config.now parts.new (AnswerReplied result) out.new (on_request config.now peer draw request.now st) }
+        → Did config.now parts.new (AnswerReplied result) out.new
+        (on_request config.now peer draw request.now st) }
 {
     let refused = decide(parts, request);
     hear(parts, request);

@@ -29,8 +29,8 @@ use satip_ts::Packet;
 use std::alloc::Global;
 use std::marker::Model;
 
-/// The server of one thread. A contract sees what it was made with, and what its parts keep; each event is
-/// a step of the plain server for which they stand.
+/// The server of one thread. A contract sees what it was made with, and what its parts keep; each
+/// event is a step of the plain server for which they stand.
 #[derive(Drop)]
 pub struct Server {
     setting: Setting,
@@ -49,14 +49,16 @@ impl Model for Server {
 }
 
 impl Server {
-    /// The server before its first event, with its clock at this moment in milliseconds of Unix time. Takes
-    /// all memory; `Want` where it was refused.
+    /// The server before its first event, with its clock at this moment in milliseconds of Unix
+    /// time. Takes all memory; `Want` where it was refused.
     pub fn make(alloc: Global, config: Config, start: u64) -> Result<Server, Want>
         requires few { length config.fronts ≤ 16 }
         requires numbered { IsNumbered 1 config.fronts }
         requires received { length config.muxes ≤ 256 }
-        ensures setting { IfOk result (λ server. server.setting ≡ record { config = config; start = start }) }
-        ensures opening { IfOk result (λ server. Stands server (opening (record { config = config; start = start }))) }
+        ensures setting { IfOk result (λ server. server.setting
+            ≡ record { config = config; start = start }) }
+        ensures opening { IfOk result (λ server. Stands server
+            (opening (record { config = config; start = start }))) }
         ensures history { IfOk result (λ server. StandsAfter server []) }
     {
         let Ok(fronts) = config.fronts.clone() else {
@@ -71,13 +73,16 @@ impl Server {
         Ok(Server { setting, parts })
     }
 
-    /// Answers an RTSP request. `out` is cleared first, and has the reply and the datagrams then. A refused
-    /// request changes nothing but, where the message itself is right, when its session was last heard of.
+    /// Answers an RTSP request. `out` is cleared first, and has the reply and the datagrams then. A
+    /// refused request changes nothing but, where the message itself is right, when its session was
+    /// last heard of.
     pub fn request(&mut self, peer: Peer, draw: Draw, request: &Request, out: &mut Out) -> Replied
         ensures setting { self.new.setting ≡ self.old.setting }
-        ensures steps { Steps self.old (Asked peer draw request.now) self.new (AnswerReplied result) out.new }
+        ensures steps { Steps self.old (Asked peer draw request.now) self.new (AnswerReplied result)
+            out.new }
         ensures refused { (st : State) (refused : PlainRefused) → Stands self.old st
-            → decision self.old.setting.config st request.now ≡ Some refused → Rests self.new out.new (heard_by request.now st) }
+            → decision self.old.setting.config st request.now ≡ Some refused
+            → Rests self.new out.new (heard_by request.now st) }
     {
         refused_changes_nothing();
         out.clear();
@@ -91,13 +96,15 @@ impl Server {
         )
     }
 
-    /// Answers an HTTP request. `out` is cleared first, and has the head of the reply and the datagrams then.
-    /// A refused request changes nothing.
+    /// Answers an HTTP request. `out` is cleared first, and has the head of the reply and the
+    /// datagrams then. A refused request changes nothing.
     pub fn get(&mut self, peer: Peer, draw: Draw, request: &HttpRequest, out: &mut Out) -> GetAnswer
         ensures setting { self.new.setting ≡ self.old.setting }
-        ensures steps { Steps self.old (Got peer draw request.now) self.new (AnswerGet result) out.new }
+        ensures steps { Steps self.old (Got peer draw request.now) self.new (AnswerGet result)
+            out.new }
         ensures refused { (st : State) (refused : PlainRefused) → Stands self.old st
-            → get_decision self.old.setting.config st request.now ≡ Some refused → Rests self.new out.new st }
+            → get_decision self.old.setting.config st request.now ≡ Some refused
+            → Rests self.new out.new st }
     {
         refused_get_changes_nothing();
         out.clear();
@@ -111,8 +118,8 @@ impl Server {
         )
     }
 
-    /// The clock goes on to this moment, in milliseconds of Unix time. `out` is cleared first, and has the
-    /// datagrams then: what was held, and reports.
+    /// The clock goes on to this moment, in milliseconds of Unix time. `out` is cleared first, and
+    /// has the datagrams then: what was held, and reports.
     pub fn tick(&mut self, now: u64, out: &mut Out) -> Beat
         ensures setting { self.new.setting ≡ self.old.setting }
         ensures steps { Steps self.old (Tick now) self.new (AnswerBeat result) out.new }
@@ -121,12 +128,14 @@ impl Server {
         events::tick(&self.setting.config, &mut self.parts, now, out)
     }
 
-    /// A packet of a front end's tuning number, and what its pump is to do next. `out` is cleared first, and
-    /// has the datagrams then. A stale packet changes nothing.
+    /// A packet of a front end's tuning number, and what its pump is to do next. `out` is cleared
+    /// first, and has the datagrams then. A stale packet changes nothing.
     pub fn packet(&mut self, front: u16, tune: u64, packet: &Packet, out: &mut Out) -> Work
         ensures setting { self.new.setting ≡ self.old.setting }
-        ensures steps { Steps self.old (PacketCame front tune packet.now) self.new (AnswerWork result) out.new }
-        ensures stale { (st : State) → Stands self.old st → is_current st front tune ≡ false → Rests self.new out.new st }
+        ensures steps { Steps self.old (PacketCame front tune packet.now) self.new
+            (AnswerWork result) out.new }
+        ensures stale { (st : State) → Stands self.old st → is_current st front tune ≡ false
+            → Rests self.new out.new st }
     {
         stale_changes_nothing();
         out.clear();
@@ -151,13 +160,16 @@ impl Server {
         self.parts.work(front)
     }
 
-    /// Moves the first packets of an HTTP session's queue, 64 at most, to the reply. `out` is cleared first.
-    /// Where the session doesn't live nothing changes; where nothing is queued, when it was last heard of.
+    /// Moves the first packets of an HTTP session's queue, 64 at most, to the reply. `out` is
+    /// cleared first. Where the session doesn't live nothing changes; where nothing is queued, when
+    /// it was last heard of.
     pub fn pull(&mut self, session: SessionId, out: &mut Out) -> Pulled
         ensures setting { self.new.setting ≡ self.old.setting }
         ensures steps { Steps self.old (Pull session) self.new (AnswerPulled result) out.new }
-        ensures gone { (st : State) → Stands self.old st → http_session st session ≡ None → Rests self.new out.new st }
-        ensures empty { (st : State) (s : PlainSession) → Stands self.old st → http_session st session ≡ Some s
+        ensures gone { (st : State) → Stands self.old st → http_session st session ≡ None
+            → Rests self.new out.new st }
+        ensures empty { (st : State) (s : PlainSession) → Stands self.old st
+            → http_session st session ≡ Some s
             → held s ≡ [] → Rests self.new out.new (hear s.id st) }
     {
         gone_changes_nothing();
@@ -170,7 +182,8 @@ impl Server {
     pub fn close(&mut self, session: SessionId, out: &mut Out) -> Closed
         ensures setting { self.new.setting ≡ self.old.setting }
         ensures steps { Steps self.old (Close session) self.new (AnswerClosed result) out.new }
-        ensures gone { (st : State) → Stands self.old st → http_session st session ≡ None → Rests self.new out.new st }
+        ensures gone { (st : State) → Stands self.old st → http_session st session ≡ None
+            → Rests self.new out.new st }
     {
         gone_changes_nothing();
         out.clear();

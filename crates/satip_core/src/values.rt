@@ -1,12 +1,13 @@
 //! That the values of a setting are of their types.
 ghost use Rattle.satip_history.specs.Lists.{Each};
-ghost use Rattle.satip_plain.specs.Values.{IsFrontEnd, IsMultiplex, IsSetting};
+ghost use Rattle.satip_plain.specs.Values.{AreBytes, IsFrontEnd, IsMultiplex, IsSetting};
 
-use satip_plain::Setting;
+use satip_base::Text;
+use satip_plain::{Setting, known_bytes};
 use satip_tune::{Front, Mux};
 
-/// Hands what is true of each setting to a caller's proof: its numbers are within their types, and
-/// a front end has 256 positions and two systems.
+/// Hands what is true of each setting to a caller's proof: its numbers and bytes are within their
+/// types, and a front end has 256 positions and two systems.
 pub(crate) fn known_setting(setting: &Setting)
     ensures value { IsSetting setting.now }
 {
@@ -18,6 +19,7 @@ pub(crate) fn known_setting(setting: &Setting)
     let _workers = setting.config.workers;
     known_fronts(setting.config.fronts.as_slice());
     known_muxes(setting.config.muxes.as_slice());
+    known_files(setting.config.files.as_slice());
 }
 
 fn known_front(front: &Front)
@@ -49,5 +51,13 @@ fn known_muxes(muxes: &[Mux])
 {
     for mux in muxes {
         known_mux(mux);
+    }
+}
+
+fn known_files(files: &[Text])
+    ensures value { Each AreBytes files.now }
+{
+    for file in files {
+        known_bytes(file.bytes());
     }
 }

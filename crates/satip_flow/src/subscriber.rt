@@ -48,7 +48,7 @@ impl Subscriber {
         Subscriber {
             place,
             front,
-            pids: *pids,
+            pids: pids.copy(),
             sink: Sink::Packed(to, packer),
         }
     }
@@ -66,7 +66,7 @@ impl Subscriber {
         Subscriber {
             place,
             front,
-            pids: *pids,
+            pids: pids.copy(),
             sink: Sink::Queued(queue),
         }
     }
@@ -123,7 +123,7 @@ impl Subscriber {
     {
         if self.place.stream == stream {
             self.front = front;
-            self.pids = *pids;
+            self.pids.copy_from(pids);
         }
     }
 

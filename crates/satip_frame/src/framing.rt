@@ -112,7 +112,8 @@ impl Framer {
             ↔ ((piece.now ≡ []) ⊎ ((length self.old.bytes ≡ capacity) ⊎ IsSome self.old.ended)) }
         ensures bytes { self.new.bytes ≡ self.old.bytes ++ take result piece.now }
 
-        // A text that was read up to the bytes that are held goes on with the bytes that were taken.
+        // A text that was read up to the bytes that are held goes on with the bytes that were
+        // taken.
         ensures follows { (text : List ℕ) (ms : List Said) → Leads text ms self.old.bytes
             → Leads (text ++ take result piece.now) ms self.new.bytes }
 

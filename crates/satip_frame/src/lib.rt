@@ -8,8 +8,6 @@ mod heads;
 mod laws;
 mod looking;
 mod said;
-#[cfg(test)]
-mod tests;
 
 pub use framing::{Break, Framer, Step};
 pub use laws::{

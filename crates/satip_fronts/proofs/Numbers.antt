@@ -1,15 +1,15 @@
 -- Rows and front ends have the same numbers.
-use Rattle.std.proofs.Common.{◌≡◌, ◌∙◌, ℕ, ◌+◌, ◌<◌, ◌==◌, ◌||◌, nat_lt, Bool, true, false, cond, List, [], ◌∷◌, None, Some, find, position, is_some, map, length, refl, ap, arith}
+use Rattle.std.proofs.Common.{◌≡◌, ◌∙◌, ℕ, ◌+◌, ◌<◌, ◌≤◌, ◌==◌, ◌||◌, nat_lt, Bool, true, false, cond, List, [], ◌∷◌, None, Some, find, position, is_some, map, length, suc, refl, sym, ap, arith}
 use Rattle.std.specs.List.{list_any, position_or_len}
 use Rattle.std.specs.Option.{option_map}
-use Rattle.std.proofs.lemmas.Bool.{ltb-true, le-leb, and_from}
+use Rattle.std.proofs.lemmas.Bool.{ltb-true, le-leb, and_from, eqb-true, true≢false}
 use Rattle.satip_tune.specs.declared.frontends.Front.{Front}
 use Rattle.satip_tune.specs.declared.frontends.Mux.{Mux}
 use Rattle.satip_tune.specs.declared.tunings.Tuning.{Tuning}
 use Rattle.satip_tune.specs.Frontends.{mux_of, is_meant}
 use Rattle.satip_fronts.specs.declared.rows.FrontRow.{FrontRow}
 use Rattle.satip_fronts.specs.Rows.{is_row}
-use Rattle.satip_fronts.specs.FrontEnds.{is_front, is_mux}
+use Rattle.satip_fronts.specs.FrontEnds.{IsNumbered, is_front, is_mux}
 
 abbrev pub row_numbers : List FrontRow → List ℕ
 row_numbers rows = map (λ (row : FrontRow). row.number) rows
@@ -43,3 +43,23 @@ is_mux-position p xs = each (nat_lt (position_or_len p xs) (length xs)) refl
 
 pub is_mux-mux_of : (muxes : List Mux) (tuning : Tuning) → is_mux (length muxes) (mux_of muxes tuning) ≡ true
 is_mux-mux_of muxes tuning = is_mux-position (is_meant tuning) muxes
+
+-- where a front end is there, its number is one of theirs
+pub number_within : (from number : ℕ) (fronts : List Front) → IsNumbered from fronts → list_any (is_front number) fronts ≡ true
+    → (from ≤ number) × (number < from + length fronts)
+number_within from number [] numbered there = absurd (true≢false (sym there))
+number_within from number (front ∷ fronts) numbered there =
+    by (front.number == number) refl there (number_within (from + 1) number fronts numbered.1)
+  where
+    by : (b : Bool) → (front.number == number) ≡ b → (b || list_any (is_front number) fronts) ≡ true
+        → (list_any (is_front number) fronts ≡ true → (from + 1 ≤ number) × (number < from + 1 + length fronts))
+        → (from ≤ number) × (number < from + suc (length fronts))
+    by true is there rest = let same = eqb-true front.number number is in (omega (arith, same, numbered.0), omega (arith, same, numbered.0))
+    by false is there rest = (omega (arith, (rest there).0), omega (arith, (rest there).1))
+
+-- a front end that has a row has a number from 1 to 16
+pub row_within : (number : ℕ) (rows : List FrontRow) (fronts : List Front) → row_numbers rows ≡ front_numbers fronts → IsNumbered 1 fronts
+    → length fronts ≤ 16 → is_some (find (is_row number) rows) ≡ true → (1 ≤ number) × (number ≤ 16)
+row_within number rows fronts same numbered few there =
+    let within = number_within 1 number fronts numbered (sym (row_known number rows fronts same) ∙ there) in
+    (within.0, omega (arith, within.1))

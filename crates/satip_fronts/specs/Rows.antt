@@ -1,5 +1,5 @@
 -- What a front end is doing, and how that changes.
-use Rattle.std.specs.Prelude.{ℕ, ◌+◌, ◌%◌, ◌^◌, ◌==◌, Bool, true, false, if◌then◌else◌, List, Option, None, Some}
+use Rattle.std.specs.Prelude.{◌≡◌, ℕ, ◌+◌, ◌%◌, ◌^◌, ◌<◌, ◌==◌, Bool, true, false, if◌then◌else◌, List, Option, None, Some, count_by, slice_index}
 use Rattle.std.specs.List.{list_any}
 use Rattle.satip_fronts.specs.declared.rows.FrontRow.{FrontRow}
 
@@ -31,3 +31,11 @@ freed places row = if list_any (is_at row.number) places then row else free_row 
 -- the row once this front end's recording ended
 unfoldable pub ended_at : ℕ → FrontRow → FrontRow
 ended_at front row = if is_row front row then record row { ended = true } else row
+
+-- these are the counts of the streams at each of 16 front ends: that of front end f stands at f - 1
+abbrev pub AreCounted : List (Option ℕ) → List ℕ → Type 0
+AreCounted places counts = (k : ℕ) → k < 16 → slice_index counts k ≡ count_by (is_at (k + 1)) places
+
+-- the counts with a stream more, at this place
+abbrev pub CountedMore : Option ℕ → List ℕ → List ℕ → Type 0
+CountedMore place old new = (k : ℕ) → k < 16 → slice_index new k ≡ slice_index old k + (if is_at (k + 1) place then 1 else 0)

@@ -35,8 +35,9 @@ pub fn is_tuned(wanted: Option<u16>, has: Option<u16>) -> bool
     }
 }
 
-/// Whether a front end that fits may be taken in this case, where `own` says that the stream is at it,
-/// `tuned` that it is tuned to the wanted multiplex, and `shared` that it serves another stream.
+/// Whether a front end that fits may be taken in this case, where `own` says that the stream is at
+/// it, `tuned` that it is tuned to the wanted multiplex, and `shared` that it serves another
+/// stream.
 pub fn may_take(case: Case, own: bool, tuned: bool, shared: bool) -> bool
     ensures case { result ≡ may_take_if case own tuned shared }
 {

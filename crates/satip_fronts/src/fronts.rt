@@ -10,7 +10,7 @@ ghost use Rattle.satip_fronts.specs.FrontEnds.{IsNumbered, Sound, all_free, bloc
 
 use crate::choice::{Case, Place, is_tuned, may_take, place_at};
 use crate::rows::{
-    FrontRow, FrontState, count_at, end_front, free_unserved, front_of_stream, is_at_front,
+    FrontRow, FrontState, count_streams, end_front, free_unserved, front_of_stream, is_at_front,
     is_current_row, move_stream, row_at, serves_any, tune_front,
 };
 use arrayvec::ArrayVec;
@@ -25,6 +25,8 @@ pub struct Fronts {
     muxes: Vec<Mux>,
     rows: ArrayVec<FrontRow, 16>,
     places: [Option<u16>; 64],
+    // How many streams are at each front end: that of front end f stands at f - 1.
+    counts: [u16; 16],
 }
 
 impl Model for Fronts {
@@ -32,12 +34,11 @@ impl Model for Fronts {
 
     ghost Value = { FrontEnds };
 
-    ghost use Rattle.satip_fronts.specs.FrontEnds.{Sound};
-    ghost use Rattle.satip_fronts.specs.View.{front_ends};
+    ghost use Rattle.satip_fronts.specs.View.{front_ends, Stored};
 
     ghost view = { front_ends };
 
-    ghost invariant = { λ a. Sound (front_ends a) };
+    ghost invariant = { Stored };
 }
 
 impl Fronts {
@@ -55,6 +56,7 @@ impl Fronts {
             muxes,
             rows,
             places,
+            counts: [0; 16],
         }
     }
 
@@ -71,11 +73,10 @@ impl Fronts {
         ensures state { result ≡ state_of self.now front }
         ensures none { is_some result ≡ list_any (is_front front) self.now.fronts }
     {
-        let streams = count_at(front, &self.places);
         match row_at(front, &self.rows) {
             None => None,
             Some(row) => Some(FrontState {
-                streams,
+                streams: self.counts[front as usize - 1],
                 mux: row.mux,
                 tune: row.tune,
                 ended: row.ended,
@@ -97,9 +98,9 @@ impl Fronts {
         is_at_front(front, front_of_stream(&self.places, stream))
     }
 
-    /// Whether no front end is to be had for a stream with this tuning: none fits, or each that fits serves
-    /// another stream and isn't tuned to the multiplex that the tuning means. `None` is a stream that is
-    /// yet to be founded.
+    /// Whether no front end is to be had for a stream with this tuning: none fits, or each that
+    /// fits serves another stream and isn't tuned to the multiplex that the tuning means. `None` is
+    /// a stream that is yet to be founded.
     pub fn is_blocked(&self, stream: Option<u16>, tuning: &Tuning) -> bool
         requires known { IsStreamOrNone stream }
         ensures blocked { result ≡ blocked_for self.now stream tuning.now }
@@ -110,13 +111,15 @@ impl Fronts {
     }
 
     /// Brings the stream to a front end for this tuning, and answers its number. The first of these
-    /// applies, where the wanted multiplex is that of the tuning: its own front end fits and is tuned to
-    /// it; the least other that does; its own fits and serves no other stream, and is tuned anew; the
-    /// least free one that fits, which is tuned. None where no front end is to be had.
+    /// applies, where the wanted multiplex is that of the tuning: its own front end fits and is
+    /// tuned to it; the least other that does; its own fits and serves no other stream, and is
+    /// tuned anew; the least free one that fits, which is tuned. None where no front end is to be
+    /// had.
     pub fn take(&mut self, stream: u16, tuning: &Tuning) -> Option<u16>
         requires from_one { 1 ≤ stream }
         requires to_64 { stream ≤ 64 }
-        ensures chosen { result ≡ option_map (λ place. place.front) (choice self.old stream tuning.now) }
+        ensures chosen { result ≡ option_map (λ place. place.front)
+            (choice self.old stream tuning.now) }
         ensures none { is_some result ≡ not (blocked self.old stream tuning.now) }
         ensures moved { self.new ≡ taken self.old stream tuning.now }
         ensures unchanged { IfNone result (self.new ≡ self.old) }
@@ -126,12 +129,14 @@ impl Fronts {
             None => None,
             Some(place) => {
                 move_stream(&mut self.rows, &mut self.places, stream, place, mux);
+                self.counts = count_streams(&self.places);
                 Some(place.front)
             }
         }
     }
 
-    /// Takes the stream from its front end, where it has one; that is then free, if the stream was its last.
+    /// Takes the stream from its front end, where it has one; that is then free, if the stream was
+    /// its last.
     pub fn leave(&mut self, stream: u16)
         requires from_one { 1 ≤ stream }
         requires to_64 { stream ≤ 64 }
@@ -139,10 +144,11 @@ impl Fronts {
     {
         self.places[stream as usize - 1] = None;
         free_unserved(&mut self.rows, &self.places);
+        self.counts = count_streams(&self.places);
     }
 
-    /// Marks that the recording with this tune number ended at a front end; false where there is no such
-    /// front end, it serves no stream or has another tune number.
+    /// Marks that the recording with this tune number ended at a front end; false where there is no
+    /// such front end, it serves no stream or has another tune number.
     pub fn end(&mut self, front: u16, tune: u64) -> bool
         ensures current { result ≡ is_current self.old front tune }
         ensures ended { self.new ≡ (if result then ended self.old front else self.old) }
@@ -196,7 +202,8 @@ impl Fronts {
 
     /// Whether there is such a front end.
     fn has_open(&self, mux: Option<u16>, others: &[Option<u16>], tuning: &Tuning) -> bool
-        ensures found { result ≡ is_some (find (is_open self.now.rows mux others.now tuning.now) self.now.fronts) }
+        ensures found { result ≡ is_some (find (is_open self.now.rows mux others.now tuning.now)
+            self.now.fronts) }
     {
         for front in &self.fronts {
             if self.is_open_at(mux, others, tuning, front) {

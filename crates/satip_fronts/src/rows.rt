@@ -1,9 +1,9 @@
 //! What each front end is doing.
 
-ghost use Rattle.std.specs.Prelude.{◌≡◌, ◌≤◌, Some, count_by, find, length, map};
+ghost use Rattle.std.specs.Prelude.{◌≡◌, ◌<◌, ◌≤◌, Some, EachIndex, find, length, map, slice_index};
 ghost use Rattle.std.specs.List.{list_any};
 ghost use Rattle.satip_fronts.specs.FrontEnds.{front_of, is_current_in, placed_at, tuned_rows};
-ghost use Rattle.satip_fronts.specs.Rows.{ended_at, freed, is_at, is_row, tuned_at};
+ghost use Rattle.satip_fronts.specs.Rows.{AreCounted, CountedMore, ended_at, freed, is_at, is_row, tuned_at};
 
 use crate::choice::Place;
 
@@ -169,15 +169,29 @@ pub fn end_front(rows: &mut [FrontRow], front: u16)
     }
 }
 
-/// How many streams are at this front end, of streams that are at these.
-pub fn count_at(front: u16, places: &[Option<u16>]) -> u16
+/// How many streams are at each front end, of streams that are at these.
+pub fn count_streams(places: &[Option<u16>]) -> [u16; 16]
     requires few { length places.now ≤ 64 }
-    ensures count { result ≡ count_by (is_at front) places.now }
+    ensures counted { AreCounted places.now result }
 {
-    places
-        .iter()
-        .filter(|place| is_at_front(front, **place))
-        .count() as u16
+    let mut counts = [0; 16];
+    for place in places {
+        count_place(&mut counts, *place);
+    }
+    counts
+}
+
+/// Counts one stream more, where it is at a front end.
+fn count_place(counts: &mut [u16; 16], place: Option<u16>)
+    requires room { EachIndex counts.old (λ k. slice_index counts.old k < 64) }
+    ensures counted { CountedMore place counts.old counts.new }
+{
+    let Some(front) = place else {
+        return;
+    };
+    if front > 0 && front <= 16 {
+        counts[front as usize - 1] += 1;
+    }
 }
 
 /// Whether the front end serves a stream and has this tune number.

@@ -3,8 +3,6 @@
 
 mod heads;
 mod requests;
-#[cfg(test)]
-mod tests;
 
 pub use heads::{write_refusal, write_start};
 pub use requests::{HttpRefusal, HttpRequest};

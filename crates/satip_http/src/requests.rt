@@ -40,13 +40,17 @@ impl HttpRequest {
     /// The request of a message. The first refusal counts, in the order of `HttpRefusal`.
     pub fn of(message: &Message<'_>) -> HttpRequest
         ensures asked { result ≡ asked message.now }
-        ensures version { (result.refusal ≡ Some HttpRefusal.Version) ↔ (is_served_text message.now.version ≡ false) }
+        ensures version { (result.refusal ≡ Some HttpRefusal.Version)
+            ↔ (is_served_text message.now.version ≡ false) }
         ensures method { (result.refusal ≡ Some HttpRefusal.Method)
-            ↔ ((is_served_text message.now.version ≡ true) × (bytes_eq message.now.method (codes "GET") ≡ false)) }
+            ↔ ((is_served_text message.now.version ≡ true)
+            × (bytes_eq message.now.method (codes "GET") ≡ false)) }
         ensures target { (result.refusal ≡ Some HttpRefusal.Target)
-            ↔ (IsGet message.now × (is_path (rest_text message.now.target) ≡ false) × (query_in (rest_text message.now.target) ≡ None)) }
+            ↔ (IsGet message.now × (is_path (rest_text message.now.target) ≡ false)
+            × (query_in (rest_text message.now.target) ≡ None)) }
         ensures not_found { (result.refusal ≡ Some HttpRefusal.NotFound)
-            ↔ (IsGet message.now × (is_path (rest_text message.now.target) ≡ true) × (query_in (rest_text message.now.target) ≡ None)) }
+            ↔ (IsGet message.now × (is_path (rest_text message.now.target) ≡ true)
+            × (query_in (rest_text message.now.target) ≡ None)) }
         ensures query { (fault : QueryFault) → (result.refusal ≡ Some (HttpRefusal.Query fault))
             ↔ (IsGet message.now × AsksAtFault fault (query_in (rest_text message.now.target))) }
         ensures not_broken { result.refusal ≢ Some HttpRefusal.Broken }

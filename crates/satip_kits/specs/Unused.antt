@@ -2,7 +2,7 @@
 use Rattle.std.specs.Prelude.{◌≡◌, ℕ, false}
 use Rattle.satip_pump.specs.declared.kits.PumpKit.{PumpKit}
 use Rattle.satip_pump.specs.declared.kits.TickKit.{TickKit}
-use Rattle.satip_real.specs.StoreCounts.{StoreCounts, fresh_counts}
+use Rattle.satip_recordings.specs.StoreCounts.{StoreCounts, fresh_counts}
 use Rattle.satip_worker.specs.declared.kits.WorkerKit.{WorkerKit}
 use Rattle.satip_world.specs.Dials.{Dial, fresh_dial}
 use Rattle.satip_world.specs.Halls.{Hall, fresh_hall}

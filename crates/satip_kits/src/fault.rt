@@ -1,7 +1,9 @@
 //! Why a server can't begin.
 
 use satip_base::{Text, Want};
-use satip_real::{BindFault, RecordingFault, Shown};
+use satip_real::BindFault;
+use satip_recordings::RecordingFault;
+use satip_report::Shown;
 use std::alloc::{AllocError, AllocFailed};
 use std::{fmt, io};
 

@@ -6,10 +6,8 @@ use crate::fault::KitsFault;
 use crate::settings::Settings;
 use satip_base::Text;
 use satip_config::Config;
-use satip_real::{
-    ClockStart, Listeners, Playing, Progress, RealClock, RealDoors, RealOutlet, RealPacer,
-    RealStore, SharedSocket,
-};
+use satip_real::{ClockStart, Listeners, RealClock, RealDoors, RealOutlet, SharedSocket};
+use satip_recordings::{Playing, Progress, RealPacer, RealStore};
 use std::alloc::Global;
 use std::sync::{Arc, Wait};
 
@@ -28,7 +26,7 @@ pub(crate) struct Shared {
 impl Shared {
     ghost use Rattle.std.specs.Prelude.{false};
     ghost use Rattle.satip_world.specs.Dials.{fresh_dial};
-    ghost use Rattle.satip_real.specs.StoreCounts.{fresh_counts};
+    ghost use Rattle.satip_recordings.specs.StoreCounts.{fresh_counts};
     ghost use Rattle.satip_world.specs.Halls.{fresh_hall};
     ghost use Rattle.satip_world.specs.Outboxes.{fresh_outbox};
 

@@ -59,8 +59,8 @@ impl Lane {
         queue
     }
 
-    /// Appends a datagram as a frame, where its port stands for a channel and nothing broke the lane.
-    /// One that doesn't fit breaks it.
+    /// Appends a datagram as a frame, where its port stands for a channel and nothing broke the
+    /// lane. One that doesn't fit breaks it.
     pub(crate) fn put(&mut self, port: u16, datagram: &[u8])
         ensures put { self.new ≡ put_in port datagram.now self.old }
     {

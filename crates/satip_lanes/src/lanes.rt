@@ -53,8 +53,8 @@ impl Lanes {
         })
     }
 
-    /// A connection enters. The number of its lane is the next from 1; `None` exactly where 64 lanes
-    /// are held or 16777215 numbers were given, and then nothing changes.
+    /// A connection enters. The number of its lane is the next from 1; `None` exactly where 64
+    /// lanes are held or 16777215 numbers were given, and then nothing changes.
     pub fn enter(&mut self) -> Option<u32>
         ensures number { result ≡ entered_number self.old }
         ensures entered { self.new ≡ entered self.old }
@@ -80,8 +80,9 @@ impl Lanes {
         put_at(&mut self.held, at, to.port, datagram);
     }
 
-    /// Moves the first frames of a lane, as many as fit in 65536 bytes, to the reply. `Gone` exactly
-    /// where the lane isn't held; else, where no frame waits, `Broken` exactly where one didn't fit.
+    /// Moves the first frames of a lane, as many as fit in 65536 bytes, to the reply. `Gone`
+    /// exactly where the lane isn't held; else, where no frame waits, `Broken` exactly where one
+    /// didn't fit.
     pub fn drain(&mut self, lane: u32, out: &mut Out) -> Drained
         requires room { 65536 ≤ out.old.reply_spare }
         ensures answer { result ≡ drain_answer (lane_of lane self.old.held) }

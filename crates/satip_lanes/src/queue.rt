@@ -76,7 +76,8 @@ impl Queue {
         true
     }
 
-    /// Moves the first frames to the reply, as many as fit in 65536 bytes. The number of their bytes.
+    /// Moves the first frames to the reply, as many as fit in 65536 bytes. The number of their
+    /// bytes.
     pub(crate) fn drain(&mut self, out: &mut Out) -> usize
         requires room { 65536 ≤ out.old.reply_spare }
         ensures count { result ≡ length (concat (first_frames 65536 self.old)) }

@@ -26,8 +26,8 @@ use Rattle.satip_readings.proofs.Agree.{Same, Agrees, Matched, stream_here, home
 use Rattle.satip_readings.proofs.Numbering.{number_is_free}
 use Rattle.satip_readings.proofs.Reading.{item}
 use Rattle.satip_readings.proofs.Deciding.{Passes, passes, decided_refuses, named_match, named_facts, own_stream}
-use Rattle.satip_laws.specs.Flushes.{number_asked, asked_in, tuning_of}
-use Rattle.satip_laws.specs.Flushes
+use Rattle.satip_laws.proofs.Retuning.{number_asked, asked_in, tuning_of}
+use Rattle.satip_laws.proofs.Retuning
 use Rattle.satip_laws.proofs.Flushing.{none_of}
 use Rattle.satip_laws.proofs.Single.{least_is_free}
 
@@ -71,7 +71,7 @@ module _ (c : Config) (st : State) (g : Readings) (agrees : Agrees c st g) (call
 
   asked_is : changes r.method ≡ true → decide c st r ≡ None → asked_in c st event ≡ Some (record { number = number_asked r.method st r; query = r.query })
   asked_is change none =
-      let it : Option Flushes.Asking = Some (record { number = number_asked r.method st r; query = r.query }) in
+      let it : Option Retuning.Asking = Some (record { number = number_asked r.method st r; query = r.query }) in
       ap (λ b. if b && is_none (decide c st r) then it else None) change ∙ ap (λ o. if is_none o then it else None) none
 
   -- put together

@@ -20,7 +20,8 @@ use Rattle.satip_plain.specs.Refusals.{Refused, names_none, session_missing, ses
 use Rattle.satip_plain.specs.Steps
 use Rattle.satip_plain.specs.Steps.{Outcome, step, is_session, change_session, hear, heard_by, set_up, join, found, no_ports, least_free, setup_number, done_by, play_of, end_where, tick, put_stream}
 use Rattle.satip_plain.specs.Histories.{Item, opening, after_from, after}
-use Rattle.satip_laws.specs.Flushes.{number_asked, tuning_of, sets_tuning, retunes, TickFlushes, RetuningFlushes}
+use Rattle.satip_laws.specs.Flushes.{TickFlushes}
+use Rattle.satip_laws.proofs.Retuning.{number_asked, tuning_of, sets_tuning, retunes, RetunedHoldNothing}
 use Rattle.satip_laws.proofs.Ids.{look}
 use Rattle.satip_laws.proofs.Told.{told, all_of}
 use Rattle.satip_laws.proofs.Evolving.{Fine, Runs, Becomes}
@@ -276,8 +277,8 @@ event_empties c st (Pull id) n sound e = cc
 event_empties c st (Close id) n sound e = cc
 event_empties c st Stop n sound e = cc
 
-pub retuning_flushes : RetuningFlushes
-retuning_flushes c h e s y found http anew =
+pub retuned_hold_nothing : RetunedHoldNothing
+retuned_hold_nothing c h e s y found http anew =
     let st : State = after c h in
     let sound : IsSound st = sound_after c.config h (opening c) (opening_sound c) in
     let there : look s (step c.config st e.event).state.sessions ≡ Some y = rw (after_more c.config h e (opening c)) at found in

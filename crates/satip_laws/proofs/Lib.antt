@@ -9,11 +9,14 @@ pub mod Delivery
 pub mod Events
 pub mod Over
 pub mod PayloadLaws
+pub mod Retuning
 pub mod Flushing
 pub mod Fronts
 pub mod FrontEvents
 pub mod Recording
 pub mod Making
 pub mod Asked
+pub mod Carrying
+pub mod InBytes
 pub mod ReadLaws
 pub mod ReadRecording

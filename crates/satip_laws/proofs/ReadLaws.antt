@@ -10,6 +10,7 @@ use Rattle.satip_plain.specs.State.{Session, State, same_id, held}
 use Rattle.satip_plain.specs.Streams.{to_set}
 use Rattle.satip_plain.specs.Steps.{is_session, step}
 use Rattle.satip_plain.specs.Histories.{Item, Legal, LegalFrom, Fits, opening, after, after_from}
+use Rattle.satip_plain.specs.Packets.{payload}
 use Rattle.satip_plain.specs.Numbering.{numbers_for}
 use Rattle.satip_plain.specs.Readings
 use Rattle.satip_plain.specs.Readings.{Made, Readings, asking, readings, read_from, read_one, nothing_read, pulled_by, packets_of}
@@ -19,14 +20,17 @@ use Rattle.satip_readings.proofs.Finding.{find_has}
 use Rattle.satip_readings.proofs.Law.{agrees_after, selected_is_given}
 use Rattle.satip_laws.specs.Makings.{made, made_as, living}
 use Rattle.satip_laws.specs.Payload.{held_of, PayloadAndHeld}
-use Rattle.satip_laws.specs.Flushes.{retunes, sets_tuning, tuning_of}
+use Rattle.satip_laws.specs.Flushes.{RetuningFlushes}
+use Rattle.satip_laws.proofs.Retuning.{retunes, sets_tuning, tuning_of}
+use Rattle.satip_laws.specs.InBytes.{payload_in_bytes}
 use Rattle.satip_laws.specs.Numbers.{sent_in, CountFrom, is_rtp_of, carries, shares_ssrc}
 use Rattle.satip_laws.specs.OverReadings.{gives_tuning, PayloadIsSelected, NumbersFromDraw, SsrcOfDrawTells}
 use Rattle.satip_laws.proofs.Ids.{look}
-use Rattle.satip_laws.proofs.Flushing.{tick_flushes, retuning_flushes}
+use Rattle.satip_laws.proofs.Flushing.{tick_flushes, retuned_hold_nothing}
 use Rattle.satip_laws.proofs.PayloadLaws.{payload_is_given, numbers_from_first, ssrc_tells}
 use Rattle.satip_laws.proofs.ReadRecording.{legal_before}
 use Rattle.satip_laws.proofs.Making.{IsMaking, Makings, makings, made_of, one_made}
+use Rattle.satip_laws.proofs.InBytes.{payload_carried}
 use Rattle.satip_laws.proofs.Asked.{IsAsked, entry_asked}
 
 -- a history and one entry more
@@ -90,11 +94,12 @@ over_gone c h m legal over = by (living (after c h) m.id) refl
 pub payload_is_selected : PayloadIsSelected
 payload_is_selected c h m legal has rtsp = record {
   rest = held_of (after c h) m.id;
-  whole = law.whole ∙ sym (selected_is_given c h m.id legal);
+  whole = ap (λ packets. packets ++ held_of (after c h) m.id) carried ∙ all;
+  meant = carried;
   few = law.few;
   over = λ over. rw (over_gone c h m legal over) refl;
   ticked = λ g e now is tick. empty (λ y found. tick_flushes c g e now m.id y tick (rw (← is) found) (kind y found));
-  retuned = λ g e is anew. empty (λ y found. retuning_flushes c g e m.id y (rw (← is) found) (kind y found) (retunes_it g e is anew y found));
+  retuned = λ g e is anew. empty (λ y found. retuned_hold_nothing c g e m.id y (rw (← is) found) (kind y found) (retunes_it g e is anew y found));
 }
   where
     x : (x : Session) × (made_as c h m.id ≡ Some x) × IsMaking x m
@@ -102,6 +107,12 @@ payload_is_selected c h m legal has rtsp = record {
 
     law : PayloadAndHeld c h m.id
     law = payload_is_given c h m.id x.0 x.1 (x.2.http ∙ rtsp)
+
+    all : payload c h m.id ++ held_of (after c h) m.id ≡ (readings c h).selected m.id
+    all = law.whole ∙ sym (selected_is_given c h m.id legal)
+
+    carried : payload_in_bytes c h m.id ≡ payload c h m.id
+    carried = payload_carried c h m.id (held_of (after c h) m.id) legal all
 
     kind : (y : Session) → living (after c h) m.id ≡ Some y → y.http ≡ false
     kind y found =
@@ -149,6 +160,13 @@ payload_is_selected c h m legal has rtsp = record {
             let tuning : tuning_of (after c g) y.stream ≡ (readings c g).tuned m.home = ap (tuning_of (after c g)) (sym number) ∙ asked.tuning ∙ ap (readings c g).tuned home in
             let set : is_some (to_set (tuning_of (after c g) y.stream) a.query.change) ≡ true = ap (λ t. is_some (to_set t a.query.change)) tuning ∙ parts.1 in
             ap (λ o. option_map_or (sets_tuning (after c g) y.stream) o false) asked.asked ∙ and_from _ _ (eq-eqb asked.number y.stream number) set
+
+-- the packets that are held are the list of the payload law
+pub retuning_flushes : RetuningFlushes
+unfolding payload_is_selected
+retuning_flushes c h e m y legal has rtsp anew found =
+    let none : held_of (after c (h ++ e ∷ [])) m.id ≡ [] = (payload_is_selected c (h ++ e ∷ []) m legal has rtsp).retuned h e refl anew in
+    rw found at none
 
 -- the numbering law and the SSRC law
 

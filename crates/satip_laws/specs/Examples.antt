@@ -15,7 +15,7 @@ use Rattle.satip_readings.specs.Given.{given}
 use Rattle.satip_laws.specs.Makings.{made}
 use Rattle.satip_laws.specs.Payload.{held_of}
 use Rattle.satip_laws.specs.Pulls.{taken}
-use Rattle.satip_laws.specs.Flushes.{retunes}
+use Rattle.satip_laws.specs.InBytes.{payload_in_bytes}
 use Rattle.satip_laws.specs.Numbers.{sent_in, shares_ssrc}
 use Rattle.satip_laws.specs.OverReadings.{gives_tuning}
 use Rattle.satip_plain.specs.Readings.{readings}
@@ -64,10 +64,6 @@ newcomer count http stream first = record { count = count; http = http; stream =
 abbrev pub newcomers : List Event → List Newcomer
 newcomers es = map (λ x. newcomer x.id.count x.http x.stream x.first) (made setting (history es))
 
--- whether one more event retunes the stream of this number
-abbrev pub retunes_next : List Event → Event → ℕ → Bool
-retunes_next es e number = retunes config (after setting (history es)) e number
-
 abbrev pub last_item : List Item → Option Item
 last_item [] = None
 last_item (e ∷ []) = Some e
@@ -79,6 +75,14 @@ gives_next es e home = option_map_or (λ i. gives_tuning (readings setting (hist
 
 abbrev pub numbers_of : List Event → SessionId → List ℕ
 numbers_of es s = numbers_for s (sent_in setting (history es))
+
+-- the head of a datagram of number 65535 and SSRC 0x11223344, at a clock of 1040
+abbrev pub head : List ℕ
+head = 128 ∷ 33 ∷ 255 ∷ 255 ∷ 0 ∷ 1 ∷ 109 ∷ 160 ∷ 17 ∷ 34 ∷ 51 ∷ 68 ∷ []
+
+-- the PIDs of the packets in the bytes that left for a session
+abbrev pub left_pids : List Event → SessionId → List ℕ
+left_pids es s = pids (payload_in_bytes setting (history es) s)
 
 abbrev pub shared_by : List Event → SessionId → ℕ → Bool
 shared_by es s ssrc = shares_ssrc setting (history es) s ssrc

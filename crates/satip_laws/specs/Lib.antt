@@ -2,8 +2,10 @@ pub mod Makings
 pub mod Pulls
 pub mod Payload
 pub mod Numbers
-pub mod Flushes
+pub mod Carried
+pub mod InBytes
 pub mod Recorded
 pub mod OverReadings
+pub mod Flushes
 pub mod ReadRecording
 pub mod Examples

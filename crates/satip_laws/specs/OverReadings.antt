@@ -12,17 +12,20 @@ use Rattle.satip_plain.specs.Histories.{Item, Legal}
 use Rattle.satip_plain.specs.Packets.{payload}
 use Rattle.satip_plain.specs.Numbering.{numbers_for}
 use Rattle.satip_plain.specs.Readings.{Made, Readings, asking, readings}
+use Rattle.satip_laws.specs.InBytes.{payload_in_bytes}
 use Rattle.satip_laws.specs.Numbers.{sent_in, CountFrom, is_rtp_of, carries}
 
 -- the entry gives the stream of this home a tuning that it didn't have
 abbrev pub gives_tuning : Readings → Item → SessionId → Bool
 gives_tuning g e home = option_map_or (λ a. same_id a.home home && is_some (to_set (g.tuned home) a.query.change)) (asking g e) false
 
--- the payload of a session that was made, followed by a list of at most six packets, is what is selected for it; the list is
--- empty where the session is over, where the last entry is a tick, and where the last entry gives its stream another tuning
+-- the payload of a session that was made, by the bytes that left and by what the plain server sends, followed by a list of at
+-- most six packets, is what is selected for it; the list is empty where the session is over, where the last entry is a tick,
+-- and where the last entry gives its stream another tuning
 pub record SentAndHeld (c : Setting) (h : List Item) (m : Made) : Type 0 where
   pub rest : List (List ℕ)
-  pub whole : payload c h m.id ++ rest ≡ (readings c h).selected m.id
+  pub whole : payload_in_bytes c h m.id ++ rest ≡ (readings c h).selected m.id
+  pub meant : payload_in_bytes c h m.id ≡ payload c h m.id
   pub few : length rest ≤ 6
   pub over : (readings c h).over m.id ≡ true → rest ≡ []
   pub ticked : (g : List Item) (e : Item) (now : ℕ) → h ≡ g ++ e ∷ [] → e.event ≡ Tick now → rest ≡ []

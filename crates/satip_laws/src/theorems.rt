@@ -14,9 +14,10 @@ pub fn law_1()
     ensures law { StateIsRead }
 {}
 
-/// The payload law: the payload of an RTSP session that was made, followed by a list of at most six
-/// packets, is what is selected for it. The list is empty where the session is over, where the last
-/// entry is a tick, and where the last entry gives the session's stream another tuning.
+/// The payload law: the payload of an RTSP session that was made, read from the bytes that left and
+/// followed by a list of at most six packets, is what is selected for it. The list is empty where
+/// the session is over, where the last entry is a tick, and where the last entry gives the
+/// session's stream another tuning.
 pub fn law_2()
     ensures law { PayloadIsSelected }
 {}
@@ -27,14 +28,14 @@ pub fn law_3()
     ensures law { OnlyOwnerChanges }
 {}
 
-/// The busy law: a reply says `No-More:frontends` exactly where nothing refuses the request before, a
-/// tuning is to be set, and no fitting front end is to be had.
+/// The busy law: a reply says `No-More:frontends` exactly where nothing refuses the request before,
+/// a tuning is to be set, and no fitting front end is to be had.
 pub fn law_4()
     ensures law { BusyWhereBlocked }
 {}
 
-/// The ending law: a session that lives is gone after one more entry exactly where one of the listed
-/// causes ends it.
+/// The ending law: a session that lives is gone after one more entry exactly where one of the
+/// listed causes ends it.
 pub fn law_5()
     ensures law { EndsByItsCauses }
 {}
@@ -51,16 +52,16 @@ pub fn law_7()
     ensures law { SsrcOfDrawTells }
 {}
 
-/// The pull law: what was pulled of an HTTP session is a beginning of what is selected for it, and at
-/// most 4096 packets shorter while it lives.
+/// The pull law: what was pulled of an HTTP session is a beginning of what is selected for it, and
+/// at most 4096 packets shorter while it lives.
 pub fn law_8()
     ensures law { PullsInOrder }
 {}
 
-/// The recording law: where the packets of a front end are all of one caller that does what its pump
-/// does, those of one tuning number that aren't stale are a beginning of the recording of one
-/// multiplex, in order, and at each of them the streams of the front end are tuned to that multiplex.
-/// The history has fewer than 2^64 entries.
+/// The recording law: where the packets of a front end are all of one caller that does what its
+/// pump does, those of one tuning number that aren't stale are a beginning of the recording of one
+/// multiplex, in order, and at each of them the streams of the front end are tuned to that
+/// multiplex. The history has fewer than 2^64 entries.
 pub fn law_9()
     ensures law { PacketsAreOfRecordings }
 {}

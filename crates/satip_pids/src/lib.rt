@@ -2,10 +2,14 @@
 //! sets of them that streams select.
 #![tactic(auto)]
 
+mod bits;
 mod fault;
 mod numbers;
 mod pid_list;
 mod pid_set;
+#[cfg(test)]
+mod plain;
+#[cfg(test)]
 mod rising;
 mod texts;
 

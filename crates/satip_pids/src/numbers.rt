@@ -21,7 +21,11 @@ impl<const ROOM: usize> Model for Numbers<ROOM> {
 
     ghost invariant = { λ s. IsPacked ROOM s.places s.count };
 
-    ghost inverse = { λ xs. record { places = xs ++ replicate (ROOM - length xs) 0; count = length xs } };
+    ghost inverse = { λ xs. record {
+      places = xs
+          ++ replicate (ROOM - length xs) 0;
+      count = length xs;
+    } };
 
     ghost use Rattle.satip_pids.specs.Unpacked.{unpacked};
 
@@ -74,7 +78,8 @@ impl<const ROOM: usize> Numbers<ROOM> {
 // Moves the last number to a place, and the numbers from there on up by one.
 fn last_to(numbers: &mut [u16], place: usize)
     requires { place < length numbers.old }
-    ensures { (front : List ℕ) (last : ℕ) → numbers.old ≡ front ++ last ∷ [] → numbers.new ≡ insert front place last }
+    ensures { (front : List ℕ) (last : ℕ) → numbers.old ≡ front ++ last ∷ []
+        → numbers.new ≡ insert front place last }
 {
     numbers[place..].rotate_right(1);
 }

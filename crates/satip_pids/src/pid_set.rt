@@ -1,42 +1,38 @@
 //! The PIDs that a stream selects.
 
-ghost use Rattle.std.specs.Prelude.{◌≡◌, ◌<◌, ◌≤◌, ◌↔◌, ◌||◌, ◌&&◌, not, ℕ, [], length, All, OnOk, OnErr, Ok, Err, MatchResult};
+ghost use Rattle.std.specs.Prelude.{◌≡◌, ◌+◌, ◌*◌, ◌<◌, ◌≤◌, ◌↔◌, ◌||◌, ◌&&◌, not, ℕ, [], length, All, OnOk, OnErr, Ok, Err, MatchResult, if◌then◌else◌};
+ghost use Rattle.std.specs.Int.{bit_at};
 ghost use Rattle.satip_base.specs.Printed.{Printed};
 ghost use Rattle.satip_pids.specs.Texts.{pids_text};
 ghost use Rattle.satip_pids.specs.Rising.{has_number};
 ghost use Rattle.satip_pids.specs.Pids.{Pids, Every, Only, IsPidSet, has_pid, listed, grown, set_pids, add_pids, remove_pids};
 
+use crate::bits::{WORDS, add_bits, has_bit, remove_bits};
 use crate::fault::PidFault;
-use crate::numbers::Numbers;
-use crate::rising::{difference, place_of, union};
 use crate::texts::print_listed;
 use satip_base::Strip;
 use std::marker::Model;
 
-/// All PIDs, or a set of up to 256 of them, each below 8192. It takes no memory.
-#[derive(Clone, Copy, Debug, PartialEq, Eq)]
-pub struct PidSet {
-    which: Which,
-}
+/// So many PIDs are set where all are.
+const EVERY: usize = 8192;
 
-#[derive(Clone, Copy, Debug, PartialEq, Eq)]
-enum Which {
-    All,
-    Listed(Numbers<256>),
+/// All PIDs, or a set of up to 256 of them, each below 8192. It takes no memory: a bit for each
+/// PID, and how many are set.
+#[derive(Debug, Drop)]
+pub struct PidSet {
+    words: [u64; WORDS],
+    count: usize,
 }
 
 impl Model for PidSet {
-    ghost use Rattle.satip_pids.specs.Pids.{Pids, IsPidSet};
+    ghost use Rattle.satip_pids.specs.Pids.{Pids};
+    ghost use Rattle.satip_pids.specs.Bits.{pids_of, IsBits};
 
     ghost Value = { Pids };
 
-    ghost use Rattle.satip_pids.specs.Which.{pids_of, which_of};
+    ghost view = { λ s. pids_of s.words s.count };
 
-    ghost view = { λ s. pids_of s.which };
-
-    ghost invariant = { λ s. IsPidSet (pids_of s.which) };
-
-    ghost inverse = { λ set. record { which = which_of set } };
+    ghost invariant = { λ s. IsBits s.words s.count };
 }
 
 impl PidSet {
@@ -45,15 +41,35 @@ impl PidSet {
         ensures empty { result ≡ Only [] }
     {
         PidSet {
-            which: Which::Listed(Numbers::new()),
+            words: [0; WORDS],
+            count: 0,
         }
+    }
+
+    /// The same set once more.
+    pub fn copy(&self) -> PidSet
+        ensures same { result ≡ self.now }
+    {
+        PidSet {
+            words: self.words,
+            count: self.count,
+        }
+    }
+
+    /// Selects what another set does, and no other PID.
+    pub fn copy_from(&mut self, other: &PidSet)
+        ensures same { self.new ≡ other.now }
+    {
+        self.words = other.words;
+        self.count = other.count;
     }
 
     /// Selects every PID.
     pub fn set_all(&mut self)
         ensures every { self.new ≡ Every }
     {
-        self.which = Which::All;
+        self.words = [u64::MAX; WORDS];
+        self.count = EVERY;
     }
 
     /// Selects the listed PIDs and no other.
@@ -62,12 +78,17 @@ impl PidSet {
         ensures exact { MatchResult result (λ done. set_pids list.now ≡ Ok self.new)
             (λ fault. set_pids list.now ≡ Err fault) }
         ensures members { OnOk result ((pid : ℕ) → has_pid self.new pid ≡ has_number list.now pid) }
-        ensures too_many { (result ≡ Err PidFault.TooMany) ↔ (256 < listed (grown (Only []) list.now)) }
+        ensures too_many { (result ≡ Err PidFault.TooMany)
+            ↔ (256 < listed (grown (Only []) list.now)) }
         ensures limits { OnOk result (IsPidSet self.new) }
         ensures unchanged { OnErr result (self.new ≡ self.old) }
     {
-        let pids = union(&Numbers::new(), list)?;
-        self.which = Which::Listed(pids);
+        let mut words = [0; WORDS];
+        let Some(count) = add_bits(&mut words, 0, list) else {
+            return Err(PidFault::TooMany);
+        };
+        self.words = words;
+        self.count = count;
         Ok(())
     }
 
@@ -78,18 +99,21 @@ impl PidSet {
             (λ fault. add_pids self.old list.now ≡ Err fault) }
         ensures members { OnOk result ((pid : ℕ) →
             has_pid self.new pid ≡ (has_pid self.old pid || has_number list.now pid)) }
-        ensures too_many { (result ≡ Err PidFault.TooMany) ↔ (256 < listed (grown self.old list.now)) }
+        ensures too_many { (result ≡ Err PidFault.TooMany)
+            ↔ (256 < listed (grown self.old list.now)) }
         ensures limits { OnOk result (IsPidSet self.new) }
         ensures unchanged { OnErr result (self.new ≡ self.old) }
     {
-        match &self.which {
-            Which::All => Ok(()),
-            Which::Listed(pids) => {
-                let both = union(pids, list)?;
-                self.which = Which::Listed(both);
-                Ok(())
-            }
+        if self.count == EVERY {
+            return Ok(());
         }
+        let mut words = self.words;
+        let Some(count) = add_bits(&mut words, self.count, list) else {
+            return Err(PidFault::TooMany);
+        };
+        self.words = words;
+        self.count = count;
+        Ok(())
     }
 
     /// Selects the listed PIDs no longer, which the set of all refuses.
@@ -103,13 +127,11 @@ impl PidSet {
         ensures limits { OnOk result (IsPidSet self.new) }
         ensures unchanged { OnErr result (self.new ≡ self.old) }
     {
-        match &self.which {
-            Which::All => Err(PidFault::UnderAll),
-            Which::Listed(pids) => {
-                self.which = Which::Listed(difference(pids.as_slice(), list));
-                Ok(())
-            }
+        if self.count == EVERY {
+            return Err(PidFault::UnderAll);
         }
+        self.count = remove_bits(&mut self.words, self.count, list);
+        Ok(())
     }
 
     /// Whether the set selects a PID.
@@ -118,23 +140,30 @@ impl PidSet {
         ensures selected { result ≡ has_pid self.now pid }
         ensures limits { IsPidSet self.now }
     {
-        match &self.which {
-            Which::All => true,
-            Which::Listed(pids) => place_of(pids.as_slice(), pid).is_ok(),
-        }
+        has_bit(&self.words, pid)
     }
 
-    /// Prints `all`, `none` for the empty set, or the PIDs in rising order with commas between them.
-    #[tactic(auto, unfolding(crate::specs::Texts::pids_text))]
+    /// Bit i of a word is set where the PID `64 * place + i` is selected.
+    pub fn word(&self, place: usize) -> u64
+        requires within { place < 128 }
+        ensures bits { (i : ℕ) → i < 64 → bit_at result i
+            ≡ (if has_pid self.now (64 * place + i) then 1 else 0) }
+    {
+        self.words[place]
+    }
+
+    /// Prints `all`, `none` for the empty set, or the PIDs in rising order with commas between
+    /// them.
     pub fn print(&self, strip: &mut Strip)
         requires room { length strip.old ≤ 320 }
         ensures printed { Printed strip.old (pids_text self.now) strip.new }
         ensures bound { length (pids_text self.now) ≤ 1279 }
         ensures limits { IsPidSet self.now }
     {
-        match &self.which {
-            Which::All => strip.write(b"all"),
-            Which::Listed(pids) => print_listed(pids.as_slice(), strip),
+        if self.count == EVERY {
+            strip.write(b"all");
+            return;
         }
+        print_listed(&self.words, strip);
     }
 }

@@ -18,7 +18,8 @@ pub fn place_of(pids: &[u16], pid: u16) -> Result<usize, usize>
 /// Adds a PID; `false` where 256 others are there, and then nothing is changed.
 fn put(pids: &mut Numbers<256>, pid: u16) -> bool
     requires rising { IsRising 0 pids.old }
-    ensures added { MatchBool result (pids.new ≡ put pid pids.old) (256 < length (put pid pids.old)) }
+    ensures added { MatchBool result (pids.new ≡ put pid pids.old)
+        (256 < length (put pid pids.old)) }
     ensures few { length pids.new ≤ 256 }
 {
     match place_of(pids.as_slice(), pid) {

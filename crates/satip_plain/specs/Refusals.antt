@@ -1,5 +1,5 @@
 -- Which requests are refused, and why: one line for each cause, in the order in which they count.
-use Rattle.std.specs.Prelude.{ℕ, ◌==◌, ◌&&◌, ◌||◌, not, nat_le, Bool, true, false, List, [], ◌∷◌, length, Option, None, Some, option_map, option_and_then, is_some, is_none, Result, Ok, Err, if◌then◌else◌}
+use Rattle.std.specs.Prelude.{ℕ, ◌==◌, ◌&&◌, ◌||◌, not, nat_le, Bool, true, false, List, [], ◌∷◌, ◌++◌, length, Option, None, Some, option_map, option_and_then, is_some, is_none, Result, Ok, Err, if◌then◌else◌}
 use Rattle.std.specs.Option.{option_map_or}
 use Rattle.satip_pids.specs.declared.fault.PidFault.{PidFault}
 use Rattle.satip_pids.specs.declared.fault.PidFault.TheVariants.{TooMany, UnderAll}
@@ -161,14 +161,21 @@ is_full st = nat_le most_sessions (length st.sessions) || nat_le most_made st.ma
 abbrev pub front_missing : Config → Outlook → Option Tuning → Change → Bool
 front_missing c outlook old change = option_map_or (λ tuning. blocked outlook (mux_of c.muxes tuning) tuning) (to_set old change) false
 
--- what refuses a query for a stream that had this tuning and these PIDs; `makes` where it also makes a session
-abbrev pub of_change : Config → State → Outlook → Option Tuning → Pids → Bool → Query → List (Option Refused)
-of_change c st outlook tuning pids makes query =
+-- what refuses a query for a stream that had this tuning and these PIDs, before a front end is looked for; `makes` where it
+-- also makes a session
+abbrev pub change_before : State → Option Tuning → Pids → Bool → Query → List (Option Refused)
+change_before st tuning pids makes query =
     key_missing tuning query.change
     ∷ of_pids (asked_pids pids query)
     ∷ where_true (makes && is_full st) (telling 503 NoMoreSessions)
-    ∷ where_true (front_missing c outlook tuning query.change) (telling 503 NoMoreFrontends)
     ∷ []
+
+-- that no front end is to be had, which counts last
+abbrev pub front_last : Config → Outlook → Option Tuning → Query → List (Option Refused)
+front_last c outlook tuning query = where_true (front_missing c outlook tuning query.change) (telling 503 NoMoreFrontends) ∷ []
+
+abbrev pub of_change : Config → State → Outlook → Option Tuning → Pids → Bool → Query → List (Option Refused)
+of_change c st outlook tuning pids makes query = change_before st tuning pids makes query ++ front_last c outlook tuning query
 
 -- a stream that isn't founded yet
 abbrev pub new_outlook : Config → State → Outlook
@@ -182,23 +189,28 @@ abbrev pub of_query : Config → State → Request → Option Stream → List (O
 of_query c st r None = of_change c st (new_outlook c st) None (Only []) (makes_session r) r.query
 of_query c st r (Some t) = of_change c st (outlook_of c st t.number) t.tuning t.pids (makes_session r) r.query
 
--- the cause for which a request is refused; None where it is accepted
-abbrev pub decide : Config → State → Request → Option Refused
-decide c st r =
-    first_given
-    (option_map of_message r.refusal
+-- what refuses any request, in order
+abbrev pub message_before : State → Request → List (Option Refused)
+message_before st r =
+    option_map of_message r.refusal
     ∷ where_true (session_missing st r) (plainly 454)
     ∷ where_true (stream_missing st r) (plainly 404)
     ∷ where_true (stream_of_another st r) (plainly 454)
     ∷ where_true (not_owner st r) (telling 403 NotOwner)
     ∷ where_true (is_setup r.method && not (names_none r.session) && is_none r.stream) (plainly 455)
     ∷ where_true (is_setup r.method && is_none r.ports) (plainly 461)
-    ∷ (if changes r.method then of_query c st r (stream_meant st r) else []))
+    ∷ []
 
--- the same of an HTTP request, which always asks for a tuning of a new stream
-abbrev pub decide_get : Config → State → HttpRequest → Option Refused
-decide_get c st r =
-    first_given
-    (option_map of_http_message r.refusal
+-- the cause for which a request is refused; None where it is accepted
+abbrev pub decide : Config → State → Request → Option Refused
+decide c st r = first_given (message_before st r ++ (if changes r.method then of_query c st r (stream_meant st r) else []))
+
+-- what refuses an HTTP request, which always asks for a tuning of a new stream, before a front end is looked for
+abbrev pub get_before : State → HttpRequest → List (Option Refused)
+get_before st r =
+    option_map of_http_message r.refusal
     ∷ of_tuning (changed_tuning None r.query.change)
-    ∷ of_change c st (new_outlook c st) None (Only []) true r.query)
+    ∷ change_before st None (Only []) true r.query
+
+abbrev pub decide_get : Config → State → HttpRequest → Option Refused
+decide_get c st r = first_given (get_before st r ++ front_last c (new_outlook c st) None r.query)

@@ -1,5 +1,5 @@
 -- Facts that have one proof at most: that a history is legal, that two settings are equal.
-use Rattle.std.specs.Prelude.{List, [], ◌∷◌}
+use Rattle.std.specs.Prelude.{ℕ, List, [], ◌∷◌}
 use Rattle.std.specs.Coded.{×_prop, Unit-prop}
 use Rattle.std.proofs.Props.{props}
 use mathlib.Core.Sum.{⊎_set}
@@ -18,7 +18,7 @@ use Rattle.satip_plain.specs.declared.setting.Setting.{Setting}
 use Rattle.satip_plain.specs.Types.{Config, Front, Mux}
 use Rattle.satip_plain.specs.State.{State}
 use Rattle.satip_plain.specs.Steps.{Outcome, step}
-use Rattle.satip_plain.specs.Values.{IsRefusal, ArePidsGiven, IsName, IsEvent, IsFrontEnd, IsMultiplex, IsServable, IsSetting}
+use Rattle.satip_plain.specs.Values.{AreBytes, IsRefusal, ArePidsGiven, IsName, IsEvent, IsFrontEnd, IsMultiplex, IsServable, IsSetting}
 use Rattle.satip_plain.specs.Histories.{Item, Fits, Legal, LegalFrom, opening}
 
 Each-prop : {T : Type 0} (P : T → Type 0) → ((x : T) → IsProp (P x)) → (xs : List T) → IsProp (Each P xs)
@@ -54,6 +54,9 @@ IsFrontEnd-prop front = hlevel props
 IsMultiplex-prop : (mux : Mux) → IsProp (IsMultiplex mux)
 IsMultiplex-prop mux = hlevel props
 
+AreBytes-prop : (bytes : List ℕ) → IsProp (AreBytes bytes)
+AreBytes-prop bytes = hlevel props
+
 IsServable-prop : (c : Config) → IsProp (IsServable c)
 IsServable-prop c = hlevel props
 
@@ -61,7 +64,8 @@ IsSetting-prop : (c : Setting) → IsProp (IsSetting c)
 IsSetting-prop c =
     let fronts : IsProp (Each IsFrontEnd c.config.fronts) = Each-prop IsFrontEnd IsFrontEnd-prop c.config.fronts in
     let muxes : IsProp (Each IsMultiplex c.config.muxes) = Each-prop IsMultiplex IsMultiplex-prop c.config.muxes in
-    hlevel (props, fronts, muxes)
+    let files : IsProp (Each AreBytes c.config.files) = Each-prop AreBytes AreBytes-prop c.config.files in
+    hlevel (props, fronts, muxes, files)
 
 Answer-set : IsSet Answer
 Answer-set = hlevel (props, ⊎_set)

@@ -1,5 +1,6 @@
 -- The step of the plain server: what each event does. Cases that a refusal or the order of making rules out have any value.
 use Rattle.std.specs.Prelude.{ℕ, ◌==◌, ◌&&◌, ◌+◌, ◌*◌, ◌%◌, ◌^◌, not, nat_le, min, max, Bool, true, false, List, [], ◌∷◌, ◌++◌, map, filter, flat_map, length, sum, take, find, Option, None, Some, option_map, option_and_then, is_some, is_none, unwrap_or, if◌then◌else◌}
+use Rattle.satip_base.specs.declared.limits.TheConstants.{PULLED, QUEUED, REPORT_MS}
 use Rattle.std.specs.List.{list_any, concat, range_with_len}
 use Rattle.std.specs.Option.{option_map_or}
 use Rattle.satip_pids.specs.Pids.{Only, has_pid}
@@ -213,10 +214,10 @@ on_request c peer draw r st =
 -- HTTP sessions
 
 abbrev pub most_queued : ℕ
-most_queued = 4096
+most_queued = QUEUED
 
 abbrev pub most_pulled : ℕ
-most_pulled = 64
+most_pulled = PULLED
 
 abbrev pub start : Config → Peer → Draw → HttpRequest → State → Outcome
 start c peer draw r st =
@@ -258,7 +259,7 @@ abbrev pub expired : Config → State → List Session
 expired c st = filter (is_expired c st.clock) st.sessions
 
 abbrev pub is_due : ℕ → Session → Bool
-is_due clock s = s.playing && not s.http && option_map_or (λ at. nat_le (at + 200) clock) s.reported true
+is_due clock s = s.playing && not s.http && option_map_or (λ at. nat_le (at + REPORT_MS) clock) s.reported true
 
 abbrev pub sender_of : Config → State → Session → Sender
 sender_of c st s = record {

@@ -1,6 +1,6 @@
 -- Which values are of the types that the program has: numbers within their width, packets, lists within their limits.
-use Rattle.std.specs.Prelude.{◌≡◌, ◌<◌, ◌≤◌, ◌^◌, map, length, IfSome}
-use Rattle.std.specs.List.{range_with_len}
+use Rattle.std.specs.Prelude.{ℕ, ◌≡◌, ◌<◌, ◌≤◌, ◌^◌, List, map, length, IfSome}
+use Rattle.std.specs.List.{All, range_with_len}
 use Rattle.satip_history.specs.Lists.{Each}
 use Rattle.satip_pids.specs.Pids.{IsPidList}
 use Rattle.satip_ts.specs.Packet.{IsPacket}
@@ -14,6 +14,10 @@ use Rattle.satip_rtsp.specs.declared.requests.SessionName.TheVariants.{Named}
 use Rattle.satip_plain.specs.declared.events.Event.{Event}
 use Rattle.satip_plain.specs.declared.events.Event.TheVariants.{Request as Asked, Get as Got, Tick, Packet, Ended, Ask, Pull, Close, Stop}
 use Rattle.satip_plain.specs.Types.{SessionId, Draw, Ports, Change, Query, Request, Config, Front, Mux}
+
+-- each number is a byte
+abbrev pub AreBytes : List ℕ → Type 0
+AreBytes bytes = All (λ byte. byte < 2 ^ 8) bytes
 
 pub record IsId (id : SessionId) : Type 0 where
   pub count : id.count < 2 ^ 32
@@ -44,8 +48,13 @@ pub record IsQuery (query : Query) : Type 0 where
   pub addpids : IfSome query.addpids IsPidList
   pub delpids : IfSome query.delpids IsPidList
 
+-- the option that a request requires, or its first 128 bytes
+pub record IsKept (kept : List ℕ) : Type 0 where
+  pub few : length kept ≤ 128
+  pub bytes : AreBytes kept
+
 abbrev pub IsRefusal : Refusal → Type 0
-IsRefusal (Require kept) = length kept ≤ 128
+IsRefusal (Require kept) = IsKept kept
 IsRefusal _ = Unit {0}
 
 abbrev pub IsName : SessionName → Type 0
@@ -60,11 +69,16 @@ pub record IsRequest (r : Request) : Type 0 where
   pub query : IsQuery r.query
   pub ports : IfSome r.ports ArePorts
 
+-- a transport packet, of bytes
+pub record IsPacketOfBytes (packet : List ℕ) : Type 0 where
+  pub packet_is : IsPacket packet
+  pub bytes : AreBytes packet
+
 abbrev pub IsEvent : Event → Type 0
 IsEvent (Asked peer draw r) = (peer.ip < 2 ^ 32) × IsDraw draw × IsRequest r
 IsEvent (Got peer draw r) = (peer.ip < 2 ^ 32) × IsDraw draw × IsQuery r.query
 IsEvent (Tick now) = now < 2 ^ 64
-IsEvent (Packet front tune packet) = (front < 2 ^ 16) × (tune < 2 ^ 64) × IsPacket packet
+IsEvent (Packet front tune packet) = (front < 2 ^ 16) × (tune < 2 ^ 64) × IsPacketOfBytes packet
 IsEvent (Ended front tune) = (front < 2 ^ 16) × (tune < 2 ^ 64)
 IsEvent (Ask front) = front < 2 ^ 16
 IsEvent (Pull id) = IsId id
@@ -96,3 +110,4 @@ pub record IsSetting (c : Setting) : Type 0 where
   pub workers : c.config.workers < 2 ^ 16
   pub fronts : Each IsFrontEnd c.config.fronts
   pub muxes : Each IsMultiplex c.config.muxes
+  pub files : Each AreBytes c.config.files

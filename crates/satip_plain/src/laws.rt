@@ -2,7 +2,8 @@
 
 ghost use Rattle.satip_plain.specs.Laws.{RefusedChangesNothing, RefusedGetChangesNothing, StaleChangesNothing, GoneChangesNothing, EmptyOnlyHears, PrefixIsLegal, TuningEqIsEquality};
 
-/// A refused request changes nothing but, where the message itself is right, when its session was last heard of.
+/// A refused request changes nothing but, where the message itself is right, when its session was
+/// last heard of.
 pub fn refused_changes_nothing()
     ensures law { RefusedChangesNothing }
 {}

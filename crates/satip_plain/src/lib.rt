@@ -13,7 +13,7 @@ pub use answers::{Answer, Beat, Closed, GetAnswer, Pulled, Replied, Work};
 pub use events::Event;
 pub use laws::{
     empty_only_hears, gone_changes_nothing, prefix_is_legal, refused_changes_nothing,
-    refused_get_changes_nothing, stale_changes_nothing,
+    refused_get_changes_nothing, stale_changes_nothing, tuning_eq_is_equality,
 };
 pub use setting::Setting;
-pub use values::known_event;
+pub use values::{known_bytes, known_event};

@@ -9,124 +9,169 @@ ghost use Rattle.satip_plain.specs.Examples.{Media, Told, Ok200, Refuses, Works,
 // Six packets leave at the tick, before the report; seven leave at once, and the next number wraps.
 #[tactic(auto, unfolding(satip_fronts::specs::Choice::choose, satip_fronts::specs::Choice::blocked, satip_fronts::specs::Choice::least, satip_fronts::specs::Choice::placed, satip_fronts::specs::Choice::may_take))]
 fn held_packets_leave()
-    ensures at_the_tick { sent_last (run (setup ∷ Tick 1000 ∷ play ∷ (packets 6 16 ++ Tick 1040 ∷ []))) ≡ Media 1400 65535 1040 6 ∷ Told 1401 ∷ [] }
-    ensures at_the_seventh { sent_last (run (setup ∷ Tick 1000 ∷ play ∷ packets 7 16)) ≡ Media 1400 65535 1000 7 ∷ [] }
-    ensures at_the_end { sent_last (run (setup ∷ Tick 1000 ∷ play ∷ (packets 8 16 ++ teardown_in (id_of 1 10) 1 ∷ []))) ≡ Media 1400 0 1000 1 ∷ [] }
+    ensures at_the_tick { sent_last (run (setup ∷ Tick 1000 ∷ play ∷
+        (packets 6 16 ++ Tick 1040 ∷ []))) ≡ Media 1400 65535 1040 6 ∷ Told 1401 ∷ [] }
+    ensures at_the_seventh { sent_last (run (setup ∷ Tick 1000 ∷ play ∷ packets 7 16))
+        ≡ Media 1400 65535 1000 7 ∷ [] }
+    ensures at_the_end { sent_last (run (setup ∷ Tick 1000 ∷ play ∷
+        (packets 8 16 ++ teardown_in (id_of 1 10) 1 ∷ []))) ≡ Media 1400 0 1000 1 ∷ [] }
 {}
 
 // Only what comes after PIDs were added is sent.
 #[tactic(auto, unfolding(satip_fronts::specs::Choice::choose, satip_fronts::specs::Choice::blocked, satip_fronts::specs::Choice::least, satip_fronts::specs::Choice::placed, satip_fronts::specs::Choice::may_take))]
 fn pids_added_count_from_then_on()
-    ensures sent { sent_last (run (setup ∷ play ∷ packet 100 ∷ play_in (id_of 1 10) 1 (added_pids (100 ∷ [])) ∷ packet 100 ∷ Tick 40 ∷ [])) ≡ Media 1400 65535 40 1 ∷ Told 1401 ∷ [] }
+    ensures sent { sent_last (run (setup ∷ play ∷ packet 100 ∷ play_in (id_of 1 10) 1
+        (added_pids (100 ∷ [])) ∷ packet 100 ∷ Tick 40 ∷ []))
+        ≡ Media 1400 65535 40 1 ∷ Told 1401 ∷ [] }
 {}
 
 // A packet of the old tuning is stale after a retune.
 #[tactic(auto, unfolding(satip_fronts::specs::Choice::choose, satip_fronts::specs::Choice::blocked, satip_fronts::specs::Choice::least, satip_fronts::specs::Choice::placed, satip_fronts::specs::Choice::may_take))]
 fn packet_across_a_retune_is_dropped()
-    ensures answers { answers_of (run (setup ∷ play ∷ Ask 1 ∷ play_in (id_of 1 10) 1 (with_change to_second) ∷ packet 16 ∷ [])) ≡ Ok200 ∷ Ok200 ∷ Works 1 1 ∷ Ok200 ∷ Works 2 2 ∷ [] }
-    ensures sent { sent_last (run (setup ∷ play ∷ play_in (id_of 1 10) 1 (with_change to_second) ∷ packet 16 ∷ Tick 40 ∷ [])) ≡ Told 1401 ∷ [] }
+    ensures answers { answers_of (run (setup ∷ play ∷ Ask 1 ∷ play_in (id_of 1 10) 1
+        (with_change to_second) ∷ packet 16 ∷ []))
+        ≡ Ok200 ∷ Ok200 ∷ Works 1 1 ∷ Ok200 ∷ Works 2 2 ∷ [] }
+    ensures sent { sent_last (run (setup ∷ play ∷ play_in (id_of 1 10) 1 (with_change to_second) ∷
+        packet 16 ∷ Tick 40 ∷ [])) ≡ Told 1401 ∷ [] }
 {}
 
 // A joined session plays, and changes nothing.
 #[tactic(auto, unfolding(satip_fronts::specs::Choice::choose, satip_fronts::specs::Choice::blocked, satip_fronts::specs::Choice::least, satip_fronts::specs::Choice::placed, satip_fronts::specs::Choice::may_take))]
 fn joined_session_may_not_change_pids()
-    ensures answers { answers_of (run (setup ∷ play ∷ join_of 1 ∷ play_of_two 1 (added_pids (18 ∷ [])) ∷ play_of_two 1 new_query ∷ [])) ≡ Ok200 ∷ Ok200 ∷ Ok200 ∷ Refuses 403 (Some NotOwner) ∷ Ok200 ∷ [] }
-    ensures sent { sent_last (run (setup ∷ play ∷ join_of 1 ∷ play_of_two 1 new_query ∷ packet 16 ∷ Tick 40 ∷ []))
+    ensures answers { answers_of (run (setup ∷ play ∷ join_of 1 ∷ play_of_two 1
+        (added_pids (18 ∷ [])) ∷ play_of_two 1 new_query ∷ []))
+        ≡ Ok200 ∷ Ok200 ∷ Ok200 ∷ Refuses 403 (Some NotOwner) ∷ Ok200 ∷ [] }
+    ensures sent { sent_last (run (setup ∷ play ∷ join_of 1 ∷ play_of_two 1 new_query ∷ packet 16 ∷
+        Tick 40 ∷ []))
         ≡ Media 1400 65535 40 1 ∷ Media 1500 0 40 1 ∷ Told 1401 ∷ Told 1501 ∷ [] }
 {}
 
 // Two front ends serve two tunings; the third finds none until one is given back.
 #[tactic(auto, unfolding(satip_fronts::specs::Choice::choose, satip_fronts::specs::Choice::blocked, satip_fronts::specs::Choice::least, satip_fronts::specs::Choice::placed, satip_fronts::specs::Choice::may_take))]
 fn third_tuning_finds_no_front_end()
-    ensures answers { answers_of (run (setup ∷ setup_with (with_change to_second) ∷ setup_with (with_change to_unknown) ∷ teardown_in (id_of 1 10) 1 ∷ setup_with (with_change to_unknown) ∷ []))
+    ensures answers { answers_of (run (setup ∷ setup_with (with_change to_second) ∷ setup_with
+        (with_change to_unknown) ∷ teardown_in (id_of 1 10) 1 ∷ setup_with (with_change to_unknown)
+        ∷ []))
         ≡ Ok200 ∷ Ok200 ∷ Refuses 503 (Some NoMoreFrontends) ∷ Ok200 ∷ Ok200 ∷ [] }
-    ensures after { streams_of (run (setup ∷ setup_with (with_change to_second) ∷ teardown_in (id_of 1 10) 1 ∷ setup_with (with_change to_unknown) ∷ []))
+    ensures after { streams_of (run (setup ∷ setup_with (with_change to_second) ∷ teardown_in
+        (id_of 1 10) 1 ∷ setup_with (with_change to_unknown) ∷ []))
         ≡ tally 1 (Some 1) 3 ∷ tally 2 (Some 2) 2 ∷ [] }
-    ensures wanted { answers_of (run (setup_with wanted_second ∷ setup_with (record wanted_second { change = record to_unknown { fe = Some 2 } }) ∷ []))
+    ensures wanted { answers_of (run (setup_with wanted_second ∷ setup_with
+        (record wanted_second { change = record to_unknown { fe = Some 2 } }) ∷ []))
         ≡ Ok200 ∷ Refuses 503 (Some NoMoreFrontends) ∷ [] }
 {}
 
 // A session that wasn't heard of for 60 seconds ends.
 #[tactic(auto, unfolding(satip_fronts::specs::Choice::choose, satip_fronts::specs::Choice::blocked, satip_fronts::specs::Choice::least, satip_fronts::specs::Choice::placed, satip_fronts::specs::Choice::may_take))]
 fn session_expires()
-    ensures ended { answers_of (run (setup ∷ Tick 59999 ∷ Tick 60000 ∷ options_in (id_of 1 10) ∷ [])) ≡ Ok200 ∷ Beats ∷ Beats ∷ Refuses 454 None ∷ [] }
-    ensures lives { answers_of (run (setup ∷ Tick 59999 ∷ options_in (id_of 1 10) ∷ [])) ≡ Ok200 ∷ Beats ∷ Ok200 ∷ [] }
+    ensures ended { answers_of (run (setup ∷ Tick 59999 ∷ Tick 60000 ∷ options_in (id_of 1 10) ∷
+        [])) ≡ Ok200 ∷ Beats ∷ Beats ∷ Refuses 454 None ∷ [] }
+    ensures lives { answers_of (run (setup ∷ Tick 59999 ∷ options_in (id_of 1 10) ∷ []))
+        ≡ Ok200 ∷ Beats ∷ Ok200 ∷ [] }
 {}
 
-// At most 256 PIDs are selected, and none is taken from all of them; a refused change leaves the old ones.
+// At most 256 PIDs are selected, and none is taken from all of them; a refused change leaves the
+// old ones.
 #[tactic(auto, unfolding(satip_fronts::specs::Choice::choose, satip_fronts::specs::Choice::blocked, satip_fronts::specs::Choice::least, satip_fronts::specs::Choice::placed, satip_fronts::specs::Choice::may_take))]
 fn pids_have_limits()
-    ensures under_all { answers_of (run (setup_with without_pids ∷ [])) ≡ Refuses 403 (Some (OutOfRange Delpids)) ∷ [] }
+    ensures under_all { answers_of (run (setup_with without_pids ∷ []))
+        ≡ Refuses 403 (Some (OutOfRange Delpids)) ∷ [] }
     ensures greatest { answers_of (run (setup_with greatest_pid ∷ [])) ≡ Ok200 ∷ [] }
-    ensures above { answers_of (run (setup_above ∷ [])) ≡ Refuses 403 (Some (OutOfRange Pids)) ∷ [] }
+    ensures above { answers_of (run (setup_above ∷ []))
+        ≡ Refuses 403 (Some (OutOfRange Pids)) ∷ [] }
     ensures most { answers_of (run (setup_with (listed_pids 256) ∷ [])) ≡ Ok200 ∷ [] }
-    ensures too_many { answers_of (run (setup ∷ play_in (id_of 1 10) 1 (listed_pids 257) ∷ [])) ≡ Ok200 ∷ Refuses 503 (Some NoMorePids) ∷ [] }
-    ensures unchanged { kept_pids (run (setup ∷ play_in (id_of 1 10) 1 (listed_pids 257) ∷ [])) ≡ 0 ∷ 16 ∷ 17 ∷ [] }
+    ensures too_many { answers_of (run (setup ∷ play_in (id_of 1 10) 1 (listed_pids 257) ∷ []))
+        ≡ Ok200 ∷ Refuses 503 (Some NoMorePids) ∷ [] }
+    ensures unchanged { kept_pids (run (setup ∷ play_in (id_of 1 10) 1 (listed_pids 257) ∷ []))
+        ≡ 0 ∷ 16 ∷ 17 ∷ [] }
 {}
 
 // The next session in order of joining owns the stream of an owner that ended.
 #[tactic(auto, unfolding(satip_fronts::specs::Choice::choose, satip_fronts::specs::Choice::blocked, satip_fronts::specs::Choice::least, satip_fronts::specs::Choice::placed, satip_fronts::specs::Choice::may_take))]
 fn ownership_passes_on()
-    ensures by_teardown { answers_of (run (setup ∷ join_of 1 ∷ play_of_two 1 new_query ∷ teardown_in (id_of 1 10) 1 ∷ play_of_two 1 (added_pids (18 ∷ [])) ∷ []))
+    ensures by_teardown { answers_of (run (setup ∷ join_of 1 ∷ play_of_two 1 new_query ∷ teardown_in
+        (id_of 1 10) 1 ∷ play_of_two 1 (added_pids (18 ∷ [])) ∷ []))
         ≡ Ok200 ∷ Ok200 ∷ Ok200 ∷ Ok200 ∷ Ok200 ∷ [] }
-    ensures sent { sent_last (run (setup ∷ join_of 1 ∷ play_of_two 1 new_query ∷ teardown_in (id_of 1 10) 1 ∷ play_of_two 1 (added_pids (18 ∷ [])) ∷ packet 18 ∷ Tick 40 ∷ []))
+    ensures sent { sent_last (run (setup ∷ join_of 1 ∷ play_of_two 1 new_query ∷ teardown_in
+        (id_of 1 10) 1 ∷ play_of_two 1 (added_pids (18 ∷ [])) ∷ packet 18 ∷ Tick 40 ∷ []))
         ≡ Media 1500 0 40 1 ∷ Told 1501 ∷ [] }
-    ensures by_timeout { answers_of (run (setup ∷ Tick 30000 ∷ join_of 1 ∷ Tick 60000 ∷ options_in (id_of 1 10) ∷ Ask 1 ∷ Tick 90000 ∷ options_in (id_of 2 11) ∷ Ask 1 ∷ []))
-        ≡ Ok200 ∷ Beats ∷ Ok200 ∷ Beats ∷ Refuses 454 None ∷ Works 1 1 ∷ Beats ∷ Refuses 454 None ∷ Idles ∷ [] }
+    ensures by_timeout { answers_of (run (setup ∷ Tick 30000 ∷ join_of 1 ∷ Tick 60000 ∷ options_in
+        (id_of 1 10) ∷ Ask 1 ∷ Tick 90000 ∷ options_in (id_of 2 11) ∷ Ask 1 ∷ []))
+        ≡ Ok200 ∷ Beats ∷ Ok200 ∷ Beats ∷ Refuses 454 None ∷ Works 1 1 ∷ Beats ∷ Refuses 454 None ∷
+        Idles ∷ [] }
 {}
 
 // Two streams of one multiplex share a front end.
 #[tactic(auto, unfolding(satip_fronts::specs::Choice::choose, satip_fronts::specs::Choice::blocked, satip_fronts::specs::Choice::least, satip_fronts::specs::Choice::placed, satip_fronts::specs::Choice::may_take))]
 fn streams_share_a_front_end()
-    ensures answers { answers_of (run (setup ∷ two_setup ∷ setup_with (with_change to_second) ∷ setup_with (with_change to_unknown) ∷ Ask 1 ∷ Ask 2 ∷ []))
+    ensures answers { answers_of (run (setup ∷ two_setup ∷ setup_with (with_change to_second) ∷
+        setup_with (with_change to_unknown) ∷ Ask 1 ∷ Ask 2 ∷ []))
         ≡ Ok200 ∷ Ok200 ∷ Ok200 ∷ Refuses 503 (Some NoMoreFrontends) ∷ Works 1 1 ∷ Works 2 1 ∷ [] }
-    ensures sent { sent_last (run (setup ∷ two_setup ∷ play ∷ play_of_two 2 new_query ∷ packet 16 ∷ Tick 40 ∷ []))
+    ensures sent { sent_last (run (setup ∷ two_setup ∷ play ∷ play_of_two 2 new_query ∷ packet 16 ∷
+        Tick 40 ∷ []))
         ≡ Media 1400 65535 40 1 ∷ Media 1500 0 40 1 ∷ Told 1401 ∷ Told 1501 ∷ [] }
-    ensures leaving { answers_of (run (setup ∷ two_setup ∷ play ∷ play_of_two 2 new_query ∷ play_in (id_of 1 10) 1 (with_change to_second) ∷ Ask 1 ∷ Ask 2 ∷ []))
+    ensures leaving { answers_of (run (setup ∷ two_setup ∷ play ∷ play_of_two 2 new_query ∷ play_in
+        (id_of 1 10) 1 (with_change to_second) ∷ Ask 1 ∷ Ask 2 ∷ []))
         ≡ Ok200 ∷ Ok200 ∷ Ok200 ∷ Ok200 ∷ Ok200 ∷ Works 1 1 ∷ Works 2 1 ∷ [] }
-    ensures left { sent_last (run (setup ∷ two_setup ∷ play ∷ play_of_two 2 new_query ∷ play_in (id_of 1 10) 1 (with_change to_second) ∷ packet 16 ∷ Tick 40 ∷ []))
+    ensures left { sent_last (run (setup ∷ two_setup ∷ play ∷ play_of_two 2 new_query ∷ play_in
+        (id_of 1 10) 1 (with_change to_second) ∷ packet 16 ∷ Tick 40 ∷ []))
         ≡ Media 1500 0 40 1 ∷ Told 1401 ∷ Told 1501 ∷ [] }
 {}
 
 // An HTTP session has its packets pulled, 64 at a time; a packet that meets its full queue ends it.
 #[tactic(auto, unfolding(satip_fronts::specs::Choice::choose, satip_fronts::specs::Choice::blocked, satip_fronts::specs::Choice::least, satip_fronts::specs::Choice::placed, satip_fronts::specs::Choice::may_take))]
 fn queue_has_limits()
-    ensures pulls { answers_of (run (get_second ∷ Pull (id_of 1 10) ∷ packet_on 1 1 400 ∷ packet_on 1 1 401 ∷ Pull (id_of 1 10) ∷ Pull (id_of 1 10) ∷ Close (id_of 1 10) ∷ Pull (id_of 1 10) ∷ []))
-        ≡ Starts (id_of 1 10) ∷ Pulls 0 ∷ Works 2 1 ∷ Works 2 1 ∷ Pulls 376 ∷ Pulls 0 ∷ Other ∷ Other ∷ [] }
+    ensures pulls { answers_of (run (get_second ∷ Pull (id_of 1 10) ∷ packet_on 1 1 400 ∷ packet_on
+        1 1 401 ∷ Pull (id_of 1 10) ∷ Pull (id_of 1 10) ∷ Close (id_of 1 10) ∷ Pull (id_of 1 10) ∷
+        []))
+        ≡ Starts (id_of 1 10) ∷ Pulls 0 ∷ Works 2 1 ∷ Works 2 1 ∷ Pulls 376 ∷ Pulls 0 ∷ Other ∷
+        Other ∷ [] }
     ensures fills { held_after_one_more 4095 ≡ 4096 ∷ [] }
     ensures overruns { held_after_one_more 4096 ≡ [] }
     ensures pulled { pulled_first 4096 ≡ 12032 }
 {}
 
-// A SETUP that moves its session and retunes sends what is held to the new address; an equal tuning sends nothing.
+// A SETUP that moves its session and retunes sends what is held to the new address; an equal tuning
+// sends nothing.
 #[tactic(auto, unfolding(satip_fronts::specs::Choice::choose, satip_fronts::specs::Choice::blocked, satip_fronts::specs::Choice::least, satip_fronts::specs::Choice::placed, satip_fronts::specs::Choice::may_take, satip_tune::specs::Words::pol_text, satip_tune::specs::Words::system_text, satip_tune::specs::Words::modulation_text, satip_tune::specs::Words::roll_off_text, satip_tune::specs::Words::fec_text, satip_tune::specs::Words::pilots_text))]
 fn retune_sends_what_is_held()
-    ensures moved { sent_last (run (setup ∷ play ∷ packet 16 ∷ moved_setup ∷ [])) ≡ Media 1600 65535 0 1 ∷ [] }
-    ensures equal { sent_last (run (setup ∷ play ∷ packet 16 ∷ play_in (id_of 1 10) 1 first_query ∷ [])) ≡ [] }
+    ensures moved { sent_last (run (setup ∷ play ∷ packet 16 ∷ moved_setup ∷ []))
+        ≡ Media 1600 65535 0 1 ∷ [] }
+    ensures equal { sent_last (run (setup ∷ play ∷ packet 16 ∷ play_in (id_of 1 10) 1 first_query ∷
+        [])) ≡ [] }
 {}
 
-// A stream moves to a front end that is tuned to its multiplex before its own is retuned, and finds it as it is.
+// A stream moves to a front end that is tuned to its multiplex before its own is retuned, and finds
+// it as it is.
 #[tactic(auto, unfolding(satip_fronts::specs::Choice::choose, satip_fronts::specs::Choice::blocked, satip_fronts::specs::Choice::least, satip_fronts::specs::Choice::placed, satip_fronts::specs::Choice::may_take))]
 fn stream_moves_before_its_front_end_is_retuned()
-    ensures answers { answers_of (run (setup ∷ setup_with (with_change to_second) ∷ Ended 1 1 ∷ play_in (id_of 2 10) 2 first_query ∷ Ask 1 ∷ Ask 2 ∷ []))
+    ensures answers { answers_of (run (setup ∷ setup_with (with_change to_second) ∷ Ended 1 1 ∷
+        play_in (id_of 2 10) 2 first_query ∷ Ask 1 ∷ Ask 2 ∷ []))
         ≡ Ok200 ∷ Ok200 ∷ Idles ∷ Ok200 ∷ Idles ∷ Idles ∷ [] }
 {}
 
-// A session that was named is kept alive by a request that is refused for another cause than its text.
+// A session that was named is kept alive by a request that is refused for another cause than its
+// text.
 #[tactic(auto, unfolding(satip_fronts::specs::Choice::choose, satip_fronts::specs::Choice::blocked, satip_fronts::specs::Choice::least, satip_fronts::specs::Choice::placed, satip_fronts::specs::Choice::may_take))]
 fn refused_request_keeps_alive()
-    ensures answers { answers_of (run (setup ∷ Tick 30000 ∷ setup_without_stream ∷ Tick 60000 ∷ setup_without_ports ∷ Tick 119999 ∷ options_in (id_of 1 10) ∷ []))
+    ensures answers { answers_of (run (setup ∷ Tick 30000 ∷ setup_without_stream ∷ Tick 60000 ∷
+        setup_without_ports ∷ Tick 119999 ∷ options_in (id_of 1 10) ∷ []))
         ≡ Ok200 ∷ Beats ∷ Refuses 455 None ∷ Beats ∷ Refuses 461 None ∷ Beats ∷ Ok200 ∷ [] }
 {}
 
 // What is read of the entries alone is what the state says.
 #[tactic(auto, unfolding(satip_fronts::specs::Choice::choose, satip_fronts::specs::Choice::blocked, satip_fronts::specs::Choice::least, satip_fronts::specs::Choice::placed, satip_fronts::specs::Choice::may_take))]
 fn readings_tell_the_state()
-    ensures shared { readings_tell (run (setup ∷ two_setup ∷ play ∷ packet 16 ∷ [])) ≡ state_tells (run (setup ∷ two_setup ∷ play ∷ packet 16 ∷ [])) }
-    ensures retuned { readings_tell (run (setup ∷ two_setup ∷ play_in (id_of 1 10) 1 (with_change to_second) ∷ []))
-        ≡ state_tells (run (setup ∷ two_setup ∷ play_in (id_of 1 10) 1 (with_change to_second) ∷ [])) }
-    ensures handed_over { readings_tell (run (setup ∷ join_of 1 ∷ teardown_in (id_of 1 10) 1 ∷ [])) ≡ state_tells (run (setup ∷ join_of 1 ∷ teardown_in (id_of 1 10) 1 ∷ [])) }
-    ensures expired { readings_tell (run (setup ∷ Tick 5000 ∷ get_second ∷ Tick 60000 ∷ [])) ≡ state_tells (run (setup ∷ Tick 5000 ∷ get_second ∷ Tick 60000 ∷ [])) }
+    ensures shared { readings_tell (run (setup ∷ two_setup ∷ play ∷ packet 16 ∷ []))
+        ≡ state_tells (run (setup ∷ two_setup ∷ play ∷ packet 16 ∷ [])) }
+    ensures retuned { readings_tell (run (setup ∷ two_setup ∷ play_in (id_of 1 10) 1
+        (with_change to_second) ∷ []))
+        ≡ state_tells (run (setup ∷ two_setup ∷ play_in (id_of 1 10) 1 (with_change to_second) ∷
+        [])) }
+    ensures handed_over { readings_tell (run (setup ∷ join_of 1 ∷ teardown_in (id_of 1 10) 1 ∷ []))
+        ≡ state_tells (run (setup ∷ join_of 1 ∷ teardown_in (id_of 1 10) 1 ∷ [])) }
+    ensures expired { readings_tell (run (setup ∷ Tick 5000 ∷ get_second ∷ Tick 60000 ∷ []))
+        ≡ state_tells (run (setup ∷ Tick 5000 ∷ get_second ∷ Tick 60000 ∷ [])) }
 {}
 
 // DESCRIBE of a stream that isn't tuned, with two front ends: 189 bytes.

@@ -1,7 +1,7 @@
 //! That the values of an event are of their types.
 ghost use Rattle.std.specs.Prelude.{◌<◌, ◌^◌, IfSome};
 ghost use Rattle.satip_pids.specs.Pids.{IsPidList};
-ghost use Rattle.satip_plain.specs.Values.{ArePidsGiven, ArePorts, IsChange, IsDraw, IsEvent, IsId, IsName, IsQuery, IsRefusal, IsRequest};
+ghost use Rattle.satip_plain.specs.Values.{AreBytes, ArePidsGiven, ArePorts, IsChange, IsDraw, IsEvent, IsId, IsName, IsQuery, IsRefusal, IsRequest};
 
 use crate::events::Event;
 use satip_base::{Draw, Ports, SessionId};
@@ -10,8 +10,8 @@ use satip_query::{PidsGiven, Query};
 use satip_rtsp::{Refusal, Request, SessionName};
 use satip_tune::Change;
 
-/// Hands what is true of each event to a caller's proof: its numbers are within their types, its
-/// PIDs below 8192, and its packet is one.
+/// Hands what is true of each event to a caller's proof: its numbers and bytes are within their
+/// types, its PIDs below 8192, and its packet is one.
 pub fn known_event(event: &Event)
     ensures value { IsEvent event.now }
 {
@@ -44,7 +44,7 @@ pub fn known_event(event: &Event)
         } => {
             let _front = *front;
             let _tune = *tune;
-            let _bytes = packet.bytes();
+            known_bytes(packet.bytes());
         }
         Event::Ended { front, tune } => {
             let _front = *front;
@@ -57,6 +57,13 @@ pub fn known_event(event: &Event)
         Event::Close { session } => known_id(*session),
         Event::Stop => {}
     }
+}
+
+/// Hands to a caller's proof that bytes are bytes.
+pub fn known_bytes(bytes: &[u8])
+    ensures value { AreBytes bytes.now }
+{
+    let _bytes = bytes;
 }
 
 fn known_u8(number: Option<u8>)
@@ -160,7 +167,7 @@ fn known_refusal(refusal: &Option<Refusal>)
 {
     match refusal {
         Some(Refusal::Require(kept)) => {
-            let _bytes = kept.bytes();
+            known_bytes(kept.bytes());
         }
         Some(Refusal::Broken) => {}
         Some(Refusal::TooLong) => {}

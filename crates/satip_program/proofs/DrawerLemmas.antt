@@ -6,7 +6,7 @@ use Rattle.satip_base.specs.Streams.{Feed, fresh_feed}
 use Rattle.satip_world.specs.Dials.{Dial}
 use Rattle.satip_world.specs.Halls.{Hall}
 use Rattle.satip_world.specs.Outboxes.{Outbox}
-use Rattle.satip_world.specs.Recordings.{IsStarted, Shelf, recording_in}
+use Rattle.satip_world.specs.Recordings.{IsStarted, Shelf, recording_in, store_view}
 use Rattle.satip_pump.specs.declared.kits.PumpKit.{PumpKit}
 use Rattle.satip_serve.specs.Views.{PumpView, pump_view}
 use Rattle.satip_serve.specs.declared.kits.Jobs.{Jobs}
@@ -44,7 +44,7 @@ text_started name drawers drawer feed text found same fresh =
 
 -- what is seen of the pumps that were given
 pumps_seen : {P : Type 0} (kits : List (PumpKit Shelf Outbox P))
-    → map (pump_view (λ (s : Shelf) mux. recording_in s.recordings mux) (λ (s : Shelf). s.faults) (λ (s : Shelf). s.lent) (λ (s : Shelf). s.peak) (λ (o : Outbox). o)) kits
+    → map (pump_view store_view (λ (o : Outbox). o)) kits
     ≡ map shelf_view (map shelf_kit kits)
 pumps_seen [] = refl
 pumps_seen (kit ∷ kits) = ap (λ (views : List PumpView). shelf_view (shelf_kit kit) ∷ views) (pumps_seen kits)

@@ -1,6 +1,6 @@
 -- How a serve is told, and what no other command answers.
 use Rattle.std.proofs.Common.{◌≡◌, ℕ, ◌<◌, ◌≤◌, ◌⊎◌, ◌↔◌, inl, inr, List, Option, Some, None, IfSome, IsSomeAnd, MatchOption, refl, sym, ap, subst, ◌∙◌, ⊎_elim, arith}
-use Rattle.satip_base.specs.Streams.{Rose}
+use Rattle.satip_base.specs.Streams.{Feed, Rose}
 use Rattle.satip_history.specs.Lists.{Has}
 use Rattle.satip_program.specs.Ends.{serve_statuses}
 use Rattle.satip_world.specs.Counts.{Rises}
@@ -127,20 +127,20 @@ is_input serving.DoorsFault = inr (λ is. cc)
 is_input serving.HistoryFull = inr (λ is. cc)
 is_input serving.OutOfMemory = inr (λ is. cc)
 
-never_failed : {C : Type 0} (config : Option C) (faults : C → ℕ) (Unopened : Type 0) → MatchOption config Unopened (λ source. Rose 0 (faults source))
-    → IsSomeAnd config (λ source. faults source ≡ 0) → ⊥
-never_failed None faults Unopened failed none = none
-never_failed (Some source) faults Unopened failed none =
-    ⊎_elim (λ (less : 0 < faults source). omega (arith, less, none)) (λ (last : 18446744073709551615 ≤ faults source). omega (arith, last, none)) failed
+never_failed : {C : Type 0} (config : Option C) (feed : C → Feed) (Unopened : Type 0) → MatchOption config Unopened (λ source. Rose 0 ((feed source).faults))
+    → IsSomeAnd config (λ source. (feed source).faults ≡ 0) → ⊥
+never_failed None feed Unopened failed none = none
+never_failed (Some source) feed Unopened failed none =
+    ⊎_elim (λ (less : 0 < (feed source).faults). omega (arith, less, none)) (λ (last : 18446744073709551615 ≤ (feed source).faults). omega (arith, last, none)) failed
 
-pub input_told : {C : Type 0} (config : Option C) (faults : C → ℕ) (Unopened : Type 0) (end : ServingEnd) (status : ℕ) → status ≡ serving_status end
-    → (end ≡ serving.InputFault → MatchOption config Unopened (λ source. Rose 0 (faults source)))
-    → ((end ≡ serving.InputFault → ⊥) → IsSomeAnd config (λ source. faults source ≡ 0))
-    → (status ≡ 5) ↔ MatchOption config Unopened (λ source. Rose 0 (faults source))
-input_told config faults Unopened end status of input read = (
+pub input_told : {C : Type 0} (config : Option C) (feed : C → Feed) (Unopened : Type 0) (end : ServingEnd) (status : ℕ) → status ≡ serving_status end
+    → (end ≡ serving.InputFault → MatchOption config Unopened (λ source. Rose 0 ((feed source).faults)))
+    → ((end ≡ serving.InputFault → ⊥) → IsSomeAnd config (λ source. (feed source).faults ≡ 0))
+    → (status ≡ 5) ↔ MatchOption config Unopened (λ source. Rose 0 ((feed source).faults))
+input_told config feed Unopened end status of input read = (
   (λ is. input (ends_by_input end (sym of ∙ is))),
   λ failed. ⊎_elim (λ (is : end ≡ serving.InputFault). of ∙ ap serving_status is)
-      (λ (other : end ≡ serving.InputFault → ⊥). absurd (never_failed config faults Unopened failed (read other))) (is_input end),
+      (λ (other : end ≡ serving.InputFault → ⊥). absurd (never_failed config feed Unopened failed (read other))) (is_input end),
 )
 
 -- the desk's count stays, or the desk gave no kits
@@ -155,10 +155,10 @@ pub config_told : {C : Type 0} (config : Option C) (end : ServingEnd) (status be
 config_told None end status before now None_left of opened = opened
 config_told (Some source) end status before now None_left of opened = same_or_none end status before now None_left of opened
 
-pub settled_told : {C : Type 0} (config : Option C) (faults : C → ℕ) (text : List ℕ) (end : ServingEnd) (status : ℕ) → status ≡ serving_status end
-    → IfSome config (λ source. (Rose 0 (faults source) → ⊥) → IsServingOf text end) → IfSome config (λ source. (Rose 0 (faults source) → ⊥) → IsServeSettled text status)
-settled_told None faults text end status of settled = settled
-settled_told (Some source) faults text end status of settled = λ still. record { ending = end; told = of; ends = settled still }
+pub settled_told : {C : Type 0} (config : Option C) (feed : C → Feed) (text : List ℕ) (end : ServingEnd) (status : ℕ) → status ≡ serving_status end
+    → IfSome config (λ source. (Rose 0 ((feed source).faults) → ⊥) → IsServingOf text end) → IfSome config (λ source. (Rose 0 ((feed source).faults) → ⊥) → IsServeSettled text status)
+settled_told None feed text end status of settled = settled
+settled_told (Some source) feed text end status of settled = λ still. record { ending = end; told = of; ends = settled still }
 
 -- the statuses of a serve
 has_end : (end : ServingEnd) → Has (serving_status end) serve_statuses

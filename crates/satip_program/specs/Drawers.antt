@@ -7,7 +7,7 @@ use Rattle.satip_pump.specs.declared.kits.PumpKit.{PumpKit}
 use Rattle.satip_world.specs.Dials.{Dial}
 use Rattle.satip_world.specs.Halls.{Hall}
 use Rattle.satip_world.specs.Outboxes.{Outbox}
-use Rattle.satip_world.specs.Recordings.{Shelf, recording_in}
+use Rattle.satip_world.specs.Recordings.{Shelf, recording_in, store_view}
 use Rattle.satip_serving.specs.Given.{JobsView, jobs_view}
 use Rattle.satip_program.specs.Cabinets.{ShelfKit, GivenKits}
 use Rattle.satip_program.specs.declared.memory_desk.Drawer.{Drawer}
@@ -20,7 +20,7 @@ row_of drawer = (drawer.name.items, drawer.text.items)
 abbrev pub AreNewKits : {P : Type 0} → ℕ → Jobs Hall Outbox P Shelf Dial → Type 0
 AreNewKits accepts jobs = AreFresh accepts
     (map (worker_view (λ (h : Hall). h) (λ (o : Outbox). o)) jobs.workers.items)
-    (map (pump_view (λ (s : Shelf) mux. recording_in s.recordings mux) (λ (s : Shelf). s.faults) (λ (s : Shelf). s.lent) (λ (s : Shelf). s.peak) (λ (o : Outbox). o)) jobs.pumps.items)
+    (map (pump_view store_view (λ (o : Outbox). o)) jobs.pumps.items)
     (tick_view (λ (d : Dial). d) (λ (o : Outbox). o) jobs.tick)
 
 -- what is kept of kits over memory that are given
@@ -49,5 +49,4 @@ given_view kits = record { workers = kits.workers; pumps = map shelf_view kits.p
 
 -- what is seen of kits over memory
 abbrev pub memory_view : {P : Type 0} → Jobs Hall Outbox P Shelf Dial → JobsView
-memory_view jobs = jobs_view (λ (h : Hall). h) (λ (o : Outbox). o) (λ (s : Shelf) mux. recording_in s.recordings mux)
-    (λ (s : Shelf). s.faults) (λ (s : Shelf). s.lent) (λ (s : Shelf). s.peak) (λ (d : Dial). d) jobs
+memory_view jobs = jobs_view (λ (h : Hall). h) (λ (o : Outbox). o) store_view (λ (d : Dial). d) jobs

@@ -20,15 +20,16 @@ pub(crate) enum Command<'w> {
     Version,
 }
 
-/// What the words of a `serve` ask for: a configuration by its name, and after how many connections the
-/// doors of a worker end.
+/// What the words of a `serve` ask for: a configuration by its name, and after how many connections
+/// the doors of a worker end.
 #[derive(Clone, Copy)]
 pub(crate) struct Serve<'w> {
     pub name: &'w Text,
     pub accepts: u32,
 }
 
-/// The `serve` that the words ask for; `None` where they ask for none. No other command has such words.
+/// The `serve` that the words ask for; `None` where they ask for none. No other command has such
+/// words.
 #[tactic(auto, unfolding(crate::specs::Commands::serve_of, crate::specs::Commands::command_of))]
 pub(crate) fn read_serve(words: &[Text]) -> Option<Serve<'_>>
     ensures serve { option_map serving_of result ≡ serve_of words.now }
@@ -44,7 +45,8 @@ pub(crate) fn read_serve(words: &[Text]) -> Option<Serve<'_>>
 }
 
 fn read_three<'w>(word: &[u8], name: &'w Text, accepts: &[u8]) -> Option<Serve<'w>>
-    ensures serve { option_map serving_of result ≡ serve_named word.now name.now (number_of 4294967295 accepts.now) }
+    ensures serve { option_map serving_of result
+        ≡ serve_named word.now name.now (number_of 4294967295 accepts.now) }
 {
     match name.bytes() {
         [] => None,
@@ -60,7 +62,9 @@ fn read_three<'w>(word: &[u8], name: &'w Text, accepts: &[u8]) -> Option<Serve<'
 
 #[tactic(auto, using(crate::proofs::AcceptsLemmas::accepts_fit))]
 fn read_accepts<'w>(name: &'w Text, accepts: &[u8]) -> Option<Serve<'w>>
-    ensures serve { option_map serving_of result ≡ option_map (λ n. record { name = name.now; accepts = n }) (number_of 4294967295 accepts.now) }
+    ensures serve { option_map serving_of result
+        ≡ option_map (λ n. record { name = name.now; accepts = n })
+        (number_of 4294967295 accepts.now) }
 {
     match read_number(accepts, u32::MAX as u64) {
         Some(number) => Some(Serve {

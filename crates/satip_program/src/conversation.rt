@@ -6,7 +6,6 @@ ghost use Rattle.satip_frame.specs.Said.{Said};
 ghost use Rattle.satip_frame.specs.Stream.{Broken, Messages};
 ghost use Rattle.satip_frame.specs.Held.{capacity, new_framer};
 ghost use Rattle.satip_rtsp.specs.Asked.{asked};
-ghost use Rattle.satip_replay.specs.Seen.{drain};
 ghost use Rattle.satip_program.specs.Talking.{HasAnswered};
 ghost use Rattle.satip_program.specs.Hearing.{Stands, Listens, Hears};
 
@@ -28,8 +27,8 @@ pub(crate) enum Heard {
     Failed,
 }
 
-/// A server, the connection that it answers, and the replies that wait to be sent. Each request is read over
-/// the one before, since moves of it cost time.
+/// A server, the connection that it answers, and the replies that wait to be sent. Each request is
+/// read over the one before, since moves of it cost time.
 #[derive(Drop)]
 pub(crate) struct Conversation {
     pub(crate) talker: Talker,
@@ -56,10 +55,10 @@ impl Conversation {
     // Answers what is no message.
     fn close<O: Sink>(&mut self, cause: Break, output: &mut O) -> Heard
         ensures closes { (o : Drain) (text : List ℕ) (messages : List Said)
-            → Stands O.tells o (drain O.sent O.faults output.old)
+            → Stands O.tells o (O.drain output.old)
             self.old.gathered text messages self.old.framer self.old.talker
             → Messages text messages (Broken cause)
-            → Hears O.tells o (drain O.sent O.faults output.new)
+            → Hears O.tells o (O.drain output.new)
             self.new.gathered text self.new.framer self.new.talker result }
         ensures over { result ≡ Heard.All → ⊥ }
     {
@@ -75,9 +74,9 @@ impl Conversation {
     // Answers all whole messages that the framer holds.
     fn answer<O: Sink>(&mut self, output: &mut O) -> Heard
         ensures hears { (o : Drain) (text : List ℕ) (messages : List Said)
-            → Stands O.tells o (drain O.sent O.faults output.old)
+            → Stands O.tells o (O.drain output.old)
             self.old.gathered text messages self.old.framer self.old.talker
-            → Hears O.tells o (drain O.sent O.faults output.new)
+            → Hears O.tells o (O.drain output.new)
             self.new.gathered text self.new.framer self.new.talker result }
         ensures goes_on { result ≡ Heard.All → self.new.framer.ended ≡ None }
         ensures room { result ≡ Heard.All → length self.new.framer.bytes < capacity }
@@ -103,9 +102,9 @@ impl Conversation {
         requires goes_on { self.old.framer.ended ≡ None }
         requires room { length self.old.framer.bytes < capacity }
         ensures hears { (o : Drain) (text : List ℕ)
-            → Listens O.tells o (drain O.sent O.faults output.old)
+            → Listens O.tells o (O.drain output.old)
             self.old.gathered text self.old.framer self.old.talker
-            → Hears O.tells o (drain O.sent O.faults output.new)
+            → Hears O.tells o (O.drain output.new)
             self.new.gathered (text ++ piece.now) self.new.framer self.new.talker result }
         ensures goes_on { result ≡ Heard.All → self.new.framer.ended ≡ None }
         ensures room { result ≡ Heard.All → length self.new.framer.bytes < capacity }
@@ -127,9 +126,9 @@ impl Conversation {
     fn send<O: Sink>(&mut self, heard: Heard, output: &mut O) -> Heard
         requires sound { heard ≡ Heard.Failed → ⊥ }
         ensures sends { (o : Drain) (text : List ℕ)
-            → Hears O.tells o (drain O.sent O.faults output.old)
+            → Hears O.tells o (O.drain output.old)
             self.old.gathered text self.old.framer self.old.talker heard
-            → Hears O.tells o (drain O.sent O.faults output.new)
+            → Hears O.tells o (O.drain output.new)
             [] text self.new.framer self.new.talker result }
         ensures framer { self.new.framer ≡ self.old.framer }
         ensures empty { self.new.gathered ≡ [] }
@@ -141,15 +140,16 @@ impl Conversation {
         }
     }
 
-    /// Takes in bytes behind those that came before, answers all whole messages, and sends the replies.
+    /// Takes in bytes behind those that came before, answers all whole messages, and sends the
+    /// replies.
     pub(crate) fn hear<O: Sink>(&mut self, piece: &[u8], output: &mut O) -> Heard
         requires goes_on { self.old.framer.ended ≡ None }
         requires room { length self.old.framer.bytes < capacity }
         requires empty { self.old.gathered ≡ [] }
         ensures hears { (o : Drain) (text : List ℕ)
-            → Listens O.tells o (drain O.sent O.faults output.old)
+            → Listens O.tells o (O.drain output.old)
             [] text self.old.framer self.old.talker
-            → Hears O.tells o (drain O.sent O.faults output.new)
+            → Hears O.tells o (O.drain output.new)
             [] (text ++ piece.now) self.new.framer self.new.talker result }
         ensures goes_on { result ≡ Heard.All → self.new.framer.ended ≡ None }
         ensures room { result ≡ Heard.All → length self.new.framer.bytes < capacity }

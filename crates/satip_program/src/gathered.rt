@@ -2,7 +2,6 @@
 
 ghost use Rattle.std.specs.Prelude.{◌≡◌, ◌+◌, ◌≤◌, [], ◌++◌, length, vec_len, vec_capacity, IfOk};
 ghost use Rattle.satip_base.specs.Streams.{Puts};
-ghost use Rattle.satip_replay.specs.Seen.{drain};
 ghost use Rattle.satip_program.specs.Gathering.{Gathers};
 
 use satip_base::{Put, Sink, Want};
@@ -11,8 +10,8 @@ use std::marker::Model;
 
 const ROOM: usize = 65536;
 
-/// Bytes that wait to be put, at most 65536. All memory is taken when it is made. The first bytes behind
-/// a flush are put at once, so that nobody waits for them.
+/// Bytes that wait to be put, at most 65536. All memory is taken when it is made. The first bytes
+/// behind a flush are put at once, so that nobody waits for them.
 #[derive(Drop)]
 pub(crate) struct Gathered {
     waiting: Vec<u8>,
@@ -43,11 +42,11 @@ impl Gathered {
         }
     }
 
-    /// Has bytes wait behind the others. The first bytes, and bytes for which there is no room, are put
-    /// behind those that wait.
+    /// Has bytes wait behind the others. The first bytes, and bytes for which there is no room, are
+    /// put behind those that wait.
     pub(crate) fn gather<O: Sink>(&mut self, bytes: &[u8], output: &mut O) -> Put
         ensures gathers { Gathers O.tells
-            (drain O.sent O.faults output.old) (drain O.sent O.faults output.new)
+            (O.drain output.old) (O.drain output.new)
             self.old self.new bytes.now result }
     {
         if self.begun && bytes.len() <= ROOM - self.waiting.len() {
@@ -63,7 +62,7 @@ impl Gathered {
     // Puts bytes where none wait; others will wait behind them.
     fn begin<O: Sink>(&mut self, bytes: &[u8], output: &mut O) -> Put
         ensures puts { Puts O.tells
-            (drain O.sent O.faults output.old) (drain O.sent O.faults output.new)
+            (O.drain output.old) (O.drain output.new)
             bytes.now result }
         ensures same { self.new ≡ self.old }
     {
@@ -74,7 +73,7 @@ impl Gathered {
     /// Puts the bytes that wait, by one call, or by none where there are none.
     pub(crate) fn flush<O: Sink>(&mut self, output: &mut O) -> Put
         ensures puts { Puts O.tells
-            (drain O.sent O.faults output.old) (drain O.sent O.faults output.new)
+            (O.drain output.old) (O.drain output.new)
             self.old result }
         ensures empty { self.new ≡ [] }
     {

@@ -99,7 +99,8 @@ impl MemoryDesk {
     /// `failing` fail.
     pub fn add(&mut self, name: &str, text: &[u8], failing: &[u64]) -> Result<(), Want>
         ensures added { OnOk result (self.new.texts ≡ (name.now, text.now) ∷ self.old.texts) }
-        ensures takes { OnOk result (self.new.failing_takes ≡ failing.now ∷ self.old.failing_takes) }
+        ensures takes { OnOk result (self.new.failing_takes
+            ≡ failing.now ∷ self.old.failing_takes) }
         ensures same { OnErr result (self.new ≡ self.old) }
         ensures laid { self.new.laid ≡ self.old.laid }
         ensures failing { self.new.failing ≡ self.old.failing }
@@ -127,7 +128,8 @@ impl MemoryDesk {
 
 // The text of a name from its beginning; `None` where there is none, or no memory.
 fn open(alloc: Global, drawers: &[Drawer], name: &[u8]) -> Option<MemorySource>
-    ensures started { IfSome result (λ source. IsStarted (Unit {0}) source (text_in (map row_of drawers.now) name.now)) }
+    ensures started { IfSome result (λ source. IsStarted (Unit {0}) source
+        (text_in (map row_of drawers.now) name.now)) }
 {
     let Some(drawer) = find_drawer(drawers, name) else {
         return None;
@@ -139,7 +141,8 @@ fn open(alloc: Global, drawers: &[Drawer], name: &[u8]) -> Option<MemorySource>
 }
 
 fn find_drawer<'d>(drawers: &'d [Drawer], name: &[u8]) -> Option<&'d Drawer>
-    ensures found { option_copied result ≡ find (λ drawer. bytes_eq drawer.name.items name.now) drawers.now }
+    ensures found { option_copied result ≡ find (λ drawer. bytes_eq drawer.name.items name.now)
+        drawers.now }
 {
     drawers.iter().find(|drawer| drawer.name.as_slice() == name)
 }

@@ -1,7 +1,6 @@
 //! How the command `serve` is told.
 
 ghost use Rattle.std.specs.Prelude.{◌≡◌};
-ghost use Rattle.satip_replay.specs.Seen.{drain};
 ghost use Rattle.satip_program.specs.Outcomes.{Says};
 ghost use Rattle.satip_program.specs.Serving.{serving_status, serving_line};
 
@@ -27,7 +26,7 @@ pub(crate) fn status_of_serving(end: ServingEnd) -> u8
 /// Tells how serving ended.
 pub(crate) fn tell_serving<E: Sink>(end: ServingEnd, errors: &mut E)
     ensures says { Says E.tells
-        (drain E.sent E.faults errors.old) (drain E.sent E.faults errors.new)
+        (E.drain errors.old) (E.drain errors.new)
         (serving_line end) }
 {
     match end {

@@ -3,26 +3,24 @@
 ghost use Rattle.std.specs.Prelude.{◌≡◌, ◌<◌, ◌≤◌, ◌+◌, [], length};
 ghost use Rattle.satip_base.specs.Streams.{Takes};
 ghost use Rattle.satip_frame.specs.Held.{new_framer};
-ghost use Rattle.satip_replay.specs.Seen.{feed, drain};
 ghost use Rattle.satip_replay.specs.Reading.{GetsAtMost};
 ghost use Rattle.satip_program.specs.Talking.{HasAnswered};
 ghost use Rattle.satip_program.specs.Outcomes.{TalkRuns, input_limit};
 
 use crate::conversation::{Conversation, Heard};
 use crate::outcomes::Outcome;
+use satip_base::limits::{INPUT, PIECE};
 use satip_base::{Sink, Source, Taken};
 use std::alloc::Global;
 
-const LIMIT: u64 = 67108864;
-
-const PIECE: usize = 4096;
+const LIMIT: u64 = INPUT as u64;
 
 /// Answers what comes in until the input ends, a closing reply was sent, or something fails. All
 /// memory is taken before any input.
 pub(crate) fn talk<I: Source, O: Sink>(alloc: Global, input: &mut I, output: &mut O) -> Outcome
     ensures ends { TalkRuns I.tells O.tells
-        (feed I.left I.ended I.faults I.taken input.old) (feed I.left I.ended I.faults I.taken input.new)
-        (drain O.sent O.faults output.old) (drain O.sent O.faults output.new)
+        (I.feed input.old) (I.feed input.new)
+        (O.drain output.old) (O.drain output.new)
         result }
 {
     match Conversation::make(alloc) {
@@ -40,8 +38,8 @@ fn converse<I: Source, O: Sink>(
     requires talker { HasAnswered conversation.old.talker [] }
     requires gathered { conversation.old.gathered ≡ [] }
     ensures ends { TalkRuns I.tells O.tells
-        (feed I.left I.ended I.faults I.taken input.old) (feed I.left I.ended I.faults I.taken input.new)
-        (drain O.sent O.faults output.old) (drain O.sent O.faults output.new)
+        (I.feed input.old) (I.feed input.new)
+        (O.drain output.old) (O.drain output.new)
         result }
 {
     let mut buf = [0; PIECE];
@@ -82,7 +80,7 @@ fn take_some<I: Source>(input: &mut I, buf: &mut [u8], room: usize) -> Taken
     requires some { 1 ≤ room }
     requires within { room ≤ length buf.old }
     ensures takes { Takes I.tells
-        (feed I.left I.ended I.faults I.taken input.old) (feed I.left I.ended I.faults I.taken input.new)
+        (I.feed input.old) (I.feed input.new)
         buf.new result }
     ensures room { GetsAtMost room result }
 {

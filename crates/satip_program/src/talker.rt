@@ -2,7 +2,6 @@
 
 ghost use Rattle.std.specs.Prelude.{[], ◌∷◌, List, ◌++◌, IfOk};
 ghost use Rattle.satip_rtsp.specs.declared.requests.Request.{Request as Asked};
-ghost use Rattle.satip_replay.specs.Seen.{drain};
 ghost use Rattle.satip_program.specs.Talking.{HasAnswered, next_reply};
 ghost use Rattle.satip_program.specs.Gathering.{Gathers};
 
@@ -56,7 +55,7 @@ impl Talker {
         ensures next { (requests : List Asked) → HasAnswered self.old requests
             → HasAnswered self.new (requests ++ request.now ∷ []) }
         ensures gathers { (requests : List Asked) → HasAnswered self.old requests → Gathers O.tells
-            (drain O.sent O.faults output.old) (drain O.sent O.faults output.new)
+            (O.drain output.old) (O.drain output.new)
             gathered.old gathered.new (next_reply requests request.now) result }
     {
         self.count = self.count.wrapping_add(1);

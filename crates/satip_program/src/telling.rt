@@ -1,6 +1,5 @@
 //! What is told of a run.
 
-ghost use Rattle.satip_replay.specs.Seen.{drain};
 ghost use Rattle.satip_program.specs.Outcomes.{line_for, Says};
 
 use crate::outcomes::Outcome;
@@ -9,7 +8,7 @@ use satip_base::{Sink, Strip};
 /// Tells how a run ended.
 pub(crate) fn tell<E: Sink>(outcome: Outcome, errors: &mut E)
     ensures says { Says E.tells
-        (drain E.sent E.faults errors.old) (drain E.sent E.faults errors.new)
+        (E.drain errors.old) (E.drain errors.new)
         (line_for outcome) }
 {
     let mut line = Strip::new();
@@ -20,7 +19,7 @@ pub(crate) fn tell<E: Sink>(outcome: Outcome, errors: &mut E)
 /// Sends a line; a fault changes nothing.
 pub(crate) fn say<E: Sink>(line: &[u8], errors: &mut E)
     ensures says { Says E.tells
-        (drain E.sent E.faults errors.old) (drain E.sent E.faults errors.new)
+        (E.drain errors.old) (E.drain errors.new)
         line.now }
 {
     if !line.is_empty() {

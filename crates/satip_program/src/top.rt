@@ -3,7 +3,6 @@
 
 ghost use Rattle.std.specs.Prelude.{◌≡◌, ◌↔◌, ◌⊎◌, ℕ, ◌+◌, ◌-◌, ◌<◌, ◌≤◌, List, Some, None, option_map, IsSome, IsNone, IfSome, IsSomeAnd};
 ghost use Rattle.satip_base.specs.Streams.{Feed, Rose};
-ghost use Rattle.satip_replay.specs.Seen.{feed, drain};
 ghost use Rattle.satip_serving.specs.Given.{jobs_view};
 ghost use Rattle.satip_program.specs.Commands.{serve_of, Talk, Replay, Help, Version, command_of, config_named, help, version, line_of};
 ghost use Rattle.satip_program.specs.Ends.{TalkEnds, ReplayEnds, ServeEnds};
@@ -88,36 +87,36 @@ pub fn satip<R: Threads + Wait + Sync, K: Desk, I: Source, O: Sink, E: Sink>(
     ensures usage { (result.status ≡ 2)
         ↔ ((command_of words.now ≡ None) × (serve_of words.now ≡ None)) }
     ensures unused { command_of words.now ≡ None → NothingDone
-        (feed I.left I.ended I.faults I.taken input.old)
-        (feed I.left I.ended I.faults I.taken input.new)
-        (drain O.sent O.faults output.old) (drain O.sent O.faults output.new) }
+        (I.feed input.old)
+        (I.feed input.new)
+        (O.drain output.old) (O.drain output.new) }
     ensures help { command_of words.now ≡ Some Help → Shows O.tells
-        (feed I.left I.ended I.faults I.taken input.old)
-        (feed I.left I.ended I.faults I.taken input.new)
-        (drain O.sent O.faults output.old) (drain O.sent O.faults output.new)
+        (I.feed input.old)
+        (I.feed input.new)
+        (O.drain output.old) (O.drain output.new)
         help result.status }
     ensures version { command_of words.now ≡ Some Version → Shows O.tells
-        (feed I.left I.ended I.faults I.taken input.old)
-        (feed I.left I.ended I.faults I.taken input.new)
-        (drain O.sent O.faults output.old) (drain O.sent O.faults output.new)
+        (I.feed input.old)
+        (I.feed input.new)
+        (O.drain output.old) (O.drain output.new)
         version result.status }
 
     // A talk: the replies to the whole input, or a beginning of the replies to what was taken.
     ensures talk { command_of words.now ≡ Some Talk → TalkEnds I.tells O.tells
-        (feed I.left I.ended I.faults I.taken input.old)
-        (feed I.left I.ended I.faults I.taken input.new)
-        (drain O.sent O.faults output.old) (drain O.sent O.faults output.new)
+        (I.feed input.old)
+        (I.feed input.new)
+        (O.drain output.old) (O.drain output.new)
         result.status }
 
     // A replay of the script by the configuration that the desk gave.
     ensures replay { (name : List ℕ) → command_of words.now ≡ Some (Replay name)
         → ReplayEnds K.Config.tells I.tells O.tells E.tells
         (K.text desk.old name) (K.faults desk.old) (K.faults desk.new)
-        (feed K.Config.left K.Config.ended K.Config.faults K.Config.taken) result.config
-        (feed I.left I.ended I.faults I.taken input.old)
-        (feed I.left I.ended I.faults I.taken input.new)
-        (drain O.sent O.faults output.old) (drain O.sent O.faults output.new)
-        (drain E.sent E.faults errors.old) (drain E.sent E.faults errors.new)
+        K.Config.feed result.config
+        (I.feed input.old)
+        (I.feed input.new)
+        (O.drain output.old) (O.drain output.new)
+        (E.drain errors.old) (E.drain errors.new)
         result.status }
 
     // Only what names a configuration opens one, or asks anything of the desk.
@@ -132,22 +131,23 @@ pub fn satip<R: Threads + Wait + Sync, K: Desk, I: Source, O: Sink, E: Sink>(
         → IsSome (config_named (command_of words.now)) }
     ensures script { result.status ≡ 4 → IsSome (config_named (command_of words.now)) }
     ensures input_fault { result.status ≡ 5 → Rose (K.faults desk.old) (K.faults desk.new)
-        ⊎ IsSomeAnd result.config (λ source. Rose 0 (K.Config.faults source))
-        ⊎ Rose (I.faults input.old) (I.faults input.new) }
-    ensures output_fault { result.status ≡ 6 → Rose (O.faults output.old) (O.faults output.new) }
-    ensures too_long { (result.status ≡ 8) ↔ (input_limit < I.taken input.new - I.taken input.old) }
-    ensures limit { I.taken input.new ≤ I.taken input.old + input_limit + 1 }
+        ⊎ IsSomeAnd result.config (λ source. Rose 0 (K.Config.feed source).faults)
+        ⊎ Rose (I.feed input.old).faults (I.feed input.new).faults }
+    ensures output_fault { result.status ≡ 6
+        → Rose (O.drain output.old).faults (O.drain output.new).faults }
+    ensures too_long { (result.status ≡ 8) ↔ (input_limit
+        < (I.feed input.new).taken - (I.feed input.old).taken) }
+    ensures limit { (I.feed input.new).taken ≤ (I.feed input.old).taken + input_limit + 1 }
 
     // A serve: the jobs ran by the configuration of the desk's text, over one history that keeps
     // the laws. Nothing else asks for kits, or runs jobs.
     ensures serve { IfSome (serve_of words.now) (λ serve.
         ServeEnds K.Config.tells K.Doors.Conn.tells K.Outlet.tells E.tells
         serve.accepts (K.text desk.old serve.name) (K.faults desk.old) (K.faults desk.new)
-        (feed K.Config.left K.Config.ended K.Config.faults K.Config.taken) result.config
-        (jobs_view K.Doors.hall K.Outlet.outbox K.Store.recording K.Store.faults
-        K.Store.lent K.Store.peak K.Clock.dial)
+        K.Config.feed result.config
+        (jobs_view K.Doors.hall K.Outlet.outbox K.Store.shelf K.Clock.dial)
         (K.given desk.new) result.last result.unused
-        (drain E.sent E.faults errors.old) (drain E.sent E.faults errors.new)
+        (E.drain errors.old) (E.drain errors.new)
         result.status) }
     ensures kits { serve_of words.now ≡ None → K.given desk.new ≡ None }
     ensures no_last { serve_of words.now ≡ None → result.last ≡ None }
@@ -157,7 +157,7 @@ pub fn satip<R: Threads + Wait + Sync, K: Desk, I: Source, O: Sink, E: Sink>(
 
     // What is told of it.
     ensures errors { (result.status ≡ 3 → ⊥) → (result.status ≡ 4 → ⊥) → Says E.tells
-        (drain E.sent E.faults errors.old) (drain E.sent E.faults errors.new)
+        (E.drain errors.old) (E.drain errors.new)
         (line_of result.status) }
 {
     match read_serve(words) {
@@ -179,14 +179,13 @@ fn run_serve<R: Threads + Wait + Sync, K: Desk, E: Sink>(
     ensures texts { K.text desk.new ≡ K.text desk.old }
     ensures ends { ServeEnds K.Config.tells K.Doors.Conn.tells K.Outlet.tells E.tells
         accepts (K.text desk.old name.now) (K.faults desk.old) (K.faults desk.new)
-        (feed K.Config.left K.Config.ended K.Config.faults K.Config.taken) result.config
-        (jobs_view K.Doors.hall K.Outlet.outbox K.Store.recording K.Store.faults
-        K.Store.lent K.Store.peak K.Clock.dial)
+        K.Config.feed result.config
+        (jobs_view K.Doors.hall K.Outlet.outbox K.Store.shelf K.Clock.dial)
         (K.given desk.new) result.last result.unused
-        (drain E.sent E.faults errors.old) (drain E.sent E.faults errors.new)
+        (E.drain errors.old) (E.drain errors.new)
         result.status }
     ensures errors { (result.status ≡ 3 → ⊥) → Says E.tells
-        (drain E.sent E.faults errors.old) (drain E.sent E.faults errors.new)
+        (E.drain errors.old) (E.drain errors.new)
         (line_of result.status) }
 {
     let Served {
@@ -217,36 +216,36 @@ pub fn offline<K: Desk, I: Source, O: Sink, E: Sink>(
     // Which words there are, and what they do.
     ensures usage { (result.status ≡ 2) ↔ (command_of words.now ≡ None) }
     ensures unused { command_of words.now ≡ None → NothingDone
-        (feed I.left I.ended I.faults I.taken input.old)
-        (feed I.left I.ended I.faults I.taken input.new)
-        (drain O.sent O.faults output.old) (drain O.sent O.faults output.new) }
+        (I.feed input.old)
+        (I.feed input.new)
+        (O.drain output.old) (O.drain output.new) }
     ensures help { command_of words.now ≡ Some Help → Shows O.tells
-        (feed I.left I.ended I.faults I.taken input.old)
-        (feed I.left I.ended I.faults I.taken input.new)
-        (drain O.sent O.faults output.old) (drain O.sent O.faults output.new)
+        (I.feed input.old)
+        (I.feed input.new)
+        (O.drain output.old) (O.drain output.new)
         help result.status }
     ensures version { command_of words.now ≡ Some Version → Shows O.tells
-        (feed I.left I.ended I.faults I.taken input.old)
-        (feed I.left I.ended I.faults I.taken input.new)
-        (drain O.sent O.faults output.old) (drain O.sent O.faults output.new)
+        (I.feed input.old)
+        (I.feed input.new)
+        (O.drain output.old) (O.drain output.new)
         version result.status }
 
     // A talk: the replies to the whole input, or a beginning of the replies to what was taken.
     ensures talk { command_of words.now ≡ Some Talk → TalkEnds I.tells O.tells
-        (feed I.left I.ended I.faults I.taken input.old)
-        (feed I.left I.ended I.faults I.taken input.new)
-        (drain O.sent O.faults output.old) (drain O.sent O.faults output.new)
+        (I.feed input.old)
+        (I.feed input.new)
+        (O.drain output.old) (O.drain output.new)
         result.status }
 
     // A replay of the script by the configuration that the desk gave.
     ensures replay { (name : List ℕ) → command_of words.now ≡ Some (Replay name)
         → ReplayEnds K.Config.tells I.tells O.tells E.tells
         (K.text desk.old name) (K.faults desk.old) (K.faults desk.new)
-        (feed K.Config.left K.Config.ended K.Config.faults K.Config.taken) result.config
-        (feed I.left I.ended I.faults I.taken input.old)
-        (feed I.left I.ended I.faults I.taken input.new)
-        (drain O.sent O.faults output.old) (drain O.sent O.faults output.new)
-        (drain E.sent E.faults errors.old) (drain E.sent E.faults errors.new)
+        K.Config.feed result.config
+        (I.feed input.old)
+        (I.feed input.new)
+        (O.drain output.old) (O.drain output.new)
+        (E.drain errors.old) (E.drain errors.new)
         result.status }
 
     // Only what names a configuration opens one, or asks anything of the desk.
@@ -264,15 +263,17 @@ pub fn offline<K: Desk, I: Source, O: Sink, E: Sink>(
     ensures configuration { result.status ≡ 3 → IsSome (config_named (command_of words.now)) }
     ensures script { result.status ≡ 4 → IsSome (config_named (command_of words.now)) }
     ensures input_fault { result.status ≡ 5 → Rose (K.faults desk.old) (K.faults desk.new)
-        ⊎ IsSomeAnd result.config (λ source. Rose 0 (K.Config.faults source))
-        ⊎ Rose (I.faults input.old) (I.faults input.new) }
-    ensures output_fault { result.status ≡ 6 → Rose (O.faults output.old) (O.faults output.new) }
-    ensures too_long { (result.status ≡ 8) ↔ (input_limit < I.taken input.new - I.taken input.old) }
-    ensures limit { I.taken input.new ≤ I.taken input.old + input_limit + 1 }
+        ⊎ IsSomeAnd result.config (λ source. Rose 0 (K.Config.feed source).faults)
+        ⊎ Rose (I.feed input.old).faults (I.feed input.new).faults }
+    ensures output_fault { result.status ≡ 6
+        → Rose (O.drain output.old).faults (O.drain output.new).faults }
+    ensures too_long { (result.status ≡ 8) ↔ (input_limit
+        < (I.feed input.new).taken - (I.feed input.old).taken) }
+    ensures limit { (I.feed input.new).taken ≤ (I.feed input.old).taken + input_limit + 1 }
 
     // What is told of it.
     ensures errors { (result.status ≡ 3 → ⊥) → (result.status ≡ 4 → ⊥) → Says E.tells
-        (drain E.sent E.faults errors.old) (drain E.sent E.faults errors.new)
+        (E.drain errors.old) (E.drain errors.new)
         (line_of result.status) }
 {
     let Ending { outcome, config } = run(alloc, words, input, output, desk);
@@ -294,11 +295,11 @@ fn run<K: Desk, I: Source, O: Sink>(
 ) -> Ending<K>
     ensures ends { RunEnds K.Config.tells I.tells O.tells
         (K.text desk.old) (K.faults desk.old) (K.faults desk.new)
-        (feed I.left I.ended I.faults I.taken input.old)
-        (feed I.left I.ended I.faults I.taken input.new)
-        (drain O.sent O.faults output.old) (drain O.sent O.faults output.new)
+        (I.feed input.old)
+        (I.feed input.new)
+        (O.drain output.old) (O.drain output.new)
         (command_of words.now)
-        (option_map (feed K.Config.left K.Config.ended K.Config.faults K.Config.taken)
+        (option_map K.Config.feed
         result.config)
         result.outcome }
     ensures no_config { config_named (command_of words.now) ≡ None → IsNone result.config }
@@ -336,10 +337,10 @@ fn replay_by<K: Desk, I: Source, O: Sink>(
 ) -> Ending<K>
     ensures runs { ReplayRuns K.Config.tells I.tells O.tells
         (K.text desk.old name.now) (K.faults desk.old) (K.faults desk.new)
-        (feed I.left I.ended I.faults I.taken input.old)
-        (feed I.left I.ended I.faults I.taken input.new)
-        (drain O.sent O.faults output.old) (drain O.sent O.faults output.new)
-        (option_map (feed K.Config.left K.Config.ended K.Config.faults K.Config.taken)
+        (I.feed input.old)
+        (I.feed input.new)
+        (O.drain output.old) (O.drain output.new)
+        (option_map K.Config.feed
         result.config)
         result.outcome }
     ensures texts { K.text desk.new ≡ K.text desk.old }
@@ -359,7 +360,7 @@ fn replay_by<K: Desk, I: Source, O: Sink>(
 
 fn print<O: Sink>(text: &[u8], output: &mut O) -> Outcome
     ensures ends { (i : Feed) → PrintEnds O.tells i i
-        (drain O.sent O.faults output.old) (drain O.sent O.faults output.new)
+        (O.drain output.old) (O.drain output.new)
         text.now result }
 {
     match output.put(text) {

@@ -5,5 +5,4 @@ pub mod LoadLemmas
 pub mod ReadingLemmas
 pub mod WorkLemmas
 pub mod RunLemmas
-pub mod ScriptLemmas
 mod PauseLemmas

@@ -1,5 +1,6 @@
 -- What was read, step by step.
 use Rattle.std.proofs.Common.{◌≡◌, ◌≢◌, ℕ, ◌+◌, ◌≤◌, ◌<◌, ◌⊎◌, ◌==◌, Bool, true, false, if◌then◌else◌, List, [], ◌∷◌, ◌++◌, Option, Some, None, option_map, refl, sym, ap, ◌∙◌, subst, append_assoc, append-nil, inl, inr, arith}
+use Rattle.satip_base.specs.Streams.{Feed}
 use Rattle.std.proofs.lemmas.Bool.Decides.{nat_tests}
 use Rattle.satip_ts.specs.Recording.{cut_packets}
 use Rattle.satip_world.specs.Counts.{Rises}
@@ -50,16 +51,16 @@ if_false false x y is = refl
 unlike : (m n : ℕ) → m ≢ n → (m == n) ≡ false
 unlike m n differ = grind (arith, nat_tests)
 
-module _ {F : Type 0} (tells : Type 0) (left : F → List ℕ) where
-  other_reel : (recording : ℕ → Option (List ℕ)) (reel : Option Reel) (old : Reading F) (owed mux tune : ℕ) → IsReel tells left reel old owed
+module _ {F : Type 0} (tells : Type 0) (feed : F → Feed) where
+  other_reel : (recording : ℕ → Option (List ℕ)) (reel : Option Reel) (old : Reading F) (owed mux tune : ℕ) → IsReel tells feed reel old owed
       → old.tune ≢ Some tune → tuned recording reel mux tune ≡ fresh recording mux tune
   other_reel recording None old owed mux tune is other = refl
   other_reel recording (Some reel) old owed mux tune is other =
       if_false (reel.tune == tune) reel (fresh recording mux tune) (unlike reel.tune tune (λ same. other (is.0 ∙ ap (λ (n : ℕ). Some n) same)))
 
   -- a recording that was just opened
-  whole_left : (told : Option (List ℕ)) (faults faults' : ℕ) (source : Option F) → Begins tells left told faults faults' source
-      → (owed : ℕ) × AreToldLeft tells left (option_map cut_packets told) [] [] source owed × ((n a : ℕ) → RoseBy n a faults → RoseBy (n + owed) a faults')
+  whole_left : (told : Option (List ℕ)) (faults faults' : ℕ) (source : Option F) → Begins tells feed told faults faults' source
+      → (owed : ℕ) × AreToldLeft tells feed (option_map cut_packets told) [] [] source owed × ((n a : ℕ) → RoseBy n a faults → RoseBy (n + owed) a faults')
   whole_left None faults faults' (Some source) begins =
       (0, tt, λ n a r. rose_same n (n + 0) a faults' (omega arith) (rose_later n a faults faults' r (omega (arith, begins.0))))
   whole_left None faults faults' None begins = (1, tt, λ n a r. rose_one n a faults faults' r begins)
@@ -68,13 +69,13 @@ module _ {F : Type 0} (tells : Type 0) (left : F → List ℕ) where
   whole_left (Some text) faults faults' None begins = (1, (cut_packets text, refl, inr refl, none_cut), λ n a r. rose_one n a faults faults' r begins)
 
   pub turns_to : (recording : ℕ → Option (List ℕ)) (first early : ℕ) (reel : Option Reel) (old : Reading F) (mux tune a b c : ℕ) (source : Option F)
-      → Stands tells left first a early reel old → old.tune ≢ Some tune → a ≤ b → Begins tells left (recording mux) b c source
-      → Stands tells left first c early (Some (tuned recording reel mux tune)) (record { tune = Some tune; source = source; cutter = []; queue = no_packets })
+      → Stands tells feed first a early reel old → old.tune ≢ Some tune → a ≤ b → Begins tells feed (recording mux) b c source
+      → Stands tells feed first c early (Some (tuned recording reel mux tune)) (record { tune = Some tune; source = source; cutter = []; queue = no_packets })
   turns_to recording first early reel old mux tune a b c source stands other later begins =
       let new : Reading F = record { tune = Some tune; source = source; cutter = []; queue = no_packets } in
       let whole = whole_left (recording mux) b c source begins in
       let is : tuned recording reel mux tune ≡ fresh recording mux tune = other_reel recording reel old stands.owed mux tune stands.is_reel other in
-      let P : Reel → Type 0 = λ r. Stands tells left first c early (Some r) new in
+      let P : Reel → Type 0 = λ r. Stands tells feed first c early (Some r) new in
       subst P (sym is) record {
         owed = whole.0;
         is_reel = (refl, whole.1);
@@ -83,16 +84,16 @@ module _ {F : Type 0} (tells : Type 0) (left : F → List ℕ) where
 
   -- a change of the store that keeps what is owed
   changes : (reel : Option Reel) (old new : Reading F) (owed owed' : ℕ) → new.tune ≡ old.tune
-      → ((told : Option (List (List ℕ))) → AreToldLeft tells left told old.queue.packets old.cutter old.source owed
-      → AreToldLeft tells left told new.queue.packets new.cutter new.source owed')
-      → IsReel tells left reel old owed → IsReel tells left reel new owed'
+      → ((told : Option (List (List ℕ))) → AreToldLeft tells feed told old.queue.packets old.cutter old.source owed
+      → AreToldLeft tells feed told new.queue.packets new.cutter new.source owed')
+      → IsReel tells feed reel old owed → IsReel tells feed reel new owed'
   changes None old new owed owed' tune more is = tune ∙ is
   changes (Some reel) old new owed owed' tune more is = (tune ∙ is.0, more reel.left is.1)
 
-  pub stands_on : (first a b early : ℕ) (reel : Option Reel) (old new : Reading F) → Stands tells left first a early reel old → new.tune ≡ old.tune → a ≤ b
-      → ((owed : ℕ) (told : Option (List (List ℕ))) → AreToldLeft tells left told old.queue.packets old.cutter old.source owed
-      → AreToldLeft tells left told new.queue.packets new.cutter new.source owed)
-      → Stands tells left first b early reel new
+  pub stands_on : (first a b early : ℕ) (reel : Option Reel) (old new : Reading F) → Stands tells feed first a early reel old → new.tune ≡ old.tune → a ≤ b
+      → ((owed : ℕ) (told : Option (List (List ℕ))) → AreToldLeft tells feed told old.queue.packets old.cutter old.source owed
+      → AreToldLeft tells feed told new.queue.packets new.cutter new.source owed)
+      → Stands tells feed first b early reel new
   stands_on first a b early reel old new stands tune later more = record {
     owed = stands.owed;
     is_reel = changes reel old new stands.owed stands.owed tune (more stands.owed) stands.is_reel;
@@ -100,10 +101,10 @@ module _ {F : Type 0} (tells : Type 0) (left : F → List ℕ) where
   }
 
   -- the source failed, which the store counts
-  pub stands_failed : (first a b early : ℕ) (reel : Option Reel) (old new : Reading F) → Stands tells left first a early reel old → new.tune ≡ old.tune → Rises a b
-      → ((owed : ℕ) (told : Option (List (List ℕ))) → AreToldLeft tells left told old.queue.packets old.cutter old.source owed
-      → AreToldLeft tells left told new.queue.packets new.cutter new.source 1)
-      → Stands tells left first b early reel new
+  pub stands_failed : (first a b early : ℕ) (reel : Option Reel) (old new : Reading F) → Stands tells feed first a early reel old → new.tune ≡ old.tune → Rises a b
+      → ((owed : ℕ) (told : Option (List (List ℕ))) → AreToldLeft tells feed told old.queue.packets old.cutter old.source owed
+      → AreToldLeft tells feed told new.queue.packets new.cutter new.source 1)
+      → Stands tells feed first b early reel new
   stands_failed first a b early reel old new stands tune rises more = record {
     owed = 1;
     is_reel = changes reel old new stands.owed 1 tune (more stands.owed) stands.is_reel;
@@ -112,16 +113,16 @@ module _ {F : Type 0} (tells : Type 0) (left : F → List ℕ) where
 
   -- a piece was taken of the source
   pub left_read : (told : Option (List (List ℕ))) (waiting : List (List ℕ)) (held held' : List ℕ) (source source' : F) (owed : ℕ)
-      → (tells → held' ++ left source' ≡ held ++ left source)
-      → AreToldLeft tells left told waiting held (Some source) owed → AreToldLeft tells left told waiting held' (Some source') owed
+      → (tells → held' ++ (feed source').left ≡ held ++ (feed source).left)
+      → AreToldLeft tells feed told waiting held (Some source) owed → AreToldLeft tells feed told waiting held' (Some source') owed
   left_read None waiting held held' source source' owed same is = tt
   left_read (Some packets) waiting held held' source source' owed same is =
       (is.0, is.1 ∙ ap (λ (text : List ℕ). waiting ++ cut_packets text) (sym (same is.0)))
 
   -- the source came to its end
   pub left_ended : (told : Option (List (List ℕ))) (waiting : List (List ℕ)) (held : List ℕ) (source : F) (owed : ℕ)
-      → cut_packets held ≡ [] → (tells → left source ≡ [])
-      → AreToldLeft tells left told waiting held (Some source) owed → AreToldLeft tells left told waiting held None owed
+      → cut_packets held ≡ [] → (tells → (feed source).left ≡ [])
+      → AreToldLeft tells feed told waiting held (Some source) owed → AreToldLeft tells feed told waiting held None owed
   left_ended None waiting held source owed none ended is = tt
   left_ended (Some packets) waiting held source owed none ended is = (
     [],
@@ -133,19 +134,19 @@ module _ {F : Type 0} (tells : Type 0) (left : F → List ℕ) where
 
   -- the source failed
   pub left_failed : (told : Option (List (List ℕ))) (waiting : List (List ℕ)) (held : List ℕ) (source : F) (owed : ℕ) → cut_packets held ≡ []
-      → AreToldLeft tells left told waiting held (Some source) owed → AreToldLeft tells left told waiting held None 1
+      → AreToldLeft tells feed told waiting held (Some source) owed → AreToldLeft tells feed told waiting held None 1
   left_failed None waiting held source owed none is = tt
-  left_failed (Some packets) waiting held source owed none is = (cut_packets (held ++ left source), is.1, inr refl, none)
+  left_failed (Some packets) waiting held source owed none is = (cut_packets (held ++ (feed source).left), is.1, inr refl, none)
 
   -- a packet was cut
   pub left_cut : (told : Option (List (List ℕ))) (waiting : List (List ℕ)) (held held' : List ℕ) (source : Option F) (owed : ℕ) (packet : List ℕ)
       → ((more : List ℕ) → cut_packets (held ++ more) ≡ packet ∷ cut_packets (held' ++ more))
-      → AreToldLeft tells left told waiting held source owed → AreToldLeft tells left told (waiting ++ packet ∷ []) held' source owed
+      → AreToldLeft tells feed told waiting held source owed → AreToldLeft tells feed told (waiting ++ packet ∷ []) held' source owed
   left_cut None waiting held held' source owed packet cut is = tt
   left_cut (Some packets) waiting held held' (Some source) owed packet cut is = (
     is.0,
-    is.1 ∙ ap (λ (ps : List (List ℕ)). waiting ++ ps) (cut (left source))
-        ∙ sym (append_assoc waiting (packet ∷ []) (cut_packets (held' ++ left source))),
+    is.1 ∙ ap (λ (ps : List (List ℕ)). waiting ++ ps) (cut (feed source).left)
+        ∙ sym (append_assoc waiting (packet ∷ []) (cut_packets (held' ++ (feed source).left))),
   )
   left_cut (Some packets) waiting held held' None owed packet cut is =
       let some = sym is.3 ∙ ap cut_packets (sym (append-nil held)) ∙ cut [] in
@@ -154,51 +155,51 @@ module _ {F : Type 0} (tells : Type 0) (left : F → List ℕ) where
   -- bytes before a packet were dropped
   pub left_skipped : (told : Option (List (List ℕ))) (waiting : List (List ℕ)) (held held' : List ℕ) (source : Option F) (owed : ℕ)
       → ((more : List ℕ) → cut_packets (held ++ more) ≡ cut_packets (held' ++ more)) → cut_packets held' ≡ []
-      → AreToldLeft tells left told waiting held source owed → AreToldLeft tells left told waiting held' source owed
+      → AreToldLeft tells feed told waiting held source owed → AreToldLeft tells feed told waiting held' source owed
   left_skipped None waiting held held' source owed same none is = tt
   left_skipped (Some packets) waiting held held' (Some source) owed same none is =
-      (is.0, is.1 ∙ ap (λ (ps : List (List ℕ)). waiting ++ ps) (same (left source)))
+      (is.0, is.1 ∙ ap (λ (ps : List (List ℕ)). waiting ++ ps) (same (feed source).left))
   left_skipped (Some packets) waiting held held' None owed same none is = (is.0, is.1, is.2, none)
 
   -- the source failed, and was handed back
   pub failed_goes : (first a b early : ℕ) (reel : Option Reel) (old new : Reading F) (source : F) (held : List ℕ)
-      → Stands tells left first a early reel old → old.source ≡ Some source → cut_packets old.cutter ≡ [] → held ≡ old.cutter
-      → new ≡ record old { source = None; cutter = held } → Rises a b → Stands tells left first b early reel new
+      → Stands tells feed first a early reel old → old.source ≡ Some source → cut_packets old.cutter ≡ [] → held ≡ old.cutter
+      → new ≡ record old { source = None; cutter = held } → Rises a b → Stands tells feed first b early reel new
   failed_goes first a b early reel old new source held stands is none same whole rises =
-      let P : Reading F → Type 0 = λ r. Stands tells left first b early reel r in
+      let P : Reading F → Type 0 = λ r. Stands tells feed first b early reel r in
       subst P (sym whole) (stands_failed first a b early reel old (record old { source = None; cutter = held }) stands refl rises
       (λ owed told left_is.
-      let Q : List ℕ → Type 0 = λ h. AreToldLeft tells left told old.queue.packets h None 1 in
-      let R : Option F → Type 0 = λ s. AreToldLeft tells left told old.queue.packets old.cutter s owed in
+      let Q : List ℕ → Type 0 = λ h. AreToldLeft tells feed told old.queue.packets h None 1 in
+      let R : Option F → Type 0 = λ s. AreToldLeft tells feed told old.queue.packets old.cutter s owed in
       subst Q (sym same) (left_failed told old.queue.packets old.cutter source owed none (subst R is left_is))))
 
   -- the source came to its end, and was handed back
   pub ended_goes : (first a b early : ℕ) (reel : Option Reel) (old new : Reading F) (source : F) (held : List ℕ)
-      → Stands tells left first a early reel old → old.source ≡ Some source → cut_packets old.cutter ≡ [] → held ≡ old.cutter
-      → (tells → left source ≡ []) → new ≡ record old { source = None; cutter = held } → a ≤ b → Stands tells left first b early reel new
+      → Stands tells feed first a early reel old → old.source ≡ Some source → cut_packets old.cutter ≡ [] → held ≡ old.cutter
+      → (tells → (feed source).left ≡ []) → new ≡ record old { source = None; cutter = held } → a ≤ b → Stands tells feed first b early reel new
   ended_goes first a b early reel old new source held stands is none same ended whole later =
-      let P : Reading F → Type 0 = λ r. Stands tells left first b early reel r in
+      let P : Reading F → Type 0 = λ r. Stands tells feed first b early reel r in
       subst P (sym whole) (stands_on first a b early reel old (record old { source = None; cutter = held }) stands refl later
       (λ owed told left_is.
-      let Q : List ℕ → Type 0 = λ h. AreToldLeft tells left told old.queue.packets h None owed in
-      let R : Option F → Type 0 = λ s. AreToldLeft tells left told old.queue.packets old.cutter s owed in
+      let Q : List ℕ → Type 0 = λ h. AreToldLeft tells feed told old.queue.packets h None owed in
+      let R : Option F → Type 0 = λ s. AreToldLeft tells feed told old.queue.packets old.cutter s owed in
       subst Q (sym same) (left_ended told old.queue.packets old.cutter source owed none ended (subst R is left_is))))
 
   -- an empty queue was cleared
-  pub cleared_goes : (first a early : ℕ) (reel : Option Reel) (old : Reading F) (queue : Waiting) → Stands tells left first a early reel old
-      → old.queue.packets ≡ [] → queue ≡ no_packets → Stands tells left first a early reel (record old { queue = queue })
+  pub cleared_goes : (first a early : ℕ) (reel : Option Reel) (old : Reading F) (queue : Waiting) → Stands tells feed first a early reel old
+      → old.queue.packets ≡ [] → queue ≡ no_packets → Stands tells feed first a early reel (record old { queue = queue })
   cleared_goes first a early reel old queue stands empty cleared =
       stands_on first a a early reel old (record old { queue = queue }) stands refl (omega arith)
       (λ owed told left_is.
-      let P : List (List ℕ) → Type 0 = λ ps. AreToldLeft tells left told ps old.cutter old.source owed in
+      let P : List (List ℕ) → Type 0 = λ ps. AreToldLeft tells feed told ps old.cutter old.source owed in
       subst P (empty ∙ sym (ap (λ (w : Waiting). w.packets) cleared)) left_is)
 
   -- a packet was cut, and waits
   pub cut_goes : (first a early : ℕ) (reel : Option Reel) (old : Reading F) (held : List ℕ) (queue : Waiting) (packet : List ℕ)
-      → Stands tells left first a early reel old → ((more : List ℕ) → cut_packets (old.cutter ++ more) ≡ packet ∷ cut_packets (held ++ more))
-      → queue.packets ≡ old.queue.packets ++ packet ∷ [] → Stands tells left first a early reel (record old { cutter = held; queue = queue })
+      → Stands tells feed first a early reel old → ((more : List ℕ) → cut_packets (old.cutter ++ more) ≡ packet ∷ cut_packets (held ++ more))
+      → queue.packets ≡ old.queue.packets ++ packet ∷ [] → Stands tells feed first a early reel (record old { cutter = held; queue = queue })
   cut_goes first a early reel old held queue packet stands cut pushed =
       stands_on first a a early reel old (record old { cutter = held; queue = queue }) stands refl (omega arith)
       (λ owed told left_is.
-      let P : List (List ℕ) → Type 0 = λ ps. AreToldLeft tells left told ps held old.source owed in
+      let P : List (List ℕ) → Type 0 = λ ps. AreToldLeft tells feed told ps held old.source owed in
       subst P (sym pushed) (left_cut told old.queue.packets old.cutter held old.source owed packet cut left_is))

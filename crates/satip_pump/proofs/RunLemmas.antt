@@ -1,5 +1,6 @@
 -- A pump's run, answer by answer.
 use Rattle.std.proofs.Common.{◌≡◌, ◌≢◌, ℕ, ◌+◌, ◌≤◌, ◌==◌, ◌⊎◌, Bool, true, false, if◌then◌else◌, List, [], ◌∷◌, ◌++◌, flat_map, Option, Some, None, option_map, Result, Ok, Err, refl, sym, ap, ◌∙◌, subst, append-nil, inl, inr, arith}
+use Rattle.satip_base.specs.Streams.{Feed}
 use Rattle.std.proofs.lemmas.Bool.Decides.{nat_tests}
 use Rattle.satip_base.specs.Output.{Datagram, Output}
 use Rattle.satip_history.specs.declared.entry.Taken.{Taken}
@@ -167,11 +168,11 @@ last_given front caller tune packets work (t ∷ ts) waiting last gives suit =
     ap (λ (a : Answer). last_from (Some a) (entries caller ts)) told
     ∙ last_given front caller tune gives.1 (work_told t.answer) ts waiting last gives.5 suit.1
 
-module _ {F : Type 0} (reads : Type 0) (left : F → List ℕ) where
+module _ {F : Type 0} (reads : Type 0) (feed : F → Feed) where
   -- the first packet that waits is the first that is left
   first_waits : (told : Option (List (List ℕ))) (packet : List ℕ) (rest : List (List ℕ)) (held : List ℕ) (source : Option F) (owed : ℕ)
-      → AreToldLeft reads left told (packet ∷ rest) held source owed
-      → IsFirst packet told × AreToldLeft reads left (option_map rest_of told) rest held source owed
+      → AreToldLeft reads feed told (packet ∷ rest) held source owed
+      → IsFirst packet told × AreToldLeft reads feed (option_map rest_of told) rest held source owed
   first_waits None packet rest held source owed is = (tt, tt)
   first_waits (Some []) packet rest held (Some source) owed is = absurd (cc is.1)
   first_waits (Some []) packet rest held None owed is = absurd (cc is.1)
@@ -183,15 +184,15 @@ module _ {F : Type 0} (reads : Type 0) (left : F → List ℕ) where
       (source : Option F) (owed : ℕ) (last : Work) : Type 0 where
     pub reel : Reel
     pub same : reel.tune ≡ tune
-    pub told : AreToldLeft reads left reel.left waiting held source owed
+    pub told : AreToldLeft reads feed reel.left waiting held source owed
     pub pumps : Pumps front recording from es (after_work recording (Some reel) last) 0
 
   pub gives_pumps : (front : ℕ) (recording : ℕ → Option (List ℕ)) (reel : Reel) (caller tune : ℕ) (packets : List (List ℕ)) (work : Work)
       (ts : List (Taken Event Answer Output)) (waiting : List (List ℕ)) (last : Work) (held : List ℕ) (source : Option F) (owed : ℕ)
-      → Gives front tune packets work ts waiting last → reel.tune ≡ tune → AreToldLeft reads left reel.left packets held source owed
+      → Gives front tune packets work ts waiting last → reel.tune ≡ tune → AreToldLeft reads feed reel.left packets held source owed
       → GavePart front recording (after_work recording (Some reel) work) (entries caller ts) tune waiting held source owed last
   gives_pumps front recording reel caller tune packets work [] waiting last held source owed gives same told =
-      let P : List (List ℕ) → Type 0 = λ ps. AreToldLeft reads left reel.left ps held source owed in
+      let P : List (List ℕ) → Type 0 = λ ps. AreToldLeft reads feed reel.left ps held source owed in
       record {
         reel = reel;
         same = same;
@@ -201,7 +202,7 @@ module _ {F : Type 0} (reads : Type 0) (left : F → List ℕ) where
   gives_pumps front recording reel caller tune packets work (t ∷ ts) waiting last held source owed gives same told =
       let e : Item = entry caller t.event t.answer t.out in
       let packet : List ℕ = gives.0 in
-      let P : List (List ℕ) → Type 0 = λ ps. AreToldLeft reads left reel.left ps held source owed in
+      let P : List (List ℕ) → Type 0 = λ ps. AreToldLeft reads feed reel.left ps held source owed in
       let first = first_waits reel.left packet gives.1 held source owed (subst P gives.2 told) in
       let next : Reel = record reel { left = option_map rest_of reel.left } in
       let rest = gives_pumps front recording next caller tune gives.1 (work_told t.answer) ts waiting last held source owed gives.5 same first.1 in
@@ -222,10 +223,10 @@ module _ {F : Type 0} (reads : Type 0) (left : F → List ℕ) where
   -- the service answered a question
   pub asked : (may_want : Bool) (front : ℕ) (recording : ℕ → Option (List ℕ)) (tells : Type 0) (k l m : Known) (o n p : Outbox) (first now : ℕ)
       (reading : Reading F) (result : Result Work ServiceFault)
-      → Runs front recording tells reads left k l o n first now Nothing reading → Works may_want l m tells n p (Ask front) result
-      → Answered may_want front recording tells reads left k m o p first now reading result
+      → Runs front recording tells reads feed k l o n first now Nothing reading → Works may_want l m tells n p (Ask front) result
+      → Answered may_want front recording tells reads feed k m o p first now reading result
   asked may_want front recording tells k l m o n p first now reading (Ok work) runs made =
-      let P : ℕ → Type 0 = λ e. Stands reads left first now e (runs.reel) reading in
+      let P : ℕ → Type 0 = λ e. Stands reads feed first now e (runs.reel) reading in
       let none : runs.early ≡ runs.early + (0 + 0) = omega arith in
       record {
         reel = runs.reel;
@@ -246,17 +247,17 @@ module _ {F : Type 0} (reads : Type 0) (left : F → List ℕ) where
   -- so it is where the work before it was nothing
   pub asked_after : (may_want : Bool) (front : ℕ) (recording : ℕ → Option (List ℕ)) (tells : Type 0) (k l m : Known) (o n p : Outbox) (first now : ℕ)
       (work : Work) (reading : Reading F) (result : Result Work ServiceFault)
-      → work ≡ Nothing → Runs front recording tells reads left k l o n first now work reading → Works may_want l m tells n p (Ask front) result
-      → Answered may_want front recording tells reads left k m o p first now reading result
+      → work ≡ Nothing → Runs front recording tells reads feed k l o n first now work reading → Works may_want l m tells n p (Ask front) result
+      → Answered may_want front recording tells reads feed k m o p first now reading result
   asked_after may_want front recording tells k l m o n p first now work reading result is runs works =
-      let P : Work → Type 0 = λ w. Runs front recording tells reads left k l o n first now w reading in
+      let P : Work → Type 0 = λ w. Runs front recording tells reads feed k l o n first now w reading in
       asked may_want front recording tells k l m o n p first now reading result (subst P is runs) works
 
   -- the service answered the first question
   pub asked_first : (may_want : Bool) (front : ℕ) (recording : ℕ → Option (List ℕ)) (tells : Type 0) (k m : Known) (o p : Outbox) (first : ℕ)
       (reading : Reading F) (result : Result Work ServiceFault)
       → reading.tune ≡ None → Works may_want k m tells o p (Ask front) result
-      → Answered may_want front recording tells reads left k m o p first first reading result
+      → Answered may_want front recording tells reads feed k m o p first first reading result
   asked_first may_want front recording tells k m o p first reading (Ok work) begun made = record {
     reel = None;
     early = 0 + (0 + 0);
@@ -275,10 +276,10 @@ module _ {F : Type 0} (reads : Type 0) (left : F → List ℕ) where
 
   -- a tuning is read for
   pub turned : (front : ℕ) (recording : ℕ → Option (List ℕ)) (tells : Type 0) (k l : Known) (o n : Outbox) (first now later mux tune : ℕ) (old new : Reading F)
-      → Runs front recording tells reads left k l o n first now (Tune mux tune) old
-      → ((early : ℕ) (reel : Option Reel) → Stands reads left first now early reel old
-      → Stands reads left first later early (Some (tuned recording reel mux tune)) new)
-      → Feeds front recording tells reads left k l o n first later (Tune mux tune) tune new
+      → Runs front recording tells reads feed k l o n first now (Tune mux tune) old
+      → ((early : ℕ) (reel : Option Reel) → Stands reads feed first now early reel old
+      → Stands reads feed first later early (Some (tuned recording reel mux tune)) new)
+      → Feeds front recording tells reads feed k l o n first later (Tune mux tune) tune new
   turned front recording tells k l o n first now later mux tune old new runs goes = record {
     reel = tuned recording runs.reel mux tune;
     early = runs.early;
@@ -288,8 +289,8 @@ module _ {F : Type 0} (reads : Type 0) (left : F → List ℕ) where
   }
 
   pub feeds_on : (front : ℕ) (recording : ℕ → Option (List ℕ)) (tells : Type 0) (k l : Known) (o n : Outbox) (first now later : ℕ) (work : Work) (tune : ℕ) (old new : Reading F)
-      → Feeds front recording tells reads left k l o n first now work tune old → Goes reads left now old later new
-      → Feeds front recording tells reads left k l o n first later work tune new
+      → Feeds front recording tells reads feed k l o n first now work tune old → Goes reads feed now old later new
+      → Feeds front recording tells reads feed k l o n first later work tune new
   feeds_on front recording tells k l o n first now later work tune old new feeds goes = record {
     reel = feeds.reel;
     early = feeds.early;
@@ -299,7 +300,7 @@ module _ {F : Type 0} (reads : Type 0) (left : F → List ℕ) where
   }
 
   -- where nothing waits and nothing is read, a fault was there for packets that are left
-  owed_for : (told : Option (List (List ℕ))) (held : List ℕ) (owed : ℕ) → AreToldLeft reads left told [] held None owed → one_if_left told ≤ owed
+  owed_for : (told : Option (List (List ℕ))) (held : List ℕ) (owed : ℕ) → AreToldLeft reads feed told [] held None owed → one_if_left told ≤ owed
   owed_for None held owed is = omega arith
   owed_for (Some []) held owed is = omega arith
   owed_for (Some (p ∷ ps)) held owed is = elim is.2 [
@@ -308,25 +309,25 @@ module _ {F : Type 0} (reads : Type 0) (left : F → List ℕ) where
   ]
 
   -- and none of them is left
-  over : (told : Option (List (List ℕ))) (held : List ℕ) (owed : ℕ) → AreToldLeft reads left told [] held None owed → AreToldLeft reads left (none_of told) [] held None 0
+  over : (told : Option (List (List ℕ))) (held : List ℕ) (owed : ℕ) → AreToldLeft reads feed told [] held None owed → AreToldLeft reads feed (none_of told) [] held None 0
   over None held owed is = tt
   over (Some ps) held owed is = ([], refl, inl refl, is.3)
 
   -- the end of a recording was answered
   pub finished : (may_want : Bool) (front : ℕ) (recording : ℕ → Option (List ℕ)) (tells : Type 0) (k l m : Known) (o n p : Outbox) (first now : ℕ)
       (work : Work) (tune : ℕ) (reading : Reading F) (result : Result Work ServiceFault)
-      → Feeds front recording tells reads left k l o n first now work tune reading → is_of tune work ≡ true
+      → Feeds front recording tells reads feed k l o n first now work tune reading → is_of tune work ≡ true
       → reading.queue.packets ≡ [] → reading.source ≡ None → Works may_want l m tells n p (Ended front tune) result
-      → Answered may_want front recording tells reads left k m o p first now reading result
+      → Answered may_want front recording tells reads feed k m o p first now reading result
   finished may_want front recording tells k l m o n p first now work tune reading (Ok next) feeds for_it empty shut made =
       let reel : Reel = feeds.reel in
       let ended : Reel = record reel { left = none_of reel.left } in
       let early : ℕ = one_if_left reel.left in
-      let P : List (List ℕ) → Type 0 = λ ps. AreToldLeft reads left reel.left ps reading.cutter reading.source feeds.stands.owed in
-      let Q : Option F → Type 0 = λ s. AreToldLeft reads left reel.left [] reading.cutter s feeds.stands.owed in
-      let told : AreToldLeft reads left reel.left [] reading.cutter None feeds.stands.owed = subst Q shut (subst P empty feeds.stands.is_reel.1) in
-      let R : Option F → Type 0 = λ s. AreToldLeft reads left (none_of reel.left) [] reading.cutter s 0 in
-      let S : List (List ℕ) → Type 0 = λ ps. AreToldLeft reads left (none_of reel.left) ps reading.cutter reading.source 0 in
+      let P : List (List ℕ) → Type 0 = λ ps. AreToldLeft reads feed reel.left ps reading.cutter reading.source feeds.stands.owed in
+      let Q : Option F → Type 0 = λ s. AreToldLeft reads feed reel.left [] reading.cutter s feeds.stands.owed in
+      let told : AreToldLeft reads feed reel.left [] reading.cutter None feeds.stands.owed = subst Q shut (subst P empty feeds.stands.is_reel.1) in
+      let R : Option F → Type 0 = λ s. AreToldLeft reads feed (none_of reel.left) [] reading.cutter s 0 in
+      let S : List (List ℕ) → Type 0 = λ ps. AreToldLeft reads feed (none_of reel.left) ps reading.cutter reading.source 0 in
       let event : Ended front tune ≡ Ended front reel.tune = ap (λ (n : ℕ). Ended front n) (sym feeds.same) in
       let few : early ≤ feeds.stands.owed = owed_for reel.left reading.cutter feeds.stands.owed told in
       record {
@@ -354,11 +355,11 @@ module _ {F : Type 0} (reads : Type 0) (left : F → List ℕ) where
     pub reel : Reel
     pub early : ℕ
     pub so_far : SoFar front recording tells k m o p (after_work recording (Some reel) last) (Some (WorkIs last)) early
-    pub stands : Stands reads left first now early (Some reel) (record reading { queue = q })
+    pub stands : Stands reads feed first now early (Some reel) (record reading { queue = q })
 
   part_given : (may_want : Bool) (front : ℕ) (recording : ℕ → Option (List ℕ)) (tells : Type 0) (k l m : Known) (o n p : Outbox) (first now : ℕ)
       (work : Work) (tune : ℕ) (reading : Reading F) (q : Waiting) (result : Result Work ServiceFault)
-      → Feeds front recording tells reads left k l o n first now work tune reading → is_of tune work ≡ true
+      → Feeds front recording tells reads feed k l o n first now work tune reading → is_of tune work ≡ true
       → (gave : Gave may_want front tune work l m tells n p reading.queue q result)
       → Given front recording tells k m o p first now tune reading q gave.last
   part_given may_want front recording tells k l m o n p first now work tune reading q result feeds for_it gave =
@@ -366,7 +367,7 @@ module _ {F : Type 0} (reads : Type 0) (left : F → List ℕ) where
       feeds.stands.owed gave.gives feeds.same feeds.stands.is_reel.1 in
       let D : Due → Type 0 = λ d. Pumps front recording d (entries gave.caller gave.taken) (after_work recording (Some part.reel) gave.last) 0 in
       let P : List Datagram → Type 0 = λ ds. Delivers tells n p ds in
-      let S : ℕ → Type 0 = λ e. Stands reads left first now e (Some part.reel) (record reading { queue = q }) in
+      let S : ℕ → Type 0 = λ e. Stands reads feed first now e (Some part.reel) (record reading { queue = q }) in
       let none : feeds.early ≡ feeds.early + 0 = omega arith in
       record {
         reel = part.reel;
@@ -384,12 +385,12 @@ module _ {F : Type 0} (reads : Type 0) (left : F → List ℕ) where
 
   pub given : (may_want : Bool) (front : ℕ) (recording : ℕ → Option (List ℕ)) (tells : Type 0) (k l m : Known) (o n p : Outbox) (first now : ℕ)
       (work : Work) (tune : ℕ) (reading : Reading F) (q : Waiting) (result : Result Work ServiceFault)
-      → Feeds front recording tells reads left k l o n first now work tune reading → is_of tune work ≡ true
+      → Feeds front recording tells reads feed k l o n first now work tune reading → is_of tune work ≡ true
       → Gave may_want front tune work l m tells n p reading.queue q result
-      → Answered may_want front recording tells reads left k m o p first now (record reading { queue = q }) result
+      → Answered may_want front recording tells reads feed k m o p first now (record reading { queue = q }) result
   given may_want front recording tells k l m o n p first now work tune reading q (Ok next) feeds for_it gave =
       let part = part_given may_want front recording tells k l m o n p first now work tune reading q (Ok next) feeds for_it gave in
-      let P : Work → Type 0 = λ w. Runs front recording tells reads left k m o p first now w (record reading { queue = q }) in
+      let P : Work → Type 0 = λ w. Runs front recording tells reads feed k m o p first now w (record reading { queue = q }) in
       subst P (sym gave.ends) record { reel = Some part.reel; early = part.early; so_far = part.so_far; stands = part.stands }
   given may_want front recording tells k l m o n p first now work tune reading q (Err fault) feeds for_it gave =
       let part = part_given may_want front recording tells k l m o n p first now work tune reading q (Err fault) feeds for_it gave in
@@ -405,7 +406,7 @@ module _ {F : Type 0} (reads : Type 0) (left : F → List ℕ) where
 
   -- the service stops
   pub stops : (front : ℕ) (recording : ℕ → Option (List ℕ)) (tells : Type 0) (k l : Known) (o n : Outbox) (first now later : ℕ) (reading : Reading F)
-      → Runs front recording tells reads left k l o n first now Stopping reading → now ≤ later → PumpRun front recording k l tells o n first later Stopped
+      → Runs front recording tells reads feed k l o n first now Stopping reading → now ≤ later → PumpRun front recording k l tells o n first later Stopped
   stops front recording tells k l o n first now later reading runs more = record {
     entries = runs.so_far.entries;
     due = Finished;

@@ -1,5 +1,6 @@
 -- What a batch shows.
 use Rattle.std.specs.Prelude.{◌≡◌, ℕ, ◌+◌, ◌&&◌, nat_le, Bool, List, [], ◌++◌, length}
+use Rattle.satip_base.specs.declared.limits.TheConstants.{EVENT_BYTES, EVENT_DATAGRAMS}
 use Rattle.satip_base.specs.Output.{Datagram, datagram_bytes}
 
 -- datagrams, and how many more bytes and datagrams there is room for
@@ -14,7 +15,7 @@ empty_bundle = record { datagrams = []; byte_spare = 1310720; count_spare = 1024
 
 -- whether there is room for what any event writes: 256 datagrams of together 262144 bytes
 abbrev pub has_room : Bundle → Bool
-has_room b = nat_le 262144 b.byte_spare && nat_le 256 b.count_spare
+has_room b = nat_le EVENT_BYTES b.byte_spare && nat_le EVENT_DATAGRAMS b.count_spare
 
 -- datagrams were appended
 pub record Bundled (b : Bundle) (datagrams : List Datagram) (c : Bundle) : Type 0 where

@@ -9,5 +9,4 @@ pub mod Loads
 pub mod Readings
 pub mod Works
 pub mod Runs
-pub mod Scripts
 pub mod Pauses

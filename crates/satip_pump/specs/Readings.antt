@@ -1,5 +1,6 @@
 -- How what a pump has read stands to the recording.
 use Rattle.std.specs.Prelude.{◌≡◌, ◌≢◌, ℕ, ◌+◌, ◌⊎◌, List, [], ◌++◌, Option, Some, None}
+use Rattle.satip_base.specs.Streams.{Feed}
 use Rattle.satip_base.specs.declared.streams.Taken.{Taken}
 use Rattle.satip_base.specs.declared.streams.Taken.TheVariants.{Got, End, Failed}
 use Rattle.satip_ts.specs.Recording.{cut_packets}
@@ -20,42 +21,42 @@ held (Some source) = 1
 
 -- these packets wait and the others are still to come of the source and of what was taken of it; without a source none
 -- comes, or a fault is owed for those that don't
-abbrev pub AreLeft : {F : Type 0} → (tells : Type 0) → (F → List ℕ) → List (List ℕ) → List (List ℕ) → List ℕ → Option F → ℕ → Type 0
-AreLeft tells left packets waiting held (Some source) owed = tells × (packets ≡ waiting ++ cut_packets (held ++ left source))
-AreLeft tells left packets waiting held None owed =
+abbrev pub AreLeft : {F : Type 0} → (tells : Type 0) → (F → Feed) → List (List ℕ) → List (List ℕ) → List ℕ → Option F → ℕ → Type 0
+AreLeft tells feed packets waiting held (Some source) owed = tells × (packets ≡ waiting ++ cut_packets (held ++ (feed source).left))
+AreLeft tells feed packets waiting held None owed =
     (missing : List (List ℕ)) × (packets ≡ waiting ++ missing) × ((missing ≡ []) ⊎ (owed ≡ 1)) × (cut_packets held ≡ [])
 
-abbrev pub AreToldLeft : {F : Type 0} → (tells : Type 0) → (F → List ℕ) → Option (List (List ℕ)) → List (List ℕ) → List ℕ → Option F → ℕ → Type 0
-AreToldLeft tells left None waiting held source owed = Unit {0}
-AreToldLeft tells left (Some packets) waiting held source owed = AreLeft tells left packets waiting held source owed
+abbrev pub AreToldLeft : {F : Type 0} → (tells : Type 0) → (F → Feed) → Option (List (List ℕ)) → List (List ℕ) → List ℕ → Option F → ℕ → Type 0
+AreToldLeft tells feed None waiting held source owed = Unit {0}
+AreToldLeft tells feed (Some packets) waiting held source owed = AreLeft tells feed packets waiting held source owed
 
 -- what is read is this recording, as far as it was given
-abbrev pub IsReel : {F : Type 0} → (tells : Type 0) → (F → List ℕ) → Option Reel → Reading F → ℕ → Type 0
-IsReel tells left None reading owed = reading.tune ≡ None
-IsReel tells left (Some reel) reading owed =
-    (reading.tune ≡ Some reel.tune) × AreToldLeft tells left reel.left reading.queue.packets reading.cutter reading.source owed
+abbrev pub IsReel : {F : Type 0} → (tells : Type 0) → (F → Feed) → Option Reel → Reading F → ℕ → Type 0
+IsReel tells feed None reading owed = reading.tune ≡ None
+IsReel tells feed (Some reel) reading owed =
+    (reading.tune ≡ Some reel.tune) × AreToldLeft tells feed reel.left reading.queue.packets reading.cutter reading.source owed
 
 -- so it is, where so many recordings ended early since the store had so many faults; one more fault may be owed
-pub record Stands {F : Type 0} (tells : Type 0) (left : F → List ℕ) (first now early : ℕ) (reel : Option Reel) (reading : Reading F) : Type 0 where
+pub record Stands {F : Type 0} (tells : Type 0) (feed : F → Feed) (first now early : ℕ) (reel : Option Reel) (reading : Reading F) : Type 0 where
   pub owed : ℕ
-  pub is_reel : IsReel tells left reel reading owed
+  pub is_reel : IsReel tells feed reel reading owed
   pub few : RoseBy (early + owed) first now
 
 -- as it stood before, so it stands after
-abbrev pub Goes : {F : Type 0} → (tells : Type 0) → (F → List ℕ) → ℕ → Reading F → ℕ → Reading F → Type 0
-Goes tells left faults old faults' new =
-    (first early : ℕ) (reel : Option Reel) → Stands tells left first faults early reel old → Stands tells left first faults' early reel new
+abbrev pub Goes : {F : Type 0} → (tells : Type 0) → (F → Feed) → ℕ → Reading F → ℕ → Reading F → Type 0
+Goes tells feed faults old faults' new =
+    (first early : ℕ) (reel : Option Reel) → Stands tells feed first faults early reel old → Stands tells feed first faults' early reel new
 
 -- as it stood before, so it stands after, but for the recording of a tuning
-abbrev pub GoesTo : {F : Type 0} → (tells : Type 0) → (F → List ℕ) → (ℕ → Option (List ℕ)) → ℕ → Reading F → ℕ → ℕ → ℕ → Reading F → Type 0
-GoesTo tells left recording faults old mux tune faults' new =
-    (first early : ℕ) (reel : Option Reel) → Stands tells left first faults early reel old
-    → Stands tells left first faults' early (Some (tuned recording reel mux tune)) new
+abbrev pub GoesTo : {F : Type 0} → (tells : Type 0) → (F → Feed) → (ℕ → Option (List ℕ)) → ℕ → Reading F → ℕ → ℕ → ℕ → Reading F → Type 0
+GoesTo tells feed recording faults old mux tune faults' new =
+    (first early : ℕ) (reel : Option Reel) → Stands tells feed first faults early reel old
+    → Stands tells feed first faults' early (Some (tuned recording reel mux tune)) new
 
 -- the source failed at some time
-abbrev pub HasFailed : {F : Type 0} → (F → ℕ) → Option F → Type 0
-HasFailed faults None = ⊥
-HasFailed faults (Some source) = faults source ≢ 0
+abbrev pub HasFailed : {F : Type 0} → (F → Feed) → Option F → Type 0
+HasFailed feed None = ⊥
+HasFailed feed (Some source) = (feed source).faults ≢ 0
 
 -- a source has the whole recording left, where that is told
 abbrev pub IsWhole : (tells : Type 0) → List ℕ → Option (List ℕ) → Type 0
@@ -63,9 +64,9 @@ IsWhole tells left None = Unit {0}
 IsWhole tells left (Some recording) = tells × (left ≡ recording)
 
 -- a recording was opened, or the store failed
-abbrev pub Begins : {F : Type 0} → (tells : Type 0) → (F → List ℕ) → Option (List ℕ) → ℕ → ℕ → Option F → Type 0
-Begins tells left recording faults faults' (Some source) = (faults' ≡ faults) × IsWhole tells (left source) recording
-Begins tells left recording faults faults' None = Rises faults faults'
+abbrev pub Begins : {F : Type 0} → (tells : Type 0) → (F → Feed) → Option (List ℕ) → ℕ → ℕ → Option F → Type 0
+Begins tells feed recording faults faults' (Some source) = (faults' ≡ faults) × IsWhole tells (feed source).left recording
+Begins tells feed recording faults faults' None = Rises faults faults'
 
 -- what was held and left of a source is held and left, or it is at its end, or failed
 abbrev pub Reads : (tells : Type 0) → List ℕ → List ℕ → ℕ → List ℕ → List ℕ → Taken → Type 0

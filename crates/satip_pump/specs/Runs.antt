@@ -1,5 +1,6 @@
 -- A pump between two of its events.
 use Rattle.std.specs.Prelude.{◌≡◌, ◌≢◌, ℕ, Bool, List, Option, Some, None, Result, Ok, Err}
+use Rattle.satip_base.specs.Streams.{Feed}
 use Rattle.satip_plain.specs.declared.answers.Answer.{Answer}
 use Rattle.satip_plain.specs.declared.answers.Answer.TheVariants.{Work as WorkIs}
 use Rattle.satip_plain.specs.declared.answers.Work.{Work}
@@ -25,20 +26,20 @@ pub record SoFar (front : ℕ) (recording : ℕ → Option (List ℕ)) (tells : 
   pub answered : last_from None entries ≡ last
 
 -- the last answer told this work
-pub record Runs {F : Type 0} (front : ℕ) (recording : ℕ → Option (List ℕ)) (tells reads : Type 0) (left : F → List ℕ) (k l : Known) (o n : Outbox)
+pub record Runs {F : Type 0} (front : ℕ) (recording : ℕ → Option (List ℕ)) (tells reads : Type 0) (feed : F → Feed) (k l : Known) (o n : Outbox)
     (first now : ℕ) (work : Work) (reading : Reading F) : Type 0 where
   pub reel : Option Reel
   pub early : ℕ
   pub so_far : SoFar front recording tells k l o n (after_work recording reel work) (Some (WorkIs work)) early
-  pub stands : Stands reads left first now early reel reading
+  pub stands : Stands reads feed first now early reel reading
 
 -- and it is what is read for now
-pub record Feeds {F : Type 0} (front : ℕ) (recording : ℕ → Option (List ℕ)) (tells reads : Type 0) (left : F → List ℕ) (k l : Known) (o n : Outbox)
+pub record Feeds {F : Type 0} (front : ℕ) (recording : ℕ → Option (List ℕ)) (tells reads : Type 0) (feed : F → Feed) (k l : Known) (o n : Outbox)
     (first now : ℕ) (work : Work) (tune : ℕ) (reading : Reading F) : Type 0 where
   pub reel : Reel
   pub early : ℕ
   pub so_far : SoFar front recording tells k l o n (Feeding reel) (Some (WorkIs work)) early
-  pub stands : Stands reads left first now early (Some reel) reading
+  pub stands : Stands reads feed first now early (Some reel) reading
   pub same : reel.tune ≡ tune
 
 -- the service made no entry of the next event
@@ -51,7 +52,7 @@ pub record Fails (may_want : Bool) (front : ℕ) (recording : ℕ → Option (Li
   pub going : last ≢ Some (WorkIs Stopping)
   pub cause : Cause may_want l fault
 
-abbrev pub Answered : {F : Type 0} → Bool → ℕ → (ℕ → Option (List ℕ)) → (tells reads : Type 0) → (F → List ℕ) → Known → Known → Outbox → Outbox
+abbrev pub Answered : {F : Type 0} → Bool → ℕ → (ℕ → Option (List ℕ)) → (tells reads : Type 0) → (F → Feed) → Known → Known → Outbox → Outbox
     → ℕ → ℕ → Reading F → Result Work ServiceFault → Type 0
-Answered may_want front recording tells reads left k l o n first now reading (Ok work) = Runs front recording tells reads left k l o n first now work reading
-Answered may_want front recording tells reads left k l o n first now reading (Err fault) = Fails may_want front recording tells k l o n first now fault
+Answered may_want front recording tells reads feed k l o n first now reading (Ok work) = Runs front recording tells reads feed k l o n first now work reading
+Answered may_want front recording tells reads feed k l o n first now reading (Err fault) = Fails may_want front recording tells k l o n first now fault

@@ -79,8 +79,10 @@ impl Batch {
     fn append_one(&mut self, out: &Out, place: usize)
         requires within { place < length out.now.datagrams }
         requires count { 1 ≤ self.old.count_spare }
-        requires bytes { IsSomeAnd (slice_get out.now.datagrams place) (λ datagram. length datagram.bytes ≤ self.old.byte_spare) }
-        ensures bundled { IsSomeAnd (slice_get out.now.datagrams place) (λ datagram. Bundled self.old (datagram ∷ []) self.new) }
+        requires bytes { IsSomeAnd (slice_get out.now.datagrams place)
+            (λ datagram. length datagram.bytes ≤ self.old.byte_spare) }
+        ensures bundled { IsSomeAnd (slice_get out.now.datagrams place)
+            (λ datagram. Bundled self.old (datagram ∷ []) self.new) }
     {
         match out.datagram(place) {
             Some((to, bytes)) => self.push(to, bytes),
@@ -103,7 +105,8 @@ impl Batch {
     pub fn post<O: Outlet>(&self, outlet: &mut O)
         requires held { (O.outbox outlet.old).held ≡ true }
         ensures held { (O.outbox outlet.new).held ≡ true }
-        ensures delivers { Delivers O.tells (O.outbox outlet.old) (O.outbox outlet.new) self.now.datagrams }
+        ensures delivers { Delivers O.tells (O.outbox outlet.old) (O.outbox outlet.new)
+            self.now.datagrams }
     {
         for place in 0..self.count() {
             self.post_one(place, outlet);
@@ -115,7 +118,8 @@ impl Batch {
         requires held { (O.outbox outlet.old).held ≡ true }
         ensures held { (O.outbox outlet.new).held ≡ true }
         ensures delivers { IsSomeAnd (slice_get self.now.datagrams place)
-            (λ datagram. Delivers O.tells (O.outbox outlet.old) (O.outbox outlet.new) (datagram ∷ [])) }
+            (λ datagram. Delivers O.tells (O.outbox outlet.old) (O.outbox outlet.new)
+            (datagram ∷ [])) }
     {
         match self.datagram(place) {
             Some((to, bytes)) => {

@@ -10,8 +10,6 @@ mod lot;
 mod pump;
 mod queue;
 mod reading;
-#[cfg(test)]
-mod tests;
 mod ticker;
 mod works;
 

@@ -49,7 +49,8 @@ impl Load<'_> {
     // The packet that is given next.
     fn next_packet(&self) -> Option<Packet>
         ensures next { option_map (Event.Packet self.now.front self.now.tune) result
-            ≡ given_event true (may_give self.now.tune self.now.work self.now.batch.now) self.now.front self.now.tune self.now.queue.now.packets }
+            ≡ given_event true (may_give self.now.tune self.now.work self.now.batch.now)
+            self.now.front self.now.tune self.now.queue.now.packets }
     {
         if !is_for(self.work, self.tune) || !self.batch.has_room() {
             return None;
@@ -59,7 +60,8 @@ impl Load<'_> {
 }
 
 impl Lot for Load<'_> {
-    ghost given = { λ l. given_event l.given (may_give l.tune l.work l.batch.now) l.front l.tune l.queue.now.packets };
+    ghost given = { λ l. given_event l.given (may_give l.tune l.work l.batch.now) l.front l.tune
+        l.queue.now.packets };
 
     ghost ended = { λ l. l.ended };
 

@@ -17,6 +17,7 @@ use crate::queue::PLACES;
 use crate::reading::{Reading, fill, hand_back, turn_to};
 use crate::works::{give, make_work};
 use satip_base::Out;
+use satip_base::limits::LONGEST_HISTORY;
 use satip_plain::{Event, Work};
 use satip_service::{Service, ServiceFault};
 use satip_world::{MuxStore, Outlet, Pacer};
@@ -46,19 +47,24 @@ fn give_some<S: Service, M: MuxStore, O: Outlet, P: Pacer>(
     ensures free { (O.outbox kit.new.outlet).held ≡ false }
     ensures same { S.same service.old service.new }
     ensures answered { (k : Known) (o : Outbox) (first : ℕ)
-        → Feeds pump.old.front (M.recording kit.old.store) O.tells M.From.tells M.From.left k (S.known service.old) o (O.outbox kit.old.outlet)
-        first (M.faults kit.old.store) tuning.0 tuning.1 pump.old.reading
-        → Answered (S.may_want service.old) pump.old.front (M.recording kit.old.store) O.tells M.From.tells M.From.left k (S.known service.new) o (O.outbox kit.new.outlet)
-        first (M.faults kit.new.store) pump.new.reading result }
-    ensures paces { (own : List Item) (first : ℕ) → Paced own (S.known service.old).own first (P.pauses kit.old.pacer) pump.old.since 0
-        → Paced own (S.known service.new).own first (P.pauses kit.new.pacer) pump.new.since (owed_by result) }
-    ensures recordings { M.recording kit.new.store ≡ M.recording kit.old.store }
+        → Feeds pump.old.front (M.shelf kit.old.store).recording O.tells M.From.tells M.From.feed k
+        (S.known service.old) o (O.outbox kit.old.outlet)
+        first (M.shelf kit.old.store).faults tuning.0 tuning.1 pump.old.reading
+        → Answered (S.may_want service.old) pump.old.front (M.shelf kit.old.store).recording O.tells
+        M.From.tells M.From.feed k (S.known service.new) o (O.outbox kit.new.outlet)
+        first (M.shelf kit.new.store).faults pump.new.reading result }
+    ensures paces { (own : List Item) (first : ℕ)
+        → Paced own (S.known service.old).own first (P.pauses kit.old.pacer) pump.old.since 0
+        → Paced own (S.known service.new).own first (P.pauses kit.new.pacer) pump.new.since
+        (owed_by result) }
+    ensures recordings { (M.shelf kit.new.store).recording ≡ (M.shelf kit.old.store).recording }
     ensures front { pump.new.front ≡ pump.old.front }
     ensures paced { pump.new.since < 64 }
     ensures few { pump.new.since + length pump.new.reading.queue.packets ≤ 64 }
-    ensures lent { held pump.old.reading.source ≤ M.lent kit.old.store
-        → M.lent kit.new.store + held pump.old.reading.source ≡ M.lent kit.old.store + held pump.new.reading.source }
-    ensures peak { M.peak kit.new.store ≡ M.peak kit.old.store }
+    ensures lent { held pump.old.reading.source ≤ (M.shelf kit.old.store).lent
+        → (M.shelf kit.new.store).lent + held pump.old.reading.source
+        ≡ (M.shelf kit.old.store).lent + held pump.new.reading.source }
+    ensures peak { (M.shelf kit.new.store).peak ≡ (M.shelf kit.old.store).peak }
 {
     let before = pump.reading.queue.count();
     let answer = give(
@@ -91,7 +97,8 @@ fn tell_end<S: Service, F, O: Outlet>(
     ensures free { (O.outbox outlet.new).held ≡ false }
     ensures same { S.same service.old service.new }
     ensures works { Works (S.may_want service.old) (S.known service.old) (S.known service.new)
-        O.tells (O.outbox outlet.old) (O.outbox outlet.new) (Event.Ended pump.now.front tune) result }
+        O.tells (O.outbox outlet.old) (O.outbox outlet.new) (Event.Ended pump.now.front tune)
+        result }
 {
     let ended = Event::Ended {
         front: pump.front,
@@ -117,19 +124,24 @@ fn feed<R: Wait, S: Service, M: MuxStore, O: Outlet, P: Pacer>(
     ensures free { (O.outbox kit.new.outlet).held ≡ false }
     ensures same { S.same service.old service.new }
     ensures answered { (k : Known) (o : Outbox) (first : ℕ)
-        → Feeds pump.old.front (M.recording kit.old.store) O.tells M.From.tells M.From.left k (S.known service.old) o (O.outbox kit.old.outlet)
-        first (M.faults kit.old.store) tuning.0 tuning.1 pump.old.reading
-        → Answered (S.may_want service.old) pump.old.front (M.recording kit.old.store) O.tells M.From.tells M.From.left k (S.known service.new) o (O.outbox kit.new.outlet)
-        first (M.faults kit.new.store) pump.new.reading result }
-    ensures paces { (own : List Item) (first : ℕ) → Paced own (S.known service.old).own first (P.pauses kit.old.pacer) pump.old.since 0
-        → Paced own (S.known service.new).own first (P.pauses kit.new.pacer) pump.new.since (owed_by result) }
-    ensures recordings { M.recording kit.new.store ≡ M.recording kit.old.store }
+        → Feeds pump.old.front (M.shelf kit.old.store).recording O.tells M.From.tells M.From.feed k
+        (S.known service.old) o (O.outbox kit.old.outlet)
+        first (M.shelf kit.old.store).faults tuning.0 tuning.1 pump.old.reading
+        → Answered (S.may_want service.old) pump.old.front (M.shelf kit.old.store).recording O.tells
+        M.From.tells M.From.feed k (S.known service.new) o (O.outbox kit.new.outlet)
+        first (M.shelf kit.new.store).faults pump.new.reading result }
+    ensures paces { (own : List Item) (first : ℕ)
+        → Paced own (S.known service.old).own first (P.pauses kit.old.pacer) pump.old.since 0
+        → Paced own (S.known service.new).own first (P.pauses kit.new.pacer) pump.new.since
+        (owed_by result) }
+    ensures recordings { (M.shelf kit.new.store).recording ≡ (M.shelf kit.old.store).recording }
     ensures front { pump.new.front ≡ pump.old.front }
     ensures paced { pump.new.since < 64 }
     ensures few { pump.new.since + length pump.new.reading.queue.packets ≤ 64 }
-    ensures lent { held pump.old.reading.source ≤ M.lent kit.old.store
-        → M.lent kit.new.store + held pump.old.reading.source ≡ M.lent kit.old.store + held pump.new.reading.source }
-    ensures peak { M.peak kit.new.store ≡ M.peak kit.old.store }
+    ensures lent { held pump.old.reading.source ≤ (M.shelf kit.old.store).lent
+        → (M.shelf kit.new.store).lent + held pump.old.reading.source
+        ≡ (M.shelf kit.old.store).lent + held pump.new.reading.source }
+    ensures peak { (M.shelf kit.new.store).peak ≡ (M.shelf kit.old.store).peak }
 {
     if pump.reading.queue.count() != 0 {
         return give_some(service, kit, pump, tuning, out, batch);
@@ -157,19 +169,26 @@ fn tune<R: Wait, S: Service, M: MuxStore, O: Outlet, P: Pacer>(
     ensures free { (O.outbox kit.new.outlet).held ≡ false }
     ensures same { S.same service.old service.new }
     ensures answered { (k : Known) (o : Outbox) (first : ℕ)
-        → Runs pump.old.front (M.recording kit.old.store) O.tells M.From.tells M.From.left k (S.known service.old) o (O.outbox kit.old.outlet)
-        first (M.faults kit.old.store) (Work.Tune tuning.0 tuning.1) pump.old.reading
-        → Answered (S.may_want service.old) pump.old.front (M.recording kit.old.store) O.tells M.From.tells M.From.left k (S.known service.new) o (O.outbox kit.new.outlet)
-        first (M.faults kit.new.store) pump.new.reading result }
-    ensures paces { (own : List Item) (first : ℕ) → Paced own (S.known service.old).own first (P.pauses kit.old.pacer) pump.old.since 0
-        → Paced own (S.known service.new).own first (P.pauses kit.new.pacer) pump.new.since (owed_by result) }
-    ensures recordings { M.recording kit.new.store ≡ M.recording kit.old.store }
+        → Runs pump.old.front (M.shelf kit.old.store).recording O.tells M.From.tells M.From.feed k
+        (S.known service.old) o (O.outbox kit.old.outlet)
+        first (M.shelf kit.old.store).faults (Work.Tune tuning.0 tuning.1) pump.old.reading
+        → Answered (S.may_want service.old) pump.old.front (M.shelf kit.old.store).recording O.tells
+        M.From.tells M.From.feed k (S.known service.new) o (O.outbox kit.new.outlet)
+        first (M.shelf kit.new.store).faults pump.new.reading result }
+    ensures paces { (own : List Item) (first : ℕ)
+        → Paced own (S.known service.old).own first (P.pauses kit.old.pacer) pump.old.since 0
+        → Paced own (S.known service.new).own first (P.pauses kit.new.pacer) pump.new.since
+        (owed_by result) }
+    ensures recordings { (M.shelf kit.new.store).recording ≡ (M.shelf kit.old.store).recording }
     ensures front { pump.new.front ≡ pump.old.front }
     ensures paced { pump.new.since < 64 }
     ensures few { pump.new.since + length pump.new.reading.queue.packets ≤ 64 }
-    ensures lent { held pump.old.reading.source ≤ M.lent kit.old.store
-        → M.lent kit.new.store + held pump.old.reading.source ≡ M.lent kit.old.store + held pump.new.reading.source }
-    ensures peak { M.peak kit.new.store ≤ max (M.peak kit.old.store) (M.lent kit.old.store - held pump.old.reading.source + 1) }
+    ensures lent { held pump.old.reading.source ≤ (M.shelf kit.old.store).lent
+        → (M.shelf kit.new.store).lent + held pump.old.reading.source
+        ≡ (M.shelf kit.old.store).lent + held pump.new.reading.source }
+    ensures peak { (M.shelf kit.new.store).peak
+        ≤ max (M.shelf kit.old.store).peak ((M.shelf kit.old.store).lent - held
+        pump.old.reading.source + 1) }
 {
     let (mux, tune) = tuning;
     turn_to(&mut pump.reading, &mut kit.store, mux, tune);
@@ -200,14 +219,18 @@ pub fn run_pump<R: Wait + Sync, S: Service, M: MuxStore, O: Outlet, P: Pacer>(
     requires free { (O.outbox kit.old.outlet).held ≡ false }
     ensures free { (O.outbox kit.new.outlet).held ≡ false }
     ensures same { S.same service.old service.new }
-    ensures run { PumpRun front (M.recording kit.old.store) (S.known service.old) (S.known service.new)
-        O.tells (O.outbox kit.old.outlet) (O.outbox kit.new.outlet) (M.faults kit.old.store) (M.faults kit.new.store) result }
-    ensures pauses { PumpPauses (S.known service.old).own (S.known service.new).own (P.pauses kit.old.pacer) (P.pauses kit.new.pacer) }
-    ensures spent { result ≡ JobEnd.Spent → (S.known service.new).length ≡ 18446744073709551615 }
+    ensures run { PumpRun front (M.shelf kit.old.store).recording (S.known service.old)
+        (S.known service.new)
+        O.tells (O.outbox kit.old.outlet) (O.outbox kit.new.outlet) (M.shelf kit.old.store).faults
+        (M.shelf kit.new.store).faults result }
+    ensures pauses { PumpPauses (S.known service.old).own (S.known service.new).own
+        (P.pauses kit.old.pacer) (P.pauses kit.new.pacer) }
+    ensures spent { result ≡ JobEnd.Spent → (S.known service.new).length ≡ LONGEST_HISTORY }
     ensures want { result ≡ JobEnd.Want → S.may_want service.old ≡ true }
-    ensures recordings { M.recording kit.new.store ≡ M.recording kit.old.store }
-    ensures lent { M.lent kit.new.store ≡ M.lent kit.old.store }
-    ensures one_at_a_time { M.peak kit.new.store ≤ max (M.peak kit.old.store) (M.lent kit.old.store + 1) }
+    ensures recordings { (M.shelf kit.new.store).recording ≡ (M.shelf kit.old.store).recording }
+    ensures lent { (M.shelf kit.new.store).lent ≡ (M.shelf kit.old.store).lent }
+    ensures one_at_a_time { (M.shelf kit.new.store).peak
+        ≤ max (M.shelf kit.old.store).peak ((M.shelf kit.old.store).lent + 1) }
 {
     let mut pump = Pump {
         front,

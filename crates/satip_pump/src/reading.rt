@@ -40,11 +40,12 @@ impl<F> Reading<F> {
 /// Hands the source back to the store, where there is one.
 pub(crate) fn hand_back<M: MuxStore>(reading: &mut Reading<M::From>, store: &mut M)
     ensures source { reading.new ≡ record reading.old { source = None } }
-    ensures recordings { M.recording store.new ≡ M.recording store.old }
-    ensures faults { M.faults store.old ≤ M.faults store.new }
-    ensures fault { HasFailed M.From.faults reading.old.source → Rises (M.faults store.old) (M.faults store.new) }
-    ensures lent { M.lent store.new ≡ M.lent store.old - held reading.old.source }
-    ensures peak { M.peak store.new ≡ M.peak store.old }
+    ensures recordings { (M.shelf store.new).recording ≡ (M.shelf store.old).recording }
+    ensures faults { (M.shelf store.old).faults ≤ (M.shelf store.new).faults }
+    ensures fault { HasFailed M.From.feed reading.old.source
+        → Rises (M.shelf store.old).faults (M.shelf store.new).faults }
+    ensures lent { (M.shelf store.new).lent ≡ (M.shelf store.old).lent - held reading.old.source }
+    ensures peak { (M.shelf store.new).peak ≡ (M.shelf store.old).peak }
 {
     if let Some(source) = reading.source.take() {
         store.back(source);
@@ -60,10 +61,12 @@ fn is_read(tune: Option<u64>, number: u64) -> bool
 
 // Opens the recording of a multiplex; None where that fails.
 fn begin<M: MuxStore>(store: &mut M, mux: u16) -> Option<M::From>
-    ensures recordings { M.recording store.new ≡ M.recording store.old }
-    ensures begins { Begins M.From.tells M.From.left (M.recording store.old mux) (M.faults store.old) (M.faults store.new) result }
-    ensures lent { M.lent store.new ≡ M.lent store.old + held result }
-    ensures peak { M.peak store.new ≤ max (M.peak store.old) (M.lent store.old + 1) }
+    ensures recordings { (M.shelf store.new).recording ≡ (M.shelf store.old).recording }
+    ensures begins { Begins M.From.tells M.From.feed ((M.shelf store.old).recording mux)
+        (M.shelf store.old).faults (M.shelf store.new).faults result }
+    ensures lent { (M.shelf store.new).lent ≡ (M.shelf store.old).lent + held result }
+    ensures peak { (M.shelf store.new).peak ≤ max (M.shelf store.old).peak
+        ((M.shelf store.old).lent + 1) }
 {
     match store.start(mux) {
         Ok(source) => Some(source),
@@ -79,14 +82,17 @@ pub(crate) fn turn_to<M: MuxStore>(
     mux: u16,
     tune: u64,
 )
-    ensures goes { GoesTo M.From.tells M.From.left (M.recording store.old) (M.faults store.old) reading.old mux tune
-        (M.faults store.new) reading.new }
-    ensures recordings { M.recording store.new ≡ M.recording store.old }
+    ensures goes { GoesTo M.From.tells M.From.feed (M.shelf store.old).recording
+        (M.shelf store.old).faults reading.old mux tune
+        (M.shelf store.new).faults reading.new }
+    ensures recordings { (M.shelf store.new).recording ≡ (M.shelf store.old).recording }
     ensures tune { reading.new.tune ≡ Some tune }
     ensures fewer { length reading.new.queue.packets ≤ length reading.old.queue.packets }
-    ensures lent { held reading.old.source ≤ M.lent store.old
-        → M.lent store.new + held reading.old.source ≡ M.lent store.old + held reading.new.source }
-    ensures peak { M.peak store.new ≤ max (M.peak store.old) (M.lent store.old - held reading.old.source + 1) }
+    ensures lent { held reading.old.source ≤ (M.shelf store.old).lent
+        → (M.shelf store.new).lent + held reading.old.source
+        ≡ (M.shelf store.old).lent + held reading.new.source }
+    ensures peak { (M.shelf store.new).peak ≤ max (M.shelf store.old).peak
+        ((M.shelf store.old).lent - held reading.old.source + 1) }
 {
     if is_read(reading.tune, tune) {
         return;
@@ -101,7 +107,8 @@ pub(crate) fn turn_to<M: MuxStore>(
 // Takes a piece of the source, of which the cutter takes all.
 fn take_piece<F: Source>(source: &mut F, cutter: &mut Cutter) -> Taken
     requires few { length cutter.old < 188 }
-    ensures reads { Reads F.tells (F.left source.old) (F.left source.new) (F.faults source.new) cutter.old cutter.new result }
+    ensures reads { Reads F.tells (F.feed source.old).left (F.feed source.new).left
+        (F.feed source.new).faults cutter.old cutter.new result }
 {
     let mut buf = [0; PIECE];
     match source.take(&mut buf) {
@@ -114,18 +121,21 @@ fn take_piece<F: Source>(source: &mut F, cutter: &mut Cutter) -> Taken
     }
 }
 
-// Reads on in the source, which is handed back where it is at its end or failed. Whether there is more to read.
+// Reads on in the source, which is handed back where it is at its end or failed. Whether there is
+// more to read.
 fn read_more<M: MuxStore>(reading: &mut Reading<M::From>, store: &mut M) -> bool
     requires few { length reading.old.cutter < 188 }
     requires none { cut_packets reading.old.cutter ≡ [] }
-    ensures goes { Goes M.From.tells M.From.left (M.faults store.old) reading.old (M.faults store.new) reading.new }
-    ensures recordings { M.recording store.new ≡ M.recording store.old }
+    ensures goes { Goes M.From.tells M.From.feed (M.shelf store.old).faults reading.old
+        (M.shelf store.new).faults reading.new }
+    ensures recordings { (M.shelf store.new).recording ≡ (M.shelf store.old).recording }
     ensures shut { result ≡ false → reading.new.source ≡ None }
     ensures queue { reading.new.queue ≡ reading.old.queue }
     ensures tune { reading.new.tune ≡ reading.old.tune }
-    ensures lent { held reading.old.source ≤ M.lent store.old
-        → M.lent store.new + held reading.old.source ≡ M.lent store.old + held reading.new.source }
-    ensures peak { M.peak store.new ≡ M.peak store.old }
+    ensures lent { held reading.old.source ≤ (M.shelf store.old).lent
+        → (M.shelf store.new).lent + held reading.old.source
+        ≡ (M.shelf store.old).lent + held reading.new.source }
+    ensures peak { (M.shelf store.new).peak ≡ (M.shelf store.old).peak }
 {
     let Some(source) = &mut reading.source else {
         return false;
@@ -146,15 +156,18 @@ fn read_more<M: MuxStore>(reading: &mut Reading<M::From>, store: &mut M) -> bool
 // Cuts a packet, or reads on. Whether there is more to read.
 fn read_one<M: MuxStore>(reading: &mut Reading<M::From>, store: &mut M) -> bool
     requires room { 1 ≤ reading.old.queue.room }
-    ensures goes { Goes M.From.tells M.From.left (M.faults store.old) reading.old (M.faults store.new) reading.new }
-    ensures recordings { M.recording store.new ≡ M.recording store.old }
+    ensures goes { Goes M.From.tells M.From.feed (M.shelf store.old).faults reading.old
+        (M.shelf store.new).faults reading.new }
+    ensures recordings { (M.shelf store.new).recording ≡ (M.shelf store.old).recording }
     ensures shut { result ≡ false → reading.new.source ≡ None }
     ensures most { length reading.new.queue.packets ≤ length reading.old.queue.packets + 1 }
-    ensures room { reading.new.queue.room + length reading.new.queue.packets ≡ reading.old.queue.room + length reading.old.queue.packets }
+    ensures room { reading.new.queue.room + length reading.new.queue.packets
+        ≡ reading.old.queue.room + length reading.old.queue.packets }
     ensures tune { reading.new.tune ≡ reading.old.tune }
-    ensures lent { held reading.old.source ≤ M.lent store.old
-        → M.lent store.new + held reading.old.source ≡ M.lent store.old + held reading.new.source }
-    ensures peak { M.peak store.new ≡ M.peak store.old }
+    ensures lent { held reading.old.source ≤ (M.shelf store.old).lent
+        → (M.shelf store.new).lent + held reading.old.source
+        ≡ (M.shelf store.old).lent + held reading.new.source }
+    ensures peak { (M.shelf store.new).peak ≡ (M.shelf store.old).peak }
 {
     match reading.cutter.next() {
         Some(packet) => {
@@ -175,14 +188,16 @@ pub(crate) fn fill<R: Wait, M: MuxStore>(
     requires empty { reading.old.queue.packets ≡ [] }
     requires some { 1 ≤ most }
     requires most { most ≤ 64 }
-    ensures goes { Goes M.From.tells M.From.left (M.faults store.old) reading.old (M.faults store.new) reading.new }
-    ensures recordings { M.recording store.new ≡ M.recording store.old }
+    ensures goes { Goes M.From.tells M.From.feed (M.shelf store.old).faults reading.old
+        (M.shelf store.new).faults reading.new }
+    ensures recordings { (M.shelf store.new).recording ≡ (M.shelf store.old).recording }
     ensures most { length reading.new.queue.packets ≤ most }
     ensures empty { reading.new.queue.packets ≡ [] → reading.new.source ≡ None }
     ensures tune { reading.new.tune ≡ reading.old.tune }
-    ensures lent { held reading.old.source ≤ M.lent store.old
-        → M.lent store.new + held reading.old.source ≡ M.lent store.old + held reading.new.source }
-    ensures peak { M.peak store.new ≡ M.peak store.old }
+    ensures lent { held reading.old.source ≤ (M.shelf store.old).lent
+        → (M.shelf store.new).lent + held reading.old.source
+        ≡ (M.shelf store.old).lent + held reading.new.source }
+    ensures peak { (M.shelf store.new).peak ≡ (M.shelf store.old).peak }
 {
     reading.queue.clear();
     for _ in rt.forever() {

@@ -7,6 +7,7 @@ use crate::ends::{JobEnd, end_of};
 use crate::events::make_event;
 use crate::kits::TickKit;
 use satip_base::Out;
+use satip_base::limits::LONGEST_HISTORY;
 use satip_plain::{Answer, Beat, Event};
 use satip_service::Service;
 use satip_world::{Clock, Outlet, Pacer};
@@ -43,10 +44,12 @@ pub fn run_ticker<R: Wait + Sync, S: Service, C: Clock, O: Outlet, P: Pacer>(
     requires free { (O.outbox kit.old.outlet).held ≡ false }
     ensures free { (O.outbox kit.new.outlet).held ≡ false }
     ensures same { S.same service.old service.new }
-    ensures run { TickRun (S.known service.old) (S.known service.new) (C.dial kit.old.clock) (C.dial kit.new.clock)
+    ensures run { TickRun (S.known service.old) (S.known service.new) (C.dial kit.old.clock)
+        (C.dial kit.new.clock)
         O.tells (O.outbox kit.old.outlet) (O.outbox kit.new.outlet) result }
-    ensures pauses { TickPauses (S.known service.old).own (S.known service.new).own (P.pauses kit.old.pacer) (P.pauses kit.new.pacer) result }
-    ensures spent { result ≡ JobEnd.Spent → (S.known service.new).length ≡ 18446744073709551615 }
+    ensures pauses { TickPauses (S.known service.old).own (S.known service.new).own
+        (P.pauses kit.old.pacer) (P.pauses kit.new.pacer) result }
+    ensures spent { result ≡ JobEnd.Spent → (S.known service.new).length ≡ LONGEST_HISTORY }
     ensures want { result ≡ JobEnd.Want → S.may_want service.old ≡ true }
 {
     for _ in rt.forever() {

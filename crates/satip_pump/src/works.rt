@@ -46,7 +46,8 @@ pub(crate) fn give<S: Service, O: Outlet>(
     requires free { (O.outbox outlet.old).held ≡ false }
     ensures free { (O.outbox outlet.new).held ≡ false }
     ensures same { S.same service.old service.new }
-    ensures gave { Gave (S.may_want service.old) tuning.0 tuning.1 work (S.known service.old) (S.known service.new)
+    ensures gave { Gave (S.may_want service.old) tuning.0 tuning.1 work (S.known service.old)
+        (S.known service.new)
         O.tells (O.outbox outlet.old) (O.outbox outlet.new) queue.old queue.new result }
     ensures fewer { length queue.new.packets ≤ length queue.old.packets }
 {
@@ -68,7 +69,8 @@ fn burst_and_post<S: Service, O: Outlet>(
 ) -> Result<Work, ServiceFault>
     requires held { (O.outbox outlet.old).held ≡ true }
     ensures same { S.same service.old service.new }
-    ensures gave { Gave (S.may_want service.old) tuning.0 tuning.1 work (S.known service.old) (S.known service.new)
+    ensures gave { Gave (S.may_want service.old) tuning.0 tuning.1 work (S.known service.old)
+        (S.known service.new)
         O.tells (O.outbox outlet.old) (O.outbox outlet.new) queue.old queue.new result }
     ensures fewer { length queue.new.packets ≤ length queue.old.packets }
 {

@@ -1,4 +1,5 @@
-//! The queries of RTSP and HTTP targets (SAT>IP 1.2.2, 3.5.9 and 3.5.10): read from text and printed.
+//! The queries of RTSP and HTTP targets (SAT>IP 1.2.2, 3.5.9 and 3.5.10): read from text and
+//! printed.
 #![tactic(auto)]
 
 mod bodies;
@@ -13,6 +14,3 @@ pub use faults::QueryFault;
 pub use printing::print;
 pub use queries::{PidsGiven, Query};
 pub use reading::read;
-
-#[cfg(test)]
-mod tests;

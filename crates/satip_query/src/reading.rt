@@ -41,7 +41,8 @@ pub fn read(bytes: &[u8], into: &mut Query) -> Result<(), QueryFault>
 }
 
 fn read_pieces(text: &[u8], into: &mut Query) -> Result<(), QueryFault>
-    ensures read { Answers result (with_pieces into.old (slice_split (is_byte 38) text.now)) into.new }
+    ensures read { Answers result (with_pieces into.old (slice_split (is_byte 38) text.now))
+        into.new }
 {
     let mut left = Some(text);
     while let Some(rest) = left {

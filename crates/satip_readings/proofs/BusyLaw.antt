@@ -31,11 +31,11 @@ use Rattle.satip_plain.specs.declared.events.Event.TheVariants.{Request as Asked
 use Rattle.satip_plain.specs.State.{Session, Stream, State, stream_of}
 use Rattle.satip_plain.specs.Sending.{settle}
 use Rattle.satip_plain.specs.Streams.{to_set, asked_pids, changed_tuning, outlook_of}
-use Rattle.satip_plain.specs.Refusals.{Refused, first_given, where_true, plainly, telling, of_message, of_http_message, of_query_fault, of_tuning, of_pids, key_missing, is_full, front_missing, new_outlook, of_query, session_missing, stream_missing, stream_of_another, not_owner, stream_meant, session_named, names_none, needs_session, is_setup, is_describe, looks_at_stream, changes, makes_session, decide, decide_get}
+use Rattle.satip_plain.specs.Refusals.{change_before, message_before, get_before, Refused, first_given, where_true, plainly, telling, of_message, of_http_message, of_query_fault, of_tuning, of_pids, key_missing, is_full, front_missing, new_outlook, of_query, session_missing, stream_missing, stream_of_another, not_owner, stream_meant, session_named, names_none, needs_session, is_setup, is_describe, looks_at_stream, changes, makes_session, decide, decide_get}
 use Rattle.satip_plain.specs.Steps.{outcome, step, on_request, on_get, refuse, done_by, start, accepted, play_of, teardown_of, heard_by, refused_reply, message_reply}
 use Rattle.satip_plain.specs.Readings.{Made, Readings, living, home_of_number, named_in, names, next_made, outlook_in, readings}
 use Rattle.satip_readings.specs.Agreement.{stream_told}
-use Rattle.satip_readings.specs.Busy.{change_before, query_before, message_before, all_before, get_before, home_meant, IsBlocked, IsBlockedRequest, IsBlockedGet, IsBlockedHere, IsToldBusy, BusyWhereBlocked}
+use Rattle.satip_readings.specs.Busy.{query_before, all_before, home_meant, IsBlocked, IsBlockedRequest, IsBlockedGet, IsBlockedHere, IsToldBusy, BusyWhereBlocked}
 use Rattle.satip_readings.proofs.SameTests.{none_true, given_same}
 use Rattle.satip_readings.proofs.Agree.{Agrees, outlook_same, outlook_new, home_found, home_has}
 use Rattle.satip_readings.proofs.Deciding.{IsNone, all_none, where_none, named_present, named_facts, own_stream, meant_number, meant_named}

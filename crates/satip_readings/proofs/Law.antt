@@ -117,6 +117,7 @@ as_read c st g a = record {
   sessions = told_same g (living g) st.sessions (λ m h. h) a.loosely.sessions;
   streams = a.streams;
   each = stream_found c st g a;
+  numbers = a.loosely.told.numbers;
   owners = owners_same c st g a;
   fronts = a.loosely.kept.rows;
   tunes = a.loosely.tunes;

@@ -1,10 +1,11 @@
 -- The entries of a run are a legal history.
-use Rattle.std.proofs.Common.{arith, List, [], ◌∷◌, map, refl}
+use Rattle.std.proofs.Common.{arith, ℕ, ◌<◌, ◌^◌, List, [], ◌∷◌, map, refl}
+use Rattle.std.proofs.lemmas.List.Elements.{All-cons, All-nil}
 use Rattle.satip_history.specs.Lists.{Each}
 use Rattle.satip_plain.specs.declared.events.Event.{Event}
 use Rattle.satip_plain.specs.State.{State}
 use Rattle.satip_plain.specs.Steps.{step}
-use Rattle.satip_plain.specs.Values.{IsEvent, IsServable, IsSetting}
+use Rattle.satip_plain.specs.Values.{AreBytes, IsEvent, IsServable, IsSetting}
 use Rattle.satip_plain.specs.Histories.{LegalFrom, opening}
 use Rattle.satip_plain.specs.Examples.{config, run_from, entry_of}
 use Rattle.satip_readings.specs.Rows.{setting, RunsAreLegal}
@@ -16,6 +17,14 @@ legal_from (e ∷ es) st = (record { answer = refl; reply = refl; datagrams = re
 events_from : (es : List Event) (st : State) → Each IsEvent es → Each (λ e. IsEvent e.event) (map entry_of (run_from st es))
 events_from [] st each = tt
 events_from (e ∷ es) st each = (each.0, events_from es (step config st e).state each.1)
+
+byte_first : (byte : ℕ) (bytes : List ℕ) → byte < 2 ^ 8 → AreBytes bytes → AreBytes (byte ∷ bytes)
+byte_first byte bytes = All-cons (λ (b : ℕ). b < 2 ^ 8) byte bytes
+
+-- a name of four characters
+name : (a b c d : ℕ) → a < 2 ^ 8 → b < 2 ^ 8 → c < 2 ^ 8 → d < 2 ^ 8 → AreBytes (a ∷ b ∷ c ∷ d ∷ [])
+name a b c d k l m n =
+    byte_first a (b ∷ c ∷ d ∷ []) k (byte_first b (c ∷ d ∷ []) l (byte_first c (d ∷ []) m (byte_first d [] n (All-nil (λ (x : ℕ). x < 2 ^ 8)))))
 
 is_servable : IsServable config
 is_servable = record { numbered = refl; few = omega arith; muxes = omega arith }
@@ -30,6 +39,7 @@ is_setting = record {
   workers = omega arith;
   fronts = (record { number = omega arith; sources = refl; systems = refl }, (record { number = omega arith; sources = refl; systems = refl }, tt));
   muxes = (record { src = omega arith; freq = omega arith; sr = omega arith }, (record { src = omega arith; freq = omega arith; sr = omega arith }, tt));
+  files = (name 97 46 116 115 (omega arith) (omega arith) (omega arith) (omega arith), (name 98 46 116 115 (omega arith) (omega arith) (omega arith) (omega arith), tt));
 }
 
 pub runs_are_legal : RunsAreLegal

@@ -153,7 +153,7 @@ by_event : (c : Config) (st : State) (g : Readings) (caller : ℕ) (answer : Ans
 by_event c st g caller answer out a (Asked peer draw r) is fits = agrees_request c st g a caller peer draw r answer out fits
 by_event c st g caller answer out a (Got peer draw r) is fits = agrees_get c st g caller peer draw r answer out a fits
 by_event c st g caller answer out a (Tick now) is fits = agrees_tick c st g caller now answer out a
-by_event c st g caller answer out a (Packet front tune packet) is fits = agrees_packet c st g a caller front tune packet answer out is.2
+by_event c st g caller answer out a (Packet front tune packet) is fits = agrees_packet c st g a caller front tune packet answer out is.2.packet_is
 by_event c st g caller answer out a (Ended front tune) is fits =
     subst (Agrees c (step c st (Ended front tune)).state) (sym (ended_read c g a.free caller answer out front tune)) (agrees_ended_row c st g (λ r. is_current st front tune && r.number == front) a)
 by_event c st g caller answer out a (Ask front) is fits = subst (Agrees c st) (sym (ask_read c g a.free caller answer out front)) a

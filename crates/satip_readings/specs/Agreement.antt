@@ -60,6 +60,8 @@ pub record IsAsRead (c : Config) (st : State) (g : Readings) : Type 0 where
   -- the stream of each number, with its tuning, its front end and its PIDs, and no other stream
   pub streams : (number : ℕ) → stream_of st number ≡ option_map (stream_told g) (home_of_number g number)
   pub each : (t : Stream) → Has t st.streams → stream_of st t.number ≡ Some t
+  -- two living streams have different numbers
+  pub numbers : (m n : Made) → Has m (living g) → Has n (living g) → g.number m.home ≡ g.number n.home → m.home ≡ n.home
   pub owners : (number : ℕ) → option_map (λ s. s.id) (owner_of st number) ≡ owner_told g number
   pub fronts : map (λ r. r.number) st.rows ≡ map (λ front. front.number) c.fronts
   pub tunes : (front : ℕ) → tune_at st front ≡ g.tune front

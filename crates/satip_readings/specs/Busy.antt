@@ -1,10 +1,10 @@
 -- When a request is told that no front end is to be had.
-use Rattle.std.specs.Prelude.{ℕ, ◌≡◌, ◌&&◌, Bool, true, List, [], ◌∷◌, ◌++◌, not, is_none, Option, Some, None, option_map, option_and_then, unwrap_or}
+use Rattle.std.specs.Prelude.{ℕ, ◌≡◌, true, List, [], ◌∷◌, ◌++◌, Option, Some, None, option_and_then, unwrap_or}
 use Rattle.std.specs.Option.{option_map_or}
-use Rattle.satip_pids.specs.Pids.{Pids, Only}
+use Rattle.satip_pids.specs.Pids.{Only}
 use Rattle.satip_tune.specs.Frontends.{mux_of}
 use Rattle.satip_fronts.specs.Choice.{blocked}
-use Rattle.satip_query.specs.declared.bodies.RefusalBody.TheVariants.{NotOwner, NoMoreSessions, NoMoreFrontends}
+use Rattle.satip_query.specs.declared.bodies.RefusalBody.TheVariants.{NoMoreFrontends}
 use Rattle.satip_rtsp.specs.Replies.{text_reply}
 use Rattle.satip_http.specs.Heads.{http_refusal}
 use Rattle.satip_plain.specs.Types.{SessionId, Config, Draw, Tuning, Query, Request, HttpRequest}
@@ -12,44 +12,18 @@ use Rattle.satip_plain.specs.declared.setting.Setting.{Setting}
 use Rattle.satip_plain.specs.declared.events.Event.{Event}
 use Rattle.satip_plain.specs.declared.events.Event.TheVariants.{Request as Asked, Get as Got}
 use Rattle.satip_plain.specs.State.{State, Stream}
-use Rattle.satip_plain.specs.Streams.{to_set, asked_pids, changed_tuning}
-use Rattle.satip_plain.specs.Refusals.{Refused, first_given, where_true, plainly, telling, of_message, of_http_message, of_tuning, of_pids, key_missing, is_full, session_missing, stream_missing, stream_of_another, not_owner, stream_meant, names_none, is_setup, changes, makes_session}
+use Rattle.satip_plain.specs.Streams.{to_set}
+use Rattle.satip_plain.specs.Refusals.{Refused, first_given, message_before, change_before, get_before, stream_meant, changes, makes_session}
 use Rattle.satip_plain.specs.Histories.{Item, Legal, after}
 use Rattle.satip_plain.specs.Readings.{Readings, home_of_number, named_in, next_made, outlook_in, readings}
 
--- the causes before this one, in their order, for a query of a stream that had this tuning and these PIDs
-abbrev pub change_before : State → Option Tuning → Pids → Bool → Query → List (Option Refused)
-change_before st tuning pids makes query =
-    key_missing tuning query.change
-    ∷ of_pids (asked_pids pids query)
-    ∷ where_true (makes && is_full st) (telling 503 NoMoreSessions)
-    ∷ []
-
+-- what refuses a SETUP or PLAY before a front end is looked for: the lines of the decision but its last
 abbrev pub query_before : State → Request → Option Stream → List (Option Refused)
 query_before st r None = change_before st None (Only []) (makes_session r) r.query
 query_before st r (Some t) = change_before st t.tuning t.pids (makes_session r) r.query
 
--- those of any request
-abbrev pub message_before : State → Request → List (Option Refused)
-message_before st r =
-    option_map of_message r.refusal
-    ∷ where_true (session_missing st r) (plainly 454)
-    ∷ where_true (stream_missing st r) (plainly 404)
-    ∷ where_true (stream_of_another st r) (plainly 454)
-    ∷ where_true (not_owner st r) (telling 403 NotOwner)
-    ∷ where_true (is_setup r.method && not (names_none r.session) && is_none r.stream) (plainly 455)
-    ∷ where_true (is_setup r.method && is_none r.ports) (plainly 461)
-    ∷ []
-
 abbrev pub all_before : State → Request → List (Option Refused)
 all_before st r = message_before st r ++ query_before st r (stream_meant st r)
-
--- and those of an HTTP request
-abbrev pub get_before : State → HttpRequest → List (Option Refused)
-get_before st r =
-    option_map of_http_message r.refusal
-    ∷ of_tuning (changed_tuning None r.query.change)
-    ∷ change_before st None (Only []) true r.query
 
 -- the stream that a SETUP or PLAY is about, as read: that of the named number, else that of the named session, else
 -- the one that it would found

@@ -4,6 +4,7 @@ ghost use Rattle.std.specs.Prelude.{◌≡◌, ◌+◌, min, false};
 
 use satip_world::Clock;
 use std::marker::Model;
+use std::time;
 use std::time::{Instant, SystemTime, UNIX_EPOCH};
 
 /// The moment from which the clocks of a server count: Unix time in milliseconds, and what a
@@ -15,24 +16,27 @@ pub struct ClockStart {
 }
 
 impl ClockStart {
-    /// Reads both clocks of the system. Unix time is 0 where it can't be read.
-    pub fn read(rt: &HostRuntime) -> ClockStart {
+    /// Reads both clocks of a system. Unix time is 0 where it can't be read.
+    pub fn read(clocks: &impl time::Clock) -> ClockStart {
         ClockStart {
-            unix_ms: read_unix(rt).unwrap_or(0),
-            since: Instant::now(rt).ok(),
+            unix_ms: read_unix(clocks).unwrap_or(0),
+            since: Instant::now(clocks).ok(),
         }
+    }
+
+    // Milliseconds since then; `None` where the monotonic clock can't be read.
+    fn elapsed_ms(&self, clocks: &impl time::Clock) -> Option<u64> {
+        u64::try_from(self.since?.elapsed(clocks).ok()?.as_millis()).ok()
     }
 }
 
 // Milliseconds of Unix time; `None` where the clock can't be read.
-fn read_unix(rt: &HostRuntime) -> Option<u64> {
-    let since = SystemTime::now(rt).ok()?.duration_since(UNIX_EPOCH).ok()?;
+fn read_unix(clocks: &impl time::Clock) -> Option<u64> {
+    let since = SystemTime::now(clocks)
+        .ok()?
+        .duration_since(UNIX_EPOCH)
+        .ok()?;
     u64::try_from(since.as_millis()).ok()
-}
-
-// Milliseconds since an instant; `None` where the monotonic clock can't be read.
-fn read_elapsed(rt: &HostRuntime, since: Option<Instant>) -> Option<u64> {
-    u64::try_from(since?.elapsed(rt).ok()?.as_millis()).ok()
 }
 
 // The moment that lies so many milliseconds behind a start.
@@ -42,14 +46,43 @@ fn moment(start: u64, elapsed: u64) -> u64
     start.saturating_add(elapsed)
 }
 
+/// Time in milliseconds that goes on from a start by a monotonic clock, and shows its last reading
+/// again where that clock can't be read. The first reading is the start.
+#[derive(Clone, Copy, Drop)]
+pub(crate) struct SteadyTime {
+    start: ClockStart,
+    last: u64,
+}
+
+impl SteadyTime {
+    pub(crate) fn new(start: ClockStart) -> SteadyTime
+        ensures start { result.last ≡ start.unix_ms }
+    {
+        SteadyTime {
+            start,
+            last: start.unix_ms,
+        }
+    }
+
+    /// Reads on.
+    pub(crate) fn read(&mut self, clocks: &impl time::Clock) -> u64
+        ensures last { result ≡ self.new.last }
+        ensures start { self.new.start ≡ self.old.start }
+    {
+        if let Some(elapsed) = self.start.elapsed_ms(clocks) {
+            self.last = moment(self.start.unix_ms, elapsed);
+        }
+        self.last
+    }
+}
+
 /// A clock in milliseconds of Unix time that goes on by the system's monotonic clock, so that no
 /// step of the system's time moves it. Where the monotonic clock can't be read it shows its last
 /// reading again, which is the start before the first.
 #[derive(Drop)]
 pub struct RealClock {
     rt: HostRuntime,
-    start: ClockStart,
-    last: u64,
+    time: SteadyTime,
 }
 
 impl Model for RealClock {
@@ -70,8 +103,7 @@ impl RealClock {
     {
         RealClock {
             rt,
-            start,
-            last: start.unix_ms,
+            time: SteadyTime::new(start),
         }
     }
 }
@@ -80,9 +112,6 @@ impl Clock for RealClock {
     ghost dial = { λ c. c };
 
     fn now(&mut self) -> u64 {
-        if let Some(elapsed) = read_elapsed(&self.rt, self.start.since) {
-            self.last = moment(self.start.unix_ms, elapsed);
-        }
-        self.last
+        self.time.read(&self.rt)
     }
 }

@@ -5,22 +5,20 @@ ghost use Rattle.std.specs.Io.{ReadsAtMost};
 
 use crate::errors::is_passing;
 use crate::options::prepare;
-use crate::readiness::{has_input, takes_output};
+use crate::readiness::has_input;
+use crate::sending::send_all;
 use crate::silence::Silence;
 use crate::stopwatch::Stopwatch;
 use mio::net::TcpStream;
 use satip_base::Put;
 use satip_world::{Conn, ConnEnd, Received};
 use std::io;
-use std::io::{ErrorKind, Read, Write};
+use std::io::{ErrorKind, Read};
 use std::marker::Model;
 use std::net::Shutdown;
 
 // How long one wait for the client is, in milliseconds.
 const WAIT_MS: i32 = 50;
-
-// How many such waits without progress a send takes at most.
-const SEND_WAITS: u32 = 200;
 
 // How long a closing connection waits for the client's end, in milliseconds.
 const LAST_WAIT_MS: u64 = 500;
@@ -43,38 +41,6 @@ impl Socket {
             return Err(io::Error::from(ErrorKind::WouldBlock));
         }
         self.stream.read(buf)
-    }
-
-    // Writes what the stream takes at once, and gives the rest.
-    fn advance<'b>(&mut self, bytes: &'b [u8]) -> io::Result<&'b [u8]> {
-        match self.stream.write(bytes) {
-            Ok(count) => Ok(bytes.split_at(count).1),
-            Err(error) if is_passing(&error) => Ok(bytes),
-            Err(error) => Err(error),
-        }
-    }
-
-    // Writes all, and gives up after 200 waits in which the client took nothing.
-    fn write(&mut self, bytes: &[u8]) -> io::Result<()> {
-        let mut rest = self.advance(bytes)?;
-        let mut waits = 0u32;
-        for _ in 0..u64::MAX {
-            if rest.is_empty() {
-                return Ok(());
-            }
-            if waits >= SEND_WAITS {
-                break;
-            }
-            takes_output(&self.stream, WAIT_MS);
-            let left = self.advance(rest)?;
-            waits = if left.len() < rest.len() {
-                0
-            } else {
-                waits.saturating_add(1)
-            };
-            rest = left;
-        }
-        Err(io::Error::from(ErrorKind::TimedOut))
     }
 
     // Ends the output, and drops what comes in until the client ends its own, up to 500 ms: a
@@ -208,7 +174,7 @@ impl Conn for RealConn {
 
     fn send(&mut self, bytes: &[u8]) -> Put {
         self.silence.answer();
-        if self.socket.write(bytes).is_ok() {
+        if send_all(&mut self.socket.stream, bytes).is_ok() {
             return Put::Whole;
         }
         self.send_faults = self.send_faults.saturating_add(1);

@@ -3,10 +3,10 @@
 use crate::addresses::{socket_addr, socket_addr_v4};
 use crate::errors::lacks_room;
 use crate::options::widen;
-use crate::report::{Throttle, report_line};
 use lru::LruCache;
 use mio::net::UdpSocket;
 use satip_base::Address;
+use satip_report::{Throttle, report_line};
 use std::io;
 use std::net::{SocketAddr, SocketAddrV4};
 use std::num::NonZeroUsize;

@@ -6,9 +6,9 @@ ghost use Rattle.satip_world.specs.Lines.{fresh_line};
 use crate::connection::RealConn;
 use crate::errors::{ends_listening, lacks_descriptors};
 use crate::listeners::{Listeners, Visitor};
-use crate::report::report_line;
 use crate::silence::Silence;
 use satip_base::Peer;
+use satip_report::report_line;
 use satip_world::{ConnEnd, Door, DoorKind, Doors};
 use std::marker::Model;
 use std::sync::Arc;
@@ -25,8 +25,9 @@ const SHORTAGE_MS: u64 = 50;
 const LOOKS: u32 = 64;
 
 /// The doors of one worker. They wait up to 500 ms for the next connection at the RTSP listener or
-/// at the HTTP listener, and are idle where none came, or where the system has no place for it, after
-/// 50 ms. Only the faults of a listener itself are theirs (EBADF, EINVAL and ENOTSOCK of accept(2)).
+/// at the HTTP listener, and are idle where none came, or where the system has no place for it,
+/// after 50 ms. Only the faults of a listener itself are theirs (EBADF, EINVAL and ENOTSOCK of
+/// accept(2)).
 ///
 /// A connection of which nothing can be read but its end is dropped. One that is handed back is
 /// closed.

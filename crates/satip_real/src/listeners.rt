@@ -3,10 +3,10 @@
 use crate::addresses::{peer_of, socket_addr};
 use crate::errors::{ends_listening, is_passing};
 use crate::readiness::have_input;
-use crate::report::Throttle;
 use libc::net as c;
 use mio::net::{TcpListener, TcpStream};
 use satip_base::{Address, Peer};
+use satip_report::Throttle;
 use satip_world::DoorKind;
 use std::io;
 use std::net::Net;

@@ -1,15 +1,18 @@
-//! The adapters over loopback.
+//! The adapters over loopback and the system's clocks.
 
+use crate::clock::SteadyTime;
+use crate::sending::{Unhurried, send_all};
 use crate::*;
 use satip_base::{Address, Peer, Put};
-use satip_world::{Conn, ConnEnd, Door, DoorKind, Doors, Outlet, Received};
-use std::io::{Read, Write};
+use satip_world::{Clock, Conn, ConnEnd, Door, DoorKind, Doors, Outlet, Received};
+use std::io::{ErrorKind, Read, Write};
 use std::net::{Ipv4Addr, Shutdown, SocketAddr, TcpStream, UdpSocket};
+use std::process::Abort;
 use std::sync::atomic::{AtomicU64, Ordering};
 use std::sync::{Arc, Wait};
 use std::test::Fail;
 use std::time::Duration;
-use std::{fs, thread};
+use std::{io, thread, time};
 
 const LOCALHOST: u32 = 0x7f00_0001;
 
@@ -50,34 +53,66 @@ fn local(port: u16) -> Address {
     }
 }
 
-#[test]
-fn a_connection_is_heard_and_answered(rt: HostRuntime) -> Result<(), Fail> {
-    let alloc = rt.alloc();
+// The next client at the doors.
+fn next_client(doors: &mut RealDoors) -> Result<(DoorKind, Peer, RealConn), Fail> {
+    match next_come(doors) {
+        Door::Came { kind, peer, conn } => Ok((kind, peer, conn)),
+        _ => Err(Fail::from("no connection")),
+    }
+}
+
+// Whether doors give nothing within one wait.
+fn are_idle(doors: &mut RealDoors) -> bool {
+    matches!(doors.next(), Door::Idle)
+}
+
+// Whether doors end.
+fn end(doors: &mut RealDoors) -> bool {
+    matches!(next_come(doors), Door::End)
+}
+
+// Doors of a new server, and where its listeners for RTSP and for HTTP are.
+fn open_doors(
+    rt: HostRuntime,
+    timeout_s: u32,
+    limit: u32,
+) -> Result<(RealDoors, SocketAddr, SocketAddr), Fail> {
     let listeners = listen(&rt, 0, 0)?;
-    let at = SocketAddr::from((Ipv4Addr::LOCALHOST, listeners.http_port()?));
-    let mut doors = RealDoors::new(rt, Arc::new(alloc, listeners)?, 60, 1);
-    assert!(rt; matches!(doors.next(), Door::Idle));
-    let mut client = TcpStream::connect(&rt, at)?;
-    let Door::Came { kind, peer, conn } = next_come(&mut doors) else {
-        return Err(Fail::from("no connection"));
-    };
-    let mut conn = conn;
-    assert!(rt; kind == DoorKind::Http && peer == Peer { ip: LOCALHOST });
+    let rtsp = SocketAddr::from((Ipv4Addr::LOCALHOST, listeners.rtsp_port()?));
+    let http = SocketAddr::from((Ipv4Addr::LOCALHOST, listeners.http_port()?));
+    let listeners = Arc::new(rt.alloc(), listeners)?;
+    let doors = RealDoors::new(rt, listeners, timeout_s, limit);
+    Ok((doors, rtsp, http))
+}
+
+// Asks and is answered, and leaves.
+fn ask_and_leave(rt: &impl Abort, client: TcpStream, conn: &mut RealConn) -> Result<(), Fail> {
+    let mut client = client;
     let mut buf = [0; 16];
-    assert_eq!(rt; conn.receive(&mut buf), Received::Idle);
+    assert_eq!(*rt; conn.receive(&mut buf), Received::Idle);
     client.write_all(b"GET")?;
-    assert_eq!(rt; receive(&mut conn, &mut buf), Received::Got(3));
-    assert!(rt; buf.starts_with(b"GET"));
-    assert_eq!(rt; conn.send(b"200"), Put::Whole);
+    assert_eq!(*rt; receive(conn, &mut buf), Received::Got(3));
+    assert!(*rt; buf.starts_with(b"GET"));
+    assert_eq!(*rt; conn.send(b"200"), Put::Whole);
     let mut reply = [0; 3];
     client.read_exact(&mut reply)?;
-    assert_eq!(rt; reply, *b"200");
-    drop(client);
-    assert_eq!(rt; receive(&mut conn, &mut buf), Received::End);
-    assert_eq!(rt; receive(&mut conn, &mut buf), Received::End);
+    assert_eq!(*rt; reply, *b"200");
+    Ok(())
+}
+
+#[test]
+fn a_connection_is_heard_and_answered(rt: HostRuntime) -> Result<(), Fail> {
+    let (mut doors, _, http) = open_doors(rt, 60, 1)?;
+    assert!(rt; are_idle(&mut doors));
+    let client = TcpStream::connect(&rt, http)?;
+    let (kind, peer, mut conn) = next_client(&mut doors)?;
+    assert!(rt; kind == DoorKind::Http && peer == Peer { ip: LOCALHOST });
+    ask_and_leave(&rt, client, &mut conn)?;
+    for _ in 0..2 {
+        assert_eq!(rt; receive(&mut conn, &mut [0; 16]), Received::End);
+    }
     doors.back(conn, kind, peer, ConnEnd::Done);
-    assert!(rt; matches!(doors.next(), Door::End));
-    assert!(rt; matches!(doors.next(), Door::End));
+    assert!(rt; end(&mut doors) && end(&mut doors));
     Ok(())
 }
 
@@ -100,23 +135,17 @@ fn read_in_pieces(stream: TcpStream, wanted: usize) -> usize {
 
 #[test]
 fn a_long_reply_waits_for_its_client(rt: HostRuntime) -> Result<(), Fail> {
-    let alloc = rt.alloc();
-    let listeners = listen(&rt, 0, 0)?;
-    let at = SocketAddr::from((Ipv4Addr::LOCALHOST, listeners.rtsp_port()?));
-    let mut doors = RealDoors::new(rt, Arc::new(alloc, listeners)?, 60, 0);
-    let client = TcpStream::connect(&rt, at)?;
-    let Door::Came { kind, peer, conn } = next_come(&mut doors) else {
-        return Err(Fail::from("no connection"));
-    };
-    let mut conn = conn;
+    let (mut doors, rtsp, _) = open_doors(rt, 60, 0)?;
+    let client = TcpStream::connect(&rt, rtsp)?;
+    let (kind, peer, mut conn) = next_client(&mut doors)?;
     assert!(rt; kind == DoorKind::Rtsp);
-    let text = vec![in alloc; 7; 16777216]?;
+    let text = vec![in rt.alloc(); 7; 16777216]?;
     let reader = thread::spawn(&rt, move || read_in_pieces(client, 16777216))?;
     assert_eq!(rt; conn.send(&text), Put::Whole);
     assert_eq!(rt; reader.join(&rt), 16777216);
     assert_eq!(rt; sends_until_a_failure(&mut conn), Put::Failed);
     doors.back(conn, kind, peer, ConnEnd::WriteFault);
-    assert!(rt; matches!(doors.next(), Door::Idle));
+    assert!(rt; are_idle(&mut doors));
     Ok(())
 }
 
@@ -129,45 +158,27 @@ fn sends_until_a_failure<C: Conn>(conn: &mut C) -> Put {
     Put::Whole
 }
 
-// Doors of a new server, and where its listener for RTSP is.
-fn open_doors(
-    rt: HostRuntime,
-    timeout_s: u32,
-    limit: u32,
-) -> Result<(RealDoors, SocketAddr), Fail> {
-    let listeners = listen(&rt, 0, 0)?;
-    let at = SocketAddr::from((Ipv4Addr::LOCALHOST, listeners.rtsp_port()?));
-    let listeners = Arc::new(rt.alloc(), listeners)?;
-    Ok((RealDoors::new(rt, listeners, timeout_s, limit), at))
-}
-
 #[test]
 fn doors_give_exactly_as_many_as_their_limit(rt: HostRuntime) -> Result<(), Fail> {
     for limit in [2, 3] {
-        let (mut doors, at) = open_doors(rt, 60, limit)?;
+        let (mut doors, rtsp, _) = open_doors(rt, 60, limit)?;
         let mut clients = Vec::new(rt.alloc());
         for _ in 0..4 {
-            clients.push(TcpStream::connect(&rt, at)?)?;
+            clients.push(TcpStream::connect(&rt, rtsp)?)?;
         }
-        for place in 0..limit {
-            assert!(rt;
-                matches!(next_come(&mut doors), Door::Came { .. }),
-                "{place} of {limit}"
-            );
+        for _ in 0..limit {
+            let _ = next_client(&mut doors)?;
         }
-        assert!(rt; matches!(next_come(&mut doors), Door::End), "{limit}");
-        assert!(rt; matches!(next_come(&mut doors), Door::End), "{limit}");
+        assert!(rt; end(&mut doors) && end(&mut doors), "{limit}");
     }
     Ok(())
 }
 
 #[test]
 fn a_silent_client_is_given_up(rt: HostRuntime) -> Result<(), Fail> {
-    let (mut doors, at) = open_doors(rt, 1, 0)?;
-    let mut client = TcpStream::connect(&rt, at)?;
-    let Door::Came { mut conn, .. } = next_come(&mut doors) else {
-        return Err(Fail::from("no connection"));
-    };
+    let (mut doors, rtsp, _) = open_doors(rt, 1, 0)?;
+    let mut client = TcpStream::connect(&rt, rtsp)?;
+    let (_, _, mut conn) = next_client(&mut doors)?;
     let mut buf = [0; 16];
     client.write_all(b"ask")?;
     assert_eq!(rt; receive(&mut conn, &mut buf), Received::Got(3));
@@ -178,18 +189,16 @@ fn a_silent_client_is_given_up(rt: HostRuntime) -> Result<(), Fail> {
 
 #[test]
 fn a_client_that_left_is_dropped(rt: HostRuntime) -> Result<(), Fail> {
-    let (mut doors, at) = open_doors(rt, 60, 0)?;
-    drop(TcpStream::connect(&rt, at)?);
-    let mut client = TcpStream::connect(&rt, at)?;
+    let (mut doors, rtsp, _) = open_doors(rt, 60, 0)?;
+    drop(TcpStream::connect(&rt, rtsp)?);
+    let mut client = TcpStream::connect(&rt, rtsp)?;
     client.write_all(b"ask")?;
     client.shutdown(Shutdown::Write)?;
-    let Door::Came { mut conn, .. } = next_come(&mut doors) else {
-        return Err(Fail::from("no connection"));
-    };
+    let (_, _, mut conn) = next_client(&mut doors)?;
     let mut buf = [0; 16];
     assert_eq!(rt; receive(&mut conn, &mut buf), Received::Got(3));
     assert_eq!(rt; receive(&mut conn, &mut buf), Received::End);
-    assert!(rt; matches!(doors.next(), Door::Idle));
+    assert!(rt; are_idle(&mut doors));
     Ok(())
 }
 
@@ -207,12 +216,9 @@ fn reply_after_a_megabyte(client: TcpStream) -> bool {
 
 #[test]
 fn a_client_that_still_sends_gets_its_last_reply(rt: HostRuntime) -> Result<(), Fail> {
-    let (mut doors, at) = open_doors(rt, 60, 0)?;
-    let client = TcpStream::connect(&rt, at)?;
-    let Door::Came { kind, peer, conn } = next_come(&mut doors) else {
-        return Err(Fail::from("no connection"));
-    };
-    let mut conn = conn;
+    let (mut doors, rtsp, _) = open_doors(rt, 60, 0)?;
+    let client = TcpStream::connect(&rt, rtsp)?;
+    let (kind, peer, mut conn) = next_client(&mut doors)?;
     let asker = thread::spawn(&rt, move || reply_after_a_megabyte(client))?;
     assert_eq!(rt; receive(&mut conn, &mut [0; 16]), Received::Got(16));
     assert_eq!(rt; conn.send(b"413"), Put::Whole);
@@ -250,15 +256,18 @@ fn client(rt: &HostRuntime) -> Result<(UdpSocket, u16), Fail> {
     Ok((socket, port))
 }
 
+// The only outlet of a server.
+fn open_outlet<R: Wait + Drop>(host: HostRuntime, rt: R) -> Result<RealOutlet<R>, Fail> {
+    let shared = Arc::new(host.alloc(), SharedSocket::bind(host, LOCALHOST)?)?;
+    Ok(RealOutlet::new(rt, shared))
+}
+
 #[test]
 fn a_datagram_arrives(rt: HostRuntime) -> Result<(), Fail> {
-    let shared = Arc::new(rt.alloc(), SharedSocket::bind(rt, LOCALHOST)?)?;
+    let mut outlet = open_outlet(rt, rt)?;
     let (socket, port) = client(&rt)?;
-    let mut outlet = RealOutlet::new(rt, shared);
-    outlet.lock();
     assert_eq!(rt; post(&mut outlet, port, b"abc"), Put::Whole);
     assert_eq!(rt; post(&mut outlet, port, &[0; 65536]), Put::Failed);
-    outlet.unlock();
     let mut buf = [0; 16];
     assert_eq!(rt; socket.recv_from(&mut buf)?.0, 3);
     assert!(rt; buf.starts_with(b"abc"));
@@ -267,10 +276,7 @@ fn a_datagram_arrives(rt: HostRuntime) -> Result<(), Fail> {
 
 #[test]
 fn a_datagram_after_a_refused_one_arrives(rt: HostRuntime) -> Result<(), Fail> {
-    let mut outlet = RealOutlet::new(
-        rt,
-        Arc::new(rt.alloc(), SharedSocket::bind(rt, LOCALHOST)?)?,
-    );
+    let mut outlet = open_outlet(rt, rt)?;
     let (socket, port) = client(&rt)?;
     drop(socket);
     assert_eq!(rt; post(&mut outlet, port, b"lost"), Put::Whole);
@@ -284,10 +290,7 @@ fn a_datagram_after_a_refused_one_arrives(rt: HostRuntime) -> Result<(), Fail> {
 
 #[test]
 fn more_destinations_than_sockets_are_sent_to(rt: HostRuntime) -> Result<(), Fail> {
-    let mut outlet = RealOutlet::new(
-        rt,
-        Arc::new(rt.alloc(), SharedSocket::bind(rt, LOCALHOST)?)?,
-    );
+    let mut outlet = open_outlet(rt, rt)?;
     let mut clients = Vec::new(rt.alloc());
     for _ in 0..130 {
         clients.push(client(&rt)?)?;
@@ -348,4 +351,121 @@ fn keys_differ(rt: HostRuntime) -> Result<(), Fail> {
     };
     assert!(rt; one != other);
     Ok(())
+}
+
+// What the clocks of a system show; the monotonic one can't be read where it is `None`.
+#[derive(Drop)]
+struct SystemClocks {
+    unix_s: u64,
+    monotonic_ms: Option<u64>,
+}
+
+impl time::Clock for SystemClocks {
+    fn monotonic(&self) -> io::Result<Duration> {
+        match self.monotonic_ms {
+            Some(millis) => Ok(Duration::from_millis(millis)),
+            None => Err(io::Error::from(ErrorKind::Other)),
+        }
+    }
+
+    fn since_1970(&self) -> io::Result<Duration> {
+        Ok(Duration::from_secs(self.unix_s))
+    }
+}
+
+#[test]
+fn no_step_of_the_wall_clock_moves_the_session_clock(rt: HostRuntime) {
+    let start = ClockStart::read(&SystemClocks {
+        unix_s: 1_800_000_000,
+        monotonic_ms: Some(5_000),
+    });
+    let mut time = SteadyTime::new(start);
+    // Both clocks of the system, and the milliseconds that passed since the start: as the wall
+    // clock goes on, is a day ahead, is set right, goes a year back, and goes to 1970.
+    for (unix_s, monotonic_ms, passed_ms) in [
+        (1_800_000_001, Some(6_250), 1_250),
+        (1_800_086_402, Some(7_000), 2_000),
+        (1_800_000_003, Some(8_000), 3_000),
+        (1_768_464_004, Some(9_000), 4_000),
+        (1_900_000_000, None, 4_000),
+        (0, Some(65_000), 60_000),
+    ] {
+        let clocks = SystemClocks {
+            unix_s,
+            monotonic_ms,
+        };
+        let shown = time.read(&clocks);
+        assert_eq!(rt;
+            shown.checked_sub(1_800_000_000_000),
+            Some(passed_ms),
+            "at {unix_s}"
+        );
+    }
+}
+
+// What a clock shows before and behind a pause of 20 ms.
+fn read_around_a_pause<C: Clock>(rt: HostRuntime, clock: &mut C) -> (u64, u64) {
+    let before = clock.now();
+    thread::sleep(&rt, Duration::from_millis(20));
+    (before, clock.now())
+}
+
+#[test]
+fn the_session_clock_goes_on(rt: HostRuntime) {
+    let start = ClockStart::read(&rt);
+    let (before, after) = read_around_a_pause(rt, &mut RealClock::new(rt, start));
+    assert!(rt; before > 1_700_000_000_000 && before.saturating_add(19) <= after);
+    let (later, _) = read_around_a_pause(rt, &mut RealClock::new(rt, start));
+    assert!(rt; after <= later && later <= after.saturating_add(5_000));
+}
+
+// A client that takes one byte behind each so many waits.
+#[derive(Drop)]
+struct SlowReader {
+    every: u32,
+    waits: u32,
+    taken: u8,
+}
+
+impl Write for SlowReader {
+    fn write(&mut self, buf: &[u8]) -> io::Result<usize> {
+        match buf.first() {
+            Some(byte) if self.waits >= self.every && *byte == self.taken => {
+                self.waits = 0;
+                self.taken = self.taken.saturating_add(1);
+                Ok(1)
+            }
+            _ => Err(io::Error::from(ErrorKind::WouldBlock)),
+        }
+    }
+
+    fn flush(&mut self) -> io::Result<()> {
+        Ok(())
+    }
+}
+
+impl Unhurried for SlowReader {
+    fn wait(&mut self) {
+        self.waits = self.waits.saturating_add(1);
+    }
+}
+
+#[test]
+fn a_send_goes_on_while_its_client_takes_bytes(rt: HostRuntime) {
+    // 5 bytes, each behind so many waits; whether all are taken, and how many of them.
+    for (every, whole, taken) in [
+        (1, true, 5),
+        (150, true, 5),
+        (200, true, 5),
+        (201, false, 0),
+    ] {
+        let mut reader = SlowReader {
+            every,
+            waits: 0,
+            taken: 0,
+        };
+        let sent = send_all(&mut reader, &[0, 1, 2, 3, 4]);
+        assert_eq!(rt; sent.is_ok(), whole, "each behind {every} waits");
+        assert_eq!(rt; reader.taken, taken, "each behind {every} waits");
+    }
 }

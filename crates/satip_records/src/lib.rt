@@ -11,8 +11,6 @@ mod records;
 mod requests;
 mod room;
 mod rows;
-#[cfg(test)]
-mod tests;
 
 pub use laws::{no_part_begins_another, parts_are_read_again};
 pub use lines::{write_entry, write_start};

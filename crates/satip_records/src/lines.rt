@@ -20,7 +20,8 @@ pub fn write_entry(
     out: &Out,
     line: &mut LineRoom,
 )
-    ensures line { line.new.text ≡ entry_line place caller event.now answer.now out.now.reply out.now.datagrams }
+    ensures line { line.new.text ≡ entry_line place caller event.now answer.now out.now.reply
+        out.now.datagrams }
     ensures short { length line.new.text < 800000 }
 {
     known_event(event);

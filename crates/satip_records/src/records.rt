@@ -198,8 +198,10 @@ fn encode_bytes(bytes: &[u8], line: &mut LineRoom)
 #[tactic(auto, using(crate::proofs::Writing::writing_steps))]
 fn encode_datagram(to: Address, bytes: &[u8], line: &mut LineRoom)
     requires short { length bytes.now < 2 ^ 32 }
-    requires room { 2 * length (datagram_text (record { to = to; bytes = bytes.now })) ≤ line.old.spare }
-    ensures wrote { WroteHex line.old (datagram_text (record { to = to; bytes = bytes.now })) line.new }
+    requires room { 2 * length (datagram_text (record { to = to; bytes = bytes.now }))
+        ≤ line.old.spare }
+    ensures wrote { WroteHex line.old (datagram_text (record { to = to; bytes = bytes.now }))
+        line.new }
 {
     encode_address(to, line);
     encode_bytes(bytes, line);
@@ -220,8 +222,10 @@ fn encode_datagrams(out: &Out, line: &mut LineRoom)
 
 #[tactic(auto, using(crate::proofs::Writing::writing_steps, crate::proofs::Lists::list_steps), unfolding(crate::specs::Records::record_text))]
 pub fn encode_record(event: &Event, answer: Answer, out: &Out, line: &mut LineRoom)
-    requires room { 2 * length (record_text event.now answer out.now.reply out.now.datagrams) ≤ line.old.spare }
-    ensures wrote { WroteHex line.old (record_text event.now answer out.now.reply out.now.datagrams) line.new }
+    requires room { 2 * length (record_text event.now answer out.now.reply out.now.datagrams)
+        ≤ line.old.spare }
+    ensures wrote { WroteHex line.old (record_text event.now answer out.now.reply out.now.datagrams)
+        line.new }
 {
     let count = out.count();
     encode_event(event, line);

@@ -54,7 +54,8 @@ pub fn of_change(
 ) -> Option<Refused>
     ensures known { IfSome result (λ refused. IsStatus refused.status) }
     ensures refused { (c : Config) (st : State) → StandsFor c parts.now st
-        → told_if result ≡ first_given (change_refused c st (outlook_for c st stream) tuning pids.now makes query.now) }
+        → told_if result ≡ first_given (change_refused c st (outlook_for c st stream) tuning
+        pids.now makes query.now) }
 {
     if let Some(refused) = key_missing(tuning, &query.change) {
         return Some(refused);
@@ -83,7 +84,8 @@ fn makes_session(request: &Request) -> bool
 pub fn of_query(parts: &Parts, request: &Request) -> Option<Refused>
     ensures known { IfSome result (λ refused. IsStatus refused.status) }
     ensures refused { (c : Config) (st : State) → StandsFor c parts.now st
-        → told_if result ≡ first_given (query_refused c st request.now (stream_meant_by st request.now)) }
+        → told_if result ≡ first_given (query_refused c st request.now
+        (stream_meant_by st request.now)) }
 {
     let makes = makes_session(request);
     match stream_meant(parts, request) {

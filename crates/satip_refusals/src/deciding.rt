@@ -21,11 +21,11 @@ use satip_query::RefusalBody;
 use satip_rtsp::Request;
 use satip_state::Parts;
 
-/// Why a request is refused; None where it is accepted. The causes count in this order: the message itself;
-/// a session that doesn't live (454); a stream that doesn't live (404); a stream of another session (454);
-/// a stream of another owner (403); SETUP in a session without a stream (455) or without ports (461); and
-/// for SETUP and PLAY their query: a missing key (400), PIDs (403, 503), no more sessions (503) or front
-/// ends (503).
+/// Why a request is refused; None where it is accepted. The causes count in this order: the message
+/// itself; a session that doesn't live (454); a stream that doesn't live (404); a stream of another
+/// session (454); a stream of another owner (403); SETUP in a session without a stream (455) or
+/// without ports (461); and for SETUP and PLAY their query: a missing key (400), PIDs (403, 503),
+/// no more sessions (503) or front ends (503).
 pub fn decide(parts: &Parts, request: &Request) -> Option<Refused>
     ensures known { IfSome result (λ refused. IsStatus refused.status) }
     ensures decided { (c : Config) (st : State) → StandsFor c parts.now st
@@ -89,7 +89,8 @@ fn refuse_asked(parts: &Parts, request: &Request) -> Option<Refused>
     }
 }
 
-/// Why an HTTP request is refused; None where it is accepted. It always asks for a tuning of a new stream.
+/// Why an HTTP request is refused; None where it is accepted. It always asks for a tuning of a new
+/// stream.
 pub fn decide_get(parts: &Parts, request: &HttpRequest) -> Option<Refused>
     ensures known { IfSome result (λ refused. IsStatus refused.status) }
     ensures decided { (c : Config) (st : State) → StandsFor c parts.now st

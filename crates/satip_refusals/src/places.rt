@@ -20,7 +20,8 @@ pub fn session_named(parts: &Parts, name: SessionName) -> Option<Session>
     ensures session { (c : Config) (st : State) → StandsFor c parts.now st
         → result ≡ option_map row_of (session_named_by st name) }
     ensures rtsp { (c : Config) (st : State) → StandsFor c parts.now st
-        → IfSome result (λ row. option_map (λ s. s.http) (find (is_session row.id) st.sessions) ≡ Some false) }
+        → IfSome result (λ row. option_map (λ s. s.http) (find (is_session row.id) st.sessions)
+        ≡ Some false) }
 {
     match name {
         SessionName::Absent => None,
@@ -202,7 +203,8 @@ fn is_owner(owner: Option<SessionId>, session: Option<Session>) -> bool
     }
 }
 
-/// Whether a known key is given for a living stream by another than its owner (SAT>IP 1.2.2, 3.5.4).
+/// Whether a known key is given for a living stream by another than its owner (SAT>IP 1.2.2,
+/// 3.5.4).
 pub fn not_owner(parts: &Parts, request: &Request) -> bool
     ensures other { (c : Config) (st : State) → StandsFor c parts.now st
         → result ≡ is_not_owner st request.now }

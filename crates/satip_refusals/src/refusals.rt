@@ -100,7 +100,8 @@ pub fn of_tuning(tuning: Result<Tuning, Key>) -> Option<Refused>
 /// The refusal of a change of PIDs, where it is at fault.
 pub fn of_pids(fault: Option<PidFault>) -> Option<Refused>
     ensures known { IfSome result (λ refused. IsStatus refused.status) }
-    ensures refused { (pids : Result Pids PidFault) → fault ≡ result_err pids → told_if result ≡ pids_refused pids }
+    ensures refused { (pids : Result Pids PidFault) → fault ≡ result_err pids
+        → told_if result ≡ pids_refused pids }
 {
     match fault {
         None => None,

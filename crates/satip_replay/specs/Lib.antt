@@ -1,4 +1,3 @@
-pub mod Seen
 pub mod Reading
 pub mod Replays
 pub mod Ends

@@ -5,8 +5,6 @@ mod ends;
 mod reading;
 mod replaying;
 mod running;
-#[cfg(test)]
-mod tests;
 
 pub use ends::ReplayEnd;
 pub use replaying::{read_configuration, replay};

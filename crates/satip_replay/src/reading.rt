@@ -2,7 +2,6 @@
 
 ghost use Rattle.std.specs.Prelude.{◌≡◌, ◌<◌, ◌≤◌, ◌+◌, ◌^◌, length, MatchResult};
 ghost use Rattle.satip_base.specs.Streams.{Takes};
-ghost use Rattle.satip_replay.specs.Seen.{feed};
 ghost use Rattle.satip_replay.specs.Reading.{EndsWhole, ReadFails, GetsAtMost};
 
 use satip_base::{Source, Taken};
@@ -21,7 +20,8 @@ pub(crate) enum ReadFault {
 
 const PIECE: usize = 65536;
 
-/// Reads a source to its end, as long as it has at most `limit` bytes. At most one byte more is taken.
+/// Reads a source to its end, as long as it has at most `limit` bytes. At most one byte more is
+/// taken.
 pub(crate) fn read_whole<S: Source>(
     alloc: Global,
     source: &mut S,
@@ -30,10 +30,10 @@ pub(crate) fn read_whole<S: Source>(
     requires bounded { limit < 2 ^ 32 }
     ensures ends { MatchResult result
         (λ text. EndsWhole S.tells
-        (feed S.left S.ended S.faults S.taken source.old) (feed S.left S.ended S.faults S.taken source.new)
+        (S.feed source.old) (S.feed source.new)
         limit text.items)
         (ReadFails S.tells
-        (feed S.left S.ended S.faults S.taken source.old) (feed S.left S.ended S.faults S.taken source.new)
+        (S.feed source.old) (S.feed source.new)
         limit) }
 {
     let mut text = Vec::new(alloc);
@@ -54,7 +54,8 @@ pub(crate) fn read_whole<S: Source>(
     }
 }
 
-// How many bytes the next take may give: one at the limit, which tells whether the source is too long.
+// How many bytes the next take may give: one at the limit, which tells whether the source is too
+// long.
 fn room_for(left: usize) -> usize
     ensures some { 1 ≤ result }
     ensures within { result ≤ 65536 }
@@ -67,7 +68,7 @@ fn take_some<S: Source>(source: &mut S, buf: &mut [u8], room: usize) -> Taken
     requires some { 1 ≤ room }
     requires within { room ≤ length buf.old }
     ensures takes { Takes S.tells
-        (feed S.left S.ended S.faults S.taken source.old) (feed S.left S.ended S.faults S.taken source.new)
+        (S.feed source.old) (S.feed source.new)
         buf.new result }
     ensures room { GetsAtMost room result }
 {

@@ -3,27 +3,23 @@
 ghost use Rattle.std.specs.Prelude.{◌≡◌, ◌↔◌, ℕ, ◌+◌, ◌-◌, ◌<◌, ◌≤◌, Err, IfOk, IfErr};
 ghost use Rattle.satip_base.specs.Streams.{Rose};
 ghost use Rattle.satip_config.specs.declared.fault.ConfigFault.{ConfigFault as Fault};
-ghost use Rattle.satip_replay.specs.Seen.{feed, drain};
 ghost use Rattle.satip_replay.specs.Replays.{script_limit, configuration_limit, Configured, HasScript, IsServed, Replayed};
 ghost use Rattle.satip_replay.specs.Ends.{EndsByConfiguration, EndsByScript, EndsByInput, EndsByOutput, EndsByLength, EndsByWant, ConfigurationEnds, ScriptEnds, IsEndOf};
 
 use crate::ends::ReplayEnd;
 use crate::reading::{ReadFault, read_whole};
 use crate::running::run_script;
+use satip_base::limits::{CONFIGURATION, INPUT};
 use satip_base::{Sink, Source};
 use satip_config::{Config, ConfigFault, read_config};
 use satip_frame::Framer;
 use satip_script::check_script;
 use std::alloc::Global;
 
-const CONFIGURATION_LIMIT: usize = 1048576;
-
-const SCRIPT_LIMIT: usize = 67108864;
-
-/// Reads a configuration and then the whole input as an event script, checks every line, and only then
-/// runs the script from the moment 0 and writes the printed run. Of the configuration at most 1048577
-/// bytes are taken, of the input at most 67108865. It always returns. The formats stand in docs/PROTOCOL.md
-/// under Configuration and Event scripts.
+/// Reads a configuration and then the whole input as an event script, checks every line, and only
+/// then runs the script from the moment 0 and writes the printed run. Of the configuration at most
+/// 1048577 bytes are taken, of the input at most 67108865. It always returns. The formats stand in
+/// docs/PROTOCOL.md under Configuration and Event scripts.
 pub fn replay<C: Source, I: Source, O: Sink>(
     alloc: Global,
     config: &mut C,
@@ -32,46 +28,49 @@ pub fn replay<C: Source, I: Source, O: Sink>(
 ) -> ReplayEnd
     // With `Done` the whole printed run was written.
     ensures done { result ≡ ReplayEnd.Done → Replayed C.tells I.tells O.tells
-        (feed C.left C.ended C.faults C.taken config.old) (feed C.left C.ended C.faults C.taken config.new)
-        (feed I.left I.ended I.faults I.taken input.old) (feed I.left I.ended I.faults I.taken input.new)
-        (drain O.sent O.faults output.old) (drain O.sent O.faults output.new) }
+        (C.feed config.old) (C.feed config.new)
+        (I.feed input.old) (I.feed input.new)
+        (O.drain output.old) (O.drain output.new) }
 
     // With these a beginning of it was written; want of memory may come before that, too.
     ensures output_fault { result ≡ ReplayEnd.OutputFault → EndsByOutput C.tells I.tells O.tells
-        (feed C.left C.ended C.faults C.taken config.old) (feed C.left C.ended C.faults C.taken config.new)
-        (feed I.left I.ended I.faults I.taken input.old) (feed I.left I.ended I.faults I.taken input.new)
-        (drain O.sent O.faults output.old) (drain O.sent O.faults output.new) }
+        (C.feed config.old) (C.feed config.new)
+        (I.feed input.old) (I.feed input.new)
+        (O.drain output.old) (O.drain output.new) }
     ensures out_of_memory { result ≡ ReplayEnd.OutOfMemory → EndsByWant C.tells I.tells O.tells
-        (feed C.left C.ended C.faults C.taken config.old) (feed C.left C.ended C.faults C.taken config.new)
-        (feed I.left I.ended I.faults I.taken input.old) (feed I.left I.ended I.faults I.taken input.new)
-        (drain O.sent O.faults output.old) (drain O.sent O.faults output.new) }
+        (C.feed config.old) (C.feed config.new)
+        (I.feed input.old) (I.feed input.new)
+        (O.drain output.old) (O.drain output.new) }
 
     // With the others nothing was written; when each comes.
-    ensures configuration { (fault : Fault) → result ≡ ReplayEnd.Configuration fault → EndsByConfiguration C.tells
-        (feed C.left C.ended C.faults C.taken config.old) (feed C.left C.ended C.faults C.taken config.new)
-        (feed I.left I.ended I.faults I.taken input.old) (feed I.left I.ended I.faults I.taken input.new)
-        (drain O.sent O.faults output.old) (drain O.sent O.faults output.new) fault }
+    ensures configuration { (fault : Fault) → result ≡ ReplayEnd.Configuration fault
+        → EndsByConfiguration C.tells
+        (C.feed config.old) (C.feed config.new)
+        (I.feed input.old) (I.feed input.new)
+        (O.drain output.old) (O.drain output.new) fault }
     ensures script { (number : ℕ) → result ≡ ReplayEnd.Script number → EndsByScript C.tells I.tells
-        (feed C.left C.ended C.faults C.taken config.old) (feed C.left C.ended C.faults C.taken config.new)
-        (feed I.left I.ended I.faults I.taken input.old) (feed I.left I.ended I.faults I.taken input.new)
-        (drain O.sent O.faults output.old) (drain O.sent O.faults output.new) number }
+        (C.feed config.old) (C.feed config.new)
+        (I.feed input.old) (I.feed input.new)
+        (O.drain output.old) (O.drain output.new) number }
     ensures input_fault { result ≡ ReplayEnd.InputFault → EndsByInput C.tells
-        (feed C.left C.ended C.faults C.taken config.old) (feed C.left C.ended C.faults C.taken config.new)
-        (feed I.left I.ended I.faults I.taken input.old) (feed I.left I.ended I.faults I.taken input.new)
-        (drain O.sent O.faults output.old) (drain O.sent O.faults output.new) }
+        (C.feed config.old) (C.feed config.new)
+        (I.feed input.old) (I.feed input.new)
+        (O.drain output.old) (O.drain output.new) }
     ensures long { result ≡ ReplayEnd.TooLong → EndsByLength C.tells I.tells
-        (feed C.left C.ended C.faults C.taken config.old) (feed C.left C.ended C.faults C.taken config.new)
-        (feed I.left I.ended I.faults I.taken input.old) (feed I.left I.ended I.faults I.taken input.new)
-        (drain O.sent O.faults output.old) (drain O.sent O.faults output.new) }
-    ensures too_long { (result ≡ ReplayEnd.TooLong) ↔ (script_limit < I.taken input.new - I.taken input.old) }
+        (C.feed config.old) (C.feed config.new)
+        (I.feed input.old) (I.feed input.new)
+        (O.drain output.old) (O.drain output.new) }
+    ensures too_long { (result ≡ ReplayEnd.TooLong)
+        ↔ (script_limit < (I.feed input.new).taken - (I.feed input.old).taken) }
 
     // What is taken, and what the texts say of the end where no source fails.
-    ensures configuration_taken { C.taken config.new ≤ C.taken config.old + configuration_limit + 1 }
-    ensures input_taken { I.taken input.new ≤ I.taken input.old + script_limit + 1 }
+    ensures configuration_taken { (C.feed config.new).taken
+        ≤ (C.feed config.old).taken + configuration_limit + 1 }
+    ensures input_taken { (I.feed input.new).taken ≤ (I.feed input.old).taken + script_limit + 1 }
     ensures settled { C.tells → I.tells
-        → (Rose (C.faults config.old) (C.faults config.new) → ⊥)
-        → (Rose (I.faults input.old) (I.faults input.new) → ⊥)
-        → IsEndOf (C.left config.old) (I.left input.old) result }
+        → (Rose (C.feed config.old).faults (C.feed config.new).faults → ⊥)
+        → (Rose (I.feed input.old).faults (I.feed input.new).faults → ⊥)
+        → IsEndOf (C.feed config.old).left (I.feed input.old).left result }
 {
     let configuration = match read_configuration(alloc, config) {
         Ok(configuration) => configuration,
@@ -86,17 +85,19 @@ pub fn replay<C: Source, I: Source, O: Sink>(
     }
 }
 
-/// Reads a whole configuration, of which at most 1048577 bytes are taken. Where there is none, it says
-/// how a run by it ends: with the first fault of its text, as its source failed, or as memory was refused.
+/// Reads a whole configuration, of which at most 1048577 bytes are taken. Where there is none, it
+/// says how a run by it ends: with the first fault of its text, as its source failed, or as memory
+/// was refused.
 pub fn read_configuration<C: Source>(alloc: Global, source: &mut C) -> Result<Config, ReplayEnd>
     ensures ok { IfOk result (λ c. Configured C.tells
-        (feed C.left C.ended C.faults C.taken source.old) (feed C.left C.ended C.faults C.taken source.new) c) }
+        (C.feed source.old) (C.feed source.new) c) }
     ensures served { IfOk result IsServed }
     ensures fault { IfErr result (ConfigurationEnds C.tells
-        (feed C.left C.ended C.faults C.taken source.old) (feed C.left C.ended C.faults C.taken source.new)) }
-    ensures limit { C.taken source.new ≤ C.taken source.old + configuration_limit + 1 }
+        (C.feed source.old) (C.feed source.new)) }
+    ensures limit { (C.feed source.new).taken
+        ≤ (C.feed source.old).taken + configuration_limit + 1 }
 {
-    let text = match read_whole(alloc, source, CONFIGURATION_LIMIT) {
+    let text = match read_whole(alloc, source, CONFIGURATION) {
         Ok(text) => text,
         Err(ReadFault::TooLong) => return Err(ReplayEnd::Configuration(ConfigFault::Long)),
         Err(ReadFault::Failed) => return Err(ReplayEnd::InputFault),
@@ -116,13 +117,14 @@ fn read_script<I: Source>(
     framer: &mut Framer,
 ) -> Result<Vec<u8>, ReplayEnd>
     ensures ok { IfOk result (λ text. HasScript I.tells
-        (feed I.left I.ended I.faults I.taken source.old) (feed I.left I.ended I.faults I.taken source.new) text.items) }
+        (I.feed source.old) (I.feed source.new) text.items) }
     ensures fault { IfErr result (ScriptEnds I.tells
-        (feed I.left I.ended I.faults I.taken source.old) (feed I.left I.ended I.faults I.taken source.new)) }
-    ensures limit { I.taken source.new ≤ I.taken source.old + script_limit + 1 }
-    ensures too_long { (result ≡ Err ReplayEnd.TooLong) ↔ (script_limit < I.taken source.new - I.taken source.old) }
+        (I.feed source.old) (I.feed source.new)) }
+    ensures limit { (I.feed source.new).taken ≤ (I.feed source.old).taken + script_limit + 1 }
+    ensures too_long { (result ≡ Err ReplayEnd.TooLong)
+        ↔ (script_limit < (I.feed source.new).taken - (I.feed source.old).taken) }
 {
-    let text = match read_whole(alloc, source, SCRIPT_LIMIT) {
+    let text = match read_whole(alloc, source, INPUT) {
         Ok(text) => text,
         Err(ReadFault::TooLong) => return Err(ReplayEnd::TooLong),
         Err(ReadFault::Failed) => return Err(ReplayEnd::InputFault),

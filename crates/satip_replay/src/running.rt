@@ -10,7 +10,6 @@ ghost use Rattle.satip_script.specs.Forms.{Rtsp, Http, Other};
 ghost use Rattle.satip_script.specs.InParts.{call_in, form_in, packet_in};
 ghost use Rattle.satip_script.specs.Printed.{printed};
 ghost use Rattle.satip_core.specs.Serving.{Stands};
-ghost use Rattle.satip_replay.specs.Seen.{drain};
 ghost use Rattle.satip_replay.specs.Replays.{replayed};
 ghost use Rattle.satip_replay.specs.Ends.{RunEnds};
 ghost use Rattle.satip_replay.specs.Runs.{AnswersForm, AnswersNext, Passes};
@@ -49,7 +48,7 @@ pub(crate) fn run_script<O: Sink>(
     requires numbered { IsNumbered 1 config.fronts }
     requires received { length config.muxes ≤ 256 }
     ensures ends { (events : List EventValue) → IsScript script.now (Ok events) → RunEnds O.tells
-        (drain O.sent O.faults output.old) (drain O.sent O.faults output.new)
+        (O.drain output.old) (O.drain output.new)
         (replayed config events) result }
 {
     let Ok(mut server) = Server::make(alloc, config, 0) else {
@@ -74,7 +73,7 @@ fn run_events<O: Sink>(
     requires empty { text.old.items ≡ [] }
     ensures ends { (events : List EventValue) → Stands server.old (opening server.old.setting)
         → IsScript script.now (Ok events) → RunEnds O.tells
-        (drain O.sent O.faults output.old) (drain O.sent O.faults output.new)
+        (O.drain output.old) (O.drain output.new)
         (printed (run server.old.setting events)) result }
 {
     let mut lines = Script::of(script);
@@ -107,7 +106,8 @@ fn answer_next(
     out: &mut Out,
 ) -> Option<Answer>
     ensures setting { server.new.setting ≡ server.old.setting }
-    ensures answered { (events : List EventValue) → Gives lines.old events → AnswersNext events lines.new server.old server.new out.new result }
+    ensures answered { (events : List EventValue) → Gives lines.old events
+        → AnswersNext events lines.new server.old server.new out.new result }
     ensures shorter { IsSome result → length lines.new < length lines.old }
 {
     match lines.next_parts() {
@@ -160,7 +160,8 @@ fn answer_rtsp(
     out: &mut Out,
 ) -> Option<Answer>
     ensures setting { server.new.setting ≡ server.old.setting }
-    ensures steps { AnswersForm (option_map Rtsp (call_in peer draw digits.now)) server.old server.new out.new result }
+    ensures steps { AnswersForm (option_map Rtsp (call_in peer draw digits.now)) server.old
+        server.new out.new result }
 {
     if !read_request(digits, framer, request) {
         return None;
@@ -179,7 +180,8 @@ fn answer_http(
     out: &mut Out,
 ) -> Option<Answer>
     ensures setting { server.new.setting ≡ server.old.setting }
-    ensures steps { AnswersForm (option_map Http (call_in peer draw digits.now)) server.old server.new out.new result }
+    ensures steps { AnswersForm (option_map Http (call_in peer draw digits.now)) server.old
+        server.new out.new result }
 {
     if !read_get(digits, framer, request) {
         return None;
@@ -196,7 +198,8 @@ fn answer_packet(
     out: &mut Out,
 ) -> Option<Answer>
     ensures setting { server.new.setting ≡ server.old.setting }
-    ensures steps { AnswersForm (option_map Other (packet_in front tune digits.now)) server.old server.new out.new result }
+    ensures steps { AnswersForm (option_map Other (packet_in front tune digits.now)) server.old
+        server.new out.new result }
 {
     match read_packet(digits) {
         Some(packet) => Some(Answer::Work(server.packet(front, tune, &packet, out))),
@@ -207,7 +210,7 @@ fn answer_packet(
 // Writes the text once it has so many bytes, and empties it then.
 fn pass_on<O: Sink>(least: usize, text: &mut Vec<u8>, output: &mut O) -> Put
     ensures passes { Passes O.tells
-        (drain O.sent O.faults output.old) (drain O.sent O.faults output.new)
+        (O.drain output.old) (O.drain output.new)
         text.old.items text.new.items result }
     ensures all { result ≡ Put.Whole → least ≡ 1 → text.new.items ≡ [] }
 {

@@ -1,4 +1,5 @@
-//! What a client is told of its stream beside the packets: the SES1 text, and RTCP reports (RFC 3550, 6).
+//! What a client is told of its stream beside the packets: the SES1 text, and RTCP reports (RFC
+//! 3550, 6).
 #![tactic(auto)]
 
 mod address;
@@ -10,6 +11,3 @@ pub use address::write_address;
 pub use report::write_report;
 pub use ses1::ses1_text;
 pub use views::{Sender, StreamView};
-
-#[cfg(test)]
-mod tests;

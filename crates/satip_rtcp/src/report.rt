@@ -8,6 +8,7 @@ ghost use Rattle.satip_rtcp.specs.Reports.{application, header, ntp_fraction as 
 use crate::address::write_address;
 use crate::ses1::ses1_text;
 use crate::views::{Sender, StreamView};
+use satip_base::limits::REPORT;
 use satip_base::{Out, Strip};
 
 // Version 2 in the first two bits of a part (RFC 3550, 6.4.1); a count stands in the last five.
@@ -21,14 +22,14 @@ const SOURCE_DESCRIPTION: u8 = 202;
 const APPLICATION: u8 = 204;
 
 /// Appends one datagram: a sender report, a source description whose canonical name is the server's
-/// address, and an application-defined part with the SES1 text (RFC 3550, 6.4.1, 6.5 and 6.7; SAT>IP
-/// 1.2.2, 3.5.13).
+/// address, and an application-defined part with the SES1 text (RFC 3550, 6.4.1, 6.5 and 6.7;
+/// SAT>IP 1.2.2, 3.5.13).
 
 pub fn write_report(view: &StreamView, sender: &Sender, out: &mut Out)
     requires count_room { out.old.count_spare ≢ 0 }
-    requires room { 1600 ≤ out.old.datagram_spare }
+    requires room { REPORT ≤ out.old.datagram_spare }
     ensures sent { Sends out.old sender.now.to (report view.now sender.now) out.new }
-    ensures bound { length (report view.now sender.now) ≤ 1600 }
+    ensures bound { length (report view.now sender.now) ≤ REPORT }
 {
     let mut text = Strip::new();
     ses1_text(view, &mut text);
@@ -96,7 +97,7 @@ fn extend_application(ssrc: u32, text: &[u8], out: &mut Out)
 
 fn extend_header(first: u8, kind: u8, length_of_part: usize, out: &mut Out)
     requires some { 4 ≤ length_of_part }
-    requires few { length_of_part ≤ 1600 }
+    requires few { length_of_part ≤ REPORT }
     requires begun { 0 < length out.old.datagrams }
     requires room { 4 ≤ out.old.datagram_spare }
     ensures extended { Extended out.old (header first kind length_of_part) out.new }

@@ -27,7 +27,8 @@ pub fn ses1_text(view: &StreamView, strip: &mut Strip)
 #[tactic(auto, using(crate::proofs::Lengths::fields), unfolding(crate::specs::Ses1::signal_text))]
 fn write_signal(view: &StreamView, strip: &mut Strip)
     requires room { length strip.old ≤ 160 }
-    ensures printed { Printed strip.old (signal_text view.now.front view.now.locked view.now.tuning) strip.new }
+    ensures printed { Printed strip.old (signal_text view.now.front view.now.locked view.now.tuning)
+        strip.new }
     ensures bound { length strip.new ≤ length strip.old + 133 }
 {
     match &view.tuning {

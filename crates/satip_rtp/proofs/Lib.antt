@@ -1,4 +1,5 @@
 pub mod Writing
 pub mod CutLemmas
+pub mod HeldLemmas
 pub mod PackingLemmas
 pub mod PickedLemmas

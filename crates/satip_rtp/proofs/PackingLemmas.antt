@@ -1,8 +1,6 @@
 -- What leaves a packer whose held packets are one datagram.
-use Rattle.std.proofs.Common.{◌≡◌, ℕ, ◌+◌, ◌*◌, ◌%◌, Bool, List, [], ◌∷◌, ◌++◌, length, take, drop, set, sum, refl, sym, ap, ◌∙◌, zero-add, arith}
-use Rattle.std.proofs.lemmas.List.{take_more_set, take_all}
+use Rattle.std.proofs.Common.{◌≡◌, ℕ, ◌+◌, ◌*◌, ◌%◌, ◌<◌, Bool, [], ◌∷◌, length, drop, sum, refl, sym, zero-add, append-nil, arith}
 use Rattle.std.proofs.Math.Seq.{drop-length}
-use Rattle.std.proofs.Math.ListN.{length-set}
 use Rattle.satip_base.specs.declared.network.Address.{Address}
 use Rattle.satip_base.specs.Output.{Output, Sends}
 use Rattle.satip_rtp.specs.Cut.{cut}
@@ -36,14 +34,21 @@ sends_all-one o flush p clock to n e s = rw e (record {
   reply_spare = s.reply_spare;
 })
 
--- the seventh place is written
-pub set-last : (places : List (List ℕ)) (count : ℕ) (packet : List ℕ) → length places ≡ 7 → count ≡ 6
-    → set places count packet ≡ take count places ++ packet ∷ []
-set-last places count packet h e =
-    sym (take_all (count + 1) (set places count packet) (omega (arith, length-set {A = List ℕ})))
-    ∙ take_more_set places count packet (omega arith)
+-- where nothing is cut, nothing changes
+pub after_cut-none : (flush : Bool) (p : Packing) → cut flush p.held ≡ [] → p.next < 65536 → p.datagrams < 4294967296 → p.octets < 4294967296
+    → after_cut flush p ≡ p
+after_cut-none flush p e next datagrams octets =
+    let number : (p.next + 0) % 65536 ≡ p.next = omega arith in
+    let count : (p.datagrams + 0) % 4294967296 ≡ p.datagrams = omega arith in
+    let bytes : (p.octets + 188 * 0) % 4294967296 ≡ p.octets = omega arith in
+    rw e (rw (number, count, bytes) refl)
 
--- as many as are held
-pub length-last : (places : List (List ℕ)) (count : ℕ) (packet : List ℕ) → length places ≡ 7 → count ≡ 6
-    → length (take count places ++ packet ∷ []) ≡ 7
-length-last places count packet h e = ap length (sym (set-last places count packet h e)) ∙ omega (arith, length-set {A = List ℕ})
+pub sends_all-none : (o : Output) (flush : Bool) (p : Packing) (clock : ℕ) (to : Address) → cut flush p.held ≡ []
+    → SendsAll o (leaving flush p clock to) o
+sends_all-none o flush p clock to e = rw e (record {
+  datagrams = sym (append-nil o.datagrams);
+  datagram_spare = omega arith;
+  count_spare = omega arith;
+  reply = refl;
+  reply_spare = refl;
+})

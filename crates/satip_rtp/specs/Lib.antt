@@ -1,5 +1,6 @@
 pub mod Cut
 pub mod Bytes
+pub mod Held
 pub mod Sending
 pub mod Packing
 pub mod Picked

@@ -1,14 +1,20 @@
 //! `Packer`, which a clause sees as its source, the packets held, the next number and its counts.
-ghost use Rattle.std.specs.Prelude.{◌≡◌, ◌≢◌, ℕ, ◌+◌, ◌-◌, ◌*◌, ◌%◌, ◌<◌, ◌≤◌, ◌↔◌, IsTrue, true, false, List, [], ◌∷◌, ◌++◌, length, take, drop};
-ghost use Rattle.std.specs.List.{concat};
-ghost use Rattle.satip_base.specs.Output.{Sends, Extended};
-ghost use Rattle.satip_rtp.specs.Bytes.{rtp_header, rtp_datagram, timestamp};
+ghost use Rattle.std.specs.Prelude.{◌≡◌, ◌≢◌, ℕ, ◌+◌, ◌*◌, ◌%◌, ◌≤◌, ◌↔◌, IsTrue, true, false, [], ◌∷◌, ◌++◌, length, drop};
+ghost use Rattle.satip_rtp.specs.Bytes.{rtp_header, timestamp};
+ghost use Rattle.satip_rtp.specs.Held.{packets_in};
 ghost use Rattle.satip_rtp.specs.Sending.{SendsAll};
 ghost use Rattle.satip_rtp.specs.Packing.{packing, holding, after_cut, leaving};
 
 use satip_base::{Address, Out};
 use satip_ts::Packet;
 use std::marker::Model;
+
+const HEADER_BYTES: usize = 12;
+
+const PACKET_BYTES: usize = 188;
+
+// A header and seven packets.
+const DATAGRAM_BYTES: usize = 1328;
 
 /// Packs the packets of one session: 7 in a datagram, fewer only where it is flushed.
 #[derive(Drop)]
@@ -17,24 +23,32 @@ pub struct Packer {
     next: u16,
     datagrams: u32,
     octets: u32,
-    places: [[u8; 188]; 7],
+    // The datagram that leaves next: room for its header, and the packets held behind it.
+    bytes: [u8; DATAGRAM_BYTES],
     count: usize,
 }
 
 impl Model for Packer {
-    ghost use Rattle.std.specs.Prelude.{◌≤◌, take};
-    ghost use Rattle.satip_rtp.specs.Sending.{SendsAll};
+    ghost use Rattle.std.specs.Prelude.{◌≤◌};
+    ghost use Rattle.satip_rtp.specs.Held.{packets_in};
     ghost use Rattle.satip_rtp.specs.Packing.{Packing};
 
     ghost Value = { Packing };
 
-    ghost view = { λ p. record { ssrc = p.ssrc; held = take p.count p.places; next = p.next; datagrams = p.datagrams; octets = p.octets } };
+    ghost view = { λ p. record {
+      ssrc = p.ssrc;
+      held = packets_in p.bytes p.count;
+      next = p.next;
+      datagrams = p.datagrams;
+      octets = p.octets;
+    } };
 
     ghost invariant = { λ p. p.count ≤ 6 };
 }
 
 impl Packer {
     /// A packer that holds nothing, with its source (RFC 3550: SSRC) and its first sequence number.
+    #[tactic(auto, unfolding(crate::specs::Held::packets_in))]
     pub fn new(ssrc: u32, first: u16) -> Packer
         ensures new { result ≡ packing ssrc first }
     {
@@ -43,27 +57,30 @@ impl Packer {
             next: first,
             datagrams: 0,
             octets: 0,
-            places: [[0; 188]; 7],
+            bytes: [0; DATAGRAM_BYTES],
             count: 0,
         }
     }
 
-    /// Takes a packet. True exactly where it is the seventh: then the datagram of the seven is appended.
+    /// Takes a packet. True exactly where it is the seventh: then the datagram of the seven is
+    /// appended.
     pub fn push(&mut self, packet: &Packet, clock: u64, to: Address, out: &mut Out) -> bool
         requires bytes { 1328 ≤ out.old.datagram_spare }
         requires count { out.old.count_spare ≢ 0 }
         ensures seventh { IsTrue result ↔ (length self.old.held ≡ 6) }
         ensures packing { self.new ≡ after_cut false (holding self.old packet.now) }
-        ensures sent { SendsAll out.old (leaving false (holding self.old packet.now) clock to) out.new }
+        ensures sent { SendsAll out.old (leaving false (holding self.old packet.now) clock to)
+            out.new }
         ensures bytes_spare { out.old.datagram_spare ≤ out.new.datagram_spare + 1328 }
         ensures count_spare { out.old.count_spare ≤ out.new.count_spare + 1 }
     {
-        self.places[self.count] = *packet.bytes();
+        put_packet(&mut self.bytes, self.count, packet.bytes());
         if self.count < 6 {
             self.count += 1;
             return false;
         }
-        send(self.next, clock, self.ssrc, &self.places, to, out);
+        write_header(&mut self.bytes, self.next, clock, self.ssrc);
+        out.append(to, &self.bytes);
         self.count = 0;
         self.next = self.next.wrapping_add(1);
         self.datagrams = self.datagrams.wrapping_add(1);
@@ -84,14 +101,9 @@ impl Packer {
         if self.count == 0 {
             return false;
         }
-        send(
-            self.next,
-            clock,
-            self.ssrc,
-            &self.places[..self.count],
-            to,
-            out,
-        );
+        write_header(&mut self.bytes, self.next, clock, self.ssrc);
+        let end = HEADER_BYTES + PACKET_BYTES * self.count;
+        out.append(to, &self.bytes[..end]);
         self.octets = self.octets.wrapping_add(188 * self.count as u32);
         self.count = 0;
         self.next = self.next.wrapping_add(1);
@@ -122,43 +134,23 @@ impl Packer {
     }
 }
 
-/// Sends one datagram with these packets.
-#[tactic(auto, unfolding(crate::specs::Bytes::rtp_header, crate::specs::Bytes::rtp_datagram))]
-fn send(number: u16, clock: u64, ssrc: u32, packets: &[[u8; 188]], to: Address, out: &mut Out)
-    requires room { 12 + 188 * length packets.now ≤ out.old.datagram_spare }
-    requires count { out.old.count_spare ≢ 0 }
-    ensures sent { Sends out.old to (rtp_datagram number clock ssrc packets.now) out.new }
-    ensures spare { out.new.datagram_spare + (12 + 188 * length packets.now) ≡ out.old.datagram_spare }
+// Puts a packet behind those before it.
+fn put_packet(bytes: &mut [u8; DATAGRAM_BYTES], place: usize, packet: &[u8; PACKET_BYTES])
+    requires within { place ≤ 6 }
+    ensures put { packets_in bytes.new (place + 1) ≡ packets_in bytes.old place ++ packet.now ∷ [] }
 {
-    send_header(number, clock, ssrc, to, out);
-    extend_packets(packets, out);
+    let start = HEADER_BYTES + PACKET_BYTES * place;
+    bytes[start..start + PACKET_BYTES].copy_from_slice(packet);
 }
 
-/// Appends packets to the last datagram.
-fn extend_packets(packets: &[[u8; 188]], out: &mut Out)
-    requires begun { 0 < length out.old.datagrams }
-    requires room { 188 * length packets.now ≤ out.old.datagram_spare }
-    ensures extended { Extended out.old (concat packets.now) out.new }
-    ensures spare { out.new.datagram_spare + 188 * length packets.now ≡ out.old.datagram_spare }
+// Writes the header in front of the packets.
+fn write_header(bytes: &mut [u8; DATAGRAM_BYTES], number: u16, clock: u64, ssrc: u32)
+    ensures header { bytes.new ≡ rtp_header number clock ssrc ++ drop 12 bytes.old }
 {
-    for packet in packets {
-        out.extend(packet);
-    }
-}
-
-/// Begins a datagram with its header.
-#[tactic(auto, unfolding(crate::specs::Bytes::rtp_header))]
-fn send_header(number: u16, clock: u64, ssrc: u32, to: Address, out: &mut Out)
-    requires room { 12 ≤ out.old.datagram_spare }
-    requires count { out.old.count_spare ≢ 0 }
-    ensures sent { Sends out.old to (rtp_header number clock ssrc) out.new }
-    ensures spare { out.new.datagram_spare + 12 ≡ out.old.datagram_spare }
-{
-    out.begin(to);
-    out.extend(&[0x80, 0x21]);
-    out.extend(&number.to_be_bytes());
-    out.extend(&timestamp_of(clock).to_be_bytes());
-    out.extend(&ssrc.to_be_bytes());
+    bytes[..2].copy_from_slice(&[0x80, 0x21]);
+    bytes[2..4].copy_from_slice(&number.to_be_bytes());
+    bytes[4..8].copy_from_slice(&timestamp_of(clock).to_be_bytes());
+    bytes[8..12].copy_from_slice(&ssrc.to_be_bytes());
 }
 
 fn timestamp_of(clock: u64) -> u32

@@ -1,8 +1,12 @@
 //! Packing of few packets.
+mod plain;
+mod sides;
+
 ghost use Rattle.std.specs.Prelude.{◌≡◌, ◌+◌, ◌*◌, ◌<◌, ◌≤◌, [], ◌∷◌, ◌++◌, true, false};
 ghost use Rattle.std.specs.List.{range_with_len};
 ghost use Rattle.satip_rtp.specs.Cut.{cut};
 ghost use Rattle.satip_rtp.specs.Bytes.{rtp_header};
+ghost use Rattle.satip_rtp.specs.Held.{packets_in};
 
 use crate::Packer;
 use satip_base::{Address, Out};
@@ -18,9 +22,14 @@ const TO: Address = Address {
 fn worked_cuts()
     ensures held { cut false (range_with_len 0 6) ≡ [] }
     ensures seventh { cut false (range_with_len 0 8) ≡ range_with_len 0 7 ∷ [] }
-    ensures flushed { cut true (range_with_len 0 16) ≡ range_with_len 0 7 ∷ range_with_len 7 7 ∷ (14 ∷ 15 ∷ []) ∷ [] }
+    ensures flushed { cut true (range_with_len 0 16)
+        ≡ range_with_len 0 7 ∷ range_with_len 7 7 ∷ (14 ∷ 15 ∷ []) ∷ [] }
     ensures nothing { cut true (range_with_len 0 0) ≡ [] }
-    ensures header { rtp_header 65535 1000 287454020 ≡ 128 ∷ 33 ∷ 255 ∷ 255 ∷ 0 ∷ 1 ∷ 95 ∷ 144 ∷ 17 ∷ 34 ∷ 51 ∷ 68 ∷ [] }
+    ensures header { rtp_header 65535 1000 287454020
+        ≡ 128 ∷ 33 ∷ 255 ∷ 255 ∷ 0 ∷ 1 ∷ 95 ∷ 144 ∷ 17 ∷ 34 ∷ 51 ∷ 68 ∷ [] }
+    ensures no_places { packets_in (range_with_len 0 388) 0 ≡ [] }
+    ensures places { packets_in (range_with_len 0 388) 2
+        ≡ range_with_len 12 188 ∷ range_with_len 200 188 ∷ [] }
 {}
 
 // Pushes the same packet again and again at clock 1000.

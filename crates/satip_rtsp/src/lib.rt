@@ -5,8 +5,6 @@ mod replies;
 mod requests;
 mod short;
 mod targets;
-#[cfg(test)]
-mod tests;
 mod texts;
 mod transports;
 

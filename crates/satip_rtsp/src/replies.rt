@@ -23,7 +23,8 @@ pub fn write_options(cseq: Option<u32>, session: Option<SessionId>, out: &mut Ou
     out.write(b"\r\n");
 }
 
-/// Appends the reply to DESCRIBE up to its empty line, for a body of this size (RFC 2326, section 10.2).
+/// Appends the reply to DESCRIBE up to its empty line, for a body of this size (RFC 2326, section
+/// 10.2).
 #[tactic(auto, unfolding(crate::specs::Replies::describe_head))]
 pub fn write_describe(cseq: Option<u32>, address: u32, size: usize, out: &mut Out)
     requires room { length (describe_head cseq address size) ≤ out.old.reply_spare }

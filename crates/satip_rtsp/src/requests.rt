@@ -99,17 +99,25 @@ impl Request {
         ensures asked { result ≡ asked message.now }
         ensures no_cseq { (result.refusal ≡ Some Refusal.NoCseq) ↔ (cseq_of message.now ≡ None) }
         ensures version { (result.refusal ≡ Some Refusal.Version)
-            ↔ (IsSome (cseq_of message.now) × (bytes_eq message.now.version (codes "RTSP/1.0") ≡ false)) }
+            ↔ (IsSome (cseq_of message.now) × (bytes_eq message.now.version (codes "RTSP/1.0")
+            ≡ false)) }
         ensures method { (result.refusal ≡ Some Refusal.Method)
-            ↔ (IsSome (cseq_of message.now) × (bytes_eq message.now.version (codes "RTSP/1.0") ≡ true)
+            ↔ (IsSome (cseq_of message.now) × (bytes_eq message.now.version (codes "RTSP/1.0")
+            ≡ true)
             × (method_named message.now.method ≡ None)) }
         ensures require { (method : Method) (kept : List ℕ) → IsServed message.now method
-            → (result.refusal ≡ Some (Refusal.Require kept)) ↔ (required_in message.now ≡ Some kept) }
-        ensures target { (method : Method) → IsServed message.now method → required_in message.now ≡ None
-            → (result.refusal ≡ Some Refusal.Target) ↔ (target_of (is_options_method method) message.now.target ≡ None) }
-        ensures query { (method : Method) (target : TargetParts) (fault : QueryFault) → IsServed message.now method
-            → required_in message.now ≡ None → target_of (is_options_method method) message.now.target ≡ Some target
-            → (result.refusal ≡ Some (Refusal.Query fault)) ↔ (query_read method target.query ≡ Err fault) }
+            → (result.refusal ≡ Some (Refusal.Require kept))
+            ↔ (required_in message.now ≡ Some kept) }
+        ensures target { (method : Method) → IsServed message.now method
+            → required_in message.now ≡ None
+            → (result.refusal ≡ Some Refusal.Target)
+            ↔ (target_of (is_options_method method) message.now.target ≡ None) }
+        ensures query { (method : Method) (target : TargetParts) (fault : QueryFault)
+            → IsServed message.now method
+            → required_in message.now ≡ None → target_of (is_options_method method)
+            message.now.target ≡ Some target
+            → (result.refusal ≡ Some (Refusal.Query fault))
+            ↔ (query_read method target.query ≡ Err fault) }
         ensures not_broken { result.refusal ≢ Some Refusal.Broken }
         ensures not_too_long { result.refusal ≢ Some Refusal.TooLong }
     {
@@ -181,7 +189,8 @@ fn fill(message: &Message<'_>, into: &mut Request)
 // Fills in what a message with a number, the version and a method asks for.
 fn fill_served(message: &Message<'_>, method: Method, into: &mut Request)
     requires blank { into.old ≡ record blank { cseq = into.old.cseq } }
-    ensures asked { (cseq : ℕ) → into.old.cseq ≡ Some cseq → into.new ≡ with_method cseq message.now (Some method) }
+    ensures asked { (cseq : ℕ) → into.old.cseq ≡ Some cseq
+        → into.new ≡ with_method cseq message.now (Some method) }
 {
     match required(message.header(b"Require")) {
         Some(value) => into.refusal = Some(Refusal::Require(Short::of(value))),
@@ -193,7 +202,8 @@ fn fill_served(message: &Message<'_>, method: Method, into: &mut Request)
 fn fill_aimed(message: &Message<'_>, method: Method, into: &mut Request)
     requires blank { into.old ≡ record blank { cseq = into.old.cseq } }
     ensures asked { (cseq : ℕ) → into.old.cseq ≡ Some cseq
-        → into.new ≡ with_target cseq message.now method (target_of (is_options_method method) message.now.target) }
+        → into.new ≡ with_target cseq message.now method
+        (target_of (is_options_method method) message.now.target) }
 {
     let Some(target) = Target::of(message.target(), is_options(method)) else {
         into.refusal = Some(Refusal::Target);
@@ -239,7 +249,8 @@ fn read_cseq(message: &Message<'_>) -> Option<u32>
 
 // The value that names what is required.
 fn required(value: Option<&[u8]>) -> Option<&[u8]>
-    ensures kept { option_map (take 128) (option_copied result) ≡ requirement (option_copied value.entry) }
+    ensures kept { option_map (take 128) (option_copied result)
+        ≡ requirement (option_copied value.entry) }
 {
     match value {
         None => None,

@@ -22,7 +22,11 @@ impl Model for Short {
 
     ghost invariant = { λ s. IsPacked 128 s.places s.count };
 
-    ghost inverse = { λ xs. record { places = xs ++ replicate (128 - length xs) 0; count = length xs } };
+    ghost inverse = { λ xs. record {
+      places = xs
+          ++ replicate (128 - length xs) 0;
+      count = length xs;
+    } };
 
     ghost use Rattle.satip_rtsp.specs.Packed.{unpacked};
 

@@ -1,4 +1,5 @@
-//! The session and the transport that a request's headers name (RFC 2326, sections 12.37 and 12.39).
+//! The session and the transport that a request's headers name (RFC 2326, sections 12.37 and
+//! 12.39).
 ghost use Rattle.std.specs.Prelude.{◌≡◌, ◌≤◌, IfSome};
 ghost use Rattle.std.specs.List.{list_any};
 ghost use Rattle.std.specs.Option.{option_copied};

@@ -1,5 +1,6 @@
 -- The run of a script: the history in which caller 0 makes its events.
 use Rattle.std.specs.Prelude.{◌≡◌, ℕ, ◌-◌, List, [], ◌∷◌, length, map}
+use Rattle.satip_base.specs.declared.limits.TheConstants.{REPLY_BYTES, EVENT_BYTES}
 use Rattle.satip_history.specs.History.{entry}
 use Rattle.satip_history.specs.Lists.{Each}
 use Rattle.satip_base.specs.Output.{Output, Datagram, datagram_bytes}
@@ -15,8 +16,8 @@ abbrev pub output_with : List ℕ → List Datagram → Output
 output_with reply datagrams = record {
   reply = reply;
   datagrams = datagrams;
-  reply_spare = 131072 - length reply;
-  datagram_spare = 262144 - datagram_bytes datagrams;
+  reply_spare = REPLY_BYTES - length reply;
+  datagram_spare = EVENT_BYTES - datagram_bytes datagrams;
   count_spare = 256 - length datagrams;
 }
 

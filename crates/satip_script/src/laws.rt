@@ -1,4 +1,5 @@
-//! What is true of all lines, scripts and runs. Each function does nothing; its contract is the law.
+//! What is true of all lines, scripts and runs. Each function does nothing; its contract is the
+//! law.
 ghost use Rattle.satip_script.specs.Laws.{OneLine, OneScript, OneRun, RunGrows};
 
 /// Each line is skipped, has one event, or is wrong, and only one of these.

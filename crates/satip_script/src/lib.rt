@@ -9,8 +9,6 @@ mod parts;
 mod pieces;
 mod printing;
 mod scripts;
-#[cfg(test)]
-mod tests;
 mod words;
 
 pub use laws::{one_line, one_run, one_script, run_grows};

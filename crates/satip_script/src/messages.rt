@@ -98,7 +98,7 @@ fn read_found_get(framer: &Framer, into: &mut HttpRequest)
     ensures asked { IsSomeAnd framer.now.found (λ message. into.new ≡ asked_over_http message) }
 {
     match framer.message() {
-        Some(message) => *into = HttpRequest::of(&message),
+        Some(get_message) => into.read(&get_message),
         None => unreachable!(),
     }
 }
@@ -149,7 +149,8 @@ fn see(digits: &[u8], framer: &mut Framer) -> Look
 // The digits behind those of each CR and LF at the front.
 fn behind_newlines(digits: &[u8]) -> &[u8]
     requires { IsOk (decode_of digits.now) }
-    ensures rest { (text : List ℕ) → decode_of digits.now ≡ Ok text → decode_of result.now ≡ Ok (skip_newlines text) }
+    ensures rest { (text : List ℕ) → decode_of digits.now ≡ Ok text
+        → decode_of result.now ≡ Ok (skip_newlines text) }
 {
     let mut rest = digits;
     'newlines: while begins_with_newline(rest) {
@@ -214,7 +215,8 @@ fn feed_digits(digits: &[u8], framer: &mut Framer)
     requires hex { IsOk (decode_of digits.now) }
     requires goes_on { framer.old.ended ≡ None }
     requires room { 2 * length framer.old.bytes + length digits.now ≤ 24576 }
-    ensures bytes { (text : List ℕ) → decode_of digits.now ≡ Ok text → framer.new.bytes ≡ framer.old.bytes ++ text }
+    ensures bytes { (text : List ℕ) → decode_of digits.now ≡ Ok text
+        → framer.new.bytes ≡ framer.old.bytes ++ text }
     ensures ended { framer.new.ended ≡ None }
 {
     if digits.len() <= 2 * SHORT {
@@ -230,7 +232,8 @@ fn feed_many(digits: &[u8], framer: &mut Framer)
     requires hex { IsOk (decode_of digits.now) }
     requires goes_on { framer.old.ended ≡ None }
     requires room { 2 * length framer.old.bytes + length digits.now ≤ 24576 }
-    ensures bytes { (text : List ℕ) → decode_of digits.now ≡ Ok text → framer.new.bytes ≡ framer.old.bytes ++ text }
+    ensures bytes { (text : List ℕ) → decode_of digits.now ≡ Ok text
+        → framer.new.bytes ≡ framer.old.bytes ++ text }
     ensures ended { framer.new.ended ≡ None }
 {
     feed_through(&mut [0u8; ROOM], digits, framer);
@@ -242,7 +245,8 @@ fn feed_through(room: &mut [u8], digits: &[u8], framer: &mut Framer)
     requires enough { length digits.now ≤ 2 * length room.old }
     requires goes_on { framer.old.ended ≡ None }
     requires room { 2 * length framer.old.bytes + length digits.now ≤ 24576 }
-    ensures bytes { (text : List ℕ) → decode_of digits.now ≡ Ok text → framer.new.bytes ≡ framer.old.bytes ++ text }
+    ensures bytes { (text : List ℕ) → decode_of digits.now ≡ Ok text
+        → framer.new.bytes ≡ framer.old.bytes ++ text }
     ensures ended { framer.new.ended ≡ None }
 {
     let (bytes, _) = room.split_at_mut(digits.len() / 2);

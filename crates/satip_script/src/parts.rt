@@ -104,7 +104,8 @@ fn read_kind<'a>(kind: &[u8], rest: Option<&'a [u8]>) -> EventParts<'a>
 }
 
 fn read_rtsp_words<'a>(rest: Option<&'a [u8]>) -> EventParts<'a>
-    ensures form { form_in result ≡ option_map Rtsp (call_by (only_three (pieces_left 32 rest.entry))) }
+    ensures form { form_in result ≡ option_map Rtsp
+        (call_by (only_three (pieces_left 32 rest.entry))) }
 {
     match call_words(rest) {
         Some((peer, draw, digits)) => EventParts::Rtsp { peer, draw, digits },
@@ -113,7 +114,8 @@ fn read_rtsp_words<'a>(rest: Option<&'a [u8]>) -> EventParts<'a>
 }
 
 fn read_http_words<'a>(rest: Option<&'a [u8]>) -> EventParts<'a>
-    ensures form { form_in result ≡ option_map Http (call_by (only_three (pieces_left 32 rest.entry))) }
+    ensures form { form_in result ≡ option_map Http
+        (call_by (only_three (pieces_left 32 rest.entry))) }
 {
     match call_words(rest) {
         Some((peer, draw, digits)) => EventParts::Http { peer, draw, digits },
@@ -140,7 +142,8 @@ fn call_words<'a>(rest: Option<&'a [u8]>) -> Option<(Peer, Draw, &'a [u8])>
 }
 
 fn read_tick<'a>(rest: Option<&'a [u8]>) -> EventParts<'a>
-    ensures form { form_in result ≡ option_map Other (tick_by (only_word (pieces_left 32 rest.entry))) }
+    ensures form { form_in result ≡ option_map Other
+        (tick_by (only_word (pieces_left 32 rest.entry))) }
 {
     let Some(now) = one_word(rest) else {
         return EventParts::Wrong;
@@ -165,7 +168,8 @@ fn read_front(word: &[u8]) -> Option<u16>
 // A space is no digit of a packet, so none is looked for there.
 #[tactic(auto, using(crate::proofs::WordLemmas::packet_of_rest))]
 fn read_packet_words<'a>(rest: Option<&'a [u8]>) -> EventParts<'a>
-    ensures form { form_in result ≡ option_map Other (packet_by (only_three (pieces_left 32 rest.entry))) }
+    ensures form { form_in result ≡ option_map Other
+        (packet_by (only_three (pieces_left 32 rest.entry))) }
 {
     let Some((front, tune, digits)) = two_words_and_rest(rest) else {
         return EventParts::Wrong;
@@ -184,7 +188,8 @@ fn read_packet_words<'a>(rest: Option<&'a [u8]>) -> EventParts<'a>
 }
 
 fn read_ended<'a>(rest: Option<&'a [u8]>) -> EventParts<'a>
-    ensures form { form_in result ≡ option_map Other (ended_by (only_two (pieces_left 32 rest.entry))) }
+    ensures form { form_in result ≡ option_map Other
+        (ended_by (only_two (pieces_left 32 rest.entry))) }
 {
     let Some((front, tune)) = two_words(rest) else {
         return EventParts::Wrong;
@@ -199,7 +204,8 @@ fn read_ended<'a>(rest: Option<&'a [u8]>) -> EventParts<'a>
 }
 
 fn read_ask<'a>(rest: Option<&'a [u8]>) -> EventParts<'a>
-    ensures form { form_in result ≡ option_map Other (ask_by (only_word (pieces_left 32 rest.entry))) }
+    ensures form { form_in result ≡ option_map Other
+        (ask_by (only_word (pieces_left 32 rest.entry))) }
 {
     let Some(front) = one_word(rest) else {
         return EventParts::Wrong;
@@ -211,7 +217,8 @@ fn read_ask<'a>(rest: Option<&'a [u8]>) -> EventParts<'a>
 }
 
 fn read_pull<'a>(rest: Option<&'a [u8]>) -> EventParts<'a>
-    ensures form { form_in result ≡ option_map Other (pull_by (only_word (pieces_left 32 rest.entry))) }
+    ensures form { form_in result ≡ option_map Other
+        (pull_by (only_word (pieces_left 32 rest.entry))) }
 {
     let Some(session) = one_word(rest) else {
         return EventParts::Wrong;
@@ -223,7 +230,8 @@ fn read_pull<'a>(rest: Option<&'a [u8]>) -> EventParts<'a>
 }
 
 fn read_close<'a>(rest: Option<&'a [u8]>) -> EventParts<'a>
-    ensures form { form_in result ≡ option_map Other (close_by (only_word (pieces_left 32 rest.entry))) }
+    ensures form { form_in result ≡ option_map Other
+        (close_by (only_word (pieces_left 32 rest.entry))) }
 {
     let Some(session) = one_word(rest) else {
         return EventParts::Wrong;

@@ -13,7 +13,8 @@ use satip_plain::{Answer, Beat, Closed, GetAnswer, Pulled, Replied, Work};
 /// Appends the lines of an entry: one for its answer, which shows the reply, and one for each
 /// datagram, in order. Where memory is refused, the text is as it was.
 pub fn print_entry(answer: &Answer, out: &Out, text: &mut Vec<u8>) -> Result<(), Want>
-    ensures printed { OnOk result (text.new.items ≡ text.old.items ++ entry_text answer.now out.now) }
+    ensures printed { OnOk result (text.new.items ≡ text.old.items
+        ++ entry_text answer.now out.now) }
     ensures same { OnErr result (text.new.items ≡ text.old.items) }
 {
     let before = text.len();
@@ -27,14 +28,16 @@ pub fn print_entry(answer: &Answer, out: &Out, text: &mut Vec<u8>) -> Result<(),
 }
 
 fn append_entry(answer: &Answer, out: &Out, text: &mut Vec<u8>) -> Result<(), Want>
-    ensures appended { Appended result text.old.items (entry_text answer.now out.now) text.new.items }
+    ensures appended { Appended result text.old.items (entry_text answer.now out.now)
+        text.new.items }
 {
     append_answer(answer, out.reply(), text)?;
     append_datagrams(out, text)
 }
 
 fn append_answer(answer: &Answer, reply: &[u8], text: &mut Vec<u8>) -> Result<(), Want>
-    ensures appended { Appended result text.old.items (answer_line answer.now reply.now) text.new.items }
+    ensures appended { Appended result text.old.items (answer_line answer.now reply.now)
+        text.new.items }
 {
     match answer {
         Answer::Replied(replied) => append_replied(*replied, reply, text),
@@ -48,7 +51,8 @@ fn append_answer(answer: &Answer, reply: &[u8], text: &mut Vec<u8>) -> Result<()
 
 #[tactic(auto, using(satip_base::proofs::NumberLemmas::digit_bounds), unfolding(crate::specs::Printed::replied_front))]
 fn append_replied(replied: Replied, reply: &[u8], text: &mut Vec<u8>) -> Result<(), Want>
-    ensures appended { Appended result text.old.items (replied_line replied reply.now) text.new.items }
+    ensures appended { Appended result text.old.items (replied_line replied reply.now)
+        text.new.items }
 {
     let mut front = Front::new();
     front.write(b"reply ");
@@ -104,7 +108,8 @@ fn append_work(work: Work, text: &mut Vec<u8>) -> Result<(), Want>
 }
 
 fn append_pulled(pulled: Pulled, reply: &[u8], text: &mut Vec<u8>) -> Result<(), Want>
-    ensures appended { Appended result text.old.items (pulled_line pulled reply.now) text.new.items }
+    ensures appended { Appended result text.old.items (pulled_line pulled reply.now)
+        text.new.items }
 {
     match pulled {
         Pulled::Bytes(_) => append_hex_line(b"bytes ", reply, text),
@@ -123,7 +128,8 @@ fn append_closed(closed: Closed, text: &mut Vec<u8>) -> Result<(), Want>
 }
 
 fn append_datagrams(out: &Out, text: &mut Vec<u8>) -> Result<(), Want>
-    ensures appended { Appended result text.old.items (flat_map datagram_line out.now.datagrams) text.new.items }
+    ensures appended { Appended result text.old.items (flat_map datagram_line out.now.datagrams)
+        text.new.items }
 {
     'datagrams: for place in 0..out.count() {
         match out.datagram(place) {
@@ -136,7 +142,8 @@ fn append_datagrams(out: &Out, text: &mut Vec<u8>) -> Result<(), Want>
 
 #[tactic(auto, using(satip_base::proofs::NumberLemmas::digit_bounds, crate::proofs::AppendLemmas::address_bounds), unfolding(crate::specs::Printed::datagram_front))]
 fn append_datagram(to: Address, bytes: &[u8], text: &mut Vec<u8>) -> Result<(), Want>
-    ensures appended { Appended result text.old.items (hex_line (datagram_front to.ip to.port) bytes.now) text.new.items }
+    ensures appended { Appended result text.old.items
+        (hex_line (datagram_front to.ip to.port) bytes.now) text.new.items }
 {
     let mut front = Front::new();
     front.write(b"datagram ");
@@ -170,7 +177,8 @@ fn append_line(words: &[u8], text: &mut Vec<u8>) -> Result<(), Want>
 }
 
 fn append_hex_line(front: &[u8], bytes: &[u8], text: &mut Vec<u8>) -> Result<(), Want>
-    ensures appended { Appended result text.old.items (hex_line front.now bytes.now) text.new.items }
+    ensures appended { Appended result text.old.items (hex_line front.now bytes.now)
+        text.new.items }
 {
     append(front, text)?;
     append_digits(bytes, text)?;

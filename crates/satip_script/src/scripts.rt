@@ -99,7 +99,8 @@ impl<'a> Script<'a> {
     }
 
     fn next_line(&mut self) -> Option<&'a [u8]>
-        ensures line { MatchOption result ((self.old ≡ []) × (self.new ≡ [])) (λ line. self.old ≡ line.now ∷ self.new) }
+        ensures line { MatchOption result ((self.old ≡ []) × (self.new ≡ []))
+            (λ line. self.old ≡ line.now ∷ self.new) }
     {
         let Some(rest) = self.rest else {
             return None;
@@ -116,7 +117,8 @@ impl<'a> Script<'a> {
         ensures next { IfSome result (λ event. HasNext self.old event self.new) }
 
         // Where no line is wrong, the events are those of the lines, in their order.
-        ensures given { (events : List EventValue) → Gives self.old events → GivenAfter events self.new result }
+        ensures given { (events : List EventValue) → Gives self.old events
+            → GivenAfter events self.new result }
 
         ensures value { IfSome result IsEvent }
         ensures shorter { IsSome result → length self.new < length self.old }
@@ -142,11 +144,13 @@ impl<'a> Script<'a> {
     /// next event.
     pub fn next_parts(&mut self) -> Option<EventParts<'a>>
         ensures over { IfNone result (IsOver self.old) }
-        ensures next { IfSome result (λ parts. (event : EventValue) → AreParts parts event → HasNext self.old event self.new) }
+        ensures next { IfSome result (λ parts. (event : EventValue) → AreParts parts event
+            → HasNext self.old event self.new) }
         ensures wrong { IfSome result (λ parts. AreWrong parts → IsOver self.old) }
 
         // Where no line is wrong, the parts are those of the lines' events, in their order.
-        ensures given { (events : List EventValue) → Gives self.old events → PartsGivenAfter events self.new result }
+        ensures given { (events : List EventValue) → Gives self.old events
+            → PartsGivenAfter events self.new result }
 
         ensures shorter { IsSome result → length self.new < length self.old }
         ensures ended { IsNone result → self.new ≡ [] }

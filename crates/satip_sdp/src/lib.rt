@@ -5,6 +5,3 @@ mod lines;
 mod sdp;
 
 pub use sdp::{sdp_length, write_sdp};
-
-#[cfg(test)]
-mod tests;

@@ -8,8 +8,8 @@ use crate::lines::{head_text, stream_text};
 use satip_base::Out;
 use satip_rtcp::StreamView;
 
-/// Appends the description of a server and of its streams, in the order in which they are given, to the
-/// reply.
+/// Appends the description of a server and of its streams, in the order in which they are given, to
+/// the reply.
 pub fn write_sdp(address: u32, fronts: u16, streams: &[StreamView], out: &mut Out)
     requires few { length streams.now ≤ 64 }
     requires room { 110000 ≤ out.old.reply_spare }

@@ -23,6 +23,7 @@ asked_legal = record {
     workers = omega arith;
     fronts = (record { number = omega arith; sources = refl; systems = refl }, tt);
     muxes = tt;
+    files = tt;
   };
   events = (tt, (omega arith, (omega arith, tt)));
   entries = (

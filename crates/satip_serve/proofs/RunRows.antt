@@ -23,6 +23,7 @@ small_legal = record {
     workers = omega arith;
     fronts = tt;
     muxes = tt;
+    files = tt;
   };
   events = (omega arith, (tt, (omega arith, tt)));
   entries = (

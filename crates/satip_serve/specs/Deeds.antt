@@ -1,5 +1,7 @@
 -- What one job did to its kit and to what it knows of the history, over a service that always has memory.
 use Rattle.std.specs.Prelude.{◌≡◌, ℕ, ◌+◌, ◌≤◌, max, false, List, Option}
+use Rattle.satip_world.specs.Recordings.{StoreView}
+use Rattle.satip_base.specs.declared.limits.TheConstants.{LONGEST_HISTORY}
 use Rattle.satip_service.specs.Known.{Known}
 use Rattle.satip_pump.specs.declared.ends.JobEnd.{JobEnd}
 use Rattle.satip_pump.specs.declared.ends.JobEnd.TheVariants.{Spent as JobSpent, Want as JobWant}
@@ -34,7 +36,7 @@ pub record PumpDid (outlet_tells : Type 0) (number : ℕ) (o : PumpView) (k : Kn
   pub run : PumpRun number o.recording k l outlet_tells o.outbox n.outbox o.faults n.faults ended
   pub lent : n.lent ≡ o.lent
   pub one_at_a_time : n.peak ≤ max o.peak (o.lent + 1)
-  pub spent : ended ≡ JobSpent → l.length ≡ 18446744073709551615
+  pub spent : ended ≡ JobSpent → l.length ≡ LONGEST_HISTORY
   pub memory : ended ≡ JobWant → ⊥
 
 -- the ticker ticked at the moments that it read
@@ -42,7 +44,7 @@ pub record TickerDid (outlet_tells : Type 0) (o : TickView) (k : Known) (n : Tic
   pub ended : JobEnd
   pub end_is : end ≡ end_of_job ended
   pub run : TickRun k l o.dial n.dial outlet_tells o.outbox n.outbox ended
-  pub spent : ended ≡ JobSpent → l.length ≡ 18446744073709551615
+  pub spent : ended ≡ JobSpent → l.length ≡ LONGEST_HISTORY
   pub memory : ended ≡ JobWant → ⊥
 
 -- these deeds as relations of kits
@@ -50,9 +52,9 @@ abbrev pub worker_deed : {D O P : Type 0} → (conn_tells outlet_tells : Type 0)
 worker_deed conn_tells outlet_tells hall outbox number o k n l end =
     WorkerDid conn_tells outlet_tells number (worker_view hall outbox o) k (worker_view hall outbox n) l end
 
-abbrev pub pump_deed : {M O P : Type 0} → (outlet_tells : Type 0) → (M → ℕ → Option (List ℕ)) → (faults lent peak : M → ℕ) → (O → Outbox) → ℕ → PumpKit M O P → Known → PumpKit M O P → Known → ServeEnd → Type 0
-pump_deed outlet_tells recording faults lent peak outbox number o k n l end =
-    PumpDid outlet_tells number (pump_view recording faults lent peak outbox o) k (pump_view recording faults lent peak outbox n) l end
+abbrev pub pump_deed : {M O P : Type 0} → (outlet_tells : Type 0) → (M → StoreView) → (O → Outbox) → ℕ → PumpKit M O P → Known → PumpKit M O P → Known → ServeEnd → Type 0
+pump_deed outlet_tells shelf outbox number o k n l end =
+    PumpDid outlet_tells number (pump_view shelf outbox o) k (pump_view shelf outbox n) l end
 
 abbrev pub ticker_deed : {C O P : Type 0} → (outlet_tells : Type 0) → (C → Dial) → (O → Outbox) → ℕ → TickKit C O P → Known → TickKit C O P → Known → ServeEnd → Type 0
 ticker_deed outlet_tells dial outbox number o k n l end = TickerDid outlet_tells (tick_view dial outbox o) k (tick_view dial outbox n) l end

@@ -1,5 +1,6 @@
 -- What each job of a serve run has done when all have ended.
 use Rattle.std.specs.Prelude.{◌≡◌, ◌≢◌, ℕ, ◌≤◌, ◌⊎◌, true, List, [], ◌∷◌, ◌++◌, map, length, Some, None}
+use Rattle.satip_base.specs.declared.limits.TheConstants.{LONGEST_HISTORY}
 use Rattle.satip_base.specs.Output.{Output}
 use Rattle.satip_history.specs.Lists.{Each}
 use Rattle.satip_plain.specs.declared.answers.Answer.{Answer}
@@ -27,7 +28,7 @@ Caller = Row Event Answer Output
 
 -- the history has as many entries as one ever has
 abbrev pub IsFull : List Item → Type 0
-IsFull h = length h ≡ 18446744073709551615
+IsFull h = length h ≡ LONGEST_HISTORY
 
 -- no connection met want of memory, and one met a full history only where it is full
 abbrev pub EndsInTime : (full : Type 0) → Return → Type 0

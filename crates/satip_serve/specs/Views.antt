@@ -1,5 +1,6 @@
 -- What contracts see of the kits of jobs.
 use Rattle.std.specs.Prelude.{ℕ, List, Option}
+use Rattle.satip_world.specs.Recordings.{StoreView}
 use Rattle.satip_world.specs.Dials.{Dial}
 use Rattle.satip_world.specs.Halls.{Hall}
 use Rattle.satip_world.specs.Outboxes.{Outbox}
@@ -25,12 +26,12 @@ pub record PumpView : Type 0 where
   pub peak : ℕ
   pub outbox : Outbox
 
-abbrev pub pump_view : {M O P : Type 0} → (M → ℕ → Option (List ℕ)) → (faults lent peak : M → ℕ) → (O → Outbox) → PumpKit M O P → PumpView
-pump_view recording faults lent peak outbox kit = record {
-  recording = recording kit.store;
-  faults = faults kit.store;
-  lent = lent kit.store;
-  peak = peak kit.store;
+abbrev pub pump_view : {M O P : Type 0} → (M → StoreView) → (O → Outbox) → PumpKit M O P → PumpView
+pump_view shelf outbox kit = record {
+  recording = (shelf kit.store).recording;
+  faults = (shelf kit.store).faults;
+  lent = (shelf kit.store).lent;
+  peak = (shelf kit.store).peak;
   outbox = outbox kit.outlet;
 }
 

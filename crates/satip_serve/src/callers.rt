@@ -52,7 +52,8 @@ pub(crate) fn seat_all<'a, R: Wait + Sync, K, M>(
     ensures number { pass.new.number ≡ pass.old.number }
     ensures own { pass.new.own ≡ pass.old.own }
     ensures kept { pass.new.kept ≡ pass.old.kept }
-    ensures made { pass.new.made ≡ pass.old.made ++ map (λ j. j.pass.number) (jobs_of seats.new.items) }
+    ensures made { pass.new.made ≡ pass.old.made
+        ++ map (λ j. j.pass.number) (jobs_of seats.new.items) }
     ensures empty { kits.new.items ≡ [] }
     ensures begun { Begun server.now kits.old.items (jobs_of seats.new.items) }
     ensures seated { vec_len seats.new ≤ vec_capacity kits.new }

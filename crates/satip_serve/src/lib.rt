@@ -1,4 +1,5 @@
-//! The server with all its jobs: workers, pumps and the ticker, beside each other, over one history.
+//! The server with all its jobs: workers, pumps and the ticker, beside each other, over one
+//! history.
 #![tactic(auto)]
 
 mod callers;

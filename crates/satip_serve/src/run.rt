@@ -55,14 +55,16 @@ fn work_all<R: Threads + Wait + Sync, D: Doors + Send, O: Outlet + Send, P: Pace
     rt: &R,
     seats: &mut Vec<Seat<'_, R, WorkerKit<D, O, P>, Room>>,
 )
-    ensures did { Both (JobDid (worker_deed D.Conn.tells O.tells D.hall O.outbox)) (jobs_of seats.old.items) (jobs_of seats.new.items) }
+    ensures did { Both (JobDid (worker_deed D.Conn.tells O.tells D.hall O.outbox))
+        (jobs_of seats.old.items) (jobs_of seats.new.items) }
 {
     run_list(
         rt,
         seats,
         &|seat: &mut Seat<'_, R, WorkerKit<D, O, P>, Room>|
             requires { IsSync R.row }
-            ensures { JobDid (worker_deed D.Conn.tells O.tells D.hall O.outbox) (job_of seat.old) (job_of seat.new) }
+            ensures { JobDid (worker_deed D.Conn.tells O.tells D.hall O.outbox) (job_of seat.old)
+                (job_of seat.new) }
         { work_seat(seat) },
     );
 }
@@ -71,14 +73,16 @@ fn pump_all<R: Threads + Wait + Sync, M: MuxStore + Send, O: Outlet + Send, P: P
     rt: &R,
     seats: &mut Vec<Seat<'_, R, PumpKit<M, O, P>, PumpRoom>>,
 )
-    ensures did { Both (JobDid (pump_deed O.tells M.recording M.faults M.lent M.peak O.outbox)) (jobs_of seats.old.items) (jobs_of seats.new.items) }
+    ensures did { Both (JobDid (pump_deed O.tells M.shelf O.outbox)) (jobs_of seats.old.items)
+        (jobs_of seats.new.items) }
 {
     run_list(
         rt,
         seats,
         &|seat: &mut Seat<'_, R, PumpKit<M, O, P>, PumpRoom>|
             requires { IsSync R.row }
-            ensures { JobDid (pump_deed O.tells M.recording M.faults M.lent M.peak O.outbox) (job_of seat.old) (job_of seat.new) }
+            ensures { JobDid (pump_deed O.tells M.shelf O.outbox) (job_of seat.old)
+                (job_of seat.new) }
         { pump_seat(seat) },
     );
 }
@@ -87,10 +91,12 @@ fn pump_all<R: Threads + Wait + Sync, M: MuxStore + Send, O: Outlet + Send, P: P
 fn run_front<R: Threads + Wait + Sync, D: Doors + Send, O: Outlet + Send, P: Pacer + Send>(
     front: &mut Front<'_, R, D, O, P>,
 )
-    requires ready { IsReady front.old.server.now front.old.pass (jobs_of front.old.workers.items) front.old.kits.items
+    requires ready { IsReady front.old.server.now front.old.pass (jobs_of front.old.workers.items)
+        front.old.kits.items
         (vec_len front.old.workers) (vec_capacity front.old.kits) }
     ensures did { FrontDid (worker_deed D.Conn.tells O.tells D.hall O.outbox) front.old.server.now
-        front.old.pass (jobs_of front.old.workers.items) front.new.pass front.new.kits.items front.new.end }
+        front.old.pass (jobs_of front.old.workers.items) front.new.pass front.new.kits.items
+        front.new.end }
 {
     work_all(front.rt, &mut front.workers);
     let worst = join_all(
@@ -111,8 +117,10 @@ fn run_back<
     P: Pacer + Send,
     C: Clock + Send,
 >(back: &mut Back<'_, R, M, O, P, C>)
-    ensures pumps { Both (JobDid (pump_deed O.tells M.recording M.faults M.lent M.peak O.outbox)) (jobs_of back.old.pumps.items) (jobs_of back.new.pumps.items) }
-    ensures ticker { JobDid (ticker_deed O.tells C.dial O.outbox) (job_of back.old.ticker) (job_of back.new.ticker) }
+    ensures pumps { Both (JobDid (pump_deed O.tells M.shelf O.outbox))
+        (jobs_of back.old.pumps.items) (jobs_of back.new.pumps.items) }
+    ensures ticker { JobDid (ticker_deed O.tells C.dial O.outbox) (job_of back.old.ticker)
+        (job_of back.new.ticker) }
 {
     let rt = back.rt;
     run_beside(
@@ -120,18 +128,20 @@ fn run_back<
         &mut back.pumps,
         &|pumps: &mut Vec<Seat<'_, R, PumpKit<M, O, P>, PumpRoom>>|
             requires { IsSync R.row }
-            ensures { Both (JobDid (pump_deed O.tells M.recording M.faults M.lent M.peak O.outbox)) (jobs_of pumps.old.items) (jobs_of pumps.new.items) }
+            ensures { Both (JobDid (pump_deed O.tells M.shelf O.outbox)) (jobs_of pumps.old.items)
+                (jobs_of pumps.new.items) }
         { pump_all(rt, pumps) },
         &mut back.ticker,
         &|ticker: &mut Seat<'_, R, TickKit<C, O, P>, Out>|
             requires { IsSync R.row }
-            ensures { JobDid (ticker_deed O.tells C.dial O.outbox) (job_of ticker.old) (job_of ticker.new) }
+            ensures { JobDid (ticker_deed O.tells C.dial O.outbox) (job_of ticker.old)
+                (job_of ticker.new) }
         { tick_seat(ticker) },
     );
 }
 
-// The workers and the stop, beside the pumps and the ticker. Where no thread can be started the second
-// work is done first, so the workers are: pumps and ticker would wait for the stop for ever.
+// The workers and the stop, beside the pumps and the ticker. Where no thread can be started the
+// second work is done first, so the workers are: pumps and ticker would wait for the stop for ever.
 fn run_both<
     R: Threads + Wait + Sync,
     D: Doors + Send,
@@ -140,27 +150,36 @@ fn run_both<
     M: MuxStore + Send,
     C: Clock + Send,
 >(rt: &R, front: &mut Front<'_, R, D, O, P>, back: &mut Back<'_, R, M, O, P, C>)
-    requires ready { IsReady front.old.server.now front.old.pass (jobs_of front.old.workers.items) front.old.kits.items
+    requires ready { IsReady front.old.server.now front.old.pass (jobs_of front.old.workers.items)
+        front.old.kits.items
         (vec_len front.old.workers) (vec_capacity front.old.kits) }
     ensures front { FrontDid (worker_deed D.Conn.tells O.tells D.hall O.outbox) front.old.server.now
-        front.old.pass (jobs_of front.old.workers.items) front.new.pass front.new.kits.items front.new.end }
-    ensures pumps { Both (JobDid (pump_deed O.tells M.recording M.faults M.lent M.peak O.outbox)) (jobs_of back.old.pumps.items) (jobs_of back.new.pumps.items) }
-    ensures ticker { JobDid (ticker_deed O.tells C.dial O.outbox) (job_of back.old.ticker) (job_of back.new.ticker) }
+        front.old.pass (jobs_of front.old.workers.items) front.new.pass front.new.kits.items
+        front.new.end }
+    ensures pumps { Both (JobDid (pump_deed O.tells M.shelf O.outbox))
+        (jobs_of back.old.pumps.items) (jobs_of back.new.pumps.items) }
+    ensures ticker { JobDid (ticker_deed O.tells C.dial O.outbox) (job_of back.old.ticker)
+        (job_of back.new.ticker) }
 {
     run_beside(
         rt,
         back,
         &|back: &mut Back<'_, R, M, O, P, C>|
             requires { IsSync R.row }
-            ensures { Both (JobDid (pump_deed O.tells M.recording M.faults M.lent M.peak O.outbox)) (jobs_of back.old.pumps.items) (jobs_of back.new.pumps.items)
-                × JobDid (ticker_deed O.tells C.dial O.outbox) (job_of back.old.ticker) (job_of back.new.ticker) }
+            ensures { Both (JobDid (pump_deed O.tells M.shelf O.outbox))
+                (jobs_of back.old.pumps.items) (jobs_of back.new.pumps.items)
+                × JobDid (ticker_deed O.tells C.dial O.outbox) (job_of back.old.ticker)
+                (job_of back.new.ticker) }
         { run_back(back) },
         front,
         &|front: &mut Front<'_, R, D, O, P>|
-            requires { IsSync R.row × IsReady front.old.server.now front.old.pass (jobs_of front.old.workers.items) front.old.kits.items
+            requires { IsSync R.row × IsReady front.old.server.now front.old.pass
+                (jobs_of front.old.workers.items) front.old.kits.items
                 (vec_len front.old.workers) (vec_capacity front.old.kits) }
-            ensures { FrontDid (worker_deed D.Conn.tells O.tells D.hall O.outbox) front.old.server.now
-                front.old.pass (jobs_of front.old.workers.items) front.new.pass front.new.kits.items front.new.end }
+            ensures { FrontDid (worker_deed D.Conn.tells O.tells D.hall O.outbox)
+                front.old.server.now
+                front.old.pass (jobs_of front.old.workers.items) front.new.pass front.new.kits.items
+                front.new.end }
         { run_front(front) },
     );
 }
@@ -193,11 +212,14 @@ pub(crate) fn run_jobs<
     space: Space<'a, R, D, O, P, M>,
 ) -> (SharedPass, Jobs<D, O, P, M, C>, ServeEnd)
     requires of { IsOf pass server.now }
-    requires workers { IsSpace jobs.workers.items space.worker_rooms.items space.workers.items (vec_capacity space.workers) }
-    requires pumps { IsSpace jobs.pumps.items space.pump_rooms.items space.pumps.items (vec_capacity space.pumps) }
+    requires workers { IsSpace jobs.workers.items space.worker_rooms.items space.workers.items
+        (vec_capacity space.workers) }
+    requires pumps { IsSpace jobs.pumps.items space.pump_rooms.items space.pumps.items
+        (vec_capacity space.pumps) }
     ensures of { IsOf result.0 server.now }
     ensures knows { Knows (Legal server.now.setting) result.0 }
-    ensures did { RunDid (worker_deed D.Conn.tells O.tells D.hall O.outbox) (pump_deed O.tells M.recording M.faults M.lent M.peak O.outbox)
+    ensures did { RunDid (worker_deed D.Conn.tells O.tells D.hall O.outbox)
+        (pump_deed O.tells M.shelf O.outbox)
         (ticker_deed O.tells C.dial O.outbox) server.now pass jobs.workers.items jobs.pumps.items jobs.tick
         result.0 result.1.workers.items result.1.pumps.items result.1.tick result.2 }
 {

@@ -71,7 +71,8 @@ pub(crate) fn seat_one<'a, R: Wait + Sync, K, M>(
 pub(crate) fn work_seat<R: Wait + Sync, D: Doors, O: Outlet, P: Pacer>(
     seat: &mut Seat<'_, R, WorkerKit<D, O, P>, Room>,
 )
-    ensures same { SameCaller seat.old.caller.server.now seat.old.caller.pass seat.new.caller.server.now seat.new.caller.pass }
+    ensures same { SameCaller seat.old.caller.server.now seat.old.caller.pass
+        seat.new.caller.server.now seat.new.caller.pass }
     ensures number { seat.new.number ≡ seat.old.number }
     ensures did { WorkerDid D.Conn.tells O.tells seat.old.number
         (worker_view D.hall O.outbox seat.old.kit) (known_by seat.old.caller.pass)
@@ -94,11 +95,12 @@ pub(crate) fn work_seat<R: Wait + Sync, D: Doors, O: Outlet, P: Pacer>(
 pub(crate) fn pump_seat<R: Wait + Sync, M: MuxStore, O: Outlet, P: Pacer>(
     seat: &mut Seat<'_, R, PumpKit<M, O, P>, PumpRoom>,
 )
-    ensures same { SameCaller seat.old.caller.server.now seat.old.caller.pass seat.new.caller.server.now seat.new.caller.pass }
+    ensures same { SameCaller seat.old.caller.server.now seat.old.caller.pass
+        seat.new.caller.server.now seat.new.caller.pass }
     ensures number { seat.new.number ≡ seat.old.number }
     ensures did { PumpDid O.tells seat.old.number
-        (pump_view M.recording M.faults M.lent M.peak O.outbox seat.old.kit) (known_by seat.old.caller.pass)
-        (pump_view M.recording M.faults M.lent M.peak O.outbox seat.new.kit) (known_by seat.new.caller.pass) seat.new.end }
+        (pump_view M.shelf O.outbox seat.old.kit) (known_by seat.old.caller.pass)
+        (pump_view M.shelf O.outbox seat.new.kit) (known_by seat.new.caller.pass) seat.new.end }
 {
     // No job begins with its lock held.
     seat.kit.outlet.unlock();
@@ -118,7 +120,8 @@ pub(crate) fn pump_seat<R: Wait + Sync, M: MuxStore, O: Outlet, P: Pacer>(
 pub(crate) fn tick_seat<R: Wait + Sync, C: Clock, O: Outlet, P: Pacer>(
     seat: &mut Seat<'_, R, TickKit<C, O, P>, Out>,
 )
-    ensures same { SameCaller seat.old.caller.server.now seat.old.caller.pass seat.new.caller.server.now seat.new.caller.pass }
+    ensures same { SameCaller seat.old.caller.server.now seat.old.caller.pass
+        seat.new.caller.server.now seat.new.caller.pass }
     ensures number { seat.new.number ≡ seat.old.number }
     ensures did { TickerDid O.tells
         (tick_view C.dial O.outbox seat.old.kit) (known_by seat.old.caller.pass)

@@ -111,7 +111,8 @@ fn serve_all<
     requires few { length jobs.pumps.items ≤ 16 }
     ensures of { IfOk result (λ served. IsOf served.0 server.now) }
     ensures knows { IfOk result (λ served. Knows (Legal server.now.setting) served.0) }
-    ensures did { IfOk result (λ served. RunDid (worker_deed D.Conn.tells O.tells D.hall O.outbox) (pump_deed O.tells M.recording M.faults M.lent M.peak O.outbox)
+    ensures did { IfOk result (λ served. RunDid (worker_deed D.Conn.tells O.tells D.hall O.outbox)
+        (pump_deed O.tells M.shelf O.outbox)
         (ticker_deed O.tells C.dial O.outbox) server.now pass jobs.workers.items jobs.pumps.items jobs.tick
         served.0 served.1.workers.items served.1.pumps.items served.1.tick served.2) }
     ensures unused { IfErr result (λ back. back ≡ jobs) }
@@ -155,23 +156,30 @@ pub fn serve<
     ensures knows { IfOk result (λ served. Knows (Legal served.0.server.setting) served.0.pass) }
 
     // the kits in their order, each worker's with its key, and each pump's with its recordings
-    ensures keys { IfOk result (λ served. map (λ kit. kit.key) served.0.jobs.workers.items ≡ map (λ kit. kit.key) jobs.workers.items) }
-    ensures recordings { IfOk result (λ served. map (λ kit. M.recording kit.store) served.0.jobs.pumps.items
-        ≡ map (λ kit. M.recording kit.store) jobs.pumps.items) }
+    ensures keys { IfOk result (λ served. map (λ kit. kit.key) served.0.jobs.workers.items
+        ≡ map (λ kit. kit.key) jobs.workers.items) }
+    ensures recordings { IfOk result (λ served. map (λ kit. (M.shelf kit.store).recording)
+        served.0.jobs.pumps.items
+        ≡ map (λ kit. (M.shelf kit.store).recording) jobs.pumps.items) }
 
     // where the kits were fresh
     ensures run { IfOk result (λ served. (accepts : _)
-        → AreFresh accepts (map (worker_view D.hall O.outbox) jobs.workers.items) (map (pump_view M.recording M.faults M.lent M.peak O.outbox) jobs.pumps.items)
+        → AreFresh accepts (map (worker_view D.hall O.outbox) jobs.workers.items)
+        (map (pump_view M.shelf O.outbox) jobs.pumps.items)
         (tick_view C.dial O.outbox jobs.tick)
-        → ServeRun D.Conn.tells O.tells served.0.server.setting accepts served.0.pass.seen served.0.pass.kept
-        (map (worker_view D.hall O.outbox) served.0.jobs.workers.items) (map (pump_view M.recording M.faults M.lent M.peak O.outbox) served.0.jobs.pumps.items)
+        → ServeRun D.Conn.tells O.tells served.0.server.setting accepts served.0.pass.seen
+        served.0.pass.kept
+        (map (worker_view D.hall O.outbox) served.0.jobs.workers.items) (map (pump_view M.shelf O.outbox) served.0.jobs.pumps.items)
         (tick_view C.dial O.outbox served.0.jobs.tick)) }
     // why it ended so: all doors ended, or those of a worker failed, or the history is full
     ensures ended { IfOk result (λ served. (accepts : _)
-        → AreFresh accepts (map (worker_view D.hall O.outbox) jobs.workers.items) (map (pump_view M.recording M.faults M.lent M.peak O.outbox) jobs.pumps.items)
+        → AreFresh accepts (map (worker_view D.hall O.outbox) jobs.workers.items)
+        (map (pump_view M.shelf O.outbox) jobs.pumps.items)
         (tick_view C.dial O.outbox jobs.tick)
-        → EndTells served.1 served.0.pass.seen (map (worker_view D.hall O.outbox) served.0.jobs.workers.items)) }
-    ensures unused { IfErr result (λ back. Unused C.dial jobs.workers.items back.workers.items jobs.pumps.items back.pumps.items jobs.tick back.tick) }
+        → EndTells served.1 served.0.pass.seen (map (worker_view D.hall O.outbox)
+        served.0.jobs.workers.items)) }
+    ensures unused { IfErr result (λ back. Unused C.dial jobs.workers.items back.workers.items
+        jobs.pumps.items back.pumps.items jobs.tick back.tick) }
 {
     let start = jobs.tick.clock.now();
     match make(alloc, config, start) {

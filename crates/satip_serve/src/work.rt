@@ -23,7 +23,8 @@ pub(crate) fn work<R: Wait + Sync, S: Service, D: Doors, O: Outlet, P: Pacer>(
     requires free { (O.outbox kit.old.outlet).held ≡ false }
     ensures same { S.same service.old service.new }
     ensures did { S.may_want service.old ≡ false
-        → WorkerDid D.Conn.tells O.tells number (worker_view D.hall O.outbox kit.old) (S.known service.old)
+        → WorkerDid D.Conn.tells O.tells number (worker_view D.hall O.outbox kit.old)
+        (S.known service.old)
         (worker_view D.hall O.outbox kit.new) (S.known service.new) result }
 {
     let end = run_worker(rt, service, kit, number as u64, room);
@@ -42,8 +43,8 @@ pub(crate) fn pump<R: Wait + Sync, S: Service, M: MuxStore, O: Outlet, P: Pacer>
     requires free { (O.outbox kit.old.outlet).held ≡ false }
     ensures same { S.same service.old service.new }
     ensures did { S.may_want service.old ≡ false
-        → PumpDid O.tells number (pump_view M.recording M.faults M.lent M.peak O.outbox kit.old) (S.known service.old)
-        (pump_view M.recording M.faults M.lent M.peak O.outbox kit.new) (S.known service.new) result }
+        → PumpDid O.tells number (pump_view M.shelf O.outbox kit.old) (S.known service.old)
+        (pump_view M.shelf O.outbox kit.new) (S.known service.new) result }
 {
     let end = run_pump(rt, service, number, kit, out, batch);
     ServeEnd::of_job(end)

@@ -1,5 +1,6 @@
 -- What one call of a service does to what its caller knows.
 use Rattle.std.specs.Prelude.{◌≡◌, ℕ, ◌≤◌, ◌⊎◌, Bool, true, List, length, Option, None, IsSome, Result, Ok, Err}
+use Rattle.satip_base.specs.declared.limits.TheConstants.{LONGEST_HISTORY}
 use Rattle.satip_base.specs.Output.{Output}
 use Rattle.satip_history.specs.declared.entry.Taken.{Taken}
 use Rattle.satip_history.specs.History.{entry, entries}
@@ -13,7 +14,7 @@ use Rattle.satip_service.specs.Suits.{Suits}
 
 -- why there was no entry: the history is full, or memory was refused by a service that can answer so
 abbrev pub Cause : Bool → Known → ServiceFault → Type 0
-Cause may_want l Spent = l.length ≡ 18446744073709551615
+Cause may_want l Spent = l.length ≡ LONGEST_HISTORY
 Cause may_want l Want = may_want ≡ true
 
 -- the event was made, and is the last entry seen

@@ -29,10 +29,12 @@ pub trait Service {
     ghost same: { Self → Self → Type 0 };
 
     /// Makes one event. Its entry has the answer, and what `out` then has. `Spent` comes only where
-    /// the history is full, `Want` only where the service can answer it; the event then has no entry.
+    /// the history is full, `Want` only where the service can answer it; the event then has no
+    /// entry.
     fn call(&mut self, event: &Event, out: &mut Out) -> Result<Answer, ServiceFault>
         ensures same { same self.old self.new }
-        ensures called { Called (may_want self.old) (known self.old) (known self.new) event.now out.new result };
+        ensures called { Called (may_want self.old) (known self.old) (known self.new) event.now
+            out.new result };
 
     /// Makes the events of the lot one after another, at most 64, until the lot gives none. Each is
     /// one entry. Other callers' entries may stand between them.

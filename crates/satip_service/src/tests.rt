@@ -13,7 +13,8 @@ ghost use Rattle.satip_service.specs.Suits.{Suits, closes};
 // Entries of one caller among those of two, in order.
 fn among_rows(a: u16, b: u16)
     ensures none { AreAmong [] (entry 1 (Ask a) (Work Nothing) empty ∷ []) }
-    ensures all { AreAmong (entry 1 (Ask a) (Work Nothing) empty ∷ []) (entry 1 (Ask a) (Work Nothing) empty ∷ []) }
+    ensures all { AreAmong (entry 1 (Ask a) (Work Nothing) empty ∷ [])
+        (entry 1 (Ask a) (Work Nothing) empty ∷ []) }
     ensures some { AreAmong (entry 1 (Ask a) (Work Nothing) empty ∷ [])
         (entry 2 (Ask b) (Work Nothing) empty ∷ entry 1 (Ask a) (Work Nothing) empty ∷ []) }
 {

@@ -1,5 +1,6 @@
 -- The kits that a desk gave, as they are seen, and how they come back.
 use Rattle.std.specs.Prelude.{◌≡◌, ℕ, List, Option, map}
+use Rattle.satip_world.specs.Recordings.{StoreView}
 use Rattle.satip_world.specs.Dials.{Dial, Reads}
 use Rattle.satip_world.specs.Halls.{Hall}
 use Rattle.satip_world.specs.Outboxes.{Outbox}
@@ -12,10 +13,10 @@ pub record JobsView : Type 0 where
   pub pumps : List PumpView
   pub ticker : TickView
 
-abbrev pub jobs_view : {D O P M C : Type 0} → (D → Hall) → (O → Outbox) → (M → ℕ → Option (List ℕ)) → (faults lent peak : M → ℕ) → (C → Dial) → Jobs D O P M C → JobsView
-jobs_view hall outbox recording faults lent peak dial jobs = record {
+abbrev pub jobs_view : {D O P M C : Type 0} → (D → Hall) → (O → Outbox) → (M → StoreView) → (C → Dial) → Jobs D O P M C → JobsView
+jobs_view hall outbox shelf dial jobs = record {
   workers = map (worker_view hall outbox) jobs.workers.items;
-  pumps = map (pump_view recording faults lent peak outbox) jobs.pumps.items;
+  pumps = map (pump_view shelf outbox) jobs.pumps.items;
   ticker = tick_view dial outbox jobs.tick;
 }
 

@@ -58,7 +58,7 @@ pub trait Desk {
         ensures texts { text self.new ≡ text self.old }
         ensures kits { given self.new ≡ given self.old }
         ensures started { IfOk result (λ source. IsStarted Self.Config.tells
-            (record { left = Self.Config.left source; ended = Self.Config.ended source; faults = Self.Config.faults source; taken = Self.Config.taken source })
+            (Self.Config.feed source)
             (text self.old name.now)) }
         ensures no_fault { IfOk result (λ _. faults self.new ≡ faults self.old) }
         ensures failed { OnErr result (Rises (faults self.old) (faults self.new)) };
@@ -74,14 +74,15 @@ pub trait Desk {
     ) -> Result<Jobs<Self::Doors, Self::Outlet, Self::Pacer, Self::Store, Self::Clock>, JobsFault>
         requires { given self.old ≡ None }
         ensures texts { text self.new ≡ text self.old }
-        ensures kits { IfOk result (λ jobs. given self.new ≡ Some (jobs_view Self.Doors.hall Self.Outlet.outbox
-            Self.Store.recording Self.Store.faults Self.Store.lent Self.Store.peak Self.Clock.dial jobs)) }
+        ensures kits { IfOk result (λ jobs. given self.new
+            ≡ Some (jobs_view Self.Doors.hall Self.Outlet.outbox
+            Self.Store.shelf Self.Clock.dial jobs)) }
         ensures kept { OnErr result (given self.new ≡ None) }
         ensures workers { IfOk result (λ jobs. length jobs.workers.items ≡ config.now.workers) }
         ensures pumps { IfOk result (λ jobs. length jobs.pumps.items ≡ length config.now.fronts) }
         ensures fresh { IfOk result (λ jobs. AreFresh accepts
             (map (worker_view Self.Doors.hall Self.Outlet.outbox) jobs.workers.items)
-            (map (pump_view Self.Store.recording Self.Store.faults Self.Store.lent Self.Store.peak Self.Outlet.outbox) jobs.pumps.items)
+            (map (pump_view Self.Store.shelf Self.Outlet.outbox) jobs.pumps.items)
             (tick_view Self.Clock.dial Self.Outlet.outbox jobs.tick)) }
         ensures no_fault { IfOk result (λ _. faults self.new ≡ faults self.old) }
         ensures failed { IfErr result (FailsFor (faults self.old) (faults self.new)) };

@@ -1,4 +1,5 @@
-//! The command `serve` as a function of the name of its configuration, its number of connections and its desk.
+//! The command `serve` as a function of the name of its configuration, its number of connections
+//! and its desk.
 #![tactic(auto)]
 
 mod desk;

@@ -6,7 +6,6 @@ ghost use Rattle.satip_config.specs.declared.fault.ConfigFault.{ConfigFault as F
 ghost use Rattle.satip_fronts.specs.FrontEnds.{IsNumbered};
 ghost use Rattle.satip_replay.specs.Ends.{Refused};
 ghost use Rattle.satip_replay.specs.Replays.{Configured, IsServed};
-ghost use Rattle.satip_replay.specs.Seen.{feed};
 ghost use Rattle.satip_serve.specs.Done.{IsFull};
 ghost use Rattle.satip_serve.specs.ServeRuns.{ServeRun, HasFault};
 ghost use Rattle.satip_history.specs.Lists.{Each};
@@ -114,33 +113,42 @@ fn serve_jobs<
     requires pumps { length jobs.pumps.items ≡ length config.fronts }
     requires fresh { AreFresh _accepts
         (map (worker_view D.hall O.outbox) jobs.workers.items)
-        (map (pump_view M.recording M.faults M.lent M.peak O.outbox) jobs.pumps.items)
+        (map (pump_view M.shelf O.outbox) jobs.pumps.items)
         (tick_view C.dial O.outbox jobs.tick) }
     ensures one { IsOneOf result.last result.unused }
     ensures kits_left { IfSome result.last (λ last. ComeBack
-        (jobs_view D.hall O.outbox M.recording M.faults M.lent M.peak C.dial jobs)
-        (jobs_view D.hall O.outbox M.recording M.faults M.lent M.peak C.dial last.jobs)) }
+        (jobs_view D.hall O.outbox M.shelf C.dial jobs)
+        (jobs_view D.hall O.outbox M.shelf C.dial last.jobs)) }
     ensures kits_unused { IfSome result.unused (λ kits. ComeUnused
-        (jobs_view D.hall O.outbox M.recording M.faults M.lent M.peak C.dial jobs)
-        (jobs_view D.hall O.outbox M.recording M.faults M.lent M.peak C.dial kits)) }
+        (jobs_view D.hall O.outbox M.shelf C.dial jobs)
+        (jobs_view D.hall O.outbox M.shelf C.dial kits)) }
     ensures of { IfSome result.last (λ last. IsOf last.pass last.server) }
     ensures config { IfSome result.last (λ last. last.server.setting.config ≡ config) }
-    ensures run { IfSome result.last (λ last. ServeRun D.Conn.tells O.tells last.server.setting _accepts last.pass.seen last.pass.kept
+    ensures run { IfSome result.last (λ last. ServeRun D.Conn.tells O.tells last.server.setting
+        _accepts last.pass.seen last.pass.kept
         (map (worker_view D.hall O.outbox) last.jobs.workers.items)
-        (map (pump_view M.recording M.faults M.lent M.peak O.outbox) last.jobs.pumps.items)
+        (map (pump_view M.shelf O.outbox) last.jobs.pumps.items)
         (tick_view C.dial O.outbox last.jobs.tick)) }
-    ensures payload { IfSome result.last (λ last. SendsSelected last.server.setting last.pass.seen) }
+    ensures payload { IfSome result.last (λ last. SendsSelected last.server.setting
+        last.pass.seen) }
     ensures owners { IfSome result.last (λ last. ObeysOwners last.server.setting last.pass.seen) }
     ensures busy { IfSome result.last (λ last. TellsBusy last.server.setting last.pass.seen) }
-    ensures recordings { IfSome result.last (λ last. PlaysRecordings last.server.setting last.pass.seen
-        (map (pump_view M.recording M.faults M.lent M.peak O.outbox) last.jobs.pumps.items)) }
-    ensures begun { MatchOption result.last (result.end ≡ ServingEnd.OutOfMemory) (λ _. IsEndOfRun result.end) }
-    ensures served { result.end ≡ ServingEnd.Served → IsSomeAnd result.last (λ last. Each (λ w. w.hall.ended ≡ true) (map (worker_view D.hall O.outbox) last.jobs.workers.items)) }
-    ensures doors_fault { result.end ≡ ServingEnd.DoorsFault → IsSomeAnd result.last (λ last. HasFault (map (worker_view D.hall O.outbox) last.jobs.workers.items)) }
-    ensures history_full { result.end ≡ ServingEnd.HistoryFull → IsSomeAnd result.last (λ last. IsFull last.pass.seen) }
+    ensures recordings { IfSome result.last (λ last. PlaysRecordings last.server.setting
+        last.pass.seen
+        (map (pump_view M.shelf O.outbox) last.jobs.pumps.items)) }
+    ensures begun { MatchOption result.last (result.end ≡ ServingEnd.OutOfMemory)
+        (λ _. IsEndOfRun result.end) }
+    ensures served { result.end ≡ ServingEnd.Served
+        → IsSomeAnd result.last (λ last. Each (λ w. w.hall.ended ≡ true)
+        (map (worker_view D.hall O.outbox) last.jobs.workers.items)) }
+    ensures doors_fault { result.end ≡ ServingEnd.DoorsFault
+        → IsSomeAnd result.last (λ last. HasFault
+        (map (worker_view D.hall O.outbox) last.jobs.workers.items)) }
+    ensures history_full { result.end ≡ ServingEnd.HistoryFull
+        → IsSomeAnd result.last (λ last. IsFull last.pass.seen) }
     ensures unused { IfSome result.unused (λ kits. AreUnused _accepts
         (map (worker_view D.hall O.outbox) kits.workers.items)
-        (map (pump_view M.recording M.faults M.lent M.peak O.outbox) kits.pumps.items)
+        (map (pump_view M.shelf O.outbox) kits.pumps.items)
         (tick_view C.dial O.outbox kits.tick)) }
 {
     match serve(rt, alloc, config, jobs) {
@@ -170,41 +178,59 @@ fn serve_source<R: Threads + Wait + Sync, K: Desk>(
 ) -> Left<K::Doors, K::Outlet, K::Pacer, K::Store, K::Clock>
     requires new { K.given desk.old ≡ None }
     ensures texts { K.text desk.new ≡ K.text desk.old }
-    ensures kits { MatchOption (K.given desk.new) (IsNeitherOf result.last result.unused) (λ _. IsOneOf result.last result.unused) }
-    ensures kits_left { IfSome result.last (λ last. IsSomeAnd (K.given desk.new) (λ given. ComeBack given
-        (jobs_view K.Doors.hall K.Outlet.outbox K.Store.recording K.Store.faults K.Store.lent K.Store.peak K.Clock.dial last.jobs))) }
-    ensures kits_unused { IfSome result.unused (λ kits. IsSomeAnd (K.given desk.new) (λ given. ComeUnused given
-        (jobs_view K.Doors.hall K.Outlet.outbox K.Store.recording K.Store.faults K.Store.lent K.Store.peak K.Clock.dial kits))) }
+    ensures kits { MatchOption (K.given desk.new) (IsNeitherOf result.last result.unused)
+        (λ _. IsOneOf result.last result.unused) }
+    ensures kits_left { IfSome result.last (λ last. IsSomeAnd (K.given desk.new)
+        (λ given. ComeBack given
+        (jobs_view K.Doors.hall K.Outlet.outbox K.Store.shelf K.Clock.dial last.jobs))) }
+    ensures kits_unused { IfSome result.unused
+        (λ kits. IsSomeAnd (K.given desk.new) (λ given. ComeUnused given
+        (jobs_view K.Doors.hall K.Outlet.outbox K.Store.shelf K.Clock.dial kits))) }
     ensures of { IfSome result.last (λ last. IsOf last.pass last.server) }
     ensures config { IfSome result.last (λ last. Configured K.Config.tells
-        (feed K.Config.left K.Config.ended K.Config.faults K.Config.taken source.old) (feed K.Config.left K.Config.ended K.Config.faults K.Config.taken source.new)
+        (K.Config.feed source.old) (K.Config.feed source.new)
         last.server.setting.config) }
-    ensures run { IfSome result.last (λ last. ServeRun K.Doors.Conn.tells K.Outlet.tells last.server.setting accepts last.pass.seen last.pass.kept
+    ensures run { IfSome result.last (λ last. ServeRun K.Doors.Conn.tells K.Outlet.tells
+        last.server.setting accepts last.pass.seen last.pass.kept
         (map (worker_view K.Doors.hall K.Outlet.outbox) last.jobs.workers.items)
-        (map (pump_view K.Store.recording K.Store.faults K.Store.lent K.Store.peak K.Outlet.outbox) last.jobs.pumps.items)
+        (map (pump_view K.Store.shelf K.Outlet.outbox) last.jobs.pumps.items)
         (tick_view K.Clock.dial K.Outlet.outbox last.jobs.tick)) }
-    ensures payload { IfSome result.last (λ last. SendsSelected last.server.setting last.pass.seen) }
+    ensures payload { IfSome result.last (λ last. SendsSelected last.server.setting
+        last.pass.seen) }
     ensures owners { IfSome result.last (λ last. ObeysOwners last.server.setting last.pass.seen) }
     ensures busy { IfSome result.last (λ last. TellsBusy last.server.setting last.pass.seen) }
-    ensures recordings { IfSome result.last (λ last. PlaysRecordings last.server.setting last.pass.seen
-        (map (pump_view K.Store.recording K.Store.faults K.Store.lent K.Store.peak K.Outlet.outbox) last.jobs.pumps.items)) }
+    ensures recordings { IfSome result.last (λ last. PlaysRecordings last.server.setting
+        last.pass.seen
+        (map (pump_view K.Store.shelf K.Outlet.outbox) last.jobs.pumps.items)) }
     ensures begun { IfSome result.last (λ _. IsEndOfRun result.end) }
-    ensures configuration { (fault : Fault) → result.end ≡ ServingEnd.Configuration fault → Refused K.Config.tells
-        (feed K.Config.left K.Config.ended K.Config.faults K.Config.taken source.old) (feed K.Config.left K.Config.ended K.Config.faults K.Config.taken source.new)
+    ensures configuration { (fault : Fault) → result.end ≡ ServingEnd.Configuration fault
+        → Refused K.Config.tells
+        (K.Config.feed source.old) (K.Config.feed source.new)
         fault }
-    ensures input_fault { result.end ≡ ServingEnd.InputFault → Rose (K.Config.faults source.old) (K.Config.faults source.new) }
-    ensures read_through { (result.end ≡ ServingEnd.InputFault → ⊥) → K.Config.faults source.new ≡ K.Config.faults source.old }
-    ensures desk_faults { (K.faults desk.new ≡ K.faults desk.old) ⊎ ((result.end ≡ ServingEnd.DoorsFault) × IsNone result.last) }
-    ensures settled { K.Config.tells → (Rose (K.Config.faults source.old) (K.Config.faults source.new) → ⊥) → IsServingOf (K.Config.left source.old) result.end }
-    ensures served { result.end ≡ ServingEnd.Served → IsSomeAnd result.last (λ last. Each (λ w. w.hall.ended ≡ true) (map (worker_view K.Doors.hall K.Outlet.outbox) last.jobs.workers.items)) }
-    ensures doors_fault { result.end ≡ ServingEnd.DoorsFault → MatchOption result.last (Rises (K.faults desk.old) (K.faults desk.new))
-        (λ last. HasFault (map (worker_view K.Doors.hall K.Outlet.outbox) last.jobs.workers.items)) }
-    ensures no_kits { result.end ≡ ServingEnd.DoorsFault → IsNone result.last → K.given desk.new ≡ None }
-    ensures history_full { result.end ≡ ServingEnd.HistoryFull → IsSomeAnd result.last (λ last. IsFull last.pass.seen) }
+    ensures input_fault { result.end ≡ ServingEnd.InputFault
+        → Rose (K.Config.feed source.old).faults (K.Config.feed source.new).faults }
+    ensures read_through { (result.end ≡ ServingEnd.InputFault → ⊥)
+        → (K.Config.feed source.new).faults ≡ (K.Config.feed source.old).faults }
+    ensures desk_faults { (K.faults desk.new ≡ K.faults desk.old)
+        ⊎ ((result.end ≡ ServingEnd.DoorsFault) × IsNone result.last) }
+    ensures settled { K.Config.tells → (Rose (K.Config.feed source.old).faults
+        (K.Config.feed source.new).faults → ⊥) → IsServingOf (K.Config.feed source.old).left
+        result.end }
+    ensures served { result.end ≡ ServingEnd.Served
+        → IsSomeAnd result.last (λ last. Each (λ w. w.hall.ended ≡ true)
+        (map (worker_view K.Doors.hall K.Outlet.outbox) last.jobs.workers.items)) }
+    ensures doors_fault { result.end ≡ ServingEnd.DoorsFault
+        → MatchOption result.last (Rises (K.faults desk.old) (K.faults desk.new))
+        (λ last. HasFault (map (worker_view K.Doors.hall K.Outlet.outbox)
+        last.jobs.workers.items)) }
+    ensures no_kits { result.end ≡ ServingEnd.DoorsFault → IsNone result.last
+        → K.given desk.new ≡ None }
+    ensures history_full { result.end ≡ ServingEnd.HistoryFull
+        → IsSomeAnd result.last (λ last. IsFull last.pass.seen) }
     ensures out_of_memory { IfSome result.unused (λ _. result.end ≡ ServingEnd.OutOfMemory) }
     ensures unused { IfSome result.unused (λ kits. AreUnused accepts
         (map (worker_view K.Doors.hall K.Outlet.outbox) kits.workers.items)
-        (map (pump_view K.Store.recording K.Store.faults K.Store.lent K.Store.peak K.Outlet.outbox) kits.pumps.items)
+        (map (pump_view K.Store.shelf K.Outlet.outbox) kits.pumps.items)
         (tick_view K.Clock.dial K.Outlet.outbox kits.tick)) }
 {
     let config = match read_configuration(alloc, source) {
@@ -244,55 +270,73 @@ pub fn serve_by<R: Threads + Wait + Sync, K: Desk>(
 
     // Where the desk gave its kits, those are what the jobs left, each at its place, or no job
     // began with them, and they come back as they were, but for one reading of the clock.
-    ensures kits { MatchOption (K.given desk.new) (IsNeitherOf result.last result.unused) (λ _. IsOneOf result.last result.unused) }
-    ensures kits_left { IfSome result.last (λ last. IsSomeAnd (K.given desk.new) (λ given. ComeBack given
-        (jobs_view K.Doors.hall K.Outlet.outbox K.Store.recording K.Store.faults K.Store.lent K.Store.peak K.Clock.dial last.jobs))) }
-    ensures kits_unused { IfSome result.unused (λ kits. IsSomeAnd (K.given desk.new) (λ given. ComeUnused given
-        (jobs_view K.Doors.hall K.Outlet.outbox K.Store.recording K.Store.faults K.Store.lent K.Store.peak K.Clock.dial kits))) }
+    ensures kits { MatchOption (K.given desk.new) (IsNeitherOf result.last result.unused)
+        (λ _. IsOneOf result.last result.unused) }
+    ensures kits_left { IfSome result.last (λ last. IsSomeAnd (K.given desk.new)
+        (λ given. ComeBack given
+        (jobs_view K.Doors.hall K.Outlet.outbox K.Store.shelf K.Clock.dial last.jobs))) }
+    ensures kits_unused { IfSome result.unused
+        (λ kits. IsSomeAnd (K.given desk.new) (λ given. ComeUnused given
+        (jobs_view K.Doors.hall K.Outlet.outbox K.Store.shelf K.Clock.dial kits))) }
 
     // The jobs' run: its pass is one of its server, and its configuration is that of the desk's
     // text.
     ensures of { IfSome result.last (λ last. IsOf last.pass last.server) }
     ensures config { IfSome result.last (λ last. IsSomeAnd result.config (λ source.
-        GivenFrom K.Config.tells (K.text desk.old name.now) (λ before. Configured K.Config.tells before
-        (feed K.Config.left K.Config.ended K.Config.faults K.Config.taken source) last.server.setting.config))) }
-    ensures run { IfSome result.last (λ last. ServeRun K.Doors.Conn.tells K.Outlet.tells last.server.setting accepts last.pass.seen last.pass.kept
+        GivenFrom K.Config.tells (K.text desk.old name.now)
+        (λ before. Configured K.Config.tells before
+        (K.Config.feed source) last.server.setting.config))) }
+    ensures run { IfSome result.last (λ last. ServeRun K.Doors.Conn.tells K.Outlet.tells
+        last.server.setting accepts last.pass.seen last.pass.kept
         (map (worker_view K.Doors.hall K.Outlet.outbox) last.jobs.workers.items)
-        (map (pump_view K.Store.recording K.Store.faults K.Store.lent K.Store.peak K.Outlet.outbox) last.jobs.pumps.items)
+        (map (pump_view K.Store.shelf K.Outlet.outbox) last.jobs.pumps.items)
         (tick_view K.Clock.dial K.Outlet.outbox last.jobs.tick)) }
-    ensures payload { IfSome result.last (λ last. SendsSelected last.server.setting last.pass.seen) }
+    ensures payload { IfSome result.last (λ last. SendsSelected last.server.setting
+        last.pass.seen) }
     ensures owners { IfSome result.last (λ last. ObeysOwners last.server.setting last.pass.seen) }
     ensures busy { IfSome result.last (λ last. TellsBusy last.server.setting last.pass.seen) }
-    ensures recordings { IfSome result.last (λ last. PlaysRecordings last.server.setting last.pass.seen
-        (map (pump_view K.Store.recording K.Store.faults K.Store.lent K.Store.peak K.Outlet.outbox) last.jobs.pumps.items)) }
+    ensures recordings { IfSome result.last (λ last. PlaysRecordings last.server.setting
+        last.pass.seen
+        (map (pump_view K.Store.shelf K.Outlet.outbox) last.jobs.pumps.items)) }
 
     // The configuration is given back, unless the desk failed to open it. Its count rises then, or
     // where it gives no kits.
     ensures opened { MatchOption result.config (Rises (K.faults desk.old) (K.faults desk.new))
-        (λ _. (K.faults desk.new ≡ K.faults desk.old) ⊎ ((result.end ≡ ServingEnd.DoorsFault) × IsNone result.last)) }
+        (λ _. (K.faults desk.new ≡ K.faults desk.old)
+        ⊎ ((result.end ≡ ServingEnd.DoorsFault) × IsNone result.last)) }
 
     // When each end comes.
     ensures begun { IfSome result.last (λ _. IsEndOfRun result.end) }
-    ensures configuration { (fault : Fault) → result.end ≡ ServingEnd.Configuration fault → IsSomeAnd result.config (λ source.
+    ensures configuration { (fault : Fault) → result.end ≡ ServingEnd.Configuration fault
+        → IsSomeAnd result.config (λ source.
         GivenFrom K.Config.tells (K.text desk.old name.now) (λ before. Refused K.Config.tells before
-        (feed K.Config.left K.Config.ended K.Config.faults K.Config.taken source) fault)) }
+        (K.Config.feed source) fault)) }
     ensures input_fault { result.end ≡ ServingEnd.InputFault
-        → MatchOption result.config (Rises (K.faults desk.old) (K.faults desk.new)) (λ source. Rose 0 (K.Config.faults source)) }
+        → MatchOption result.config (Rises (K.faults desk.old) (K.faults desk.new))
+        (λ source. Rose 0 (K.Config.feed source).faults) }
     ensures unopened { IsNone result.config → result.end ≡ ServingEnd.InputFault }
-    ensures read_through { (result.end ≡ ServingEnd.InputFault → ⊥) → IsSomeAnd result.config (λ source. K.Config.faults source ≡ 0) }
-    ensures settled { (text : List ℕ) → K.text desk.old name.now ≡ Some text → IfSome result.config (λ source.
-        (Rose 0 (K.Config.faults source) → ⊥) → IsServingOf text result.end) }
-    ensures served { result.end ≡ ServingEnd.Served → IsSomeAnd result.last (λ last. Each (λ w. w.hall.ended ≡ true) (map (worker_view K.Doors.hall K.Outlet.outbox) last.jobs.workers.items)) }
-    ensures doors_fault { result.end ≡ ServingEnd.DoorsFault → MatchOption result.last (Rises (K.faults desk.old) (K.faults desk.new))
-        (λ last. HasFault (map (worker_view K.Doors.hall K.Outlet.outbox) last.jobs.workers.items)) }
-    ensures no_kits { result.end ≡ ServingEnd.DoorsFault → IsNone result.last → K.given desk.new ≡ None }
-    ensures history_full { result.end ≡ ServingEnd.HistoryFull → IsSomeAnd result.last (λ last. IsFull last.pass.seen) }
+    ensures read_through { (result.end ≡ ServingEnd.InputFault → ⊥)
+        → IsSomeAnd result.config (λ source. (K.Config.feed source).faults ≡ 0) }
+    ensures settled { (text : List ℕ) → K.text desk.old name.now ≡ Some text
+        → IfSome result.config (λ source.
+        (Rose 0 (K.Config.feed source).faults → ⊥) → IsServingOf text result.end) }
+    ensures served { result.end ≡ ServingEnd.Served
+        → IsSomeAnd result.last (λ last. Each (λ w. w.hall.ended ≡ true)
+        (map (worker_view K.Doors.hall K.Outlet.outbox) last.jobs.workers.items)) }
+    ensures doors_fault { result.end ≡ ServingEnd.DoorsFault
+        → MatchOption result.last (Rises (K.faults desk.old) (K.faults desk.new))
+        (λ last. HasFault (map (worker_view K.Doors.hall K.Outlet.outbox)
+        last.jobs.workers.items)) }
+    ensures no_kits { result.end ≡ ServingEnd.DoorsFault → IsNone result.last
+        → K.given desk.new ≡ None }
+    ensures history_full { result.end ≡ ServingEnd.HistoryFull
+        → IsSomeAnd result.last (λ last. IsFull last.pass.seen) }
     ensures out_of_memory { IfSome result.unused (λ _. result.end ≡ ServingEnd.OutOfMemory) }
 
     // With kits that no job began with nothing was done, but for one reading of the clock.
     ensures unused { IfSome result.unused (λ kits. AreUnused accepts
         (map (worker_view K.Doors.hall K.Outlet.outbox) kits.workers.items)
-        (map (pump_view K.Store.recording K.Store.faults K.Store.lent K.Store.peak K.Outlet.outbox) kits.pumps.items)
+        (map (pump_view K.Store.shelf K.Outlet.outbox) kits.pumps.items)
         (tick_view K.Clock.dial K.Outlet.outbox kits.tick)) }
 {
     match desk.config(name) {

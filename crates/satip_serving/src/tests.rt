@@ -12,10 +12,15 @@ fn places_are_counted()
     ensures from_two { EachAt (λ n x. n ≡ x) 1 (2 ∷ 3 ∷ []) → ⊥ }
 {}
 
-// A packet that no stream is tuned for needs no recording; one that a stream gets is of none but its own.
+// A packet that no stream is tuned for needs no recording; one that a stream gets is of none but
+// its own.
 fn packets_are_of_recordings()
-    ensures stale { PlaysRecordings setting (history (packet 16 ∷ [])) (pump_with empty_recordings ∷ []) }
-    ensures invented { PlaysRecordings setting (history (setup ∷ play ∷ packet 16 ∷ [])) (pump_with empty_recordings ∷ []) → ⊥ }
-    ensures another { PlaysRecordings setting (history (setup ∷ play ∷ packet 16 ∷ [])) (pump_with (recordings_of 17) ∷ []) → ⊥ }
-    ensures too_many { PlaysRecordings setting (history (setup ∷ play ∷ packet 16 ∷ packet 16 ∷ [])) (pump_with (recordings_of 16) ∷ []) → ⊥ }
+    ensures stale { PlaysRecordings setting (history (packet 16 ∷ []))
+        (pump_with empty_recordings ∷ []) }
+    ensures invented { PlaysRecordings setting (history (setup ∷ play ∷ packet 16 ∷ []))
+        (pump_with empty_recordings ∷ []) → ⊥ }
+    ensures another { PlaysRecordings setting (history (setup ∷ play ∷ packet 16 ∷ []))
+        (pump_with (recordings_of 17) ∷ []) → ⊥ }
+    ensures too_many { PlaysRecordings setting (history (setup ∷ play ∷ packet 16 ∷ packet 16 ∷ []))
+        (pump_with (recordings_of 16) ∷ []) → ⊥ }
 {}

@@ -44,7 +44,8 @@ impl<'a, R: Wait + Sync> Service for Caller<'a, R> {
 
     ghost same_self = { λ s. same_caller s.server.now s.pass };
 
-    ghost same_then = { λ r s t a b. same_caller_then r.server.now r.pass s.server.now s.pass t.server.now t.pass a b };
+    ghost same_then = { λ r s t a b. same_caller_then r.server.now r.pass s.server.now s.pass
+        t.server.now t.pass a b };
 
     ghost same_setting = { λ s t a. same_caller_setting s.server.now s.pass t.server.now t.pass a };
 

@@ -19,7 +19,8 @@ impl<'a, L: Lot> Feed<Server> for Feeding<'a, L> {
     ghost ended = { λ f. L.ended f.lot.now };
 
     // and it still has the same lot
-    ghost has_taken = { λ f g ts. (g.lot.ghost_name ≡ f.lot.ghost_name) × L.has_taken f.lot.now g.lot.now ts };
+    ghost has_taken = { λ f g ts. (g.lot.ghost_name ≡ f.lot.ghost_name)
+        × L.has_taken f.lot.now g.lot.now ts };
 
     ghost none_taken = { λ f. (refl, L.none_taken f.lot.now) };
 

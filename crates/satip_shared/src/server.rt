@@ -23,7 +23,8 @@ pub fn make(alloc: Global, config: Config, start: u64) -> Result<(SharedServer, 
     requires few { length config.fronts ≤ 16 }
     requires numbered { IsNumbered 1 config.fronts }
     requires received { length config.muxes ≤ 256 }
-    ensures setting { IfOk result (λ made. made.0.setting ≡ record { config = config; start = start }) }
+    ensures setting { IfOk result (λ made. made.0.setting
+        ≡ record { config = config; start = start }) }
     ensures pass { IfOk result (λ made. made.1 ≡ first_pass made.0) }
     ensures of { IfOk result (λ made. IsOf made.1 made.0) }
     ensures knows { IfOk result (λ made. Knows (Legal made.0.setting) made.1) }

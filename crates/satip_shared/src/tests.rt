@@ -59,11 +59,15 @@ pub(crate) fn shared(alloc: Global) -> Result<(SharedServer, SharedPass), Fail>
     Ok(make(alloc, config, 1000)?)
 }
 
-// The first pass knows nothing; a caller that met a taken turn is the same, one of another number isn't.
+// The first pass knows nothing; a caller that met a taken turn is the same, one of another number
+// isn't.
 fn caller_rows(server: &SharedServer, number: u64)
-    ensures nothing { known_by (first_pass server.now) ≡ record { seen = []; own = []; length = 0 } }
-    ensures same { SameCaller server.now (first_pass server.now) server.now (met_once (first_pass server.now)) }
-    ensures other { 0 < number → ¬ (SameCaller server.now (first_pass server.now) server.now (newborn (first_pass server.now) number)) }
+    ensures nothing { known_by (first_pass server.now)
+        ≡ record { seen = []; own = []; length = 0 } }
+    ensures same { SameCaller server.now (first_pass server.now) server.now
+        (met_once (first_pass server.now)) }
+    ensures other { 0 < number → ¬ (SameCaller server.now (first_pass server.now) server.now
+        (newborn (first_pass server.now) number)) }
 {
     let _server = server;
     let _ = number;

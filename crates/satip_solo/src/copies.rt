@@ -64,8 +64,10 @@ pub(crate) fn copy_out(from: &Out, to: &mut Out)
 fn copy_datagram(from: &Out, place: usize, to: &mut Out)
     requires within { place < length from.now.datagrams }
     requires count { to.old.count_spare ≢ 0 }
-    requires bytes { IsSomeAnd (slice_get from.now.datagrams place) (λ datagram. length datagram.bytes ≤ to.old.datagram_spare) }
-    ensures sent { IsSomeAnd (slice_get from.now.datagrams place) (λ datagram. Sends to.old datagram.to datagram.bytes to.new) }
+    requires bytes { IsSomeAnd (slice_get from.now.datagrams place)
+        (λ datagram. length datagram.bytes ≤ to.old.datagram_spare) }
+    ensures sent { IsSomeAnd (slice_get from.now.datagrams place)
+        (λ datagram. Sends to.old datagram.to datagram.bytes to.new) }
 {
     match from.datagram(place) {
         Some((address, bytes)) => {

@@ -109,10 +109,13 @@ pub(crate) fn stop_where_due(
 ) -> bool
     requires places { vec_len entries.old + 2 ≤ vec_capacity entries.old }
     ensures stopped { IsTrue result
-        → Stopped (is_at stop.old (length entries.old.items)) server.old entries.old.items server.new entries.new.items }
-    ensures then_stop { IsTrue result → stop.new ≡ (if is_at stop.old (length entries.old.items) then None else stop.old) }
+        → Stopped (is_at stop.old (length entries.old.items)) server.old entries.old.items
+        server.new entries.new.items }
+    ensures then_stop { IsTrue result → stop.new
+        ≡ (if is_at stop.old (length entries.old.items) then None else stop.old) }
     ensures places { IsTrue result → vec_len entries.new < vec_capacity entries.new }
-    ensures same { result ≡ false → (server.new ≡ server.old) × (entries.new.items ≡ entries.old.items) × (stop.new ≡ stop.old) }
+    ensures same { result ≡ false → (server.new ≡ server.old)
+        × (entries.new.items ≡ entries.old.items) × (stop.new ≡ stop.old) }
 {
     if !is_due(*stop, entries.len()) {
         return true;

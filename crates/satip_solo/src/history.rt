@@ -28,7 +28,11 @@ impl Model for History {
 
     ghost Value = { Log };
 
-    ghost view = { λ s. record { setting = s.server.setting; entries = s.entries.items; stop = s.stop } };
+    ghost view = { λ s. record {
+      setting = s.server.setting;
+      entries = s.entries.items;
+      stop = s.stop;
+    } };
 
     ghost invariant = { λ s. IsSound s.server s.entries.items s.stop };
 }

@@ -82,7 +82,8 @@ impl Service for Solo {
     /// memory is refused, neither was made.
     fn call(&mut self, event: &Event, out: &mut Out) -> Result<Answer, ServiceFault>
         ensures same { (log_of self.new).setting ≡ (log_of self.old).setting }
-        ensures called { Called true (known_of (log_of self.old)) (known_of (log_of self.new)) event.now out.new result }
+        ensures called { Called true (known_of (log_of self.old)) (known_of (log_of self.new))
+            event.now out.new result }
         ensures goes { MatchResult result
             (λ answer. Goes (log_of self.old) event.now answer out.new (log_of self.new))
             (λ fault. (fault ≡ ServiceFault.Want) × (log_of self.new ≡ log_of self.old)) }
@@ -99,7 +100,8 @@ impl Service for Solo {
         ensures bursts { Bursts true (known_of (log_of self.old)) (known_of (log_of self.new))
             (L.ended lot.new) (L.given lot.new) (L.has_taken lot.old lot.new) result }
         ensures wants { IfErr result (λ fault. fault ≡ ServiceFault.Want) }
-        ensures goes { (ts : List (Taken Happening Answered Output)) × L.has_taken lot.old lot.new ts
+        ensures goes { (ts : List (Taken Happening Answered Output))
+            × L.has_taken lot.old lot.new ts
             × GoesOn (log_of self.old) ts (log_of self.new) }
     {
         for made in 0..64u32 {

@@ -1,5 +1,6 @@
 -- When the parts stand for a state of the plain server.
 use Rattle.std.specs.Prelude.{ℕ, ◌≡◌, ◌<◌, ◌≤◌, true, false, if◌then◌else◌, List, [], map, length, sum, Some, slice_get, IfSome}
+use Rattle.satip_base.specs.declared.limits.TheConstants.{QUEUED, MOST_HELD}
 use Rattle.std.specs.Option.{option_and_then}
 use Rattle.satip_base.specs.Output.{Output}
 use Rattle.satip_rtp.specs.Sending.{SendsAll}
@@ -23,7 +24,7 @@ row_in r = record { number = r.number; mux = r.mux; tune = r.tune; ended = r.end
 
 -- so many packets wait at most, in the queue of an HTTP session and in a packer
 abbrev pub most_held : Session → ℕ
-most_held s = if s.http then 4096 else 6
+most_held s = if s.http then QUEUED else MOST_HELD
 
 -- what holds of a session at all times
 pub record IsKept (s : Session) : Type 0 where

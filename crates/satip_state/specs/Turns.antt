@@ -1,5 +1,6 @@
 -- Sessions that have their turns one after another.
 use Rattle.std.specs.Prelude.{ℕ, true, zero, suc, ◌+◌, ◌==◌, nat_le, ◌&&◌, not, Bool, List, [], ◌∷◌, ◌++◌, Option, None, Some, if◌then◌else◌}
+use Rattle.satip_base.specs.declared.limits.TheConstants.{REPORT_MS}
 use Rattle.std.specs.List.{cons_option}
 use Rattle.std.specs.Option.{option_map_or}
 use Rattle.satip_table.specs.declared.session.Session.{Session as Row}
@@ -52,4 +53,4 @@ report_turn c st s =
 
 -- whether a session of the table is due a report
 abbrev pub is_row_due : ℕ → Row → Bool
-is_row_due clock row = row.playing && not row.http && option_map_or (λ at. nat_le (at + 200) clock) row.reported true
+is_row_due clock row = row.playing && not row.http && option_map_or (λ at. nat_le (at + REPORT_MS) clock) row.reported true

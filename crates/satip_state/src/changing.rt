@@ -13,10 +13,11 @@ use satip_base::{Address, Peer, Ports, SessionId};
 use satip_pids::PidSet;
 
 impl Parts {
-    /// The session was heard of at the clock's moment, and ends one timeout later unless it is heard of
-    /// again. Where it doesn't live nothing changes.
+    /// The session was heard of at the clock's moment, and ends one timeout later unless it is
+    /// heard of again. Where it doesn't live nothing changes.
     pub fn hear(&mut self, id: SessionId)
-        ensures heard { (c : Config) (st : State) → StandsFor c self.old st → StandsFor c self.new (heard_in id st) }
+        ensures heard { (c : Config) (st : State) → StandsFor c self.old st
+            → StandsFor c self.new (heard_in id st) }
     {
         self.table.known();
         let Some(slot) = self.table.slot(id) else {
@@ -27,10 +28,12 @@ impl Parts {
         self.timer.set(slot, end);
     }
 
-    /// The session's datagrams go to these ports of this peer. Where it doesn't live nothing changes.
+    /// The session's datagrams go to these ports of this peer. Where it doesn't live nothing
+    /// changes.
     pub fn move_to(&mut self, id: SessionId, peer: Peer, ports: Ports)
         ensures moved { (c : Config) (st : State) → StandsFor c self.old st
-            → StandsFor c self.new (change_session id (λ s. record s { peer = peer; ports = ports }) st) }
+            → StandsFor c self.new (change_session id (λ s. record s { peer = peer; ports = ports })
+            st) }
     {
         self.table.known();
         let Some(slot) = self.table.slot(id) else {
@@ -81,7 +84,7 @@ impl Parts {
             return;
         };
         let (tuning, front) = (stream.tuning, stream.front);
-        self.table.change(number, tuning, front, *pids);
+        self.table.change(number, tuning, front, pids.copy());
         self.flow.change(number, known_front(front), pids);
     }
 }

@@ -13,23 +13,24 @@ ghost use Rattle.satip_state.specs.Standing.{StandsFor, Moved};
 ghost use Rattle.satip_state.specs.Ending.{EndedMarked, Removed};
 
 use crate::parts::Parts;
+use satip_base::limits::{DATAGRAM, SESSIONS};
 use satip_base::{Out, SessionId};
 use satip_table::Seat;
 
-const SLOTS: u16 = 64;
+const SLOTS: u16 = SESSIONS as u16;
 
 impl Parts {
-    /// Ends a session: what an RTSP session holds leaves, and what an HTTP session has queued is dropped. A stream
-    /// without sessions is gone, and its front end is free if it serves no other. False where the session
-    /// doesn't live; nothing changes then.
+    /// Ends a session: what an RTSP session holds leaves, and what an HTTP session has queued is
+    /// dropped. A stream without sessions is gone, and its front end is free if it serves no other.
+    /// False where the session doesn't live; nothing changes then.
     pub fn end_session(&mut self, id: SessionId, out: &mut Out) -> bool
-        requires bytes { 1328 ≤ out.old.datagram_spare }
+        requires bytes { DATAGRAM ≤ out.old.datagram_spare }
         requires count { out.old.count_spare ≢ 0 }
         ensures moved { (c : Config) (st : State) → StandsFor c self.old st
             → Moved c self.new out.old out.new (end_where (is_session id) st) }
         ensures lived { (c : Config) (st : State) → StandsFor c self.old st
             → result ≡ list_any (is_session id) st.sessions }
-        ensures bytes_spare { out.old.datagram_spare ≤ out.new.datagram_spare + 1328 }
+        ensures bytes_spare { out.old.datagram_spare ≤ out.new.datagram_spare + DATAGRAM }
         ensures count_spare { out.old.count_spare ≤ out.new.count_spare + 1 }
     {
         self.table.known();
@@ -42,7 +43,8 @@ impl Parts {
         true
     }
 
-    /// Ends a session, and drops what it holds: for one that holds nothing. False where it doesn't live.
+    /// Ends a session, and drops what it holds: for one that holds nothing. False where it doesn't
+    /// live.
     pub(crate) fn drop_session(&mut self, id: SessionId) -> bool
         ensures ended { (c : Config) (st : State) → StandsFor c self.old st
             → StandsFor c self.new (end_where (is_session id) st).state }
@@ -71,9 +73,10 @@ impl Parts {
 
     // Ends the session of a slot, if it is marked.
     fn end_slot(&mut self, marks: u64, slot: u16)
-        requires slot { slot < 64 }
+        requires slot { slot < SESSIONS }
         ensures ended { (c : Config) (st : State) (ends : SessionId → Bool)
-            → EndedMarked c self.old st ends marks slot → EndedMarked c self.new st ends marks (slot + 1) }
+            → EndedMarked c self.old st ends marks slot
+            → EndedMarked c self.new st ends marks (slot + 1) }
     {
         self.table.known();
         if !is_marked(marks, slot) {
@@ -87,7 +90,7 @@ impl Parts {
 
     // The session of a seat goes from each of the parts.
     fn remove(&mut self, id: SessionId, seat: &Seat)
-        requires slot { seat.now.slot < 64 }
+        requires slot { seat.now.slot < SESSIONS }
         ensures removed { Removed id seat.now self.old self.new }
     {
         let _listed = self.flow.end(seat.slot);
@@ -99,7 +102,8 @@ impl Parts {
     // A stream that doesn't live any more leaves its front end.
     fn give_back(&mut self, stream: u16)
         ensures rest { self.new ≡ record self.old { fronts = self.new.fronts } }
-        ensures stays { is_live self.old.table.streams stream ≡ true → self.new.fronts ≡ self.old.fronts }
+        ensures stays { is_live self.old.table.streams stream ≡ true
+            → self.new.fronts ≡ self.old.fronts }
         ensures leaves { is_live self.old.table.streams stream ≡ false → 1 ≤ stream → stream ≤ 64
             → self.new.fronts ≡ left self.old.fronts stream }
     {
@@ -115,7 +119,7 @@ impl Parts {
 
 // Whether the bit of a slot is set.
 fn is_marked(marks: u64, slot: u16) -> bool
-    requires slot { slot < 64 }
+    requires slot { slot < SESSIONS }
     ensures marked { result ≡ (bit_at marks slot == 1) }
 {
     (marks >> slot) & 1 == 1

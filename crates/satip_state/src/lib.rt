@@ -1,4 +1,5 @@
-//! The state of the server: sessions, streams, front ends and subscribers, kept by one part each and told as the plain server's state.
+//! The state of the server: sessions, streams, front ends and subscribers, kept by one part each
+//! and told as the plain server's state.
 #![tactic(auto)]
 
 mod changing;
@@ -16,8 +17,3 @@ mod ticking;
 mod views;
 
 pub use parts::Parts;
-
-#[cfg(test)]
-mod packet_tests;
-#[cfg(test)]
-mod request_tests;

@@ -13,14 +13,17 @@ ghost use Rattle.satip_state.specs.Standing.{StandsFor, stream_in};
 
 use crate::parts::Parts;
 use satip_base::SessionId;
+use satip_base::limits::SESSIONS;
 use satip_flow::SenderState;
 use satip_table::{Seat, Session, Stream};
 use satip_tune::Tuning;
 
 impl Parts {
-    /// Does nothing: tells a caller's proof that at most 64 streams live, and each session's stream among them.
+    /// Does nothing: tells a caller's proof that at most 64 streams live, and each session's stream
+    /// among them.
     pub fn known(&self)
-        ensures few { (c : Config) (st : State) → StandsFor c self.now st → length st.streams ≤ 64 }
+        ensures few { (c : Config) (st : State) → StandsFor c self.now st
+            → length st.streams ≤ SESSIONS }
         ensures housed { (c : Config) (st : State) → StandsFor c self.now st
             → list_all (λ s. is_some (stream_of st s.stream)) st.sessions ≡ true }
     {
@@ -32,7 +35,8 @@ impl Parts {
         ensures session { (c : Config) (st : State) → StandsFor c self.now st
             → result ≡ option_map row_of (rtsp_session st id) }
         ensures rtsp { (c : Config) (st : State) → StandsFor c self.now st
-            → IfSome result (λ row. option_map (λ s. s.http) (find (is_session row.id) st.sessions) ≡ Some false) }
+            → IfSome result (λ row. option_map (λ s. s.http) (find (is_session row.id) st.sessions)
+            ≡ Some false) }
     {
         self.table.known();
         match self.table.find(id) {
@@ -71,7 +75,8 @@ impl Parts {
 
     /// The owner of a stream; None where the stream doesn't live.
     pub fn owner(&self, number: u16) -> Option<SessionId>
-        ensures owner { (c : Config) (st : State) → StandsFor c self.now st → result ≡ owner_id st number }
+        ensures owner { (c : Config) (st : State) → StandsFor c self.now st
+            → result ≡ owner_id st number }
     {
         self.table.known();
         match self.table.find_stream(number) {
@@ -80,8 +85,8 @@ impl Parts {
         }
     }
 
-    /// The sequence number of the next datagram of a session that isn't an HTTP session; 0 where none of this
-    /// id lives.
+    /// The sequence number of the next datagram of a session that isn't an HTTP session; 0 where
+    /// none of this id lives.
     pub fn next_number(&self, id: SessionId) -> u16
         ensures number { (c : Config) (st : State) → StandsFor c self.now st
             → result ≡ rtsp_number (find (is_session id) st.sessions) }
@@ -95,7 +100,8 @@ impl Parts {
 
     /// Whether no stream lives.
     pub fn has_no_streams(&self) -> bool
-        ensures none { (c : Config) (st : State) → StandsFor c self.now st → result ≡ (length st.streams == 0) }
+        ensures none { (c : Config) (st : State) → StandsFor c self.now st
+            → result ≡ (length st.streams == 0) }
     {
         self.table.stream(0).is_none()
     }
@@ -110,14 +116,15 @@ impl Parts {
 
     /// Whether the stop came.
     pub fn is_stopped(&self) -> bool
-        ensures stopped { (c : Config) (st : State) → StandsFor c self.now st → result ≡ st.stopped }
+        ensures stopped { (c : Config) (st : State) → StandsFor c self.now st
+            → result ≡ st.stopped }
     {
         self.stopped
     }
 
-    /// Whether no front end is to be had for a stream with this tuning: none fits, or each that fits serves
-    /// another stream and isn't tuned to the multiplex that the tuning means. `None` is a stream that is
-    /// yet to be founded.
+    /// Whether no front end is to be had for a stream with this tuning: none fits, or each that
+    /// fits serves another stream and isn't tuned to the multiplex that the tuning means. `None` is
+    /// a stream that is yet to be founded.
     pub fn is_blocked(&self, stream: Option<u16>, tuning: &Tuning) -> bool
         ensures blocked { (c : Config) (st : State) → StandsFor c self.now st
             → result ≡ is_blocked c st stream tuning.now }

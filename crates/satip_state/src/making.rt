@@ -14,6 +14,7 @@ ghost use Rattle.satip_state.specs.Standing.{StandsFor};
 
 use crate::parts::Parts;
 use crate::subscribing::subscribe;
+use satip_base::limits::SESSIONS;
 use satip_base::{Draw, Peer, Ports, SessionId, Want};
 use satip_flow::Flow;
 use satip_fronts::Fronts;
@@ -37,9 +38,9 @@ fn capped_moment(moment: u64) -> u64
 }
 
 impl Parts {
-    /// The parts before the first event: no session, the clock at this moment in milliseconds of Unix time,
-    /// and front ends that serve no stream. A session ends that isn't heard of for `timeout` seconds. Takes
-    /// all memory; `Want` where it was refused.
+    /// The parts before the first event: no session, the clock at this moment in milliseconds of
+    /// Unix time, and front ends that serve no stream. A session ends that isn't heard of for
+    /// `timeout` seconds. Takes all memory; `Want` where it was refused.
     pub fn make(
         alloc: Global,
         fronts: Vec<Front>,
@@ -68,8 +69,8 @@ impl Parts {
         })
     }
 
-    /// Makes a session that owns a new stream: its id, and the stream's number. None where no session can be
-    /// made, and then nothing changes.
+    /// Makes a session that owns a new stream: its id, and the stream's number. None where no
+    /// session can be made, and then nothing changes.
     pub fn found(
         &mut self,
         http: bool,
@@ -78,7 +79,8 @@ impl Parts {
         ports: Ports,
     ) -> Option<(SessionId, u16)>
         ensures made { (c : Config) (st : State) → StandsFor c self.old st
-            → result ≡ (if is_full st then None else Some (next_id st draw, least_free st.streams)) }
+            → result ≡ (if is_full st then None else Some
+            (next_id st draw, least_free st.streams)) }
         ensures founded { (c : Config) (st : State) → StandsFor c self.old st
             → StandsFor c self.new (if is_full st then st else founded http peer draw ports st) }
     {
@@ -98,11 +100,12 @@ impl Parts {
         Some((id, number))
     }
 
-    /// Makes an RTSP session that joins a stream: its id. None where no session can be made, or the stream
-    /// doesn't live, and then nothing changes.
+    /// Makes an RTSP session that joins a stream: its id. None where no session can be made, or the
+    /// stream doesn't live, and then nothing changes.
     pub fn join(&mut self, peer: Peer, draw: Draw, ports: Ports, number: u16) -> Option<SessionId>
         ensures made { (c : Config) (st : State) → StandsFor c self.old st
-            → result ≡ (if is_full st || is_none (stream_of st number) then None else Some (next_id st draw)) }
+            → result ≡ (if is_full st || is_none (stream_of st number) then None else Some
+            (next_id st draw)) }
         ensures joined { (c : Config) (st : State) → StandsFor c self.old st
             → StandsFor c self.new
             (if is_full st || is_none (stream_of st number) then st else joined false peer draw ports number st) }
@@ -128,7 +131,8 @@ impl Parts {
         Some(id)
     }
 
-    /// The new session of this id ends one timeout from now, and gets packets at once if it is an HTTP session.
+    /// The new session of this id ends one timeout from now, and gets packets at once if it is an
+    /// HTTP session.
     fn begin(&mut self, id: SessionId)
         ensures begun { Begins id self.old self.new }
         ensures short { self.old.timeout < 2 ^ 32 }
@@ -151,7 +155,7 @@ impl Parts {
 /// The session of this slot begins to get the packets of its stream if it is an HTTP session.
 #[tactic(auto, unfolding(crate::specs::Beginning::with_queue))]
 fn subscribe_http(flow: &mut Flow, slot: u16, session: &Session, stream: &Stream)
-    requires slot { slot < 64 }
+    requires slot { slot < SESSIONS }
     ensures added { IsFrontOrNone stream.now.front
         → flow.new ≡ with_queue slot session.now stream.now flow.old }
 {

@@ -11,21 +11,23 @@ ghost use Rattle.satip_state.specs.Working.{work_of_told};
 
 use crate::parts::Parts;
 use satip_base::Out;
+use satip_base::limits::{DATAGRAMS, SESSIONS};
 use satip_plain::Work;
 use satip_ts::Packet;
 
 impl Parts {
-    /// A packet of a front end's tuning number is given to each playing session of the front end's streams
-    /// that selects its PID. An RTSP session with seven packets sends them. An HTTP session whose queue is
-    /// full ends. Where the front end serves no stream or has another tuning number, nothing happens.
+    /// A packet of a front end's tuning number is given to each playing session of the front end's
+    /// streams that selects its PID. An RTSP session with seven packets sends them. An HTTP session
+    /// whose queue is full ends. Where the front end serves no stream or has another tuning number,
+    /// nothing happens.
     pub fn packet(&mut self, front: u16, tune: u64, packet: &Packet, out: &mut Out)
-        requires bytes { 84992 ≤ out.old.datagram_spare }
-        requires count { 64 ≤ out.old.count_spare }
+        requires bytes { DATAGRAMS ≤ out.old.datagram_spare }
+        requires count { SESSIONS ≤ out.old.count_spare }
         ensures moved { (c : Config) (st : State) → StandsFor c self.old st
             → Moved c self.new out.old out.new
             (if is_current_in st front tune then deliver front packet.now st else settle st) }
-        ensures bytes_spare { out.old.datagram_spare ≤ out.new.datagram_spare + 84992 }
-        ensures count_spare { out.old.count_spare ≤ out.new.count_spare + 64 }
+        ensures bytes_spare { out.old.datagram_spare ≤ out.new.datagram_spare + DATAGRAMS }
+        ensures count_spare { out.old.count_spare ≤ out.new.count_spare + SESSIONS }
     {
         self.table.known();
         self.fronts.known();
@@ -37,8 +39,8 @@ impl Parts {
         self.table.known();
     }
 
-    /// The recording that a front end plays for this tuning number is exhausted. Where the front end serves
-    /// no stream or has another tuning number, nothing happens.
+    /// The recording that a front end plays for this tuning number is exhausted. Where the front
+    /// end serves no stream or has another tuning number, nothing happens.
     pub fn ended(&mut self, front: u16, tune: u64)
         ensures ended { (c : Config) (st : State) → StandsFor c self.old st
             → StandsFor c self.new (on_ended front tune st).state }
@@ -49,7 +51,8 @@ impl Parts {
 
     /// What a front end's pump is to do.
     pub fn work(&self, front: u16) -> Work
-        ensures work { (c : Config) (st : State) → StandsFor c self.now st → result ≡ work_in st front }
+        ensures work { (c : Config) (st : State) → StandsFor c self.now st
+            → result ≡ work_in st front }
     {
         self.table.known();
         if self.stopped {

@@ -10,15 +10,16 @@ ghost use Rattle.satip_state.specs.Standing.{StandsFor, Moved};
 ghost use Rattle.satip_state.specs.Pulling.{pulled_is};
 
 use crate::parts::Parts;
+use satip_base::limits::{DATAGRAM, PULLED_BYTES};
 use satip_base::{Out, SessionId};
 use satip_plain::{Closed, Pulled};
 
 impl Parts {
-    /// Moves the first packets of an HTTP session's queue, 64 at most, to the reply, and tells how many bytes
-    /// these are. The session was heard of. `Empty` where nothing is queued, and `Gone` where no such HTTP
-    /// session lives; nothing changes then.
+    /// Moves the first packets of an HTTP session's queue, 64 at most, to the reply, and tells how
+    /// many bytes these are. The session was heard of. `Empty` where nothing is queued, and `Gone`
+    /// where no such HTTP session lives; nothing changes then.
     pub fn pull(&mut self, id: SessionId, out: &mut Out) -> Pulled
-        requires room { 12032 ≤ out.old.reply_spare }
+        requires room { PULLED_BYTES ≤ out.old.reply_spare }
         ensures answer { (c : Config) (st : State) → StandsFor c self.old st
             → PulledIs result ≡ (on_pull id st).answer }
         ensures stands { (c : Config) (st : State) → StandsFor c self.old st
@@ -39,17 +40,18 @@ impl Parts {
         pulled_of(moved, out.reply().len().saturating_sub(before))
     }
 
-    /// Ends an HTTP session, and drops what it has queued. `Gone` where no such HTTP session lives; nothing
-    /// changes then.
+    /// Ends an HTTP session, and drops what it has queued. `Gone` where no such HTTP session lives;
+    /// nothing changes then.
     pub fn close(&mut self, id: SessionId, out: &mut Out) -> Closed
-        requires bytes { 1328 ≤ out.old.datagram_spare }
+        requires bytes { DATAGRAM ≤ out.old.datagram_spare }
         requires count { out.old.count_spare ≢ 0 }
         ensures answer { (c : Config) (st : State) → StandsFor c self.old st
             → ClosedIs result ≡ (on_close id st).answer }
         ensures moved { (c : Config) (st : State) → StandsFor c self.old st
             → Moved c self.new out.old out.new
             (record { state = (on_close id st).state; sent = (on_close id st).sent }) }
-        ensures silent { (c : Config) (st : State) → StandsFor c self.old st → (on_close id st).sent ≡ [] }
+        ensures silent { (c : Config) (st : State) → StandsFor c self.old st
+            → (on_close id st).sent ≡ [] }
     {
         self.table.known();
         let Some(seat) = self.seat_of(id) else {

@@ -5,13 +5,14 @@ ghost use Rattle.satip_table.specs.Sessions.{has_id, has_slot};
 
 use crate::parts::Parts;
 use satip_base::SessionId;
+use satip_base::limits::SESSIONS;
 use satip_table::Seat;
 
 impl Parts {
     /// The session at this place, from 0, in order of making; None where there is none.
     pub(crate) fn seat(&self, place: usize) -> Option<Seat>
         ensures seat { result ≡ slice_get self.now.table.seats place }
-        ensures within { IfSome result (λ seat. seat.slot < 64) }
+        ensures within { IfSome result (λ seat. seat.slot < SESSIONS) }
     {
         self.table.seat(place).copied()
     }
@@ -19,7 +20,7 @@ impl Parts {
     /// The session with this id; None where it doesn't live.
     pub(crate) fn seat_of(&self, id: SessionId) -> Option<Seat>
         ensures seat { result ≡ find (has_id id) self.now.table.seats }
-        ensures within { IfSome result (λ seat. seat.slot < 64) }
+        ensures within { IfSome result (λ seat. seat.slot < SESSIONS) }
     {
         self.table.seat_of(id).copied()
     }
@@ -27,7 +28,7 @@ impl Parts {
     /// The session of this slot; None where there is none.
     pub(crate) fn seat_at(&self, slot: u16) -> Option<Seat>
         ensures seat { result ≡ find (has_slot slot) self.now.table.seats }
-        ensures within { IfSome result (λ seat. seat.slot < 64) }
+        ensures within { IfSome result (λ seat. seat.slot < SESSIONS) }
     {
         self.table.seat_at(slot).copied()
     }

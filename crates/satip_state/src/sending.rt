@@ -9,43 +9,46 @@ ghost use Rattle.satip_state.specs.Turns.{after_round, flush_turn, is_flushed, t
 
 use crate::parts::Parts;
 use satip_base::Out;
+use satip_base::limits::{DATAGRAM, DATAGRAMS, SESSIONS};
 use satip_table::Session;
 
 impl Parts {
-    /// What is held for each RTSP session of this stream leaves: one datagram a session at most, in order of
-    /// making.
+    /// What is held for each RTSP session of this stream leaves: one datagram a session at most, in
+    /// order of making.
     pub fn flush_stream(&mut self, number: u16, out: &mut Out)
-        requires bytes { 84992 ≤ out.old.datagram_spare }
-        requires count { 64 ≤ out.old.count_spare }
+        requires bytes { DATAGRAMS ≤ out.old.datagram_spare }
+        requires count { SESSIONS ≤ out.old.count_spare }
         ensures moved { (c : Config) (st : State) → StandsFor c self.old st
             → Moved c self.new out.old out.new
             (each_of (λ s. s.stream == number && not s.http) (let_go true st.clock) st) }
-        ensures bytes_spare { out.old.datagram_spare ≤ out.new.datagram_spare + 84992 }
-        ensures count_spare { out.old.count_spare ≤ out.new.count_spare + 64 }
+        ensures bytes_spare { out.old.datagram_spare ≤ out.new.datagram_spare + DATAGRAMS }
+        ensures count_spare { out.old.count_spare ≤ out.new.count_spare + SESSIONS }
     {
         self.flush_where(Some(number), out);
     }
 
-    /// What is held for each RTSP session leaves: one datagram a session at most, in order of making.
+    /// What is held for each RTSP session leaves: one datagram a session at most, in order of
+    /// making.
     pub fn flush_all(&mut self, out: &mut Out)
-        requires bytes { 84992 ≤ out.old.datagram_spare }
-        requires count { 64 ≤ out.old.count_spare }
+        requires bytes { DATAGRAMS ≤ out.old.datagram_spare }
+        requires count { SESSIONS ≤ out.old.count_spare }
         ensures moved { (c : Config) (st : State) → StandsFor c self.old st
-            → Moved c self.new out.old out.new (each_of (λ s. not s.http) (let_go true st.clock) st) }
-        ensures bytes_spare { out.old.datagram_spare ≤ out.new.datagram_spare + 84992 }
-        ensures count_spare { out.old.count_spare ≤ out.new.count_spare + 64 }
+            → Moved c self.new out.old out.new (each_of (λ s. not s.http) (let_go true st.clock)
+            st) }
+        ensures bytes_spare { out.old.datagram_spare ≤ out.new.datagram_spare + DATAGRAMS }
+        ensures count_spare { out.old.count_spare ≤ out.new.count_spare + SESSIONS }
     {
         self.flush_where(None, out);
     }
 
     // What is held for each RTSP session of a stream, or of all streams, leaves.
     fn flush_where(&mut self, only: Option<u16>, out: &mut Out)
-        requires bytes { 84992 ≤ out.old.datagram_spare }
-        requires count { 64 ≤ out.old.count_spare }
+        requires bytes { DATAGRAMS ≤ out.old.datagram_spare }
+        requires count { SESSIONS ≤ out.old.count_spare }
         ensures moved { (c : Config) (st : State) → StandsFor c self.old st
             → Moved c self.new out.old out.new (each (flush_turn only st.clock) st) }
-        ensures bytes_spare { out.old.datagram_spare ≤ out.new.datagram_spare + 84992 }
-        ensures count_spare { out.old.count_spare ≤ out.new.count_spare + 64 }
+        ensures bytes_spare { out.old.datagram_spare ≤ out.new.datagram_spare + DATAGRAMS }
+        ensures count_spare { out.old.count_spare ≤ out.new.count_spare + SESSIONS }
     {
         self.table.known();
         for place in 0..self.table.count() {
@@ -55,12 +58,12 @@ impl Parts {
 
     // The session at a place has its turn in a flush.
     fn flush_place(&mut self, place: usize, only: Option<u16>, out: &mut Out)
-        requires bytes { 1328 ≤ out.old.datagram_spare }
+        requires bytes { DATAGRAM ≤ out.old.datagram_spare }
         requires count { out.old.count_spare ≢ 0 }
         ensures moved { (c : Config) (st : State) → StandsFor c self.old st
             → Moved c self.new out.old out.new
             (after_round st (turn_of place (flush_turn only st.clock) st.sessions)) }
-        ensures bytes_spare { out.old.datagram_spare ≤ out.new.datagram_spare + 1328 }
+        ensures bytes_spare { out.old.datagram_spare ≤ out.new.datagram_spare + DATAGRAM }
         ensures count_spare { out.old.count_spare ≤ out.new.count_spare + 1 }
     {
         self.table.known();

@@ -5,6 +5,7 @@ ghost use Rattle.satip_flow.specs.Subscriptions.{IsFrontOrNone, put, without};
 ghost use Rattle.satip_state.specs.Subscribing.{subscription_of};
 
 use satip_base::Address;
+use satip_base::limits::SESSIONS;
 use satip_flow::{Flow, Place};
 use satip_table::{Session, Stream};
 
@@ -25,10 +26,10 @@ pub(crate) fn known_front(front: Option<u16>) -> Option<u16>
     }
 }
 
-/// The session of this slot begins to get the packets of its stream, in place of any other of the slot: an
-/// HTTP session by a queue, an RTSP session by datagrams.
+/// The session of this slot begins to get the packets of its stream, in place of any other of the
+/// slot: an HTTP session by a queue, an RTSP session by datagrams.
 pub(crate) fn subscribe(flow: &mut Flow, slot: u16, session: &Session, stream: &Stream)
-    requires slot { slot < 64 }
+    requires slot { slot < SESSIONS }
     ensures added { IsFrontOrNone stream.now.front
         → flow.new ≡ put (subscription_of slot session.now stream.now) (without slot flow.old) }
 {

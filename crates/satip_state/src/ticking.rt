@@ -1,4 +1,5 @@
-//! The tick: the clock goes on, held packets leave, sessions end that weren't heard of, and reports leave.
+//! The tick: the clock goes on, held packets leave, sessions end that weren't heard of, and reports
+//! leave.
 
 ghost use Rattle.std.specs.Prelude.{◌≡◌, ◌≢◌, ℕ, ◌+◌, ◌≤◌, nat_le, max, true, Some, slice_get};
 ghost use Rattle.std.specs.Option.{option_map_or};
@@ -9,6 +10,7 @@ ghost use Rattle.satip_state.specs.Standing.{StandsFor, Moved};
 ghost use Rattle.satip_state.specs.Turns.{after_round, is_row_due, report_turn, turn_of};
 
 use crate::parts::Parts;
+use satip_base::limits::{REPORT, REPORT_MS, REPORTS, SESSIONS};
 use satip_base::{Address, Out};
 use satip_flow::SenderState;
 use satip_rtcp::{Sender, write_report};
@@ -17,9 +19,10 @@ use satip_table::{Seat, Session};
 const LAST_MOMENT: u64 = 281474976710655;
 
 impl Parts {
-    /// The clock goes on to `now`, a moment in milliseconds of Unix time of at most 2^48 - 1. What packers hold
-    /// leaves, each session ends that wasn't heard of for the timeout, and each playing RTSP session gets a
-    /// report every 200 milliseconds (SAT>IP 1.2.2, 3.5.13). `address` is the server's IPv4 address.
+    /// The clock goes on to `now`, a moment in milliseconds of Unix time of at most 2^48 - 1. What
+    /// packers hold leaves, each session ends that wasn't heard of for the timeout, and each
+    /// playing RTSP session gets a report every 200 milliseconds (SAT>IP 1.2.2, 3.5.13). `address`
+    /// is the server's IPv4 address.
     pub fn tick(&mut self, now: u64, address: u32, out: &mut Out)
         requires bytes { 187392 ≤ out.old.datagram_spare }
         requires count { 128 ≤ out.old.count_spare }
@@ -61,12 +64,12 @@ impl Parts {
 
     // Each session that is due gets a report.
     fn send_reports(&mut self, address: u32, out: &mut Out)
-        requires bytes { 102400 ≤ out.old.datagram_spare }
-        requires count { 64 ≤ out.old.count_spare }
+        requires bytes { REPORTS ≤ out.old.datagram_spare }
+        requires count { SESSIONS ≤ out.old.count_spare }
         ensures moved { (c : Config) (st : State) → StandsFor c self.old st → address ≡ c.address
             → Moved c self.new out.old out.new (sends_reports c st) }
-        ensures bytes_spare { out.old.datagram_spare ≤ out.new.datagram_spare + 102400 }
-        ensures count_spare { out.old.count_spare ≤ out.new.count_spare + 64 }
+        ensures bytes_spare { out.old.datagram_spare ≤ out.new.datagram_spare + REPORTS }
+        ensures count_spare { out.old.count_spare ≤ out.new.count_spare + SESSIONS }
     {
         self.table.known();
         for place in 0..self.table.count() {
@@ -76,12 +79,12 @@ impl Parts {
 
     // The session at a place gets a report if it is due.
     fn report_place(&mut self, place: usize, address: u32, out: &mut Out)
-        requires bytes { 1600 ≤ out.old.datagram_spare }
+        requires bytes { REPORT ≤ out.old.datagram_spare }
         requires count { out.old.count_spare ≢ 0 }
         ensures moved { (c : Config) (st : State) → StandsFor c self.old st → address ≡ c.address
             → Moved c self.new out.old out.new
             (after_round st (turn_of place (report_turn c st) st.sessions)) }
-        ensures bytes_spare { out.old.datagram_spare ≤ out.new.datagram_spare + 1600 }
+        ensures bytes_spare { out.old.datagram_spare ≤ out.new.datagram_spare + REPORT }
         ensures count_spare { out.old.count_spare ≤ out.new.count_spare + 1 }
     {
         self.table.known();
@@ -94,23 +97,26 @@ impl Parts {
         self.report(&seat, address, out);
     }
 
-    // The session of this seat gets a report. Not inlined, so that sessions that aren't due need no room
-    // for a view.
+    // The session of this seat gets a report. Not inlined, so that sessions that aren't due need no
+    // room for a view.
     #[inline(never)]
     fn report(&mut self, seat: &Seat, address: u32, out: &mut Out)
-        requires bytes { 1600 ≤ out.old.datagram_spare }
+        requires bytes { REPORT ≤ out.old.datagram_spare }
         requires count { out.old.count_spare ≢ 0 }
-        ensures moved { (c : Config) (st : State) (place : ℕ) → StandsFor c self.old st → address ≡ c.address
-            → slice_get self.old.table.seats place ≡ Some seat.now → is_row_due self.old.clock seat.now.session ≡ true
+        ensures moved { (c : Config) (st : State) (place : ℕ) → StandsFor c self.old st
+            → address ≡ c.address
+            → slice_get self.old.table.seats place ≡ Some seat.now
+            → is_row_due self.old.clock seat.now.session ≡ true
             → Moved c self.new out.old out.new
             (after_round st (turn_of place (report_turn c st) st.sessions)) }
-        ensures bytes_spare { out.old.datagram_spare ≤ out.new.datagram_spare + 1600 }
+        ensures bytes_spare { out.old.datagram_spare ≤ out.new.datagram_spare + REPORT }
         ensures count_spare { out.old.count_spare ≤ out.new.count_spare + 1 }
     {
         self.table.known();
-        let Some(view) = self.view(seat.session.stream) else {
+        let Some(stream) = self.table.find_stream(seat.session.stream) else {
             return;
         };
+        let view = self.shown(stream);
         let Some(sent) = self.flow.state(seat.slot) else {
             return;
         };
@@ -129,11 +135,11 @@ fn is_report_due(clock: u64, session: &Session) -> bool
 
 // Whether there was no report, or it is at least 200 milliseconds old.
 fn is_old(reported: Option<u64>, clock: u64) -> bool
-    ensures old { result ≡ option_map_or (λ at. nat_le (at + 200) clock) reported true }
+    ensures old { result ≡ option_map_or (λ at. nat_le (at + REPORT_MS) clock) reported true }
 {
     match reported {
         None => true,
-        Some(at) => clock.saturating_sub(at) >= 200,
+        Some(at) => clock.saturating_sub(at) >= REPORT_MS,
     }
 }
 

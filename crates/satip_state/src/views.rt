@@ -10,10 +10,9 @@ ghost use Rattle.satip_state.specs.Standing.{StandsFor};
 ghost use Rattle.satip_state.specs.Views.{kept_view, plays_in};
 
 use crate::parts::Parts;
+use satip_base::limits::SESSIONS;
 use satip_rtcp::StreamView;
 use satip_table::{Session, Stream};
-
-const SESSIONS: usize = 64;
 
 impl Parts {
     /// The stream of this number, as its clients are shown it; None where it doesn't live.
@@ -27,8 +26,8 @@ impl Parts {
         }
     }
 
-    /// The stream at this place, from 0, in rising number, as its clients are shown it; None where there is
-    /// none.
+    /// The stream at this place, from 0, in rising number, as its clients are shown it; None where
+    /// there is none.
     pub fn view_at(&self, place: usize) -> Option<StreamView>
         ensures view { (c : Config) (st : State) → StandsFor c self.now st
             → result ≡ option_map (view_of st) (slice_get st.streams place) }
@@ -39,8 +38,9 @@ impl Parts {
         }
     }
 
-    // A stream, as its clients are shown it.
-    fn shown(&self, stream: &Stream) -> StreamView
+    /// A stream, as its clients are shown it. It is large, so a caller that has its row asks for it
+    /// here.
+    pub(crate) fn shown(&self, stream: &Stream) -> StreamView
         ensures view { result ≡ kept_view self.now stream.now }
     {
         StreamView {
@@ -48,7 +48,7 @@ impl Parts {
             tuning: stream.tuning,
             front: stream.front.unwrap_or(0),
             locked: self.is_locked(stream.front),
-            pids: stream.pids,
+            pids: stream.pids.copy(),
             playing: self.is_playing(stream.number),
         }
     }

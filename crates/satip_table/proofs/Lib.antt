@@ -1,4 +1,9 @@
 pub mod Listing
+pub mod OrderLaws
+pub mod Placing
 pub mod SeatLaws
+pub mod SeatPlaces
 pub mod StreamLaws
+pub mod StreamPlaces
 pub mod TableLaws
+pub mod HandingOn

@@ -1,14 +1,35 @@
 -- Lists and tests of them.
-use Rattle.std.proofs.Common.{◌≡◌, ◌∙◌, ℕ, ◌+◌, ◌<◌, ◌≤◌, ◌&&◌, ◌||◌, not, Bool, true, false, cond, List, [], ◌∷◌, ◌++◌, length, get_or, set, map, filter, take, drop, refl, ap, sym, arith, find, is_some, Option, None, Some}
+use Rattle.std.proofs.Common.{◌≡◌, ◌∙◌, ◌<◌, ◌≤◌, ◌&&◌, ◌||◌, not, Bool, true, false, cond, List, [], ◌∷◌, length, map, filter, refl, ap, sym, arith, find, is_some, Option, None, Some}
 use Rattle.std.specs.List.{list_any, list_all}
 use Rattle.std.specs.Option.{option_map}
-use Rattle.std.proofs.lemmas.Bool.{and_parts, and_from, or_parts}
-use Rattle.std.proofs.lemmas.List.Edits.{map_over_more}
+use Rattle.std.proofs.lemmas.Bool.{and_parts, and_from, or_parts, true≢false}
+use Rattle.std.proofs.lemmas.Option.{same_Some}
 
 module _ {X : Type 0} where
-  -- one more element of a list is replaced by what f makes of it
-  pub map_write : (f : X → X) (xs ys : List X) (i : ℕ) (x y : X) → i < length xs → ys ≡ map f (take i xs) ++ drop i xs → x ≡ get_or ys i x → y ≡ f x → set ys i y ≡ map f (take (i + 1) xs) ++ drop (i + 1) xs
-  map_write f xs ys i x y below so_far read made = ap (λ z. set ys i z) made ∙ map_over_more f xs ys i x below so_far read
+  -- a change of those that pass, where none does
+  pub map_none : (p : X → Bool) (g : X → X) (xs : List X) → list_any p xs ≡ false → map (λ x. cond (p x) (g x) x) xs ≡ xs
+  map_none p g [] none = refl
+  map_none p g (x ∷ xs) none =
+      let parts = or_parts _ _ none in
+      ap (λ b. cond b (g x) x ∷ map (λ y. cond (p y) (g y) y) xs) parts.0 ∙ ap (λ ys. x ∷ ys) (map_none p g xs parts.1)
+
+  -- where none is found, none passes
+  pub any_none : (p : X → Bool) (xs : List X) → find p xs ≡ None → list_any p xs ≡ false
+  any_none p [] none = refl
+  any_none p (x ∷ xs) none = each (p x) none (any_none p xs)
+    where
+      each : (b : Bool) → cond b (Some x) (find p xs) ≡ None → (find p xs ≡ None → list_any p xs ≡ false) → (b || list_any p xs) ≡ false
+      each true one rest = absurd (true≢false (ap is_some one))
+      each false one rest = rest one
+
+  -- what is found passes
+  pub find_passes : (p : X → Bool) (xs : List X) (x : X) → find p xs ≡ Some x → p x ≡ true
+  find_passes p [] x found = cc
+  find_passes p (y ∷ xs) x found = each (p y) refl found (find_passes p xs x)
+    where
+      each : (b : Bool) → p y ≡ b → cond b (Some y) (find p xs) ≡ Some x → (find p xs ≡ Some x → p x ≡ true) → p x ≡ true
+      each true passes one rest = ap p (sym (same_Some y x one)) ∙ passes
+      each false _ one rest = rest one
 
   -- a filter that drops none
   pub filter_none : (p : X → Bool) (xs : List X) → list_any p xs ≡ false → filter (λ x. not (p x)) xs ≡ xs

@@ -1,31 +1,14 @@
 -- Sessions in order of making, each in its slot.
-use Rattle.std.proofs.Common.{◌≡◌, ◌∙◌, ℕ, ◌+◌, ◌<◌, ◌≤◌, ◌==◌, ◌&&◌, ◌||◌, Bool, true, false, cond, List, [], ◌∷◌, ◌++◌, zero, suc, Option, None, Some, length, filter, find, map, IfSome, refl, ap, sym, subst, arith}
+use Rattle.std.proofs.Common.{◌≡◌, ◌∙◌, ℕ, ◌+◌, ◌<◌, ◌≤◌, ◌==◌, ◌&&◌, ◌||◌, Bool, true, false, cond, List, [], ◌∷◌, ◌++◌, zero, suc, Option, None, Some, filter, find, map, IfSome, refl, ap, sym, subst, arith}
 use Rattle.std.specs.List.{list_any, list_all, slice_get}
 use Rattle.std.specs.Option.{option_map}
-use Rattle.std.proofs.lemmas.Bool.{eqb-true, ne_eqb, eq-eqb, or_parts, or_from, or_left, or_right, false≢true}
+use Rattle.std.proofs.lemmas.Bool.{ne_eqb, eq-eqb, or_parts, or_from, or_left, or_right, false≢true}
 use Rattle.std.proofs.lemmas.List.Folds.{list_any-append}
-use Rattle.std.proofs.lemmas.List.{length-map}
-use Rattle.std.proofs.lemmas.Map.Steps.{le-length_from_below}
 use Rattle.satip_base.specs.declared.identity.SessionId.{SessionId}
 use Rattle.satip_table.specs.declared.session.Seat.{Seat}
 use Rattle.satip_table.specs.Sessions.{has_slot, is_in, owner_of}
 use Rattle.satip_table.specs.Living.{CountsRise, SlotsApart}
 use Rattle.satip_table.proofs.Listing.{any-filter}
-
--- where each slot below a number is taken, that many sessions live
-slot_taken : (slot : ℕ) (seats : List Seat) → list_any (has_slot slot) seats ≡ true → list_any (λ other. slot == other) (map (λ (seat : Seat). seat.slot) seats) ≡ true
-slot_taken slot [] taken = cc
-slot_taken slot (seat ∷ seats) taken = each (seat.slot == slot) refl taken (slot_taken slot seats)
-  where
-    each : (b : Bool) → (seat.slot == slot) ≡ b → (b || list_any (has_slot slot) seats) ≡ true → (list_any (has_slot slot) seats ≡ true → list_any (λ other. slot == other) (map (λ (s : Seat). s.slot) seats) ≡ true)
-        → (slot == seat.slot || list_any (λ other. slot == other) (map (λ (s : Seat). s.slot) seats)) ≡ true
-    each true same _ rest = or_left _ _ (eq-eqb slot seat.slot (sym (eqb-true seat.slot slot same)))
-    each false _ later rest = or_right _ _ (rest later)
-
-pub slots_full : (seats : List Seat) (slot : ℕ) → ((other : ℕ) → other < slot → list_any (has_slot other) seats ≡ true) → slot ≤ length seats
-slots_full seats slot taken =
-    let fits = le-length_from_below (map (λ (seat : Seat). seat.slot) seats) slot (λ other below. slot_taken other seats (taken other below)) in
-    omega (arith, fits, length-map seats (λ (seat : Seat). seat.slot))
 
 -- a session with a greater count comes last
 pub counts_more : (above last : ℕ) (seats : List Seat) (seat : Seat) → seat.session.id.count ≡ last + 1 → CountsRise above last seats → CountsRise above (last + 1) (seats ++ seat ∷ [])

@@ -321,8 +321,3 @@ pub stored_left : (v : Living) (id : SessionId) (seats : List Seat) (streams : L
 stored_left v id seats streams sound removed kept =
     subst (λ (ss : List Seat). Sound (record v { seats = ss; streams = streams })) (sym removed)
     (subst (λ (ts : List Stream). Sound (record v { seats = without id v.seats; streams = ts })) (sym (kept ∙ ap (λ ss. kept_streams ss v.streams) removed)) (sound_left v id sound))
-
--- the number of a new stream
-pub fresh-number : (number : ℕ) (owner : SessionId) → (fresh number owner).number ≡ number
-unfolding fresh
-fresh-number number owner = refl

@@ -1,5 +1,10 @@
 pub mod Sessions
 pub mod Changes
 pub mod Streams
+pub mod Owners
 pub mod Living
+pub mod Placed
+pub mod Marked
+pub mod Numbered
+pub mod Seated
 pub mod View

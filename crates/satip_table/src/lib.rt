@@ -1,13 +1,18 @@
 //! Sessions and the streams that they own or joined.
 #![tactic(auto)]
 
+mod order;
+mod seats;
 mod session;
 mod stream;
+mod streams;
 mod table;
 
 pub use session::{NewSession, Seat, Session};
 pub use stream::Stream;
 pub use table::Table;
 
+#[cfg(test)]
+mod plain;
 #[cfg(test)]
 mod tests;

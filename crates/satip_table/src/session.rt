@@ -1,16 +1,15 @@
-//! Sessions, in order of making, each in a slot of its own.
+//! A session, what it is made of and what changes of it.
 
-ghost use Rattle.std.specs.Prelude.{◌≡◌, ◌+◌, ◌<◌, false, find, length, slice_get, vec_capacity};
-ghost use Rattle.std.specs.List.{list_any};
-ghost use Rattle.std.specs.Option.{option_map};
-ghost use Rattle.satip_table.specs.Sessions.{changed_where, has_id as has_id_of, has_slot, is_in, members, next_id as id_after, owner_of, session_of, with_session, without};
+ghost use Rattle.std.specs.Prelude.{◌≡◌, ◌+◌, ◌<◌};
+ghost use Rattle.satip_table.specs.Sessions.{has_id as has_id_of, next_id as id_after, session_of};
 ghost use Rattle.satip_table.specs.Changes.{changed_by};
+ghost use Rattle.satip_table.specs.Seated.{no_session as nobody};
 
 use satip_base::{Draw, Peer, Ports, SessionId};
 
-/// A living session. `heard` is the moment in milliseconds at which it was last heard of, `reported`
-/// that of its last report, `ssrc` and `first` are its SSRC and first sequence number (RFC 3550, 5.1).
-/// An HTTP session has the ports 0 and 0.
+/// A living session. `heard` is the moment in milliseconds at which it was last heard of,
+/// `reported` that of its last report, `ssrc` and `first` are its SSRC and first sequence number
+/// (RFC 3550, 5.1). An HTTP session has the ports 0 and 0.
 #[derive(Clone, Copy, Debug, PartialEq, Eq)]
 pub struct Session {
     pub id: SessionId,
@@ -40,6 +39,24 @@ pub struct NewSession {
 pub struct Seat {
     pub slot: u16,
     pub session: Session,
+}
+
+/// What stands in a slot that no session had yet.
+pub fn no_session() -> Session
+    ensures none { result ≡ nobody }
+{
+    Session {
+        id: SessionId { count: 0, word: 0 },
+        http: false,
+        peer: Peer { ip: 0 },
+        ports: Ports { rtp: 0, rtcp: 0 },
+        stream: 0,
+        playing: false,
+        heard: 0,
+        reported: None,
+        ssrc: 0,
+        first: 0,
+    }
 }
 
 /// The id of the session that is made after this many.
@@ -81,81 +98,6 @@ pub fn has_id(seat: &Seat, id: SessionId) -> bool
     seat.session.id == id
 }
 
-/// Whether one of the sessions has this id.
-pub fn lives(seats: &[Seat], id: SessionId) -> bool
-    ensures lives { result ≡ list_any (has_id_of id) seats.now }
-{
-    seats.iter().any(|seat| has_id(seat, id))
-}
-
-/// The session with this id, where there is one.
-pub fn seat_of(seats: &[Seat], id: SessionId) -> Option<&Seat>
-    ensures seat { option_map (λ s. s.now) result ≡ find (has_id_of id) seats.now }
-{
-    seats.iter().find(|seat| has_id(seat, id))
-}
-
-/// The session of this slot, where there is one.
-pub fn seat_at(seats: &[Seat], slot: u16) -> Option<&Seat>
-    ensures seat { option_map (λ s. s.now) result ≡ find (has_slot slot) seats.now }
-{
-    seats.iter().find(|seat| seat.slot == slot)
-}
-
-/// The session at this place, where there is one.
-pub fn seat_in(seats: &[Seat], place: usize) -> Option<&Seat>
-    ensures seat { option_map (λ s. s.now) result ≡ slice_get seats.now place }
-{
-    seats.get(place)
-}
-
-/// Whether one of the sessions is at this stream.
-pub fn has_members(seats: &[Seat], stream: u16) -> bool
-    ensures members { result ≡ list_any (is_in stream) seats.now }
-{
-    seats.iter().any(|seat| seat.session.stream == stream)
-}
-
-/// The id of the first session of a stream, which owns it.
-pub fn first_member(seats: &[Seat], stream: u16) -> Option<SessionId>
-    ensures first { result ≡ owner_of seats.now stream }
-{
-    for seat in seats {
-        if seat.session.stream == stream {
-            return Some(seat.session.id);
-        }
-    }
-    None
-}
-
-/// Whether one of the sessions has this slot.
-fn is_taken(seats: &[Seat], slot: u16) -> bool
-    ensures taken { result ≡ list_any (has_slot slot) seats.now }
-{
-    seats.iter().any(|seat| seat.slot == slot)
-}
-
-/// The least slot that no session has.
-pub fn free_slot(seats: &[Seat]) -> u16
-    requires room { length seats.now < 64 }
-    ensures within { result < 64 }
-    ensures free { list_any (has_slot result) seats.now ≡ false }
-{
-    let mut slot = 0;
-    while is_taken(seats, slot) {
-        slot += 1;
-    }
-    slot
-}
-
-/// Removes the session with this id.
-pub fn remove_session(seats: &mut Vec<Seat>, id: SessionId)
-    ensures removed { seats.new.items ≡ without id seats.old.items }
-    ensures capacity { vec_capacity seats.new ≡ vec_capacity seats.old }
-{
-    seats.retain(|seat| !has_id(seat, id));
-}
-
 /// What of a session changes while it lives.
 #[derive(Clone, Copy)]
 pub enum Change {
@@ -165,72 +107,18 @@ pub enum Change {
     Reported(u64),
 }
 
-/// The session once this changed.
+/// Changes this of a session.
 #[tactic(auto, unfolding(crate::specs::Sessions::heard_at, crate::specs::Sessions::played, crate::specs::Sessions::moved_to, crate::specs::Sessions::reported_at))]
-fn changed(change: Change, session: Session) -> Session
-    ensures changed { result ≡ changed_by change session }
+pub fn apply(session: &mut Session, to: Change)
+    ensures changed { session.new ≡ changed_by to session.old }
 {
-    match change {
-        Change::Heard(now) => Session {
-            heard: now,
-            ..session
-        },
-        Change::Playing => Session {
-            playing: true,
-            ..session
-        },
-        Change::Address(peer, ports) => Session {
-            peer,
-            ports,
-            ..session
-        },
-        Change::Reported(now) => Session {
-            reported: Some(now),
-            ..session
-        },
-    }
-}
-
-/// The session with its slot, where this changed of the session with this id.
-#[tactic(auto, unfolding(crate::specs::Sessions::changed_where))]
-fn changed_seat(id: SessionId, change: Change, seat: Seat) -> Seat
-    ensures changed { result ≡ changed_where id (changed_by change) seat }
-{
-    if has_id(&seat, id) {
-        Seat {
-            session: changed(change, seat.session),
-            ..seat
+    match to {
+        Change::Heard(now) => session.heard = now,
+        Change::Playing => session.playing = true,
+        Change::Address(peer, ports) => {
+            session.peer = peer;
+            session.ports = ports;
         }
-    } else {
-        seat
+        Change::Reported(now) => session.reported = Some(now),
     }
-}
-
-/// Changes the session with this id; false where there is none.
-pub fn change_session(seats: &mut Vec<Seat>, id: SessionId, change: Change) -> bool
-    ensures lives { result ≡ list_any (has_id_of id) seats.old.items }
-    ensures changed { seats.new.items ≡ with_session id (changed_by change) seats.old.items }
-    ensures capacity { vec_capacity seats.new ≡ vec_capacity seats.old }
-{
-    let found = lives(seats, id);
-    for i in 0..seats.len() {
-        seats[i] = changed_seat(id, change, seats[i]);
-    }
-    found
-}
-
-/// The id of the session of a stream behind its owner at this place, where there is one.
-pub fn member(seats: &[Seat], stream: u16, place: usize) -> Option<SessionId>
-    ensures member { result ≡ option_map (λ seat. seat.session.id) (slice_get (members stream seats.now) (place + 1)) }
-{
-    let mut before = 0;
-    for seat in seats {
-        if seat.session.stream == stream {
-            if before > place {
-                return Some(seat.session.id);
-            }
-            before += 1;
-        }
-    }
-    None
 }

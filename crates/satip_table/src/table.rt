@@ -8,11 +8,10 @@ ghost use Rattle.satip_table.specs.Sessions.{Adds, has_id as has_id_of, has_slot
 ghost use Rattle.satip_table.specs.Streams.{fresh, has_number, is_live, kept_streams, least_number, put_stream, with_stream};
 ghost use Rattle.satip_table.specs.Living.{Sound, is_full, none};
 
-use crate::session::{
-    Change, NewSession, Seat, Session, change_session, free_slot, lives, member, new_session,
-    remove_session, seat_at, seat_in, seat_of,
-};
-use crate::stream::{Stream, change_stream, free_number, keep_streams, new_stream, put, stream_of};
+use crate::seats::Seats;
+use crate::session::{Change, NewSession, Seat, Session, new_session};
+use crate::stream::Stream;
+use crate::streams::{Streams, hand_on};
 use satip_base::{Peer, Ports, SessionId, Want};
 use satip_pids::PidSet;
 use satip_tune::Tuning;
@@ -20,12 +19,13 @@ use std::alloc::Global;
 use std::marker::Model;
 
 /// The sessions and streams that live, at most 64 of each. A contract sees the sessions in order of
-/// making, each with its slot, the streams in rising number, and how many sessions were made. Of the
-/// sessions of a stream the first is its owner, and the others are those that joined it, in order.
+/// making, each with its slot, the streams in rising number, and how many sessions were made. Of
+/// the sessions of a stream the first is its owner, and the others are those that joined it, in
+/// order.
 #[derive(Drop)]
 pub struct Table {
-    seats: Vec<Seat>,
-    streams: Vec<Stream>,
+    seats: Seats,
+    streams: Streams,
     made: u32,
 }
 
@@ -42,17 +42,13 @@ impl Model for Table {
 }
 
 impl Table {
-    /// No session lives, and none was made. Takes the room of 64 sessions and 64 streams; `Want` where it
-    /// was refused.
+    /// No session lives, and none was made. Takes the room of 64 sessions and 64 streams; `Want`
+    /// where it was refused.
     pub fn make(alloc: Global) -> Result<Table, Want>
         ensures empty { IfOk result (λ t. t ≡ none) }
     {
-        let Ok(seats) = Vec::with_capacity(alloc, 64) else {
-            return Err(Want);
-        };
-        let Ok(streams) = Vec::with_capacity(alloc, 64) else {
-            return Err(Want);
-        };
+        let seats = Seats::make(alloc)?;
+        let streams = Streams::make(alloc)?;
         Ok(Table {
             seats,
             streams,
@@ -72,14 +68,14 @@ impl Table {
         ensures count { result ≡ length self.now.seats }
         ensures within { result ≤ 64 }
     {
-        self.seats.len()
+        self.seats.count()
     }
 
     /// Whether no session can be made: 64 live, or 4294967295 were made.
     pub fn full(&self) -> bool
         ensures full { result ≡ is_full self.now }
     {
-        self.seats.len() == 64 || self.made == u32::MAX
+        self.seats.count() == 64 || self.made == u32::MAX
     }
 
     /// Makes a session that owns a new stream, which isn't tuned and selects no PID.
@@ -88,15 +84,15 @@ impl Table {
         ensures id { result.0 ≡ next_id self.old.made session }
         ensures number { result.1 ≡ least_number (is_live self.old.streams) }
         ensures within { result.1 ≤ 64 }
-        ensures sessions { Adds self.old.seats (session_of self.old.made session result.1) self.new.seats }
+        ensures sessions { Adds self.old.seats (session_of self.old.made session result.1)
+            self.new.seats }
         ensures streams { self.new.streams ≡ put_stream (fresh result.1 result.0) self.old.streams }
         ensures made { self.new.made ≡ self.old.made + 1 }
     {
-        let number = free_number(&self.streams);
-        let slot = free_slot(&self.seats);
+        let number = self.streams.free_number();
         let session = new_session(self.made, &session, number);
-        put(&mut self.streams, new_stream(number, session.id));
-        self.seats.push_reserved(Seat { slot, session });
+        self.streams.begin(number, session.id);
+        self.seats.add(session);
         self.made += 1;
         (session.id, number)
     }
@@ -106,19 +102,19 @@ impl Table {
         requires room { is_full self.old ≡ false }
         requires lives { is_live self.old.streams stream ≡ true }
         ensures id { result ≡ next_id self.old.made session }
-        ensures sessions { Adds self.old.seats (session_of self.old.made session stream) self.new.seats }
+        ensures sessions { Adds self.old.seats (session_of self.old.made session stream)
+            self.new.seats }
         ensures streams { self.new.streams ≡ self.old.streams }
         ensures made { self.new.made ≡ self.old.made + 1 }
     {
-        let slot = free_slot(&self.seats);
         let session = new_session(self.made, &session, stream);
-        self.seats.push_reserved(Seat { slot, session });
+        self.seats.add(session);
         self.made += 1;
         session.id
     }
 
-    /// Ends a session; false where it doesn't live. Where it owned a stream that others joined, the first
-    /// of them becomes the owner. Where it owned a stream that none joined, the stream ends.
+    /// Ends a session; false where it doesn't live. Where it owned a stream that others joined, the
+    /// first of them becomes the owner. Where it owned a stream that none joined, the stream ends.
     pub fn leave(&mut self, id: SessionId) -> bool
         ensures lived { result ≡ list_any (has_id_of id) self.old.seats }
         ensures sessions { self.new.seats ≡ without id self.old.seats }
@@ -126,11 +122,11 @@ impl Table {
         ensures made { self.new.made ≡ self.old.made }
         ensures unchanged { OnFalse result (self.new ≡ self.old) }
     {
-        if !lives(&self.seats, id) {
+        let Some(stream) = self.seats.remove(id) else {
             return false;
-        }
-        remove_session(&mut self.seats, id);
-        keep_streams(&self.seats, &mut self.streams);
+        };
+        let first = self.seats.first_member(stream);
+        hand_on(&mut self.streams, stream, first);
         true
     }
 
@@ -140,16 +136,17 @@ impl Table {
             ≡ option_map (λ seat. seat.session) (find (has_id_of id) self.now.seats) }
         ensures lives { is_some result ≡ list_any (has_id_of id) self.now.seats }
     {
-        seat_of(&self.seats, id).map(|seat| &seat.session)
+        self.seats.find(id).map(|seat| &seat.session)
     }
 
-    /// The slot of the session with this id: a number below 64, its own while it lives. None where it
-    /// doesn't live.
+    /// The slot of the session with this id: a number below 64, its own while it lives. None where
+    /// it doesn't live.
     pub fn slot(&self, id: SessionId) -> Option<u16>
-        ensures slot { result ≡ option_map (λ seat. seat.slot) (find (has_id_of id) self.now.seats) }
+        ensures slot { result ≡ option_map (λ seat. seat.slot)
+            (find (has_id_of id) self.now.seats) }
         ensures within { IfSome result (λ slot. slot < 64) }
     {
-        seat_of(&self.seats, id).map(|seat| seat.slot)
+        self.seats.find(id).map(|seat| seat.slot)
     }
 
     /// The session with this id, and its slot; None where it doesn't live.
@@ -157,7 +154,7 @@ impl Table {
         ensures seat { option_map (λ s. s.now) result ≡ find (has_id_of id) self.now.seats }
         ensures within { IfSome result (λ seat. seat.now.slot < 64) }
     {
-        seat_of(&self.seats, id)
+        self.seats.find(id)
     }
 
     /// The living session of this slot, and the slot; None where there is none.
@@ -165,7 +162,15 @@ impl Table {
         ensures seat { option_map (λ s. s.now) result ≡ find (has_slot slot) self.now.seats }
         ensures within { IfSome result (λ seat. seat.now.slot < 64) }
     {
-        seat_at(&self.seats, slot)
+        self.seats.at(slot)
+    }
+
+    /// The living session of this slot; None where there is none.
+    pub fn at(&self, slot: u16) -> Option<&Session>
+        ensures session { option_map (λ s. s.now) result
+            ≡ option_map (λ seat. seat.session) (find (has_slot slot) self.now.seats) }
+    {
+        self.seat_at(slot).map(|seat| &seat.session)
     }
 
     /// The stream of this number; None where it doesn't live.
@@ -173,7 +178,7 @@ impl Table {
         ensures found { option_map (λ s. s.now) result ≡ find (has_number number) self.now.streams }
         ensures lives { is_some result ≡ is_live self.now.streams number }
     {
-        stream_of(&self.streams, number)
+        self.streams.find(number)
     }
 
     /// The living session at this place, from 0, in order of making; None where there is none.
@@ -184,12 +189,13 @@ impl Table {
         self.seats.get(place).map(|seat| &seat.session)
     }
 
-    /// The living session at this place, from 0, in order of making, and its slot; None where there is none.
+    /// The living session at this place, from 0, in order of making, and its slot; None where there
+    /// is none.
     pub fn seat(&self, place: usize) -> Option<&Seat>
         ensures seat { option_map (λ s. s.now) result ≡ slice_get self.now.seats place }
         ensures within { IfSome result (λ seat. seat.now.slot < 64) }
     {
-        seat_in(&self.seats, place)
+        self.seats.get(place)
     }
 
     /// The living stream at this place, from 0, in rising number; None where there is none.
@@ -199,45 +205,58 @@ impl Table {
         self.streams.get(place)
     }
 
-    /// The session at this place, from 0, of those that joined a stream, in order of joining; None where
-    /// there is none.
+    /// The session at this place, from 0, of those that joined a stream, in order of joining; None
+    /// where there is none.
     pub fn joined(&self, number: u16, place: usize) -> Option<SessionId>
         ensures joined { result
-            ≡ option_map (λ seat. seat.session.id) (slice_get (members number self.now.seats) (place + 1)) }
+            ≡ option_map (λ seat. seat.session.id) (slice_get (members number self.now.seats)
+            (place + 1)) }
     {
-        member(&self.seats, number, place)
+        self.seats.member(number, place)
     }
 
     /// Sets when a session was last heard of; false where it doesn't live.
     pub fn heard(&mut self, id: SessionId, now: u64) -> bool
         ensures lives { result ≡ list_any (has_id_of id) self.old.seats }
-        ensures heard { self.new ≡ record self.old { seats = with_session id (heard_at now) self.old.seats } }
+        ensures heard { self.new ≡ record self.old {
+          seats = with_session id (heard_at now)
+              self.old.seats;
+        } }
     {
-        change_session(&mut self.seats, id, Change::Heard(now))
+        self.seats.change(id, Change::Heard(now))
     }
 
     /// Makes a session play; false where it doesn't live.
     pub fn play(&mut self, id: SessionId) -> bool
         ensures lives { result ≡ list_any (has_id_of id) self.old.seats }
-        ensures plays { self.new ≡ record self.old { seats = with_session id played self.old.seats } }
+        ensures plays { self.new ≡ record self.old {
+          seats = with_session id played
+              self.old.seats;
+        } }
     {
-        change_session(&mut self.seats, id, Change::Playing)
+        self.seats.change(id, Change::Playing)
     }
 
     /// Sets where a session's datagrams go; false where it doesn't live.
     pub fn move_to(&mut self, id: SessionId, peer: Peer, ports: Ports) -> bool
         ensures lives { result ≡ list_any (has_id_of id) self.old.seats }
-        ensures moved { self.new ≡ record self.old { seats = with_session id (moved_to peer ports) self.old.seats } }
+        ensures moved { self.new ≡ record self.old {
+          seats = with_session id (moved_to peer ports)
+              self.old.seats;
+        } }
     {
-        change_session(&mut self.seats, id, Change::Address(peer, ports))
+        self.seats.change(id, Change::Address(peer, ports))
     }
 
     /// Sets when a session's last report left; false where it doesn't live.
     pub fn reported(&mut self, id: SessionId, now: u64) -> bool
         ensures lives { result ≡ list_any (has_id_of id) self.old.seats }
-        ensures reported { self.new ≡ record self.old { seats = with_session id (reported_at now) self.old.seats } }
+        ensures reported { self.new ≡ record self.old {
+          seats = with_session id (reported_at now)
+              self.old.seats;
+        } }
     {
-        change_session(&mut self.seats, id, Change::Reported(now))
+        self.seats.change(id, Change::Reported(now))
     }
 
     /// Sets a stream's tuning, front end and PIDs; false where it doesn't live.
@@ -252,6 +271,6 @@ impl Table {
         ensures changed { self.new
             ≡ record self.old { streams = with_stream number tuning front pids self.old.streams } }
     {
-        change_stream(&mut self.streams, number, tuning, front, pids)
+        self.streams.change(number, tuning, front, pids)
     }
 }

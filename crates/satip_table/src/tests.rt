@@ -1,6 +1,7 @@
 //! Tables of a few sessions, and a full one.
 
-use crate::{NewSession, Session, Table};
+use crate::plain::Plain;
+use crate::{NewSession, Session, Stream, Table};
 use satip_base::{Draw, Peer, Ports, SessionId, Want};
 use satip_pids::PidSet;
 use std::process::Abort;
@@ -126,9 +127,13 @@ fn fields_change_and_the_others_stay(rt: HostRuntime) -> Result<(), Want> {
             .seat_at(slot)
             .is_some_and(|seat| seat.session == after)
     );
+    assert!(rt; table.at(slot).is_some_and(|session| *session == after));
+    assert!(rt; table.at(64).is_none());
     let mut pids = PidSet::new();
     pids.set_all();
-    assert!(rt; table.change(number, None, Some(2), pids) && !table.change(2, None, None, pids));
+    assert!(rt;
+        table.change(number, None, Some(2), pids.copy()) && !table.change(2, None, None, pids)
+    );
     assert!(rt;
         table
             .find_stream(number)
@@ -136,5 +141,122 @@ fn fields_change_and_the_others_stay(rt: HostRuntime) -> Result<(), Want> {
     );
     let other = SessionId { count: 1, word: 11 };
     assert!(rt; !table.heard(other, 0) && !table.play(other) && table.find(other).is_none());
+    Ok(())
+}
+
+/// Whether both have the same sessions and streams at each place.
+fn are_same(table: &Table, plain: &Plain) -> bool {
+    for place in 0..65 {
+        if table.seat(place).copied() != plain.seats.get(place).copied() {
+            return false;
+        }
+        let same = match (table.stream(place), plain.streams.get(place)) {
+            (None, None) => true,
+            (Some(stream), Some(other)) => is_same(stream, other),
+            _ => false,
+        };
+        if !same {
+            return false;
+        }
+    }
+    table.count() == plain.seats.len()
+}
+
+fn is_same(stream: &Stream, other: &Stream) -> bool {
+    stream.number == other.number
+        && stream.owner == other.owner
+        && stream.tuning == other.tuning
+        && stream.front == other.front
+        && stream.pids.has(17) == other.pids.has(17)
+}
+
+/// The id of a living session for most numbers, else of none.
+fn some_id(plain: &Plain, draw: u32) -> SessionId {
+    let other = SessionId {
+        count: draw % 99,
+        word: 1,
+    };
+    plain
+        .seats
+        .get((draw % 66) as usize)
+        .map_or(other, |seat| seat.session.id)
+}
+
+/// Changes a session in both, or ends it.
+fn change_both(table: &mut Table, plain: &mut Plain, kind: u32, draw: u32) -> bool {
+    let id = some_id(plain, draw);
+    if kind < 4 {
+        return table.leave(id) == plain.leave(id);
+    }
+    let now = draw as u64;
+    let ports = Ports { rtp: 7, rtcp: 8 };
+    let lived = match kind {
+        4 => table.heard(id, now),
+        5 => table.play(id),
+        6 => table.reported(id, now),
+        _ => table.move_to(id, Peer { ip: draw }, ports),
+    };
+    let Some(place) = plain.place_of(id) else {
+        return !lived;
+    };
+    if let Some(seat) = plain.seats.get_mut(place) {
+        match kind {
+            4 => seat.session.heard = now,
+            5 => seat.session.playing = true,
+            6 => seat.session.reported = Some(now),
+            _ => {
+                seat.session.peer = Peer { ip: draw };
+                seat.session.ports = ports;
+            }
+        }
+    }
+    lived
+}
+
+/// Makes a session in both, at a stream of its own or at this one.
+fn make_both(table: &mut Table, plain: &mut Plain, kind: u32, draw: u32) -> Result<bool, Want> {
+    if table.full() {
+        return Ok(plain.seats.len() == 64);
+    }
+    let stream = (draw % 66) as u16;
+    if kind < 12 {
+        return Ok(table.found(drawn(draw)) == plain.found(drawn(draw))?);
+    }
+    if table.find_stream(stream).is_none() {
+        return Ok(!plain.streams.iter().any(|other| other.number == stream));
+    }
+    Ok(table.join(drawn(draw), stream) == plain.join(drawn(draw), stream)?)
+}
+
+#[test]
+fn ten_thousand_calls_are_as_on_plain_lists(rt: HostRuntime) -> Result<(), Want> {
+    let mut table = Table::make(rt.alloc())?;
+    let mut plain = Plain {
+        seats: Vec::new(rt.alloc()),
+        streams: Vec::new(rt.alloc()),
+        made: 0,
+    };
+    let mut draw: u32 = 2463534242;
+    for _ in 0..10000 {
+        draw = draw.wrapping_mul(1664525).wrapping_add(1013904223);
+        let kind = draw >> 28;
+        let drawn = (draw >> 8) % 65536;
+        let same = match kind {
+            0..=7 => change_both(&mut table, &mut plain, kind, drawn),
+            8..=13 => make_both(&mut table, &mut plain, kind, drawn)?,
+            _ => {
+                let number = (drawn % 66) as u16;
+                let mut pids = PidSet::new();
+                let mut others = PidSet::new();
+                if kind == 14 {
+                    pids.set_all();
+                    others.set_all();
+                }
+                let front = Some(drawn as u16);
+                table.change(number, None, front, pids) == plain.change(number, front, others)
+            }
+        };
+        assert!(rt; same && are_same(&table, &plain));
+    }
     Ok(())
 }

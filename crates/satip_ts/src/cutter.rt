@@ -39,7 +39,8 @@ impl Cutter {
         }
     }
 
-    /// Takes as many bytes from the front of the piece as there is room for, and answers their number.
+    /// Takes as many bytes from the front of the piece as there is room for, and answers their
+    /// number.
     pub fn feed(&mut self, piece: &[u8]) -> usize
         ensures taken { result ≡ min (length piece.now) (4096 - length self.old) }
         ensures held { Does self.old (Took (take result piece.now)) self.new }
@@ -54,13 +55,14 @@ impl Cutter {
         count
     }
 
-    /// Drops the bytes before the next sync byte and hands out the packet that begins there, or None where fewer
-    /// than 188 bytes are held from there on.
+    /// Drops the bytes before the next sync byte and hands out the packet that begins there, or
+    /// None where fewer than 188 bytes are held from there on.
     pub fn next(&mut self) -> Option<Packet>
         ensures none { IsNone result ↔ (length (from_sync self.old) < 188) }
         ensures held { Does self.old (Answered result) self.new }
         // whatever bytes come later
-        ensures first { (more : List ℕ) → cut_packets (self.old ++ more) ≡ option_to_list result ++ cut_packets (self.new ++ more) }
+        ensures first { (more : List ℕ) → cut_packets (self.old ++ more) ≡ option_to_list result
+            ++ cut_packets (self.new ++ more) }
         ensures complete { IsNone result → cut_packets self.new ≡ [] }
     {
         let skipped = bytes_before_sync(&self.places[self.start..self.end]);
@@ -73,11 +75,13 @@ impl Cutter {
     }
 }
 
-/// Moves the held bytes to the front where fewer than `wanted` places are behind them. Answers where they then start.
+/// Moves the held bytes to the front where fewer than `wanted` places are behind them. Answers
+/// where they then start.
 fn start_with_room(places: &mut [u8; PLACES], start: usize, end: usize, wanted: usize) -> usize
     requires ordered { start ≤ end }
     requires within { end ≤ 4096 }
-    ensures kept { take (end - start) (drop result places.new) ≡ take (end - start) (drop start places.old) }
+    ensures kept { take (end - start) (drop result places.new)
+        ≡ take (end - start) (drop start places.old) }
     ensures room { (result ≡ 0) ⊎ (result + (end - start) + wanted ≤ 4096) }
     ensures inside { result + (end - start) ≤ 4096 }
 {
@@ -106,7 +110,8 @@ fn first_sync(held: &[u8]) -> Option<usize>
 /// The packet at the front of bytes that begin with a sync byte, if all of it is there.
 fn packet_at_front(held: &[u8]) -> Option<Packet>
     requires synchronized { 0 < length held.now → slice_index held.now 0 ≡ 71 }
-    ensures packet { MatchOption result (length held.now < 188) (λ p. (p ≡ take 188 held.now) × (188 ≤ length held.now)) }
+    ensures packet { MatchOption result (length held.now < 188)
+        (λ p. (p ≡ take 188 held.now) × (188 ≤ length held.now)) }
 {
     let Some(bytes) = held.first_chunk::<188>() else {
         return None;

@@ -1,7 +1,8 @@
 //! What holds of every list of calls of a cutter, as contracts of functions with an empty body.
 ghost use Rattle.satip_ts.specs.Calls.{HandsOutFirst, MissesNothing};
 
-/// Whatever the pieces, the packets that a new cutter hands out are the first packets of the text that was fed.
+/// Whatever the pieces, the packets that a new cutter hands out are the first packets of the text
+/// that was fed.
 pub fn hands_out_first()
     ensures first { HandsOutFirst }
 {}

@@ -15,7 +15,8 @@ fn packet_bytes(pid: u8) -> [u8; 188] {
 
 // Bytes before a packet and a shorter rest are dropped.
 fn worked_recording()
-    ensures cut { cut_packets (replicate 5 0 ++ replicate 188 71 ++ 1 ∷ 71 ∷ replicate 187 2 ++ replicate 100 71)
+    ensures cut { cut_packets (replicate 5 0 ++ replicate 188 71 ++ 1 ∷ 71 ∷ replicate 187 2
+        ++ replicate 100 71)
         ≡ replicate 188 71 ∷ (71 ∷ replicate 187 2) ∷ [] }
 {}
 

@@ -8,8 +8,8 @@ use arrayvec::ArrayVec;
 use itoa::Buffer;
 use std::marker::Model;
 
-/// A frequency in kHz as a query prints it: its MHz, then, where the rest isn't 0, a dot and the three
-/// digits of the rest without the zeros at their end.
+/// A frequency in kHz as a query prints it: its MHz, then, where the rest isn't 0, a dot and the
+/// three digits of the rest without the zeros at their end.
 #[derive(Drop)]
 pub struct FrequencyText {
     text: ArrayVec<u8, 16>,

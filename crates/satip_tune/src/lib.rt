@@ -18,6 +18,3 @@ pub use keys::Key;
 pub use pieces::{cut, same_bytes};
 pub use signal::{Fec, Modulation, Pol, RollOff, System, pilots_named, pilots_text};
 pub use tunings::{Change, Tuning, first, merge};
-
-#[cfg(test)]
-mod tests;

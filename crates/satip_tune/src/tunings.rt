@@ -99,7 +99,8 @@ pub fn merge(old: &Tuning, change: &Change) -> Tuning
 /// `freq`, `pol`, `msys` and `sr` that is not given is the error, the first of them in this order.
 pub fn first(change: &Change) -> Result<Tuning, Key>
     ensures made { result ≡ first_of change.now }
-    ensures absent { MatchResult result (λ _. missing change.now ≡ None) (λ key. missing change.now ≡ Some key) }
+    ensures absent { MatchResult result (λ _. missing change.now ≡ None)
+        (λ key. missing change.now ≡ Some key) }
 {
     let freq = change.freq.ok_or(Key::Freq)?;
     let pol = change.pol.ok_or(Key::Pol)?;

@@ -8,10 +8,8 @@ ghost use Rattle.satip_turn.specs.Fed.{MatchFed};
 use crate::cell::Burst;
 use crate::feed::Feed;
 use crate::seat::{TurnSeat, TurnTable, commit};
+use satip_base::limits::{BURST, LONGEST_HISTORY};
 use satip_history::Served;
-
-// The most entries of a burst.
-const MOST: u32 = 64;
 
 // What one step of a burst did.
 pub(crate) enum Fed {
@@ -55,7 +53,7 @@ pub(crate) fn feed_one<S: Served, F: Feed<S>>(
     ensures given { MatchFed result
         (F.given feed.new ≡ None) (F.given feed.new ≡ None) (IsSome (F.given feed.new)) }
     ensures full { MatchFed result
-        (Unit {0}) (Unit {0}) (place.new ≡ 18446744073709551615) }
+        (Unit {0}) (Unit {0}) (place.new ≡ LONGEST_HISTORY) }
 {
     let Some(event) = feed.next() else {
         return Fed::Ended;
@@ -89,12 +87,12 @@ pub(crate) fn feed_many<S: Served, F: Feed<S>>(
     ensures cell { seat.new.table_id ≡ seat.old.table_id }
     ensures made { IsUnderWay S.setting S.stands_for (F.has_taken feed.old feed.new) seat.old.me.0
         result.made seat.new.me served.new place.new }
-    ensures most { result.made ≤ 64 }
-    ensures few { result.made < 64 → (F.ended feed.new ≡ true) ⊎ (result.spent ≡ true) }
+    ensures most { result.made ≤ BURST }
+    ensures few { result.made < BURST → (F.ended feed.new ≡ true) ⊎ (result.spent ≡ true) }
     ensures spent { IsTrue result.spent ↔ IsSome (F.given feed.new) }
-    ensures full { result.spent ≡ true → place.new ≡ 18446744073709551615 }
+    ensures full { result.spent ≡ true → place.new ≡ LONGEST_HISTORY }
 {
-    for made in 0..MOST {
+    for made in 0..BURST {
         match feed_one(table, seat, place, served, feed, out) {
             Fed::Made => {}
             Fed::Ended => return Burst { made, spent: false },
@@ -102,7 +100,7 @@ pub(crate) fn feed_many<S: Served, F: Feed<S>>(
         }
     }
     Burst {
-        made: MOST,
+        made: BURST,
         spent: false,
     }
 }

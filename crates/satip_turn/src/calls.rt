@@ -10,6 +10,7 @@ use crate::feed::Feed;
 use crate::seat::{give, look, take};
 use crate::turns::{serve_turn, wait_turn};
 use satip_base::Spent;
+use satip_base::limits::{BURST, LONGEST_HISTORY};
 use satip_history::Served;
 use std::sync::Wait;
 
@@ -35,8 +36,8 @@ impl<S: Served> TurnCell<S> {
 
         // Busy exactly where the one try found the turn taken, and Spent where the history is full
         ensures met { pass.new.met ≡ pass.old.met + busy_count result }
-        ensures room { OnDone result (length pass.new.looked < 18446744073709551615) }
-        ensures full { OnSpent result (length pass.new.seen ≡ 18446744073709551615) }
+        ensures room { OnDone result (length pass.new.looked < LONGEST_HISTORY) }
+        ensures full { OnSpent result (length pass.new.seen ≡ LONGEST_HISTORY) }
         ensures out { OnUndone result (out.new ≡ out.old) }
     {
         match take(&self.table.shared, &mut pass.seat) {
@@ -72,8 +73,8 @@ impl<S: Served> TurnCell<S> {
             (λ answer. Turned pass.old pass.new
             (entry pass.old.number event.now answer out.new ∷ []))
             (λ _. Looked pass.old pass.new) }
-        ensures spent { IsErr result ↔ (length pass.new.looked ≡ 18446744073709551615) }
-        ensures full { OnErr result (length pass.new.seen ≡ 18446744073709551615) }
+        ensures spent { IsErr result ↔ (length pass.new.looked ≡ LONGEST_HISTORY) }
+        ensures full { OnErr result (length pass.new.seen ≡ LONGEST_HISTORY) }
         ensures out { OnErr result (out.new ≡ out.old) }
         ensures met { pass.old.met ≤ pass.new.met }
     {
@@ -122,12 +123,12 @@ impl<S: Served> TurnCell<S> {
         ensures keeps { Keeps pass.old pass.new }
         ensures knows { Knows (S.legal self.now.setting) pass.new }
         ensures history { Bursts (F.has_taken feed.old feed.new) pass.old pass.new result.made }
-        ensures most { result.made ≤ 64 }
-        ensures few { result.made < 64 → (F.ended feed.new ≡ true) ⊎ (result.spent ≡ true) }
+        ensures most { result.made ≤ BURST }
+        ensures few { result.made < BURST → (F.ended feed.new ≡ true) ⊎ (result.spent ≡ true) }
 
         // an event that the feed gave has no entry
         ensures spent { IsTrue result.spent ↔ IsSome (F.given feed.new) }
-        ensures full { result.spent ≡ true → length pass.new.seen ≡ 18446744073709551615 }
+        ensures full { result.spent ≡ true → length pass.new.seen ≡ LONGEST_HISTORY }
         ensures met { pass.old.met ≤ pass.new.met }
     {
         let mut served = wait_turn(rt, &self.table.shared, &mut pass.seat);

@@ -7,6 +7,7 @@ ghost use Rattle.satip_turn.specs.Seats.{IsTurnTable, IsIdle, IsHolding, IsServe
 
 use crate::seat::{TurnSeat, TurnTable, commit, give, look, take};
 use satip_base::Spent;
+use satip_base::limits::LONGEST_HISTORY;
 use satip_history::Served;
 use std::sync::Wait;
 use std::thread;
@@ -54,7 +55,7 @@ pub(crate) fn serve_turn<S: Served>(
         (λ _. seat.new.me ≡ (resting (looking seat.old.me.0), [])) }
     ensures sound { IsSound S.legal seat.new.me.0 }
     ensures place { place.new ≡ length seat.new.me.0.seen }
-    ensures full { IsErr result ↔ (length seat.old.me.0.whole ≡ 18446744073709551615) }
+    ensures full { IsErr result ↔ (length seat.old.me.0.whole ≡ LONGEST_HISTORY) }
     ensures out { OnErr result (out.new ≡ out.old) }
 {
     let length = look(table, seat);

@@ -8,4 +8,3 @@ pub mod StreamLemmas
 pub mod HttpLemmas
 pub mod CauseLemmas
 pub mod WorkerLemmas
-pub mod ScriptLemmas

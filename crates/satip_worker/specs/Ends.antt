@@ -1,5 +1,6 @@
 -- Why the service of a connection ended.
 use Rattle.std.specs.Prelude.{◌≡◌, ◌⊎◌, Bool, true, false}
+use Rattle.satip_base.specs.declared.limits.TheConstants.{LONGEST_HISTORY}
 use Rattle.satip_world.specs.declared.doors.ConnEnd.{ConnEnd}
 use Rattle.satip_world.specs.declared.doors.ConnEnd.TheVariants.{Done, ReadFault, WriteFault, Spent, Want}
 use Rattle.satip_world.specs.Counts.{Rises}
@@ -36,7 +37,7 @@ abbrev pub ServiceEnds : ConnEnd → (may_want : Bool) → Known → Type 0
 ServiceEnds Done may_want known = Unit {0}
 ServiceEnds ReadFault may_want known = Unit {0}
 ServiceEnds WriteFault may_want known = Unit {0}
-ServiceEnds Spent may_want known = known.length ≡ 18446744073709551615
+ServiceEnds Spent may_want known = known.length ≡ LONGEST_HISTORY
 ServiceEnds Want may_want known = may_want ≡ true
 
 -- whether the service made no entry of an event

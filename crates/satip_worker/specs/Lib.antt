@@ -13,4 +13,3 @@ pub mod FirstAsked
 pub mod HttpTurns
 pub mod Streaming
 pub mod WorkerRun
-pub mod Scripts

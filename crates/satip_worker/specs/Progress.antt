@@ -13,6 +13,10 @@ pub record Stage : Type 0 where
   pub known : Known
   pub outbox : Outbox
 
+-- what a service and an outlet show
+abbrev pub staged : {S O : Type 0} → (S → Bool) → (S → Known) → (O → Outbox) → S → O → Stage
+staged may_want known outbox service outlet = record { may_want = may_want service; known = known service; outbox = outbox outlet }
+
 -- these entries were made, and their datagrams sent
 pub record Makes (tells : Type 0) (o n : Stage) (entries : List Item) : Type 0 where
   pub may_want : n.may_want ≡ o.may_want

@@ -1,5 +1,6 @@
 -- The run of a worker: connections one after another.
 use Rattle.std.specs.Prelude.{◌≡◌, ℕ, Bool, true, false, List, [], ◌∷◌, ◌++◌, map}
+use Rattle.satip_base.specs.declared.limits.TheConstants.{LONGEST_HISTORY}
 use Rattle.satip_base.specs.declared.network.Peer.{Peer}
 use Rattle.satip_base.specs.declared.identity.Draw.{Draw}
 use Rattle.satip_history.specs.Lists.{Each}
@@ -73,7 +74,7 @@ pub record DoorsFailed (o n : Hall) (returns : List Return) : Type 0 where
 pub record HistoryFull (o n : Hall) (known : Known) (returns : List Return) : Type 0 where
   pub goes_on : n.ended ≡ false
   pub calm : n.faults ≡ o.faults
-  pub full : known.length ≡ 18446744073709551615
+  pub full : known.length ≡ LONGEST_HISTORY
   pub last : LastUnmade conn_spent returns
 
 -- memory was refused, and the doors never failed

@@ -4,12 +4,14 @@ ghost use Rattle.std.specs.Prelude.{◌≡◌, ℕ, List, true, false};
 ghost use Rattle.satip_world.specs.Counts.{Rises};
 ghost use Rattle.satip_worker.specs.Drawing.{draw_at, before_draw};
 ghost use Rattle.satip_worker.specs.Served.{ServesConn};
+ghost use Rattle.satip_worker.specs.Progress.{staged};
 
 use crate::draws::Draws;
 use crate::http::serve_http;
 use crate::room::Room;
 use crate::rtsp::serve_rtsp;
 use satip_base::Peer;
+use satip_base::limits::LONGEST_HISTORY;
 use satip_service::Service;
 use satip_world::{Conn, ConnEnd, DoorKind, Outlet, Pacer};
 use std::sync::Wait;
@@ -38,20 +40,22 @@ pub fn serve_connection<R: Wait + Sync, S: Service, C: Conn, O: Outlet, P: Pacer
 
     // What was made, received and sent, and why the connection ended.
     ensures serves { (key : List ℕ) (stream from : ℕ) → draws.old ≡ before_draw key stream from
-        → (to : ℕ) × (draws.new ≡ before_draw key stream to) × ServesConn C.tells O.tells kind peer (draw_at key stream) from to
-        (record { may_want = S.may_want service.old; known = S.known service.old; outbox = O.outbox outlet.old })
-        (record { may_want = S.may_want service.new; known = S.known service.new; outbox = O.outbox outlet.new })
+        → (to : ℕ) × (draws.new ≡ before_draw key stream to)
+        × ServesConn C.tells O.tells kind peer (draw_at key stream) from to
+        (staged S.may_want S.known O.outbox service.old outlet.old)
+        (staged S.may_want S.known O.outbox service.new outlet.new)
         (C.line conn.old) (C.line conn.new) result }
 
     // Where it ended well, no receive had failed.
-    ensures calm { result ≡ ConnEnd.Done → (C.line conn.new).receive_faults ≡ (C.line conn.old).receive_faults }
+    ensures calm { result ≡ ConnEnd.Done → (C.line conn.new).receive_faults
+        ≡ (C.line conn.old).receive_faults }
 
     // When a fault ends it.
     ensures read_fault { result ≡ ConnEnd.ReadFault
         → Rises (C.line conn.old).receive_faults (C.line conn.new).receive_faults }
     ensures write_fault { result ≡ ConnEnd.WriteFault
         → Rises (C.line conn.old).send_faults (C.line conn.new).send_faults }
-    ensures spent { result ≡ ConnEnd.Spent → (S.known service.new).length ≡ 18446744073709551615 }
+    ensures spent { result ≡ ConnEnd.Spent → (S.known service.new).length ≡ LONGEST_HISTORY }
     ensures want { result ≡ ConnEnd.Want → S.may_want service.old ≡ true }
 {
     draws.known();

@@ -45,9 +45,11 @@ impl Draws {
 
     /// The next draw: three words of the stream, the last of them cut to 16 bits.
     pub fn next(&mut self) -> Draw
-        ensures drawn { (key : List ℕ) (stream : ℕ) (number : ℕ) → self.old ≡ before_draw key stream number
+        ensures drawn { (key : List ℕ) (stream : ℕ) (number : ℕ)
+            → self.old ≡ before_draw key stream number
             → result ≡ draw_at key stream number }
-        ensures next { (key : List ℕ) (stream : ℕ) (number : ℕ) → self.old ≡ before_draw key stream number
+        ensures next { (key : List ℕ) (stream : ℕ) (number : ℕ)
+            → self.old ≡ before_draw key stream number
             → self.new ≡ before_draw key stream (number + 1) }
     {
         draw(&mut self.words)
@@ -56,9 +58,11 @@ impl Draws {
 
 // Takes three words of the stream.
 fn draw(words: &mut ChaCha20Rng) -> Draw
-    ensures drawn { (key : List ℕ) (stream : ℕ) (number : ℕ) → words.old ≡ before_draw key stream number
+    ensures drawn { (key : List ℕ) (stream : ℕ) (number : ℕ)
+        → words.old ≡ before_draw key stream number
         → result ≡ draw_at key stream number }
-    ensures next { (key : List ℕ) (stream : ℕ) (number : ℕ) → words.old ≡ before_draw key stream number
+    ensures next { (key : List ℕ) (stream : ℕ) (number : ℕ)
+        → words.old ≡ before_draw key stream number
         → words.new ≡ before_draw key stream (number + 1) }
 {
     let word = words.next_word();

@@ -5,12 +5,11 @@ ghost use Rattle.satip_frame.specs.Held.{capacity, new_framer};
 ghost use Rattle.satip_http.specs.Gets.{asked};
 ghost use Rattle.satip_worker.specs.FirstAsked.{AsksNothing, Finds, ReadsFirst};
 
+use satip_base::limits::PIECE;
 use satip_frame::{Break, Framer, Step};
 use satip_http::HttpRequest;
 use satip_world::{Conn, Pacer, Received};
 use std::sync::Wait;
-
-const PIECE: usize = 4096;
 
 /// What reading up to the first message came to.
 #[derive(Clone, Copy, Debug, PartialEq, Eq)]
@@ -38,7 +37,8 @@ fn found_request(framer: &Framer) -> HttpRequest
 fn find_first(framer: &mut Framer, piece: &[u8]) -> Option<HttpRequest>
     requires goes_on { framer.old.ended ≡ None }
     requires space { length framer.old.bytes < capacity }
-    ensures finds { (text : List ℕ) → AsksNothing text framer.old → Finds (text ++ piece.now) framer.new result }
+    ensures finds { (text : List ℕ) → AsksNothing text framer.old
+        → Finds (text ++ piece.now) framer.new result }
     ensures goes_on { IsNone result → framer.new.ended ≡ None }
     ensures space { IsNone result → length framer.new.bytes < capacity }
 {
@@ -65,7 +65,8 @@ pub(crate) fn read_first<R: Wait + Sync, C: Conn, P: Pacer>(
 ) -> First
     requires new { framer.old ≡ new_framer }
     ensures reads { ReadsFirst C.tells (C.line conn.old) (C.line conn.new) result }
-    ensures calm { result ≢ First.Failed → (C.line conn.new).receive_faults ≡ (C.line conn.old).receive_faults }
+    ensures calm { result ≢ First.Failed → (C.line conn.new).receive_faults
+        ≡ (C.line conn.old).receive_faults }
 {
     let mut buf = [0; PIECE];
     for _ in rt.forever() {

@@ -6,18 +6,18 @@ ghost use Rattle.satip_frame.specs.Held.{new_framer};
 ghost use Rattle.satip_worker.specs.Drawing.{draw_at, before_draw};
 ghost use Rattle.satip_worker.specs.Served.{ServesConn};
 ghost use Rattle.satip_worker.specs.Streaming.{Streams};
+ghost use Rattle.satip_worker.specs.Progress.{staged};
 
 use crate::draws::Draws;
 use crate::first::{First, read_first};
 use crate::http_turns::{Getting, Pulling, close, get, pull};
 use crate::room::Room;
 use crate::turns::end_of;
+use satip_base::limits::PIECE;
 use satip_base::{Out, Peer, SessionId};
 use satip_service::Service;
 use satip_world::{Conn, ConnEnd, DoorKind, Outlet, Pacer, Received};
 use std::sync::Wait;
-
-const PIECE: usize = 4096;
 
 // Pulls a session, and closes it where a send fails, or where nothing is queued and a receive fails
 // or the input ends. What comes in is dropped.
@@ -35,10 +35,11 @@ fn stream<R: Wait + Sync, S: Service, C: Conn, O: Outlet, P: Pacer>(
     ensures free { (O.outbox outlet.new).held ≡ false }
     ensures same { S.same service.old service.new }
     ensures streams { Streams C.tells O.tells session
-        (record { may_want = S.may_want service.old; known = S.known service.old; outbox = O.outbox outlet.old })
-        (record { may_want = S.may_want service.new; known = S.known service.new; outbox = O.outbox outlet.new })
+        (staged S.may_want S.known O.outbox service.old outlet.old)
+        (staged S.may_want S.known O.outbox service.new outlet.new)
         (C.line conn.old) (C.line conn.new) result }
-    ensures calm { result ≡ ConnEnd.Done → (C.line conn.new).receive_faults ≡ (C.line conn.old).receive_faults }
+    ensures calm { result ≡ ConnEnd.Done → (C.line conn.new).receive_faults
+        ≡ (C.line conn.old).receive_faults }
 {
     let mut buf = [0; PIECE];
     for _ in rt.forever() {
@@ -76,11 +77,13 @@ pub(crate) fn serve_http<R: Wait + Sync, S: Service, C: Conn, O: Outlet, P: Pace
     ensures free { (O.outbox outlet.new).held ≡ false }
     ensures same { S.same service.old service.new }
     ensures serves { (key : List ℕ) (stream from : ℕ) → draws.old ≡ before_draw key stream from
-        → (to : ℕ) × (draws.new ≡ before_draw key stream to) × ServesConn C.tells O.tells DoorKind.Http peer (draw_at key stream) from to
-        (record { may_want = S.may_want service.old; known = S.known service.old; outbox = O.outbox outlet.old })
-        (record { may_want = S.may_want service.new; known = S.known service.new; outbox = O.outbox outlet.new })
+        → (to : ℕ) × (draws.new ≡ before_draw key stream to)
+        × ServesConn C.tells O.tells DoorKind.Http peer (draw_at key stream) from to
+        (staged S.may_want S.known O.outbox service.old outlet.old)
+        (staged S.may_want S.known O.outbox service.new outlet.new)
         (C.line conn.old) (C.line conn.new) result }
-    ensures calm { result ≡ ConnEnd.Done → (C.line conn.new).receive_faults ≡ (C.line conn.old).receive_faults }
+    ensures calm { result ≡ ConnEnd.Done → (C.line conn.new).receive_faults
+        ≡ (C.line conn.old).receive_faults }
 {
     match read_first(rt, conn, pacer, &mut room.framer) {
         First::Ended => ConnEnd::Done,

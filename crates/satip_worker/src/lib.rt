@@ -9,8 +9,6 @@ mod http_turns;
 mod kits;
 mod room;
 mod rtsp;
-#[cfg(test)]
-mod tests;
 mod turns;
 mod worker;
 

@@ -11,10 +11,12 @@ ghost use Rattle.satip_worker.specs.Drawing.{draw_at, before_draw};
 ghost use Rattle.satip_worker.specs.Turns.{Turns};
 ghost use Rattle.satip_worker.specs.Hearing.{Course, Stands, Listens, Hears};
 ghost use Rattle.satip_worker.specs.Served.{ServesConn};
+ghost use Rattle.satip_worker.specs.Progress.{staged};
 
 use crate::draws::Draws;
 use crate::room::Room;
 use crate::turns::{Heard, Turn, end_of, make};
+use satip_base::limits::PIECE;
 use satip_base::{Out, Peer, Put};
 use satip_frame::{Break, Framer, Step};
 use satip_plain::Event;
@@ -22,8 +24,6 @@ use satip_rtsp::Request;
 use satip_service::Service;
 use satip_world::{Conn, ConnEnd, DoorKind, Outlet, Pacer, Received};
 use std::sync::Wait;
-
-const PIECE: usize = 4096;
 
 // Makes one request, and sends its reply.
 fn turn<S: Service, C: Conn, O: Outlet>(
@@ -44,8 +44,8 @@ fn turn<S: Service, C: Conn, O: Outlet>(
         → draws.new ≡ before_draw key stream (number + 1) }
     ensures turns { (key : List ℕ) (stream number : ℕ) → draws.old ≡ before_draw key stream number
         → Turns C.tells O.tells
-        (record { may_want = S.may_want service.old; known = S.known service.old; outbox = O.outbox outlet.old })
-        (record { may_want = S.may_want service.new; known = S.known service.new; outbox = O.outbox outlet.new })
+        (staged S.may_want S.known O.outbox service.old outlet.old)
+        (staged S.may_want S.known O.outbox service.new outlet.new)
         (C.line conn.old) (C.line conn.new)
         (Event.Request peer (draw_at key stream number) request) (closes request.refusal) result }
 {
@@ -79,14 +79,15 @@ fn close<S: Service, C: Conn, O: Outlet>(
     ensures same { S.same service.old service.new }
     ensures input { (C.line conn.new).ended ≡ (C.line conn.old).ended }
     ensures calm { (C.line conn.new).receive_faults ≡ (C.line conn.old).receive_faults }
-    ensures hears { (course : Course) (received text : List ℕ) (messages : List Said) (framer : Held)
+    ensures hears { (course : Course) (received text : List ℕ) (messages : List Said)
+        (framer : Held)
         → course.peer ≡ peer
         → Stands C.tells O.tells course
-        (record { may_want = S.may_want service.old; known = S.known service.old; outbox = O.outbox outlet.old })
+        (staged S.may_want S.known O.outbox service.old outlet.old)
         (C.line conn.old) draws.old received text messages framer
         → Messages text messages (Broken cause)
         → Hears C.tells O.tells course
-        (record { may_want = S.may_want service.new; known = S.known service.new; outbox = O.outbox outlet.new })
+        (staged S.may_want S.known O.outbox service.new outlet.new)
         (C.line conn.new) draws.new received text framer result }
     ensures over { result ≢ Heard.All }
 {
@@ -134,10 +135,10 @@ fn answer<S: Service, C: Conn, O: Outlet>(
     ensures hears { (course : Course) (received text : List ℕ) (messages : List Said)
         → course.peer ≡ peer
         → Stands C.tells O.tells course
-        (record { may_want = S.may_want service.old; known = S.known service.old; outbox = O.outbox outlet.old })
+        (staged S.may_want S.known O.outbox service.old outlet.old)
         (C.line conn.old) draws.old received text messages room.old.framer
         → Hears C.tells O.tells course
-        (record { may_want = S.may_want service.new; known = S.known service.new; outbox = O.outbox outlet.new })
+        (staged S.may_want S.known O.outbox service.new outlet.new)
         (C.line conn.new) draws.new received text room.new.framer result }
     ensures goes_on { result ≡ Heard.All → room.new.framer.ended ≡ None }
     ensures space { result ≡ Heard.All → length room.new.framer.bytes < capacity }
@@ -199,10 +200,10 @@ fn hear<S: Service, C: Conn, O: Outlet>(
     ensures hears { (course : Course) (received text : List ℕ)
         → course.peer ≡ peer
         → Listens C.tells O.tells course
-        (record { may_want = S.may_want service.old; known = S.known service.old; outbox = O.outbox outlet.old })
+        (staged S.may_want S.known O.outbox service.old outlet.old)
         (C.line conn.old) draws.old received text room.old.framer
         → Hears C.tells O.tells course
-        (record { may_want = S.may_want service.new; known = S.known service.new; outbox = O.outbox outlet.new })
+        (staged S.may_want S.known O.outbox service.new outlet.new)
         (C.line conn.new) draws.new received (text ++ piece.now) room.new.framer result }
     ensures goes_on { result ≡ Heard.All → room.new.framer.ended ≡ None }
     ensures space { result ≡ Heard.All → length room.new.framer.bytes < capacity }
@@ -238,11 +239,13 @@ pub(crate) fn serve_rtsp<R: Wait + Sync, S: Service, C: Conn, O: Outlet, P: Pace
     ensures free { (O.outbox outlet.new).held ≡ false }
     ensures same { S.same service.old service.new }
     ensures serves { (key : List ℕ) (stream from : ℕ) → draws.old ≡ before_draw key stream from
-        → (to : ℕ) × (draws.new ≡ before_draw key stream to) × ServesConn C.tells O.tells DoorKind.Rtsp peer (draw_at key stream) from to
-        (record { may_want = S.may_want service.old; known = S.known service.old; outbox = O.outbox outlet.old })
-        (record { may_want = S.may_want service.new; known = S.known service.new; outbox = O.outbox outlet.new })
+        → (to : ℕ) × (draws.new ≡ before_draw key stream to)
+        × ServesConn C.tells O.tells DoorKind.Rtsp peer (draw_at key stream) from to
+        (staged S.may_want S.known O.outbox service.old outlet.old)
+        (staged S.may_want S.known O.outbox service.new outlet.new)
         (C.line conn.old) (C.line conn.new) result }
-    ensures calm { result ≡ ConnEnd.Done → (C.line conn.new).receive_faults ≡ (C.line conn.old).receive_faults }
+    ensures calm { result ≡ ConnEnd.Done → (C.line conn.new).receive_faults
+        ≡ (C.line conn.old).receive_faults }
 {
     let mut buf = [0; PIECE];
     for _ in rt.forever() {

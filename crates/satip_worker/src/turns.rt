@@ -6,6 +6,7 @@ ghost use Rattle.satip_plain.specs.declared.answers.Answer.{Answer};
 ghost use Rattle.satip_service.specs.Calls.{Cause};
 ghost use Rattle.satip_worker.specs.Ends.{end_of};
 ghost use Rattle.satip_worker.specs.Making.{MakesEvent};
+ghost use Rattle.satip_worker.specs.Progress.{staged};
 
 use satip_base::Out;
 use satip_plain::{Answer, Event};
@@ -57,8 +58,8 @@ pub(crate) fn make<S: Service, O: Outlet>(
     ensures free { (O.outbox outlet.new).held ≡ false }
     ensures same { S.same service.old service.new }
     ensures makes { MakesEvent O.tells
-        (record { may_want = S.may_want service.old; known = S.known service.old; outbox = O.outbox outlet.old })
-        (record { may_want = S.may_want service.new; known = S.known service.new; outbox = O.outbox outlet.new })
+        (staged S.may_want S.known O.outbox service.old outlet.old)
+        (staged S.may_want S.known O.outbox service.new outlet.new)
         event.now out.new result }
 {
     outlet.lock();
@@ -77,8 +78,8 @@ fn call_and_post<S: Service, O: Outlet>(
     requires held { (O.outbox outlet.old).held ≡ true }
     ensures same { S.same service.old service.new }
     ensures makes { MakesEvent O.tells
-        (record { may_want = S.may_want service.old; known = S.known service.old; outbox = O.outbox outlet.old })
-        (record { may_want = S.may_want service.new; known = S.known service.new; outbox = O.outbox outlet.new })
+        (staged S.may_want S.known O.outbox service.old outlet.old)
+        (staged S.may_want S.known O.outbox service.new outlet.new)
         event.now out.new result }
 {
     match service.call(event, out) {

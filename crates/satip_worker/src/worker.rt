@@ -5,12 +5,14 @@ ghost use Rattle.satip_world.specs.Counts.{Rises};
 ghost use Rattle.satip_world.specs.Halls.{IsAtLimit};
 ghost use Rattle.satip_worker.specs.Drawing.{draw_at, before_draw};
 ghost use Rattle.satip_worker.specs.WorkerRun.{ServesOne, ServesDoors};
+ghost use Rattle.satip_worker.specs.Progress.{staged};
 
 use crate::connection::serve_connection;
 use crate::draws::Draws;
 use crate::kits::WorkerKit;
 use crate::room::Room;
 use satip_base::Peer;
+use satip_base::limits::LONGEST_HISTORY;
 use satip_service::Service;
 use satip_world::{ConnEnd, Door, DoorKind, Doors, Outlet, Pacer};
 use std::sync::Wait;
@@ -44,9 +46,10 @@ fn serve_one<R: Wait + Sync, S: Service, D: Doors, O: Outlet, P: Pacer>(
     ensures same { S.same service.old service.new }
     ensures key { kit.new.key ≡ kit.old.key }
     ensures serves { (key : List ℕ) (stream from : ℕ) → draws.old ≡ before_draw key stream from
-        → (to : ℕ) × (draws.new ≡ before_draw key stream to) × ServesOne D.Conn.tells O.tells kind peer (draw_at key stream) from to
-        (record { may_want = S.may_want service.old; known = S.known service.old; outbox = O.outbox kit.old.outlet })
-        (record { may_want = S.may_want service.new; known = S.known service.new; outbox = O.outbox kit.new.outlet })
+        → (to : ℕ) × (draws.new ≡ before_draw key stream to)
+        × ServesOne D.Conn.tells O.tells kind peer (draw_at key stream) from to
+        (staged S.may_want S.known O.outbox service.old kit.old.outlet)
+        (staged S.may_want S.known O.outbox service.new kit.new.outlet)
         (D.hall kit.old.doors) (D.hall kit.new.doors) (D.Conn.line conn) result }
 {
     let end = serve_connection(
@@ -81,8 +84,8 @@ pub fn run_worker<R: Wait + Sync, S: Service, D: Doors, O: Outlet, P: Pacer>(
 
     // What was made, which connections came and were handed back, and why the worker ended.
     ensures serves { ServesDoors D.Conn.tells O.tells kit.old.key number
-        (record { may_want = S.may_want service.old; known = S.known service.old; outbox = O.outbox kit.old.outlet })
-        (record { may_want = S.may_want service.new; known = S.known service.new; outbox = O.outbox kit.new.outlet })
+        (staged S.may_want S.known O.outbox service.old kit.old.outlet)
+        (staged S.may_want S.known O.outbox service.new kit.new.outlet)
         (D.hall kit.old.doors) (D.hall kit.new.doors) result }
 
     // When each end comes.
@@ -92,7 +95,7 @@ pub fn run_worker<R: Wait + Sync, S: Service, D: Doors, O: Outlet, P: Pacer>(
         → Rises (D.hall kit.old.doors).faults (D.hall kit.new.doors).faults }
     ensures calm { result ≢ WorkerEnd.DoorsFault
         → (D.hall kit.new.doors).faults ≡ (D.hall kit.old.doors).faults }
-    ensures spent { result ≡ WorkerEnd.Spent → (S.known service.new).length ≡ 18446744073709551615 }
+    ensures spent { result ≡ WorkerEnd.Spent → (S.known service.new).length ≡ LONGEST_HISTORY }
     ensures want { result ≡ WorkerEnd.Want → S.may_want service.old ≡ true }
 {
     let mut draws = Draws::make(&kit.key, number);

@@ -61,5 +61,6 @@ pub trait Doors {
 
     /// Takes a connection back, and how its service ended.
     fn back(&mut self, conn: Self::Conn, kind: DoorKind, peer: Peer, end: ConnEnd)
-        ensures back { HandsBack (hall self.old) (hall self.new) kind peer (Self.Conn.line conn) end };
+        ensures back { HandsBack (hall self.old) (hall self.new) kind peer (Self.Conn.line conn)
+            end };
 }

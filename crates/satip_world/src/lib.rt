@@ -13,8 +13,6 @@ mod memory_outlet;
 mod memory_store;
 mod outlets;
 mod stores;
-#[cfg(test)]
-mod tests;
 
 pub use clocks::{Clock, Pacer};
 pub use connections::{Conn, Received};

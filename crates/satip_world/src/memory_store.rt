@@ -3,7 +3,7 @@
 ghost use Rattle.std.specs.Prelude.{◌≡◌, ◌==◌, ◌∷◌, map, IfOk, IfSome, OnOk, OnErr};
 ghost use Rattle.std.specs.Option.{option_copied};
 ghost use Rattle.std.specs.List.{find};
-ghost use Rattle.satip_world.specs.Recordings.{IsStarted, recording_in};
+ghost use Rattle.satip_world.specs.Recordings.{IsStarted, recording_in, store_view};
 ghost use Rattle.satip_world.specs.Reels.{row_of};
 
 use crate::failures::Failures;
@@ -44,13 +44,7 @@ impl Model for MemoryRecording {
 impl Source for MemoryRecording {
     ghost tells = { Unit {0} };
 
-    ghost left = { λ r. r.left };
-
-    ghost ended = { λ r. r.ended };
-
-    ghost faults = { λ r. r.faults };
-
-    ghost taken = { λ r. r.taken };
+    ghost feed = { λ r. r };
 
     fn take(&mut self, buf: &mut [u8]) -> Taken {
         match self.source.take(buf) {
@@ -108,8 +102,9 @@ impl MemoryStore {
         })
     }
 
-    /// Puts in a recording of a multiplex, in place of one that it has. Its takes give at most as many bytes as `pieces` has one
-    /// after the other, and those with a number, from 1, in `failing` fail.
+    /// Puts in a recording of a multiplex, in place of one that it has. Its takes give at most as
+    /// many bytes as `pieces` has one after the other, and those with a number, from 1, in
+    /// `failing` fail.
     pub fn add(
         &mut self,
         mux: u16,
@@ -159,7 +154,8 @@ impl MemoryStore {
 
 // The recording of a multiplex from its beginning; `None` where there is none, or no memory.
 fn open(alloc: Global, reels: &[Reel], mux: u16) -> Option<MemoryRecording>
-    ensures started { IfSome result (λ from. IsStarted (Unit {0}) from (recording_in (map row_of reels.now) mux)) }
+    ensures started { IfSome result (λ from. IsStarted (Unit {0}) from
+        (recording_in (map row_of reels.now) mux)) }
 {
     let Some(reel) = find_reel(reels, mux) else {
         return None;
@@ -179,13 +175,7 @@ fn find_reel(reels: &[Reel], mux: u16) -> Option<&Reel>
 impl MuxStore for MemoryStore {
     type From = MemoryRecording;
 
-    ghost recording = { λ s mux. recording_in s.recordings mux };
-
-    ghost faults = { λ s. s.faults };
-
-    ghost lent = { λ s. s.lent };
-
-    ghost peak = { λ s. s.peak };
+    ghost shelf = { store_view };
 
     fn start(&mut self, mux: u16) -> Result<MemoryRecording, Failed> {
         if self.failures.meets_one() || self.lent == u64::MAX {

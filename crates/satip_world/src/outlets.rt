@@ -38,7 +38,8 @@ pub trait Outlet {
 pub fn post_all<O: Outlet>(out: &Out, outlet: &mut O)
     requires held { (O.outbox outlet.old).held ≡ true }
     ensures held { (O.outbox outlet.new).held ≡ true }
-    ensures delivers { Delivers O.tells (O.outbox outlet.old) (O.outbox outlet.new) out.now.datagrams }
+    ensures delivers { Delivers O.tells (O.outbox outlet.old) (O.outbox outlet.new)
+        out.now.datagrams }
 {
     for place in 0..out.count() {
         post_one(out, place, outlet);

@@ -45,24 +45,38 @@ fn match_rows()
 // All doors ended, or those of one worker failed, or the history is full.
 fn end_rows()
     ensures served { EndTells Served [] (worker_with true 1 0 ∷ worker_with true 1 0 ∷ []) }
-    ensures one_goes_on { ¬ (EndTells Served [] (worker_with true 1 0 ∷ worker_with false 1 0 ∷ [])) }
+    ensures one_goes_on { ¬ (EndTells Served []
+        (worker_with true 1 0 ∷ worker_with false 1 0 ∷ [])) }
     ensures fault { EndTells DoorsFault [] (worker_with true 1 0 ∷ worker_with false 1 1 ∷ []) }
-    ensures no_fault { ¬ (EndTells DoorsFault [] (worker_with true 1 0 ∷ worker_with false 1 0 ∷ [])) }
+    ensures no_fault { ¬ (EndTells DoorsFault []
+        (worker_with true 1 0 ∷ worker_with false 1 0 ∷ [])) }
     ensures full { (h : List Item) → length h ≡ 18446744073709551615 → EndTells HistoryFull h [] }
     ensures not_full { ¬ (EndTells HistoryFull (stop_by 0 ∷ []) (worker_with false 1 1 ∷ [])) }
 {}
 
 // The run of one worker by whose doors nobody came, and what it can't be taken for.
 fn run_rows()
-    ensures small { SmallRun 1 small_history (caller_of 1 [] ∷ small_ticker ∷ []) (worker_with true 1 0 ∷ []) (1000 ∷ 1020 ∷ 1040 ∷ []) }
-    ensures no_ticker { ¬ (SmallRun 1 small_history [] (worker_with true 1 0 ∷ []) (1000 ∷ 1020 ∷ 1040 ∷ [])) }
-    ensures another_limit { ¬ (SmallRun 2 small_history (caller_of 1 [] ∷ small_ticker ∷ []) (worker_with true 1 0 ∷ []) (1000 ∷ 1020 ∷ 1040 ∷ [])) }
-    ensures doors_go_on { ¬ (SmallRun 1 small_history (caller_of 1 [] ∷ small_ticker ∷ []) (worker_with false 1 0 ∷ []) (1000 ∷ 1020 ∷ 1040 ∷ [])) }
-    ensures two_workers { ¬ (SmallRun 1 small_history (caller_of 1 [] ∷ small_ticker ∷ []) (worker_with true 1 0 ∷ worker_with true 1 0 ∷ []) (1000 ∷ 1020 ∷ 1040 ∷ [])) }
-    ensures another_start { ¬ (SmallRun 1 small_history (caller_of 1 [] ∷ small_ticker ∷ []) (worker_with true 1 0 ∷ []) (990 ∷ 1020 ∷ 1040 ∷ [])) }
-    ensures entry_is_lost { ¬ (SmallRun 1 small_history (caller_of 1 [] ∷ caller_of 2 (tick_by 2 1040 Stopping ∷ []) ∷ []) (worker_with true 1 0 ∷ []) (1000 ∷ 1040 ∷ [])) }
-    ensures another_caller { ¬ (SmallRun 1 (tick_by 7 1010 Going ∷ small_history) (caller_of 1 [] ∷ small_ticker ∷ []) (worker_with true 1 0 ∷ []) (1000 ∷ 1020 ∷ 1040 ∷ [])) }
-    ensures unlawful { ¬ (SmallRun 1 (tick_by 2 1020 Stopping ∷ small_history) (caller_of 1 [] ∷ caller_of 2 (tick_by 2 1020 Stopping ∷ small_ticker.own) ∷ []) (worker_with true 1 0 ∷ []) (1000 ∷ 1020 ∷ 1020 ∷ 1040 ∷ [])) }
+    ensures small { SmallRun 1 small_history (caller_of 1 [] ∷ small_ticker ∷ [])
+        (worker_with true 1 0 ∷ []) (1000 ∷ 1020 ∷ 1040 ∷ []) }
+    ensures no_ticker { ¬ (SmallRun 1 small_history [] (worker_with true 1 0 ∷ [])
+        (1000 ∷ 1020 ∷ 1040 ∷ [])) }
+    ensures another_limit { ¬ (SmallRun 2 small_history (caller_of 1 [] ∷ small_ticker ∷ [])
+        (worker_with true 1 0 ∷ []) (1000 ∷ 1020 ∷ 1040 ∷ [])) }
+    ensures doors_go_on { ¬ (SmallRun 1 small_history (caller_of 1 [] ∷ small_ticker ∷ [])
+        (worker_with false 1 0 ∷ []) (1000 ∷ 1020 ∷ 1040 ∷ [])) }
+    ensures two_workers { ¬ (SmallRun 1 small_history (caller_of 1 [] ∷ small_ticker ∷ [])
+        (worker_with true 1 0 ∷ worker_with true 1 0 ∷ []) (1000 ∷ 1020 ∷ 1040 ∷ [])) }
+    ensures another_start { ¬ (SmallRun 1 small_history (caller_of 1 [] ∷ small_ticker ∷ [])
+        (worker_with true 1 0 ∷ []) (990 ∷ 1020 ∷ 1040 ∷ [])) }
+    ensures entry_is_lost { ¬ (SmallRun 1 small_history
+        (caller_of 1 [] ∷ caller_of 2 (tick_by 2 1040 Stopping ∷ []) ∷ [])
+        (worker_with true 1 0 ∷ []) (1000 ∷ 1040 ∷ [])) }
+    ensures another_caller { ¬ (SmallRun 1 (tick_by 7 1010 Going ∷ small_history)
+        (caller_of 1 [] ∷ small_ticker ∷ []) (worker_with true 1 0 ∷ [])
+        (1000 ∷ 1020 ∷ 1040 ∷ [])) }
+    ensures unlawful { ¬ (SmallRun 1 (tick_by 2 1020 Stopping ∷ small_history)
+        (caller_of 1 [] ∷ caller_of 2 (tick_by 2 1020 Stopping ∷ small_ticker.own) ∷ [])
+        (worker_with true 1 0 ∷ []) (1000 ∷ 1020 ∷ 1020 ∷ 1040 ∷ [])) }
 {}
 
 // A pump that never had a source, or one at a time, and what it can't be taken for.

@@ -1,4 +1,4 @@
-use Rattle.satip_laws.proofs.Flushing.{retuning_flushes}
+use Rattle.satip_laws.proofs.ReadLaws.{retuning_flushes}
 use Rattle.satip_laws.proofs.laws.retuning_flushes.Goals as goal
 
 pub returns : goal.returns

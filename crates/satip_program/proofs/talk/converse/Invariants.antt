@@ -8,10 +8,10 @@ invariant-input g l =
     IsOpen l.conversation.framer
     × (length l.buf ≡ 4096)
     × Goes g.I.Source.tells g.O.Sink.tells
-    (record { left = g.I.Source.left l.initial.input; ended = g.I.Source.ended l.initial.input; faults = g.I.Source.faults l.initial.input; taken = g.I.Source.taken l.initial.input })
-    (record { left = g.I.Source.left l.input; ended = g.I.Source.ended l.input; faults = g.I.Source.faults l.input; taken = g.I.Source.taken l.input })
-    (record { sent = g.O.Sink.sent l.initial.output; faults = g.O.Sink.faults l.initial.output })
-    (record { sent = g.O.Sink.sent l.output; faults = g.O.Sink.faults l.output })
+    (g.I.Source.feed l.initial.input)
+    (g.I.Source.feed l.input)
+    (g.O.Sink.drain l.initial.output)
+    (g.O.Sink.drain l.output)
     l.taken l.conversation.framer l.conversation.talker
     × (l.conversation.gathered ≡ [])
 

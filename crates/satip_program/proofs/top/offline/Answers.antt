@@ -1,5 +1,4 @@
 use Rattle.std.proofs.Common.{◌∙◌, sym, arith}
-use Rattle.satip_replay.specs.Seen.{feed}
 use Rattle.satip_program.proofs.OutcomeLemmas.{run_named}
 use Rattle.satip_program.proofs.ReplayLemmas.{run_replays}
 use Rattle.satip_program.proofs.StatusLemmas.{run_talks}
@@ -11,7 +10,7 @@ returns-clause-talk g c = λ talk. run_talks _ _ _ _ _ _ _ _ _ _ _ _ _ _ c.run-o
 
 pub returns-clause-replay : goal.returns-clause-replay
 returns-clause-replay g c = λ name is.
-    run_replays _ _ _ _ _ _ _ (feed g.K.Config.Source.left g.K.Config.Source.ended g.K.Config.Source.faults g.K.Config.Source.taken) c.run-outcome.result.config
+    run_replays _ _ _ _ _ _ _ g.K.Config.Source.feed c.run-outcome.result.config
     _ _ _ _ _ _ _ _ _ c.run-outcome.ensures.ends c.tell.ensures.says c.status.ensures.status name is
 
 pub returns-clause-configuration : goal.returns-clause-configuration

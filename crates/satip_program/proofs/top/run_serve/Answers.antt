@@ -1,6 +1,5 @@
 use Rattle.std.proofs.Common.{sym, ap, ◌∙◌, IsSomeAnd}
 use Rattle.satip_replay.specs.Ends.{Refused}
-use Rattle.satip_replay.specs.Seen.{feed, drain}
 use Rattle.satip_serving.specs.Servings.{GivenFrom}
 use Rattle.satip_program.specs.Outcomes.{Says}
 use Rattle.satip_program.specs.Serving.{serving_status}
@@ -28,14 +27,14 @@ returns-clause-ends g c = record {
   served = λ is. c.serve_by-end.ensures.served (ends_by_serving c.serve_by-end.result.end (sym c.status_of_serving.ensures.status ∙ is));
   configuration = λ is.
       configuration_told
-      (λ line. Says g.E.Sink.tells (drain g.E.Sink.sent g.E.Sink.faults c.args.errors.now) (drain g.E.Sink.sent g.E.Sink.faults c.tell_serving.new.errors) line)
+      (λ line. Says g.E.Sink.tells (g.E.Sink.drain c.args.errors.now) (g.E.Sink.drain c.tell_serving.new.errors) line)
       (λ fault. IsSomeAnd c.serve_by-end.result.config (λ source. GivenFrom g.K.Config.Source.tells (g.K.Desk.text c.args.desk.now c.args.name.now)
-      (λ before. Refused g.K.Config.Source.tells before (feed g.K.Config.Source.left g.K.Config.Source.ended g.K.Config.Source.faults g.K.Config.Source.taken source) fault)))
+      (λ before. Refused g.K.Config.Source.tells before (g.K.Config.Source.feed source) fault)))
       c.serve_by-end.result.end _ c.status_of_serving.ensures.status c.tell_serving.ensures.says c.serve_by-end.ensures.configuration is;
-  input = input_told c.serve_by-end.result.config g.K.Config.Source.faults _ c.serve_by-end.result.end _ c.status_of_serving.ensures.status
+  input = input_told c.serve_by-end.result.config g.K.Config.Source.feed _ c.serve_by-end.result.end _ c.status_of_serving.ensures.status
       c.serve_by-end.ensures.input_fault c.serve_by-end.ensures.read_through;
   settled = λ text told.
-      settled_told c.serve_by-end.result.config g.K.Config.Source.faults text c.serve_by-end.result.end _ c.status_of_serving.ensures.status (c.serve_by-end.ensures.settled text told);
+      settled_told c.serve_by-end.result.config g.K.Config.Source.feed text c.serve_by-end.result.end _ c.status_of_serving.ensures.status (c.serve_by-end.ensures.settled text told);
   doors_fault = λ is. c.serve_by-end.ensures.doors_fault (ends_by_doors c.serve_by-end.result.end (sym c.status_of_serving.ensures.status ∙ is));
   no_kits = λ is. c.serve_by-end.ensures.no_kits (ends_by_doors c.serve_by-end.result.end (sym c.status_of_serving.ensures.status ∙ is));
   history_full = λ is. c.serve_by-end.ensures.history_full (ends_by_full c.serve_by-end.result.end (sym c.status_of_serving.ensures.status ∙ is));
@@ -44,5 +43,5 @@ returns-clause-ends g c = record {
 pub returns-clause-errors : goal.returns-clause-errors
 returns-clause-errors g c = λ other.
     line_told
-    (λ line. Says g.E.Sink.tells (drain g.E.Sink.sent g.E.Sink.faults c.args.errors.now) (drain g.E.Sink.sent g.E.Sink.faults c.tell_serving.new.errors) line)
+    (λ line. Says g.E.Sink.tells (g.E.Sink.drain c.args.errors.now) (g.E.Sink.drain c.tell_serving.new.errors) line)
     c.serve_by-end.result.end _ c.status_of_serving.ensures.status c.tell_serving.ensures.says other

@@ -9,15 +9,15 @@ abbrev pub invariant-loop : goal.invariant-loop
 invariant-loop g l =
     (goal.iterator-loop g).can_next l.iterator' × (goal.iterator-loop g).is_finite l.iterator'
     × g.S.Service.same l.fn.service l.service
-    × (g.M.MuxStore.recording l.kit.store ≡ g.M.MuxStore.recording l.fn.kit.store)
+    × ((g.M.MuxStore.shelf l.kit.store).recording ≡ (g.M.MuxStore.shelf l.fn.kit.store).recording)
     × (l.pump.front ≡ l.fn.front)
     × (l.pump.since < 64)
     × (l.pump.since + length l.pump.reading.queue.packets ≤ 64)
-    × Answered (g.S.Service.may_want l.fn.service) l.fn.front (g.M.MuxStore.recording l.fn.kit.store) g.O.Outlet.tells g.M.From.Source.tells g.M.From.Source.left
+    × Answered (g.S.Service.may_want l.fn.service) l.fn.front (g.M.MuxStore.shelf l.fn.kit.store).recording g.O.Outlet.tells g.M.From.Source.tells g.M.From.Source.feed
     (g.S.Service.known l.fn.service) (g.S.Service.known l.service) (g.O.Outlet.outbox l.fn.kit.outlet) (g.O.Outlet.outbox l.kit.outlet)
-    (g.M.MuxStore.faults l.fn.kit.store) (g.M.MuxStore.faults l.kit.store) l.pump.reading l.answer
+    (g.M.MuxStore.shelf l.fn.kit.store).faults (g.M.MuxStore.shelf l.kit.store).faults l.pump.reading l.answer
     × Paced (g.S.Service.known l.fn.service).own (g.S.Service.known l.service).own (g.P.Pacer.pauses l.fn.kit.pacer) (g.P.Pacer.pauses l.kit.pacer)
     l.pump.since (owed_by l.answer)
-    × (g.M.MuxStore.lent l.kit.store ≡ g.M.MuxStore.lent l.fn.kit.store + held l.pump.reading.source)
-    × (g.M.MuxStore.peak l.kit.store ≤ max (g.M.MuxStore.peak l.fn.kit.store) (g.M.MuxStore.lent l.fn.kit.store + 1))
+    × ((g.M.MuxStore.shelf l.kit.store).lent ≡ (g.M.MuxStore.shelf l.fn.kit.store).lent + held l.pump.reading.source)
+    × ((g.M.MuxStore.shelf l.kit.store).peak ≤ max (g.M.MuxStore.shelf l.fn.kit.store).peak ((g.M.MuxStore.shelf l.fn.kit.store).lent + 1))
     × ((g.O.Outlet.outbox l.kit.outlet).held ≡ false)

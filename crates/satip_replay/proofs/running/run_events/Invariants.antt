@@ -11,8 +11,8 @@ abbrev pub invariant-events : goal.invariant-events
 invariant-events g l =
     (l.server.setting ≡ l.initial.server.setting)
     × ((events : List Event) → Stands l.initial.server (opening l.initial.server.setting) → IsScript l.script (Ok events) → Midway g.O.Sink.tells
-    (record { sent = g.O.Sink.sent l.initial.output; faults = g.O.Sink.faults l.initial.output })
-    (record { sent = g.O.Sink.sent l.output; faults = g.O.Sink.faults l.output })
+    (g.O.Sink.drain l.initial.output)
+    (g.O.Sink.drain l.output)
     l.initial.server.setting events l.server l.text.items l.lines)
 
 -- each turn reads a line

@@ -10,4 +10,4 @@ pub run_list-requires-send-J : goal.run_list-requires-send-J
 run_list-requires-send-J g c κs within = search pumping depth 12
 
 pub returns : goal.returns
-returns g c = record { did = both_worked _ _ job_of (JobDid (pump_deed g.O.Outlet.tells g.M.MuxStore.recording g.M.MuxStore.faults g.M.MuxStore.lent g.M.MuxStore.peak g.O.Outlet.outbox)) (λ a b call. call) _ _ c.run_list.ensures.worked }
+returns g c = record { did = both_worked _ _ job_of (JobDid (pump_deed g.O.Outlet.tells g.M.MuxStore.shelf g.O.Outlet.outbox)) (λ a b call. call) _ _ c.run_list.ensures.worked }

@@ -23,7 +23,7 @@ returns-in-Ok-serve_all-clause-run g c = λ accepts fresh.
     fresh.ticker_is c.now-start.ensures.reads refl in
     let start : c.in-Ok.server.setting.start ≡ c.now-start.result = ap (λ (s : Setting). s.start) setting in
     serve_run g.D.Conn.Conn.tells g.O.Outlet.tells (worker_view {P = g.row.P.Denot} g.D.Doors.hall g.O.Outlet.outbox)
-    (pump_view {P = g.row.P.Denot} g.M.MuxStore.recording g.M.MuxStore.faults g.M.MuxStore.lent g.M.MuxStore.peak g.O.Outlet.outbox) (tick_view {P = g.row.P.Denot} g.C.Clock.dial g.O.Outlet.outbox)
+    (pump_view {P = g.row.P.Denot} g.M.MuxStore.shelf g.O.Outlet.outbox) (tick_view {P = g.row.P.Denot} g.C.Clock.dial g.O.Outlet.outbox)
     accepts c.in-Ok.server c.in-Ok.pass c.in-Ok-serve_all.pass c.args.jobs.workers.items c.in-Ok-serve_all.jobs.workers.items
     c.args.jobs.pumps.items c.in-Ok-serve_all.jobs.pumps.items tick c.in-Ok-serve_all.jobs.tick c.in-Ok-serve_all.end
     c.in-Ok-serve_all.ensures.did
@@ -37,7 +37,7 @@ pub returns-in-Ok-serve_all-clause-ended : goal.returns-in-Ok-serve_all-clause-e
 returns-in-Ok-serve_all-clause-ended g c = λ accepts fresh.
     let tick : TickKit g.row.C.Denot g.row.O.Denot g.row.P.Denot = record c.args.jobs.tick { clock = c.now-start.new.self } in
     end_tells g.D.Conn.Conn.tells g.O.Outlet.tells (worker_view {P = g.row.P.Denot} g.D.Doors.hall g.O.Outlet.outbox)
-    (pump_view {P = g.row.P.Denot} g.M.MuxStore.recording g.M.MuxStore.faults g.M.MuxStore.lent g.M.MuxStore.peak g.O.Outlet.outbox) (tick_view {P = g.row.P.Denot} g.C.Clock.dial g.O.Outlet.outbox)
+    (pump_view {P = g.row.P.Denot} g.M.MuxStore.shelf g.O.Outlet.outbox) (tick_view {P = g.row.P.Denot} g.C.Clock.dial g.O.Outlet.outbox)
     accepts c.in-Ok.server c.in-Ok.pass c.in-Ok-serve_all.pass c.args.jobs.workers.items c.in-Ok-serve_all.jobs.workers.items
     c.args.jobs.pumps.items c.in-Ok-serve_all.jobs.pumps.items tick c.in-Ok-serve_all.jobs.tick c.in-Ok-serve_all.end
     c.in-Ok-serve_all.ensures.did c.in-Ok-serve_all.ensures.knows fresh.workers_are
@@ -50,4 +50,4 @@ returns-in-Ok-serve_all-clause-keys g c =
 pub returns-in-Ok-serve_all-clause-recordings : goal.returns-in-Ok-serve_all-clause-recordings
 returns-in-Ok-serve_all-clause-recordings g c =
     pumps_keep _ _ _ _ _ _ _ _ _ _ _ _ _ c.in-Ok-serve_all.ensures.did
-    (λ (kit : PumpKit g.row.M.Denot g.row.O.Denot g.row.P.Denot). g.M.MuxStore.recording kit.store) (λ number o n k l end did. did.recordings)
+    (λ (kit : PumpKit g.row.M.Denot g.row.O.Denot g.row.P.Denot). (g.M.MuxStore.shelf kit.store).recording) (λ number o n k l end did. did.recordings)

@@ -15,7 +15,7 @@ pub returns-in-Ok-clause-history_full : goal.returns-in-Ok-clause-history_full
 returns-in-Ok-clause-history_full g c = told_full c.in-Ok.end _ _ _ c.of_run.ensures.end (c.in-Ok.ensures.ended c.args._accepts c.requires.fresh)
 
 pub returns-in-Err-clause-unused : goal.returns-in-Err-clause-unused
-returns-in-Err-clause-unused g c = unused_of _ _ _ _ _ _ _ _ _ _ _ _ _ _ c.requires.fresh c.in-Err.ensures.unused
+returns-in-Err-clause-unused g c = unused_of g.D.Doors.hall g.O.Outlet.outbox g.M.MuxStore.shelf g.C.Clock.dial _ _ _ _ _ _ _ c.requires.fresh c.in-Err.ensures.unused
 
 pub returns-in-Ok-clause-recordings : goal.returns-in-Ok-clause-recordings
 returns-in-Ok-clause-recordings g c =
@@ -23,10 +23,10 @@ returns-in-Ok-clause-recordings g c =
 
 pub returns-in-Ok-clause-kits_left : goal.returns-in-Ok-clause-kits_left
 returns-in-Ok-clause-kits_left g c =
-    come_back g.D.Doors.hall g.O.Outlet.outbox g.M.MuxStore.recording g.M.MuxStore.faults g.M.MuxStore.lent g.M.MuxStore.peak g.C.Clock.dial c.args.jobs
+    come_back g.D.Doors.hall g.O.Outlet.outbox g.M.MuxStore.shelf g.C.Clock.dial c.args.jobs
     c.in-Ok.last.jobs c.in-Ok.ensures.keys c.in-Ok.ensures.recordings
 
 pub returns-in-Err-clause-kits_unused : goal.returns-in-Err-clause-kits_unused
 returns-in-Err-clause-kits_unused g c =
-    come_unused g.D.Doors.hall g.O.Outlet.outbox g.M.MuxStore.recording g.M.MuxStore.faults g.M.MuxStore.lent g.M.MuxStore.peak g.C.Clock.dial c.args.jobs
+    come_unused g.D.Doors.hall g.O.Outlet.outbox g.M.MuxStore.shelf g.C.Clock.dial c.args.jobs
     c.in-Err.jobs c.in-Err.ensures.unused

@@ -1,4 +1,5 @@
 use Rattle.std.proofs.Common.{◌≡◌, false, length}
+use Rattle.satip_worker.specs.Progress.{staged}
 use Rattle.satip_worker.proofs.StreamLemmas.{StreamsOn}
 use Rattle.satip_worker.proofs.http.stream.Given as goal
 
@@ -9,8 +10,8 @@ invariant-loop g l =
     × ((g.C.Conn.line l.conn).ended ≡ false)
     × g.S.Service.same l.initial.service l.service
     × StreamsOn g.C.Conn.tells g.O.Outlet.tells l.session
-    (record { may_want = g.S.Service.may_want l.initial.service; known = g.S.Service.known l.initial.service; outbox = g.O.Outlet.outbox l.initial.outlet })
-    (record { may_want = g.S.Service.may_want l.service; known = g.S.Service.known l.service; outbox = g.O.Outlet.outbox l.outlet })
+    (staged g.S.Service.may_want g.S.Service.known g.O.Outlet.outbox l.initial.service l.initial.outlet)
+    (staged g.S.Service.may_want g.S.Service.known g.O.Outlet.outbox l.service l.outlet)
     (g.C.Conn.line l.initial.conn) (g.C.Conn.line l.conn)
     × ((g.C.Conn.line l.conn).receive_faults ≡ (g.C.Conn.line l.initial.conn).receive_faults)
     × ((g.O.Outlet.outbox l.outlet).held ≡ false)

@@ -1,4 +1,5 @@
 use Rattle.std.proofs.Common.{◌≡◌, ℕ, List, false, length}
+use Rattle.satip_worker.specs.Progress.{staged}
 use Rattle.satip_frame.specs.Said.{Said}
 use Rattle.satip_frame.specs.Stream.{skip_newlines}
 use Rattle.satip_worker.specs.Hearing.{Course, Stands}
@@ -12,11 +13,11 @@ invariant-messages g l =
     × ((course : Course) (received text : List ℕ) (messages : List Said)
     → course.peer ≡ l.peer
     → Stands g.C.Conn.tells g.O.Outlet.tells course
-    (record { may_want = g.S.Service.may_want l.initial.service; known = g.S.Service.known l.initial.service; outbox = g.O.Outlet.outbox l.initial.outlet })
+    (staged g.S.Service.may_want g.S.Service.known g.O.Outlet.outbox l.initial.service l.initial.outlet)
     (g.C.Conn.line l.initial.conn) l.initial.draws received text messages l.initial.room.framer
     → (answered : List Said)
     × Stands g.C.Conn.tells g.O.Outlet.tells course
-    (record { may_want = g.S.Service.may_want l.service; known = g.S.Service.known l.service; outbox = g.O.Outlet.outbox l.outlet })
+    (staged g.S.Service.may_want g.S.Service.known g.O.Outlet.outbox l.service l.outlet)
     (g.C.Conn.line l.conn) l.draws received text answered l.room.framer)
     × ((g.C.Conn.line l.conn).receive_faults ≡ (g.C.Conn.line l.initial.conn).receive_faults)
     × ((g.O.Outlet.outbox l.outlet).held ≡ false)

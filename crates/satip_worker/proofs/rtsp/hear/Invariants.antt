@@ -1,4 +1,5 @@
 use Rattle.std.proofs.Common.{◌≡◌, ℕ, List, ◌++◌, false, length}
+use Rattle.satip_worker.specs.Progress.{staged}
 use Rattle.satip_worker.specs.Hearing.{Course, Listens}
 use Rattle.satip_worker.proofs.HearingLemmas.{IsOpen}
 use Rattle.satip_worker.proofs.rtsp.hear.Given as goal
@@ -12,11 +13,11 @@ invariant-piece g l =
     × ((course : Course) (received text : List ℕ)
     → course.peer ≡ l.peer
     → Listens g.C.Conn.tells g.O.Outlet.tells course
-    (record { may_want = g.S.Service.may_want l.initial.service; known = g.S.Service.known l.initial.service; outbox = g.O.Outlet.outbox l.initial.outlet })
+    (staged g.S.Service.may_want g.S.Service.known g.O.Outlet.outbox l.initial.service l.initial.outlet)
     (g.C.Conn.line l.initial.conn) l.initial.draws received text l.initial.room.framer
     → (heard : List ℕ) × (l.piece ≡ heard ++ l.rest)
     × Listens g.C.Conn.tells g.O.Outlet.tells course
-    (record { may_want = g.S.Service.may_want l.service; known = g.S.Service.known l.service; outbox = g.O.Outlet.outbox l.outlet })
+    (staged g.S.Service.may_want g.S.Service.known g.O.Outlet.outbox l.service l.outlet)
     (g.C.Conn.line l.conn) l.draws received (text ++ heard) l.room.framer)
     × ((g.C.Conn.line l.conn).receive_faults ≡ (g.C.Conn.line l.initial.conn).receive_faults)
     × ((g.O.Outlet.outbox l.outlet).held ≡ false)

@@ -1,4 +1,5 @@
 use Rattle.std.proofs.Common.{◌≡◌, ℕ, List, false, length}
+use Rattle.satip_worker.specs.Progress.{staged}
 use Rattle.satip_worker.specs.Drawing.{before_draw}
 use Rattle.satip_worker.specs.Hearing.{Listens}
 use Rattle.satip_worker.proofs.HearingLemmas.{IsOpen}
@@ -16,10 +17,10 @@ invariant-loop g l =
       key = key;
       stream = stream;
       from = from;
-      stage = record { may_want = g.S.Service.may_want l.initial.service; known = g.S.Service.known l.initial.service; outbox = g.O.Outlet.outbox l.initial.outlet };
+      stage = staged g.S.Service.may_want g.S.Service.known g.O.Outlet.outbox l.initial.service l.initial.outlet;
       line = g.C.Conn.line l.initial.conn;
     })
-    (record { may_want = g.S.Service.may_want l.service; known = g.S.Service.known l.service; outbox = g.O.Outlet.outbox l.outlet })
+    (staged g.S.Service.may_want g.S.Service.known g.O.Outlet.outbox l.service l.outlet)
     (g.C.Conn.line l.conn) l.draws text text l.room.framer)
     × ((g.C.Conn.line l.conn).receive_faults ≡ (g.C.Conn.line l.initial.conn).receive_faults)
     × ((g.O.Outlet.outbox l.outlet).held ≡ false)

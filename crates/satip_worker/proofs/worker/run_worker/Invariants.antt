@@ -1,4 +1,5 @@
 use Rattle.std.proofs.Common.{◌≡◌, false}
+use Rattle.satip_worker.specs.Progress.{staged}
 use Rattle.satip_worker.proofs.WorkerLemmas.{ServesOn}
 use Rattle.satip_worker.proofs.worker.run_worker.Given as goal
 
@@ -8,7 +9,7 @@ invariant-loop g l =
     g.S.Service.same l.initial.service l.service
     × (l.kit.key ≡ l.initial.kit.key)
     × ServesOn g.D.Conn.Conn.tells g.O.Outlet.tells l.initial.kit.key l.number
-    (record { may_want = g.S.Service.may_want l.initial.service; known = g.S.Service.known l.initial.service; outbox = g.O.Outlet.outbox l.initial.kit.outlet })
-    (record { may_want = g.S.Service.may_want l.service; known = g.S.Service.known l.service; outbox = g.O.Outlet.outbox l.kit.outlet })
+    (staged g.S.Service.may_want g.S.Service.known g.O.Outlet.outbox l.initial.service l.initial.kit.outlet)
+    (staged g.S.Service.may_want g.S.Service.known g.O.Outlet.outbox l.service l.kit.outlet)
     (g.D.Doors.hall l.initial.kit.doors) (g.D.Doors.hall l.kit.doors) l.draws
     × ((g.O.Outlet.outbox l.kit.outlet).held ≡ false)

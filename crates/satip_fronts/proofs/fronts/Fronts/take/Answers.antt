@@ -15,12 +15,12 @@ none_chosen : (c : goal.In-None) → choice c.args.self.now c.args.stream c.args
 none_chosen c =
     choice_is (front_ends c.self.inside) c.args.self.now c.args.stream c.args.tuning.now c.deref.result.now c.mux_of-mux.result None c.self.view_is c.deref.ensures.value c.mux_of-mux.ensures.found (c.in-None.ensures).place
 
-place_chosen : (c : goal.After-self-1) → choice c.args.self.now c.args.stream c.args.tuning.now ≡ Some c.in-Some.place
+place_chosen : (c : goal.After-self-in-Some-1) → choice c.args.self.now c.args.stream c.args.tuning.now ≡ Some c.in-Some.place
 place_chosen c =
     choice_is (front_ends c.self.inside) c.args.self.now c.args.stream c.args.tuning.now c.deref.result.now c.mux_of-mux.result (Some c.in-Some.place) c.self.view_is c.deref.ensures.value c.mux_of-mux.ensures.found (c.in-Some.ensures).place
 
 -- what the fields are once the stream moved
-fields : (c : goal.After-self-1) → front_ends (record { fronts = c.self.inside.fronts; muxes = c.self.inside.muxes; rows = record { items = refill (length c.self.inside.rows.items) c.self.inside.rows.items c.move_stream.new.rows }; places = c.move_stream.new.places }) ≡ moved c.args.self.now c.args.stream c.args.tuning.now c.in-Some.place
+fields : (c : goal.After-self-in-Some-1) → front_ends (record { fronts = c.self.inside.fronts; muxes = c.self.inside.muxes; rows = record { items = refill (length c.self.inside.rows.items) c.self.inside.rows.items c.move_stream.new.rows }; places = c.move_stream.new.places; counts = c.count_streams-self-inside.result }) ≡ moved c.args.self.now c.args.stream c.args.tuning.now c.in-Some.place
 fields c =
     let wanted = c.mux_of-mux.ensures.found ∙ ap (λ (muxes : List Mux). mux_of muxes c.args.tuning.now) c.deref.ensures.value in
     let long = c.move_stream.auto.rows ∙ ap length c.deref_mut.ensures.value in
@@ -30,8 +30,11 @@ fields c =
 
 pub invariant_of-self : goal.invariant_of-self
 invariant_of-self c =
-    let sound = subst Sound c.self.view_is c.self.invariant in
-    subst Sound (sym (fields c)) (sound_moved c.args.self.now c.args.stream c.args.tuning.now c.in-Some.place sound (place_chosen c))
+    let sound = subst Sound c.self.view_is c.self.invariant.sound in
+    record {
+      sound = subst Sound (sym (fields c)) (sound_moved c.args.self.now c.args.stream c.args.tuning.now c.in-Some.place sound (place_chosen c));
+      counted = c.count_streams-self-inside.ensures.counted;
+    }
 
 pub returns-in-None-clause-chosen : goal.returns-in-None-clause-chosen
 returns-in-None-clause-chosen c = ap (option_map (λ (place : Place). place.front)) (sym (none_chosen c))

@@ -1,23 +1,43 @@
-use Rattle.std.proofs.Common.{◌≡◌, [], length, sym, ap, ◌∙◌, subst, arith}
-use Rattle.satip_pids.specs.Rising.{has_number, put_all}
-use Rattle.satip_pids.specs.Pids.{IsPidRow}
-use Rattle.satip_pids.proofs.RisingLists.{has-put_all}
-use Rattle.satip_pids.proofs.Sets.{IsPidRow-nil, IsPidRow-put_all}
+use Rattle.std.proofs.Common.{◌≡◌, ◌<◌, ◌||◌, [], length, replicate, refl, sym, ap}
+use Rattle.satip_pids.specs.Rising.{has_number}
+use Rattle.satip_pids.specs.Pids.{Only, IsPidSet, has_pid, listed, grown}
+use Rattle.satip_pids.proofs.SetViews.{none_listed, none_members, grown_view, many_grown, set_listed, added_exact, added_members, added_few, refused_exact}
 use Rattle.satip_pids.proofs.pid_set.PidSet.set.Goals as goal
 
--- what was made of the list alone
-made : (c : goal.After-self-1) → c.in_ok-pids.pids ≡ put_all [] c.args.list.now
-made c = c.in_ok-pids.ensures.both ∙ ap (λ xs. put_all xs c.args.list.now) c.new.ensures.empty
+pub add_bits-requires-clause-listed : goal.add_bits-requires-clause-listed
+add_bits-requires-clause-listed c = none_listed
 
-row : (c : goal.After-self-1) → IsPidRow c.in_ok-pids.pids
-row c =
-    subst IsPidRow (sym (made c)) (IsPidRow-put_all [] c.args.list.now IsPidRow-nil c.requires.below (omega (arith, c.in_ok-pids.ensures.few, ap length (made c))))
+pub returns-in_default-clause-exact : goal.returns-in_default-clause-exact
+returns-in_default-clause-exact c =
+    let list = c.args.list.now in
+    refused_exact (Only []) list (many_grown (Only []) (replicate 128 0) list (ap Only (sym none_members)) c.in_default.ensures.added)
 
-pub invariant_of-self : goal.invariant_of-self
-invariant_of-self c = row c
+pub returns-in_default-clause-too_many : goal.returns-in_default-clause-too_many
+returns-in_default-clause-too_many c =
+    let many = many_grown (Only []) (replicate 128 0) c.args.list.now (ap Only (sym none_members)) c.in_default.ensures.added in
+    ((λ same. many), (λ lt. refl))
+
+pub returns-clause-exact : goal.returns-clause-exact
+returns-clause-exact c =
+    let list = c.args.list.now in
+    let us = c.add_bits.new.words in
+    let total = c.in-Some.count in
+    let made = grown_view (Only []) (replicate 128 0) us total list (ap Only (sym none_members)) c.in-Some.ensures.added c.in-Some.ensures.listed in
+    added_exact (Only []) _ list made (set_listed us total c.in-Some.ensures.listed)
 
 pub returns-clause-members : goal.returns-clause-members
-returns-clause-members c = λ pid. ap (λ xs. has_number xs pid) (made c) ∙ has-put_all pid c.args.list.now []
+returns-clause-members c =
+    let list = c.args.list.now in
+    let made = grown_view (Only []) (replicate 128 0) c.add_bits.new.words c.in-Some.count list (ap Only (sym none_members)) c.in-Some.ensures.added c.in-Some.ensures.listed in
+    added_members (Only []) _ list made
+
+pub returns-clause-too_many : goal.returns-clause-too_many
+returns-clause-too_many c =
+    let list = c.args.list.now in
+    let us = c.add_bits.new.words in
+    let total = c.in-Some.count in
+    let made = grown_view (Only []) (replicate 128 0) us total list (ap Only (sym none_members)) c.in-Some.ensures.added c.in-Some.ensures.listed in
+    ((λ same. cc), (λ many. absurd (added_few (Only []) _ list made (set_listed us total c.in-Some.ensures.listed) many)))
 
 pub returns-clause-limits : goal.returns-clause-limits
-returns-clause-limits c = row c
+returns-clause-limits c = set_listed c.add_bits.new.words c.in-Some.count c.in-Some.ensures.listed

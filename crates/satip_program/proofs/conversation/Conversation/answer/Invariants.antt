@@ -8,10 +8,10 @@ use Rattle.satip_program.proofs.conversation.Conversation.answer.Given as goal
 -- the messages so far were answered
 abbrev pub invariant-messages : goal.invariant-messages
 invariant-messages g l = (o : Drain) (text : List ℕ) (messages : List Said)
-    → Stands g.O.Sink.tells o (record { sent = g.O.Sink.sent l.initial.output; faults = g.O.Sink.faults l.initial.output })
+    → Stands g.O.Sink.tells o (g.O.Sink.drain l.initial.output)
     l.initial.self.gathered text messages l.initial.self.framer l.initial.self.talker
     → (answered : List Said)
-    × Stands g.O.Sink.tells o (record { sent = g.O.Sink.sent l.output; faults = g.O.Sink.faults l.output })
+    × Stands g.O.Sink.tells o (g.O.Sink.drain l.output)
     l.self.gathered text answered l.self.framer l.self.talker
 
 -- each message takes some of the bytes

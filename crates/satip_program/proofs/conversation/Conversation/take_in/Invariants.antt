@@ -14,10 +14,10 @@ abbrev pub invariant-piece : goal.invariant-piece
 invariant-piece g l =
     IsOpen l.self.framer
     × ((o : Drain) (text : List ℕ)
-    → Listens g.O.Sink.tells o (record { sent = g.O.Sink.sent l.initial.output; faults = g.O.Sink.faults l.initial.output })
+    → Listens g.O.Sink.tells o (g.O.Sink.drain l.initial.output)
     l.initial.self.gathered text l.initial.self.framer l.initial.self.talker
     → (heard : List ℕ) × (l.piece ≡ heard ++ l.rest)
-    × Listens g.O.Sink.tells o (record { sent = g.O.Sink.sent l.output; faults = g.O.Sink.faults l.output })
+    × Listens g.O.Sink.tells o (g.O.Sink.drain l.output)
     l.self.gathered (text ++ heard) l.self.framer l.self.talker)
 
 -- each turn takes some of the piece

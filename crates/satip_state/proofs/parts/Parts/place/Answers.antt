@@ -36,5 +36,5 @@ returns c = record {
       let some = number_positive c.args.number 0 c.in-Some.stream.now c.self.inside.table.streams c.known.ensures.sound.numbers (sym c.in-Some.ensures.found) in
       placed_stands g (the_view c.self.inside) st (subst (λ k. StandsFor g k st) (sym c.self.view_is) s) c.args.number c.in-Some-take.front c.args.tuning.now c.in-Some.stream.now c.change.new.self c.take.new.self c.change-2.new.self
       c.known.ensures.sound c.known-2.ensures.sound c.known-3.ensures.sound c.known-4.ensures.sound some c.if-number-gt-STREAMS.false (sym c.in-Some.ensures.found)
-      c.in-Some-take.ensures.chosen c.in-Some-take.ensures.moved c.change.ensures.changed c.change-2.ensures.changed;
+      c.in-Some-take.ensures.chosen c.in-Some-take.ensures.moved (rw (c.copy.ensures.same, c.copy-pids.ensures.same) at c.change.ensures.changed) (rw c.copy-pids.ensures.same at c.change-2.ensures.changed);
 }

@@ -6,6 +6,9 @@ use Rattle.satip_table.specs.Sessions.{has_id}
 use Rattle.satip_table.proofs.Listing.{found_lives}
 use Rattle.satip_table.proofs.table.Table.find.Goals as goal
 
+pub find-requires : goal.find-requires
+find-requires c = record { rising = (c.self.inside.made, c.self.invariant.sound.counts) }
+
 pub returns-clause-lives : goal.returns-clause-lives
 returns-clause-lives c =
     let found : option_map (λ (s : Bor Session). s.now) c.map.result ≡ option_map (λ (seat : Seat). seat.session) (find (has_id c.args.id) c.args.self.now.seats) = search rules in

@@ -11,5 +11,5 @@ same (Some stream) = refl
 
 pub returns-clause-lives : goal.returns-clause-lives
 returns-clause-lives c =
-    let found : option_map (λ (s : Bor Stream). s.now) c.stream_of.result ≡ find (has_number c.args.number) c.args.self.now.streams = search rules in
-    found_lives (has_number c.args.number) c.args.self.now.streams (λ (s : Stream). s) (λ (s : Bor Stream). s.now) c.stream_of.result (found ∙ same _)
+    let found : option_map (λ (s : Bor Stream). s.now) c.find.result ≡ find (has_number c.args.number) c.args.self.now.streams = search rules in
+    found_lives (has_number c.args.number) c.args.self.now.streams (λ (s : Stream). s) (λ (s : Bor Stream). s.now) c.find.result (found ∙ same _)

@@ -1,31 +1,42 @@
-use Rattle.std.proofs.Common.{◌∙◌, ◌≤◌, List, ap, sym, subst, vec_capacity, rules}
-use Rattle.std.specs.List.{list_any}
+use Rattle.std.proofs.Common.{◌≡◌, ◌∙◌, Some, find, ap, sym, rules}
+use Rattle.std.specs.Option.{option_map}
 use Rattle.satip_table.specs.declared.session.Seat.{Seat}
-use Rattle.satip_table.specs.Sessions.{has_id}
+use Rattle.satip_table.specs.Sessions.{has_id, owner_of, without}
 use Rattle.satip_table.specs.Streams.{kept_streams}
-use Rattle.satip_table.specs.Living.{Living, Sound}
+use Rattle.satip_table.specs.Owners.{handed}
+use Rattle.satip_table.specs.Living.{Living}
 use Rattle.satip_table.specs.View.{living}
-use Rattle.satip_table.proofs.Listing.{filter_none}
+use Rattle.satip_table.proofs.HandingOn.{handed_on}
 use Rattle.satip_table.proofs.TableLaws.{kept_same, stored_left}
 use Rattle.satip_table.proofs.table.Table.leave.Goals as goal
 
-pub returns-then-not-lives-clause-sessions : goal.returns-then-not-lives-clause-sessions
-returns-then-not-lives-clause-sessions c =
-    let none = ap (λ (v : Living). list_any (has_id c.args.id) v.seats) (sym c.self.view_is) ∙ ap (list_any (has_id c.args.id)) (sym c.deref.ensures.value) ∙ sym (c.if-not-lives.ensures).lives in
-    sym (filter_none (has_id c.args.id) c.args.self.now.seats none)
+pub remove-requires : goal.remove-requires
+remove-requires c = record { rising = (c.self.inside.made, c.self.invariant.sound.counts) }
 
-pub returns-then-not-lives-clause-streams : goal.returns-then-not-lives-clause-streams
-returns-then-not-lives-clause-streams c =
-    let sound = subst Sound c.self.view_is c.self.invariant.sound in
-    sym (kept_same c.args.self.now.seats c.args.self.now.streams sound.owned)
+pub returns-in_default-clause-streams : goal.returns-in_default-clause-streams
+returns-in_default-clause-streams c =
+    let unchanged : c.remove.new.self ≡ c.self.inside.seats = search rules in
+    sym (kept_same c.self.inside.seats c.self.inside.streams c.self.invariant.sound.owned)
+    ∙ ap (λ ss. kept_streams ss c.self.inside.streams) (sym unchanged) ∙ ap (λ (v : Living). kept_streams c.remove.new.self v.streams) c.self.view_is
 
-pub invariant_of-self : goal.invariant_of-self
-invariant_of-self c =
-    let seats : 64 ≤ vec_capacity c.remove_session.new.seats = search rules in
-    let streams : 64 ≤ vec_capacity c.keep_streams.new.streams = search rules in
-    let kept = c.keep_streams.ensures.kept ∙ ap (λ (ss : List Seat). kept_streams ss c.self.inside.streams.items) c.deref-2.ensures.value in
-    record {
-      seats_room = seats;
-      streams_room = streams;
-      sound = stored_left (living c.self.inside) c.args.id c.remove_session.new.seats.items c.keep_streams.new.streams.items c.self.invariant.sound c.remove_session.ensures.removed kept;
-    }
+pub invariant_of-self-2 : goal.invariant_of-self-2
+invariant_of-self-2 c =
+    let v = living c.self.inside in
+    let removed : c.remove.new.self ≡ without c.args.id c.self.inside.seats = search rules in
+    let was : Some c.in-Some.stream ≡ option_map (λ (seat : Seat). seat.session.stream) (find (has_id c.args.id) c.self.inside.seats) = search rules in
+    let first = c.first_member-first.ensures.first ∙ ap (λ ss. owner_of ss c.in-Some.stream) removed in
+    let kept : c.hand_on.new.streams ≡ kept_streams c.remove.new.self c.self.inside.streams =
+    c.hand_on.ensures.handed ∙ ap (λ o. handed c.in-Some.stream o c.self.inside.streams) first ∙ handed_on v c.args.id c.in-Some.stream c.self.invariant.sound was
+    ∙ ap (λ ss. kept_streams ss c.self.inside.streams) (sym removed) in
+    record { sound = stored_left v c.args.id c.remove.new.self c.hand_on.new.streams c.self.invariant.sound removed kept }
+
+pub returns-clause-streams : goal.returns-clause-streams
+returns-clause-streams c =
+    let v = living c.self.inside in
+    let removed : c.remove.new.self ≡ without c.args.id c.self.inside.seats = search rules in
+    let was : Some c.in-Some.stream ≡ option_map (λ (seat : Seat). seat.session.stream) (find (has_id c.args.id) c.self.inside.seats) = search rules in
+    let first = c.first_member-first.ensures.first ∙ ap (λ ss. owner_of ss c.in-Some.stream) removed in
+    let kept : c.hand_on.new.streams ≡ kept_streams c.remove.new.self c.self.inside.streams =
+    c.hand_on.ensures.handed ∙ ap (λ o. handed c.in-Some.stream o c.self.inside.streams) first ∙ handed_on v c.args.id c.in-Some.stream c.self.invariant.sound was
+    ∙ ap (λ ss. kept_streams ss c.self.inside.streams) (sym removed) in
+    kept ∙ ap (λ (w : Living). kept_streams c.remove.new.self w.streams) c.self.view_is

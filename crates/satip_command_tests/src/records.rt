@@ -1,0 +1,191 @@
+//! Lines whose digits were worked out by hand from the rules of records.
+
+ghost use Rattle.std.specs.Prelude.{◌<◌};
+
+use satip_base::{Address, Draw, Out, Peer, Ports, SessionId};
+use satip_http::{HttpRefusal, HttpRequest};
+use satip_pids::PidList;
+use satip_plain::{Answer, Beat, Event, GetAnswer, Pulled, Replied, Work};
+use satip_query::{PidsGiven, Query, QueryFault};
+use satip_records::*;
+use satip_rtsp::{Method, Request, SessionName};
+use satip_tune::{Fec, Key, Modulation, Pol, RollOff, System};
+use std::test::Fail;
+
+#[test]
+fn a_start_is_one_line(rt: HostRuntime) -> Result<(), Fail> {
+    let mut line = LineRoom::make(rt.alloc())?;
+    write_start(0, &mut line);
+    assert_eq!(rt; line.bytes(), b"start 0\n".as_slice());
+    write_start(u64::MAX, &mut line);
+    assert_eq!(rt; line.bytes(), b"start 18446744073709551615\n".as_slice());
+    Ok(())
+}
+
+#[test]
+fn a_stop_and_a_tick_are_short_lines(rt: HostRuntime) -> Result<(), Fail> {
+    let out = Out::make(rt.alloc())?;
+    let mut line = LineRoom::make(rt.alloc())?;
+    let stopping = Answer::Beat(Beat::Stopping);
+    write_entry(0, 0, &Event::Stop, &stopping, &out, &mut line);
+    assert_eq!(rt; line.bytes(), b"entry 0 0 080201000000000000\n".as_slice());
+    let going = Answer::Beat(Beat::Going);
+    write_entry(0, 0, &Event::Tick { now: 10 }, &going, &out, &mut line);
+    assert_eq!(rt;
+        line.bytes(),
+        b"entry 0 0 02000000000000000a0200000000000000\n".as_slice()
+    );
+    write_entry(2, 1, &Event::Stop, &stopping, &out, &mut line);
+    assert_eq!(rt; line.bytes(), b"entry 2 1 080201000000000000\n".as_slice());
+    Ok(())
+}
+
+fn two_pids(first: u16, second: u16) -> PidList
+    requires first { first < 8192 }
+    requires second { second < 8192 }
+{
+    let mut pids = PidList::new();
+    let _ = pids.push(first);
+    let _ = pids.push(second);
+    pids
+}
+
+fn setup_request() -> Request {
+    let mut query = Query::new();
+    query.change.src = Some(1);
+    query.change.freq = Some(11494000);
+    query.change.pol = Some(Pol::L);
+    query.change.ro = Some(RollOff::R20);
+    query.change.msys = Some(System::Dvbs2);
+    query.change.mtype = Some(Modulation::Psk8);
+    query.change.plts = Some(true);
+    query.change.sr = Some(22000);
+    query.change.fec = Some(Fec::F910);
+    query.pids = PidsGiven::List(two_pids(0, 16));
+    query.addpids = Some(two_pids(8191, 8191));
+    Request {
+        cseq: Some(2),
+        refusal: None,
+        method: Method::Setup,
+        stream: Some(7),
+        session: SessionName::Named(SessionId { count: 3, word: 4 }),
+        query,
+        ports: Some(Ports {
+            rtp: 5000,
+            rtcp: 5001,
+        }),
+    }
+}
+
+#[test]
+fn a_request_is_written_field_by_field(rt: HostRuntime) -> Result<(), Fail> {
+    let mut out = Out::make(rt.alloc())?;
+    let mut line = LineRoom::make(rt.alloc())?;
+    out.write(b"ok");
+    let to = Address {
+        ip: 0x0a00_0002,
+        port: 5000,
+    };
+    out.begin(to);
+    out.extend(b"abc");
+    out.begin(to);
+    let event = Event::Request {
+        peer: Peer { ip: 0x0a00_0002 },
+        draw: Draw {
+            word: 0x0102_0304,
+            ssrc: 0x0506_0708,
+            first: 0x090a,
+        },
+        request: setup_request(),
+    };
+    let answer = Answer::Replied(Replied {
+        status: 200,
+        closing: false,
+    });
+    write_entry(17, 3, &event, &answer, &out, &mut line);
+    let mut want = Vec::new(rt.alloc());
+    want.extend_from_slice(b"entry 17 3 ")?;
+    // A request, its peer and its draw; CSeq 2, no refusal, SETUP, stream 7 and a session.
+    want.extend_from_slice(b"000a0000020102030405060708090a")?;
+    want.extend_from_slice(b"01000000020002010007010000000300000004")?;
+    // No front end; position 1, 11494000 kHz, circular left, 0.20, DVB-S2, 8PSK.
+    want.extend_from_slice(b"0001010100af62700102010201010101")?;
+    // Pilots, 22000 kSymb/s and 9/10; the lists of PIDs and the ports.
+    want.extend_from_slice(b"010101000055f00108030002000000100100021fff1fff000113881389")?;
+    // Status 200, not closing; the reply and the datagrams.
+    want.extend_from_slice(b"0000c800000000026f6b")?;
+    want.extend_from_slice(b"00020a0000021388000000036162630a000002138800000000\n")?;
+    assert_eq!(rt; line.bytes(), want.as_slice());
+    Ok(())
+}
+
+#[test]
+fn refusals_packets_and_ids_are_written(rt: HostRuntime) -> Result<(), Fail> {
+    let out = Out::make(rt.alloc())?;
+    let mut line = LineRoom::make(rt.alloc())?;
+    let event = Event::Get {
+        peer: Peer { ip: 1 },
+        draw: Draw {
+            word: 0,
+            ssrc: 0,
+            first: 0,
+        },
+        request: HttpRequest {
+            refusal: Some(HttpRefusal::Query(QueryFault::Range(Key::Pids))),
+            query: Query::new(),
+        },
+    };
+    let refused = Answer::Get(GetAnswer::Refused(400));
+    write_entry(1, 2, &event, &refused, &out, &mut line);
+    let mut want = Vec::new(rt.alloc());
+    want.extend_from_slice(b"entry 1 2 010000000100000000000000000000")?;
+    want.extend_from_slice(b"0106010a00000000000000000000000000010101900000000000")?;
+    want.extend_from_slice(b"00\n")?;
+    assert_eq!(rt; line.bytes(), want.as_slice());
+    let id = SessionId {
+        count: 1,
+        word: 0xdead_beef,
+    };
+    let pulled = Answer::Pulled(Pulled::Bytes(1316));
+    write_entry(5, 6, &Event::Pull { session: id }, &pulled, &out, &mut line);
+    assert_eq!(rt;
+        line.bytes(),
+        b"entry 5 6 0600000001deadbeef04000000000000000524000000000000\n".as_slice()
+    );
+    let tune = Answer::Work(Work::Tune { mux: 3, tune: 9 });
+    write_entry(7, 8, &Event::Ask { front: 2 }, &tune, &out, &mut line);
+    assert_eq!(rt;
+        line.bytes(),
+        b"entry 7 8 050002030000030000000000000009000000000000\n".as_slice()
+    );
+    Ok(())
+}
+
+#[test]
+fn parts_are_read_from_the_front(rt: HostRuntime) {
+    let mut reading = Reading::new(b"\x01\x01\x02\x00\x00\x00\x07\x00\x00\x00\x08\x01\x00\x02");
+    assert_eq!(rt; reading.read_option_u16(), Some(Some(258)));
+    assert_eq!(rt; reading.read_id(), Some(SessionId { count: 7, word: 8 }));
+    assert_eq!(rt; reading.read_bool(), Some(true));
+    assert_eq!(rt; reading.read_option_pol(), Some(None));
+    assert_eq!(rt; reading.read_bool(), None);
+    assert_eq!(rt; Reading::new(b"\x01\x02").read_u32(), None);
+    assert_eq!(rt; Reading::new(b"\x09").read_fec(), None);
+    assert_eq!(rt; Reading::new(b"\x08").read_fec(), Some(Fec::F910));
+}
+
+#[test]
+fn answers_are_read_from_the_front(rt: HostRuntime) {
+    let mut reading = Reading::new(
+        b"\x02\x01\x03\x00\x00\x03\x00\x00\x00\x00\x00\x00\x00\x09\x00\x00\xc8\x01\x06",
+    );
+    assert_eq!(rt; reading.read_answer(), Some(Answer::Beat(Beat::Stopping)));
+    let tune = Answer::Work(Work::Tune { mux: 3, tune: 9 });
+    assert_eq!(rt; reading.read_answer(), Some(tune));
+    let replied = Answer::Replied(Replied {
+        status: 200,
+        closing: true,
+    });
+    assert_eq!(rt; reading.read_answer(), Some(replied));
+    assert_eq!(rt; reading.read_answer(), None);
+}

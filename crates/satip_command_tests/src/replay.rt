@@ -1,0 +1,299 @@
+//! Replays over memory: worked rows as whole runs, and each end.
+ghost use Rattle.std.specs.Prelude.{◌≡◌, [], ◌∷◌, codes};
+ghost use Rattle.satip_config.specs.Configuration.{Configuration};
+ghost use Rattle.satip_plain.specs.declared.events.Event.TheVariants.{Ask, Stop};
+ghost use Rattle.satip_replay.specs.Replays.{replayed};
+
+use satip_base::{MemorySink, MemorySource, ReadSource, Source};
+use satip_config::{ConfigFault, ConfigKey, ConfigName};
+use satip_replay::{ReplayEnd, replay};
+use std::alloc::Global;
+use std::io::{Read, repeat};
+use std::test::Fail;
+
+const CONFIG: &[u8] = b"address = \"192.168.1.10\"
+[[frontend]]
+sources = [1]
+systems = [\"dvbs\", \"dvbs2\"]
+[[frontend]]
+sources = [1]
+systems = [\"dvbs\", \"dvbs2\"]
+[[mux]]
+src = 1
+freq = \"11361.75\"
+pol = \"h\"
+msys = \"dvbs2\"
+sr = 22000
+file = \"a.ts\"
+[[mux]]
+src = 1
+freq = \"12402\"
+pol = \"v\"
+msys = \"dvbs\"
+sr = 27500
+file = \"b.ts\"
+";
+
+const SETUP: &[u8] =
+    b"SETUP rtsp://192.168.1.10/?src=1&freq=11361.75&pol=h&ro=0.35&msys=dvbs2&mtype=8psk&plts=on&sr=22000&fec=23&pids=0,16,17&x_pmt=100 RTSP/1.0\r\nCSeq: 1\r\nTransport: RTP/AVP;unicast;client_port=1400-1401\r\n\r\n";
+
+const FOUNDED: &[u8] =
+    b"RTSP/1.0 200 OK\r\nCSeq: 1\r\nSession: 000000010000000a;timeout=60\r\nTransport: RTP/AVP;unicast;client_port=1400-1401\r\ncom.ses.streamID: 1\r\n\r\n";
+
+const PLAY: &[u8] =
+    b"PLAY rtsp://192.168.1.10/stream=1 RTSP/1.0\r\nCSeq: 2\r\nSession: 000000010000000a\r\n\r\n";
+
+const PLAYS: &[u8] =
+    b"RTSP/1.0 200 OK\r\nCSeq: 2\r\nSession: 000000010000000a\r\nRTP-Info: url=rtsp://192.168.1.10/stream=1;seq=65535\r\n\r\n";
+
+const TEARDOWN: &[u8] =
+    b"TEARDOWN rtsp://192.168.1.10/stream=1 RTSP/1.0\r\nCSeq: 1\r\nSession: 000000010000000a\r\n\r\n";
+
+const TORN_DOWN: &[u8] = b"RTSP/1.0 200 OK\r\nCSeq: 1\r\n\r\n";
+
+const OPTIONS: &[u8] =
+    b"OPTIONS rtsp://192.168.1.10/ RTSP/1.0\r\nCSeq: 1\r\nSession: 000000010000000a\r\n\r\n";
+
+const UNKNOWN: &[u8] = b"RTSP/1.0 454 Session Not Found\r\nCSeq: 1\r\n\r\n";
+
+// What is printed of short scripts, whatever the configuration.
+#[tactic(auto, unfolding(satip_script::specs::Printed::plain_line, satip_script::specs::Printed::work_words))]
+fn replays_are_printed()
+    ensures none { (c : Configuration) → replayed c [] ≡ [] }
+    ensures free_front { (c : Configuration) → replayed c (Ask 1 ∷ []) ≡ codes "nothing\n" }
+    ensures stop { (c : Configuration) → replayed c (Stop ∷ Ask 1 ∷ [])
+        ≡ codes "stopping\nstopping\n" }
+{}
+
+// The sender report and the SES1 text of a stream that sent six packets.
+const REPORT: &[u8] =
+    b"datagram 192.168.1.20:1401 80c800061122334483aa7e810a3d70a300016da0000000010000046881ca000511223344010c3139322e3136382e312e3130000080cc00181122334453455331000000527665723d312e303b7372633d313b74756e65723d312c3234302c312c31352c31313336312e37352c682c64766273322c3870736b2c6f6e2c302e33352c32323030302c32333b706964733d302c31362c31370000\n";
+
+// A worked row: its script, and what is to be printed.
+#[derive(Drop)]
+struct Row {
+    alloc: Global,
+    script: Vec<u8>,
+    printed: Vec<u8>,
+}
+
+impl Row {
+    fn new(alloc: Global) -> Row {
+        Row {
+            alloc,
+            script: Vec::new(alloc),
+            printed: Vec::new(alloc),
+        }
+    }
+
+    // A line, and what its event prints.
+    fn line(&mut self, line: &[u8], printed: &[u8]) -> Result<(), Fail> {
+        self.script.extend_from_slice(line)?;
+        self.printed.extend_from_slice(printed)?;
+        Ok(())
+    }
+
+    // A message of the client over RTSP, and the reply with its status.
+    fn asks(&mut self, message: &[u8], status: &[u8], reply: &[u8]) -> Result<(), Fail> {
+        self.line(b"rtsp 192.168.1.20 0000000a11223344ffff ", b"reply ")?;
+        self.line(
+            hex::encode(self.alloc, message)?.as_str().as_bytes(),
+            status,
+        )?;
+        self.line(b"\n", b" 0 ")?;
+        self.line(b"", hex::encode(self.alloc, reply)?.as_str().as_bytes())?;
+        self.line(b"", b"\n")
+    }
+
+    // A packet of PID 16 with this filling, at front end 1.
+    fn packet(&mut self, filling: u8) -> Result<(), Fail> {
+        self.line(b"packet 1 1 ", b"tune 1 1\n")?;
+        self.line(
+            hex::encode(self.alloc, packet(filling))?
+                .as_str()
+                .as_bytes(),
+            b"",
+        )?;
+        self.line(b"\n", b"")
+    }
+
+    // A datagram to the client, with these bytes in front of its packets.
+    fn datagram(&mut self, front: &[u8], fillings: &[u8]) -> Result<(), Fail> {
+        self.line(b"", b"datagram 192.168.1.20:1400 ")?;
+        self.line(b"", front)?;
+        for filling in fillings {
+            self.line(
+                b"",
+                hex::encode(self.alloc, packet(*filling))?
+                    .as_str()
+                    .as_bytes(),
+            )?;
+        }
+        self.line(b"", b"\n")
+    }
+
+    // Whether a replay of the script ends well, and prints what it is to print.
+    fn is_replayed(&self) -> Result<bool, Fail> {
+        let report = run(self.alloc, CONFIG, &self.script, &[])?;
+        Ok(report.end == ReplayEnd::Done && report.output.sent() == self.printed.as_slice())
+    }
+}
+
+fn packet(filling: u8) -> [u8; 188] {
+    let mut packet = [filling; 188];
+    packet[0] = 0x47;
+    packet[1] = 0x00;
+    packet[2] = 0x10;
+    packet[3] = 0x10;
+    packet
+}
+
+// What a replay came to.
+#[derive(Drop)]
+struct Report {
+    end: ReplayEnd,
+    output: MemorySink,
+}
+
+fn run(alloc: Global, config: &[u8], script: &[u8], failing_puts: &[u64]) -> Result<Report, Fail> {
+    let mut config = MemorySource::make(alloc, config, &[], &[])?;
+    let input = MemorySource::make(alloc, script, &[], &[])?;
+    run_over(alloc, &mut config, input, failing_puts)
+}
+
+// A replay over any sources; a put that fails passes five bytes.
+fn run_over<C: Source, I: Source + Drop>(
+    alloc: Global,
+    config: &mut C,
+    mut input: I,
+    failing_puts: &[u64],
+) -> Result<Report, Fail> {
+    let mut output = MemorySink::make(alloc, failing_puts, 5)?;
+    let end = replay(alloc, config, &mut input, &mut output);
+    Ok(Report { end, output })
+}
+
+#[test]
+fn a_session_is_founded(rt: HostRuntime) -> Result<(), Fail> {
+    let mut row = Row::new(rt.alloc());
+    row.asks(SETUP, b"200", FOUNDED)?;
+    assert!(rt; row.is_replayed()?);
+    Ok(())
+}
+
+#[test]
+fn six_packets_leave_at_a_tick_before_the_report(rt: HostRuntime) -> Result<(), Fail> {
+    let mut row = Row::new(rt.alloc());
+    row.asks(SETUP, b"200", FOUNDED)?;
+    row.line(b"tick 1000\n", b"going\n")?;
+    row.asks(PLAY, b"200", PLAYS)?;
+    for filling in 0..6 {
+        row.packet(filling)?;
+    }
+    row.line(b"tick 1040\n", b"going\n")?;
+    row.datagram(b"8021ffff00016da011223344", &[0, 1, 2, 3, 4, 5])?;
+    row.line(b"", REPORT)?;
+    assert!(rt; row.is_replayed()?);
+    Ok(())
+}
+
+#[test]
+fn seven_packets_fill_a_datagram_and_the_eighth_leaves_at_the_end(
+    rt: HostRuntime,
+) -> Result<(), Fail> {
+    let mut row = Row::new(rt.alloc());
+    row.asks(SETUP, b"200", FOUNDED)?;
+    row.line(b"# the clock of the datagrams\n\ntick 1000\n", b"going\n")?;
+    row.asks(PLAY, b"200", PLAYS)?;
+    for filling in 0..7 {
+        row.packet(filling)?;
+    }
+    row.datagram(b"8021ffff00015f9011223344", &[0, 1, 2, 3, 4, 5, 6])?;
+    row.packet(7)?;
+    row.asks(TEARDOWN, b"200", TORN_DOWN)?;
+    row.datagram(b"8021000000015f9011223344", &[7])?;
+    assert!(rt; row.is_replayed()?);
+    Ok(())
+}
+
+#[test]
+fn a_session_lives_until_its_timeout(rt: HostRuntime) -> Result<(), Fail> {
+    let mut row = Row::new(rt.alloc());
+    row.asks(SETUP, b"200", FOUNDED)?;
+    row.line(b"tick 59999\n", b"going\n")?;
+    row.line(b"tick 60000\n", b"going\n")?;
+    row.asks(OPTIONS, b"454", UNKNOWN)?;
+    row.line(b"stop", b"stopping\n")?;
+    assert!(rt; row.is_replayed()?);
+    Ok(())
+}
+
+#[test]
+fn a_configuration_is_refused_with_its_fault(rt: HostRuntime) -> Result<(), Fail> {
+    let alloc = rt.alloc();
+    let mut config = Vec::from_slice(alloc, b"timeout = 5\n")?;
+    config.extend_from_slice(CONFIG)?;
+    let report = run(alloc, &config, b"stop\n", &[])?;
+    let fault = ConfigFault::Value(ConfigKey::top(ConfigName::Timeout));
+    assert!(rt; report.end == ReplayEnd::Configuration(fault));
+    assert_eq!(rt; report.output.sent(), b"".as_slice());
+    let longest = vec![in alloc; b'\n'; 1048576]?;
+    let report = run(alloc, &longest, b"stop\n", &[])?;
+    let fault = ConfigFault::Shape(ConfigKey::top(ConfigName::Address));
+    assert!(rt; report.end == ReplayEnd::Configuration(fault));
+    let longer = vec![in alloc; b'\n'; 1048577]?;
+    let report = run(alloc, &longer, b"stop\n", &[])?;
+    assert!(rt; report.end == ReplayEnd::Configuration(ConfigFault::Long));
+    Ok(())
+}
+
+#[test]
+fn nothing_is_written_before_the_whole_script_is_checked(rt: HostRuntime) -> Result<(), Fail> {
+    let report = run(rt.alloc(), CONFIG, b"tick 1\ntik 5", &[])?;
+    assert!(rt; report.end == ReplayEnd::Script(2));
+    assert_eq!(rt; report.output.sent(), b"".as_slice());
+    let report = run(rt.alloc(), CONFIG, b"", &[1])?;
+    assert!(rt; report.end == ReplayEnd::Done);
+    Ok(())
+}
+
+#[test]
+fn a_fault_of_either_source_is_an_input_fault(rt: HostRuntime) -> Result<(), Fail> {
+    let alloc = rt.alloc();
+    let mut failing = MemorySource::make(alloc, CONFIG, &[20], &[2])?;
+    let input = MemorySource::make(alloc, b"stop\n", &[], &[])?;
+    let report = run_over(alloc, &mut failing, input, &[])?;
+    assert!(rt; report.end == ReplayEnd::InputFault);
+    let mut config = MemorySource::make(alloc, CONFIG, &[7, 1], &[])?;
+    let input = MemorySource::make(alloc, b"stop\n", &[3], &[2])?;
+    let report = run_over(alloc, &mut config, input, &[])?;
+    assert!(rt; report.end == ReplayEnd::InputFault);
+    assert_eq!(rt; report.output.sent(), b"".as_slice());
+    Ok(())
+}
+
+#[test]
+fn a_fault_of_the_output_leaves_a_beginning(rt: HostRuntime) -> Result<(), Fail> {
+    let alloc = rt.alloc();
+    let mut row = Row::new(alloc);
+    for _ in 0..10000 {
+        row.line(b"ask 1\n", b"nothing\n")?;
+    }
+    assert!(rt; row.is_replayed()?);
+    let report = run(alloc, CONFIG, &row.script, &[2])?;
+    assert!(rt; report.end == ReplayEnd::OutputFault);
+    assert_eq!(rt; report.output.sent().len(), 65541);
+    assert!(rt; row.printed.starts_with(report.output.sent()));
+    Ok(())
+}
+
+#[test]
+fn an_input_of_one_byte_too_many_is_too_long(rt: HostRuntime) -> Result<(), Fail> {
+    let alloc = rt.alloc();
+    let mut config = MemorySource::make(alloc, CONFIG, &[], &[])?;
+    let input = ReadSource::new(repeat(b'#').take(67108865));
+    let report = run_over(alloc, &mut config, input, &[])?;
+    assert!(rt; report.end == ReplayEnd::TooLong);
+    assert_eq!(rt; report.output.sent(), b"".as_slice());
+    Ok(())
+}

@@ -1,0 +1,2 @@
+pub mod PumpLemmas
+pub mod WorkerLemmas

@@ -1,0 +1,14 @@
+use Rattle.std.proofs.Common.{◌∙◌}
+use Rattle.satip_service.proofs.Bursting.{under_way_more}
+use Rattle.satip_job_tests.proofs.PumpLemmas.{adds_next}
+use Rattle.satip_job_tests.proofs.pump.script.ScriptedService.burst.Goals as goal
+
+pub loop-made-preserved : goal.loop-made-preserved
+loop-made-preserved g c =
+    let i = c.loop-made.invariant in
+    let made = c.in-Ok.ensures.made in (
+      under_way_more 0 _ _ _ _ _ _ c.in-Some.event c.in-Ok.answer c.make.new.out i.0 (adds_next _ _ _ made.0) made.1
+          (λ ts has. c.took.ensures.taken c.args.lot.now ts c.in-Some.event c.in-Some.ensures.given (c.next.ensures.taken c.args.lot.now ts has)),
+      c.took.ensures.ended ∙ c.in-Some.ensures.ended,
+      c.took.ensures.given,
+    )

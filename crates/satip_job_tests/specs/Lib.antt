@@ -1,0 +1,2 @@
+pub mod PumpScripts
+pub mod WorkerScripts

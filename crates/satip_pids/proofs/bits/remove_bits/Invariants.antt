@@ -1,0 +1,10 @@
+use Rattle.std.proofs.Common.{◌≡◌, take}
+use Rattle.satip_pids.specs.Rising.{without}
+use Rattle.satip_pids.specs.Bits.{members, IsListed}
+use Rattle.satip_pids.proofs.bits.remove_bits.Given as goal
+
+abbrev pub invariant-loop-pid : goal.invariant-loop-pid
+invariant-loop-pid l = record {
+  left : members l.words ≡ without (members l.fn.words) (take l.pid-index l.list);
+  listed : IsListed l.words l.total;
+}

@@ -1,0 +1,93 @@
+//! Which front end a stream has, and streams that share one.
+
+use crate::clients::{Client, Session};
+use crate::row::{FIRST_MUX, NO_MUX, SECOND_MUX};
+use crate::steps::Step::*;
+use crate::steps::is_replayed;
+use std::test::Fail;
+
+const TEXT: &str =
+    "ver=1.0;src=1;tuner=1,240,1,15,11361.75,h,dvbs2,8psk,on,0.35,22000,23;pids=0,16,17";
+
+#[test]
+fn a_third_tuning_waits_for_one_of_two_front_ends(rt: HostRuntime) -> Result<(), Fail> {
+    let steps = [
+        Founds(Session::first(1), FIRST_MUX, 1),
+        Works(1, "tune 1 1"),
+        Founds(Session::first(2), SECOND_MUX, 2),
+        Works(2, "tune 2 1"),
+        AsksSetup(Client::First, NO_MUX),
+        Refuses(503, "RTSP/1.0 503 Service Unavailable", "No-More:frontends"),
+        TearsDown(Session::first(1), ""),
+        Founds(Session::first(3), NO_MUX, 1),
+        Works(1, "nothing"),
+    ];
+    assert!(rt; is_replayed(rt.alloc(), &steps)?);
+    Ok(())
+}
+
+#[test]
+fn a_named_front_end_is_taken_or_refused(rt: HostRuntime) -> Result<(), Fail> {
+    let alloc = rt.alloc();
+    let first = FIRST_MUX.replace(alloc, "?", "?fe=2&")?;
+    let other = NO_MUX.replace(alloc, "?", "?fe=2&")?;
+    let steps = [
+        Founds(Session::first(1), &first, 1),
+        AsksSetup(Client::First, &other),
+        Refuses(503, "RTSP/1.0 503 Service Unavailable", "No-More:frontends"),
+        Works(1, "nothing"),
+        Works(2, "tune 1 1"),
+    ];
+    assert!(rt; is_replayed(alloc, &steps)?);
+    Ok(())
+}
+
+#[test]
+fn two_streams_of_one_multiplex_share_a_front_end(rt: HostRuntime) -> Result<(), Fail> {
+    let steps = [
+        Founds(Session::first(1), FIRST_MUX, 1),
+        Founds(Session::second(2), FIRST_MUX, 2),
+        Founds(Session::first(3), SECOND_MUX, 3),
+        AsksSetup(Client::First, NO_MUX),
+        Refuses(503, "RTSP/1.0 503 Service Unavailable", "No-More:frontends"),
+        Works(1, "tune 1 1"),
+        Works(2, "tune 2 1"),
+        Plays(Session::first(1), "stream=1", 1, 65535),
+        Plays(Session::second(2), "stream=2", 2, 0),
+        Receives(1, 16, &[0], "tune 1 1"),
+        Ticks(40),
+        Sends(Client::First, 65535, 40, 16, &[0]),
+        Sends(Client::Second, 0, 40, 16, &[0]),
+        Reports(Client::First, 40, 1, TEXT),
+        Reports(Client::Second, 40, 1, TEXT),
+    ];
+    assert!(rt; is_replayed(rt.alloc(), &steps)?);
+    Ok(())
+}
+
+#[test]
+fn a_stream_leaves_a_shared_front_end_for_a_free_one(rt: HostRuntime) -> Result<(), Fail> {
+    let (moving, staying) = (Session::first(1), Session::second(2));
+    let moved = "ver=1.0;src=1;tuner=2,240,1,15,12402,v,dvbs,8psk,on,0.35,27500,23;pids=0,16,17";
+    let steps = [
+        Founds(moving, FIRST_MUX, 1),
+        Founds(staying, FIRST_MUX, 2),
+        Plays(moving, "stream=1", 1, 65535),
+        Plays(staying, "stream=2", 2, 0),
+        Plays(
+            moving,
+            "stream=1?freq=12402&pol=v&msys=dvbs&sr=27500",
+            1,
+            65535,
+        ),
+        Works(1, "tune 1 1"),
+        Works(2, "tune 2 1"),
+        Receives(1, 16, &[0], "tune 1 1"),
+        Ticks(40),
+        Sends(Client::Second, 0, 40, 16, &[0]),
+        Reports(Client::First, 40, 0, moved),
+        Reports(Client::Second, 40, 1, TEXT),
+    ];
+    assert!(rt; is_replayed(rt.alloc(), &steps)?);
+    Ok(())
+}

@@ -1,0 +1,294 @@
+//! A row: a script of events and what is to be printed of them, built from what they mean.
+
+use crate::bytes::{datagram, packet, report};
+use crate::clients::{Client, Session};
+use satip_base::{MemorySink, MemorySource, Text};
+use satip_program::{MemoryDesk, offline};
+use std::alloc::Global;
+use std::test::Fail;
+
+/// Two front ends for DVB-S and DVB-S2, and two multiplexes.
+pub const CONFIGURATION: &str = "address = \"192.168.1.10\"
+[[frontend]]
+sources = [1]
+systems = [\"dvbs\", \"dvbs2\"]
+[[frontend]]
+sources = [1]
+systems = [\"dvbs\", \"dvbs2\"]
+[[mux]]
+src = 1
+freq = \"11361.75\"
+pol = \"h\"
+msys = \"dvbs2\"
+sr = 22000
+file = \"a.ts\"
+[[mux]]
+src = 1
+freq = \"12402\"
+pol = \"v\"
+msys = \"dvbs\"
+sr = 27500
+file = \"b.ts\"
+";
+
+/// The first multiplex, with three PIDs and a key that the server doesn't know.
+pub const FIRST_MUX: &str =
+    "?src=1&freq=11361.75&pol=h&ro=0.35&msys=dvbs2&mtype=8psk&plts=on&sr=22000&fec=23&pids=0,16,17&x_pmt=100";
+
+/// The second multiplex.
+pub const SECOND_MUX: &str = "?freq=12402&pol=v&msys=dvbs&sr=27500";
+
+/// A tuning that no multiplex has.
+pub const NO_MUX: &str = "?freq=10744&pol=h&msys=dvbs&sr=22000";
+
+// The description of stream 1, the only one, up to its SES1 text.
+const DESCRIPTION: &str =
+    "v=0\r\no=- 1 1 IN IP4 192.168.1.10\r\ns=SatIPServer:1 2\r\nt=0 0\r\nm=video 0 RTP/AVP 33\r\nc=IN IP4 0.0.0.0\r\na=control:stream=1\r\na=fmtp:33 ";
+
+/// What a run came to.
+#[derive(Drop)]
+pub struct Ran {
+    /// The exit status.
+    pub status: u8,
+    /// What it printed.
+    pub output: MemorySink,
+    /// What it told of errors.
+    pub errors: MemorySink,
+}
+
+/// Runs the program with these words over an input; the puts with a number in `failing` fail with
+/// nothing sent.
+pub fn run(
+    alloc: Global,
+    words: &[&str],
+    mut input: MemorySource,
+    failing: &[u64],
+    desk: &mut MemoryDesk,
+) -> Result<Ran, Fail> {
+    let mut texts = Vec::new(alloc);
+    for word in words {
+        texts.push(Text::of(alloc, word)?)?;
+    }
+    let mut output = MemorySink::make(alloc, failing, 0)?;
+    let mut errors = MemorySink::make(alloc, &[], 0)?;
+    let ended = offline(alloc, &texts, &mut input, &mut output, &mut errors, desk);
+    Ok(Ran {
+        status: ended.status,
+        output,
+        errors,
+    })
+}
+
+/// A script of events, and what is to be printed of them.
+#[derive(Drop)]
+pub struct Row {
+    alloc: Global,
+    script: String,
+    printed: String,
+}
+
+impl Row {
+    /// No events.
+    pub fn new(alloc: Global) -> Row {
+        Row {
+            alloc,
+            script: String::new(alloc),
+            printed: String::new(alloc),
+        }
+    }
+
+    /// An event, and the line of its answer.
+    pub fn event(&mut self, line: &str, answer: &str) -> Result<(), Fail> {
+        writeln!(self.script, "{line}")?;
+        writeln!(self.printed, "{answer}")?;
+        Ok(())
+    }
+
+    /// A message of a client over RTSP, with these lines.
+    pub fn asks(&mut self, client: Client, lines: &[&str]) -> Result<(), Fail> {
+        let message = hex::encode(self.alloc, message(self.alloc, lines)?.as_bytes())?;
+        let (address, draw) = (client.address(), client.draw());
+        writeln!(self.script, "rtsp {address} {draw} {message}")?;
+        Ok(())
+    }
+
+    /// The reply with these lines and this body, after which the connection goes on.
+    pub fn replies(&mut self, status: u16, lines: &[&str], body: &str) -> Result<(), Fail> {
+        let mut reply = message(self.alloc, lines)?;
+        reply.push_str(body)?;
+        let reply = hex::encode(self.alloc, reply.as_bytes())?;
+        writeln!(self.printed, "reply {status} 0 {reply}")?;
+        Ok(())
+    }
+
+    /// The reply with these lines, after which the connection closes.
+    pub fn closes(&mut self, status: u16, lines: &[&str]) -> Result<(), Fail> {
+        let reply = hex::encode(self.alloc, message(self.alloc, lines)?.as_bytes())?;
+        writeln!(self.printed, "reply {status} 1 {reply}")?;
+        Ok(())
+    }
+
+    /// The description, in so many bytes, of stream 1 with this SES1 text, which no session plays
+    /// (RFC 4566).
+    pub fn describes(&mut self, text: &str, length: u16) -> Result<(), Fail> {
+        let length = format!(in self.alloc; "Content-Length: {length}")?;
+        let lines = [
+            "RTSP/1.0 200 OK",
+            "CSeq: 1",
+            "Content-Type: application/sdp",
+            "Content-Base: rtsp://192.168.1.10/",
+            &length,
+        ];
+        let body = format!(in self.alloc; "{DESCRIPTION}{text}\r\na=inactive\r\n")?;
+        self.replies(200, &lines, &body)
+    }
+
+    /// The refusal with this status line and this parameter in its body.
+    pub fn refuses(&mut self, status: u16, line: &str, parameter: &str) -> Result<(), Fail> {
+        let length = parameter.len().saturating_add(2);
+        let length = format!(in self.alloc; "Content-Length: {length}")?;
+        let body = format!(in self.alloc; "{parameter}\r\n")?;
+        let lines = [line, "CSeq: 1", "Content-Type: text/parameters", &length];
+        self.replies(status, &lines, &body)
+    }
+
+    /// SETUP of a target without session.
+    pub fn asks_setup(&mut self, client: Client, target: &str) -> Result<(), Fail> {
+        let line = format!(in self.alloc; "SETUP rtsp://192.168.1.10/{target} RTSP/1.0")?;
+        let transport = format!(in self.alloc; "Transport: {}", client.transport())?;
+        self.asks(client, &[&line, "CSeq: 1", &transport])
+    }
+
+    /// SETUP of a target, which founds this session of this stream.
+    pub fn founds(&mut self, session: Session, target: &str, stream: u16) -> Result<(), Fail> {
+        self.asks_setup(session.client, target)?;
+        let id = session.id(self.alloc)?;
+        let id = format!(in self.alloc; "Session: {id};timeout=60")?;
+        let transport = format!(in self.alloc; "Transport: {}", session.client.transport())?;
+        let stream = format!(in self.alloc; "com.ses.streamID: {stream}")?;
+        self.replies(
+            200,
+            &["RTSP/1.0 200 OK", "CSeq: 1", &id, &transport, &stream],
+            "",
+        )
+    }
+
+    /// A method other than SETUP on a target in a session.
+    pub fn asks_in(&mut self, session: Session, method: &str, target: &str) -> Result<(), Fail> {
+        let line = format!(in self.alloc; "{method} rtsp://192.168.1.10/{target} RTSP/1.0")?;
+        let id = session.id(self.alloc)?;
+        let id = format!(in self.alloc; "Session: {id}")?;
+        self.asks(session.client, &[&line, "CSeq: 1", &id])
+    }
+
+    /// PLAY of a target in a session of a stream, whose next datagram has this number.
+    pub fn plays(
+        &mut self,
+        session: Session,
+        target: &str,
+        stream: u16,
+        number: u16,
+    ) -> Result<(), Fail> {
+        self.asks_in(session, "PLAY", target)?;
+        let id = session.id(self.alloc)?;
+        let id = format!(in self.alloc; "Session: {id}")?;
+        let info = format!(in self.alloc;
+            "RTP-Info: url=rtsp://192.168.1.10/stream={stream};seq={number}"
+        )?;
+        self.replies(200, &["RTSP/1.0 200 OK", "CSeq: 1", &id, &info], "")
+    }
+
+    /// TEARDOWN of a target in a session that lives.
+    pub fn tears_down(&mut self, session: Session, target: &str) -> Result<(), Fail> {
+        self.asks_in(session, "TEARDOWN", target)?;
+        self.replies(200, &["RTSP/1.0 200 OK", "CSeq: 1"], "")
+    }
+
+    /// OPTIONS in a session that has ended.
+    pub fn misses(&mut self, session: Session) -> Result<(), Fail> {
+        self.asks_in(session, "OPTIONS", "")?;
+        self.replies(454, &["RTSP/1.0 454 Session Not Found", "CSeq: 1"], "")
+    }
+
+    /// A tick at a moment in milliseconds.
+    pub fn ticks(&mut self, moment: u32) -> Result<(), Fail> {
+        let line = format!(in self.alloc; "tick {moment}")?;
+        self.event(&line, "going")
+    }
+
+    /// The question of a front end's pump, and the work that it is given.
+    pub fn works(&mut self, front: u16, work: &str) -> Result<(), Fail> {
+        let line = format!(in self.alloc; "ask {front}")?;
+        self.event(&line, work)
+    }
+
+    /// A packet of the first front end with this tune number, and the work after it.
+    pub fn receives(&mut self, tune: u64, pid: u16, filling: u8, work: &str) -> Result<(), Fail> {
+        let packet = hex::encode(self.alloc, packet(pid, filling))?;
+        let line = format!(in self.alloc; "packet 1 {tune} {packet}")?;
+        self.event(&line, work)
+    }
+
+    /// The datagram of packets of one PID that leaves for a client, at a moment in milliseconds.
+    pub fn sends(
+        &mut self,
+        client: Client,
+        number: u16,
+        moment: u32,
+        pid: u16,
+        fillings: &[u8],
+    ) -> Result<(), Fail> {
+        let bytes = datagram(self.alloc, number, moment, client.ssrc(), pid, fillings)?;
+        let bytes = hex::encode(self.alloc, bytes)?;
+        let (address, port) = (client.address(), client.rtp_port());
+        writeln!(self.printed, "datagram {address}:{port} {bytes}")?;
+        Ok(())
+    }
+
+    /// The report that leaves for a client, at a moment in milliseconds, after so many packets in
+    /// at most one datagram, with this SES1 text.
+    pub fn reports(
+        &mut self,
+        client: Client,
+        moment: u32,
+        packets: u32,
+        text: &str,
+    ) -> Result<(), Fail> {
+        let bytes = report(
+            self.alloc,
+            moment,
+            client.ssrc(),
+            packets.min(1),
+            packets,
+            text.as_bytes(),
+        )?;
+        let bytes = hex::encode(self.alloc, bytes)?;
+        let (address, port) = (client.address(), client.rtcp_port());
+        writeln!(self.printed, "datagram {address}:{port} {bytes}")?;
+        Ok(())
+    }
+
+    /// Whether a replay of the script ends well, and prints what it is to print.
+    pub fn is_replayed(&self) -> Result<bool, Fail> {
+        let mut desk = MemoryDesk::make(self.alloc, 0);
+        desk.add("c1.toml", CONFIGURATION.as_bytes(), &[])?;
+        let input = MemorySource::make(self.alloc, self.script.as_bytes(), &[], &[])?;
+        let ran = run(self.alloc, &["replay", "c1.toml"], input, &[], &mut desk)?;
+        Ok(
+            ran.status == 0
+                && ran.output.sent() == self.printed.as_bytes()
+                && ran.errors.sent().is_empty(),
+        )
+    }
+}
+
+/// A head of these lines: each ends with CR LF, and an empty one follows (RFC 2326, 4).
+pub fn message(alloc: Global, lines: &[&str]) -> Result<String, Fail> {
+    let mut text = String::new(alloc);
+    for line in lines {
+        text.push_str(line)?;
+        text.push_str("\r\n")?;
+    }
+    text.push_str("\r\n")?;
+    Ok(text)
+}

@@ -1,0 +1,66 @@
+//! Sending to a client that takes bytes at its own pace.
+
+ghost use Rattle.std.specs.Prelude.{◌≡◌, ◌+◌, ◌<◌, ◌≤◌, min};
+
+use crate::errors::is_passing;
+use crate::readiness::takes_output;
+use mio::net::TcpStream;
+use std::io;
+use std::io::{ErrorKind, Write};
+
+// How many waits a send takes at most in which the client took nothing.
+const IDLE_WAITS: u32 = 200;
+
+// How long one wait is at most, in milliseconds.
+const WAIT_MS: i32 = 50;
+
+/// A writer that doesn't wait by itself.
+pub(crate) trait Unhurried: Write {
+    /// Waits until it takes bytes, or for a while.
+    fn wait(&mut self);
+}
+
+impl Unhurried for TcpStream {
+    fn wait(&mut self) {
+        takes_output(self, WAIT_MS);
+    }
+}
+
+// Writes what the writer takes at once, and gives the rest.
+fn advance<'b, W: Write>(writer: &mut W, bytes: &'b [u8]) -> io::Result<&'b [u8]> {
+    match writer.write(bytes) {
+        Ok(count) => Ok(bytes.split_at(count).1),
+        Err(error) if is_passing(&error) => Ok(bytes),
+        Err(error) => Err(error),
+    }
+}
+
+// How many waits there were since the last progress, behind one that left `left` bytes of `before`.
+fn idle_waits(waits: u32, before: usize, left: usize) -> u32
+    ensures progress { left < before → result ≡ 0 }
+    ensures none { before ≤ left → result ≡ min 4294967295 (waits + 1) }
+{
+    if left < before {
+        return 0;
+    }
+    waits.saturating_add(1)
+}
+
+/// Writes all, and gives up after 200 waits one after another in which the client took nothing.
+pub(crate) fn send_all<W: Unhurried>(writer: &mut W, bytes: &[u8]) -> io::Result<()> {
+    let mut rest = advance(writer, bytes)?;
+    let mut waits = 0u32;
+    for _ in 0..u64::MAX {
+        if rest.is_empty() {
+            return Ok(());
+        }
+        if waits >= IDLE_WAITS {
+            break;
+        }
+        writer.wait();
+        let left = advance(writer, rest)?;
+        waits = idle_waits(waits, rest.len(), left.len());
+        rest = left;
+    }
+    Err(io::Error::from(ErrorKind::TimedOut))
+}

@@ -1,0 +1,18 @@
+//! Recordings in files, their clocks, and pauses that follow them. No contract can say what a file
+//! gives, so stores and recordings tell nothing of content, and keep the counts.
+#![tactic(auto)]
+
+mod pacer;
+mod pieces;
+mod progress;
+mod recording;
+mod recording_clock;
+mod references;
+mod store;
+#[cfg(test)]
+mod tests;
+
+pub use pacer::RealPacer;
+pub use progress::Progress;
+pub use recording::{Playing, RealRecording, RecordingFault};
+pub use store::RealStore;

@@ -1,0 +1,5 @@
+pub mod Heads
+pub mod Fields
+pub mod Places
+pub mod Replies
+pub mod Rows

@@ -1,0 +1,82 @@
+//! Replies, and beginnings of them.
+use crate::{ReplyRead, read_reply};
+use std::test::Fail;
+
+const SETUP: &[u8; 85] =
+    b"RTSP/1.0 200\r\nCSeq: 1\nSession: a;timeout=5\ncom.ses.streamID: 17\ncontent-length:3\n\nabc";
+
+fn is_more(text: &[u8]) -> bool {
+    matches!(&read_reply(text), ReplyRead::More)
+}
+
+fn is_bad(text: &[u8]) -> bool {
+    matches!(&read_reply(text), ReplyRead::Bad)
+}
+
+#[test]
+fn a_reply_is_read_once_it_is_whole(rt: HostRuntime) -> Result<(), Fail> {
+    for cut in 0..SETUP.len() {
+        assert!(rt; is_more(&SETUP[..cut]));
+    }
+    match read_reply(SETUP) {
+        ReplyRead::Reply(view) => {
+            assert_eq!(rt; view.length, 85);
+            assert_eq!(rt; view.status, 200);
+            assert_eq!(rt; view.cseq, Some(1));
+            assert!(rt; view.session == Some(b"a".as_slice()));
+            assert_eq!(rt; view.timeout, 5);
+            assert_eq!(rt; view.stream, Some(17));
+        }
+        ReplyRead::More | ReplyRead::Bad => assert!(rt; false),
+    }
+    Ok(())
+}
+
+#[test]
+fn a_reply_may_say_little(rt: HostRuntime) -> Result<(), Fail> {
+    match read_reply(b"RTSP/1.0 454\nSession: ;timeout=0\n\nRTSP/1.0 200") {
+        ReplyRead::Reply(view) => {
+            assert_eq!(rt; view.length, 34);
+            assert_eq!(rt; view.status, 454);
+            assert_eq!(rt; view.cseq, None);
+            assert!(rt; view.session.is_none());
+            assert_eq!(rt; view.timeout, 60);
+            assert_eq!(rt; view.stream, None);
+        }
+        ReplyRead::More | ReplyRead::Bad => assert!(rt; false),
+    }
+    Ok(())
+}
+
+#[test]
+fn what_becomes_no_reply_is_bad(rt: HostRuntime) -> Result<(), Fail> {
+    for text in [
+        b"RTSP/1.1".as_slice(),
+        b"\r\nRTSP/1.0 200 OK\r\n",
+        b"RTSP/1.0 20x",
+        b"RTSP/1.0 2000",
+        b"RTSP/1.0 200 O\rK",
+        b"RTSP/1.0 200 OK\n:",
+        b"RTSP/1.0 200 OK\na b",
+        b"RTSP/1.0 200 OK\nContent-Length: 4097",
+        b"RTSP/1.0 200 OK\nContent-Length: 1x",
+        b"RTSP/1.0 200 OK\nContent-Length:\n",
+        b"RTSP/1.0 200 OK\nContent-Length: 1\ncontent-length:",
+    ] {
+        assert!(rt; is_bad(text));
+    }
+    assert!(rt; is_more(b"RTSP/1.0 200 OK\nContent-Length: 4096"));
+    assert!(rt; is_more(b"RTSP/1.0 200 OK\nContent-Length: 1\ncontent-length"));
+    Ok(())
+}
+
+#[test]
+fn a_head_has_8192_bytes_at_most(rt: HostRuntime) -> Result<(), Fail> {
+    let mut text = [b' '; 8192];
+    text[..12].copy_from_slice(b"RTSP/1.0 200");
+    assert!(rt; is_more(&text[..8190]));
+    assert!(rt; is_bad(&text[..8191]));
+    text[8190..].copy_from_slice(b"\n\n");
+    assert!(rt; !is_more(&text) && !is_bad(&text));
+    Ok(())
+}

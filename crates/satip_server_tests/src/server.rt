@@ -1,0 +1,175 @@
+//! A small server, asked over RTSP.
+
+ghost use Rattle.std.specs.Prelude.{◌≡◌};
+
+use satip_base::{Draw, Out, Peer, Ports, SessionId};
+use satip_config::Config;
+use satip_core::Server;
+use satip_plain::{Answer, Beat, Event, Replied, Work};
+use satip_query::{Query, read};
+use satip_rtsp::{Method, Request, SessionName};
+use satip_ts::Packet;
+use satip_tune::{Front, Mux, Pol, System};
+use std::alloc::Global;
+use std::test::Fail;
+
+const PEER: Peer = Peer { ip: 3232235796 };
+
+const DRAW: Draw = Draw {
+    word: 10,
+    ssrc: 287454020,
+    first: 65535,
+};
+
+const FIRST: SessionId = SessionId { count: 1, word: 10 };
+
+/// A front end that reaches position 1 and receives both systems.
+fn front(number: u16) -> Front
+    ensures number { result.number ≡ number }
+{
+    let mut sources = [false; 256];
+    sources[1] = true;
+    Front {
+        number,
+        sources,
+        systems: [true, true],
+    }
+}
+
+/// A server with two front ends and one multiplex, at 1000 milliseconds.
+fn server(alloc: Global) -> Result<Server, Fail> {
+    let mut fronts = Vec::new(alloc);
+    fronts.push(front(1))?;
+    fronts.push(front(2))?;
+    let mut muxes = Vec::new(alloc);
+    muxes.push(Mux {
+        src: 1,
+        freq: 11361750,
+        pol: Pol::H,
+        msys: System::Dvbs2,
+        sr: 22000,
+    })?;
+    let config = Config {
+        address: 3232235786,
+        rtsp_port: 554,
+        http_port: 8875,
+        timeout: 60,
+        workers: 8,
+        fronts,
+        muxes,
+        files: Vec::new(alloc),
+    };
+    Ok(Server::make(alloc, config, 1000)?)
+}
+
+/// A request of this method in the first session.
+fn request(method: Method) -> Request {
+    Request {
+        cseq: Some(2),
+        refusal: None,
+        method,
+        stream: Some(1),
+        session: SessionName::Named(FIRST),
+        query: Query::new(),
+        ports: None,
+    }
+}
+
+/// A query for the multiplex.
+fn query(text: &[u8]) -> Result<Query, Fail> {
+    let mut query = Query::new();
+    read(text, &mut query).ok().ok_or("query")?;
+    Ok(query)
+}
+
+/// A packet of a PID below 256.
+fn packet(pid: u8) -> Result<Packet, Fail> {
+    let mut bytes = [0u8; 188];
+    bytes[0] = 0x47;
+    bytes[2] = pid;
+    Ok(Packet::of(&bytes).ok_or("packet")?)
+}
+
+const FIRST_QUERY: &[u8] = b"src=1&freq=11361.75&pol=h&msys=dvbs2&sr=22000&pids=0,16";
+
+#[test]
+fn seven_packets_are_a_datagram(rt: HostRuntime) -> Result<(), Fail> {
+    let mut out = Out::make(rt.alloc())?;
+    let mut server = server(rt.alloc())?;
+    let setup = Request {
+        method: Method::Setup,
+        stream: None,
+        session: SessionName::Absent,
+        query: query(FIRST_QUERY)?,
+        ports: Some(Ports {
+            rtp: 1400,
+            rtcp: 1401,
+        }),
+        ..request(Method::Setup)
+    };
+    let replied = server.request(PEER, DRAW, &setup, &mut out);
+    assert_eq!(rt; replied.status, 200);
+    let text =
+        b"RTSP/1.0 200 OK\r\nCSeq: 2\r\nSession: 000000010000000a;timeout=60\r\nTransport: RTP/AVP;unicast;client_port=1400-1401\r\ncom.ses.streamID: 1\r\n\r\n";
+    assert_eq!(rt; out.reply(), text.as_slice());
+    assert_eq!(rt; server.ask(1, &mut out), Work::Tune { mux: 1, tune: 1 });
+    let play = request(Method::Play);
+    assert_eq!(rt; server.request(PEER, DRAW, &play, &mut out).status, 200);
+    let text =
+        b"RTSP/1.0 200 OK\r\nCSeq: 2\r\nSession: 000000010000000a\r\nRTP-Info: url=rtsp://192.168.1.10/stream=1;seq=65535\r\n\r\n";
+    assert_eq!(rt; out.reply(), text.as_slice());
+    let packet = packet(16)?;
+    for _given in 0..6 {
+        let _work = server.packet(1, 1, &packet, &mut out);
+        assert_eq!(rt; out.count(), 0);
+    }
+    let _work = server.packet(1, 1, &packet, &mut out);
+    assert_eq!(rt; out.count(), 1);
+    let _work = server.packet(1, 2, &packet, &mut out);
+    assert_eq!(rt; out.count(), 0);
+    assert_eq!(rt; server.ended(1, 1, &mut out), Work::Nothing);
+    let teardown = request(Method::Teardown);
+    let event = Event::Request {
+        peer: PEER,
+        draw: DRAW,
+        request: teardown,
+    };
+    let ok = Answer::Replied(Replied {
+        status: 200,
+        closing: false,
+    });
+    assert_eq!(rt; server.event(&event, &mut out), ok);
+    let gone = server.request(PEER, DRAW, &request(Method::Options), &mut out);
+    assert_eq!(rt; gone.status, 454);
+    Ok(())
+}
+
+#[test]
+fn a_session_that_is_not_heard_of_ends(rt: HostRuntime) -> Result<(), Fail> {
+    let mut out = Out::make(rt.alloc())?;
+    let mut server = server(rt.alloc())?;
+    let setup = Request {
+        method: Method::Setup,
+        stream: None,
+        session: SessionName::Absent,
+        ports: Some(Ports {
+            rtp: 1400,
+            rtcp: 1401,
+        }),
+        ..request(Method::Setup)
+    };
+    assert_eq!(rt; server.request(PEER, DRAW, &setup, &mut out).status, 200);
+    let describe = Request {
+        session: SessionName::Absent,
+        ..request(Method::Describe)
+    };
+    let _beat = server.tick(60999, &mut out);
+    assert_eq!(rt; server.request(PEER, DRAW, &describe, &mut out).status, 200);
+    let _beat = server.tick(61000, &mut out);
+    assert_eq!(rt; server.request(PEER, DRAW, &describe, &mut out).status, 404);
+    let text = b"RTSP/1.0 404 Not Found\r\nCSeq: 2\r\n\r\n";
+    assert_eq!(rt; out.reply(), text.as_slice());
+    assert_eq!(rt; server.stop(&mut out), Beat::Stopping);
+    assert_eq!(rt; server.ask(1, &mut out), Work::Stopping);
+    Ok(())
+}

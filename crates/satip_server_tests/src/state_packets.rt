@@ -1,0 +1,167 @@
+//! Packets, ticks and pulls that can be followed by hand.
+
+ghost use Rattle.std.specs.Prelude.{◌≡◌};
+
+use satip_base::{Draw, Out, Peer, Ports, SessionId};
+use satip_plain::{Closed, Pulled, Work};
+use satip_query::{PidsGiven, Query};
+use satip_state::Parts;
+use satip_ts::Packet;
+use satip_tune::{Change, Front, Mux, Pol, System};
+use std::alloc::Global;
+use std::process::Abort;
+use std::test::Fail;
+
+/// The first front end, which receives position 1.
+fn front() -> Front
+    ensures number { result.number ≡ 1 }
+{
+    let mut sources = [false; 256];
+    sources[1] = true;
+    Front {
+        number: 1,
+        sources,
+        systems: [true, true],
+    }
+}
+
+/// 12402 MHz, vertical, DVB-S.
+const MUX: Mux = Mux {
+    src: 1,
+    freq: 12402000,
+    pol: Pol::V,
+    msys: System::Dvbs,
+    sr: 27500,
+};
+
+/// One front end and one multiplex, a timeout of 60 seconds, from moment 1000 on.
+fn parts(alloc: Global) -> Result<Parts, Fail> {
+    let mut fronts = Vec::new(alloc);
+    fronts.push(front())?;
+    let mut muxes = Vec::new(alloc);
+    muxes.push(MUX)?;
+    Ok(Parts::make(alloc, fronts, muxes, 60, 1000)?)
+}
+
+/// A session whose stream is tuned and selects all PIDs.
+fn tuned(rt: &impl Abort, parts: &mut Parts, out: &mut Out, http: bool) -> SessionId {
+    let draw = Draw {
+        word: 10,
+        ssrc: 287454020,
+        first: 65535,
+    };
+    let ports = Ports {
+        rtp: 1400,
+        rtcp: 1401,
+    };
+    let (id, number) = parts
+        .found(http, Peer { ip: 7 }, draw, ports)
+        .expect(rt, "room");
+    let query = Query {
+        change: Change {
+            freq: Some(MUX.freq),
+            pol: Some(MUX.pol),
+            msys: Some(MUX.msys),
+            sr: Some(MUX.sr),
+            ..Query::new().change
+        },
+        pids: PidsGiven::All,
+        ..Query::new()
+    };
+    out.clear();
+    parts.change_by(number, &query, out);
+    id
+}
+
+fn packet(rt: &impl Abort) -> Packet {
+    let mut bytes = [0; 188];
+    bytes[0] = 0x47;
+    Packet::of(&bytes).expect(rt, "begins with the sync byte")
+}
+
+/// How many datagrams leave as this packet comes.
+fn sent(parts: &mut Parts, out: &mut Out, tune: u64, packet: &Packet) -> usize {
+    out.clear();
+    parts.packet(1, tune, packet, out);
+    out.count()
+}
+
+/// How many datagrams leave at this moment.
+fn ticked(parts: &mut Parts, out: &mut Out, now: u64) -> usize {
+    out.clear();
+    parts.tick(now, 9, out);
+    out.count()
+}
+
+#[test]
+fn seven_packets_leave_and_reports_follow(rt: HostRuntime) -> Result<(), Fail> {
+    let mut parts = parts(rt.alloc())?;
+    let mut out = Out::make(rt.alloc())?;
+    let packet = packet(&rt);
+    let id = tuned(&rt, &mut parts, &mut out, false);
+    parts.play(id);
+    assert_eq!(rt; parts.work(1), Work::Tune { mux: 1, tune: 1 });
+    for _held in 0..6 {
+        assert_eq!(rt; sent(&mut parts, &mut out, 1, &packet), 0);
+    }
+    assert_eq!(rt; sent(&mut parts, &mut out, 2, &packet), 0);
+    assert_eq!(rt; sent(&mut parts, &mut out, 1, &packet), 1);
+    assert_eq!(rt; sent(&mut parts, &mut out, 1, &packet), 0);
+    assert_eq!(rt; ticked(&mut parts, &mut out, 1200), 2);
+    assert_eq!(rt; ticked(&mut parts, &mut out, 1399), 0);
+    assert_eq!(rt; ticked(&mut parts, &mut out, 1400), 1);
+    assert!(rt;
+        parts
+            .view(1)
+            .is_some_and(|view| view.locked && view.playing)
+    );
+    assert_eq!(rt; ticked(&mut parts, &mut out, 60999), 1);
+    assert_eq!(rt; ticked(&mut parts, &mut out, 61000), 0);
+    assert!(rt; parts.view(1).is_none());
+    assert_eq!(rt; parts.work(1), Work::Nothing);
+    Ok(())
+}
+
+#[test]
+fn a_queue_is_pulled_and_closed(rt: HostRuntime) -> Result<(), Fail> {
+    let mut parts = parts(rt.alloc())?;
+    let mut out = Out::make(rt.alloc())?;
+    let packet = packet(&rt);
+    let id = tuned(&rt, &mut parts, &mut out, true);
+    for _queued in 0..3 {
+        assert_eq!(rt; sent(&mut parts, &mut out, 1, &packet), 0);
+    }
+    out.clear();
+    assert_eq!(rt; parts.pull(id, &mut out), Pulled::Bytes(564));
+    assert_eq!(rt; out.reply().len(), 564);
+    out.clear();
+    assert_eq!(rt; parts.pull(id, &mut out), Pulled::Empty);
+    parts.ended(1, 1);
+    assert_eq!(rt; parts.work(1), Work::Nothing);
+    out.clear();
+    assert_eq!(rt; parts.close(id, &mut out), Closed::Yes);
+    out.clear();
+    assert_eq!(rt; parts.close(id, &mut out), Closed::Gone);
+    out.clear();
+    assert_eq!(rt; parts.pull(id, &mut out), Pulled::Gone);
+    parts.stop();
+    assert_eq!(rt; parts.work(1), Work::Stopping);
+    Ok(())
+}
+
+#[test]
+fn a_full_queue_ends_its_session(rt: HostRuntime) -> Result<(), Fail> {
+    let mut parts = parts(rt.alloc())?;
+    let mut out = Out::make(rt.alloc())?;
+    let packet = packet(&rt);
+    let id = tuned(&rt, &mut parts, &mut out, true);
+    for _queued in 0..4096 {
+        sent(&mut parts, &mut out, 1, &packet);
+    }
+    assert!(rt; parts.http_session(id).is_some());
+    sent(&mut parts, &mut out, 1, &packet);
+    assert!(rt; parts.http_session(id).is_none());
+    out.clear();
+    assert!(rt; !parts.end_session(id, &mut out));
+    Ok(())
+}

@@ -1,0 +1,182 @@
+//! What requests change, of sessions and streams that can be followed by hand.
+
+ghost use Rattle.std.specs.Prelude.{◌≡◌};
+
+use satip_base::{Draw, Out, Peer, Ports, SessionId};
+use satip_pids::PidList;
+use satip_query::{PidsGiven, Query};
+use satip_state::Parts;
+use satip_tune::{Change, Front, Mux, Pol, System, Tuning};
+use std::alloc::Global;
+use std::process::Abort;
+use std::test::Fail;
+
+/// A front end that reaches position 1 and receives both systems.
+fn front(number: u16) -> Front
+    ensures number { result.number ≡ number }
+{
+    let mut sources = [false; 256];
+    sources[1] = true;
+    Front {
+        number,
+        sources,
+        systems: [true, true],
+    }
+}
+
+/// 11361.75 MHz, horizontal, DVB-S2.
+const FIRST: Mux = Mux {
+    src: 1,
+    freq: 11361750,
+    pol: Pol::H,
+    msys: System::Dvbs2,
+    sr: 22000,
+};
+
+/// 12402 MHz, vertical, DVB-S.
+const SECOND: Mux = Mux {
+    src: 1,
+    freq: 12402000,
+    pol: Pol::V,
+    msys: System::Dvbs,
+    sr: 27500,
+};
+
+/// Two front ends and two multiplexes, a timeout of 60 seconds, from moment 1000 on.
+fn parts(alloc: Global) -> Result<Parts, Fail> {
+    let mut fronts = Vec::new(alloc);
+    fronts.push(front(1))?;
+    fronts.push(front(2))?;
+    let mut muxes = Vec::new(alloc);
+    muxes.push(FIRST)?;
+    muxes.push(SECOND)?;
+    Ok(Parts::make(alloc, fronts, muxes, 60, 1000)?)
+}
+
+const PORTS: Ports = Ports {
+    rtp: 1400,
+    rtcp: 1401,
+};
+
+fn draw(word: u32) -> Draw {
+    Draw {
+        word,
+        ssrc: 287454020,
+        first: 65535,
+    }
+}
+
+fn found(rt: &impl Abort, parts: &mut Parts, word: u32) -> (SessionId, u16) {
+    parts
+        .found(false, Peer { ip: 7 }, draw(word), PORTS)
+        .expect(rt, "room")
+}
+
+/// A query for this multiplex, at the front end that is to be had.
+fn query(mux: Mux) -> Query {
+    Query {
+        change: Change {
+            freq: Some(mux.freq),
+            pol: Some(mux.pol),
+            msys: Some(mux.msys),
+            sr: Some(mux.sr),
+            ..Query::new().change
+        },
+        ..Query::new()
+    }
+}
+
+/// The front end and the frequency of a stream.
+fn tuned(parts: &Parts, number: u16) -> Option<(u16, u32)> {
+    let stream = parts.stream(number)?;
+    let tuning: Tuning = stream.tuning?;
+    Some((stream.front?, tuning.freq))
+}
+
+#[test]
+fn a_query_tunes_a_founded_stream(rt: HostRuntime) -> Result<(), Fail> {
+    let mut parts = parts(rt.alloc())?;
+    let mut out = Out::make(rt.alloc())?;
+    let (id, number) = found(&rt, &mut parts, 10);
+    assert_eq!(rt; id, SessionId { count: 1, word: 10 });
+    assert_eq!(rt; number, 1);
+    assert_eq!(rt; tuned(&parts, 1), None);
+    let mut pids = PidList::new();
+    pids.push(16);
+    let asked = Query {
+        addpids: Some(pids),
+        ..query(FIRST)
+    };
+    parts.change_by(1, &asked, &mut out);
+    assert_eq!(rt; out.count(), 0);
+    assert_eq!(rt; tuned(&parts, 1), Some((1, 11361750)));
+    assert!(rt;
+        parts
+            .stream(1)
+            .is_some_and(|stream| stream.pids.has(16) && !stream.pids.has(17))
+    );
+    let refused = Query {
+        pids: PidsGiven::All,
+        delpids: Some(pids),
+        ..Query::new()
+    };
+    parts.change_by(1, &refused, &mut out);
+    assert!(rt; parts.stream(1).is_some_and(|stream| !stream.pids.has(17)));
+    Ok(())
+}
+
+#[test]
+fn a_session_plays_to_where_it_moved(rt: HostRuntime) -> Result<(), Fail> {
+    let mut parts = parts(rt.alloc())?;
+    let (id, _) = found(&rt, &mut parts, 10);
+    let ports = Ports { rtp: 5, rtcp: 6 };
+    parts.play(id);
+    parts.move_to(id, Peer { ip: 8 }, ports);
+    parts.hear(id);
+    let session = parts.rtsp_session(id).expect(&rt, "lives");
+    assert!(rt; session.playing && session.peer == (Peer { ip: 8 }) && session.ports == ports);
+    assert_eq!(rt; session.heard, 1000);
+    let other = SessionId { count: 1, word: 11 };
+    parts.play(other);
+    assert!(rt; parts.rtsp_session(other).is_none());
+    Ok(())
+}
+
+#[test]
+fn streams_of_one_multiplex_come_to_share_a_front_end(rt: HostRuntime) -> Result<(), Fail> {
+    let mut parts = parts(rt.alloc())?;
+    let mut out = Out::make(rt.alloc())?;
+    found(&rt, &mut parts, 10);
+    found(&rt, &mut parts, 11);
+    parts.change_by(1, &query(FIRST), &mut out);
+    parts.change_by(2, &query(SECOND), &mut out);
+    assert_eq!(rt; tuned(&parts, 2), Some((2, 12402000)));
+    out.clear();
+    parts.change_by(2, &query(FIRST), &mut out);
+    assert_eq!(rt; tuned(&parts, 1), Some((1, 11361750)));
+    assert_eq!(rt; tuned(&parts, 2), Some((1, 11361750)));
+    Ok(())
+}
+
+#[test]
+fn sessions_are_made_until_64_live(rt: HostRuntime) -> Result<(), Fail> {
+    let mut parts = parts(rt.alloc())?;
+    let peer = Peer { ip: 7 };
+    assert_eq!(rt; parts.join(peer, draw(9), PORTS, 1), None);
+    let (id, number) = parts.found(true, peer, draw(10), PORTS).expect(&rt, "room");
+    assert_eq!(rt; number, 1);
+    assert!(rt;
+        parts
+            .http_session(id)
+            .is_some_and(|session| session.playing)
+    );
+    let joined = parts.join(peer, draw(11), PORTS, 1);
+    assert_eq!(rt; joined, Some(SessionId { count: 2, word: 11 }));
+    for _made in 0..62 {
+        found(&rt, &mut parts, 12);
+    }
+    assert!(rt; parts.is_full());
+    assert!(rt; parts.found(false, peer, draw(13), PORTS).is_none());
+    assert_eq!(rt; parts.join(peer, draw(13), PORTS, 1), None);
+    Ok(())
+}

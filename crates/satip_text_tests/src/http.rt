@@ -1,0 +1,126 @@
+//! Requests out of whole messages, and the heads' texts.
+use satip_base::Out;
+use satip_frame::{Break, Framer, Step};
+use satip_http::{HttpRefusal, HttpRequest, write_refusal, write_start};
+use satip_query::{QueryFault, RefusalBody};
+use satip_tune::Key;
+use std::alloc::Global;
+use std::test::Fail;
+
+fn request_of(alloc: Global, text: &[u8]) -> Option<HttpRequest> {
+    let mut framer = match Framer::make(alloc) {
+        Ok(framer) => framer,
+        Err(_) => return None,
+    };
+    framer.feed(text);
+    match framer.next() {
+        Step::Message => match framer.message() {
+            Some(message) => Some(HttpRequest::of(&message)),
+            None => None,
+        },
+        _ => None,
+    }
+}
+
+#[test]
+fn queries_are_read(rt: HostRuntime) -> Result<(), Fail> {
+    for text in [
+        b"GET /?src=2 HTTP/1.1\r\n\r\n".as_slice(),
+        b"GET ?src=2 HTTP/1.0\r\n\r\n".as_slice(),
+        b"GET HTTP://h/?src=2 HTTP/1.1\r\n\r\n".as_slice(),
+        b"GET http://h?src=2 HTTP/1.1\r\n\r\n".as_slice(),
+    ] {
+        let request = request_of(rt.alloc(), text).ok_or("message")?;
+        assert_eq!(rt; request.refusal, None);
+        assert_eq!(rt; request.query.change.src, Some(2));
+    }
+    Ok(())
+}
+
+// Reads a message over the request of an older one.
+fn read_over(alloc: Global, request: &mut HttpRequest, text: &[u8]) -> Result<(), Fail> {
+    let mut framer = Framer::make(alloc)?;
+    framer.feed(text);
+    match framer.next() {
+        Step::Message => {
+            request.read(&framer.message().ok_or("message")?);
+            Ok(())
+        }
+        _ => Err(Fail::from("no message")),
+    }
+}
+
+#[test]
+fn nothing_of_an_older_request_is_left(rt: HostRuntime) -> Result<(), Fail> {
+    let older = b"GET /?src=1&pids=0,16&addpids=17&delpids=18 HTTP/1.1\r\n\r\n";
+    let mut request = request_of(rt.alloc(), older).ok_or("message")?;
+    assert!(rt; request.query.addpids.is_some());
+    for text in [
+        b"GET /?sr=22000 HTTP/1.1\r\n\r\n".as_slice(),
+        b"GET /x HTTP/1.1\r\n\r\n".as_slice(),
+        b"GET /?pids=none HTTP/1.1\r\n\r\n".as_slice(),
+    ] {
+        let alone = request_of(rt.alloc(), text).ok_or("message")?;
+        read_over(rt.alloc(), &mut request, text)?;
+        assert_eq!(rt; request, alone);
+    }
+    Ok(())
+}
+
+#[test]
+fn first_refusal_counts(rt: HostRuntime) -> Result<(), Fail> {
+    for (text, refusal) in [
+        (b"POST /x HTTP/2.0\r\n\r\n".as_slice(), HttpRefusal::Version),
+        (b"POST /x HTTP/1.1\r\n\r\n".as_slice(), HttpRefusal::Method),
+        (
+            b"GET http://h HTTP/1.1\r\n\r\n".as_slice(),
+            HttpRefusal::Target,
+        ),
+        (
+            b"GET http:///?src=2 HTTP/1.1\r\n\r\n".as_slice(),
+            HttpRefusal::Target,
+        ),
+        (b"GET /x HTTP/1.1\r\n\r\n".as_slice(), HttpRefusal::NotFound),
+        (b"GET / HTTP/1.1\r\n\r\n".as_slice(), HttpRefusal::NotFound),
+        (
+            b"GET //?src=2 HTTP/1.1\r\n\r\n".as_slice(),
+            HttpRefusal::NotFound,
+        ),
+        (
+            b"GET /?src=0 HTTP/1.1\r\n\r\n".as_slice(),
+            HttpRefusal::Query(QueryFault::Range(Key::Src)),
+        ),
+    ] {
+        let request = request_of(rt.alloc(), text).ok_or("message")?;
+        assert_eq!(rt; request.refusal, Some(refusal));
+    }
+    assert_eq!(rt;
+        HttpRequest::broken(Break::Bad).refusal,
+        Some(HttpRefusal::Broken)
+    );
+    assert_eq!(rt;
+        HttpRequest::broken(Break::TooLong).refusal,
+        Some(HttpRefusal::TooLong)
+    );
+    Ok(())
+}
+
+#[test]
+#[tactic(auto, using(satip_http::proofs::HeadLemmas::head_bounds))]
+fn heads_have_these_texts(rt: HostRuntime) -> Result<(), Fail> {
+    let mut out = Out::make(rt.alloc()).ok().ok_or("memory")?;
+    write_start(&mut out);
+    assert_eq!(rt; out.reply().len(), 64);
+    let text = b"HTTP/1.1 200 OK\r\nContent-Type: video/mp2t\r\nConnection: close\r\n\r\n";
+    assert_eq!(rt; out.reply(), text.as_slice());
+    out.clear();
+    write_refusal(503, Some(RefusalBody::NoMoreFrontends), &mut out);
+    let text =
+        b"HTTP/1.1 503 Service Unavailable\r\nConnection: close\r\nContent-Type: text/parameters\r\nContent-Length: 19\r\n\r\nNo-More:frontends\r\n";
+    assert_eq!(rt; out.reply(), text.as_slice());
+    out.clear();
+    write_refusal(505, None, &mut out);
+    let text = b"HTTP/1.1 505 HTTP Version Not Supported\r\nConnection: close\r\n\r\n";
+    assert_eq!(rt; out.reply(), text.as_slice());
+    Ok(())
+}

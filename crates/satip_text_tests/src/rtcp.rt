@@ -1,0 +1,148 @@
+use satip_base::{Address, Out, Strip, Want};
+use satip_pids::{PidList, PidSet};
+use satip_rtcp::{Sender, StreamView, ses1_text, write_address, write_report};
+use satip_tune::{Fec, Modulation, Pol, RollOff, System, Tuning};
+
+const DVBS: Tuning = Tuning {
+    fe: None,
+    src: 1,
+    freq: 12402000,
+    pol: Pol::V,
+    ro: None,
+    msys: System::Dvbs,
+    mtype: None,
+    plts: None,
+    sr: 27500,
+    fec: Some(Fec::F34),
+};
+
+const DVBS2: Tuning = Tuning {
+    fe: None,
+    src: 1,
+    freq: 11361750,
+    pol: Pol::H,
+    ro: Some(RollOff::R35),
+    msys: System::Dvbs2,
+    mtype: Some(Modulation::Psk8),
+    plts: Some(true),
+    sr: 22000,
+    fec: Some(Fec::F23),
+};
+
+fn view(tuning: Option<Tuning>, front: u16, locked: bool, pids: PidSet) -> StreamView {
+    StreamView {
+        number: 1,
+        tuning,
+        front,
+        locked,
+        pids,
+        playing: true,
+    }
+}
+
+fn sender(address: u32) -> Sender {
+    Sender {
+        to: Address {
+            ip: 0xc0a80114,
+            port: 1401,
+        },
+        ssrc: 0x11223344,
+        clock: 1040,
+        datagrams: 1,
+        octets: 1128,
+        address,
+    }
+}
+
+fn text(view: &StreamView) -> Strip {
+    let mut strip = Strip::new();
+    ses1_text(view, &mut strip);
+    strip
+}
+
+#[test]
+fn a_tuned_stream_shows_its_fields(rt: HostRuntime) {
+    let mut pids = PidSet::new();
+    assert!(rt; pids.set(&[400, 0]).is_ok());
+    let locked = view(Some(DVBS), 1, true, pids.copy());
+    assert_eq!(rt;
+        text(&locked).bytes(),
+        b"ver=1.0;src=1;tuner=1,240,1,15,12402,v,dvbs,,,,27500,34;pids=0,400".as_slice()
+    );
+    pids.set_all();
+    let without_multiplex = view(Some(DVBS2), 2, false, pids);
+    assert_eq!(rt;
+        text(&without_multiplex).bytes(),
+        b"ver=1.0;src=1;tuner=2,0,0,0,11361.75,h,dvbs2,8psk,on,0.35,22000,23;pids=all".as_slice()
+    );
+}
+
+#[test]
+fn an_untuned_stream_shows_no_fields(rt: HostRuntime) {
+    let untuned = view(None, 0, false, PidSet::new());
+    assert_eq!(rt;
+        text(&untuned).bytes(),
+        b"ver=1.0;src=1;tuner=0,0,0,0,,,,,,,,;pids=none".as_slice()
+    );
+}
+
+#[test]
+fn the_longest_list_fits(rt: HostRuntime) {
+    let mut list = PidList::new();
+    for pid in 7936..8192 {
+        list.push(pid);
+    }
+    let mut pids = PidSet::new();
+    assert!(rt; pids.set(list.as_slice()).is_ok());
+    let untuned = view(None, 0, false, pids);
+    assert_eq!(rt; text(&untuned).bytes().len(), 1320);
+}
+
+#[test]
+fn an_address_is_printed_with_dots(rt: HostRuntime) {
+    let mut strip = Strip::new();
+    write_address(0xc0a8010a, &mut strip);
+    assert_eq!(rt; strip.bytes(), b"192.168.1.10".as_slice());
+}
+
+const REPORT: [u8; 152] =
+    *b"\x80\xc8\x00\x06\x11\x22\x33\x44\x83\xaa\x7e\x81\x0a\x3d\x70\xa3\x00\x01\x6d\xa0\x00\x00\x00\x01\x00\x00\x04\x68\x81\xca\x00\x05\x11\x22\x33\x44\x01\x0c192.168.1.10\x00\x00\x80\xcc\x00\x18\x11\x22\x33\x44SES1\x00\x00\x00\x52ver=1.0;src=1;tuner=1,240,1,15,11361.75,h,dvbs2,8psk,on,0.35,22000,23;pids=0,16,17\x00\x00";
+
+#[test]
+fn a_report_has_three_parts(rt: HostRuntime) -> Result<(), Want> {
+    let mut pids = PidSet::new();
+    assert!(rt; pids.set(&[0, 16, 17]).is_ok());
+    let stream = view(Some(DVBS2), 1, true, pids);
+    let mut out = Out::make(rt.alloc())?;
+    write_report(&stream, &sender(0xc0a8010a), &mut out);
+    assert_eq!(rt; out.count(), 1);
+    assert_eq!(rt; out.datagram(0), Some((sender(0).to, REPORT.as_slice())));
+    Ok(())
+}
+
+// The zero bytes after an address of 7 to 15 bytes, one to four of them.
+#[test]
+fn a_name_ends_in_zero_bytes(rt: HostRuntime) -> Result<(), Want> {
+    let untuned = view(None, 0, false, PidSet::new());
+    let mut out = Out::make(rt.alloc())?;
+    for (address, length) in [
+        (0x01010101, 112),
+        (0x0a010101, 112),
+        (0x0a0a0101, 112),
+        (0x0a0a0a01, 116),
+        (0x0a0a0a0a, 116),
+        (0xc80a0a0a, 116),
+        (0xc8c80a0a, 116),
+        (0xc8c8c80a, 120),
+        (0xc8c8c8c8, 120),
+    ] {
+        out.clear();
+        write_report(&untuned, &sender(address), &mut out);
+        let sent = match out.datagram(0) {
+            Some((_, bytes)) => bytes.len(),
+            None => 0,
+        };
+        assert_eq!(rt; sent, length);
+    }
+    Ok(())
+}

@@ -1,0 +1,411 @@
+//! Requests out of whole messages, and the replies' texts.
+
+ghost use Rattle.std.specs.Prelude.{◌≡◌, [], None, false, true};
+ghost use Rattle.satip_rtsp.specs.Targets.{target_of};
+
+use satip_base::{Out, Ports, SessionId};
+use satip_frame::{Break, Framer, Step};
+use satip_query::{QueryFault, RefusalBody};
+use satip_rtsp::{
+    Method, Refusal, Request, SessionName, Short, write_closing, write_describe, write_options,
+    write_plain, write_play, write_setup, write_text, write_unsupported,
+};
+use satip_tune::Key;
+use std::alloc::Global;
+use std::test::Fail;
+
+fn request_of(alloc: Global, text: &[u8]) -> Option<Request> {
+    let mut framer = match Framer::make(alloc) {
+        Ok(framer) => framer,
+        Err(_) => return None,
+    };
+    framer.feed(text);
+    match framer.next() {
+        Step::Message => match framer.message() {
+            Some(message) => Some(Request::of(&message)),
+            None => None,
+        },
+        _ => None,
+    }
+}
+
+#[test]
+fn options_is_asked(rt: HostRuntime) -> Result<(), Fail> {
+    let text = b"OPTIONS * RTSP/1.0\r\ncseq: 007\r\n\r\n";
+    let request = request_of(rt.alloc(), text).ok_or("message")?;
+    assert_eq!(rt; request.cseq, Some(7));
+    assert_eq!(rt; request.refusal, None);
+    assert_eq!(rt; request.method, Method::Options);
+    Ok(())
+}
+
+// Reads a message over the request of an older one.
+fn read_over(alloc: Global, request: &mut Request, text: &[u8]) -> Result<(), Fail> {
+    let mut framer = Framer::make(alloc)?;
+    framer.feed(text);
+    match framer.next() {
+        Step::Message => {
+            request.read(&framer.message().ok_or("message")?);
+            Ok(())
+        }
+        _ => Err(Fail::from("no message")),
+    }
+}
+
+#[test]
+fn nothing_of_an_older_request_is_left(rt: HostRuntime) -> Result<(), Fail> {
+    let setup =
+        b"SETUP rtsp://h/stream=2?src=1&pids=0,16&addpids=17&delpids=18 RTSP/1.0\r\nCSeq: 3\r\nSession: 0000000a00000007\r\nTransport: RTP/AVP;unicast;client_port=1400-1401\r\n\r\n";
+    let mut request = request_of(rt.alloc(), setup).ok_or("message")?;
+    assert!(rt; request.ports.is_some() && request.stream == Some(2));
+    for text in [
+        b"OPTIONS * RTSP/1.0\r\nCSeq: 4\r\n\r\n".as_slice(),
+        b"PAUSE / RTSP/1.0\r\nCSeq: 5\r\n\r\n".as_slice(),
+        setup.as_slice(),
+        b"TEARDOWN / RTSP/1.0\r\n\r\n".as_slice(),
+    ] {
+        read_over(rt.alloc(), &mut request, text)?;
+        assert!(rt; Some(request) == request_of(rt.alloc(), text));
+    }
+    Ok(())
+}
+
+// The first refusal counts where a request has two faults.
+#[test]
+fn first_refusal_counts(rt: HostRuntime) -> Result<(), Fail> {
+    for (text, refusal) in [
+        (b"PAUSE /x RTSP/2.0\r\n\r\n".as_slice(), Refusal::NoCseq),
+        (
+            b"PAUSE / RTSP/2.0\r\nCSeq: 4294967296\r\n\r\n".as_slice(),
+            Refusal::NoCseq,
+        ),
+        (
+            b"PAUSE / RTSP/2.0\r\nCSeq: 4294967295\r\n\r\n".as_slice(),
+            Refusal::Version,
+        ),
+        (
+            b"play / RTSP/1.0\r\nCSeq: 4\r\nRequire: x\r\n\r\n".as_slice(),
+            Refusal::Method,
+        ),
+        (
+            b"SETUP * RTSP/1.0\r\nCSeq: 4\r\nRequire: x\r\n\r\n".as_slice(),
+            Refusal::Require(Short::of(b"x")),
+        ),
+        (
+            b"SETUP * RTSP/1.0\r\nCSeq: 4\r\nRequire:\r\nRequire: x\r\n\r\n".as_slice(),
+            Refusal::Target,
+        ),
+        (
+            b"SETUP /x?pol=n RTSP/1.0\r\nCSeq: 4\r\n\r\n".as_slice(),
+            Refusal::Target,
+        ),
+        (
+            b"PLAY /?pol=n&pol=h RTSP/1.0\r\nCSeq: 4\r\n\r\n".as_slice(),
+            Refusal::Query(QueryFault::Range(Key::Pol)),
+        ),
+    ] {
+        let request = request_of(rt.alloc(), text).ok_or("message")?;
+        assert_eq!(rt; request.refusal, Some(refusal));
+    }
+    assert_eq!(rt; Request::broken(Break::Bad).refusal, Some(Refusal::Broken));
+    assert_eq!(rt;
+        Request::broken(Break::TooLong).refusal,
+        Some(Refusal::TooLong)
+    );
+    Ok(())
+}
+
+#[test]
+fn targets_name_streams(rt: HostRuntime) -> Result<(), Fail> {
+    for (text, stream) in [
+        (
+            b"OPTIONS rtsp://h RTSP/1.0\r\nCSeq: 4\r\n\r\n".as_slice(),
+            None,
+        ),
+        (
+            b"DESCRIBE rtsp://h?x RTSP/1.0\r\nCSeq: 4\r\n\r\n".as_slice(),
+            None,
+        ),
+        (
+            b"SETUP rtsp://h/ RTSP/1.0\r\nCSeq: 4\r\n\r\n".as_slice(),
+            None,
+        ),
+        (b"SETUP / RTSP/1.0\r\nCSeq: 4\r\n\r\n".as_slice(), None),
+        (b"OPTIONS * RTSP/1.0\r\nCSeq: 4\r\n\r\n".as_slice(), None),
+        (
+            b"PLAY /stream=1 RTSP/1.0\r\nCSeq: 4\r\n\r\n".as_slice(),
+            Some(1),
+        ),
+        (
+            b"PLAY rtsp://h/stream=65535 RTSP/1.0\r\nCSeq: 4\r\n\r\n".as_slice(),
+            Some(65535),
+        ),
+        (
+            b"TEARDOWN /stream=1/ RTSP/1.0\r\nCSeq: 4\r\n\r\n".as_slice(),
+            Some(1),
+        ),
+        (
+            b"PLAY RTSP://H/stream=07?pids=all RTSP/1.0\r\nCSeq: 4\r\n\r\n".as_slice(),
+            Some(7),
+        ),
+    ] {
+        let request = request_of(rt.alloc(), text).ok_or("message")?;
+        assert_eq!(rt; request.refusal, None);
+        assert_eq!(rt; request.stream, stream);
+    }
+    for text in [
+        b"PLAY /stream=65536 RTSP/1.0\r\nCSeq: 4\r\n\r\n".as_slice(),
+        b"PLAY stream=1 RTSP/1.0\r\nCSeq: 4\r\n\r\n".as_slice(),
+        b"PLAY rtsp:///stream=1 RTSP/1.0\r\nCSeq: 4\r\n\r\n".as_slice(),
+        b"PLAY ?pids=all RTSP/1.0\r\nCSeq: 4\r\n\r\n".as_slice(),
+        b"DESCRIBE * RTSP/1.0\r\nCSeq: 4\r\n\r\n".as_slice(),
+        b"OPTIONS /x RTSP/1.0\r\nCSeq: 4\r\n\r\n".as_slice(),
+        b"OPTIONS ** RTSP/1.0\r\nCSeq: 4\r\n\r\n".as_slice(),
+    ] {
+        let request = request_of(rt.alloc(), text).ok_or("message")?;
+        assert_eq!(rt; request.refusal, Some(Refusal::Target));
+    }
+    Ok(())
+}
+
+// No method's target is the empty text.
+#[tactic(auto, unfolding(satip_rtsp::specs::Targets::target_of, satip_rtsp::specs::Targets::stream_in, satip_rtsp::specs::Targets::behind_front))]
+fn no_target_is_empty()
+    ensures of_a_stream { target_of false [] ≡ None }
+    ensures of_the_server { target_of true [] ≡ None }
+{}
+
+// Of two faults in a request the earlier place counts, whatever comes first in the text.
+#[test]
+fn earlier_place_counts_for_each_method(rt: HostRuntime) -> Result<(), Fail> {
+    for (text, refusal) in [
+        (
+            b"TEARDOWN /x RTSP/1.0\r\nRequire: y\r\nCSeq: 4\r\n\r\n".as_slice(),
+            Refusal::Require(Short::of(b"y")),
+        ),
+        (
+            b"TEARDOWN * RTSP/1.1\r\nCSeq: 4\r\n\r\n".as_slice(),
+            Refusal::Version,
+        ),
+        (
+            b"DESCRIBE * RTSP/1.0\r\nRequire: y\r\nCSeq: x\r\n\r\n".as_slice(),
+            Refusal::NoCseq,
+        ),
+        (
+            b"DESCRIBE /x RTSP/1.0\r\nCSeq: 4\r\nRequire: y\r\n\r\n".as_slice(),
+            Refusal::Require(Short::of(b"y")),
+        ),
+        (
+            b"PLAY /stream=x?pids=8192 RTSP/1.0\r\nCSeq: 4\r\n\r\n".as_slice(),
+            Refusal::Target,
+        ),
+        (
+            b"OPTIONS /x RTSP/1.0\r\nRequire: y\r\nCSeq: 4\r\n\r\n".as_slice(),
+            Refusal::Require(Short::of(b"y")),
+        ),
+        (
+            b"SETUP /?pids=8192&fe=0 RTSP/1.0\r\nCSeq: 4\r\n\r\n".as_slice(),
+            Refusal::Query(QueryFault::Range(Key::Pids)),
+        ),
+    ] {
+        let request = request_of(rt.alloc(), text).ok_or("message")?;
+        assert_eq!(rt; request.refusal, Some(refusal));
+    }
+    Ok(())
+}
+
+// Of what a message requires 128 bytes are kept.
+#[test]
+fn long_requirement_is_cut(rt: HostRuntime) -> Result<(), Fail> {
+    let text =
+        b"OPTIONS * RTSP/1.0\r\nCSeq: 4\r\nRequire: aaaaaaaaaaaaaaaaaaaaaaaaaaaaaaaaaaaaaaaaaaaaaaaaaaaaaaaaaaaaaaaaaaaaaaaaaaaaaaaaaaaaaaaaaaaaaaaaaaaaaaaaaaaaaaaaaaaaaaaaaaaaaaaab\r\n\r\n";
+    let request = request_of(rt.alloc(), text).ok_or("message")?;
+    let kept = Short::of(&[b'a'; 128]);
+    assert_eq!(rt; request.refusal, Some(Refusal::Require(kept)));
+    Ok(())
+}
+
+#[test]
+fn transports_give_ports(rt: HostRuntime) -> Result<(), Fail> {
+    for (text, ports) in [
+        (
+            b"SETUP / RTSP/1.0\r\nCSeq: 4\r\nTransport: RTP/AVP;unicast;client_port=0-1 , rtp/avp/udp ;\tUNICAST; Client_Port=65535-1,x\r\n\r\n".as_slice(),
+            Some(Ports {
+                rtp: 65535,
+                rtcp: 1,
+            }),
+        ),
+        (
+            b"SETUP / RTSP/1.0\r\nCSeq: 4\r\nTransport: RTP/AVP;client_port=65534;client_port=1;unicast\r\n\r\n".as_slice(),
+            Some(Ports {
+                rtp: 65534,
+                rtcp: 65535,
+            }),
+        ),
+        (
+            b"SETUP / RTSP/1.0\r\nCSeq: 4\r\nTransport: RTP/AVP;unicast;client_port=65535\r\n\r\n".as_slice(),
+            None,
+        ),
+        (
+            b"SETUP / RTSP/1.0\r\nCSeq: 4\r\nTransport: RTP/AVP;unicast;client_port=1400-\r\n\r\n".as_slice(),
+            None,
+        ),
+        (
+            b"SETUP / RTSP/1.0\r\nCSeq: 4\r\nTransport: RTP/AVP;multicast;client_port=2\r\n\r\n".as_slice(),
+            None,
+        ),
+        (
+            b"SETUP / RTSP/1.0\r\nCSeq: 4\r\nTransport: RTP/AVP/TCP;unicast;client_port=2,RTP/AVP/UDP;unicast;client_port=3\r\n\r\n".as_slice(),
+            Some(Ports { rtp: 3, rtcp: 4 }),
+        ),
+        (
+            b"SETUP / RTSP/1.0\r\nCSeq: 4\r\nTransport: RTP/AVP;unicast;client_port=1400-1401\r\nTransport: RTP/AVP;unicast;client_port=8\r\n\r\n".as_slice(),
+            Some(Ports {
+                rtp: 1400,
+                rtcp: 1401,
+            }),
+        ),
+        (
+            b"SETUP / RTSP/1.0\r\nCSeq: 4\r\nTransport: RTP/AVP;unicast;client_port=7-7\r\n\r\n".as_slice(),
+            Some(Ports { rtp: 7, rtcp: 7 }),
+        ),
+        (
+            b"SETUP / RTSP/1.0\r\nCSeq: 4\r\nTransport: RTP/AVP;client_port=2-3\r\n\r\n".as_slice(),
+            None,
+        ),
+        (b"SETUP / RTSP/1.0\r\nCSeq: 4\r\n\r\n".as_slice(), None),
+        (
+            b"PLAY / RTSP/1.0\r\nCSeq: 4\r\nTransport: RTP/AVP;unicast;client_port=2\r\n\r\n".as_slice(),
+            None,
+        ),
+    ] {
+        let request = request_of(rt.alloc(), text).ok_or("message")?;
+        assert_eq!(rt; request.ports, ports);
+    }
+    Ok(())
+}
+
+#[test]
+fn sessions_are_named(rt: HostRuntime) -> Result<(), Fail> {
+    let id = SessionId { count: 1, word: 10 };
+    for (text, session) in [
+        (
+            b"PLAY / RTSP/1.0\r\nCSeq: 4\r\n\r\n".as_slice(),
+            SessionName::Absent,
+        ),
+        (
+            b"PLAY / RTSP/1.0\r\nCSeq: 4\r\nSession: 000000010000000a\t; timeout=60\r\n\r\n".as_slice(),
+            SessionName::Named(id),
+        ),
+        (
+            b"PLAY / RTSP/1.0\r\nCSeq: 4\r\nSession: 000000010000000A\r\n\r\n".as_slice(),
+            SessionName::Other,
+        ),
+        (
+            b"PLAY / RTSP/1.0\r\nCSeq: 4\r\nSession: 0000000010000000a\r\n\r\n".as_slice(),
+            SessionName::Other,
+        ),
+        (
+            b"PLAY / RTSP/1.0\r\nCSeq: 4\r\nSession: 00000001000000a\r\n\r\n".as_slice(),
+            SessionName::Other,
+        ),
+        (
+            b"PLAY / RTSP/1.0\r\nCSeq: 4\r\nSession:\r\n\r\n".as_slice(),
+            SessionName::Other,
+        ),
+        (
+            b"PLAY / RTSP/1.0\r\nCSeq: 4\r\nSession: 000000010000000a\r\nSession: 000000020000000b\r\n\r\n".as_slice(),
+            SessionName::Named(id),
+        ),
+    ] {
+        let request = request_of(rt.alloc(), text).ok_or("message")?;
+        assert_eq!(rt; request.session, session);
+    }
+    Ok(())
+}
+
+#[test]
+#[tactic(auto, using(satip_rtsp::proofs::ReplyLemmas::reply_bounds))]
+fn replies_have_these_texts(rt: HostRuntime) -> Result<(), Fail> {
+    let mut out = Out::make(rt.alloc()).ok().ok_or("memory")?;
+    write_options(Some(1), None, &mut out);
+    let text =
+        b"RTSP/1.0 200 OK\r\nCSeq: 1\r\nPublic: OPTIONS, DESCRIBE, SETUP, PLAY, TEARDOWN\r\n\r\n";
+    assert_eq!(rt; out.reply(), text.as_slice());
+    out.clear();
+    write_options(None, Some(SessionId { count: 1, word: 10 }), &mut out);
+    let text =
+        b"RTSP/1.0 200 OK\r\nPublic: OPTIONS, DESCRIBE, SETUP, PLAY, TEARDOWN\r\nSession: 000000010000000a\r\n\r\n";
+    assert_eq!(rt; out.reply(), text.as_slice());
+    out.clear();
+    write_closing(Break::Bad, &mut out);
+    assert_eq!(rt;
+        out.reply(),
+        b"RTSP/1.0 400 Bad Request\r\nConnection: close\r\n\r\n".as_slice()
+    );
+    out.clear();
+    write_closing(Break::TooLong, &mut out);
+    let text = b"RTSP/1.0 413 Request Entity Too Large\r\nConnection: close\r\n\r\n";
+    assert_eq!(rt; out.reply(), text.as_slice());
+    out.clear();
+    write_plain(Some(4294967295), 501, &mut out);
+    let text = b"RTSP/1.0 501 Not Implemented\r\nCSeq: 4294967295\r\n\r\n";
+    assert_eq!(rt; out.reply(), text.as_slice());
+    Ok(())
+}
+
+#[test]
+#[tactic(auto, using(satip_rtsp::proofs::ReplyLemmas::reply_bounds))]
+fn replies_to_sessions_have_these_texts(rt: HostRuntime) -> Result<(), Fail> {
+    let mut out = Out::make(rt.alloc()).ok().ok_or("memory")?;
+    let id = SessionId { count: 1, word: 10 };
+    let ports = Ports {
+        rtp: 1400,
+        rtcp: 1401,
+    };
+    write_setup(Some(2), id, 60, ports, 1, &mut out);
+    let text =
+        b"RTSP/1.0 200 OK\r\nCSeq: 2\r\nSession: 000000010000000a;timeout=60\r\nTransport: RTP/AVP;unicast;client_port=1400-1401\r\ncom.ses.streamID: 1\r\n\r\n";
+    assert_eq!(rt; out.reply(), text.as_slice());
+    out.clear();
+    write_play(Some(3), id, 3232235786, 1, 65535, &mut out);
+    let text =
+        b"RTSP/1.0 200 OK\r\nCSeq: 3\r\nSession: 000000010000000a\r\nRTP-Info: url=rtsp://192.168.1.10/stream=1;seq=65535\r\n\r\n";
+    assert_eq!(rt; out.reply(), text.as_slice());
+    out.clear();
+    write_describe(Some(4), 3232235786, 189, &mut out);
+    let text =
+        b"RTSP/1.0 200 OK\r\nCSeq: 4\r\nContent-Type: application/sdp\r\nContent-Base: rtsp://192.168.1.10/\r\nContent-Length: 189\r\n\r\n";
+    assert_eq!(rt; out.reply(), text.as_slice());
+    Ok(())
+}
+
+#[test]
+#[tactic(auto, using(satip_rtsp::proofs::ReplyLemmas::reply_bounds))]
+fn refusals_have_these_texts(rt: HostRuntime) -> Result<(), Fail> {
+    let mut out = Out::make(rt.alloc()).ok().ok_or("memory")?;
+    write_text(Some(5), 403, RefusalBody::NotOwner, &mut out);
+    let text =
+        b"RTSP/1.0 403 Forbidden\r\nCSeq: 5\r\nContent-Type: text/parameters\r\nContent-Length: 18\r\n\r\nNot-Owner:stream\r\n";
+    assert_eq!(rt; out.reply(), text.as_slice());
+    out.clear();
+    write_text(None, 400, RefusalBody::CheckSyntax(Key::Pol), &mut out);
+    let text =
+        b"RTSP/1.0 400 Bad Request\r\nContent-Type: text/parameters\r\nContent-Length: 18\r\n\r\nCheck-Syntax:pol\r\n";
+    assert_eq!(rt; out.reply(), text.as_slice());
+    out.clear();
+    write_text(Some(8), 403, RefusalBody::OutOfRange(Key::Pids), &mut out);
+    let text =
+        b"RTSP/1.0 403 Forbidden\r\nCSeq: 8\r\nContent-Type: text/parameters\r\nContent-Length: 19\r\n\r\nOut-of-Range:pids\r\n";
+    assert_eq!(rt; out.reply(), text.as_slice());
+    out.clear();
+    write_text(Some(9), 503, RefusalBody::NoMoreFrontends, &mut out);
+    let text =
+        b"RTSP/1.0 503 Service Unavailable\r\nCSeq: 9\r\nContent-Type: text/parameters\r\nContent-Length: 19\r\n\r\nNo-More:frontends\r\n";
+    assert_eq!(rt; out.reply(), text.as_slice());
+    out.clear();
+    write_unsupported(Some(6), &Short::of(b"a.b"), &mut out);
+    let text = b"RTSP/1.0 551 Option not supported\r\nCSeq: 6\r\nUnsupported: a.b\r\n\r\n";
+    assert_eq!(rt; out.reply(), text.as_slice());
+    Ok(())
+}
