@@ -1,13 +1,6 @@
-//! Whole runs of the program over memory, one test for each thing that they show. It has nothing
-//! but tests.
+//! Whole replays over memory, one test for each thing that they show. It has nothing but tests.
 #![tactic(auto)]
 
-#[cfg(test)]
-mod bytes;
-#[cfg(test)]
-mod clients;
-#[cfg(test)]
-mod commands;
 #[cfg(test)]
 mod describing;
 #[cfg(test)]
@@ -27,8 +20,9 @@ mod playing;
 #[cfg(test)]
 mod refusals;
 #[cfg(test)]
+mod reports;
+#[cfg(test)]
 mod retuning;
+
 #[cfg(test)]
-mod row;
-#[cfg(test)]
-mod steps;
+use satip_replay_steps::{bytes, clients, row, steps};

@@ -1,0 +1,9 @@
+//! Tunings, queries and configurations by example. It has nothing but tests.
+#![tactic(auto)]
+
+#[cfg(test)]
+mod config;
+#[cfg(test)]
+mod query;
+#[cfg(test)]
+mod tune;
