@@ -7,8 +7,7 @@ mod kits;
 mod ready;
 mod settings;
 mod shared;
-#[cfg(test)]
-mod tests;
 
 pub use fault::KitsFault;
 pub use kits::{RealKits, real_kits};
+pub use settings::Settings;

@@ -14,16 +14,16 @@ const ROOM: usize = 16;
 
 /// How recordings are played.
 #[derive(Clone, Copy, PartialEq, Eq)]
-pub(crate) struct Settings {
+pub struct Settings {
     /// At their own rate: `SATIP_PACE=recording`.
-    pub(crate) paces: bool,
+    pub paces: bool,
     /// Anew at their end: `SATIP_REPEAT=1`.
-    pub(crate) repeats: bool,
+    pub repeats: bool,
 }
 
 impl Settings {
     /// Reads both. One that is empty counts as one that isn't set.
-    pub(crate) fn read(env: &impl Env) -> Result<Settings, KitsFault> {
+    pub fn read(env: &impl Env) -> Result<Settings, KitsFault> {
         let Some(paces) = read_switch(env, PACE, "recording") else {
             return Err(KitsFault::Pace);
         };

@@ -49,13 +49,14 @@ fn moment(start: u64, elapsed: u64) -> u64
 /// Time in milliseconds that goes on from a start by a monotonic clock, and shows its last reading
 /// again where that clock can't be read. The first reading is the start.
 #[derive(Clone, Copy, Drop)]
-pub(crate) struct SteadyTime {
+pub struct SteadyTime {
     start: ClockStart,
     last: u64,
 }
 
 impl SteadyTime {
-    pub(crate) fn new(start: ClockStart) -> SteadyTime
+    /// It shows the start.
+    pub fn new(start: ClockStart) -> SteadyTime
         ensures start { result.last ≡ start.unix_ms }
     {
         SteadyTime {
@@ -65,7 +66,7 @@ impl SteadyTime {
     }
 
     /// Reads on.
-    pub(crate) fn read(&mut self, clocks: &impl time::Clock) -> u64
+    pub fn read(&mut self, clocks: &impl time::Clock) -> u64
         ensures last { result ≡ self.new.last }
         ensures start { self.new.start ≡ self.old.start }
     {

@@ -17,12 +17,11 @@ mod readiness;
 mod sending;
 mod silence;
 mod stopwatch;
-#[cfg(test)]
-mod tests;
 
-pub use clock::{ClockStart, RealClock};
+pub use clock::{ClockStart, RealClock, SteadyTime};
 pub use connection::RealConn;
 pub use doors::RealDoors;
 pub use key::read_key;
 pub use listeners::{BindFault, Listeners};
 pub use outlet::{RealOutlet, SharedSocket};
+pub use sending::{Unhurried, send_all};

@@ -15,7 +15,7 @@ const IDLE_WAITS: u32 = 200;
 const WAIT_MS: i32 = 50;
 
 /// A writer that doesn't wait by itself.
-pub(crate) trait Unhurried: Write {
+pub trait Unhurried: Write {
     /// Waits until it takes bytes, or for a while.
     fn wait(&mut self);
 }
@@ -47,7 +47,7 @@ fn idle_waits(waits: u32, before: usize, left: usize) -> u32
 }
 
 /// Writes all, and gives up after 200 waits one after another in which the client took nothing.
-pub(crate) fn send_all<W: Unhurried>(writer: &mut W, bytes: &[u8]) -> io::Result<()> {
+pub fn send_all<W: Unhurried>(writer: &mut W, bytes: &[u8]) -> io::Result<()> {
     let mut rest = advance(writer, bytes)?;
     let mut waits = 0u32;
     for _ in 0..u64::MAX {

@@ -9,10 +9,10 @@ mod recording;
 mod recording_clock;
 mod references;
 mod store;
-#[cfg(test)]
-mod tests;
 
-pub use pacer::RealPacer;
+pub use pacer::{RealPacer, pause_until};
 pub use progress::Progress;
 pub use recording::{Playing, RealRecording, RecordingFault};
+pub use recording_clock::RecordingClock;
+pub use references::{breaks, reference_of, ticks_between};
 pub use store::RealStore;

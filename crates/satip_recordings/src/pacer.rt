@@ -21,7 +21,7 @@ const MOST: u64 = 1_000_000;
 
 /// How many microseconds a pause lasts that begins at the moment `now` and ends at `due`; `None`
 /// where they are more than a second apart.
-pub(crate) fn pause_until(due: u64, now: u64) -> Option<u64>
+pub fn pause_until(due: u64, now: u64) -> Option<u64>
     ensures apart { IsNone result ↔ ((now + 1000000 < due) ⊎ (due + 1000000 < now)) }
     ensures length { IfSome result (λ micros. micros ≡ max 1000 (due - now)) }
 {

@@ -15,7 +15,7 @@ struct Step {
 /// The clock of a recording, by the references of the first PID that carries one. It is read one
 /// packet after another. Between two references it goes on as fast as between the last two.
 #[derive(Drop)]
-pub(crate) struct RecordingClock {
+pub struct RecordingClock {
     pid: Option<u16>,
     last: Option<u64>,
     // ticks from the last break to the last reference
@@ -27,7 +27,7 @@ pub(crate) struct RecordingClock {
 
 impl RecordingClock {
     /// The clock of a recording of which nothing was read.
-    pub(crate) fn new() -> RecordingClock {
+    pub fn new() -> RecordingClock {
         RecordingClock {
             pid: None,
             last: None,
@@ -39,7 +39,7 @@ impl RecordingClock {
 
     /// Reads on by a packet. Whether the clock has a break there: by the packet's flags, or as its
     /// reference lies more than a second behind the one before, or before that.
-    pub(crate) fn read(&mut self, packet: &Packet) -> bool {
+    pub fn read(&mut self, packet: &Packet) -> bool {
         self.packets = self.packets.saturating_add(1);
         let reference = reference_of(packet);
         if !self.is_carrier(packet.pid(), reference.is_some()) {
@@ -120,7 +120,7 @@ impl RecordingClock {
 
     /// Microseconds since the last break; `None` exactly where less than two references were read.
     /// It goes on for at most a second behind a reference.
-    pub(crate) fn micros(&self) -> Option<u64>
+    pub fn micros(&self) -> Option<u64>
         ensures none { IsNone result ↔ IsNone self.now.step }
     {
         if self.step.is_none() {

@@ -43,7 +43,7 @@ fn extension(bytes: &[u8; 188]) -> u64
 }
 
 /// The program clock reference of a packet, in ticks of 27 MHz; `None` exactly where it has none.
-pub(crate) fn reference_of(packet: &Packet) -> Option<u64>
+pub fn reference_of(packet: &Packet) -> Option<u64>
     ensures reference { result ≡ reference_in packet.now }
     ensures within { IfSome result (λ ticks. ticks < 2576980377600) }
 {
@@ -55,7 +55,7 @@ pub(crate) fn reference_of(packet: &Packet) -> Option<u64>
 }
 
 /// Whether a packet's flags say that the clock has a break there.
-pub(crate) fn breaks(packet: &Packet) -> bool
+pub fn breaks(packet: &Packet) -> bool
     ensures breaks { result ≡ has_break packet.now }
 {
     let bytes = packet.bytes();
@@ -63,7 +63,7 @@ pub(crate) fn breaks(packet: &Packet) -> bool
 }
 
 /// How many ticks the clock goes on from a reference to a later one.
-pub(crate) fn ticks_between(earlier: u64, later: u64) -> u64
+pub fn ticks_between(earlier: u64, later: u64) -> u64
     ensures ahead { earlier ≤ later → result ≡ later - earlier }
     ensures round { later < earlier → earlier < 2576980377600
         → result ≡ later + 2576980377600 - earlier }

@@ -1,10 +1,7 @@
 //! Recordings, their clocks and the pauses that follow them.
 
-use crate::pacer::pause_until;
-use crate::recording_clock::RecordingClock;
-use crate::references::{breaks, reference_of, ticks_between};
-use crate::*;
 use satip_base::{Source, Taken, Text};
+use satip_recordings::*;
 use satip_ts::Packet;
 use satip_world::{MuxStore, Pacer};
 use std::io::Write;

@@ -1,9 +1,8 @@
 //! Kits over loopback.
 
-use crate::settings::Settings;
-use crate::*;
 use satip_base::Text;
 use satip_config::Config;
+use satip_kits::{KitsFault, RealKits, Settings, real_kits};
 use satip_real::{RealDoors, RealOutlet};
 use satip_recordings::RealPacer;
 use satip_worker::WorkerKit;

@@ -1,9 +1,7 @@
 //! The adapters over loopback and the system's clocks.
 
-use crate::clock::SteadyTime;
-use crate::sending::{Unhurried, send_all};
-use crate::*;
 use satip_base::{Address, Peer, Put};
+use satip_real::*;
 use satip_world::{Clock, Conn, ConnEnd, Door, DoorKind, Doors, Outlet, Received};
 use std::io::{ErrorKind, Read, Write};
 use std::net::{Ipv4Addr, Shutdown, SocketAddr, TcpStream, UdpSocket};
