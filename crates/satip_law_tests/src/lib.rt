@@ -1,6 +1,9 @@
-//! Worked runs of the words that the ending, busy and pull laws are said in. It has nothing but
-//! tests.
+//! Worked runs of the words that the laws are said in. It has nothing but tests.
 #![tactic(auto)]
 
 #[cfg(test)]
-mod tests;
+mod http;
+#[cfg(test)]
+mod laws;
+#[cfg(test)]
+mod readings;

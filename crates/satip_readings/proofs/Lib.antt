@@ -24,4 +24,3 @@ pub mod PullLaw
 pub mod OwnerLaw
 pub mod BusyTexts
 pub mod BusyLaw
-pub mod Runs

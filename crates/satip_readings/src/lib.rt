@@ -2,8 +2,6 @@
 #![tactic(auto)]
 
 mod laws;
-#[cfg(test)]
-mod tests;
 
 pub use laws::{
     busy_where_blocked, ends_by_its_causes, only_owner_changes, picked_is_selected, pulls_in_order,
