@@ -1,5 +1,8 @@
-//! Connections, workers and pumps over memory and the one-thread server, as tests.
+//! Connections, workers and pumps over memory and the one-thread server, and that server as a
+//! service. It has nothing but tests.
 #![tactic(auto)]
 
+#[cfg(test)]
+mod solo;
 #[cfg(test)]
 mod tests;

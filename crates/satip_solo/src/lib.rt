@@ -5,7 +5,5 @@ mod copies;
 mod entries;
 mod history;
 mod solo;
-#[cfg(test)]
-mod tests;
 
 pub use solo::Solo;

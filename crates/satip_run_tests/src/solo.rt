@@ -3,12 +3,12 @@ ghost use Rattle.std.specs.Prelude.{◌≡◌, [], true, false, None, Some, IfOk
 ghost use Rattle.satip_core.specs.Serving.{StandsAfter};
 ghost use Rattle.satip_solo.specs.Log.{Before, is_at};
 
-use crate::Solo;
 use satip_base::Out;
 use satip_config::Config;
 use satip_core::Server;
 use satip_plain::{Answer, Beat, Event, Work};
 use satip_service::Service;
+use satip_solo::Solo;
 use satip_tune::Front;
 use std::alloc::Global;
 use std::test::Fail;
