@@ -5,7 +5,4 @@ pub mod Beside
 pub mod WholeRuns
 pub mod Ended
 pub mod Kept
-pub mod StopRows
-pub mod RunRows
-pub mod PumpRows
 pub mod Unlocking

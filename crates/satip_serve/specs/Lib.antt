@@ -6,4 +6,3 @@ pub mod ServeRuns
 pub mod Callers
 pub mod Seats
 pub mod Fresh
-pub mod Examples

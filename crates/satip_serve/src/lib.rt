@@ -8,8 +8,6 @@ mod kits;
 mod run;
 mod seat;
 mod serving;
-#[cfg(test)]
-mod tests;
 mod work;
 
 pub use end::ServeEnd;

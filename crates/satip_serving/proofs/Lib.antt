@@ -1,4 +1,3 @@
 pub mod EndLemmas
 pub mod Quiet
 pub mod PumpPackets
-pub mod Rows

@@ -1,5 +1,4 @@
 pub mod Desks
 pub mod Laws
 pub mod Servings
-pub mod Examples
 pub mod Given

@@ -5,8 +5,6 @@
 mod desk;
 mod laws;
 mod serving;
-#[cfg(test)]
-mod tests;
 
 pub use desk::{Desk, JobsFault};
 pub use serving::{Served, ServingEnd, serve_by};

@@ -4,8 +4,6 @@
 mod caller;
 mod feeding;
 mod server;
-#[cfg(test)]
-mod tests;
 
 pub use caller::Caller;
 pub use server::{SharedPass, SharedServer, make};

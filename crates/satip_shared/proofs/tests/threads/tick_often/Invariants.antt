@@ -1,5 +1,0 @@
--- It is still the same service.
-use Rattle.satip_shared.proofs.tests.threads.tick_often.Given as goal
-
-abbrev pub invariant-loop-now : goal.invariant-loop-now
-invariant-loop-now g l = g.S.Service.same l.initial.service l.service

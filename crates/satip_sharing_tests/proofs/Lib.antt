@@ -1,0 +1,4 @@
+pub mod StopRows
+pub mod RunRows
+pub mod PumpRows
+pub mod RecordedRows

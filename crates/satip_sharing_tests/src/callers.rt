@@ -1,0 +1,116 @@
+//! A shared server with two front ends and one multiplex.
+ghost use Rattle.std.specs.Prelude.{◌≡◌, ◌+◌, ◌<◌, [], length, IfOk, IfSome};
+ghost use Rattle.satip_turn.specs.Shown.{IsOf, Knows, first_pass, met_once, newborn};
+ghost use Rattle.satip_plain.specs.Histories.{Legal};
+ghost use Rattle.satip_shared.specs.Calling.{known_by, SameCaller};
+
+mod gate;
+mod threads;
+
+use satip_base::Out;
+use satip_config::Config;
+use satip_plain::{Answer, Beat, Event, Work};
+use satip_service::Service;
+use satip_shared::{Caller, SharedPass, SharedServer, make};
+use satip_tune::{Front, Mux, Pol, System};
+use std::alloc::Global;
+use std::sync::Wait;
+use std::test::Fail;
+
+// A front end that reaches position 1 and receives both systems.
+fn front(number: u16) -> Front
+    ensures number { result.number ≡ number }
+{
+    let mut sources = [false; 256];
+    sources[1] = true;
+    Front {
+        number,
+        sources,
+        systems: [true, true],
+    }
+}
+
+// A server at 1000 milliseconds.
+pub(crate) fn shared(alloc: Global) -> Result<(SharedServer, SharedPass), Fail>
+    ensures of { IfOk result (λ made. IsOf made.1 made.0) }
+    ensures knows { IfOk result (λ made. Knows (Legal made.0.setting) made.1) }
+{
+    let mut fronts = Vec::new(alloc);
+    fronts.push(front(1))?;
+    fronts.push(front(2))?;
+    let mut muxes = Vec::new(alloc);
+    muxes.push(Mux {
+        src: 1,
+        freq: 11361750,
+        pol: Pol::H,
+        msys: System::Dvbs2,
+        sr: 22000,
+    })?;
+    let config = Config {
+        address: 3232235786,
+        rtsp_port: 554,
+        http_port: 8875,
+        timeout: 60,
+        workers: 8,
+        fronts,
+        muxes,
+        files: Vec::new(alloc),
+    };
+    Ok(make(alloc, config, 1000)?)
+}
+
+// The first pass knows nothing; a caller that met a taken turn is the same, one of another number
+// isn't.
+fn caller_rows(server: &SharedServer, number: u64)
+    ensures nothing { known_by (first_pass server.now)
+        ≡ record { seen = []; own = []; length = 0 } }
+    ensures same { SameCaller server.now (first_pass server.now) server.now
+        (met_once (first_pass server.now)) }
+    ensures other { 0 < number → ¬ (SameCaller server.now (first_pass server.now) server.now
+        (newborn (first_pass server.now) number)) }
+{
+    let _server = server;
+    let _ = number;
+}
+
+// The first caller asks, the second stops the server, and the first asks again.
+fn ask_stop_ask<R: Wait + Sync>(
+    rt: &R,
+    server: &SharedServer,
+    first: SharedPass,
+    out: &mut Out,
+) -> Option<(SharedPass, Answer, Answer, Answer)>
+    requires of { IsOf first server.now }
+    requires knows { Knows (Legal server.now.setting) first }
+    ensures own { IfSome result (λ done. length done.0.own ≡ length first.own + 2) }
+{
+    let mut first = first;
+    let second = server.split(&mut first);
+    let mut one = Caller {
+        rt,
+        server,
+        pass: first,
+    };
+    let mut two = Caller {
+        rt,
+        server,
+        pass: second,
+    };
+    let before = one.call(&Event::Ask { front: 1 }, out).ok()?;
+    let stop = two.call(&Event::Stop, out).ok()?;
+    let after = one.call(&Event::Ask { front: 1 }, out).ok()?;
+    Some((one.pass, before, stop, after))
+}
+
+#[test]
+fn a_caller_sees_anothers_entry_between_its_own(rt: HostRuntime) -> Result<(), Fail> {
+    let mut out = Out::make(rt.alloc())?;
+    let (server, first) = shared(rt.alloc())?;
+    caller_rows(&server, 1);
+    let (pass, before, stop, after) = ask_stop_ask(&rt, &server, first, &mut out).ok_or("spent")?;
+    assert_eq!(rt; before, Answer::Work(Work::Nothing));
+    assert_eq!(rt; stop, Answer::Beat(Beat::Stopping));
+    assert_eq!(rt; after, Answer::Work(Work::Stopping));
+    assert_eq!(rt; pass.place(), 3);
+    Ok(())
+}

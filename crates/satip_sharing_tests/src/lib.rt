@@ -1,0 +1,12 @@
+//! Jobs beside each other, callers of the shared server, and serving with all jobs, over memory. It
+//! has nothing but tests.
+#![tactic(auto)]
+
+#[cfg(test)]
+mod callers;
+#[cfg(test)]
+mod jobs;
+#[cfg(test)]
+mod recorded;
+#[cfg(test)]
+mod serving;
