@@ -7,7 +7,7 @@
 # the test of `serve` with two workers that play a recording together. A replay ends as with all memory, or with status 70 and a
 # beginning of its output; a serve ends well, or with status 70, or its desk had no memory.
 # Needs cc, crates/satip/out/satip (`cd crates/satip && rt run -- --version` builds it) and
-# crates/satip_serve_tests/out/satip_serve_rows_tests (`cd crates/satip_serve_tests && rt test` builds it).
+# crates/satip_serve_tests/out/satip_serve_tests_tests (`cd crates/satip_serve_tests && rt test` builds it).
 set -eu
 top=$(cd "$(dirname "$0")/.." && pwd)
 folder=$(mktemp -d)
@@ -60,7 +60,7 @@ replay() {
 serve() {
     number=1
     while :; do
-        refuse "$number" "$top/crates/satip_serve_tests/out/satip_serve_rows_tests" "$1"
+        refuse "$number" "$top/crates/satip_serve_tests/out/satip_serve_tests_tests" "$1"
         if [ "$status" = 99 ]; then
             break
         fi
