@@ -7,11 +7,11 @@ strace(1) makes them fail: the listener of one worker, reads of one recording, d
 pump, accept4 for want of descriptors, writes to standard error, and the start of threads; one
 recording is taken away. Each line has to come with its time, its cause and, where the table of
 docs/PROTOCOL.md has brackets, its advice, once, and again behind a minute where it counts, while
-clients of the rest are served; and where the server ends, the line of its status is the last. That
-a thread can't be started no line tells: the server is to serve by those that it has.
+clients of the rest are served; and where the server ends, the line of its status is the last. Where
+threads can't be started the server is to serve by those that it has.
 
 Ends with status 1 where that isn't so, as with WITHOUT=1 in the environment, where no such line is
-written. It takes 75 seconds, and needs crates/satip/out/satip (`cd crates/satip && rt run --
+written. It takes 80 seconds, and needs crates/satip/out/satip (`cd crates/satip && rt run --
 --version` builds it) or SATIP_PROGRAM, the right to trace it, and the Debian packages strace and
 python3; cc with WITHOUT. Its ports are free ones of 127.0.23.4.
 """
@@ -29,6 +29,7 @@ sys.dont_write_bytecode = True
 from serving import QUERIES, Checks, Rtsp, Server, arrived, free_ports, options, receiver
 
 ADDRESS = "127.0.23.4"
+NOT_BEGUN = r"(\d+) of (\d+) jobs have not begun, .*\(.*ulimit -u.*\)"
 REFUSED = re.compile(r"datagrams refused since .* full send buffers: (\d+) \(.*wmem_max\)")
 checks = Checks()
 
@@ -131,9 +132,9 @@ def told(server, pattern, seconds=5):
         time.sleep(0.1)
 
 
-def check_line(server, pattern, what):
-    """Whether one such line came, at this time."""
-    found = told(server, pattern)
+def check_line(server, pattern, what, seconds=5):
+    """Whether one such line comes in so many seconds, with its time."""
+    found = told(server, pattern, seconds)
     checks.check(len(found) == 1, f"{what}: one line tells it: {found}")
     for moment, _ in found:
         off = time.time() - email.utils.parsedate_to_datetime(moment).timestamp()
@@ -155,7 +156,7 @@ def one_worker_fails():
         what = "a worker's listener fails"
         fault = Injection(server, "accept4", "error=EBADF", thread=workers_of(server)[0])
         come_until(server, lambda: lines_of(server))
-        check_line(server, r"a worker ends, its listener failed: Bad file descriptor.*", what)
+        check_line(server, r"a worker ends, .*: Bad file descriptor.* \(start satip anew.*\)", what)
         fault.end()
         check_rest(server, player, what)
     finally:
@@ -187,7 +188,8 @@ def one_recording_fails():
         checks.check(failing.goes_on() and other.goes_on(), "two recordings play")
         fault = Injection(server, "read", "error=EIO", "-P", server.path("a.ts"))
         what = "a recording can't be read on"
-        check_line(server, r"recording a\.ts can't be read on, .*[Ii]nput/output error.*", what)
+        line = r"recording a\.ts can't be read on, .*[Ii]nput/output error.* \(.* disk: .*\)"
+        check_line(server, line, what)
         checks.check(not failing.goes_on(1), f"{what}: its stream ends")
         check_rest(server, other, what)
         checks.check(len(told(server, "recording a.*")) == 1, f"{what}: it is told once")
@@ -205,13 +207,15 @@ def one_recording_goes():
         what = "a recording is taken away"
         os.remove(server.path("b.ts"))
         gone = Player(server, QUERIES[1])
-        check_line(server, r"recording b\.ts can't be played: .*[Nn]o such file.*", what)
+        line = r"recording b\.ts can't be played: .*[Nn]o such file.* \(put it back, .*\)"
+        check_line(server, line, what)
         check_rest(server, other, what)
         gone.tear_down()
         what = "a FIFO stands in its place"
         os.mkfifo(server.path("b.ts"))
         Player(server, QUERIES[1])
-        check_line(server, r"recording b\.ts can't be played: it is not a regular file", what)
+        line = r"recording b\.ts can't be played: it is not a regular file \(put it back, .*\)"
+        check_line(server, line, what)
         check_rest(server, other, what)
     finally:
         server.close()
@@ -250,16 +254,23 @@ def no_standard_error():
         server.close()
 
 
-def no_threads():
-    faults = ["-e", "trace=clone,clone3", "-e", "inject=clone,clone3:error=EAGAIN"]
+def few_threads(which, wanted):
+    """No thread can be started, or but the first of each thread. 4 workers, a front end and the
+    ticker are 6 jobs."""
+    faults = ["-e", "trace=clone,clone3", "-e", f"inject=clone,clone3:error=EAGAIN{which}"]
     before = ("strace", "-D", "-f", "-qq", "-o", "/dev/null", *faults)
     server = start(workers=4, before=before)
     try:
-        what = "no thread can be started"
         count = len(os.listdir(f"/proc/{server.process.pid}/task"))
+        what = f"{count - 1} of 5 threads can be started"
+        checks.check(count == wanted, f"{what}: {count} run")
         took = options(ADDRESS, port=server.ports[0])
-        checks.check(took is not None, f"{what}: a client is served, {count} thread")
-        checks.check(count == 1 and lines_of(server) == [], f"{what}: the count alone shows it")
+        checks.check(took is not None, f"{what}: a client is served: {took and round(took, 2)} s")
+        check_line(server, NOT_BEGUN, what, 10)
+        counts = [re.fullmatch(NOT_BEGUN, text).groups() for _, text in told(server, NOT_BEGUN, 0)]
+        checks.check(counts == [(str(6 - count), "6")], f"{what}: the line counts {counts}")
+        took = options(ADDRESS, port=server.ports[0])
+        checks.check(took is not None, f"{what}: another is served: {took and round(took, 2)} s")
     finally:
         server.close()
 
@@ -292,6 +303,8 @@ class Refusals:
             if "datagrams refused" in line:
                 wanted.append(refused)
         checks.check(counts == wanted, f"{self.what}: so many were, by strace: {wanted}")
+        late = told(self.server, NOT_BEGUN, 0)
+        checks.check(late == [], f"where all threads are started no line tells of jobs: {late}")
         check_rest(self.server, self.player, self.what)
 
 
@@ -304,7 +317,8 @@ try:
     one_recording_goes()
     no_descriptors()
     no_standard_error()
-    no_threads()
+    few_threads("", 1)
+    few_threads(":when=2+", 3)
     refusals.check_second()
 finally:
     refusals.server.close()

@@ -55,10 +55,11 @@ with tempfile.TemporaryDirectory() as folder:
     for name in IRREGULAR:
         for place, files in ((1, (name,)), (2, ("a.ts", name, "same.ts"))):
             status, said = serve(folder, files, 5)
-            line = f"recording of mux.{place}, {name}, can't be played: it is not a regular file"
+            line = f"recording of mux.{place}, {name}, can't be played: it is not a regular file ("
             lines = said.splitlines()
             checks.check(status == 7, f"{name}: status {status}")
-            checks.check(lines == [line, "doors fault"], f"{name}: {lines}")
+            told = lines[:1] != [] and lines[0].startswith(line) and lines[1:] == ["doors fault"]
+            checks.check(told, f"{name}: {lines}")
     status, said = serve(folder, ("a.ts", "same.ts"), 2)
     served = status is None and ": ready at " in said
     checks.check(served, f"regular files are served: {said.strip()}")

@@ -2,6 +2,7 @@
 
 use satip_base::{Address, Peer, Put};
 use satip_real::*;
+use satip_report::{Start, Starts};
 use satip_world::{Clock, Conn, ConnEnd, Door, DoorKind, Doors, Outlet, Received};
 use std::io::{ErrorKind, Read, Write};
 use std::net::{Ipv4Addr, Shutdown, SocketAddr, TcpStream, UdpSocket};
@@ -79,7 +80,8 @@ fn open_doors(
     let rtsp = SocketAddr::from((Ipv4Addr::LOCALHOST, listeners.rtsp_port()?));
     let http = SocketAddr::from((Ipv4Addr::LOCALHOST, listeners.http_port()?));
     let listeners = Arc::new(rt.alloc(), listeners)?;
-    let doors = RealDoors::new(rt, listeners, timeout_s, limit);
+    let start = Start::counting(&Arc::new(rt.alloc(), Starts::expect(1))?)?;
+    let doors = RealDoors::new(rt, start, listeners, timeout_s, limit);
     Ok((doors, rtsp, http))
 }
 

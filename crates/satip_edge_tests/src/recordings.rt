@@ -2,6 +2,7 @@
 
 use satip_base::{Source, Taken, Text};
 use satip_recordings::*;
+use satip_report::{Start, Starts};
 use satip_ts::Packet;
 use satip_world::{MuxStore, Pacer};
 use std::io::Write;
@@ -307,12 +308,18 @@ fn clocked(rt: HostRuntime, count: u64, step: u64) -> Result<Vec<u8>, Fail> {
     Ok(bytes)
 }
 
+// The start of a server's one job.
+fn start(rt: HostRuntime) -> Result<Start, Fail> {
+    let starts = Arc::new(rt.alloc(), Starts::expect(1))?;
+    Ok(Start::counting(&starts)?)
+}
+
 // The milliseconds that ten bursts of a recording take, with a reference each `step` ticks, and those
 // of a pause behind them, in which nothing is read.
 fn time_recording(rt: HostRuntime, word: &str, step: u64) -> Result<(u64, u64), Fail> {
     let file = scratch_file(rt, word, &clocked(rt, 640, step)?)?;
     let progress = Arc::new(rt.alloc(), Progress::new())?;
-    let mut pacer = RealPacer::following(rt, Arc::try_clone(&progress)?);
+    let mut pacer = RealPacer::following(rt, start(rt)?, Arc::try_clone(&progress)?);
     let playing = Playing {
         repeats: false,
         progress: Some(progress),
@@ -338,7 +345,7 @@ fn a_pause_follows_the_recording(rt: HostRuntime) -> Result<(), Fail> {
 
 #[test]
 fn a_pause_takes_20_milliseconds(rt: HostRuntime) -> Result<(), Fail> {
-    let millis = time_pauses(rt, &mut RealPacer::new(rt), 3)?;
+    let millis = time_pauses(rt, &mut RealPacer::new(rt, start(rt)?), 3)?;
     assert!(rt; 57 <= millis && millis <= 5_000, "{millis} ms");
     Ok(())
 }

@@ -42,7 +42,8 @@ impl fmt::Display for KitsFault {
                 let name = Shown(name);
                 write!(
                     f,
-                    "recording of mux.{mux}, {name}, can't be played: {fault}"
+                    "recording of mux.{mux}, {name}, can't be played: {fault} (see to its \
+                     permissions; a path without / at its head counts from the folder of the start)"
                 )
             }
             KitsFault::Pace => f.write_str("SATIP_PACE has no value but recording"),

@@ -5,7 +5,7 @@ ghost use Rattle.satip_kits.specs.Unused.{IsUnusedWorker, IsUnusedPump, IsUnused
 
 use crate::fault::KitsFault;
 use crate::ready::{recording_lengths, report_ready};
-use crate::shared::{Shared, pump_pacer};
+use crate::shared::Shared;
 use satip_config::Config;
 use satip_pump::{PumpKit, TickKit};
 use satip_real::{RealClock, RealDoors, RealOutlet, read_key};
@@ -37,7 +37,7 @@ fn worker_kit<R: Wait + Drop>(
     Ok(WorkerKit {
         doors: shared.doors(host, accepts)?,
         outlet: shared.outlet(rt)?,
-        pacer: RealPacer::new(host),
+        pacer: shared.worker_pacer(host)?,
         key,
     })
 }
@@ -50,7 +50,7 @@ fn pump_kit<R: Wait + Drop>(
     ensures unused { IfOk result (λ kit. IsUnusedPump kit) }
 {
     let progress = shared.progress(host.alloc())?;
-    let pacer = pump_pacer(host, &progress)?;
+    let pacer = shared.pump_pacer(host, &progress)?;
     Ok(PumpKit {
         store: shared.store(host, progress)?,
         outlet: shared.outlet(rt)?,
@@ -68,7 +68,7 @@ fn tick_kit<R: Wait + Drop>(
     Ok(TickKit {
         clock: shared.clock(host),
         outlet: shared.outlet(rt)?,
-        pacer: RealPacer::new(host),
+        pacer: shared.tick_pacer(host)?,
     })
 }
 

@@ -8,11 +8,12 @@ use satip_base::Text;
 use satip_config::Config;
 use satip_real::{ClockStart, Listeners, RealClock, RealDoors, RealOutlet, SharedSocket};
 use satip_recordings::{Playing, Progress, RealPacer, RealStore};
+use satip_report::{Start, Starts};
 use std::alloc::Global;
 use std::sync::{Arc, Wait};
 
 /// The listeners and how long a client may be silent, the UDP socket, the names of the recordings
-/// and how they are played, and the moment from which clocks count.
+/// and how they are played, the moment from which clocks count, and which jobs have begun.
 #[derive(Drop)]
 pub(crate) struct Shared {
     listeners: Arc<Listeners>,
@@ -20,7 +21,8 @@ pub(crate) struct Shared {
     socket: Arc<SharedSocket>,
     files: Arc<Vec<Text>>,
     pub(crate) settings: Settings,
-    start: ClockStart,
+    clock_start: ClockStart,
+    starts: Arc<Starts>,
 }
 
 impl Shared {
@@ -54,7 +56,8 @@ impl Shared {
             socket: Arc::new(alloc, socket)?,
             files: Arc::new(alloc, copy_all(alloc, &config.files)?)?,
             settings,
-            start: ClockStart::read(host),
+            clock_start: ClockStart::read(host),
+            starts: Arc::new(alloc, Starts::expect(job_count(config)))?,
         })
     }
 
@@ -62,8 +65,9 @@ impl Shared {
     pub(crate) fn doors(&self, host: HostRuntime, accepts: u32) -> Result<RealDoors, KitsFault>
         ensures fresh { IfOk result (λ doors. doors ≡ fresh_hall accepts false) }
     {
+        let start = Start::counting(&self.starts)?;
         let listeners = Arc::try_clone(&self.listeners)?;
-        Ok(RealDoors::new(host, listeners, self.timeout_s, accepts))
+        Ok(RealDoors::new(host, start, listeners, self.timeout_s, accepts))
     }
 
     /// An outlet at the UDP socket.
@@ -77,7 +81,7 @@ impl Shared {
     pub(crate) fn clock(&self, host: HostRuntime) -> RealClock
         ensures fresh { result ≡ fresh_dial false }
     {
-        RealClock::new(host, self.start)
+        RealClock::new(host, self.clock_start)
     }
 
     /// What the store and the pacer of a pump share, where recordings play at their own rate.
@@ -102,19 +106,42 @@ impl Shared {
         };
         Ok(RealStore::new(host, Arc::try_clone(&self.files)?, playing))
     }
+
+    /// The pacer of a worker, whose doors are its first step.
+    pub(crate) fn worker_pacer(&self, host: HostRuntime) -> Result<RealPacer, KitsFault>
+        ensures none { IfOk result (λ pacer. pacer ≡ 0) }
+    {
+        Ok(RealPacer::new(host, Start::watching(&self.starts)?))
+    }
+
+    /// The pacer of a pump, which follows a recording's clock where that is told.
+    pub(crate) fn pump_pacer(
+        &self,
+        host: HostRuntime,
+        progress: &Option<Arc<Progress>>,
+    ) -> Result<RealPacer, KitsFault>
+        ensures none { IfOk result (λ pacer. pacer ≡ 0) }
+    {
+        let start = Start::counting(&self.starts)?;
+        match progress {
+            Some(progress) => Ok(RealPacer::following(host, start, Arc::try_clone(progress)?)),
+            None => Ok(RealPacer::new(host, start)),
+        }
+    }
+
+    /// The pacer of the ticker.
+    pub(crate) fn tick_pacer(&self, host: HostRuntime) -> Result<RealPacer, KitsFault>
+        ensures none { IfOk result (λ pacer. pacer ≡ 0) }
+    {
+        Ok(RealPacer::new(host, Start::counting(&self.starts)?))
+    }
 }
 
-/// The pacer of a pump, which follows a recording's clock where that is told.
-pub(crate) fn pump_pacer(
-    host: HostRuntime,
-    progress: &Option<Arc<Progress>>,
-) -> Result<RealPacer, KitsFault>
-    ensures none { IfOk result (λ pacer. pacer ≡ 0) }
-{
-    match progress {
-        Some(progress) => Ok(RealPacer::following(host, Arc::try_clone(progress)?)),
-        None => Ok(RealPacer::new(host)),
-    }
+// A worker is a job, the pump of a front end, and the ticker.
+fn job_count(config: &Config) -> u64 {
+    (config.fronts.len() as u64)
+        .saturating_add(config.workers as u64)
+        .saturating_add(1)
 }
 
 // Copies texts.

@@ -8,7 +8,7 @@ use crate::errors::{ends_listening, lacks_descriptors};
 use crate::listeners::{Listeners, Visitor};
 use crate::silence::Silence;
 use satip_base::Peer;
-use satip_report::report_line;
+use satip_report::{Start, report_line};
 use satip_world::{ConnEnd, Door, DoorKind, Doors};
 use std::marker::Model;
 use std::sync::Arc;
@@ -30,10 +30,11 @@ const LOOKS: u32 = 64;
 /// accept(2)).
 ///
 /// A connection of which nothing can be read but its end is dropped. One that is handed back is
-/// closed.
+/// closed. Each look is a step of the worker.
 #[derive(Drop)]
 pub struct RealDoors {
     rt: HostRuntime,
+    start: Start,
     listeners: Arc<Listeners>,
     timeout_s: u32,
     limit: u32,
@@ -66,13 +67,20 @@ impl Model for RealDoors {
 impl RealDoors {
     ghost use Rattle.satip_world.specs.Halls.{fresh_hall};
 
-    /// Doors that end after `limit` connections, and never where it is 0. A client that is silent
-    /// for longer than `timeout_s` seconds is given up.
-    pub fn new(rt: HostRuntime, listeners: Arc<Listeners>, timeout_s: u32, limit: u32) -> RealDoors
+    /// Doors of a worker that end after `limit` connections, and never where it is 0. A client that
+    /// is silent for longer than `timeout_s` seconds is given up.
+    pub fn new(
+        rt: HostRuntime,
+        start: Start,
+        listeners: Arc<Listeners>,
+        timeout_s: u32,
+        limit: u32,
+    ) -> RealDoors
         ensures fresh { result ≡ fresh_hall limit false }
     {
         RealDoors {
             rt,
+            start,
             listeners,
             timeout_s,
             limit,
@@ -145,6 +153,7 @@ impl Doors for RealDoors {
     ghost by_limit = { Unit {0} };
 
     fn next(&mut self) -> Door<RealConn> {
+        self.start.step(&self.rt);
         if self.ended {
             return Door::End;
         }
@@ -164,7 +173,10 @@ impl Doors for RealDoors {
             Err(error) => {
                 report_line(
                     &self.rt,
-                    format_args!("a worker ends, its listener failed: {error}"),
+                    format_args!(
+                        "a worker ends, its listener failed: {error} (start satip anew: until then \
+                         one connection less is served at a time)"
+                    ),
                 );
                 self.faults = self.faults.saturating_add(1);
                 Door::Failed

@@ -3,6 +3,7 @@
 ghost use Rattle.std.specs.Prelude.{◌≡◌, ◌⊎◌, ◌+◌, ◌-◌, ◌<◌, ◌↔◌, max, IsNone, IfSome};
 
 use crate::progress::{Place, Progress};
+use satip_report::Start;
 use satip_world::Pacer;
 use std::marker::Model;
 use std::sync::Arc;
@@ -98,9 +99,12 @@ fn by_anchor(anchor: Option<Anchor>, place: &Place, now: Instant) -> Option<u64>
 /// and a pause lasts 20 ms, where less than two references were read, behind a break of the
 /// recording's clock, where the clocks are more than a second apart, and where nothing was read
 /// since the last pause. A pause that is due is 1 ms.
+///
+/// A pause is a step of its job.
 #[derive(Drop)]
 pub struct RealPacer {
     rt: HostRuntime,
+    start: Start,
     pauses: u64,
     follower: Option<Follower>,
 }
@@ -114,23 +118,26 @@ impl Model for RealPacer {
 }
 
 impl RealPacer {
-    /// A pacer that made no pause yet, and whose pauses last 20 ms.
-    pub fn new(rt: HostRuntime) -> RealPacer
+    /// A pacer of a job that made no pause yet, and whose pauses last 20 ms.
+    pub fn new(rt: HostRuntime, start: Start) -> RealPacer
         ensures none { result ≡ 0 }
     {
         RealPacer {
             rt,
+            start,
             pauses: 0,
             follower: None,
         }
     }
 
-    /// A pacer that made no pause yet, and follows the clock of the recording that a store plays.
-    pub fn following(rt: HostRuntime, progress: Arc<Progress>) -> RealPacer
+    /// A pacer of a job that made no pause yet, and follows the clock of the recording that a store
+    /// plays.
+    pub fn following(rt: HostRuntime, start: Start, progress: Arc<Progress>) -> RealPacer
         ensures none { result ≡ 0 }
     {
         RealPacer {
             rt,
+            start,
             pauses: 0,
             follower: Some(Follower {
                 progress,
@@ -155,6 +162,7 @@ impl Pacer for RealPacer {
     ghost pauses = { λ p. p };
 
     fn pause(&mut self) {
+        self.start.step(&self.rt);
         let micros = self.length();
         thread::sleep(&self.rt, Duration::from_micros(micros));
         self.pauses = self.pauses.saturating_add(1);

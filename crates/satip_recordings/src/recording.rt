@@ -242,7 +242,8 @@ impl fmt::Display for ReadFault<'_> {
         let (name, error) = (Shown(self.name), self.error);
         write!(
             f,
-            "recording {name} can't be read on, so it ends for its clients: {error}"
+            "recording {name} can't be read on, so it ends for its clients: {error} (look after \
+             its disk: the next client that tunes to it gets it)"
         )
     }
 }

@@ -111,7 +111,11 @@ struct StartFault<'a> {
 impl fmt::Display for StartFault<'_> {
     fn fmt<W: fmt::Write>(&self, f: &mut fmt::Formatter<W>) -> fmt::Result {
         let (name, fault) = (Shown(self.name), self.fault);
-        write!(f, "recording {name} can't be played: {fault}")
+        write!(
+            f,
+            "recording {name} can't be played: {fault} (put it back, readable for satip: the next \
+             client that tunes to it gets it)"
+        )
     }
 }
 
