@@ -9,6 +9,11 @@ use std::test::Fail;
 const TEXT: &str =
     "ver=1.0;src=1;tuner=1,240,1,15,11361.75,h,dvbs2,8psk,on,0.35,22000,23;pids=0,16,17";
 
+// A tuning to the first multiplex, and one that no multiplex has, at the second front end.
+const FIRST_MUX_AT_2: &str = "?fe=2&src=1&freq=11361.75&pol=h&msys=dvbs2&sr=22000&pids=0,16,17";
+
+const NO_MUX_AT_2: &str = "?fe=2&freq=10744&pol=h&msys=dvbs&sr=22000";
+
 #[test]
 fn a_third_tuning_waits_for_one_of_two_front_ends(rt: HostRuntime) -> Result<(), Fail> {
     let steps = [
@@ -28,17 +33,14 @@ fn a_third_tuning_waits_for_one_of_two_front_ends(rt: HostRuntime) -> Result<(),
 
 #[test]
 fn a_named_front_end_is_taken_or_refused(rt: HostRuntime) -> Result<(), Fail> {
-    let alloc = rt.alloc();
-    let first = FIRST_MUX.replace(alloc, "?", "?fe=2&")?;
-    let other = NO_MUX.replace(alloc, "?", "?fe=2&")?;
     let steps = [
-        Founds(Session::first(1), &first, 1),
-        AsksSetup(Client::First, &other),
+        Founds(Session::first(1), FIRST_MUX_AT_2, 1),
+        AsksSetup(Client::First, NO_MUX_AT_2),
         Refuses(503, "RTSP/1.0 503 Service Unavailable", "No-More:frontends"),
         Works(1, "nothing"),
         Works(2, "tune 1 1"),
     ];
-    assert!(rt; is_replayed(alloc, &steps)?);
+    assert!(rt; is_replayed(rt.alloc(), &steps)?);
     Ok(())
 }
 
