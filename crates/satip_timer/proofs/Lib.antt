@@ -1,1 +1,4 @@
+pub mod HeapLaws
+pub mod HeapSteps
 pub mod NextDue
+pub mod PlaceLaws

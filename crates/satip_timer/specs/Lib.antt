@@ -1,2 +1,3 @@
 pub mod Deadlines
-pub mod Scan
+pub mod Heaps
+pub mod Placed

@@ -1,6 +1,7 @@
-//! The keys of small timers, worked out by hand.
+//! The keys of small timers, worked out by hand, and those of a timer as of a plain list.
 
 use crate::Timer;
+use crate::plain::Plain;
 use satip_base::Want;
 use std::alloc::Global;
 
@@ -40,5 +41,28 @@ fn a_deadline_is_replaced(rt: HostRuntime) -> Result<(), Want> {
     assert_eq!(rt; timer.due(60), Some(9));
     timer.set(63, 0);
     assert_eq!(rt; timer.due(60), Some(63));
+    Ok(())
+}
+
+#[test]
+fn ten_thousand_calls_are_as_on_a_plain_list(rt: HostRuntime) -> Result<(), Want> {
+    let mut timer = Timer::make(rt.alloc())?;
+    let mut plain = Plain { dues: [None; 64] };
+    let mut draw: u32 = 2463534242;
+    for _ in 0..10000 {
+        draw = draw.wrapping_mul(1664525).wrapping_add(1013904223);
+        let key = (draw >> 26) as usize;
+        let moment = ((draw >> 12) % 128) as u64;
+        if (draw >> 8) % 3 == 0 {
+            timer.drop_key(key as u16);
+            plain.dues[key] = None;
+        } else {
+            timer.set(key as u16, moment);
+            plain.dues[key] = Some(moment);
+        }
+        for now in [moment / 2, moment, 127] {
+            assert_eq!(rt; timer.due(now), plain.due(now));
+        }
+    }
     Ok(())
 }

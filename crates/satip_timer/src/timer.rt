@@ -1,9 +1,9 @@
 //! A map from keys to moments, and the key whose moment comes first.
 
-ghost use Rattle.std.specs.Prelude.{◌≡◌, ◌<◌, ◌↔◌, ℕ, ◌+◌, List, Option, Some, None, length, slice_get, replicate, slice_set, IfOk, IfSome, IsNone};
+ghost use Rattle.std.specs.Prelude.{◌≡◌, ◌<◌, ◌↔◌, ℕ, List, Option, Some, None, length, replicate, slice_set, IfOk, IfSome, IsNone};
 ghost use Rattle.satip_timer.specs.Deadlines.{IsNextDue, NoneDue};
-ghost use Rattle.satip_timer.specs.Scan.{IsBest};
 
+use crate::heap::Heap;
 use satip_base::Want;
 use std::alloc::Global;
 use std::marker::Model;
@@ -16,23 +16,19 @@ pub const KEYS: u16 = 64;
 #[derive(Drop)]
 pub struct Timer {
     dues: Vec<Option<u64>>,
+    heap: Heap,
 }
 
 impl Model for Timer {
-    ghost use Rattle.std.specs.Prelude.{◌≡◌, ℕ, List, Option, length};
+    ghost use Rattle.std.specs.Prelude.{ℕ, List, Option};
 
     ghost Value = { List (Option ℕ) };
 
     ghost view = { λ t. t.dues.items };
 
-    ghost invariant = { λ t. length t.dues.items ≡ 64 };
-}
+    ghost use Rattle.satip_timer.specs.Placed.{Sound};
 
-/// A deadline that has passed, with its key.
-#[derive(Clone, Copy)]
-struct Due {
-    key: u16,
-    moment: u64,
+    ghost invariant = { λ t. Sound t.dues.items t.heap };
 }
 
 impl Timer {
@@ -42,7 +38,10 @@ impl Timer {
     {
         let mut dues = Vec::new(alloc);
         match dues.resize(KEYS as usize, None) {
-            Ok(()) => Ok(Timer { dues }),
+            Ok(()) => Ok(Timer {
+                dues,
+                heap: Heap::new(),
+            }),
             Err(_) => Err(Want),
         }
     }
@@ -53,7 +52,13 @@ impl Timer {
         ensures replaced { self.new ≡ slice_set self.old key (Some due) }
         ensures keys { length self.new ≡ KEYS }
     {
+        let before = self.dues[key as usize];
         self.dues[key as usize] = Some(due);
+        if before.is_none() {
+            self.heap.add(&self.dues, key);
+        } else {
+            self.heap.replace(&self.dues, key);
+        }
     }
 
     /// Takes the key's deadline away, where it has one.
@@ -62,7 +67,10 @@ impl Timer {
         ensures dropped { self.new ≡ slice_set self.old key None }
         ensures keys { length self.new ≡ KEYS }
     {
-        self.dues[key as usize] = None;
+        if self.dues[key as usize].is_some() {
+            self.dues[key as usize] = None;
+            self.heap.remove(&self.dues, key);
+        }
     }
 
     /// The key of the least deadline that is at most `now`; of equal ones the least key.
@@ -71,36 +79,11 @@ impl Timer {
         ensures next { IfSome result (IsNextDue now self.now) }
         ensures keys { length self.now ≡ KEYS }
     {
-        let mut best = None;
-        for key in 0..KEYS {
-            best = sooner(now, best, key, self.dues[key as usize]);
+        let key = self.heap.first()?;
+        let moment = self.dues[key as usize]?;
+        if moment > now {
+            return None;
         }
-        best.map(|due| due.key)
-    }
-}
-
-/// The earlier of the best deadline so far and this key's, of those that have passed.
-fn sooner(now: u64, best: Option<Due>, key: u16, due: Option<u64>) -> Option<Due>
-    ensures step { (dues : List (Option ℕ)) → IsBest now dues key best
-        → slice_get dues key ≡ Some due → IsBest now dues (key + 1) result }
-{
-    match due {
-        None => best,
-        Some(moment) => {
-            let this = Due { key, moment };
-            if moment > now {
-                return best;
-            }
-            match best {
-                None => Some(this),
-                Some(other) => {
-                    if moment < other.moment {
-                        Some(this)
-                    } else {
-                        Some(other)
-                    }
-                }
-            }
-        }
+        Some(key)
     }
 }
