@@ -1,0 +1,5 @@
+pub mod Counted
+pub mod Counting
+pub mod Ends
+pub mod Making
+pub mod Running

@@ -1,0 +1,46 @@
+//! The clients of a run.
+
+ghost use Rattle.std.specs.Prelude.{◌≡◌};
+ghost use Rattle.satip_stress.specs.Making.{first as the_first, second as the_second, draw_of};
+
+use satip_base::{Draw, Peer, SessionId};
+
+/// A client: where it asks from, and its session.
+#[derive(Clone, Copy, Debug, PartialEq, Eq)]
+pub(crate) struct Client {
+    pub(crate) peer: Peer,
+    pub(crate) session: SessionId,
+}
+
+impl Client {
+    /// The client at 10.0.0.2.
+    pub(crate) fn first() -> Client
+        ensures first { result ≡ the_first }
+    {
+        Client {
+            peer: Peer { ip: 167772162 },
+            session: SessionId { count: 1, word: 1 },
+        }
+    }
+
+    /// The client at 10.0.0.3.
+    pub(crate) fn second() -> Client
+        ensures second { result ≡ the_second }
+    {
+        Client {
+            peer: Peer { ip: 167772163 },
+            session: SessionId { count: 2, word: 2 },
+        }
+    }
+}
+
+/// The draw of a request: word and SSRC of this number, and sequence numbers from 0 on.
+pub(crate) fn draw_of_number(number: u32) -> Draw
+    ensures draw { result ≡ draw_of number }
+{
+    Draw {
+        word: number,
+        ssrc: number,
+        first: 0,
+    }
+}

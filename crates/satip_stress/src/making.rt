@@ -1,0 +1,175 @@
+//! What a run is made of: a configuration, requests and packets.
+
+ghost use Rattle.std.specs.Prelude.{◌≡◌, ◌<◌, ◌∷◌, [], Some, None, IfOk};
+ghost use Rattle.satip_stress.specs.Making.{stress_config as the_config, front_end as the_front_end, multiplex as the_multiplex, setup as the_setup, play as the_play, options as the_options, founding_query as the_founding_query, packet_of as the_packet, seed_bytes as the_seed};
+ghost use Rattle.satip_query.specs.Queries.{new_query};
+
+use crate::clients::Client;
+use satip_base::{Ports, Want};
+use satip_config::Config;
+use satip_pids::PidList;
+use satip_query::{PidsGiven, Query};
+use satip_rtsp::{Method, Request, SessionName};
+use satip_ts::Packet;
+use satip_tune::{Change, Front, Mux, Pol, System};
+use std::alloc::Global;
+
+/// The configuration of a run: one front end and one multiplex.
+pub(crate) fn stress_config(alloc: Global) -> Result<Config, Want>
+    ensures config { IfOk result (λ config. config ≡ the_config) }
+{
+    let mut fronts = Vec::new(alloc);
+    let mut muxes = Vec::new(alloc);
+    let (Ok(()), Ok(())) = (fronts.push(front_end()), muxes.push(multiplex())) else {
+        return Err(Want);
+    };
+    Ok(Config {
+        address: 167772161,
+        rtsp_port: 554,
+        http_port: 8875,
+        timeout: 60,
+        workers: 8,
+        fronts,
+        muxes,
+        files: Vec::new(alloc),
+    })
+}
+
+fn front_end() -> Front
+    ensures front { result ≡ the_front_end }
+{
+    let mut sources = [false; 256];
+    sources[1] = true;
+    Front {
+        number: 1,
+        sources,
+        systems: [true, true],
+    }
+}
+
+fn multiplex() -> Mux
+    ensures mux { result ≡ the_multiplex }
+{
+    Mux {
+        src: 1,
+        freq: 11361750,
+        pol: Pol::H,
+        msys: System::Dvbs2,
+        sr: 22000,
+    }
+}
+
+/// A SETUP of a stream, or of a new one.
+pub(crate) fn setup_request(cseq: u32, stream: Option<u16>, query: Query, port: u16) -> Request
+    requires port { port < 65535 }
+    ensures request { result ≡ the_setup cseq stream query port }
+{
+    Request {
+        cseq: Some(cseq),
+        refusal: None,
+        method: Method::Setup,
+        stream,
+        session: SessionName::Absent,
+        query,
+        ports: Some(Ports {
+            rtp: port,
+            rtcp: port + 1,
+        }),
+    }
+}
+
+/// A PLAY of stream 1.
+pub(crate) fn play_request(cseq: u32, client: Client, query: Query) -> Request
+    ensures request { result ≡ the_play cseq client query }
+{
+    Request {
+        cseq: Some(cseq),
+        refusal: None,
+        method: Method::Play,
+        stream: Some(1),
+        session: SessionName::Named(client.session),
+        query,
+        ports: None,
+    }
+}
+
+/// An OPTIONS.
+pub(crate) fn options_request(cseq: u32, client: Client) -> Request
+    ensures request { result ≡ the_options cseq client }
+{
+    Request {
+        cseq: Some(cseq),
+        refusal: None,
+        method: Method::Options,
+        stream: None,
+        session: SessionName::Named(client.session),
+        query: Query::new(),
+        ports: None,
+    }
+}
+
+/// The query of the SETUP that founds the stream.
+pub(crate) fn founding_query() -> Query
+    ensures query { result ≡ the_founding_query }
+{
+    Query {
+        change: Change {
+            fe: None,
+            src: Some(1),
+            freq: Some(11361750),
+            pol: Some(Pol::H),
+            ro: None,
+            msys: Some(System::Dvbs2),
+            mtype: None,
+            plts: None,
+            sr: Some(22000),
+            fec: None,
+        },
+        pids: PidsGiven::List(founding_pids()),
+        addpids: None,
+        delpids: None,
+    }
+}
+
+fn founding_pids() -> PidList
+    ensures pids { result ≡ 0 ∷ 16 ∷ 100 ∷ [] }
+{
+    let mut pids = PidList::new();
+    pids.push(0);
+    pids.push(16);
+    pids.push(100);
+    pids
+}
+
+/// The list of one PID.
+pub(crate) fn one_pid(pid: u8) -> PidList
+    ensures pids { result ≡ pid ∷ [] }
+{
+    let mut pids = PidList::new();
+    pids.push(pid as u16);
+    pids
+}
+
+/// A packet of a PID below 128: a payload of zeros, and no adaptation field.
+#[tactic(auto, unfolding(crate::specs::Making::packet_of))]
+pub(crate) fn packet_of(pid: u8) -> Packet
+    ensures packet { result ≡ the_packet pid }
+{
+    let mut bytes = [0; 188];
+    bytes[0] = 0x47;
+    bytes[2] = pid;
+    bytes[3] = 0x10;
+    match Packet::of(&bytes) {
+        Some(packet) => packet,
+        None => unreachable!(),
+    }
+}
+
+/// The seed of the generator: the number, low byte first, and zeros.
+pub(crate) fn seed_bytes(seed: u64) -> [u8; 32]
+    ensures seed { result ≡ the_seed seed }
+{
+    let mut bytes = [0; 32];
+    bytes[..8].copy_from_slice(&seed.to_le_bytes());
+    bytes
+}
