@@ -1,0 +1,82 @@
+//! Requests as texts, and replies to them.
+use crate::{Grant, Page, ReplyFault, accept, grant_of};
+use satip_reply::{ReplyRead, read_reply};
+use std::test::Fail;
+
+const ADDRESS: &[u8; 15] = b"127.0.0.1:18554";
+
+#[test]
+fn requests_are_these_bytes(rt: HostRuntime) -> Result<(), Fail> {
+    let mut page = Page::new(rt.alloc());
+    assert!(rt;
+        page.write_setup(ADDRESS, b"src=1&freq=12402&pids=all", 65534)
+            .is_ok()
+    );
+    let text: &[u8] =
+        b"SETUP rtsp://127.0.0.1:18554/?src=1&freq=12402&pids=all RTSP/1.0\r\nCSeq: 1\r\nTransport: RTP/AVP;unicast;client_port=65534-65535\r\n\r\n";
+    assert!(rt; page.bytes() == text);
+    assert!(rt; page.write_play(ADDRESS, 65535, b"1a2b").is_ok());
+    let text: &[u8] =
+        b"PLAY rtsp://127.0.0.1:18554/stream=65535 RTSP/1.0\r\nCSeq: 2\r\nSession: 1a2b\r\n\r\n";
+    assert!(rt; page.bytes() == text);
+    assert!(rt; page.write_options(ADDRESS, 3, b"1a2b").is_ok());
+    let text: &[u8] =
+        b"OPTIONS rtsp://127.0.0.1:18554/ RTSP/1.0\r\nCSeq: 3\r\nSession: 1a2b\r\n\r\n";
+    assert!(rt; page.bytes() == text);
+    assert!(rt; page.write_teardown(ADDRESS, 0, 4294967295, b"1a2b").is_ok());
+    let text: &[u8] =
+        b"TEARDOWN rtsp://127.0.0.1:18554/stream=0 RTSP/1.0\r\nCSeq: 4294967295\r\nSession: 1a2b\r\n\r\n";
+    assert!(rt; page.bytes() == text);
+    Ok(())
+}
+
+// What a reply to SETUP gives: the fault, or whether it is this grant.
+fn grants(text: &[u8], session: &[u8], timeout: u32, stream: u16) -> Result<bool, ReplyFault> {
+    match read_reply(text) {
+        ReplyRead::Reply(view) => match grant_of(&view) {
+            Ok(grant) => Ok(is_grant(&grant, session, timeout, stream)),
+            Err(fault) => Err(fault),
+        },
+        ReplyRead::More | ReplyRead::Bad => Ok(false),
+    }
+}
+
+fn is_grant(grant: &Grant, session: &[u8], timeout: u32, stream: u16) -> bool {
+    grant.session == session && grant.timeout == timeout && grant.stream == stream
+}
+
+// Whether a reply accepts the request of this number.
+fn accepts(text: &[u8], cseq: u32) -> Result<(), ReplyFault> {
+    match read_reply(text) {
+        ReplyRead::Reply(view) => accept(&view, cseq),
+        ReplyRead::More | ReplyRead::Bad => Err(ReplyFault::Bad),
+    }
+}
+
+#[test]
+fn a_reply_gives_a_session_and_a_stream(rt: HostRuntime) -> Result<(), Fail> {
+    let text = b"RTSP/1.0 200 OK\nCSeq: 1\nSession: a;timeout=5\ncom.ses.streamID: 17\n\n";
+    assert_eq!(rt; grants(text, b"a", 5, 17), Ok(true));
+    let text = b"RTSP/1.0 200 OK\nCSeq: 1\nSession: a\n\n";
+    assert_eq!(rt; grants(text, b"a", 60, 17), Err(ReplyFault::Bad));
+    let text = b"RTSP/1.0 200 OK\nCSeq: 1\ncom.ses.streamID: 17\n\n";
+    assert_eq!(rt; grants(text, b"a", 60, 17), Err(ReplyFault::Bad));
+    let text = b"RTSP/1.0 503 No\nCSeq: 1\n\n";
+    assert_eq!(rt; grants(text, b"a", 60, 17), Err(ReplyFault::Refused(503)));
+    Ok(())
+}
+
+#[test]
+fn a_reply_to_another_request_is_bad(rt: HostRuntime) -> Result<(), Fail> {
+    assert_eq!(rt; accepts(b"RTSP/1.0 200 OK\nCSeq: 2\n\n", 2), Ok(()));
+    assert_eq!(rt;
+        accepts(b"RTSP/1.0 454 No\nCSeq: 2\n\n", 2),
+        Err(ReplyFault::Refused(454))
+    );
+    assert_eq!(rt;
+        accepts(b"RTSP/1.0 454 No\nCSeq: 3\n\n", 2),
+        Err(ReplyFault::Bad)
+    );
+    assert_eq!(rt; accepts(b"RTSP/1.0 200 OK\n\n", 2), Err(ReplyFault::Bad));
+    Ok(())
+}
