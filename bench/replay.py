@@ -1,5 +1,5 @@
 #!/usr/bin/env python3
-"""Measures `satip replay` and `satip talk` on generated input, and prints a table.
+"""Measures `satip replay`, `satip talk` and `satip stress` on generated input, and prints a table.
 
     python3 bench/replay.py [PROGRAM [WORD..]]
 
@@ -68,9 +68,28 @@ def opening():
     return "".join(lines + [play(1 + place, stream) for place, stream in enumerate(streams)])
 
 
+def crowd(count, pid_of):
+    """Sessions with a stream each, all on the first front end, which select one PID each."""
+    lines = [setup(number, f"?{FIRST_MUX}&pids={pid_of(number)}") for number in range(1, count + 1)]
+    return "".join(lines + [play(number, number) for number in range(1, count + 1)])
+
+
+def one_selects(count):
+    """A crowd of which one session selects the packets."""
+    return crowd(count, lambda number: 100 if number == 1 else 300 + number)
+
+
+def sixteen_sets():
+    """A crowd of 64 sessions, of which four select each of the PIDs from 100 to 115."""
+    return crowd(64, lambda number: 100 + number % 16)
+
+
 def packet(front, place):
     """A packet of the front end's first tuning: the two streams of the first multiplex share it."""
-    pid = 100 if place % 2 else 200
+    return packet_of(front, 100 if place % 2 else 200, place)
+
+
+def packet_of(front, pid, place):
     head = bytes([0x47, pid >> 8, pid & 255, 0x10 | place % 16])
     return f"packet {front} 1 {(head + place.to_bytes(4, 'big') * 46).hex()}\n"
 
@@ -97,6 +116,12 @@ class Lines:
     def packet(self, place):
         return packet(1 + place % 2, place)
 
+    def one_pid(self, place):
+        return packet_of(1, 100, place)
+
+    def sixteen_pids(self, place):
+        return packet_of(1, 100 + place % 16, place)
+
     def ask(self, place):
         return f"ask {1 + place % 2}\n"
 
@@ -114,6 +139,9 @@ class Lines:
 
     def play(self, place):
         return play(1, 1, f"?pids={100 + place % 7},{200 + place % 5}")
+
+    def play_alone(self, place):
+        return play(1, 1, f"?pids=100,{200 + place % 5}")
 
     def join(self, place):
         self.made += 1
@@ -161,10 +189,10 @@ def in_turn(*kinds):
     return lambda place: kinds[place % len(kinds)]
 
 
-def script(lines, kind_at, opened=()):
+def script(lines, kind_at, opened=(), opening_lines=None):
     """So many lines behind the opening and these, each of the kind that its place has."""
     made = Lines()
-    parts = [opening()] + [made.next(kind) for kind in opened]
+    parts = [opening_lines or opening()] + [made.next(kind) for kind in opened]
     parts += [made.next(kind_at(place)) for place in range(lines)]
     text = "".join(parts).encode()
     assert len(text) <= INPUT_LIMIT, len(text)
@@ -190,6 +218,15 @@ ROWS = [
     ("replay, pull of an empty queue", 300_000, in_turn("pull"), ("get",)),
     ("replay, close of a session that is gone", 300_000, in_turn("close"), ()),
 ]
+
+# the same where more sessions live than an event touches: name, how many lines, what they are, and the opening
+CROWDS = [
+    (f"replay, {name}, {count} sessions", 50_000, in_turn(kind), one_selects(count))
+    for name, kind in (("packet that one selects", "one_pid"), ("OPTIONS", "options"), ("PLAY with two PIDs", "play_alone"))
+    for count in (1, 8, 64)
+] + [("replay, packet that four select, 64 sessions", 50_000, in_turn("sixteen_pids"), sixteen_sets())]
+
+STRESS = 1_000_000
 
 
 def run(words, folder, output):
@@ -243,6 +280,19 @@ def measure(name, words, text, short, folder, unit):
           f"{stored:.2f} s | {each} | {peak / 1024:.1f} MB |", flush=True)
 
 
+def measure_stress(name, program, folder):
+    """The row of made events, which have no input."""
+    words = [program, "stress", "7"]
+    open(os.path.join(folder, "in"), "wb").close()
+    used, peak = min(run([*words, str(STRESS)], folder, os.devnull) for _ in range(RUNS))
+    each = "-"
+    if shutil.which("valgrind"):
+        many, few = 40_000, 10_000
+        counted = instructions([*words, str(many)], b"", folder) - instructions([*words, str(few)], b"", folder)
+        each = f"{counted / (many - few):,.0f}"
+    print(f"| {name}: {STRESS:,} | {used:.2f} s | - | {each} | {peak / 1024:.1f} MB |", flush=True)
+
+
 def options(count):
     return b"".join(b"OPTIONS * RTSP/1.0\r\nCSeq: %d\r\n\r\n" % number for number in range(1, count + 1))
 
@@ -258,9 +308,16 @@ def main():
             if not wanted or any(word in name for word in wanted):
                 short = tuple(script(count, kind_at, opened) for count in (1_000, 4_000))
                 measure(name, [program, "replay", "bench.toml"], script(lines, kind_at, opened), short, folder, b"\n")
+        for name, lines, kind_at, opened in CROWDS:
+            if not wanted or any(word in name for word in wanted):
+                short = tuple(script(count, kind_at, (), opened) for count in (1_000, 4_000))
+                measure(name, [program, "replay", "bench.toml"], script(lines, kind_at, (), opened), short, folder, b"\n")
         name = "talk, OPTIONS"
         if not wanted or any(word in name for word in wanted):
             measure(name, [program, "talk"], options(200_000), (options(1_000), options(3_000)), folder, b"OPTIONS")
+        name = "stress, made events"
+        if not wanted or any(word in name for word in wanted):
+            measure_stress(name, program, folder)
 
 
 if __name__ == "__main__":
