@@ -4,3 +4,6 @@ pub mod Order
 pub mod Sends
 pub mod RoomLemmas
 pub mod SessionLemmas
+pub mod BitLemmas
+pub mod RowLemmas
+pub mod Passing

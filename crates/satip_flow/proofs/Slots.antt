@@ -11,7 +11,7 @@ use Rattle.satip_flow.specs.Subscription.{Subscription, has_slot}
 use Rattle.satip_flow.specs.Standing.{IsNowhere, StandsAt}
 use Rattle.satip_flow.specs.Subscriptions.{of_slot, change_slot, without, comes_before, put, SlotsApart}
 
-or_false : (a b : Bool) → (a || b) ≡ false → (a ≡ false) × (b ≡ false)
+pub or_false : (a b : Bool) → (a || b) ≡ false → (a ≡ false) × (b ≡ false)
 or_false true b h = absurd (cc)
 or_false false b h = (refl, h)
 
@@ -201,7 +201,7 @@ slot_below (x ∷ xs) (below, apart, rest) zero d h = below
 slot_below (x ∷ xs) (below, apart, rest) (suc i) d h = slot_below xs rest i d (omega (arith, h))
 
 -- an element within a list is read whatever stands for the others
-read_same : (xs : List Subscription) (i : ℕ) (d e : Subscription) → i < length xs → get_or xs i d ≡ get_or xs i e
+pub read_same : (xs : List Subscription) (i : ℕ) (d e : Subscription) → i < length xs → get_or xs i d ≡ get_or xs i e
 read_same [] i d e h = absurd (omega (arith, h))
 read_same (x ∷ xs) zero d e h = refl
 read_same (x ∷ xs) (suc i) d e h = read_same xs i d e (omega (arith, h))

@@ -5,3 +5,5 @@ pub mod Queues
 pub mod Rooms
 pub mod Standing
 pub mod Sessions
+pub mod Bits
+pub mod Rows

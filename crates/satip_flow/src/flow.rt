@@ -5,14 +5,19 @@ ghost use Rattle.std.specs.Int.{bit_at};
 ghost use Rattle.circular_buffer.specs.Buffer.{buffer};
 ghost use Rattle.satip_rtp.specs.Sending.{SendsAll};
 ghost use Rattle.satip_rtp.specs.Packing.{packing};
-ghost use Rattle.satip_flow.specs.Subscription.{sender_state, pulled_bytes, WrotePulled, subscription, Subscription, ToAddress, ToQueue, has_slot, given, given_datagrams, flushed, flush_datagrams, holds, readdressed, pulled, changed, meets_full, packing_of, queue_of};
+ghost use Rattle.satip_flow.specs.Subscription.{sender_state, pulled_bytes, WrotePulled, subscription, Subscription, ToAddress, ToQueue, has_slot, given, given_datagrams, flushed, flush_datagrams, holds, readdressed, pulled, changed, meets_full, packing_of, queue_of, selects};
+ghost use Rattle.satip_flow.specs.Rows.{AllShown};
 ghost use Rattle.satip_flow.specs.Standing.{IsNowhere, StandsAt, HoldsOfAt, ChangesAt};
 ghost use Rattle.satip_flow.specs.Queues.{has_queue};
 ghost use Rattle.satip_flow.specs.Subscriptions.{put, comes_before, change_slot, without, feed_of_slot, packing_of_slot, queue_of_slot, holds_any, flushed_datagrams, is_overrun, IsFrontOrNone, SlotsApart};
 
+use crate::bits::next_bit;
 use crate::place::{Place, SenderState};
+use crate::places::{note_places, places_of};
+use crate::rows::{make_rows, mark, slots_of, unmark};
 use crate::sink::Queue;
 use crate::subscriber::Subscriber;
+use satip_base::limits::{QUEUED, SESSIONS};
 use satip_base::{Address, Out, Want};
 use satip_pids::PidSet;
 use satip_rtp::Packer;
@@ -20,16 +25,15 @@ use satip_ts::Packet;
 use std::alloc::Global;
 use std::marker::Model;
 
-const SUBSCRIBERS: usize = 64;
-
-const QUEUE_PACKETS: usize = 4096;
-
 /// The sessions that get packets, in order of their stream's number and then of their id's count.
-/// All memory is taken when it is made: room for 64 subscribers, and 64 queues of 4096 packets.
+/// All memory is taken when it is made: room for 64 subscribers, 64 queues of 4096 packets, and
+/// the words that tell who may select a packet.
 #[derive(Drop)]
 pub struct Flow {
     subscribers: Vec<Subscriber>,
     spare_queues: Vec<Queue>,
+    rows: Vec<u64>,
+    places: [u8; SESSIONS],
 }
 
 impl Model for Flow {
@@ -50,15 +54,18 @@ impl Flow {
     pub fn make(alloc: Global) -> Result<Flow, Want>
         ensures ok { IfOk result (λ flow. flow ≡ []) }
     {
-        let (Ok(subscribers), Ok(spare_queues)) = (
-            Vec::with_capacity(alloc, SUBSCRIBERS),
+        let (Ok(subscribers), Ok(spare_queues), Ok(rows)) = (
+            Vec::with_capacity(alloc, SESSIONS),
             make_queues(alloc),
+            make_rows(alloc),
         ) else {
             return Err(Want);
         };
         Ok(Flow {
             subscribers,
             spare_queues,
+            rows,
+            places: [0; SESSIONS],
         })
     }
 
@@ -80,6 +87,8 @@ impl Flow {
     {
         let subscriber = Subscriber::packed(place, front, pids, to, Packer::new(ssrc, first));
         insert_ordered(&mut self.subscribers, subscriber);
+        mark(&mut self.rows, place.slot, front, pids);
+        note_places(&mut self.places, &self.subscribers);
     }
 
     /// A session over HTTP begins, with an empty queue.
@@ -94,6 +103,8 @@ impl Flow {
             &mut self.subscribers,
             Subscriber::queued(place, front, pids, queue),
         );
+        mark(&mut self.rows, place.slot, front, pids);
+        note_places(&mut self.places, &self.subscribers);
     }
 
     /// Each subscriber of this stream has this front and these PIDs from now on. What is held or
@@ -102,7 +113,7 @@ impl Flow {
         requires front { IsFrontOrNone front }
         ensures changed { self.new ≡ map (changed stream front pids.now) self.old }
     {
-        change_all(&mut self.subscribers, stream, front, pids);
+        change_all(&mut self.subscribers, &mut self.rows, stream, front, pids);
     }
 
     /// The slot's subscriber sends its datagrams to this address from now on. False exactly where
@@ -130,7 +141,9 @@ impl Flow {
         ensures bytes_spare { out.old.datagram_spare ≤ out.new.datagram_spare + 84992 }
         ensures count_spare { out.old.count_spare ≤ out.new.count_spare + 64 }
     {
-        give_all(&mut self.subscribers, front, packet, clock, out)
+        let slots = slots_of(&self.rows, front, packet.pid());
+        let places = places_of(slots, &self.places);
+        give_all(&mut self.subscribers, places, front, packet, clock, out)
     }
 
     /// What the packer of the slot's subscriber holds leaves. False exactly where the slot has no
@@ -185,7 +198,20 @@ impl Flow {
         let Some(at) = place_of(&self.subscribers, slot) else {
             return false;
         };
+        unmark(&mut self.rows, slot, self.subscribers[at].front());
         give_back(&mut self.spare_queues, self.subscribers.remove(at));
+        note_places(&mut self.places, &self.subscribers);
+        true
+    }
+
+    /// Whether no slot is marked.
+    #[cfg(test)]
+    pub(crate) fn is_unmarked(&self) -> bool {
+        for row in &self.rows {
+            if *row != 0 {
+                return false;
+            }
+        }
         true
     }
 }
@@ -196,11 +222,11 @@ fn make_queues(alloc: Global) -> Result<Vec<Queue>, Want>
     ensures count { IfOk result (λ queues. vec_len queues ≡ 64) }
     ensures room { IfOk result (λ queues. 64 ≤ vec_capacity queues) }
 {
-    let Ok(mut queues) = Vec::with_capacity(alloc, SUBSCRIBERS) else {
+    let Ok(mut queues) = Vec::with_capacity(alloc, SESSIONS) else {
         return Err(Want);
     };
-    for _made in 0..SUBSCRIBERS {
-        let Ok(queue) = Queue::with_capacity(alloc, QUEUE_PACKETS) else {
+    for _made in 0..SESSIONS {
+        let Ok(queue) = Queue::with_capacity(alloc, QUEUED) else {
             return Err(Want);
         };
         queues.push_reserved(queue);
@@ -221,8 +247,8 @@ fn insert_ordered(subscribers: &mut Vec<Subscriber>, subscriber: Subscriber)
     subscribers.insert(at, subscriber).unwrap();
 }
 
-// Where a subscriber of this place goes.
-fn place_for(subscribers: &[Subscriber], place: Place) -> usize
+/// Where a subscriber of this place goes.
+pub(crate) fn place_for(subscribers: &[Subscriber], place: Place) -> usize
     ensures within { result ≤ length subscribers.now }
     ensures ordered { (s : Subscription) → s.place ≡ place
         → put s subscribers.now ≡ insert subscribers.now result s }
@@ -256,29 +282,53 @@ fn place_of(subscribers: &[Subscriber], slot: u16) -> Option<usize>
     None
 }
 
-fn change_all(subscribers: &mut Vec<Subscriber>, stream: u16, front: Option<u16>, pids: &PidSet)
+fn change_all(
+    subscribers: &mut Vec<Subscriber>,
+    rows: &mut Vec<u64>,
+    stream: u16,
+    front: Option<u16>,
+    pids: &PidSet,
+)
+    requires apart { SlotsApart subscribers.old.items }
+    requires shown { AllShown rows.old.items subscribers.old.items }
+    requires count { vec_len rows.old ≡ 2048 }
+    requires front { IsFrontOrNone front }
     ensures changed { subscribers.new.items
         ≡ map (changed stream front pids.now) subscribers.old.items }
     ensures capacity { vec_capacity subscribers.new ≡ vec_capacity subscribers.old }
+    ensures shown { AllShown rows.new.items subscribers.new.items }
+    ensures count { vec_len rows.new ≡ 2048 }
 {
     for at in 0..subscribers.len() {
-        change_at(subscribers, at, stream, front, pids);
+        change_at(subscribers, rows, at, stream, front, pids);
     }
 }
 
 fn change_at(
     subscribers: &mut Vec<Subscriber>,
+    rows: &mut Vec<u64>,
     at: usize,
     stream: u16,
     front: Option<u16>,
     pids: &PidSet,
 )
     requires within { at < vec_len subscribers.old }
+    requires apart { SlotsApart subscribers.old.items }
+    requires shown { AllShown rows.old.items subscribers.old.items }
+    requires count { vec_len rows.old ≡ 2048 }
+    requires front { IsFrontOrNone front }
     ensures changed { ChangesAt subscribers.old.items at
         (changed stream front pids.now) subscribers.new.items }
     ensures capacity { vec_capacity subscribers.new ≡ vec_capacity subscribers.old }
+    ensures shown { AllShown rows.new.items subscribers.new.items }
+    ensures count { vec_len rows.new ≡ 2048 }
 {
-    subscribers[at].change(stream, front, pids);
+    let place = subscribers[at].place();
+    if place.stream == stream {
+        unmark(rows, place.slot, subscribers[at].front());
+        subscribers[at].change(stream, front, pids);
+        mark(rows, place.slot, front, pids);
+    }
 }
 
 fn readdress_at(subscribers: &mut Vec<Subscriber>, at: usize, to: Address) -> bool
@@ -318,15 +368,20 @@ fn pull_at(subscribers: &mut Vec<Subscriber>, at: usize, out: &mut Out) -> Optio
     subscribers[at].pull(out)
 }
 
-// Gives a packet to each subscriber, and marks the slots of those whose full queue it met.
+// Gives a packet to each subscriber that selects it, all of which are among these places, and marks
+// the slots of those whose full queue it met.
 fn give_all(
     subscribers: &mut Vec<Subscriber>,
+    places: u64,
     front: u16,
     packet: &Packet,
     clock: u64,
     out: &mut Out,
 ) -> u64
     requires apart { SlotsApart subscribers.old.items }
+    requires selected { (at : ℕ) → at < length subscribers.old.items
+        → HoldsOfAt subscribers.old.items at (λ s. selects front packet.now s ≡ true
+        → bit_at places at ≡ 1) }
     requires bytes { 84992 ≤ out.old.datagram_spare }
     requires count { 64 ≤ out.old.count_spare }
     ensures given { subscribers.new.items ≡ map (given front packet.now) subscribers.old.items }
@@ -340,8 +395,10 @@ fn give_all(
     ensures count_spare { out.old.count_spare ≤ out.new.count_spare + 64 }
 {
     let mut overrun = 0;
-    for at in 0..subscribers.len() {
+    let mut at = next_bit(places, 0);
+    while at < subscribers.len() {
         overrun |= give_at(subscribers, at, front, packet, clock, out);
+        at = next_bit(places, at + 1);
     }
     overrun
 }

@@ -2,9 +2,14 @@
 //! has.
 #![tactic(auto)]
 
+mod bits;
 mod flow;
 mod laws;
 mod place;
+mod places;
+#[cfg(test)]
+mod plain;
+mod rows;
 mod sink;
 mod subscriber;
 #[cfg(test)]

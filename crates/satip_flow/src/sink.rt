@@ -8,6 +8,7 @@ ghost use Rattle.satip_flow.specs.Sinks.{feed_of, IsSink};
 ghost use Rattle.satip_flow.specs.Subscription.{pulled_bytes, WrotePulled, is_full, fed, fed_datagrams, flushed_feed, flush_datagrams, holds, pulled_feed, queue_of};
 
 use circular_buffer::HeapCircularBuffer;
+use satip_base::limits::{PACKET, PULLED};
 use satip_base::{Address, Out};
 use satip_rtp::Packer;
 use satip_ts::Packet;
@@ -84,7 +85,7 @@ fn pull_queue(queue: &mut Queue, out: &mut Out) -> usize
     ensures bytes { result ≡ 188 * length (take 64 queue.old.items) }
 {
     let mut bytes = 0;
-    for _pulled in 0..64usize {
+    for _pulled in 0..PULLED {
         bytes += pull_packet(queue, out);
     }
     bytes
@@ -101,7 +102,7 @@ fn pull_packet(queue: &mut Queue, out: &mut Out) -> usize
     match queue.pop_front() {
         Some(packet) => {
             out.write(packet.bytes());
-            188
+            PACKET
         }
         None => 0,
     }

@@ -77,6 +77,12 @@ impl Subscriber {
         self.place
     }
 
+    pub(crate) fn front(&self) -> Option<u16>
+        ensures front { result ≡ self.now.front }
+    {
+        self.front
+    }
+
     /// Whether a packet of a front is for this subscriber.
     pub(crate) fn selects(&self, front: u16, packet: &Packet) -> bool
         ensures selected { result ≡ selects front packet.now self.now }

@@ -2,10 +2,12 @@ use Rattle.std.proofs.Common.{◌≡◌, true, false, cond, get_or, sym, ap, sub
 use Rattle.std.proofs.lemmas.List.Sums.{sum_by-remove, get_or-le-sum_by}
 use Rattle.std.specs.List.{list_any, count_by}
 use Rattle.satip_flow.specs.Subscription.{has_slot}
-use Rattle.satip_flow.specs.Subscriptions.{without, SlotsApart}
+use Rattle.satip_flow.specs.Subscriptions.{IsFrontOrNone, without, SlotsApart}
+use Rattle.satip_flow.specs.Rows.{AllShown, IsPlaced}
 use Rattle.satip_flow.specs.Queues.{has_queue}
 use Rattle.satip_flow.proofs.RoomLemmas.{mark}
 use Rattle.satip_flow.proofs.Slots.{apart-without}
+use Rattle.satip_flow.proofs.RowLemmas.{present_below, shown_at, shown_without}
 use Rattle.satip_flow.proofs.flow.Flow.end.Goals as goal
 
 pub returns-in_default-clause-found : goal.returns-in_default-clause-found
@@ -17,6 +19,24 @@ pub returns-in_default-clause-gone : goal.returns-in_default-clause-gone
 returns-in_default-clause-gone c =
     let none = rw c.deref.ensures.value at c.in_default.ensures.none in
     subst (λ xs. xs ≡ without c.args.slot xs) c.self.view_is (sym none.others)
+
+pub unmark-requires-clause-slot : goal.unmark-requires-clause-slot
+unmark-requires-clause-slot c =
+    let stands = rw c.deref.ensures.value at c.in-Some.ensures.found in
+    present_below c.args.slot c.self.inside.subscribers.items c.self.invariant.apart stands.present
+
+pub unmark-requires-clause-front : goal.unmark-requires-clause-front
+unmark-requires-clause-front c =
+    let stands = rw c.deref.ensures.value at c.in-Some.ensures.found in
+    let one = c.index.result.now in
+    let shown = shown_at c.self.inside.rows.items c.self.inside.subscribers.items c.in-Some.at one c.self.invariant.shown stands.within in
+    subst (λ front. IsFrontOrNone front) (sym (c.front.ensures.front ∙ ap (λ s. s.front) c.index.ensures)) shown.front
+
+pub note_places-requires-clause-apart : goal.note_places-requires-clause-apart
+note_places-requires-clause-apart c =
+    let stands = rw c.deref.ensures.value at c.in-Some.ensures.found in
+    let xs = c.self.inside.subscribers.items in
+    subst (λ ys. SlotsApart ys) (sym (c.deref-2.ensures.value ∙ c.remove.ensures.items ∙ sym stands.others)) (apart-without c.args.slot xs c.self.invariant.apart)
 
 -- there is room for the queue of the one that goes
 pub give_back-requires-clause-room : goal.give_back-requires-clause-room
@@ -55,4 +75,9 @@ invariant_of-self c =
       queue_room = omega (arith, sound.queue_room, c.give_back.ensures.capacity);
       queues = c.give_back.ensures.queues;
       all_queues = omega (arith, sound.all_queues, c.give_back.ensures.count, left, same, count);
+      row_count = c.unmark.ensures.count;
+      place_count = c.note_places.ensures.count;
+      shown = subst (λ ys. AllShown c.unmark.new.rows.items ys) (sym (items ∙ sym stands.others))
+          (shown_without c.args.slot c.self.inside.rows.items c.unmark.new.rows.items xs c.unmark.ensures.others sound.apart sound.shown);
+      placed = subst (λ ys. IsPlaced c.note_places.new.places ys) c.deref-2.ensures.value c.note_places.ensures.placed;
     }

@@ -1,9 +1,9 @@
 use Rattle.std.proofs.Common.{◌≡◌, false, cond, option_map, refl, sym, ap, subst, ◌∙◌}
 use Rattle.satip_rtp.specs.Sending.{SendsAll}
-use Rattle.satip_flow.specs.Subscription.{has_slot, flushed}
+use Rattle.satip_flow.specs.Subscription.{has_slot, flushed, flushed_feed}
 use Rattle.satip_flow.specs.Subscriptions.{change_slot, feed_of_slot, holds_any, flushed_datagrams}
 use Rattle.satip_flow.proofs.Sends.{nothing_sent}
-use Rattle.satip_flow.proofs.RoomLemmas.{someone, sound_changed, keeps_some, flushed_keeps}
+use Rattle.satip_flow.proofs.RoomLemmas.{someone, sound_kept, feed_shown, some_shown, keeps_some, flushed_keeps}
 use Rattle.satip_flow.proofs.flow.Flow.flush.Goals as goal
 
 pub returns-in_default-clause-held : goal.returns-in_default-clause-held
@@ -46,8 +46,9 @@ returns-clause-sent c =
 pub invariant_of-self : goal.invariant_of-self
 invariant_of-self c =
     let stands = rw c.deref.ensures.value at c.in-Some.ensures.found in
-    sound_changed c.self.inside (record { subscribers = c.flush_at.new.subscribers; spare_queues = c.self.inside.spare_queues })
+    sound_kept c.self.inside (record { subscribers = c.flush_at.new.subscribers; spare_queues = c.self.inside.spare_queues; rows = c.self.inside.rows; places = c.self.inside.places })
     (λ s. cond (has_slot c.args.slot s) (flushed s) s)
     (keeps_some (has_slot c.args.slot) flushed flushed_keeps)
+    (some_shown (has_slot c.args.slot) flushed (feed_shown (λ s. flushed_feed s.feed)))
     (c.flush_at.ensures.changed someone ∙ sym (stands.changed flushed someone))
-    c.flush_at.ensures.capacity refl c.self.invariant
+    c.flush_at.ensures.capacity refl refl refl c.self.invariant

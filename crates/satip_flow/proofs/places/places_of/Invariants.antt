@@ -1,0 +1,12 @@
+use Rattle.std.proofs.Common.{◌-◌, ◌≤◌}
+use Rattle.satip_flow.proofs.RowLemmas.{FoundTo}
+use Rattle.satip_flow.proofs.places.places_of.Given as goal
+
+abbrev pub invariant-loop-slot : goal.invariant-loop-slot
+invariant-loop-slot l = record {
+  within : l.slot ≤ 64;
+  found : FoundTo l.slot l.slots l.places l.marked;
+}
+
+abbrev pub decreases-loop-slot : goal.decreases-loop-slot
+decreases-loop-slot l = 64 - l.slot
