@@ -1,10 +1,10 @@
 -- Subscribers stay marked where they select, when another slot is marked anew.
-use Rattle.std.proofs.Common.{ℕ, ◌≡◌, ◌≢◌, ◌+◌, ◌-◌, ◌*◌, ◌/◌, ◌%◌, ◌<◌, ◌≤◌, zero, suc, Bool, true, false, cond, not, eqb, ◌&&◌, ◌||◌, List, [], ◌∷◌, length, map, set, get_or, bit_or, w64, ◌^◌, inl, inr, Option, Some, None, refl, sym, ap, subst, ◌∙◌, arith}
-use Rattle.std.proofs.lemmas.Bool.{false≢true, cases_eq, cases_lt, eq-eqb, ne_eqb}
+use Rattle.std.proofs.Common.{ℕ, ◌≡◌, ◌≢◌, ◌+◌, ◌*◌, ◌/◌, ◌%◌, ◌<◌, ◌≤◌, zero, suc, Bool, true, false, cond, not, eqb, ◌&&◌, ◌||◌, List, [], ◌∷◌, length, map, set, get_or, bit_or, w64, ◌^◌, inl, inr, Option, refl, sym, ap, subst, ◌∙◌, arith}
+use Rattle.std.proofs.lemmas.Bool.{false≢true, cases_eq, cases_lt, eq-eqb}
 use Rattle.std.proofs.lemmas.Bool.Decides.{nat_tests}
 use Rattle.std.proofs.lemmas.Grind.{get_or-set_at}
-use Rattle.std.proofs.lemmas.List.{length-map, get_or_past, get_or-set_other, set-get_or}
-use Rattle.std.proofs.lemmas.Nat.Bits.{bit_at-zero, bit_at_set_same, bit_at_set_other}
+use Rattle.std.proofs.lemmas.List.{length-map, get_or-set_other, set-get_or}
+use Rattle.std.proofs.lemmas.Nat.Bits.{bit_at_set_same, bit_at_set_other}
 use Rattle.std.specs.Int.{bit_at}
 use Rattle.std.specs.List.{list_any}
 use Rattle.satip_ts.specs.Packet.{pid_of}
@@ -13,19 +13,9 @@ use Rattle.satip_flow.specs.declared.place.Place.{Place}
 use Rattle.satip_flow.specs.Subscription.{Subscription, Feed, subscription, has_slot, is_at, is_of, selects, changed}
 use Rattle.satip_flow.specs.Subscriptions.{SlotsApart, IsFrontOrNone, comes_before, put, without}
 use Rattle.satip_flow.specs.Bits.{IsNextBit}
+use Rattle.satip_flow.specs.Standing.{IsNowhere}
 use Rattle.satip_flow.specs.Rows.{marks, IsMarked, KeepsOthers, IsShown, AllShown, IsPlaced}
-use Rattle.satip_flow.proofs.Slots.{or_false, read_same, slot_below, at_most_64}
-
--- the word of a front end by its number
-pub marks_at : (rows : List ℕ) (front pid : ℕ) → 1 ≤ front → marks rows front pid ≡ get_or rows (128 * (front - 1) + pid / 64) 0
-marks_at rows zero pid h = absurd (omega (arith, h))
-marks_at rows (suc front) pid h =
-    let less : front ≡ suc front - 1 = omega arith in
-    ap (λ n. get_or rows (128 * n + pid / 64) 0) less
-
-pub marks_none : (rows : List ℕ) (front pid : ℕ) → length rows ≡ 2048 → 16 < front → marks rows front pid ≡ 0
-marks_none rows zero pid size h = refl
-marks_none rows (suc front) pid size h = get_or_past rows (128 * front + pid / 64) 0 (omega (arith, size, h))
+use Rattle.satip_flow.proofs.Slots.{or_false, slot_is, read_same, slot_below, at_most_64, nowhere}
 
 -- two changes of one slot are a change of it
 pub keeps_both : (slot : ℕ) (a b c : List ℕ) → KeepsOthers slot a b → KeepsOthers slot b c → KeepsOthers slot a c
@@ -185,42 +175,10 @@ present_below slot (x ∷ xs) (below, apart, rest) present = each (has_slot slot
     each true e later h = grind (arith, nat_tests, below, e)
     each false e later h = later h
 
--- one word more is written
-pub keeps_set : (slot : ℕ) (rows : List ℕ) (n word : ℕ) → n < length rows
-    → ((other : ℕ) → other < 64 → other ≢ slot → bit_at word other ≡ bit_at (get_or rows n 0) other) → KeepsOthers slot rows (set rows n word)
-keeps_set slot rows n word within same = λ at other below differs.
-    elim (cases_eq at n) [
-      | inl e ↦ ap (λ w. bit_at w other) (get_or-set_at rows n at word 0 e within) ∙ same other below differs ∙ ap (λ i. bit_at (get_or rows i 0) other) (sym e)
-      | inr apart ↦ ap (λ w. bit_at w other) (get_or-set_other rows n at word 0 apart)
-    ]
-
 -- the first words show which PIDs a slot selects
 abbrev pub MarkedTo : ℕ → List ℕ → ℕ → ℕ → Pids → Type 0
 MarkedTo n rows start slot pids =
     (pid : ℕ) → pid / 64 < n → pid < 8192 → has_pid pids pid ≡ true → bit_at (get_or rows (start + pid / 64) 0) slot ≡ 1
-
-some_bit : (word i : ℕ) → bit_at word i ≡ 1 → word ≡ 0 → ⊥
-some_bit word i one zeros =
-    let none : bit_at word i ≡ 0 = ap (λ w. bit_at w i) zeros ∙ bit_at-zero i in
-    absurd (omega (arith, one, none))
-
-pub marked_more : (n : ℕ) (rows : List ℕ) (start slot : ℕ) (pids : Pids) (picked word : ℕ) → start + n < length rows
-    → ((i : ℕ) → i < 64 → bit_at picked i ≡ cond (has_pid pids (64 * n + i)) 1 0) → bit_at word slot ≡ cond (not (eqb picked 0)) 1 0
-    → MarkedTo n rows start slot pids → MarkedTo (n + 1) (set rows (start + n) word) start slot pids
-marked_more n rows start slot pids picked word within bits bit so_far = λ pid lt below has.
-    elim (cases_eq (pid / 64) n) [
-      | inl e ↦
-          let place : start + pid / 64 ≡ start + n = ap (λ i. start + i) e in
-          let low : pid % 64 < 64 = omega arith in
-          let whole : 64 * n + pid % 64 ≡ pid = omega (arith, e) in
-          let one : bit_at picked (pid % 64) ≡ 1 = bits (pid % 64) low ∙ ap (λ m. cond (has_pid pids m) 1 0) whole ∙ ap (λ t. cond t 1 0) has in
-          let some : eqb picked 0 ≡ false = ne_eqb picked 0 (some_bit picked (pid % 64) one) in
-          ap (λ w. bit_at w slot) (get_or-set_at rows (start + n) (start + pid / 64) word 0 place within) ∙ bit ∙ ap (λ t. cond (not t) 1 0) some
-      | inr apart ↦
-          let before : pid / 64 < n = omega (arith, lt, apart) in
-          let other : start + pid / 64 ≢ start + n = λ same. absurd (omega (arith, same, before)) in
-          ap (λ w. bit_at w slot) (get_or-set_other rows (start + n) (start + pid / 64) word 0 other) ∙ so_far pid before below has
-    ]
 
 -- the first subscribers' places are noted
 abbrev pub NotedTo : ℕ → List ℕ → List Subscription → Type 0
@@ -280,15 +238,30 @@ found_more n next slots places found is so_far = λ slot lt one.
           ]
     ]
 
--- a front end's words mark what a subscriber there selects
-pub marked_front : (rows : List ℕ) (start slot front : ℕ) (pids : Pids) → 1 ≤ front → start ≡ 128 * (front - 1)
-    → ((pid : ℕ) → pid < 8192 → has_pid pids pid ≡ true → bit_at (get_or rows (start + pid / 64) 0) slot ≡ 1) → IsMarked rows slot (Some front) pids
-marked_front rows start slot front pids some is marked = λ other pid at below has.
-    let same : other ≡ front = grind (arith, nat_tests, at) in
-    ap (λ n. bit_at (marks rows n pid) slot) same
-    ∙ ap (λ w. bit_at w slot) (marks_at rows front pid some)
-    ∙ ap (λ n. bit_at (get_or rows (n + pid / 64) 0) slot) (sym is)
-    ∙ marked pid below has
+-- nobody has a slot that is no place's
+absent_unless : (slot : ℕ) (xs : List Subscription) → ((i : ℕ) (d : Subscription) → i < length xs → (get_or xs i d).place.slot ≡ slot → ⊥)
+    → list_any (has_slot slot) xs ≡ false
+absent_unless slot [] none = refl
+absent_unless slot (x ∷ xs) none = each (has_slot slot x) refl (absent_unless slot xs (λ i d h same. none (suc i) d (omega (arith, h)) same))
+  where
+    each : (t : Bool) → has_slot slot x ≡ t → list_any (has_slot slot) xs ≡ false → (t || list_any (has_slot slot) xs) ≡ false
+    each true e rest = absurd (none zero x (omega arith) (slot_is slot x e))
+    each false e rest = rest
 
-pub marked_nowhere : (rows : List ℕ) (slot : ℕ) (pids : Pids) → IsMarked rows slot None pids
-marked_nowhere rows slot pids = λ front pid at below has. absurd (false≢true at)
+pub nowhere_past : (slot : ℕ) (xs : List Subscription) → SlotsApart xs → 64 ≤ slot → IsNowhere slot xs
+nowhere_past slot xs apart past =
+    nowhere slot xs (absent_unless slot xs (λ i d h same. absurd (omega (arith, slot_below xs apart i d h, same, past))))
+
+pub nowhere_behind : (slot : ℕ) (places : List ℕ) (xs : List Subscription) → IsPlaced places xs → length xs ≤ get_or places slot 0 → IsNowhere slot xs
+nowhere_behind slot places xs placed behind =
+    nowhere slot xs (absent_unless slot xs (λ i d h same.
+    let at : get_or places slot 0 ≡ i = ap (λ n. get_or places n 0) (sym same) ∙ placed i d h in
+    absurd (omega (arith, at, h, behind))))
+
+pub nowhere_other : (slot : ℕ) (places : List ℕ) (xs : List Subscription) (one : Subscription) → IsPlaced places xs → get_or places slot 0 < length xs
+    → one ≡ get_or xs (get_or places slot 0) one → one.place.slot ≢ slot → IsNowhere slot xs
+nowhere_other slot places xs one placed within is other =
+    nowhere slot xs (absent_unless slot xs (λ i d h same.
+    let at : get_or places slot 0 ≡ i = ap (λ n. get_or places n 0) (sym same) ∙ placed i d h in
+    let one_is : one ≡ get_or xs i d = is ∙ ap (λ j. get_or xs j one) at ∙ read_same xs i one d h in
+    absurd (other (ap (λ s. s.place.slot) one_is ∙ same))))

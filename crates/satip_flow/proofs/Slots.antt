@@ -20,7 +20,7 @@ false_or true b h k = absurd (cc)
 false_or false b h k = k
 
 -- the same slot
-slot_is : (slot : ℕ) (s : Subscription) → has_slot slot s ≡ true → s.place.slot ≡ slot
+pub slot_is : (slot : ℕ) (s : Subscription) → has_slot slot s ≡ true → s.place.slot ≡ slot
 slot_is slot s h = grind (arith, nat_tests)
 
 slots_differ : (a b : ℕ) → eqb a b ≡ false → eqb b a ≡ false

@@ -6,7 +6,7 @@ ghost use Rattle.circular_buffer.specs.Buffer.{buffer};
 ghost use Rattle.satip_rtp.specs.Sending.{SendsAll};
 ghost use Rattle.satip_rtp.specs.Packing.{packing};
 ghost use Rattle.satip_flow.specs.Subscription.{sender_state, pulled_bytes, WrotePulled, subscription, Subscription, ToAddress, ToQueue, has_slot, given, given_datagrams, flushed, flush_datagrams, holds, readdressed, pulled, changed, meets_full, packing_of, queue_of, selects};
-ghost use Rattle.satip_flow.specs.Rows.{AllShown};
+ghost use Rattle.satip_flow.specs.Rows.{AllShown, IsPlaced};
 ghost use Rattle.satip_flow.specs.Standing.{IsNowhere, StandsAt, HoldsOfAt, ChangesAt};
 ghost use Rattle.satip_flow.specs.Queues.{has_queue};
 ghost use Rattle.satip_flow.specs.Subscriptions.{put, comes_before, change_slot, without, feed_of_slot, packing_of_slot, queue_of_slot, holds_any, flushed_datagrams, is_overrun, IsFrontOrNone, SlotsApart};
@@ -122,7 +122,7 @@ impl Flow {
         ensures found { result ≡ is_some (packing_of_slot slot self.old) }
         ensures readdressed { self.new ≡ change_slot slot (readdressed to) self.old }
     {
-        let Some(at) = place_of(&self.subscribers, slot) else {
+        let Some(at) = place_of(&self.subscribers, &self.places, slot) else {
             return false;
         };
         readdress_at(&mut self.subscribers, at, to)
@@ -158,7 +158,7 @@ impl Flow {
         ensures bytes_spare { out.old.datagram_spare ≤ out.new.datagram_spare + 1328 }
         ensures count_spare { out.old.count_spare ≤ out.new.count_spare + 1 }
     {
-        let Some(at) = place_of(&self.subscribers, slot) else {
+        let Some(at) = place_of(&self.subscribers, &self.places, slot) else {
             return false;
         };
         flush_at(&mut self.subscribers, at, clock, out)
@@ -172,7 +172,7 @@ impl Flow {
         ensures pulled { self.new ≡ change_slot slot pulled self.old }
         ensures wrote { WrotePulled (queue_of_slot slot self.old) out.old out.new }
     {
-        let Some(at) = place_of(&self.subscribers, slot) else {
+        let Some(at) = place_of(&self.subscribers, &self.places, slot) else {
             return None;
         };
         pull_at(&mut self.subscribers, at, out)
@@ -183,7 +183,7 @@ impl Flow {
     pub fn state(&self, slot: u16) -> Option<SenderState>
         ensures state { result ≡ sender_state (packing_of_slot slot self.now) }
     {
-        let Some(at) = place_of(&self.subscribers, slot) else {
+        let Some(at) = place_of(&self.subscribers, &self.places, slot) else {
             return None;
         };
         self.subscribers[at].state()
@@ -195,7 +195,7 @@ impl Flow {
         ensures found { result ≡ list_any (has_slot slot) self.old }
         ensures gone { self.new ≡ without slot self.old }
     {
-        let Some(at) = place_of(&self.subscribers, slot) else {
+        let Some(at) = place_of(&self.subscribers, &self.places, slot) else {
             return false;
         };
         unmark(&mut self.rows, slot, self.subscribers[at].front());
@@ -269,17 +269,24 @@ fn comes_before(a: Place, b: Place) -> bool
 }
 
 // Where the subscriber of a slot stands.
-fn place_of(subscribers: &[Subscriber], slot: u16) -> Option<usize>
+fn place_of(subscribers: &[Subscriber], places: &[u8], slot: u16) -> Option<usize>
     requires apart { SlotsApart subscribers.now }
+    requires count { length places.now ≡ 64 }
+    requires placed { IsPlaced places.now subscribers.now }
     ensures none { IfNone result (IsNowhere slot subscribers.now) }
     ensures found { IfSome result (StandsAt slot subscribers.now) }
 {
-    for (at, subscriber) in subscribers.iter().enumerate() {
-        if subscriber.place().slot == slot {
-            return Some(at);
-        }
+    if slot as usize >= SESSIONS {
+        return None;
     }
-    None
+    let at = places[slot as usize] as usize;
+    if at >= subscribers.len() {
+        return None;
+    }
+    if subscribers[at].place().slot != slot {
+        return None;
+    }
+    Some(at)
 }
 
 fn change_all(

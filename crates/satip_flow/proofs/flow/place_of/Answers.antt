@@ -1,16 +1,23 @@
 use Rattle.std.proofs.Common.{sym, ap, ◌∙◌}
-use Rattle.std.proofs.lemmas.List.{take_all}
-use Rattle.std.specs.List.{list_any}
-use Rattle.satip_flow.specs.Subscription.{has_slot}
-use Rattle.satip_flow.proofs.Slots.{nowhere, stands_at}
+use Rattle.satip_flow.proofs.Slots.{stands_at}
+use Rattle.satip_flow.proofs.RowLemmas.{nowhere_past, nowhere_behind, nowhere_other}
 use Rattle.satip_flow.proofs.flow.place_of.Goals as goal
 
-pub returns-then-place-slot-clause-found : goal.returns-then-place-slot-clause-found
-returns-then-place-slot-clause-found c =
-    stands_at c.args.slot c.args.subscribers.now c.loop-at.at c.index-subscribers-at.result c.requires.apart c.loop-at-test.true
-    c.index-subscribers-at.is (ap (λ place. place.slot) (sym c.place.ensures.place) ∙ c.if-place-slot.true)
+pub returns-then-slot-ge-SESSIONS-clause-none : goal.returns-then-slot-ge-SESSIONS-clause-none
+returns-then-slot-ge-SESSIONS-clause-none c = nowhere_past c.args.slot c.args.subscribers.now c.requires.apart c.if-slot-ge-SESSIONS.true
 
-pub returns-clause-none : goal.returns-clause-none
-returns-clause-none c =
-    nowhere c.args.slot c.args.subscribers.now
-    (ap (λ xs. list_any (has_slot c.args.slot) xs) (sym (take_all c.loop-at.at c.args.subscribers.now c.loop-at-test.false)) ∙ c.loop-at.invariant)
+pub returns-then-at-subscribers-clause-none : goal.returns-then-at-subscribers-clause-none
+returns-then-at-subscribers-clause-none c =
+    nowhere_behind c.args.slot c.args.places.now c.args.subscribers.now c.requires.placed c.if-at-subscribers.true
+
+pub returns-then-place-slot-clause-none : goal.returns-then-place-slot-clause-none
+returns-then-place-slot-clause-none c =
+    let one = c.index-subscribers-at in
+    nowhere_other c.args.slot c.args.places.now c.args.subscribers.now one.result c.requires.placed c.if-at-subscribers.false one.is
+    (λ same. c.if-place-slot.true (ap (λ place. place.slot) c.place.ensures.place ∙ same))
+
+pub returns-clause-found : goal.returns-clause-found
+returns-clause-found c =
+    let one = c.index-subscribers-at in
+    stands_at c.args.slot c.args.subscribers.now _ one.result c.requires.apart c.if-at-subscribers.false one.is
+    (ap (λ place. place.slot) (sym c.place.ensures.place) ∙ c.if-place-slot.false)

@@ -1,4 +1,4 @@
-use Rattle.std.proofs.Common.{◌≡◌, ◌+◌, ◌<◌, length, get_or, set, sym, ap, subst, ◌∙◌, arith}
+use Rattle.std.proofs.Common.{◌+◌, set, sym, ap, subst, ◌∙◌, arith}
 use Rattle.std.proofs.lemmas.List.{length-set}
 use Rattle.satip_flow.proofs.Slots.{slot_below, at_most_64}
 use Rattle.satip_flow.proofs.RowLemmas.{NotedTo, noted_more}

@@ -1,6 +1,5 @@
 use Rattle.std.proofs.Common.{◌≡◌, ◌+◌, ◌<◌, false, cond, vec_len, sym, ap, subst, ◌∙◌, arith, refl}
 use Rattle.std.specs.List.{list_any}
-use Rattle.satip_rtp.specs.Packing.{packing}
 use Rattle.satip_flow.specs.Subscription.{has_slot, ToAddress}
 use Rattle.satip_flow.specs.Subscriptions.{SlotsApart}
 use Rattle.satip_flow.specs.Queues.{has_queue}
