@@ -32,3 +32,5 @@ mod retuning;
 mod row;
 #[cfg(test)]
 mod steps;
+#[cfg(test)]
+mod stress;
