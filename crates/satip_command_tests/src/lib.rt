@@ -8,3 +8,5 @@ mod records;
 mod replay;
 #[cfg(test)]
 mod script;
+#[cfg(test)]
+mod stress;

@@ -1,4 +1,17 @@
--- How large the number of connections is.
+-- What the numbers and the words of the command line can't be.
+use Rattle.std.proofs.Common.{◌≡◌, ℕ, true, false, List, refl, sym, subst}
+use Rattle.std.specs.Prelude.{codes}
+use Rattle.std.specs.Str.{bytes_eq}
+use Rattle.std.proofs.lemmas.Slice.Eq.{bytes_eq-Decides}
 use Rattle.satip_rtsp.proofs.CseqLemmas.{number_of-le}
 
+-- how large a number is
 pub ruleset accepts_fit = (number_of-le)
+
+-- the word of a serve is another than that of a stress run
+pub serve_is_other : (word : List ℕ) → bytes_eq word (codes "serve") ≡ true → bytes_eq word (codes "stress") ≡ false
+serve_is_other word is =
+    let same : word ≡ codes "serve" = (bytes_eq-Decides word (codes "serve")).0 is in
+    subst (λ (w : List ℕ). bytes_eq w (codes "stress") ≡ false) (sym same) refl
+
+pub ruleset words_differ = (serve_is_other)

@@ -7,10 +7,10 @@ use Rattle.satip_replay.specs.Ends.{ReplayEnds, EndsByConfiguration, EndsByScrip
 use Rattle.satip_replay.specs.declared.ends.ReplayEnd.{ReplayEnd}
 use Rattle.satip_replay.specs.declared.ends.ReplayEnd.TheVariants as ends
 use Rattle.satip_program.proofs.TalkLemmas.{part_of_first}
-use Rattle.satip_program.specs.Commands.{Form, Talk, Replay, Help, Version, config_named, help, version}
+use Rattle.satip_program.specs.Commands.{Form, Talk, Replay, Stress, Help, Version, config_named, help, version}
 use Rattle.satip_program.specs.declared.outcomes.Outcome.{Outcome}
 use Rattle.satip_program.specs.declared.outcomes.Outcome.TheVariants.{Done, Usage, Configuration, Script, InputFault, OutputFault, TooLong, OutOfMemory}
-use Rattle.satip_program.specs.Outcomes.{status_of, TalkRuns, EndsEarly, NothingDone, PrintEnds}
+use Rattle.satip_program.specs.Outcomes.{status_of, TalkRuns, StressRuns, EndsEarly, NothingDone, PrintEnds}
 use Rattle.satip_program.specs.Replaying.{ReplayRuns, RunEnds}
 
 -- nothing is a beginning
@@ -56,6 +56,15 @@ run_versions ct it ot text before now i j o n form config outcome printed is sam
     let Q : Outcome → Type 0 = λ x. PrintEnds ot i j o n version x in
     subst P (sym is) (subst Q (sym same) prints)
 
+-- made events were asked for, run and counted
+pub run_counts : (ct it ot : Type 0) (text : List ℕ → Option (List ℕ)) (before now : ℕ) (i j : Feed) (o n : Drain) (form : Option Form) (config : Option Feed) (outcome counted : Outcome)
+    (seed count : ℕ) → form ≡ Some (Stress seed count) → outcome ≡ counted → StressRuns ot i j o n seed count counted
+    → RunEnds ct it ot text before now i j o n form config outcome
+run_counts ct it ot text before now i j o n form config outcome counted seed count is same runs =
+    let P : Option Form → Type 0 = λ f. RunEnds ct it ot text before now i j o n f config outcome in
+    let Q : Outcome → Type 0 = λ x. StressRuns ot i j o n seed count x in
+    subst P (sym is) (subst Q (sym same) runs)
+
 -- how a replay ended, by its end
 pub ends_of : (ct it ot : Type 0) (a b i j : Feed) (o n : Drain) (ending : ReplayEnd)
     → (ending ≡ ends.Done → Replayed ct it ot a b i j o n)
@@ -97,6 +106,17 @@ print_status ot i j o n text OutputFault status ends least most is = omega (arit
 print_status ot i j o n text TooLong status ends least most is = absurd ends
 print_status ot i j o n text OutOfMemory status ends least most is = absurd ends
 
+stress_status : (ot : Type 0) (i j : Feed) (o n : Drain) (seed count : ℕ) (outcome : Outcome) (status : ℕ) → StressRuns ot i j o n seed count outcome
+    → 3 ≤ status → status ≤ 4 → status_of outcome ≡ status → ⊥
+stress_status ot i j o n seed count Done status ends least most is = omega (arith, least, is)
+stress_status ot i j o n seed count Usage status ends least most is = absurd ends
+stress_status ot i j o n seed count (Configuration fault) status ends least most is = absurd ends
+stress_status ot i j o n seed count (Script number) status ends least most is = absurd ends
+stress_status ot i j o n seed count InputFault status ends least most is = absurd ends
+stress_status ot i j o n seed count OutputFault status ends least most is = omega (arith, most, is)
+stress_status ot i j o n seed count TooLong status ends least most is = absurd ends
+stress_status ot i j o n seed count OutOfMemory status ends least most is = omega (arith, most, is)
+
 -- a run with such a status is that of a replay
 record IsReplay (ct it ot : Type 0) (text : List ℕ → Option (List ℕ)) (before now : ℕ) (i j : Feed) (o n : Drain) (form : Option Form) (config : Option Feed) (outcome : Outcome) : Type 0 where
   pub name : List ℕ
@@ -114,6 +134,8 @@ replay_of ct it ot text before now i j o n (Some Talk) config outcome status end
     absurd (talk_status it ot i j o n outcome status ends least most is)
 replay_of ct it ot text before now i j o n (Some (Replay name)) config outcome status ends least most is =
     record { name = name; named = refl; runs = ends }
+replay_of ct it ot text before now i j o n (Some (Stress seed count)) config outcome status ends least most is =
+    absurd (stress_status ot i j o n seed count outcome status ends least most is)
 replay_of ct it ot text before now i j o n (Some Help) config outcome status ends least most is =
     absurd (print_status ot i j o n help outcome status ends least most is)
 replay_of ct it ot text before now i j o n (Some Version) config outcome status ends least most is =

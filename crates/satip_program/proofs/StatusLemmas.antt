@@ -8,12 +8,12 @@ use Rattle.satip_history.specs.Lists.{Has}
 use Rattle.satip_replay.specs.declared.ends.ReplayEnd.{ReplayEnd}
 use Rattle.satip_replay.specs.declared.ends.ReplayEnd.TheVariants as ends
 use Rattle.satip_program.proofs.OutcomeLemmas.{talk_early}
-use Rattle.satip_program.specs.Commands.{Form, Talk}
+use Rattle.satip_program.specs.Commands.{Form, Talk, Stress}
 use Rattle.satip_program.specs.declared.outcomes.Outcome.{Outcome}
 use Rattle.satip_program.specs.declared.outcomes.Outcome.TheVariants.{Done, Usage, Configuration, Script, InputFault, OutputFault, TooLong, OutOfMemory}
-use Rattle.satip_program.specs.Outcomes.{input_limit, status_of, outcome_of, TalkRuns, EndsEarly, EndsByLength, NothingDone}
+use Rattle.satip_program.specs.Outcomes.{input_limit, status_of, outcome_of, TalkRuns, StressRuns, EndsEarly, EndsByLength, NothingDone}
 use Rattle.satip_program.specs.Replaying.{RunEnds}
-use Rattle.satip_program.specs.Ends.{talk_statuses, replay_statuses, ClosesInTime, IsWithinLimit, TalkEnds}
+use Rattle.satip_program.specs.Ends.{talk_statuses, replay_statuses, ClosesInTime, IsWithinLimit, TalkEnds, StressEnds}
 
 -- of two beginnings of one text the shorter is a beginning of the longer
 begins_longer : (c l e r : List ℕ) → c ++ l ≡ e ++ r → length c ≤ length e → (m : List ℕ) × (e ≡ c ++ m)
@@ -98,6 +98,43 @@ run_talks ct it ot text before now i j o n form config outcome status ends told 
     let P : Option Form → Type 0 = λ f. RunEnds ct it ot text before now i j o n f config outcome in
     let Q : ℕ → Type 0 = λ s. TalkEnds it ot i j o n s in
     subst Q (sym told) (talk_ends it ot i j o n outcome (subst P is ends))
+
+stress_ends : (ot : Type 0) (i j : Feed) (o n : Drain) (seed count : ℕ) (outcome : Outcome) → StressRuns ot i j o n seed count outcome
+    → StressEnds ot seed count i j o n (status_of outcome)
+stress_ends ot i j o n seed count Done runs = record {
+  status_is = inl refl;
+  input = runs.input;
+  counted = λ is. runs.output;
+  counted_partly = λ is. absurd (omega (arith, is));
+  wants = λ is. absurd (omega (arith, is));
+}
+stress_ends ot i j o n seed count Usage runs = absurd runs
+stress_ends ot i j o n seed count (Configuration fault) runs = absurd runs
+stress_ends ot i j o n seed count (Script number) runs = absurd runs
+stress_ends ot i j o n seed count InputFault runs = absurd runs
+stress_ends ot i j o n seed count OutputFault runs = record {
+  status_is = inr (inl refl);
+  input = runs.input;
+  counted = λ is. absurd (omega (arith, is));
+  counted_partly = λ is. runs.output;
+  wants = λ is. absurd (omega (arith, is));
+}
+stress_ends ot i j o n seed count TooLong runs = absurd runs
+stress_ends ot i j o n seed count OutOfMemory runs = record {
+  status_is = inr (inr (inl refl));
+  input = runs.input;
+  counted = λ is. absurd (omega (arith, is));
+  counted_partly = λ is. absurd (omega (arith, is));
+  wants = λ is. runs.output;
+}
+
+pub run_stresses : (ct it ot : Type 0) (text : List ℕ → Option (List ℕ)) (before now : ℕ) (i j : Feed) (o n : Drain) (form : Option Form) (config : Option Feed) (outcome : Outcome) (status : ℕ)
+    → RunEnds ct it ot text before now i j o n form config outcome → status ≡ status_of outcome
+    → (seed count : ℕ) → form ≡ Some (Stress seed count) → StressEnds ot seed count i j o n status
+run_stresses ct it ot text before now i j o n form config outcome status ends told seed count is =
+    let P : Option Form → Type 0 = λ f. RunEnds ct it ot text before now i j o n f config outcome in
+    let Q : ℕ → Type 0 = λ s. StressEnds ot seed count i j o n s in
+    subst Q (sym told) (stress_ends ot i j o n seed count outcome (subst P is ends))
 
 -- the status of a replay, by its end
 pub has_end : (ending : ReplayEnd) → Has (status_of (outcome_of ending)) replay_statuses

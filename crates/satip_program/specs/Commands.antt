@@ -1,5 +1,5 @@
 -- The words of the command line, and the lines that the program writes of itself.
-use Rattle.std.specs.Prelude.{ℕ, ◌==◌, List, [], ◌∷◌, ◌++◌, codes, decimal, Option, Some, None, option_map, if◌then◌else◌}
+use Rattle.std.specs.Prelude.{ℕ, ◌≤◌, ◌==◌, List, [], ◌∷◌, ◌++◌, codes, decimal, Option, Some, None, option_map, if◌then◌else◌}
 use Rattle.std.specs.Str.{bytes_eq}
 use Rattle.satip_base.specs.Numbers.{number_of}
 use Rattle.satip_config.specs.declared.fault.ConfigFault.{ConfigFault}
@@ -8,10 +8,11 @@ use Rattle.satip_program.specs.declared.commands.Command.{Command}
 use Rattle.satip_program.specs.declared.commands.Serve.{Serve}
 use Rattle.satip_program.specs.declared.commands.Command.TheVariants as commands
 
--- what the words ask for; a replay has the name of its configuration
+-- what the words ask for; a replay has the name of its configuration, a stress run its seed and its count
 pub data Form : Type 0 where
   Talk : Form
   Replay : List ℕ → Form
+  Stress : ℕ → ℕ → Form
   Help : Form
   Version : Form
 
@@ -19,6 +20,7 @@ pub data Form : Type 0 where
 abbrev pub form_of : Command → Form
 form_of commands.Talk = Talk
 form_of (commands.Replay name) = Replay name.now
+form_of (commands.Stress seed count) = Stress seed count
 form_of commands.Help = Help
 form_of commands.Version = Version
 
@@ -35,12 +37,23 @@ abbrev pub replay_named : List ℕ → List ℕ → Option Form
 replay_named word [] = None
 replay_named word (byte ∷ bytes) = if bytes_eq word (codes "replay") then Some (Replay (byte ∷ bytes)) else None
 
+-- the form of three words; the numbers are read where they are allowed
+abbrev pub stress_by : Option ℕ → Option ℕ → Option Form
+stress_by (Some seed) (Some count) = Some (Stress seed count)
+stress_by (Some seed) None = None
+stress_by None count = None
+
+abbrev pub stress_named : List ℕ → Option ℕ → Option ℕ → Option Form
+stress_named word seed count = if bytes_eq word (codes "stress") then stress_by seed count else None
+
 -- the form of the words, if they are in one
 unfoldable pub command_of : List (List ℕ) → Option Form
 command_of [] = None
 command_of (word ∷ []) = command_named word
 command_of (word ∷ name ∷ []) = replay_named word name
-command_of (word ∷ name ∷ another ∷ others) = None
+command_of (word ∷ seed ∷ count ∷ []) =
+    stress_named word (number_of 18446744073709551615 seed) (number_of 1000000 count)
+command_of (word ∷ name ∷ another ∷ one_more ∷ others) = None
 
 -- the words of a `serve`: the name of its configuration, and after how many connections the doors of a worker end
 pub record Serving : Type 0 where
@@ -69,9 +82,18 @@ serving_of serve = record { name = serve.name.now; accepts = serve.accepts }
 abbrev pub config_named : Option Form → Option (List ℕ)
 config_named (Some (Replay name)) = Some name
 config_named (Some Talk) = None
+config_named (Some (Stress seed count)) = None
 config_named (Some Help) = None
 config_named (Some Version) = None
 config_named None = None
+
+-- the count of a command is allowed
+abbrev pub HasCount : Command → Type 0
+HasCount commands.Talk = Unit {0}
+HasCount (commands.Replay name) = Unit {0}
+HasCount (commands.Stress seed count) = count ≤ 1000000
+HasCount commands.Help = Unit {0}
+HasCount commands.Version = Unit {0}
 
 -- the forms of the words
 abbrev pub usage : List ℕ
@@ -87,6 +109,8 @@ help = usage
     ++ codes "    satip replay examples/satip.toml < examples/session.script\n"
     ++ codes "talk: one RTSP connection, from standard input to standard output\n"
     ++ codes "    satip talk < requests\n"
+    ++ codes "stress: COUNT events that a generator makes of SEED, run and counted\n"
+    ++ codes "    satip stress 7 100000\n"
     ++ codes "manual: man satip, or docs/satip.1; statuses: docs/PROTOCOL.md; configuration: examples/satip.toml\n"
 
 -- what --version writes

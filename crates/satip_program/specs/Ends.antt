@@ -1,6 +1,6 @@
 -- What the run of a command comes to, by its status.
 use Rattle.std.specs.Prelude.{◌≡◌, ℕ, ◌+◌, ◌≤◌, ◌⊎◌, ◌↔◌, true, List, [], ◌∷◌, ◌++◌, length, Option, Some, None, IsNone, IfSome, IsSomeAnd, MatchOption}
-use Rattle.satip_base.specs.Streams.{Feed, Drain, Rose}
+use Rattle.satip_base.specs.Streams.{Feed, Drain, Rose, PutAll, FailedToPut}
 use Rattle.satip_world.specs.Counts.{Rises}
 use Rattle.satip_config.specs.declared.fault.ConfigFault.{ConfigFault}
 use Rattle.satip_history.specs.Lists.{Each, Has}
@@ -14,18 +14,22 @@ use Rattle.satip_serving.specs.Laws.{SendsSelected, ObeysOwners, TellsBusy, Play
 use Rattle.satip_serving.specs.Servings.{GivenFrom, AreUnused, IsOneOf, IsNeitherOf}
 use Rattle.satip_replay.specs.Replays.{configuration_limit, Configured, Replayed}
 use Rattle.satip_replay.specs.Ends.{EndsByConfiguration, EndsByScript, EndsByInput, EndsByOutput, EndsByLength, EndsByWant, Refused}
+use Rattle.satip_stress.specs.Ends.{stressed}
 use Rattle.satip_program.specs.Commands.{configuration_line, script_line}
 use Rattle.satip_program.specs.Talk.{Answered}
 use Rattle.satip_program.specs.Outcomes.{input_limit, IsBroken, EndsEarly, ReadsInTime, NothingDone, Says}
 use Rattle.satip_program.specs.Replaying.{Given, IsSettled}
 use Rattle.satip_program.specs.Serving.{IsServeSettled}
 
--- the statuses of a talk, of a replay and of a serve
+-- the statuses of a talk, of a replay, of a stress run and of a serve
 abbrev pub talk_statuses : List ℕ
 talk_statuses = 0 ∷ 5 ∷ 6 ∷ 8 ∷ 70 ∷ []
 
 abbrev pub replay_statuses : List ℕ
 replay_statuses = 0 ∷ 3 ∷ 4 ∷ 5 ∷ 6 ∷ 8 ∷ 70 ∷ []
+
+abbrev pub stress_statuses : List ℕ
+stress_statuses = 0 ∷ 6 ∷ 70 ∷ []
 
 abbrev pub serve_statuses : List ℕ
 serve_statuses = 0 ∷ 3 ∷ 5 ∷ 7 ∷ 9 ∷ 70 ∷ []
@@ -91,6 +95,16 @@ pub record ReplayEnds {C : Type 0} (config_tells in_tells out_tells error_tells 
   -- where nothing failed the texts of the configuration and of the script say the status
   pub settled : (told : List ℕ) → text ≡ Some told → in_tells → (Rose before now → ⊥)
       → (IsSomeAnd source (λ s. Rose 0 (view s).faults) → ⊥) → (Rose i.faults j.faults → ⊥) → IsSettled told i.left status
+
+-- a stress run: its seed and its count, its input and its output before and behind it, and its status
+pub record StressEnds (out_tells : Type 0) (seed count : ℕ) (i j : Feed) (o n : Drain) (status : ℕ) : Type 0 where
+  pub status_is : Has status stress_statuses
+  -- nothing is taken of the input
+  pub input : j ≡ i
+  -- with 0 the six counts of the run were written, with 6 a beginning of them, and with 70 nothing
+  pub counted : status ≡ 0 → PutAll out_tells o n (stressed seed count)
+  pub counted_partly : status ≡ 6 → FailedToPut out_tells o n (stressed seed count)
+  pub wants : status ≡ 70 → n ≡ o
 
 -- a serve: after how many connections doors end, the text of its configuration where the desk tells it, the desk's count
 -- of faults before and behind it, the source that the desk gave, if it gave one, as it is behind it, the kits that the

@@ -8,6 +8,7 @@ use Rattle.satip_program.specs.Talk.{Answered, PartlyAnswered}
 use Rattle.satip_replay.specs.Reading.{Read}
 use Rattle.satip_replay.specs.declared.ends.ReplayEnd.{ReplayEnd}
 use Rattle.satip_replay.specs.declared.ends.ReplayEnd.TheVariants as ends
+use Rattle.satip_stress.specs.Ends.{stressed}
 use Rattle.satip_program.specs.Commands.{line_of, configuration_line, script_line}
 use Rattle.satip_program.specs.declared.outcomes.Outcome.{Outcome}
 use Rattle.satip_program.specs.declared.outcomes.Outcome.TheVariants.{Done, Usage, Configuration, Script, InputFault, OutputFault, TooLong, OutOfMemory}
@@ -135,6 +136,17 @@ PrintEnds tells i j o n text InputFault = ⊥
 PrintEnds tells i j o n text OutputFault = Prints (FailedToPut tells o n text) i j
 PrintEnds tells i j o n text TooLong = ⊥
 PrintEnds tells i j o n text OutOfMemory = ⊥
+
+-- how a stress run ends
+abbrev pub StressRuns : (tells : Type 0) (i j : Feed) (o n : Drain) (seed count : ℕ) → Outcome → Type 0
+StressRuns tells i j o n seed count Done = Prints (PutAll tells o n (stressed seed count)) i j
+StressRuns tells i j o n seed count Usage = ⊥
+StressRuns tells i j o n seed count (Configuration fault) = ⊥
+StressRuns tells i j o n seed count (Script number) = ⊥
+StressRuns tells i j o n seed count InputFault = ⊥
+StressRuns tells i j o n seed count OutputFault = Prints (FailedToPut tells o n (stressed seed count)) i j
+StressRuns tells i j o n seed count TooLong = ⊥
+StressRuns tells i j o n seed count OutOfMemory = NothingDone i j o n
 
 -- the words were refused
 pub record IsRefused (i j : Feed) (o n : Drain) (outcome : Outcome) : Type 0 where

@@ -7,8 +7,8 @@ use Rattle.satip_replay.specs.Replays.{script_limit, configuration_limit}
 use Rattle.satip_replay.specs.Ends.{ReplayEnds, IsEndOf}
 use Rattle.satip_replay.specs.declared.ends.ReplayEnd.{ReplayEnd}
 use Rattle.satip_replay.specs.declared.ends.ReplayEnd.TheVariants.{TooLong}
-use Rattle.satip_program.specs.Commands.{Form, Talk, Replay, Help, Version, help, version}
-use Rattle.satip_program.specs.Outcomes.{status_of, outcome_of, NothingDone, TalkRuns, PrintEnds, IsRefused}
+use Rattle.satip_program.specs.Commands.{Form, Talk, Replay, Stress, Help, Version, help, version}
+use Rattle.satip_program.specs.Outcomes.{status_of, outcome_of, NothingDone, TalkRuns, StressRuns, PrintEnds, IsRefused}
 use Rattle.satip_program.specs.declared.outcomes.Outcome.{Outcome}
 use Rattle.satip_program.specs.declared.outcomes.Outcome.TheVariants.{InputFault}
 
@@ -49,6 +49,7 @@ abbrev pub RunEnds : (config_tells in_tells out_tells : Type 0) (text : List ℕ
 RunEnds ct it ot text before now i j o n None config outcome = IsRefused i j o n outcome
 RunEnds ct it ot text before now i j o n (Some Talk) config outcome = TalkRuns it ot i j o n outcome
 RunEnds ct it ot text before now i j o n (Some (Replay name)) config outcome = ReplayRuns ct it ot (text name) before now i j o n config outcome
+RunEnds ct it ot text before now i j o n (Some (Stress seed count)) config outcome = StressRuns ot i j o n seed count outcome
 RunEnds ct it ot text before now i j o n (Some Help) config outcome = PrintEnds ot i j o n help outcome
 RunEnds ct it ot text before now i j o n (Some Version) config outcome = PrintEnds ot i j o n version outcome
 

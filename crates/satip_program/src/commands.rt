@@ -1,11 +1,12 @@
 //! The words of the command line.
 
-ghost use Rattle.std.specs.Prelude.{◌≡◌, ◌∷◌, [], None, option_map, IfSome};
+ghost use Rattle.std.specs.Prelude.{◌≡◌, ◌∷◌, [], None, false, codes, option_map, IfSome};
 ghost use Rattle.std.specs.Str.{bytes_eq};
 ghost use Rattle.satip_base.specs.Numbers.{number_of};
-ghost use Rattle.satip_program.specs.Commands.{form_of, command_of, command_named, replay_named, serving_of, serve_of, serve_named};
+ghost use Rattle.satip_program.specs.Commands.{form_of, command_of, command_named, replay_named, stress_named, stress_by, serving_of, serve_of, serve_named, HasCount};
 
 use satip_base::{Text, read_number};
+use satip_stress::MOST_EVENTS;
 
 /// What the words ask for.
 #[derive(Clone, Copy)]
@@ -14,6 +15,8 @@ pub(crate) enum Command<'w> {
     Talk,
     /// The run of a script, by the configuration of this name.
     Replay(&'w Text),
+    /// Made events that are counted: so many, by the generator of a seed.
+    Stress { seed: u64, count: u32 },
     /// The forms of the words.
     Help,
     /// The program's name and version.
@@ -44,9 +47,11 @@ pub(crate) fn read_serve(words: &[Text]) -> Option<Serve<'_>>
     }
 }
 
+#[tactic(auto, using(crate::proofs::AcceptsLemmas::words_differ))]
 fn read_three<'w>(word: &[u8], name: &'w Text, accepts: &[u8]) -> Option<Serve<'w>>
     ensures serve { option_map serving_of result
         ≡ serve_named word.now name.now (number_of 4294967295 accepts.now) }
+    ensures other { IfSome result (λ _. bytes_eq word.now (codes "stress") ≡ false) }
 {
     match name.bytes() {
         [] => None,
@@ -79,17 +84,20 @@ fn read_accepts<'w>(name: &'w Text, accepts: &[u8]) -> Option<Serve<'w>>
 #[tactic(auto, unfolding(crate::specs::Commands::command_of))]
 pub(crate) fn read_words(words: &[Text]) -> Option<Command<'_>>
     ensures command { option_map form_of result ≡ command_of words.now }
+    ensures count { IfSome result HasCount }
 {
     match words {
         [] => None,
         [word] => read_word(word.bytes()),
         [word, name] => read_pair(word.bytes(), name),
-        [_, _, _, ..] => None,
+        [word, seed, count] => read_stress(word.bytes(), seed.bytes(), count.bytes()),
+        [_, _, _, _, ..] => None,
     }
 }
 
 fn read_word<'w>(word: &[u8]) -> Option<Command<'w>>
     ensures command { option_map form_of result ≡ command_named word.now }
+    ensures count { IfSome result HasCount }
 {
     if is_text(word, b"talk") {
         Some(Command::Talk)
@@ -104,6 +112,7 @@ fn read_word<'w>(word: &[u8]) -> Option<Command<'w>>
 
 fn read_pair<'w>(word: &[u8], name: &'w Text) -> Option<Command<'w>>
     ensures command { option_map form_of result ≡ replay_named word.now name.now }
+    ensures count { IfSome result HasCount }
 {
     match name.bytes() {
         [] => None,
@@ -114,6 +123,36 @@ fn read_pair<'w>(word: &[u8], name: &'w Text) -> Option<Command<'w>>
                 None
             }
         }
+    }
+}
+
+fn read_stress<'w>(word: &[u8], seed: &[u8], count: &[u8]) -> Option<Command<'w>>
+    ensures command { option_map form_of result ≡ stress_named word.now
+        (number_of 18446744073709551615 seed.now) (number_of 1000000 count.now) }
+    ensures count { IfSome result HasCount }
+{
+    if is_text(word, b"stress") {
+        read_numbers(seed, count)
+    } else {
+        None
+    }
+}
+
+#[tactic(auto, using(crate::proofs::AcceptsLemmas::accepts_fit))]
+fn read_numbers<'w>(seed: &[u8], count: &[u8]) -> Option<Command<'w>>
+    ensures command { option_map form_of result ≡ stress_by
+        (number_of 18446744073709551615 seed.now) (number_of 1000000 count.now) }
+    ensures count { IfSome result HasCount }
+{
+    let Some(seed) = read_number(seed, u64::MAX) else {
+        return None;
+    };
+    match read_number(count, u64::from(MOST_EVENTS)) {
+        Some(count) => Some(Command::Stress {
+            seed,
+            count: count as u32,
+        }),
+        None => None,
     }
 }
 

@@ -4,9 +4,9 @@
 ghost use Rattle.std.specs.Prelude.{◌≡◌, ◌↔◌, ◌⊎◌, ℕ, ◌+◌, ◌-◌, ◌<◌, ◌≤◌, List, Some, None, option_map, IsSome, IsNone, IfSome, IsSomeAnd};
 ghost use Rattle.satip_base.specs.Streams.{Feed, Rose};
 ghost use Rattle.satip_serving.specs.Given.{jobs_view};
-ghost use Rattle.satip_program.specs.Commands.{serve_of, Talk, Replay, Help, Version, command_of, config_named, help, version, line_of};
-ghost use Rattle.satip_program.specs.Ends.{TalkEnds, ReplayEnds, ServeEnds};
-ghost use Rattle.satip_program.specs.Outcomes.{input_limit, NothingDone, PrintEnds, Shows, Says};
+ghost use Rattle.satip_program.specs.Commands.{serve_of, Talk, Replay, Stress, Help, Version, command_of, config_named, help, version, line_of};
+ghost use Rattle.satip_program.specs.Ends.{TalkEnds, ReplayEnds, StressEnds, ServeEnds};
+ghost use Rattle.satip_program.specs.Outcomes.{input_limit, NothingDone, PrintEnds, StressRuns, Shows, Says};
 ghost use Rattle.satip_program.specs.Replaying.{RunEnds, ReplayRuns};
 
 use crate::commands::{Command, Serve, read_serve, read_words};
@@ -18,6 +18,7 @@ use satip_base::{Failed, Put, Sink, Source, Text};
 use satip_replay::replay;
 use satip_serve::{Jobs, Last};
 use satip_serving::{Desk, Served, serve_by};
+use satip_stress::{StressEnd, stress};
 use std::alloc::Global;
 use std::sync::Wait;
 use std::thread::Threads;
@@ -34,6 +35,8 @@ const HELP: &[u8] =
     \x20   satip replay examples/satip.toml < examples/session.script\n\
     talk: one RTSP connection, from standard input to standard output\n\
     \x20   satip talk < requests\n\
+    stress: COUNT events that a generator makes of SEED, run and counted\n\
+    \x20   satip stress 7 100000\n\
     manual: man satip, or docs/satip.1; statuses: docs/PROTOCOL.md; configuration: \
     examples/satip.toml\n";
 
@@ -117,6 +120,14 @@ pub fn satip<R: Threads + Wait + Sync, K: Desk, I: Source, O: Sink, E: Sink>(
         (I.feed input.new)
         (O.drain output.old) (O.drain output.new)
         (E.drain errors.old) (E.drain errors.new)
+        result.status }
+
+    // A stress run: the six counts of its events.
+    ensures stress { (seed : ℕ) (count : ℕ) → command_of words.now ≡ Some (Stress seed count)
+        → StressEnds O.tells seed count
+        (I.feed input.old)
+        (I.feed input.new)
+        (O.drain output.old) (O.drain output.new)
         result.status }
 
     // Only what names a configuration opens one, or asks anything of the desk.
@@ -203,8 +214,8 @@ fn run_serve<R: Threads + Wait + Sync, K: Desk, E: Sink>(
     }
 }
 
-/// The commands that wait for nobody: `talk`, `replay`, `--help` and `--version`. It always
-/// returns.
+/// The commands that wait for nobody: `talk`, `replay`, `stress`, `--help` and `--version`. It
+/// always returns.
 pub fn offline<K: Desk, I: Source, O: Sink, E: Sink>(
     alloc: Global,
     words: &[Text],
@@ -246,6 +257,14 @@ pub fn offline<K: Desk, I: Source, O: Sink, E: Sink>(
         (I.feed input.new)
         (O.drain output.old) (O.drain output.new)
         (E.drain errors.old) (E.drain errors.new)
+        result.status }
+
+    // A stress run: the six counts of its events.
+    ensures stress { (seed : ℕ) (count : ℕ) → command_of words.now ≡ Some (Stress seed count)
+        → StressEnds O.tells seed count
+        (I.feed input.old)
+        (I.feed input.new)
+        (O.drain output.old) (O.drain output.new)
         result.status }
 
     // Only what names a configuration opens one, or asks anything of the desk.
@@ -311,6 +330,7 @@ fn run<K: Desk, I: Source, O: Sink>(
         None => alone(Outcome::Usage),
         Some(Command::Talk) => alone(talk(alloc, input, output)),
         Some(Command::Replay(name)) => replay_by(alloc, name, input, output, desk),
+        Some(Command::Stress { seed, count }) => alone(count_by(alloc, seed, count, output)),
         Some(Command::Help) => alone(print(HELP, output)),
         Some(Command::Version) => alone(print(VERSION, output)),
     }
@@ -355,6 +375,20 @@ fn replay_by<K: Desk, I: Source, O: Sink>(
             }
         }
         Err(Failed) => alone(Outcome::InputFault),
+    }
+}
+
+// A stress run, of whose input nothing is taken.
+fn count_by<O: Sink>(alloc: Global, seed: u64, count: u32, output: &mut O) -> Outcome
+    requires few { count ≤ 1000000 }
+    ensures ends { (i : Feed) → StressRuns O.tells i i
+        (O.drain output.old) (O.drain output.new)
+        seed count result }
+{
+    match stress(alloc, seed, count, output) {
+        StressEnd::Done => Outcome::Done,
+        StressEnd::OutputFault => Outcome::OutputFault,
+        StressEnd::OutOfMemory => Outcome::OutOfMemory,
     }
 }
 

@@ -1,7 +1,7 @@
 use Rattle.std.proofs.Common.{◌∙◌, sym, arith}
 use Rattle.satip_program.proofs.OutcomeLemmas.{run_named}
 use Rattle.satip_program.proofs.ReplayLemmas.{run_replays}
-use Rattle.satip_program.proofs.StatusLemmas.{run_talks}
+use Rattle.satip_program.proofs.StatusLemmas.{run_talks, run_stresses}
 use Rattle.satip_program.proofs.ServingLemmas.{never_doors, never_full}
 use Rattle.satip_program.proofs.top.offline.Goals as goal
 
@@ -12,6 +12,9 @@ pub returns-clause-replay : goal.returns-clause-replay
 returns-clause-replay g c = λ name is.
     run_replays _ _ _ _ _ _ _ g.K.Config.Source.feed c.run-outcome.result.config
     _ _ _ _ _ _ _ _ _ c.run-outcome.ensures.ends c.tell.ensures.says c.status.ensures.status name is
+
+pub returns-clause-stress : goal.returns-clause-stress
+returns-clause-stress g c = λ seed count is. run_stresses _ _ _ _ _ _ _ _ _ _ _ _ _ _ c.run-outcome.ensures.ends c.status.ensures.status seed count is
 
 pub returns-clause-configuration : goal.returns-clause-configuration
 returns-clause-configuration g c = λ is.

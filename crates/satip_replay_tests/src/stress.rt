@@ -1,0 +1,232 @@
+//! Stress runs: the six counts of two runs, the words, the statuses, and the replay of a script
+//! with the texts of the same events.
+
+use crate::row::{Ran, run};
+use rand_chacha::ChaCha8Rng;
+use rand_core::SeedableRng;
+use rand_core::utils::NextWord;
+use satip_base::MemorySource;
+use satip_program::MemoryDesk;
+use std::alloc::Global;
+use std::test::Fail;
+
+const CONFIGURATION: &str = "address = \"10.0.0.1\"
+[[frontend]]
+sources = [1]
+systems = [\"dvbs\", \"dvbs2\"]
+[[mux]]
+src = 1
+freq = \"11361.75\"
+pol = \"h\"
+msys = \"dvbs2\"
+sr = 22000
+file = \"a.ts\"
+";
+
+const FIRST: &str = "10.0.0.2";
+
+const SECOND: &str = "10.0.0.3";
+
+const FIRST_SESSION: &str = "Session: 0000000100000001";
+
+const SECOND_SESSION: &str = "Session: 0000000200000002";
+
+const NO_DRAW: &str = "00000000000000000000";
+
+const FOUNDING: &str =
+    "SETUP rtsp://10.0.0.1/?src=1&freq=11361.75&pol=h&msys=dvbs2&sr=22000&pids=0,16,100";
+
+// A script of made events, the moment of its last tick and the number of its last request.
+#[derive(Drop)]
+struct Script {
+    alloc: Global,
+    text: String,
+    moment: u64,
+    cseq: u32,
+}
+
+impl Script {
+    fn ticks(&mut self, moment: u64) -> Result<(), Fail> {
+        self.moment = moment;
+        writeln!(self.text, "tick {moment}")?;
+        Ok(())
+    }
+
+    fn asks(&mut self, peer: &str, draw: &str, line: &str, header: &str) -> Result<(), Fail> {
+        self.cseq = self.cseq.saturating_add(1);
+        let cseq = self.cseq;
+        let message = format!(in self.alloc;
+            "{line} RTSP/1.0\r\nCSeq: {cseq}\r\n{header}\r\n\r\n"
+        )?;
+        let digits = hex::encode(self.alloc, message.as_bytes())?;
+        writeln!(self.text, "rtsp {peer} {draw} {digits}")?;
+        Ok(())
+    }
+
+    // A client founds the stream, another joins it, and both play.
+    fn opens(&mut self) -> Result<(), Fail> {
+        self.ticks(1000)?;
+        let transport = "Transport: RTP/AVP;unicast;client_port=1400-1401";
+        self.asks(FIRST, "00000001000000010000", FOUNDING, transport)?;
+        let play = "PLAY rtsp://10.0.0.1/stream=1";
+        self.asks(FIRST, NO_DRAW, play, FIRST_SESSION)?;
+        let transport = "Transport: RTP/AVP;unicast;client_port=1500-1501";
+        let join = "SETUP rtsp://10.0.0.1/stream=1";
+        self.asks(SECOND, "00000002000000020000", join, transport)?;
+        self.asks(SECOND, NO_DRAW, play, SECOND_SESSION)
+    }
+
+    // A PLAY of the first client that changes one PID.
+    fn changes(&mut self, key: &str, pid: u32) -> Result<(), Fail> {
+        let line = format!(in self.alloc; "PLAY rtsp://10.0.0.1/stream=1?{key}={pid}")?;
+        self.asks(FIRST, NO_DRAW, &line, FIRST_SESSION)
+    }
+
+    // The event of a word.
+    fn takes(&mut self, word: u32) -> Result<(), Fail> {
+        let pid = word / 64 % 128;
+        match word % 64 {
+            0 => self.ticks(self.moment.saturating_add(40)),
+            1 => self.asks(FIRST, NO_DRAW, "OPTIONS *", FIRST_SESSION),
+            2 => self.asks(SECOND, NO_DRAW, "OPTIONS *", SECOND_SESSION),
+            3 => self.changes("addpids", pid),
+            4 => self.changes("delpids", pid),
+            _ => self.gives(pid),
+        }
+    }
+
+    // A packet of this PID, with a payload of zeros.
+    fn gives(&mut self, pid: u32) -> Result<(), Fail> {
+        let payload = hex::encode(self.alloc, &[0; 184])?;
+        writeln!(self.text, "packet 1 1 4700{pid:02x}10{payload}")?;
+        Ok(())
+    }
+}
+
+// The script of a seed below 256.
+fn script_of(alloc: Global, seed: u8, count: u32) -> Result<Script, Fail> {
+    let mut script = Script {
+        alloc,
+        text: String::new(alloc),
+        moment: 0,
+        cseq: 0,
+    };
+    script.opens()?;
+    let mut bytes = [0; 32];
+    bytes[0] = seed;
+    let mut words = ChaCha8Rng::from_seed(bytes);
+    for _ in 0..count {
+        script.takes(words.next_word())?;
+    }
+    Ok(script)
+}
+
+// The six lines of a printed run.
+fn counted(alloc: Global, printed: &[u8]) -> Result<String, Fail> {
+    let (mut events, mut replies, mut refused) = (0u64, 0u64, 0u64);
+    let (mut datagrams, mut payload, mut reports) = (0u64, 0u64, 0u64);
+    for line in std::str::from_utf8(printed)?.lines() {
+        let Some((word, rest)) = line.split_once(' ') else {
+            events = events.saturating_add(1);
+            continue;
+        };
+        if word != "datagram" {
+            events = events.saturating_add(1);
+            if word == "reply" {
+                replies = replies.saturating_add(1);
+                if !rest.starts_with("200 ") {
+                    refused = refused.saturating_add(1);
+                }
+            }
+            continue;
+        }
+        let digits = rest.split_once(' ').ok_or("digits")?.1;
+        if digits.starts_with("8021") {
+            datagrams = datagrams.saturating_add(1);
+            let packets = (digits.len() / 2).saturating_sub(12) / 188;
+            payload = payload.saturating_add(packets as u64);
+        } else if digits.starts_with("80c8") {
+            reports = reports.saturating_add(1);
+        }
+    }
+    Ok(format!(in alloc;
+        "events {events}\nreplies {replies}\nrefused {refused}\ndatagrams {datagrams}\npayload {payload}\nreports {reports}\n"
+    )?)
+}
+
+fn stressed(alloc: Global, seed: &str, count: &str, failing: &[u64]) -> Result<Ran, Fail> {
+    let input = MemorySource::make(alloc, b"stop\n", &[], &[])?;
+    let mut desk = MemoryDesk::make(alloc, 0);
+    run(alloc, &["stress", seed, count], input, failing, &mut desk)
+}
+
+#[test]
+fn without_made_events_there_are_five(rt: HostRuntime) -> Result<(), Fail> {
+    let ran = stressed(rt.alloc(), "7", "0", &[])?;
+    assert_eq!(rt; ran.status, 0);
+    let counts = b"events 5\nreplies 4\nrefused 0\ndatagrams 0\npayload 0\nreports 0\n".as_slice();
+    assert_eq!(rt; ran.output.sent(), counts);
+    assert_eq!(rt; ran.errors.sent(), b"".as_slice());
+    Ok(())
+}
+
+#[test]
+fn a_hundred_thousand_made_events_are_counted(rt: HostRuntime) -> Result<(), Fail> {
+    let ran = stressed(rt.alloc(), "7", "100000", &[])?;
+    assert_eq!(rt; ran.status, 0);
+    let counts =
+        b"events 100005\nreplies 6324\nrefused 0\ndatagrams 14076\npayload 88982\nreports 628\n".as_slice();
+    assert_eq!(rt; ran.output.sent(), counts);
+    Ok(())
+}
+
+#[test]
+fn the_same_words_have_the_same_counts(rt: HostRuntime) -> Result<(), Fail> {
+    let ran = stressed(rt.alloc(), "7", "1000", &[])?;
+    let again = stressed(rt.alloc(), "007", "01000", &[])?;
+    assert_eq!(rt; again.output.sent(), ran.output.sent());
+    let other = stressed(rt.alloc(), "8", "1000", &[])?;
+    assert!(rt; other.output.sent() != ran.output.sent());
+    Ok(())
+}
+
+#[test]
+fn a_replay_of_the_texts_has_the_same_counts(rt: HostRuntime) -> Result<(), Fail> {
+    let alloc = rt.alloc();
+    let script = script_of(alloc, 200, 600)?;
+    let input = MemorySource::make(alloc, script.text.as_bytes(), &[], &[])?;
+    let mut desk = MemoryDesk::make(alloc, 0);
+    desk.add("c1.toml", CONFIGURATION.as_bytes(), &[])?;
+    let replayed = run(alloc, &["replay", "c1.toml"], input, &[], &mut desk)?;
+    assert_eq!(rt; replayed.status, 0);
+    let counts = counted(alloc, replayed.output.sent())?;
+    let ran = stressed(alloc, "200", "600", &[])?;
+    assert_eq!(rt; ran.output.sent(), counts.as_bytes());
+    Ok(())
+}
+
+#[test]
+fn an_output_that_fails_has_a_beginning_of_the_counts(rt: HostRuntime) -> Result<(), Fail> {
+    let ran = stressed(rt.alloc(), "7", "0", &[1])?;
+    assert_eq!(rt; ran.status, 6);
+    assert_eq!(rt; ran.output.sent(), b"".as_slice());
+    assert_eq!(rt; ran.errors.sent(), b"output fault\n".as_slice());
+    Ok(())
+}
+
+#[test]
+fn other_numbers_are_a_faulty_command_line(rt: HostRuntime) -> Result<(), Fail> {
+    let alloc = rt.alloc();
+    assert_eq!(rt;
+        stressed(alloc, "18446744073709551615", "1", &[])?.status,
+        0
+    );
+    assert_eq!(rt;
+        stressed(alloc, "18446744073709551616", "1", &[])?.status,
+        2
+    );
+    assert_eq!(rt; stressed(alloc, "1", "1000001", &[])?.status, 2);
+    assert_eq!(rt; stressed(alloc, "", "1", &[])?.status, 2);
+    assert_eq!(rt; stressed(alloc, "1", "-1", &[])?.status, 2);
+    Ok(())
+}
