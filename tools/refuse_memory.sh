@@ -1,11 +1,12 @@
 #!/bin/sh
-# Refuses the requests for memory of two runs one after another, each in a run of its own, and counts how the runs end.
+# Refuses the requests for memory of three runs one after another, each in a run of its own, and counts how the runs end.
 #
 #   tools/refuse_memory.sh
 #
-# The runs: `replay` of a SETUP, a tick, its PLAY, six packets and a second tick, which are lines of examples/session.script; and
-# the test of `serve` with two workers that play a recording together. A replay ends as with all memory, or with status 70 and a
-# beginning of its output; a serve ends well, or with status 70, or its desk had no memory.
+# The runs: `replay` of a SETUP, a tick, its PLAY, six packets and a second tick, which are lines of examples/session.script;
+# `stress` of 1000 made events; and the test of `serve` with two workers that play a recording together. A replay ends as with all
+# memory, or with status 70 and a beginning of its output, a stress run with status 70 and no output; a serve ends well, or with
+# status 70, or its desk had no memory.
 # Needs cc, crates/satip/out/satip (`cd crates/satip && rt run -- --version` builds it) and
 # crates/satip_serve_tests/out/satip_serve_tests_tests (`cd crates/satip_serve_tests && rt test` builds it).
 set -eu
@@ -38,23 +39,30 @@ session() {
     awk '/^tick/ || (/^rtsp/ && ++requests < 3) || (/^packet/ && ++packets < 7)' "$top/examples/session.script"
 }
 
-replay() {
-    session > "$folder/script"
-    "$top/crates/satip/out/satip" replay "$top/examples/satip.toml" < "$folder/script" > "$folder/whole"
+# Runs these words over an input, and then with each request refused. With status 70 the output is a beginning of that with all
+# memory; that of a stress run is empty.
+each() {
+    name=$1
+    input=$2
+    shift 2
+    "$@" < "$input" > "$folder/whole"
     number=1
     usual=0
     wants=0
     while :; do
-        refuse "$number" "$top/crates/satip/out/satip" replay "$top/examples/satip.toml" < "$folder/script"
+        refuse "$number" "$@" < "$input"
         case $status in
         99) break ;;
-        0) cmp -s "$folder/whole" "$folder/output" && usual=$((usual + 1)) || echo "replay, request $number: status 0 with another output" ;;
-        70) begins && wants=$((wants + 1)) || echo "replay, request $number: status 70 with another output" ;;
-        *) echo "replay, request $number: status $status: $(head -1 "$folder/errors")" ;;
+        0) cmp -s "$folder/whole" "$folder/output" && usual=$((usual + 1)) || echo "$name, request $number: status 0 with another output" ;;
+        70) begins && wants=$((wants + 1)) || echo "$name, request $number: status 70 with another output" ;;
+        *) echo "$name, request $number: status $status: $(head -1 "$folder/errors")" ;;
         esac
+        if [ "$name" = stress ] && [ "$status" = 70 ] && [ -s "$folder/output" ]; then
+            echo "stress, request $number: status 70 with an output"
+        fi
         number=$((number + 1))
     done
-    echo "replay: $((number - 1)) requests: $usual runs as usual, $wants with status 70"
+    echo "$name: $((number - 1)) requests: $usual runs as usual, $wants with status 70"
 }
 
 serve() {
@@ -71,5 +79,7 @@ serve() {
     sort "$folder/ends" | uniq -c
 }
 
-replay
+session > "$folder/script"
+each replay "$folder/script" "$top/crates/satip/out/satip" replay "$top/examples/satip.toml"
+each stress /dev/null "$top/crates/satip/out/satip" stress 7 1000
 serve "together::two_workers_play_a_recording_together"
