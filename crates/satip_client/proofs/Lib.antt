@@ -1,0 +1,4 @@
+pub mod PulseLemmas
+pub mod WaitLemmas
+pub mod ExchangeLemmas
+pub mod LineLemmas

@@ -1,0 +1,84 @@
+-- A client that awaits the reply to a request.
+use Rattle.std.specs.Prelude.{◌≡◌, ℕ, ◌+◌, ◌<◌, ◌≤◌, ◌⊎◌, length, true, List, [], ◌++◌, Result, Ok, Err}
+use Rattle.satip_world.specs.Counts.{Rises}
+use Rattle.satip_world.specs.Lines.{Line, Grew}
+use Rattle.satip_world.specs.declared.connections.Received.{Received}
+use Rattle.satip_world.specs.declared.connections.Received.TheVariants as got
+use Rattle.satip_reply.specs.Replies.{HasNoReply, CanBecomeReply}
+use Rattle.satip_client.specs.declared.ending.RecordEnd.{RecordEnd}
+use Rattle.satip_client.specs.declared.ending.RecordEnd.TheVariants.{Done, OutputFault, Refused, BadReply, Silent, PeerFault, Closed, OutOfMemory}
+
+-- the text begins with no whole reply, and more bytes can make one of it
+pub record IsOpen (text : List ℕ) : Type 0 where
+  pub no_reply : HasNoReply text
+  pub can_become : CanBecomeReply text
+
+-- the text begins with a whole reply, or no bytes make one of it
+abbrev pub IsSettled : List ℕ → Type 0
+IsSettled text = IsOpen text → ⊥
+
+-- no fault was counted on the connection
+pub record SameFaults (o n : Line) : Type 0 where
+  pub receive_faults : n.receive_faults ≡ o.receive_faults
+  pub send_faults : n.send_faults ≡ o.send_faults
+
+-- nothing came in so often at least, or the count stands at its last value
+abbrev pub WasIdleFor : (times : ℕ) → (o n : Line) → Type 0
+WasIdleFor times o n = (o.idles + times ≤ n.idles) ⊎ (18446744073709551615 ≤ n.idles)
+
+-- what was received was put behind what was held
+pub record TookIn (tells : Type 0) (o n : Line) (before now : List ℕ) : Type 0 where
+  pub got : List ℕ
+  pub held : now ≡ before ++ got
+  pub content : Grew tells o n got []
+  pub faults : SameFaults o n
+  pub idles : o.idles ≤ n.idles
+
+-- one receive
+abbrev pub TakesIn : (tells : Type 0) (o n : Line) (before now : List ℕ) → Received → Type 0
+TakesIn tells o n before now (got.Got count) = TookIn tells o n before now × (length before < length now) × (n.idles ≡ o.idles)
+TakesIn tells o n before now got.Idle = TookIn tells o n before now × (now ≡ before) × Rises o.idles n.idles
+TakesIn tells o n before now got.End = TookIn tells o n before now × (now ≡ before) × (n.ended ≡ true)
+TakesIn tells o n before now got.Failed = (now ≡ before) × Grew tells o n [] [] × Rises o.receive_faults n.receive_faults
+
+-- a request was sent and bytes were received; what is held now is settled
+pub record Asked (tells : Type 0) (o n : Line) (request before now : List ℕ) : Type 0 where
+  pub got : List ℕ
+  pub held : now ≡ before ++ got
+  pub content : Grew tells o n got request
+  pub faults : SameFaults o n
+  pub idles : o.idles ≤ n.idles
+  pub settled : IsSettled now
+
+-- a request was sent, its reply isn't whole, and this is why none is awaited any more
+pub record Unanswered (tells : Type 0) (o n : Line) (request before : List ℕ) (cause : Type 0) : Type 0 where
+  pub got : List ℕ
+  pub content : Grew tells o n got request
+  pub faults : SameFaults o n
+  pub still_open : IsOpen (before ++ got)
+  pub cause_is : cause
+
+-- a beginning of a request was sent, and a fault was counted
+pub record AskFailed (tells : Type 0) (o n : Line) (request : List ℕ) : Type 0 where
+  pub got : List ℕ
+  pub part : List ℕ
+  pub rest : List ℕ
+  pub whole : request ≡ part ++ rest
+  pub content : Grew tells o n got part
+  pub rose : Rises o.receive_faults n.receive_faults ⊎ Rises o.send_faults n.send_faults
+
+-- how often nothing may come in while one reply is awaited
+abbrev pub idle_limit : ℕ
+idle_limit = 10000
+
+-- a request that is sent, and its reply
+abbrev pub Asks : (tells : Type 0) (o n : Line) (request before now : List ℕ) → Result (Unit {0}) RecordEnd → Type 0
+Asks tells o n request before now (Ok done) = Asked tells o n request before now
+Asks tells o n request before now (Err Done) = ⊥
+Asks tells o n request before now (Err OutputFault) = ⊥
+Asks tells o n request before now (Err (Refused code)) = ⊥
+Asks tells o n request before now (Err BadReply) = ⊥
+Asks tells o n request before now (Err Silent) = Unanswered tells o n request before (WasIdleFor idle_limit o n)
+Asks tells o n request before now (Err PeerFault) = AskFailed tells o n request
+Asks tells o n request before now (Err Closed) = Unanswered tells o n request before (n.ended ≡ true)
+Asks tells o n request before now (Err OutOfMemory) = ⊥

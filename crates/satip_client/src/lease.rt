@@ -1,0 +1,64 @@
+//! The session that a client was given.
+
+ghost use Rattle.std.specs.Prelude.{◌≡◌, IfOk};
+
+use satip_base::Want;
+use satip_requests::Grant;
+use std::alloc::Global;
+use std::marker::Model;
+
+/// The session's name, how many seconds it lives without a request, and its stream.
+#[derive(Drop)]
+pub struct Lease {
+    session: Vec<u8>,
+    timeout: u32,
+    stream: u16,
+}
+
+impl Model for Lease {
+    ghost use Rattle.satip_client.specs.Leases.{Terms};
+
+    ghost Value = { Terms };
+
+    ghost view = { λ l. record {
+      session = l.session.items;
+      timeout = l.timeout;
+      stream = l.stream;
+    } };
+}
+
+impl Lease {
+    ghost use Rattle.satip_client.specs.Leases.{terms_of};
+
+    /// Keeps what a reply gives.
+    pub(crate) fn of(alloc: Global, grant: &Grant) -> Result<Lease, Want>
+        ensures ok { IfOk result (λ lease. lease ≡ terms_of grant.now) }
+    {
+        match Vec::from_slice(alloc, grant.session) {
+            Ok(session) => Ok(Lease {
+                session,
+                timeout: grant.timeout,
+                stream: grant.stream,
+            }),
+            Err(_) => Err(Want),
+        }
+    }
+
+    pub fn session(&self) -> &[u8]
+        ensures session { result.now ≡ self.now.session }
+    {
+        &self.session
+    }
+
+    pub fn timeout(&self) -> u32
+        ensures timeout { result ≡ self.now.timeout }
+    {
+        self.timeout
+    }
+
+    pub fn stream(&self) -> u16
+        ensures stream { result ≡ self.now.stream }
+    {
+        self.stream
+    }
+}

@@ -1,0 +1,105 @@
+//! The first two requests: the stream is set up, and is to play.
+
+ghost use Rattle.std.specs.Prelude.{◌≡◌, ◌≤◌};
+ghost use Rattle.satip_requests.specs.Requests.{play_request, setup_request};
+ghost use Rattle.satip_client.specs.Exchanges.{ReadsAccepted, ReadsGrant, SetsUp, Starts, end_of_fault};
+ghost use Rattle.satip_client.specs.Waits.{IsSettled};
+
+use crate::asking::ask;
+use crate::ending::RecordEnd;
+use crate::heard::Heard;
+use crate::lease::Lease;
+use satip_reply::{ReplyRead, read_reply};
+use satip_requests::{Page, ReplyFault, accept, grant_of};
+use satip_world::Conn;
+use std::alloc::Global;
+
+fn end_of(fault: ReplyFault) -> RecordEnd
+    ensures end { result ≡ end_of_fault fault }
+{
+    match fault {
+        ReplyFault::Bad => RecordEnd::BadReply,
+        ReplyFault::Refused(code) => RecordEnd::Refused(code),
+    }
+}
+
+/// Asks for a stream by a query, whose datagrams are to come to this port.
+pub fn set_up<W: Conn>(
+    alloc: Global,
+    wire: &mut W,
+    address: &[u8],
+    query: &[u8],
+    port: u16,
+    page: &mut Page,
+    heard: &mut Heard,
+) -> Result<Lease, RecordEnd>
+    requires next { port ≤ 65534 }
+    ensures sets_up { SetsUp W.tells (W.line wire.old) (W.line wire.new)
+        (setup_request address.now query.now port) heard.old heard.new result }
+{
+    if page.write_setup(address, query, port).is_err() {
+        return Err(RecordEnd::OutOfMemory);
+    }
+    ask(wire, page.bytes(), heard)?;
+    match grant(alloc, heard.bytes()) {
+        Ok((lease, length)) => {
+            heard.pass(length);
+            Ok(lease)
+        }
+        Err(end) => Err(end),
+    }
+}
+
+// What the text grants, and how many bytes the reply has.
+fn grant(alloc: Global, text: &[u8]) -> Result<(Lease, usize), RecordEnd>
+    requires settled { IsSettled text.now }
+    ensures grants { ReadsGrant text.now result }
+{
+    match read_reply(text) {
+        ReplyRead::Reply(view) => match grant_of(&view) {
+            Ok(grant) => match Lease::of(alloc, &grant) {
+                Ok(lease) => Ok((lease, view.length)),
+                Err(_) => Err(RecordEnd::OutOfMemory),
+            },
+            Err(fault) => Err(end_of(fault)),
+        },
+        ReplyRead::More => unreachable!(),
+        ReplyRead::Bad => Err(RecordEnd::BadReply),
+    }
+}
+
+/// Asks that the stream play.
+pub fn start<W: Conn>(
+    wire: &mut W,
+    address: &[u8],
+    lease: &Lease,
+    page: &mut Page,
+    heard: &mut Heard,
+) -> Result<(), RecordEnd>
+    ensures starts { Starts W.tells (W.line wire.old) (W.line wire.new)
+        (play_request address.now lease.now.stream lease.now.session) heard.old result }
+{
+    if page
+        .write_play(address, lease.stream(), lease.session())
+        .is_err()
+    {
+        return Err(RecordEnd::OutOfMemory);
+    }
+    ask(wire, page.bytes(), heard)?;
+    accepted(heard.bytes())
+}
+
+// Whether the text accepts PLAY.
+fn accepted(text: &[u8]) -> Result<(), RecordEnd>
+    requires settled { IsSettled text.now }
+    ensures accepts { ReadsAccepted text.now result }
+{
+    match read_reply(text) {
+        ReplyRead::Reply(view) => match accept(&view, 2) {
+            Ok(()) => Ok(()),
+            Err(fault) => Err(end_of(fault)),
+        },
+        ReplyRead::More => unreachable!(),
+        ReplyRead::Bad => Err(RecordEnd::BadReply),
+    }
+}

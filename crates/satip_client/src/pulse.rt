@@ -1,0 +1,59 @@
+//! Keeping a session alive.
+
+ghost use Rattle.std.specs.Prelude.{◌≡◌, ◌+◌, ◌<◌, ◌≤◌};
+ghost use Rattle.satip_client.specs.Pulses.{Beats, is_due as is_due_at};
+
+use crate::ending::RecordEnd;
+use crate::lease::Lease;
+use satip_base::Put;
+use satip_requests::Page;
+use satip_world::{Clock, Conn};
+
+/// The moment of the last mark, and the number of the next request.
+#[derive(Clone, Copy, Debug, PartialEq, Eq)]
+pub struct Pulse {
+    pub mark: u64,
+    pub cseq: u32,
+}
+
+/// Reads the clock, and sends a request where half of the session's time has gone by since the
+/// mark; then this reading is the mark.
+pub fn keep_alive<W: Conn, M: Clock>(
+    wire: &mut W,
+    moment: &mut M,
+    address: &[u8],
+    lease: &Lease,
+    pulse: &mut Pulse,
+    page: &mut Page,
+) -> Result<(), RecordEnd>
+    requires few { pulse.old.cseq < 4294967295 }
+    ensures beats { Beats W.tells (W.line wire.old) (W.line wire.new)
+        (M.dial moment.old) (M.dial moment.new)
+        address.now lease.now pulse.old pulse.new result }
+    ensures counted { pulse.new.cseq ≤ pulse.old.cseq + 1 }
+{
+    let now = moment.now();
+    if !is_due(lease.timeout(), pulse.mark, now) {
+        return Ok(());
+    }
+    if page
+        .write_options(address, pulse.cseq, lease.session())
+        .is_err()
+    {
+        return Err(RecordEnd::OutOfMemory);
+    }
+    match wire.send(page.bytes()) {
+        Put::Whole => {
+            pulse.mark = now;
+            pulse.cseq += 1;
+            Ok(())
+        }
+        Put::Failed => Err(RecordEnd::PeerFault),
+    }
+}
+
+fn is_due(timeout: u32, mark: u64, now: u64) -> bool
+    ensures due { result ≡ is_due_at timeout mark now }
+{
+    now >= mark && now - mark >= timeout as u64 * 500
+}
