@@ -1,0 +1,79 @@
+-- How whole entries are read: an event, an answer, a reply and datagrams.
+use Rattle.std.specs.Prelude.{◌≡◌, ℕ, zero, suc, ◌-◌, ◌≤◌, ◌<◌, ◌^◌, List, [], ◌∷◌, length, nat_le, if◌then◌else◌, Option, Some, None}
+use Rattle.satip_base.specs.declared.network.Address.{Address}
+use Rattle.satip_base.specs.declared.limits.TheConstants.{REPLY_BYTES, EVENT_BYTES, EVENT_DATAGRAMS}
+use Rattle.satip_base.specs.Output.{Datagram, Output, datagram_bytes}
+use Rattle.satip_history.specs.Lists.{Each}
+use Rattle.satip_plain.specs.declared.events.Event.{Event}
+use Rattle.satip_plain.specs.declared.answers.Answer.{Answer}
+use Rattle.satip_plain.specs.Values.{IsEvent}
+use Rattle.satip_records.specs.Records.{record_text}
+use Rattle.satip_records.specs.Reading.{then_read, read_u16, read_u32}
+use Rattle.satip_records.specs.ReadingAnswers.{IsAnswer, read_answer}
+use Rattle.satip_record_reader.specs.ReadingLists.{read_bytes}
+use Rattle.satip_record_reader.specs.ReadingEvents.{read_event}
+
+-- what a record tells
+pub record Entry : Type 0 where
+  pub event : Event
+  pub answer : Answer
+  pub reply : List ℕ
+  pub datagrams : List Datagram
+
+abbrev pub entry_text : Entry → List ℕ
+entry_text e = record_text e.event e.answer e.reply e.datagrams
+
+pub record IsTarget (datagram : Datagram) : Type 0 where
+  pub ip : datagram.to.ip < 2 ^ 32
+  pub port : datagram.to.port < 2 ^ 16
+
+-- its numbers are within their types, and its reply and its datagrams fit the room of one event
+pub record IsEntry (e : Entry) : Type 0 where
+  pub event : IsEvent e.event
+  pub answer : IsAnswer e.answer
+  pub reply : length e.reply ≤ REPLY_BYTES
+  pub targets : Each IsTarget e.datagrams
+  pub count : length e.datagrams ≤ EVENT_DATAGRAMS
+  pub bytes : datagram_bytes e.datagrams ≤ EVENT_BYTES
+
+-- a count within the room, and so many bytes
+unfoldable pub read_counted : ℕ → List ℕ → Option (List ℕ × List ℕ)
+read_counted room bytes = then_read (read_u32 bytes) (λ count rest. if nat_le count room then read_bytes count rest else None)
+
+unfoldable pub read_address : List ℕ → Option (Address × List ℕ)
+read_address bytes =
+    then_read (read_u32 bytes) (λ ip after_ip.
+    then_read (read_u16 after_ip) (λ port more. Some (record { ip = ip; port = port }, more)))
+
+unfoldable pub read_datagram : ℕ → List ℕ → Option (Datagram × List ℕ)
+read_datagram room bytes =
+    then_read (read_address bytes) (λ to after_to.
+    then_read (read_counted room after_to) (λ payload more. Some (record { to = to; bytes = payload }, more)))
+
+-- so many datagrams, within a room that they share
+unfoldable pub read_datagrams : ℕ → ℕ → List ℕ → Option (List Datagram × List ℕ)
+read_datagrams zero room bytes = Some ([], bytes)
+read_datagrams (suc count) room bytes =
+    then_read (read_datagram room bytes) (λ d rest.
+    then_read (read_datagrams count (room - length d.bytes) rest) (λ ds more. Some (d ∷ ds, more)))
+
+unfoldable pub read_datagram_list : List ℕ → Option (List Datagram × List ℕ)
+read_datagram_list bytes =
+    then_read (read_u16 bytes) (λ count rest. if nat_le count EVENT_DATAGRAMS then read_datagrams count EVENT_BYTES rest else None)
+
+unfoldable pub read_entry : List ℕ → Option (Entry × List ℕ)
+read_entry bytes =
+    then_read (read_event bytes) (λ event after_event.
+    then_read (read_answer after_event) (λ answer after_answer.
+    then_read (read_counted REPLY_BYTES after_answer) (λ reply after_reply.
+    then_read (read_datagram_list after_reply) (λ datagrams more. Some (record { event = event; answer = answer; reply = reply; datagrams = datagrams }, more)))))
+
+-- the bytes are no record: no entry's record is they
+abbrev pub IsNoRecord : List ℕ → Type 0
+IsNoRecord bytes = (entry : Entry) → IsEntry entry → bytes ≡ entry_text entry → ⊥
+
+-- what was read, with what the output then holds
+abbrev pub entry_behind : Option (Event × Answer) → Output → List ℕ → Option (Entry × List ℕ)
+entry_behind None out rest = None
+entry_behind (Some (event, answer)) out rest =
+    Some (record { event = event; answer = answer; reply = out.reply; datagrams = out.datagrams }, rest)

@@ -1,0 +1,28 @@
+-- How lists are read from the front of some bytes.
+use Rattle.std.specs.Prelude.{ℕ, zero, suc, List, [], ◌∷◌, ◌++◌, length, take, drop, nat_le, if◌then◌else◌, Option, Some, None}
+use Rattle.satip_records.specs.Reading.{then_read, read_u16}
+
+-- so many values, one behind the other
+unfoldable pub read_each : {T : Type 0} → (List ℕ → Option (T × List ℕ)) → ℕ → List ℕ → Option (List T × List ℕ)
+read_each read zero bytes = Some ([], bytes)
+read_each read (suc count) bytes =
+    then_read (read bytes) (λ x rest. then_read (read_each read count rest) (λ xs more. Some (x ∷ xs, more)))
+
+-- so many bytes
+unfoldable pub read_bytes : ℕ → List ℕ → Option (List ℕ × List ℕ)
+read_bytes count bytes = if nat_le count (length bytes) then Some (take count bytes, drop count bytes) else None
+
+unfoldable pub read_pid : List ℕ → Option (ℕ × List ℕ)
+read_pid bytes = then_read (read_u16 bytes) (λ pid rest. if nat_le pid 8191 then Some (pid, rest) else None)
+
+-- a count of at most 512, and so many PIDs
+unfoldable pub read_pid_list : List ℕ → Option (List ℕ × List ℕ)
+read_pid_list bytes = then_read (read_u16 bytes) (λ count rest. if nat_le count 512 then read_each read_pid count rest else None)
+
+-- a count of at most 128, and so many bytes
+unfoldable pub read_short : List ℕ → Option (List ℕ × List ℕ)
+read_short bytes = then_read (read_u16 bytes) (λ count rest. if nat_le count 128 then read_bytes count rest else None)
+
+-- what is read behind values that were read before
+abbrev pub read_more : {T : Type 0} → (List ℕ → Option (T × List ℕ)) → ℕ → List T → List ℕ → Option (List T × List ℕ)
+read_more read count done bytes = then_read (read_each read count bytes) (λ xs rest. Some (done ++ xs, rest))
