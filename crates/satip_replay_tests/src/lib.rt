@@ -1,4 +1,4 @@
-//! Whole replays and stress runs over memory, one test for each thing that they show. It has nothing but tests.
+//! Whole replays over memory, one test for each thing that they show. It has nothing but tests.
 #![tactic(auto)]
 
 #[cfg(test)]
@@ -23,8 +23,6 @@ mod refusals;
 mod reports;
 #[cfg(test)]
 mod retuning;
-#[cfg(test)]
-mod stress;
 
 #[cfg(test)]
 use satip_replay_steps::{bytes, clients, row, steps};

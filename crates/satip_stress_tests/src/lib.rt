@@ -1,0 +1,8 @@
+//! Whole stress runs over memory. It has nothing but tests.
+#![tactic(auto)]
+
+#[cfg(test)]
+mod stress;
+
+#[cfg(test)]
+use satip_replay_steps::row;
