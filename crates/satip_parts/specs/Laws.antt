@@ -1,0 +1,32 @@
+-- What is true of all texts.
+use Rattle.std.specs.Prelude.{◌≡◌, ℕ, ◌≤◌, List, ◌++◌, length}
+use Rattle.satip_frame.specs.declared.framing.Break.{Break}
+use Rattle.satip_frame.specs.Said.{Said}
+use Rattle.satip_frame.specs.Stream.{Tail, Broken}
+use Rattle.satip_parts.specs.Frames.{Between, frame, behind}
+use Rattle.satip_parts.specs.Parts.{Parts, AreFirst}
+
+-- a text has one list of messages and one tail
+abbrev pub OneReading : Type 0
+OneReading =
+    (text : List ℕ) (ms ns : List Said) (s t : Tail) → Parts text ms s → Parts text ns t → (ms ≡ ns) × (s ≡ t)
+
+-- each text has messages and a tail
+abbrev pub HasReading : Type 0
+HasReading = (text : List ℕ) → (ms : List Said) × (t : Tail) × Parts text ms t
+
+-- what was read before stays when more bytes come, and a broken text stays broken
+pub record KeptByMoreBytes : Type 0 where
+  pub messages : (text more : List ℕ) (ms ns : List Said) (s t : Tail) → Parts text ms s → Parts (text ++ more) ns t
+      → (others : List Said) × (ns ≡ ms ++ others)
+  pub broken : (text more : List ℕ) (ms : List Said) (cause : Break) → Parts text ms (Broken cause) → Parts (text ++ more) ms (Broken cause)
+
+-- messages that a text begins with are the first of its messages
+abbrev pub FirstIsFirst : Type 0
+FirstIsFirst =
+    (text : List ℕ) (ms ns : List Said) (t : Tail) → AreFirst ms text → Parts text ns t → (others : List Said) × (ns ≡ ms ++ others)
+
+-- a whole frame at the front of a text counts nowhere, whatever its channel and its bytes
+abbrev pub FramesCountNowhere : Type 0
+FramesCountNowhere =
+    (channel : ℕ) (bytes text : List ℕ) (ms : List Said) (t : Tail) → length bytes ≤ 65535 → Parts text ms t → Parts (frame channel bytes ++ text) ms t

@@ -1,0 +1,37 @@
+//! What is true of all texts, and of every list of calls of a parter, as contracts of functions with
+//! an empty body.
+ghost use Rattle.satip_parts.specs.Laws.{OneReading, HasReading, KeptByMoreBytes, FirstIsFirst, FramesCountNowhere};
+ghost use Rattle.satip_parts.specs.Calls.{PartsLaw};
+
+/// Whatever the pieces, the messages that a new parter finds are the first ones of the text that
+/// was fed; where it tells `More`, `Bad` or `TooLong`, they are all messages of the text that was
+/// fed, and that is how the text ends.
+pub fn parts_law()
+    ensures law { PartsLaw }
+{}
+
+/// A text has one list of messages and one tail.
+pub fn one_reading()
+    ensures law { OneReading }
+{}
+
+/// Each text has messages and a tail.
+pub fn has_reading()
+    ensures law { HasReading }
+{}
+
+/// When more bytes come, the messages that were read stay the first ones, and a broken text stays
+/// broken.
+pub fn kept_by_more_bytes()
+    ensures law { KeptByMoreBytes }
+{}
+
+/// Messages that a text begins with are the first of its messages.
+pub fn first_is_first()
+    ensures law { FirstIsFirst }
+{}
+
+/// A whole frame before a text counts nowhere, whatever its channel and its bytes.
+pub fn frames_count_nowhere()
+    ensures law { FramesCountNowhere }
+{}
