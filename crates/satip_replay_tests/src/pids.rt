@@ -1,7 +1,7 @@
 //! PIDs that are added, and the limits of their number and values.
 
 use crate::clients::{Client, Session};
-use crate::row::FIRST_MUX;
+use crate::row::{FIRST_MUX, Row};
 use crate::steps::Step::*;
 use crate::steps::is_replayed;
 use std::alloc::Global;
@@ -56,22 +56,17 @@ fn a_stream_has_at_most_256_pids_and_keeps_them_when_more_are_refused(
     rt: HostRuntime,
 ) -> Result<(), Fail> {
     let alloc = rt.alloc();
+    let mut row = Row::new(alloc);
     let session = Session::first(1);
     let most = numbers(alloc, 256)?;
+    row.founds(session, &format!(in alloc; "?pids={most}")?, 1)?;
     let more = numbers(alloc, 257)?;
-    let given = format!(in alloc; "?pids={most}")?;
-    let refused = format!(in alloc; "?pids={more}")?;
+    row.asks_in(session, "PLAY", &format!(in alloc; "?pids={more}")?)?;
+    row.refuses(503, "RTSP/1.0 503 Service Unavailable", "No-More:pids")?;
+    let line = "DESCRIBE rtsp://192.168.1.10/ RTSP/1.0";
+    row.asks(Client::First, &[line, "CSeq: 1"])?;
     let text = format!(in alloc; "ver=1.0;src=1;tuner=0,0,0,0,,,,,,,,;pids={most}")?;
-    let steps = [
-        Founds(session, &given, 1),
-        AsksIn(session, "PLAY", &refused),
-        Refuses(503, "RTSP/1.0 503 Service Unavailable", "No-More:pids"),
-        Asks(
-            Client::First,
-            &["DESCRIBE rtsp://192.168.1.10/ RTSP/1.0", "CSeq: 1"],
-        ),
-        Describes(&text, 1098),
-    ];
-    assert!(rt; is_replayed(alloc, &steps)?);
+    row.describes(&text, 1098)?;
+    assert!(rt; row.is_replayed()?);
     Ok(())
 }
