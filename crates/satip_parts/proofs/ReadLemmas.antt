@@ -23,15 +23,7 @@ pub none_of : (o : Option Said) → (IsSome o → ⊥) → o ≡ None
 none_of None none = refl
 none_of (Some m) none = absurd (none refl)
 
-some_of : {P : Said → Type 0} (o : Option Said) → IsSomeAnd o P → (m : Said) × P m
-some_of None x = absurd x
-some_of (Some m) x = (m, x)
-
 -- ---- one step of the framer on a whole text
-
--- a message was found
-pub message_told : (bytes : List ℕ) (new : Held) → Tells bytes [] new Message → HasMessage (skip_newlines bytes)
-message_told bytes new told = let found = some_of new.found told in (found.0, found.1.0, found.1.1)
 
 no_message : (bytes : List ℕ) (t : Tail) → Ends (skip_newlines bytes) t → HasMessage (skip_newlines bytes) → ⊥
 no_message bytes t ends has = begins_and_ends t has.2 ends

@@ -3,7 +3,8 @@ ghost use Rattle.std.specs.Prelude.{◌≡◌, ◌-◌, ◌↔◌, ◌<◌, ◌�
 ghost use Rattle.satip_frame.specs.Stream.{skip_newlines, Begins};
 ghost use Rattle.satip_frame.specs.Held.{Tells};
 ghost use Rattle.satip_frame.specs.Said.{Said};
-ghost use Rattle.satip_parts.specs.Fronts.{IsStart, HasMessage, IsRead};
+ghost use Rattle.satip_parts.specs.Frames.{IsStart};
+ghost use Rattle.satip_parts.specs.Fronts.{HasMessage, IsRead};
 
 use satip_frame::{Framer, Step};
 
