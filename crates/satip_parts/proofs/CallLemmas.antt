@@ -1,5 +1,5 @@
 -- What a list of calls of a parter comes to.
-use Rattle.std.proofs.Common.{◌≡◌, ℕ, List, [], ◌∷◌, ◌++◌, refl, sym, subst, append_assoc, append-nil, IsSomeAnd}
+use Rattle.std.proofs.Common.{ℕ, List, [], ◌∷◌, ◌++◌, refl, sym, subst, append_assoc, append-nil, IsSomeAnd}
 use Rattle.satip_frame.specs.declared.framing.Break.TheVariants.{Bad, TooLong}
 use Rattle.satip_frame.specs.Said.{Said}
 use Rattle.satip_frame.specs.Stream.{Tail, Unfinished, Broken}

@@ -1,5 +1,5 @@
 -- The messages of a text with frames: determined, and kept when more bytes come.
-use Rattle.std.proofs.Common.{◌≡◌, ℕ, zero, suc, ◌+◌, ◌<◌, ◌≤◌, List, [], ◌∷◌, ◌++◌, length, take, drop, refl, sym, ap, ◌∙◌, subst, inl, inr, arith, append_assoc, append-nil, length-append, lit<, IsTrue}
+use Rattle.std.proofs.Common.{◌≡◌, ℕ, zero, suc, ◌+◌, ◌<◌, ◌≤◌, List, [], ◌∷◌, ◌++◌, length, take, drop, refl, sym, ap, ◌∙◌, subst, inl, arith, append_assoc, append-nil, length-append, lit<, IsTrue}
 use Rattle.std.proofs.lemmas.List.{take-append-le, drop-append-le, take-take}
 use Rattle.satip_frame.specs.declared.framing.Break.{Break}
 use Rattle.satip_frame.specs.Said.{Said}
@@ -8,8 +8,8 @@ use Rattle.satip_frame.specs.Stream.{Tail, Unfinished, Broken, skip_newlines, Be
 use Rattle.satip_frame.proofs.StreamLemmas.{begins_unique, begins_and_ends, ends_unique, begins_some, broken_stays as frame_broken_stays}
 use Rattle.satip_frame.proofs.ReadingLemmas.{reading_of}
 use Rattle.satip_parts.specs.Frames.{Spot, Between, behind, frame, IsStart}
-use Rattle.satip_parts.specs.Laws.{Part, Frame, Message, joined, messages_in, WholePartsAreRead}
-use Rattle.satip_parts.specs.Parts.{Parts, Leads, AreFirst}
+use Rattle.satip_parts.specs.Laws.{Frame, Message, joined, messages_in, WholePartsAreRead}
+use Rattle.satip_parts.specs.Parts.{Parts, Leads}
 use Rattle.satip_parts.proofs.FrameLemmas.{behind_clean, behind_some, behind_shorter, frame_passed, start_here}
 
 -- ---- one message at the front

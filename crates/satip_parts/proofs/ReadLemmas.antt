@@ -1,5 +1,5 @@
 -- What the framer finds in the first bytes of a text.
-use Rattle.std.proofs.Common.{◌≡◌, ℕ, zero, suc, ◌+◌, ◌-◌, ◌<◌, ◌≤◌, Bool, true, false, cond, List, [], ◌∷◌, ◌++◌, length, take, drop, Option, Some, None, refl, sym, ap, ◌∙◌, subst, ⊎_elim, arith, length-take, IsSomeAnd, IsSome}
+use Rattle.std.proofs.Common.{◌≡◌, ℕ, zero, suc, ◌+◌, ◌-◌, ◌<◌, ◌≤◌, Bool, true, false, cond, List, [], ◌∷◌, length, take, drop, Option, Some, None, refl, sym, ap, ◌∙◌, subst, ⊎_elim, arith, IsSomeAnd, IsSome}
 use Rattle.std.proofs.lemmas.Bool.{cases_lt}
 use Rattle.std.proofs.lemmas.List.{take-take, length-take-le}
 use Rattle.satip_frame.specs.declared.framing.Step.{Step}
@@ -10,7 +10,7 @@ use Rattle.satip_frame.specs.Held.{Held, Tells}
 use Rattle.satip_frame.specs.Stream.{Tail, Unfinished, Broken, skip_newlines, Begins, Ends}
 use Rattle.satip_frame.proofs.StreamLemmas.{begins_and_ends, begins_some, skip_shorter}
 use Rattle.satip_parts.specs.Frames.{is_line_end}
-use Rattle.satip_parts.specs.Fronts.{HasMessage, IsRead}
+use Rattle.satip_parts.specs.Fronts.{HasMessage}
 use Rattle.satip_parts.proofs.PartLemmas.{begins_front}
 
 -- ---- options

@@ -1,4 +1,4 @@
-use Rattle.std.proofs.Common.{◌≡◌, ◌+◌, ◌++◌, true, false, drop, length, refl, sym, ap, ◌∙◌, subst, arith, rules, length-drop}
+use Rattle.std.proofs.Common.{◌≡◌, ◌+◌, ◌++◌, true, false, drop, refl, sym, ap, ◌∙◌, subst, arith, rules, length-drop}
 use Rattle.satip_frame.specs.declared.framing.Step.TheVariants.{More}
 use Rattle.satip_frame.specs.Held.{cause_of}
 use Rattle.satip_frame.specs.Stream.{Unfinished}
