@@ -1,5 +1,5 @@
 -- What a list of calls of a parter comes to.
-use Rattle.std.proofs.Common.{◌≡◌, ℕ, List, [], ◌∷◌, ◌++◌, refl, sym, subst, append_assoc, append-nil, IsSomeAnd}
+use Rattle.std.proofs.Common.{ℕ, List, [], ◌∷◌, ◌++◌, refl, sym, subst, append_assoc, append-nil, IsSomeAnd}
 use Rattle.satip_frame.specs.declared.framing.Break.TheVariants.{Bad, TooLong}
 use Rattle.satip_frame.specs.Said.{Said}
 use Rattle.satip_frame.specs.Stream.{Tail, Unfinished, Broken}
@@ -8,6 +8,7 @@ use Rattle.satip_parts.specs.Frames.{inside}
 use Rattle.satip_parts.specs.Parts.{Parts}
 use Rattle.satip_parts.specs.Held.{Held, new_parter, IsReadUpTo, Tells}
 use Rattle.satip_parts.specs.Calls.{Call, Took, Found, Told, Does, DoAll, fed, handed, PartsLaw}
+use Rattle.satip_parts.proofs.ParterLemmas.{feed_follows}
 
 told_read : (tail : Tail) (text : List ℕ) (ms : List Said) (new : Held) → Tells text ms new (step_of tail) → IsReadUpTo text ms new
 told_read Unfinished text ms new told = told.1
@@ -27,7 +28,8 @@ read_by_calls old [] new same text ms reads =
     (subst (λ l. IsReadUpTo text l new) (sym (append-nil ms)) (subst (λ (h : Held). IsReadUpTo text ms h) same reads))
 read_by_calls old (Took bytes ∷ calls) new (next, does, all) text ms reads =
     subst (λ t. IsReadUpTo t (ms ++ handed calls) new) (append_assoc text bytes (fed calls))
-    (read_by_calls next calls new all (text ++ bytes) ms (does text ms reads))
+    (read_by_calls next calls new all (text ++ bytes) ms
+    (feed_follows old.to_come next.to_come old.bytes next.bytes bytes does.1 does.0 text ms reads))
 read_by_calls old (Found m ∷ calls) new (next, does, all) text ms reads =
     let on : IsReadUpTo text (ms ++ m ∷ []) next = subst (λ f. IsSomeAnd f (λ n. IsReadUpTo text (ms ++ n ∷ []) next)) does.0 (does.1 text ms reads) in
     subst (λ l. IsReadUpTo (text ++ fed calls) l new) (append_assoc ms (m ∷ []) (handed calls))

@@ -1,8 +1,7 @@
 -- What stands behind the frames at the front of a text, and when more bytes come.
-use Rattle.std.proofs.Common.{◌≡◌, ℕ, zero, suc, ◌+◌, ◌*◌, ◌-◌, ◌/◌, ◌%◌, ◌<◌, ◌≤◌, Bool, true, false, cond, eqb, get_or, List, [], ◌∷◌, ◌++◌, length, drop, Option, Some, None, refl, sym, ap, ◌∙◌, subst, arith}
+use Rattle.std.proofs.Common.{◌≡◌, ℕ, zero, suc, ◌+◌, ◌*◌, ◌-◌, ◌/◌, ◌%◌, ◌<◌, ◌≤◌, Bool, true, false, cond, eqb, get_or, List, [], ◌∷◌, ◌++◌, length, drop, Option, Some, None, refl, ap, ◌∙◌, subst, arith}
 use Rattle.satip_frame.specs.Stream.{skip_newlines}
-use Rattle.satip_parts.specs.Frames.{Spot, Between, Channel, High, Low, Inside, inside, is_line_end, move, passed, behind, frame}
-use Rattle.satip_parts.specs.Fronts.{IsStart}
+use Rattle.satip_parts.specs.Frames.{Spot, Between, Channel, High, Low, Inside, inside, is_line_end, move, passed, behind, frame, IsStart}
 
 -- ---- the first byte of a message
 
@@ -36,17 +35,6 @@ pub behind_clean : (spot : Spot) (text : List ℕ) → skip_newlines (behind spo
 behind_clean spot [] = refl
 behind_clean spot (b ∷ text) = behind_clean_by spot b text (move spot b) refl (λ next. behind_clean next text)
 
-behind_skip_by : (b : ℕ) (text : List ℕ) (r : Bool) → is_line_end b ≡ r → behind Between text ≡ behind Between (skip_newlines text)
-    → behind Between (b ∷ text) ≡ behind Between (cond r (skip_newlines text) (b ∷ text))
-behind_skip_by b text true e again =
-    ap (λ r. passed (cond r (Some Between) (cond (eqb b 36) (Some Channel) None)) (λ next. behind next text) (b ∷ text)) e ∙ again
-behind_skip_by b text false e again = refl
-
--- line ends between messages count nowhere
-pub behind_skip : (text : List ℕ) → behind Between text ≡ behind Between (skip_newlines text)
-behind_skip [] = refl
-behind_skip (b ∷ text) = behind_skip_by b text (is_line_end b) refl (behind_skip text)
-
 -- ---- more bytes
 
 behind_some_by : (b : ℕ) (text more : List ℕ) (o : Option Spot) → 0 < length (passed o (λ next. behind next text) (b ∷ text))
@@ -71,10 +59,6 @@ behind_shorter spot (b ∷ text) = behind_shorter_by b text (move spot b) (λ ne
 
 -- ---- what is passed over
 
-pub line_end_passed : (b : ℕ) (text : List ℕ) → is_line_end b ≡ true → behind Between (b ∷ text) ≡ behind Between text
-line_end_passed b text e =
-    ap (λ r. passed (cond r (Some Between) (cond (eqb b 36) (Some Channel) None)) (λ next. behind next text) (b ∷ text)) e
-
 -- the first bytes of a frame's last ones
 pub inside_passed : (n k : ℕ) (bytes more : List ℕ) → k ≤ n → k ≤ length bytes
     → behind (inside n) (bytes ++ more) ≡ behind (inside (n - k)) (drop k bytes ++ more)
@@ -83,16 +67,6 @@ inside_passed zero (suc k) bytes more h l = absurd (omega (arith, h))
 inside_passed (suc n) (suc k) [] more h l = absurd (omega (arith, l))
 inside_passed (suc n) (suc k) (b ∷ bytes) more h l =
     inside_passed n k bytes more (omega (arith, h)) (omega (arith, l)) ∙ ap (λ m. behind (inside m) (drop k bytes ++ more)) (omega arith)
-
--- a frame's head
-pub head_passed : (bytes more : List ℕ) → 4 ≤ length bytes → get_or bytes 0 0 ≡ 36
-    → behind Between (bytes ++ more) ≡ behind (inside (get_or bytes 2 0 * 256 + get_or bytes 3 0)) (drop 4 bytes ++ more)
-head_passed [] more h e = absurd (omega (arith, h))
-head_passed (a ∷ []) more h e = absurd (omega (arith, h))
-head_passed (a ∷ b ∷ []) more h e = absurd (omega (arith, h))
-head_passed (a ∷ b ∷ c ∷ []) more h e = absurd (omega (arith, h))
-head_passed (a ∷ b ∷ c ∷ d ∷ bytes) more h e =
-    ap (λ v. behind Between (v ∷ (b ∷ c ∷ d ∷ bytes ++ more))) e
 
 -- a beginning of a frame's head
 pub head_open : (bytes : List ℕ) → length bytes < 4 → get_or bytes 0 0 ≡ 36 → behind Between bytes ≡ []

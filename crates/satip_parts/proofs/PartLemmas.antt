@@ -1,5 +1,5 @@
 -- The messages of a text with frames: determined, and kept when more bytes come.
-use Rattle.std.proofs.Common.{◌≡◌, ℕ, zero, suc, ◌+◌, ◌<◌, ◌≤◌, List, [], ◌∷◌, ◌++◌, length, take, drop, refl, sym, ap, ◌∙◌, subst, inl, inr, arith, append_assoc, append-nil, length-append, lit<, IsTrue}
+use Rattle.std.proofs.Common.{◌≡◌, ℕ, zero, suc, ◌+◌, ◌<◌, ◌≤◌, List, [], ◌∷◌, ◌++◌, length, take, drop, refl, sym, ap, ◌∙◌, subst, inl, arith, append_assoc, append-nil, length-append, lit<, IsTrue}
 use Rattle.std.proofs.lemmas.List.{take-append-le, drop-append-le, take-take}
 use Rattle.satip_frame.specs.declared.framing.Break.{Break}
 use Rattle.satip_frame.specs.Said.{Said}
@@ -7,9 +7,10 @@ use Rattle.satip_frame.specs.Head.{HasNoEmptyLine, ends_in_empty_line, IsGoodHea
 use Rattle.satip_frame.specs.Stream.{Tail, Unfinished, Broken, skip_newlines, Begins, Ends, Messages}
 use Rattle.satip_frame.proofs.StreamLemmas.{begins_unique, begins_and_ends, ends_unique, begins_some, broken_stays as frame_broken_stays}
 use Rattle.satip_frame.proofs.ReadingLemmas.{reading_of}
-use Rattle.satip_parts.specs.Frames.{Spot, Between, behind}
-use Rattle.satip_parts.specs.Parts.{Parts, Leads, AreFirst}
-use Rattle.satip_parts.proofs.FrameLemmas.{behind_clean, behind_some, behind_shorter}
+use Rattle.satip_parts.specs.Frames.{Spot, Between, behind, frame, IsStart}
+use Rattle.satip_parts.specs.Laws.{Frame, Message, joined, messages_in, WholePartsAreRead}
+use Rattle.satip_parts.specs.Parts.{Parts, Leads}
+use Rattle.satip_parts.proofs.FrameLemmas.{behind_clean, behind_some, behind_shorter, frame_passed, start_here}
 
 -- ---- one message at the front
 
@@ -167,3 +168,21 @@ leads-append text more [] spot rest x = λ later.
     ap (λ t. behind Between t) (append_assoc text more later) ∙ x (more ++ later) ∙ ap (λ t. behind spot t) (sym (append_assoc rest more later))
 leads-append text more (m ∷ ms) spot rest x =
     (x.0 ++ more, begins_behind_more text more m x.0 x.1, leads-append x.0 more ms spot rest x.2)
+
+-- ---- whole parts
+
+start_more : (bytes more : List ℕ) → IsStart bytes → IsStart (bytes ++ more)
+start_more [] more start = absurd start
+start_more (b ∷ bytes) more start = start
+
+pub whole_parts : WholePartsAreRead
+whole_parts [] whole = empty_ends
+whole_parts (Frame channel bytes ∷ parts) whole =
+    same_parts (joined parts) (frame channel bytes ++ joined parts) (messages_in parts) Unfinished
+    (sym (frame_passed channel bytes (joined parts))) (whole_parts parts whole.1)
+whole_parts (Message bytes m ∷ parts) whole =
+    let rest = joined parts in (
+      rest,
+      subst (λ t. Begins t m rest) (sym (start_here (bytes ++ rest) (start_more bytes rest whole.0))) (begins_more rest whole.1),
+      whole_parts parts whole.2,
+    )

@@ -1,5 +1,5 @@
 -- What a parter may answer from what stands at the front of its bytes.
-use Rattle.std.proofs.Common.{◌≡◌, ℕ, zero, suc, ◌+◌, ◌<◌, ◌≤◌, Bool, true, false, List, [], ◌∷◌, ◌++◌, length, drop, Option, Some, None, refl, sym, ap, ◌∙◌, subst, arith, length-append, drop-drop, IsSomeAnd, MatchBool}
+use Rattle.std.proofs.Common.{◌≡◌, ℕ, ◌+◌, ◌≤◌, Bool, true, false, List, [], ◌∷◌, ◌++◌, length, drop, Option, Some, None, sym, ap, ◌∙◌, subst, arith, length-append, drop-drop, IsSomeAnd, MatchBool}
 use Rattle.satip_frame.specs.declared.framing.Break.{Break}
 use Rattle.satip_frame.specs.declared.framing.Break.TheVariants.{Bad as cause_bad, TooLong as cause_too_long}
 use Rattle.satip_frame.specs.declared.framing.Step.{Step}
@@ -7,10 +7,10 @@ use Rattle.satip_frame.specs.declared.framing.Step.TheVariants.{Message, More, B
 use Rattle.satip_frame.specs.Said.{Said}
 use Rattle.satip_frame.specs.Held.{step_of, cause_of}
 use Rattle.satip_frame.specs.Stream.{Tail, Unfinished, Broken, Begins, Ends}
-use Rattle.satip_parts.specs.Frames.{Between, inside, behind}
+use Rattle.satip_parts.specs.Frames.{Between, inside, behind, IsStart}
 use Rattle.satip_parts.specs.Parts.{Parts, Leads}
 use Rattle.satip_parts.specs.Held.{Held, IsReadUpTo, Tells}
-use Rattle.satip_parts.specs.Fronts.{IsStart, IsPassed, IsOpen, IsRead, IsEnd}
+use Rattle.satip_parts.specs.Fronts.{IsPassed, IsOpen, IsRead, IsEnd}
 use Rattle.satip_parts.proofs.FrameLemmas.{start_here}
 use Rattle.satip_parts.proofs.PartLemmas.{empty_ends, one_list, leads_first, ends_from_rest, leads_more, leads_on, leads-append}
 use Rattle.satip_parts.proofs.ReadLemmas.{some_map}

@@ -1,5 +1,5 @@
 -- What the framer finds in the first bytes of a text.
-use Rattle.std.proofs.Common.{◌≡◌, ℕ, zero, suc, ◌+◌, ◌-◌, ◌<◌, ◌≤◌, Bool, true, false, cond, List, [], ◌∷◌, ◌++◌, length, take, drop, Option, Some, None, refl, sym, ap, ◌∙◌, subst, ⊎_elim, arith, length-take, IsSomeAnd, IsSome}
+use Rattle.std.proofs.Common.{◌≡◌, ℕ, zero, suc, ◌+◌, ◌-◌, ◌<◌, ◌≤◌, Bool, true, false, cond, List, [], ◌∷◌, length, take, drop, Option, Some, None, refl, sym, ap, ◌∙◌, subst, ⊎_elim, arith, IsSomeAnd, IsSome}
 use Rattle.std.proofs.lemmas.Bool.{cases_lt}
 use Rattle.std.proofs.lemmas.List.{take-take, length-take-le}
 use Rattle.satip_frame.specs.declared.framing.Step.{Step}
@@ -10,7 +10,7 @@ use Rattle.satip_frame.specs.Held.{Held, Tells}
 use Rattle.satip_frame.specs.Stream.{Tail, Unfinished, Broken, skip_newlines, Begins, Ends}
 use Rattle.satip_frame.proofs.StreamLemmas.{begins_and_ends, begins_some, skip_shorter}
 use Rattle.satip_parts.specs.Frames.{is_line_end}
-use Rattle.satip_parts.specs.Fronts.{HasMessage, IsRead}
+use Rattle.satip_parts.specs.Fronts.{HasMessage}
 use Rattle.satip_parts.proofs.PartLemmas.{begins_front}
 
 -- ---- options
@@ -23,15 +23,7 @@ pub none_of : (o : Option Said) → (IsSome o → ⊥) → o ≡ None
 none_of None none = refl
 none_of (Some m) none = absurd (none refl)
 
-some_of : {P : Said → Type 0} (o : Option Said) → IsSomeAnd o P → (m : Said) × P m
-some_of None x = absurd x
-some_of (Some m) x = (m, x)
-
 -- ---- one step of the framer on a whole text
-
--- a message was found
-pub message_told : (bytes : List ℕ) (new : Held) → Tells bytes [] new Message → HasMessage (skip_newlines bytes)
-message_told bytes new told = let found = some_of new.found told in (found.0, found.1.0, found.1.1)
 
 no_message : (bytes : List ℕ) (t : Tail) → Ends (skip_newlines bytes) t → HasMessage (skip_newlines bytes) → ⊥
 no_message bytes t ends has = begins_and_ends t has.2 ends

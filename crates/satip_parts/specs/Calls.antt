@@ -13,9 +13,9 @@ pub data Call : Type 0 where
   Found : Said → Call
   Told : Tail → Call
 
--- a parter before and after a call, by the clauses `follows` of `feed`, and `told` of `next`
+-- a parter before and after a call, by the clauses `bytes` and `to_come` of `feed`, and `told` of `next`
 abbrev pub Does : Held → Call → Held → Type 0
-Does old (Took bytes) new = (text : List ℕ) (ms : List Said) → IsReadUpTo text ms old → IsReadUpTo (text ++ bytes) ms new
+Does old (Took bytes) new = (new.bytes ≡ old.bytes ++ bytes) × (new.to_come ≡ old.to_come)
 Does old (Found m) new =
     (new.found ≡ Some m) × ((text : List ℕ) (ms : List Said) → IsReadUpTo text ms old → Tells text ms new Message)
 Does old (Told tail) new = (text : List ℕ) (ms : List Said) → IsReadUpTo text ms old → Tells text ms new (step_of tail)

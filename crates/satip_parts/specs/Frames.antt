@@ -1,5 +1,5 @@
 -- Interleaved frames (RFC 2326, 10.12), and what stands behind those at the front of a text.
-use Rattle.std.specs.Prelude.{ℕ, zero, suc, ◌+◌, ◌*◌, ◌/◌, ◌%◌, ◌==◌, ◌||◌, if◌then◌else◌, Bool, List, [], ◌∷◌, length, Option, Some, None}
+use Rattle.std.specs.Prelude.{◌≡◌, ℕ, zero, suc, ◌+◌, ◌*◌, ◌/◌, ◌%◌, ◌==◌, ◌||◌, if◌then◌else◌, Bool, List, [], ◌∷◌, length, Option, Some, None}
 
 -- `$`, the channel, how many bytes follow in 16 bits, the high byte first, and these bytes
 abbrev pub frame : ℕ → List ℕ → List ℕ
@@ -40,3 +40,8 @@ passed (Some next) on here = on next
 abbrev pub behind : Spot → List ℕ → List ℕ
 behind spot [] = []
 behind spot (b ∷ text) = passed (move spot b) (λ next. behind next text) (b ∷ text)
+
+-- the bytes begin with the first byte of a message
+abbrev pub IsStart : List ℕ → Type 0
+IsStart [] = ⊥
+IsStart (b ∷ bytes) = move Between b ≡ None

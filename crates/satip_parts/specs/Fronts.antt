@@ -1,5 +1,5 @@
 -- What the code says of the front of bytes.
-use Rattle.std.specs.Prelude.{◌≡◌, ℕ, ◌+◌, ◌<◌, ◌≤◌, List, [], ◌∷◌, ◌++◌, length, drop, Option, Some, None, IsSomeAnd}
+use Rattle.std.specs.Prelude.{◌≡◌, ℕ, ◌+◌, ◌<◌, ◌≤◌, List, [], ◌++◌, length, drop, Option, Some, None, IsSomeAnd}
 use Rattle.std.specs.Global.{Vec}
 use Rattle.std.specs.Prelude.{vec_len, vec_capacity}
 use Rattle.satip_frame.specs.declared.framing.Break.{Break}
@@ -8,15 +8,10 @@ use Rattle.satip_frame.specs.declared.framing.Step.{Step}
 use Rattle.satip_frame.specs.declared.framing.Step.TheVariants.{Message, More, Bad, TooLong}
 use Rattle.satip_frame.specs.Said.{Said}
 use Rattle.satip_frame.specs.Stream.{Unfinished, Broken, Begins, Ends}
-use Rattle.satip_parts.specs.Frames.{Between, inside, move, behind}
+use Rattle.satip_parts.specs.Frames.{inside, behind, IsStart}
 use Rattle.satip_parts.specs.Held.{capacity}
 use Rattle.satip_parts.specs.declared.passing.Front.{Front}
 use Rattle.satip_parts.specs.declared.passing.Front.TheVariants.{Passed, Open, Start}
-
--- the bytes begin with the first byte of a message
-abbrev pub IsStart : List ℕ → Type 0
-IsStart [] = ⊥
-IsStart (b ∷ bytes) = move Between b ≡ None
 
 -- behind the first bytes, so many, the text goes on with so many of a frame, whatever follows
 pub record IsPassed (bytes : List ℕ) (to_come count left : ℕ) : Type 0 where

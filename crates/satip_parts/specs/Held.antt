@@ -1,6 +1,6 @@
 -- A parter: the bytes that it holds, the frame that it stands in, the message that it found last, and
 -- how the text ended.
-use Rattle.std.specs.Prelude.{◌≡◌, ◌-◌, ℕ, ◌++◌, List, [], ◌∷◌, length, min, Option, Some, None, IsSomeAnd}
+use Rattle.std.specs.Prelude.{◌-◌, ℕ, ◌++◌, List, [], ◌∷◌, length, min, Option, Some, None, IsSomeAnd}
 use Rattle.satip_frame.specs.declared.framing.Break.{Break}
 use Rattle.satip_frame.specs.declared.framing.Break.TheVariants.{Bad as cause_bad, TooLong as cause_too_long}
 use Rattle.satip_frame.specs.declared.framing.Step.{Step}

@@ -1,9 +1,9 @@
 -- What is true of all texts.
-use Rattle.std.specs.Prelude.{◌≡◌, ℕ, ◌≤◌, List, ◌++◌, length}
+use Rattle.std.specs.Prelude.{◌≡◌, ℕ, ◌≤◌, List, [], ◌∷◌, ◌++◌, length}
 use Rattle.satip_frame.specs.declared.framing.Break.{Break}
 use Rattle.satip_frame.specs.Said.{Said}
-use Rattle.satip_frame.specs.Stream.{Tail, Broken}
-use Rattle.satip_parts.specs.Frames.{Between, frame, behind}
+use Rattle.satip_frame.specs.Stream.{Tail, Unfinished, Broken, Begins}
+use Rattle.satip_parts.specs.Frames.{frame, IsStart}
 use Rattle.satip_parts.specs.Parts.{Parts, AreFirst}
 
 -- a text has one list of messages and one tail
@@ -30,3 +30,30 @@ FirstIsFirst =
 abbrev pub FramesCountNowhere : Type 0
 FramesCountNowhere =
     (channel : ℕ) (bytes text : List ℕ) (ms : List Said) (t : Tail) → length bytes ≤ 65535 → Parts text ms t → Parts (frame channel bytes ++ text) ms t
+
+-- a frame by its channel and content, or a message by its bytes and what it says
+pub data Part : Type 0 where
+  Frame : ℕ → List ℕ → Part
+  Message : List ℕ → Said → Part
+
+-- the bytes of parts, one after another
+abbrev pub joined : List Part → List ℕ
+joined [] = []
+joined (Frame channel bytes ∷ parts) = frame channel bytes ++ joined parts
+joined (Message bytes m ∷ parts) = bytes ++ joined parts
+
+-- their messages
+abbrev pub messages_in : List Part → List Said
+messages_in [] = []
+messages_in (Frame channel bytes ∷ parts) = messages_in parts
+messages_in (Message bytes m ∷ parts) = m ∷ messages_in parts
+
+-- each frame is one, and each message is all of its bytes and begins with none of a frame
+abbrev pub AreWhole : List Part → Type 0
+AreWhole [] = Unit {0}
+AreWhole (Frame channel bytes ∷ parts) = (length bytes ≤ 65535) × AreWhole parts
+AreWhole (Message bytes m ∷ parts) = IsStart bytes × Begins bytes m [] × AreWhole parts
+
+-- frames and messages one after another, in any order, are read as these messages, with nothing behind
+abbrev pub WholePartsAreRead : Type 0
+WholePartsAreRead = (parts : List Part) → AreWhole parts → Parts (joined parts) (messages_in parts) Unfinished

@@ -1,6 +1,6 @@
 //! What is true of all texts, and of every list of calls of a parter, as contracts of functions with
 //! an empty body.
-ghost use Rattle.satip_parts.specs.Laws.{OneReading, HasReading, KeptByMoreBytes, FirstIsFirst, FramesCountNowhere};
+ghost use Rattle.satip_parts.specs.Laws.{OneReading, HasReading, KeptByMoreBytes, FirstIsFirst, FramesCountNowhere, WholePartsAreRead};
 ghost use Rattle.satip_parts.specs.Calls.{PartsLaw};
 
 /// Whatever the pieces, the messages that a new parter finds are the first ones of the text that
@@ -34,4 +34,10 @@ pub fn first_is_first()
 /// A whole frame before a text counts nowhere, whatever its channel and its bytes.
 pub fn frames_count_nowhere()
     ensures law { FramesCountNowhere }
+{}
+
+/// Whole frames and messages one after another, in any order, are read as these messages, and
+/// nothing stands behind them.
+pub fn whole_parts_are_read()
+    ensures law { WholePartsAreRead }
 {}

@@ -11,5 +11,6 @@ mod tests;
 
 pub use laws::{
     first_is_first, frames_count_nowhere, has_reading, kept_by_more_bytes, one_reading, parts_law,
+    whole_parts_are_read,
 };
 pub use parting::Parter;

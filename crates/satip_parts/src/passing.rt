@@ -1,5 +1,5 @@
 //! The front of bytes: line ends and frames, which are passed over, or a message.
-ghost use Rattle.std.specs.Prelude.{◌≡◌, ◌+◌, ◌*◌, ◌<◌, ◌≤◌, ℕ, length, drop, slice_index, MatchBool};
+ghost use Rattle.std.specs.Prelude.{◌≡◌, ◌+◌, ◌*◌, ◌<◌, ◌≤◌, length, drop, slice_index, MatchBool};
 ghost use Rattle.satip_parts.specs.Fronts.{IsPassed, IsFront, IsAtMessage, IsOpen};
 
 /// The bytes of a frame before its content: `$`, the channel, and the length in two bytes.

@@ -1,9 +1,9 @@
 //! The message at the front of bytes, as the framer finds it.
-ghost use Rattle.std.specs.Prelude.{◌≡◌, ◌-◌, ◌↔◌, ◌<◌, ◌≤◌, ℕ, [], length, take, drop, IsSome, IsSomeAnd, MatchBool};
+ghost use Rattle.std.specs.Prelude.{◌≡◌, ◌-◌, ◌↔◌, ◌<◌, ◌≤◌, [], length, take, drop, IsSome, IsSomeAnd, MatchBool};
 ghost use Rattle.satip_frame.specs.Stream.{skip_newlines, Begins};
 ghost use Rattle.satip_frame.specs.Held.{Tells};
-ghost use Rattle.satip_frame.specs.Said.{Said};
-ghost use Rattle.satip_parts.specs.Fronts.{IsStart, HasMessage, IsRead};
+ghost use Rattle.satip_parts.specs.Frames.{IsStart};
+ghost use Rattle.satip_parts.specs.Fronts.{HasMessage, IsRead};
 
 use satip_frame::{Framer, Step};
 

@@ -1,4 +1,4 @@
-use Rattle.std.proofs.Common.{◌≡◌, ◌<◌, ◌≤◌, ℕ, length, get_or, ap, ◌∙◌, arith, rules}
+use Rattle.std.proofs.Common.{◌≡◌, ◌<◌, ◌≤◌, length, get_or, ap, ◌∙◌, rules}
 use Rattle.satip_parts.specs.Frames.{inside, behind}
 use Rattle.satip_parts.proofs.FrameLemmas.{inside_passed, head_open}
 use Rattle.satip_parts.proofs.passing.look.Goals as goal

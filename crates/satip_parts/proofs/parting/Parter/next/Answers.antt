@@ -1,10 +1,10 @@
-use Rattle.std.proofs.Common.{◌≡◌, ◌+◌, ◌++◌, true, false, drop, length, refl, sym, ap, ◌∙◌, subst, arith, rules, length-drop}
+use Rattle.std.proofs.Common.{◌≡◌, ◌+◌, ◌++◌, true, false, drop, refl, sym, ap, ◌∙◌, subst, arith, rules, length-drop}
 use Rattle.satip_frame.specs.declared.framing.Step.TheVariants.{More}
 use Rattle.satip_frame.specs.Held.{cause_of}
 use Rattle.satip_frame.specs.Stream.{Unfinished}
-use Rattle.satip_parts.specs.Frames.{inside, behind}
+use Rattle.satip_parts.specs.Frames.{inside, behind, IsStart}
 use Rattle.satip_parts.specs.Held.{Held}
-use Rattle.satip_parts.specs.Fronts.{IsPassed, IsOpen, IsAtMessage, IsStart, IsRead, IsEnd}
+use Rattle.satip_parts.specs.Fronts.{IsPassed, IsOpen, IsAtMessage, IsRead, IsEnd}
 use Rattle.satip_parts.proofs.ParterLemmas.{passed_on, rest_at, open_ends, open_of, message_of, read_within, read_rests, read_told, end_told, ended_told, exact_of}
 use Rattle.satip_parts.proofs.parting.Parter.next.Goals as goal
 
