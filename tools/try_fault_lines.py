@@ -99,6 +99,16 @@ def threads_that(server, call, pattern):
     return sorted(set(made), key=made.count, reverse=True)
 
 
+def thread_count(server, wanted):
+    """How many threads it has, once these are so many, or in 5 seconds."""
+    end = time.monotonic() + 5
+    while True:
+        count = len(os.listdir(f"/proc/{server.process.pid}/task"))
+        if count == wanted or time.monotonic() > end:
+            return count
+        time.sleep(0.1)
+
+
 def workers_of(server):
     """The threads that wait at both listeners."""
     return threads_that(server, "poll", r"poll\(\[.*TCP:.*TCP:.*\], 2, ")
@@ -151,7 +161,7 @@ def one_worker_fails():
     server = start(workers=3)
     try:
         player = Player(server)
-        count = len(os.listdir(f"/proc/{server.process.pid}/task"))
+        count = thread_count(server, 5)
         checks.check(count == 5, f"3 workers, a pump and the ticker are {count} threads")
         what = "a worker's listener fails"
         fault = Injection(server, "accept4", "error=EBADF", thread=workers_of(server)[0])
@@ -255,13 +265,13 @@ def no_standard_error():
 
 
 def few_threads(which, wanted):
-    """No thread can be started, or but the first of each thread. 4 workers, a front end and the
-    ticker are 6 jobs."""
+    """No thread can be started, or only the first that each thread asks for. 4 workers, a front
+    end and the ticker are 6 jobs."""
     faults = ["-e", "trace=clone,clone3", "-e", f"inject=clone,clone3:error=EAGAIN{which}"]
     before = ("strace", "-D", "-f", "-qq", "-o", "/dev/null", *faults)
     server = start(workers=4, before=before)
     try:
-        count = len(os.listdir(f"/proc/{server.process.pid}/task"))
+        count = thread_count(server, wanted)
         what = f"{count - 1} of 5 threads can be started"
         checks.check(count == wanted, f"{what}: {count} run")
         took = options(ADDRESS, port=server.ports[0])
