@@ -6,7 +6,8 @@
 # The runs: `replay` of a SETUP, a tick, its PLAY, six packets and a second tick, which are lines of examples/session.script;
 # `stress` of 1000 made events; and the test of `serve` with two workers that play a recording together. A replay ends as with all
 # memory, or with status 70 and a beginning of its output, a stress run with status 70 and no output; a serve ends well, or with
-# status 70, or its desk had no memory.
+# status 70, or its desk had no memory. Of its last four requests each is a thread's: where one is refused its jobs run one after
+# another, as where no thread can be started, and the test, whose jobs wait for each other, is served, gives up or doesn't end.
 # Needs cc, crates/satip/out/satip (`cd crates/satip && rt run -- --version` builds it) and
 # crates/satip_serve_tests/out/satip_serve_tests_tests (`cd crates/satip_serve_tests && rt test` builds it).
 set -eu
