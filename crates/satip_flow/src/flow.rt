@@ -204,9 +204,8 @@ impl Flow {
         true
     }
 
-    /// Whether no slot is marked.
-    #[cfg(test)]
-    pub(crate) fn is_unmarked(&self) -> bool {
+    /// Whether no slot is marked at any front end.
+    pub fn is_unmarked(&self) -> bool {
         for row in &self.rows {
             if *row != 0 {
                 return false;

@@ -1,0 +1,16 @@
+//! The path of packets by example: PIDs, datagrams and their catching, which session gets which
+//! packet, and the lanes of a tunnel. It has nothing but tests.
+#![tactic(auto)]
+
+#[cfg(test)]
+mod catching;
+#[cfg(test)]
+mod flow;
+#[cfg(test)]
+mod lanes;
+#[cfg(test)]
+mod pids;
+#[cfg(test)]
+mod reading;
+#[cfg(test)]
+mod rtp;
