@@ -1,5 +1,5 @@
-//! The path of packets by example: PIDs, datagrams and their catching, which session gets which
-//! packet, and the lanes of a tunnel. It has nothing but tests.
+//! The path of packets by example: datagrams and their catching, which session gets which packet,
+//! and the lanes of a tunnel. It has nothing but tests.
 #![tactic(auto)]
 
 #[cfg(test)]
@@ -8,8 +8,6 @@ mod catching;
 mod flow;
 #[cfg(test)]
 mod lanes;
-#[cfg(test)]
-mod pids;
 #[cfg(test)]
 mod reading;
 #[cfg(test)]

@@ -2,7 +2,7 @@ use Rattle.std.proofs.Common.{◌≤◌, length, get_or, decimal, subst, arith}
 use Rattle.satip_base.specs.Printed.{Printed}
 use Rattle.satip_base.proofs.Writing.{◌then_printed◌}
 use Rattle.satip_pids.proofs.PidTexts.{next_more, length-decimal_pid}
-use Rattle.satip_packet_tests.proofs.pids.plain.print_others.Goals as goal
+use Rattle.satip_session_tests.proofs.pids.plain.print_others.Goals as goal
 
 pub loop-pid-preserved : goal.loop-pid-preserved
 loop-pid-preserved c =

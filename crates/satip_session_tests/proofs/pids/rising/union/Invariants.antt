@@ -1,6 +1,6 @@
 use Rattle.std.proofs.Common.{◌≡◌, ◌≤◌, length, take}
 use Rattle.satip_pids.specs.Rising.{IsRising, put_all}
-use Rattle.satip_packet_tests.proofs.pids.rising.union.Given as goal
+use Rattle.satip_session_tests.proofs.pids.rising.union.Given as goal
 
 abbrev pub invariant-loop-pid : goal.invariant-loop-pid
 invariant-loop-pid l = record {

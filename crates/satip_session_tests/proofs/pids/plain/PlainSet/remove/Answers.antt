@@ -2,7 +2,7 @@ use Rattle.std.proofs.Common.{◌≡◌, sym, ap, ◌∙◌, subst}
 use Rattle.satip_pids.specs.Rising.{without}
 use Rattle.satip_pids.specs.Pids.{IsPidRow}
 use Rattle.satip_pids.proofs.Sets.{IsPidRow-without}
-use Rattle.satip_packet_tests.proofs.pids.plain.PlainSet.remove.Goals as goal
+use Rattle.satip_session_tests.proofs.pids.plain.PlainSet.remove.Goals as goal
 
 pub invariant_of-self : goal.invariant_of-self
 invariant_of-self c =

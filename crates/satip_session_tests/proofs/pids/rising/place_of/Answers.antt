@@ -1,5 +1,5 @@
 use Rattle.satip_pids.proofs.RisingLists.{placed}
-use Rattle.satip_packet_tests.proofs.pids.rising.place_of.Goals as goal
+use Rattle.satip_session_tests.proofs.pids.rising.place_of.Goals as goal
 
 pub returns-clause-found : goal.returns-clause-found
 returns-clause-found c =

@@ -2,7 +2,7 @@ use Rattle.std.proofs.Common.{◌+◌, ◌*◌, ◌≤◌, length, take}
 use Rattle.std.specs.List.{flat_map}
 use Rattle.satip_base.specs.Printed.{Printed}
 use Rattle.satip_pids.specs.Texts.{next_text}
-use Rattle.satip_packet_tests.proofs.pids.plain.print_others.Given as goal
+use Rattle.satip_session_tests.proofs.pids.plain.print_others.Given as goal
 
 abbrev pub invariant-loop-pid : goal.invariant-loop-pid
 invariant-loop-pid l = record {

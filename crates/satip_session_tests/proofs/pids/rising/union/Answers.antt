@@ -1,7 +1,7 @@
 use Rattle.std.proofs.Common.{◌≡◌, ◌+◌, length, get_or, take, sym, ap, ◌∙◌, subst, arith}
 use Rattle.satip_pids.specs.Rising.{IsRising, put, put_all}
 use Rattle.satip_pids.proofs.RisingLists.{put_all_more, length-put_all-take, rising-put}
-use Rattle.satip_packet_tests.proofs.pids.rising.union.Goals as goal
+use Rattle.satip_session_tests.proofs.pids.rising.union.Goals as goal
 
 -- what one more PID makes too long is no longer than what all of them make
 pub returns-then-not-put-clause-too_many : goal.returns-then-not-put-clause-too_many

@@ -1,7 +1,7 @@
 use Rattle.std.proofs.Common.{length, sym, ap, subst, arith}
 use Rattle.satip_pids.specs.Pids.{IsPidRow}
 use Rattle.satip_pids.proofs.Sets.{IsPidRow-put_all}
-use Rattle.satip_packet_tests.proofs.pids.plain.PlainSet.add.Goals as goal
+use Rattle.satip_session_tests.proofs.pids.plain.PlainSet.add.Goals as goal
 
 pub invariant_of-self : goal.invariant_of-self
 invariant_of-self c =

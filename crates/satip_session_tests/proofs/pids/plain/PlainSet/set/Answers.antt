@@ -2,7 +2,7 @@ use Rattle.std.proofs.Common.{◌≡◌, [], length, sym, ap, ◌∙◌, subst, 
 use Rattle.satip_pids.specs.Rising.{put_all}
 use Rattle.satip_pids.specs.Pids.{IsPidRow}
 use Rattle.satip_pids.proofs.Sets.{IsPidRow-nil, IsPidRow-put_all}
-use Rattle.satip_packet_tests.proofs.pids.plain.PlainSet.set.Goals as goal
+use Rattle.satip_session_tests.proofs.pids.plain.PlainSet.set.Goals as goal
 
 pub invariant_of-self : goal.invariant_of-self
 invariant_of-self c =

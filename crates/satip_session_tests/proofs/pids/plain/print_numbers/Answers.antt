@@ -5,7 +5,7 @@ use Rattle.satip_base.specs.Printed.{Printed}
 use Rattle.satip_base.proofs.Writing.{◌then_printed◌}
 use Rattle.satip_pids.specs.Texts.{next_text}
 use Rattle.satip_pids.proofs.PidTexts.{listed_text-nil, listed_text-parts}
-use Rattle.satip_packet_tests.proofs.pids.plain.print_numbers.Goals as goal
+use Rattle.satip_session_tests.proofs.pids.plain.print_numbers.Goals as goal
 
 pub returns-then-is_empty : goal.returns-then-is_empty
 returns-then-is_empty c =
