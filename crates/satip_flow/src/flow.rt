@@ -5,7 +5,7 @@ ghost use Rattle.std.specs.Int.{bit_at};
 ghost use Rattle.circular_buffer.specs.Buffer.{buffer};
 ghost use Rattle.satip_rtp.specs.Sending.{SendsAll};
 ghost use Rattle.satip_rtp.specs.Packing.{packing};
-ghost use Rattle.satip_flow.specs.Subscription.{sender_state, pulled_bytes, WrotePulled, subscription, Subscription, ToAddress, ToQueue, has_slot, given, given_datagrams, flushed, flush_datagrams, holds, readdressed, pulled, changed, meets_full, packing_of, queue_of, selects};
+ghost use Rattle.satip_flow.specs.Subscription.{sender_state, pulled_bytes, WrotePulled, subscription, Subscription, ToAddress, ToQueue, has_slot, takes, given, given_datagrams, flushed, flush_datagrams, holds, readdressed, pulled, changed, meets_full, packing_of, queue_of, selects};
 ghost use Rattle.satip_flow.specs.Rows.{AllShown, IsPlaced};
 ghost use Rattle.satip_flow.specs.Standing.{IsNowhere, StandsAt, HoldsOfAt, ChangesAt};
 ghost use Rattle.satip_flow.specs.Queues.{has_queue};
@@ -14,7 +14,7 @@ ghost use Rattle.satip_flow.specs.Subscriptions.{put, comes_before, change_slot,
 use crate::bits::next_bit;
 use crate::place::{Place, SenderState};
 use crate::places::{note_places, places_of};
-use crate::rows::{make_rows, mark, slots_of, unmark};
+use crate::rows::{are_unmarked, make_rows, mark, slots_of, unmark};
 use crate::sink::Queue;
 use crate::subscriber::Subscriber;
 use satip_base::limits::{DATAGRAM, DATAGRAMS, PULLED_BYTES, QUEUED, SESSIONS};
@@ -204,15 +204,13 @@ impl Flow {
         true
     }
 
-    /// Whether no slot is marked.
-    #[cfg(test)]
-    pub(crate) fn is_unmarked(&self) -> bool {
-        for row in &self.rows {
-            if *row != 0 {
-                return false;
-            }
-        }
-        true
+    /// Whether no slot is marked as one whose subscriber may select a packet. Then no subscriber
+    /// selects any; once all have ended it's true, but no clause says so.
+    pub fn is_unmarked(&self) -> bool
+        ensures unselected { result ≡ true → (front pid : ℕ) → pid < 8192
+            → list_any (takes front pid) self.now ≡ false }
+    {
+        are_unmarked(&self.rows)
     }
 }
 

@@ -1,10 +1,10 @@
 //! Which slots have a subscriber that may select a packet: a word for each front end and 64 PIDs,
 //! with a bit for each slot.
-ghost use Rattle.std.specs.Prelude.{◌≡◌, ◌≢◌, ◌+◌, ◌*◌, ◌/◌, ◌<◌, ◌≤◌, ℕ, [], true, vec_len, length, slice_index_or, if◌then◌else◌, IfOk};
+ghost use Rattle.std.specs.Prelude.{◌≡◌, ◌≢◌, ◌+◌, ◌*◌, ◌/◌, ◌<◌, ◌≤◌, ◌↔◌, ℕ, [], true, vec_len, length, slice_index_or, if◌then◌else◌, IfOk, IsTrue};
 ghost use Rattle.std.specs.Int.{bit_at};
 ghost use Rattle.satip_pids.specs.Pids.{has_pid};
 ghost use Rattle.satip_flow.specs.Subscriptions.{IsFrontOrNone};
-ghost use Rattle.satip_flow.specs.Rows.{marks, IsMarked, KeepsOthers};
+ghost use Rattle.satip_flow.specs.Rows.{marks, IsMarked, KeepsOthers, NoneMarked};
 
 use crate::bits::with_bit;
 use satip_base::Want;
@@ -66,6 +66,18 @@ pub(crate) fn unmark(rows: &mut Vec<u64>, slot: u16, front: Option<u16>)
     if let Some(front) = front {
         unmark_front(rows, WORDS * (front as usize - 1), slot);
     }
+}
+
+/// Whether no slot is marked anywhere.
+pub(crate) fn are_unmarked(rows: &[u64]) -> bool
+    ensures unmarked { IsTrue result ↔ NoneMarked rows.now }
+{
+    for row in rows {
+        if *row != 0 {
+            return false;
+        }
+    }
+    true
 }
 
 // Marks a slot in the words from a place on.
