@@ -1,5 +1,5 @@
 -- What a parter may answer from what its framer tells of the bytes behind the frames.
-use Rattle.std.proofs.Common.{◌≡◌, ℕ, Bool, true, false, List, [], ◌∷◌, ◌++◌, length, Option, Some, None, is_some, refl, sym, ap, ◌∙◌, subst, arith, length-append, IsSomeAnd, MatchBool}
+use Rattle.std.proofs.Common.{◌≡◌, ℕ, Bool, true, false, List, [], ◌∷◌, ◌++◌, length, drop, Option, Some, None, is_some, refl, sym, ap, ◌∙◌, subst, arith, length-append, IsSomeAnd, MatchBool}
 use Rattle.satip_frame.specs.declared.framing.Break.{Break}
 use Rattle.satip_frame.specs.declared.framing.Break.TheVariants.{Bad as cause_bad, TooLong as cause_too_long}
 use Rattle.satip_frame.specs.declared.framing.Step.{Step}
@@ -10,13 +10,19 @@ use Rattle.satip_frame.specs.Stream.{Tail, Unfinished, Broken, skip_newlines, Be
 use Rattle.satip_parts.specs.Frames.{Between, inside, behind, IsStart}
 use Rattle.satip_parts.specs.Parts.{Parts, Leads}
 use Rattle.satip_parts.specs.Held.{Held, IsReadUpTo, Tells}
-use Rattle.satip_parts.specs.Fronts.{IsEnd, IsOpen, parter_of}
+use Rattle.satip_parts.specs.Fronts.{IsPassed, IsEnd, IsOpen, parter_of}
 use Rattle.satip_parts.proofs.FrameLemmas.{start_here, start_clean, behind_skipped, same_behind}
 use Rattle.satip_parts.proofs.PartLemmas.{empty_ends, one_list, leads_first, ends_from_rest, leads_more, leads_on, leads-append}
 
 -- the bytes go on in the same way, whatever follows
 abbrev pub GoesOn : Held → ℕ → List ℕ → Type 0
 GoesOn old left bytes = (more : List ℕ) → behind (inside old.to_come) (old.bytes ++ more) ≡ behind (inside left) (bytes ++ more)
+
+-- behind what was passed over
+pub passed_on : (old : Held) (framer : Framed) (to_come : ℕ) (seen : List ℕ) (count left : ℕ) → parter_of to_come framer ≡ old → seen ≡ framer.bytes
+    → IsPassed seen to_come count left → GoesOn old left (drop count seen)
+passed_on old framer to_come seen count left is shown passed more =
+    ap (λ (h : Held). behind (inside h.to_come) (h.bytes ++ more)) (sym is) ∙ ap (λ b. behind (inside to_come) (b ++ more)) (sym shown) ∙ passed.same more
 
 -- no frame stands before the next message of the bytes
 abbrev pub IsClear : List ℕ → Type 0

@@ -4,7 +4,7 @@ use Rattle.satip_frame.specs.Stream.{skip_newlines}
 use Rattle.satip_parts.specs.Frames.{inside, behind}
 use Rattle.satip_parts.specs.Held.{Held}
 use Rattle.satip_parts.specs.Fronts.{IsOpen, IsAtMessage, parter_of}
-use Rattle.satip_parts.proofs.ParterLemmas.{GoesOn, IsClear, start_clear, if_true, if_false, told_of, open_told, rests_of, end_clear, stays_ended, exact_of}
+use Rattle.satip_parts.proofs.ParterLemmas.{GoesOn, passed_on, IsClear, start_clear, if_true, if_false, told_of, open_told, rests_of, end_clear, stays_ended, exact_of}
 use Rattle.satip_parts.proofs.parting.Parter.next.Goals as goal
 
 -- ---- the text had ended
@@ -44,10 +44,8 @@ returns-then-not-place-clause-told c =
     let left : c.skip.new.self.bytes ≡ mid = c.skip.ensures.bytes ∙ ap (λ b. drop place.count b) (sym c.held.ensures.bytes) in
     let off : place.at_message ≡ false = search rules in
     let stands = if_false (IsAtMessage mid place.to_come) (IsOpen mid place.to_come) place.at_message c.pass_over-place.ensures.stands off in
-    let same : GoesOn c.args.self.now place.to_come mid = λ more.
-    ap (λ (h : Held). behind (inside h.to_come) (h.bytes ++ more)) (sym c.self.view_is)
-    ∙ ap (λ b. behind (inside c.self.inside.to_come) (b ++ more)) (sym c.held.ensures.bytes)
-    ∙ c.pass_over-place.ensures.passed.same more in
+    let same = passed_on c.args.self.now c.self.inside.framer c.self.inside.to_come c.held.result.now place.count place.to_come
+    c.self.view_is c.held.ensures.bytes c.pass_over-place.ensures.passed in
     open_told c.args.self.now place.to_come c.skip.new.self
     (subst (λ b. GoesOn c.args.self.now place.to_come b) (sym left) same)
     (subst (λ b. IsOpen b place.to_come) (sym left) stands)
@@ -79,10 +77,8 @@ returns-clause-told c =
     let left : c.skip.new.self.bytes ≡ mid = c.skip.ensures.bytes ∙ ap (λ b. drop place.count b) (sym c.held.ensures.bytes) in
     let on : place.at_message ≡ true = search rules in
     let stands = if_true (IsAtMessage mid place.to_come) (IsOpen mid place.to_come) place.at_message c.pass_over-place.ensures.stands on in
-    let same : GoesOn c.args.self.now place.to_come mid = λ more.
-    ap (λ (h : Held). behind (inside h.to_come) (h.bytes ++ more)) (sym c.self.view_is)
-    ∙ ap (λ b. behind (inside c.self.inside.to_come) (b ++ more)) (sym c.held.ensures.bytes)
-    ∙ c.pass_over-place.ensures.passed.same more in
+    let same = passed_on c.args.self.now c.self.inside.framer c.self.inside.to_come c.held.result.now place.count place.to_come
+    c.self.view_is c.held.ensures.bytes c.pass_over-place.ensures.passed in
     told_of c.args.self.now mid place.to_come c.next-step.result c.next-step.new.self same stands.between (start_clear mid stands.start)
     (c.next-step.ensures.told mid [] (ap skip_newlines (sym left)))
 
