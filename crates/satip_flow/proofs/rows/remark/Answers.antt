@@ -1,4 +1,4 @@
-use Rattle.std.proofs.Common.{◌≡◌, ◌≤◌, ◌∙◌, true, Some, Option, ℕ, sym, ap, subst, arith, rules}
+use Rattle.std.proofs.Common.{◌≡◌, ◌≤◌, ◌∙◌, true, Some, sym, ap, subst, rules}
 use Rattle.satip_pids.specs.Pids.{Pids, has_pid}
 use Rattle.satip_flow.specs.Rows.{IsMarked}
 use Rattle.satip_flow.specs.Subscriptions.{IsFrontOrNone}
