@@ -14,7 +14,7 @@ ghost use Rattle.satip_flow.specs.Subscriptions.{put, comes_before, change_slot,
 use crate::bits::next_bit;
 use crate::place::{Place, SenderState};
 use crate::places::{note_places, places_of};
-use crate::rows::{are_unmarked, make_rows, mark, slots_of, unmark};
+use crate::rows::{are_unmarked, make_rows, mark, remark, slots_of, unmark};
 use crate::sink::Queue;
 use crate::subscriber::Subscriber;
 use satip_base::limits::{DATAGRAM, DATAGRAMS, PULLED_BYTES, QUEUED, SESSIONS};
@@ -330,9 +330,8 @@ fn change_at(
 {
     let place = subscribers[at].place();
     if place.stream == stream {
-        unmark(rows, place.slot, subscribers[at].front());
+        remark(rows, &subscribers[at], front, pids);
         subscribers[at].change(stream, front, pids);
-        mark(rows, place.slot, front, pids);
     }
 }
 

@@ -84,6 +84,12 @@ impl Subscriber {
         self.front
     }
 
+    pub(crate) fn pids(&self) -> &PidSet
+        ensures pids { result.now ≡ self.now.pids }
+    {
+        &self.pids
+    }
+
     /// Whether a packet of a front is for this subscriber.
     pub(crate) fn selects(&self, front: u16, packet: &Packet) -> bool
         ensures selected { result ≡ selects front packet.now self.now }
