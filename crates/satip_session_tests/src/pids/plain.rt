@@ -101,7 +101,7 @@ fn print_numbers(pids: &[u16], strip: &mut Strip)
 }
 
 // Prints PIDs with a comma before each.
-#[tactic(auto, using(crate::proofs::PidTexts::steps))]
+#[tactic(auto, using(satip_pids::proofs::PidTexts::steps))]
 fn print_others(pids: &[u16], strip: &mut Strip)
     requires below { All (λ pid. pid < 8192) pids.now }
     requires room { length strip.old + 5 * length pids.now ≤ 1600 }

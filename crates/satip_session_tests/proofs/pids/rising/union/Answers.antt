@@ -9,7 +9,7 @@ returns-then-not-put-clause-too_many c =
     let list = c.args.list.now in
     let i = c.loop-pid.pid-index in
     let pid = get_or list i 0 in
-    let more : put_all c.args.pids.now (take (i + 1) list) ≡ put pid c.loop-pid.all = put_all_more c.args.pids.now list i c.loop-pid-test.true ∙ ap (put pid) (sym c.loop-pid.invariant.united) in
+    let more : put_all c.args.pids.now (take (i + 1) list) ≡ put pid c.loop-pid.all.items = put_all_more c.args.pids.now list i c.loop-pid-test.true ∙ ap (put pid) (sym c.loop-pid.invariant.united) in
     omega (arith, c.if-not-put.ensures.added, ap length more, length-put_all-take c.args.pids.now list (i + 1))
 
 pub loop-pid-preserved : goal.loop-pid-preserved
@@ -20,6 +20,6 @@ loop-pid-preserved c =
     let more = put_all_more c.args.pids.now list i c.loop-pid-test.true in
     record {
       united = c.if-not-put.ensures.added ∙ ap (put pid) c.loop-pid.invariant.united ∙ sym more;
-      rising = subst (IsRising 0) (sym c.if-not-put.ensures.added) (rising-put 0 pid c.loop-pid.all (omega arith) c.loop-pid.invariant.rising);
+      rising = subst (IsRising 0) (sym c.if-not-put.ensures.added) (rising-put 0 pid c.loop-pid.all.items (omega arith) c.loop-pid.invariant.rising);
       few = c.put.ensures.few;
     }
