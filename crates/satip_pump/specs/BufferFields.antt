@@ -22,6 +22,7 @@ buffered b = record {
   packets = map (packet_at b.bytes) (left_starts b);
   rest = take (b.end - b.start) (drop b.start b.bytes);
   room = 64 - b.found;
+  space = 12220 - b.end;
 }
 
 -- the packets that wait stand before the rest, which is within the bytes

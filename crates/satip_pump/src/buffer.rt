@@ -3,7 +3,7 @@ ghost use Rattle.std.specs.Prelude.{◌≡◌, ◌≢◌, ◌+◌, ◌-◌, ◌<
 ghost use Rattle.satip_ts.specs.Packet.{IsPacket};
 ghost use Rattle.satip_ts.specs.Recording.{from_sync};
 ghost use Rattle.satip_plain.specs.Pumping.{rest_of};
-ghost use Rattle.satip_pump.specs.Buffers.{nothing_read, IsAtFront, CutsOne, CutsNone, MayTake};
+ghost use Rattle.satip_pump.specs.Buffers.{nothing_read, IsAtFront, CutsOne, CutsNone, Reads, bytes_in};
 ghost use Rattle.satip_pump.specs.BufferFields.{packet_at};
 
 use satip_base::{Source, Taken};
@@ -123,30 +123,59 @@ impl Buffer {
         true
     }
 
-    /// Takes bytes of the source behind the rest, as many as so many packets have at most. `None`
-    /// where there is no room for any behind the packets that wait.
-    pub(crate) fn take<F: Source>(&mut self, source: &mut F, packets: usize) -> Option<Taken>
-        requires few { length self.old.rest < 188 }
-        requires some { 1 ≤ packets }
-        requires most { packets ≤ 64 }
+    /// Moves the rest to the front where no packet waits. Answers how many more bytes there is room
+    /// for.
+    pub(crate) fn make_space(&mut self) -> usize
         ensures packets { self.new.packets ≡ self.old.packets }
+        ensures rest { self.new.rest ≡ self.old.rest }
         ensures room { self.new.room ≡ self.old.room }
-        ensures takes { MayTake F.tells (F.feed source.old) (F.feed source.new) self.old self.new
-            result }
+        ensures space { result ≡ self.new.space }
+        ensures whole { self.old.packets ≡ [] → self.new.space + length self.old.rest ≡ 12220 }
     {
         if self.given == self.found {
             self.end = move_to_front(&mut self.bytes, self.start, self.end);
             self.start = 0;
         }
+        ROOM - self.end
+    }
+
+    /// Takes bytes of the source behind the rest, as many as so many packets have at most.
+    pub(crate) fn take<F: Source>(&mut self, source: &mut F, packets: usize) -> Taken
+        requires space { 1 ≤ self.old.space }
+        requires some { 1 ≤ packets }
+        requires most { packets ≤ 64 }
+        ensures packets { self.new.packets ≡ self.old.packets }
+        ensures room { self.new.room ≡ self.old.room }
+        ensures reads { Reads F.tells (F.feed source.old).left (F.feed source.new).left
+            (F.feed source.new).faults self.old.rest self.new.rest result }
+    {
         let count = (PACKET_BYTES * packets).min(ROOM - self.end);
-        if count == 0 {
-            return None;
-        }
+        self.take_bytes(source, count)
+    }
+
+    // Takes at most so many bytes of the source.
+    fn take_bytes<F: Source>(&mut self, source: &mut F, count: usize) -> Taken
+        requires some { 1 ≤ count }
+        requires space { count ≤ self.old.space }
+        ensures packets { self.new.packets ≡ self.old.packets }
+        ensures room { self.new.room ≡ self.old.room }
+        ensures reads { Reads F.tells (F.feed source.old).left (F.feed source.new).left
+            (F.feed source.new).faults self.old.rest self.new.rest result }
+    {
         let taken = source.take(&mut self.bytes[self.end..self.end + count]);
-        if let Taken::Got(count) = taken {
-            self.end += count;
-        }
-        Some(taken)
+        self.end += bytes_in(taken);
+        taken
+    }
+}
+
+// How many bytes were taken.
+fn bytes_in(taken: Taken) -> usize
+    ensures count { result ≡ bytes_in taken }
+{
+    match taken {
+        Taken::Got(count) => count,
+        Taken::End => 0,
+        Taken::Failed => 0,
     }
 }
 

@@ -123,17 +123,19 @@ fn read_more<M: MuxStore>(
     let Some(source) = &mut reading.source else {
         return false;
     };
+    if reading.buffer.make_space() == 0 {
+        return false;
+    }
     match reading.buffer.take(source, packets) {
-        Some(Taken::Got(_)) => true,
-        Some(Taken::End) => {
+        Taken::Got(_) => true,
+        Taken::End => {
             hand_back(reading, store);
             false
         }
-        Some(Taken::Failed) => {
+        Taken::Failed => {
             hand_back(reading, store);
             false
         }
-        None => false,
     }
 }
 
