@@ -142,7 +142,8 @@ pub packets_first : (bs places : List ℕ) (given found : ℕ) → given < found
     ≡ packet_at bs (get_or places given 0) ∷ map (packet_at bs) (take (found - (given + 1)) (drop (given + 1) places))
 packets_first bs places given found some within = ap (λ (starts : List ℕ). map (packet_at bs) starts) (front_between places given found 0 some within)
 
-pub at_front : (packets others : List (List ℕ)) (packet : List ℕ) (result : Option (List ℕ)) → packets ≡ packet ∷ others → result ≡ Some packet → IsAtFront packets result
+pub at_front : (packets others : List (List ℕ)) (packet : List ℕ) (result : Option (List ℕ)) → packets ≡ packet ∷ others → result ≡ Some packet
+    → IsAtFront packets result
 at_front packets others packet result front is =
     let P : Option (List ℕ) → Type 0 = λ r. IsAtFront packets r in
     subst P (sym is) (front ∙ ap (λ (ps : List (List ℕ)). packet ∷ rest_of ps) (sym front))

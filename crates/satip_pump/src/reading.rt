@@ -99,11 +99,7 @@ pub(crate) fn turn_to<M: MuxStore>(
 
 // Reads on in the source, for so many packets at most. It is handed back where it is at its end or
 // failed. Whether there is more to read, and room for it.
-fn read_more<M: MuxStore>(
-    reading: &mut Reading<M::From>,
-    store: &mut M,
-    packets: usize,
-) -> bool
+fn read_more<M: MuxStore>(reading: &mut Reading<M::From>, store: &mut M, packets: usize) -> bool
     requires few { length reading.old.buffer.rest < 188 }
     requires none { cut_packets reading.old.buffer.rest ≡ [] }
     requires some { 1 ≤ packets }
@@ -141,11 +137,7 @@ fn read_more<M: MuxStore>(
 
 // Lets a packet wait, or reads on, for so many packets at most. Whether there is more to read, and
 // room for it.
-fn read_one<M: MuxStore>(
-    reading: &mut Reading<M::From>,
-    store: &mut M,
-    packets: usize,
-) -> bool
+fn read_one<M: MuxStore>(reading: &mut Reading<M::From>, store: &mut M, packets: usize) -> bool
     requires some { 1 ≤ packets }
     requires room { packets ≤ reading.old.buffer.room }
     requires most { packets ≤ 64 }

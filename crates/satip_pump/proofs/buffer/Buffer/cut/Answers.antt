@@ -1,4 +1,4 @@
-use Rattle.std.proofs.Common.{◌≡◌, ◌+◌, ◌≤◌, ◌<◌, ℕ, List, map, length, refl, arith, rules, sym, ap, ◌∙◌, subst}
+use Rattle.std.proofs.Common.{◌≡◌, ◌+◌, ◌-◌, ◌≤◌, ◌<◌, ℕ, List, map, length, refl, arith, rules, sym, ap, ◌∙◌, subst}
 use Rattle.std.proofs.lemmas.List.{map_push}
 use Rattle.satip_pump.specs.BufferFields.{AreStarts, packet_at}
 use Rattle.satip_pump.proofs.BufferLemmas.{cut_none, cut_one, length_between, push_between, starts_more, starts_within}
@@ -24,7 +24,8 @@ returns-then-self-lt-PACKET_BYTES c =
     let within : b.end ≤ length b.bytes = omega (arith, c.self.invariant.end) in
     let size = length_between b.bytes b.start b.end c.self.invariant.start within in
     let inside : b.start + c.bytes_before_sync.result ≤ b.end = omega (arith, size, c.bytes_before_sync.ensures.within, c.self.invariant.start) in
-    let last = cut_none b.bytes _ b.start b.end c.bytes_before_sync.result refl within c.bytes_before_sync.ensures.sync inside (omega (arith, c.if-self-lt-PACKET_BYTES.true)) in
+    let few : b.end - (b.start + c.bytes_before_sync.result) < 188 = omega (arith, c.if-self-lt-PACKET_BYTES.true) in
+    let last = cut_none b.bytes _ b.start b.end c.bytes_before_sync.result refl within c.bytes_before_sync.ensures.sync inside few in
     rw (← c.self.view_is) record { cut = record { packets = refl; same = last.same; none = last.none; few = last.few; room = refl } }
 
 pub invariant_of-self-2 : goal.invariant_of-self-2
@@ -59,5 +60,12 @@ returns c =
     let next = cut_one b.bytes _ b.start b.end c.bytes_before_sync.result refl within c.bytes_before_sync.ensures.sync some in
     let room = rw (← c.self.view_is) at c.requires.room in
     let few : b.found < 64 = omega (arith, room) in
-    rw (← c.self.view_is) record { cut = record { packet = packet_at b.bytes at; packets = ap (λ (starts : List ℕ). map (packet_at b.bytes) starts) (push_between b.starts b.given b.found at c.self.invariant.given (omega (arith, few, places)))
-        ∙ map_push (packet_at b.bytes) _ at; first = next.first; room = omega (arith, few) } }
+    let pushed = push_between b.starts b.given b.found at c.self.invariant.given (omega (arith, few, places)) in
+    rw (← c.self.view_is) record {
+      cut = record {
+        packet = packet_at b.bytes at;
+        packets = ap (λ (starts : List ℕ). map (packet_at b.bytes) starts) pushed ∙ map_push (packet_at b.bytes) _ at;
+        first = next.first;
+        room = omega (arith, few);
+      };
+    }

@@ -10,13 +10,14 @@ invariant_of-self g c =
     let within : b.end ≤ length b.bytes = omega (arith, all, c.self.invariant.end) in
     let space : c.args.count ≤ 12220 - b.end = rw (← c.self.view_is) at c.requires.space in
     let size : length c.take-taken.new.buf ≡ c.args.count = search rules in
+    let same = front_same b.bytes c.take-taken.new.buf b.start b.end c.args.count c.self.invariant.start within in
     let got = within_buf _ _ _ _ _ c.take-taken.ensures.takes in
     record {
       given = c.self.invariant.given;
       found = c.self.invariant.found;
       start = omega (arith, c.self.invariant.start);
       end = omega (arith, got, size, space, c.bytes_in.ensures.count, c.self.invariant.end);
-      starts = starts_same b.bytes _ b.start _ (front_same b.bytes c.take-taken.new.buf b.start b.end c.args.count c.self.invariant.start within) c.self.invariant.starts;
+      starts = starts_same b.bytes _ b.start _ same c.self.invariant.starts;
     }
 
 pub returns-clause-packets : goal.returns-clause-packets
