@@ -1,6 +1,6 @@
 pub mod TickLemmas
 pub mod BatchLemmas
-pub mod QueueLemmas
+pub mod BufferLemmas
 pub mod LoadLemmas
 pub mod ReadingLemmas
 pub mod WorkLemmas

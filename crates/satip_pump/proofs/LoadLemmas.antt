@@ -49,24 +49,26 @@ sent_more ts t =
 pub record Passed (b c : Loaded) (answer : Answer) (out : Output) : Type 0 where
   pub front : c.front ≡ b.front
   pub tune : c.tune ≡ b.tune
-  pub room : c.room ≡ b.room
+  pub rest : c.buffered.rest ≡ b.buffered.rest
+  pub room : c.buffered.room ≡ b.buffered.room
   pub work : c.work ≡ work_told answer
-  pub packets : c.packets ≡ rest_of b.packets
+  pub packets : c.buffered.packets ≡ rest_of b.buffered.packets
   pub datagrams : c.datagrams ≡ b.datagrams ++ out.datagrams
 
 pub took_more : (a b c : Loaded) (flag : Bool) (bundle : Bundle) (ts : List (Taken Event Answer Output)) (e : Event) (answer : Answer) (out : Output)
-    → given_event flag (may_give b.tune b.work bundle) b.front b.tune b.packets ≡ Some e → Took a b ts → Passed b c answer out
+    → given_event flag (may_give b.tune b.work bundle) b.front b.tune b.buffered.packets ≡ Some e → Took a b ts → Passed b c answer out
     → Took a c (ts ++ taken e answer out ∷ [])
 took_more a b c flag bundle ts e answer out given took passed =
-    let told = given_tells flag (may_give b.tune b.work bundle) b.front b.tune b.packets e given in
+    let told = given_tells flag (may_give b.tune b.work bundle) b.front b.tune b.buffered.packets e given in
     let both = both_true (is_of b.tune b.work) (has_room bundle) told.allowed in
     let event : e ≡ Packet a.front a.tune told.packet =
     told.event ∙ ap (λ (n : ℕ). Packet n b.tune told.packet) took.front ∙ ap (λ (n : ℕ). Packet a.front n told.packet) took.tune in
-    let more = gives_more a.front a.tune a.packets a.work ts b.packets b.work (taken e answer out) told.packet (rest_of b.packets)
+    let more = gives_more a.front a.tune a.buffered.packets a.work ts b.buffered.packets b.work (taken e answer out) told.packet (rest_of b.buffered.packets)
     took.gives told.packets_are event (ap (λ (n : ℕ). is_of n b.work) (sym took.tune) ∙ both.0) in
     record {
       front = passed.front ∙ took.front;
       tune = passed.tune ∙ took.tune;
+      rest = passed.rest ∙ took.rest;
       room = passed.room ∙ took.room;
       gives = rw (passed.packets, passed.work) more;
       datagrams = passed.datagrams ∙ ap (λ (ds : List Datagram). ds ++ out.datagrams) took.datagrams

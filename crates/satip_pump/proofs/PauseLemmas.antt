@@ -18,9 +18,9 @@ use Rattle.satip_world.specs.Counts.{Rises}
 use Rattle.satip_world.specs.Outboxes.{Outbox}
 use Rattle.satip_pump.specs.declared.ends.JobEnd.{JobEnd}
 use Rattle.satip_pump.specs.declared.ends.JobEnd.TheVariants.{Stopped, Spent, Want}
+use Rattle.satip_pump.specs.Buffers.{Buffered}
 use Rattle.satip_pump.specs.Loads.{is_of, Gives}
 use Rattle.satip_pump.specs.PumpRuns.{RoseBy}
-use Rattle.satip_pump.specs.Queues.{Waiting}
 use Rattle.satip_pump.specs.Works.{Works, Gave}
 use Rattle.satip_pump.specs.TickRuns.{Ticked}
 use Rattle.satip_pump.proofs.ReadingLemmas.{rose_none, rose_one, rose_same}
@@ -130,7 +130,7 @@ counted caller front tune packets work (t ∷ u ∷ us) left last gives is =
     record { given = omega (arith, size, one, next.given); idle = omega (arith, none, next.idle) }
 
 -- a burst of packets
-pub gave_paces : (may_want : Bool) (front tune : ℕ) (work : Work) (k l : Known) (tells : Type 0) (o n : Outbox) (q r : Waiting) (result : Result Work ServiceFault)
+pub gave_paces : (may_want : Bool) (front tune : ℕ) (work : Work) (k l : Known) (tells : Type 0) (o n : Outbox) (q r : Buffered) (result : Result Work ServiceFault)
     (own : List Item) (p now since more : ℕ) → Gave may_want front tune work k l tells o n q r result → is_of tune work ≡ true → length q.packets ≡ more + length r.packets
     → Paced own k.own p now since 0 → Paced own l.own p now (since + more) (owed_by result)
 gave_paces may_want front tune work k l tells o n q r (Ok next) own p now since more gave is size paced =

@@ -6,8 +6,8 @@ use Rattle.satip_ts.specs.Recording.{cut_packets}
 use Rattle.satip_world.specs.Counts.{Rises}
 use Rattle.satip_pump.specs.declared.reading.Reading.{Reading}
 use Rattle.satip_plain.specs.Pumping.{Reel, tuned, fresh}
+use Rattle.satip_pump.specs.Buffers.{Buffered, CutsOne, CutsNone, nothing_read}
 use Rattle.satip_pump.specs.PumpRuns.{RoseBy}
-use Rattle.satip_pump.specs.Queues.{Waiting, no_packets}
 use Rattle.satip_pump.specs.Readings.{AreToldLeft, IsReel, Stands, Begins}
 
 -- how counts of faults go on
@@ -70,9 +70,9 @@ module _ {F : Type 0} (tells : Type 0) (feed : F → Feed) where
 
   pub turns_to : (recording : ℕ → Option (List ℕ)) (first early : ℕ) (reel : Option Reel) (old : Reading F) (mux tune a b c : ℕ) (source : Option F)
       → Stands tells feed first a early reel old → old.tune ≢ Some tune → a ≤ b → Begins tells feed (recording mux) b c source
-      → Stands tells feed first c early (Some (tuned recording reel mux tune)) (record { tune = Some tune; source = source; cutter = []; queue = no_packets })
+      → Stands tells feed first c early (Some (tuned recording reel mux tune)) (record { tune = Some tune; source = source; buffer = nothing_read })
   turns_to recording first early reel old mux tune a b c source stands other later begins =
-      let new : Reading F = record { tune = Some tune; source = source; cutter = []; queue = no_packets } in
+      let new : Reading F = record { tune = Some tune; source = source; buffer = nothing_read } in
       let whole = whole_left (recording mux) b c source begins in
       let is : tuned recording reel mux tune ≡ fresh recording mux tune = other_reel recording reel old stands.owed mux tune stands.is_reel other in
       let P : Reel → Type 0 = λ r. Stands tells feed first c early (Some r) new in
@@ -84,15 +84,15 @@ module _ {F : Type 0} (tells : Type 0) (feed : F → Feed) where
 
   -- a change of the store that keeps what is owed
   changes : (reel : Option Reel) (old new : Reading F) (owed owed' : ℕ) → new.tune ≡ old.tune
-      → ((told : Option (List (List ℕ))) → AreToldLeft tells feed told old.queue.packets old.cutter old.source owed
-      → AreToldLeft tells feed told new.queue.packets new.cutter new.source owed')
+      → ((told : Option (List (List ℕ))) → AreToldLeft tells feed told old.buffer.packets old.buffer.rest old.source owed
+      → AreToldLeft tells feed told new.buffer.packets new.buffer.rest new.source owed')
       → IsReel tells feed reel old owed → IsReel tells feed reel new owed'
   changes None old new owed owed' tune more is = tune ∙ is
   changes (Some reel) old new owed owed' tune more is = (tune ∙ is.0, more reel.left is.1)
 
   pub stands_on : (first a b early : ℕ) (reel : Option Reel) (old new : Reading F) → Stands tells feed first a early reel old → new.tune ≡ old.tune → a ≤ b
-      → ((owed : ℕ) (told : Option (List (List ℕ))) → AreToldLeft tells feed told old.queue.packets old.cutter old.source owed
-      → AreToldLeft tells feed told new.queue.packets new.cutter new.source owed)
+      → ((owed : ℕ) (told : Option (List (List ℕ))) → AreToldLeft tells feed told old.buffer.packets old.buffer.rest old.source owed
+      → AreToldLeft tells feed told new.buffer.packets new.buffer.rest new.source owed)
       → Stands tells feed first b early reel new
   stands_on first a b early reel old new stands tune later more = record {
     owed = stands.owed;
@@ -102,8 +102,8 @@ module _ {F : Type 0} (tells : Type 0) (feed : F → Feed) where
 
   -- the source failed, which the store counts
   pub stands_failed : (first a b early : ℕ) (reel : Option Reel) (old new : Reading F) → Stands tells feed first a early reel old → new.tune ≡ old.tune → Rises a b
-      → ((owed : ℕ) (told : Option (List (List ℕ))) → AreToldLeft tells feed told old.queue.packets old.cutter old.source owed
-      → AreToldLeft tells feed told new.queue.packets new.cutter new.source 1)
+      → ((owed : ℕ) (told : Option (List (List ℕ))) → AreToldLeft tells feed told old.buffer.packets old.buffer.rest old.source owed
+      → AreToldLeft tells feed told new.buffer.packets new.buffer.rest new.source 1)
       → Stands tells feed first b early reel new
   stands_failed first a b early reel old new stands tune rises more = record {
     owed = 1;
@@ -161,45 +161,69 @@ module _ {F : Type 0} (tells : Type 0) (feed : F → Feed) where
       (is.0, is.1 ∙ ap (λ (ps : List (List ℕ)). waiting ++ ps) (same (feed source).left))
   left_skipped (Some packets) waiting held held' None owed same none is = (is.0, is.1, is.2, none)
 
-  -- the source failed, and was handed back
-  pub failed_goes : (first a b early : ℕ) (reel : Option Reel) (old new : Reading F) (source : F) (held : List ℕ)
-      → Stands tells feed first a early reel old → old.source ≡ Some source → cut_packets old.cutter ≡ [] → held ≡ old.cutter
-      → new ≡ record old { source = None; cutter = held } → Rises a b → Stands tells feed first b early reel new
-  failed_goes first a b early reel old new source held stands is none same whole rises =
-      let P : Reading F → Type 0 = λ r. Stands tells feed first b early reel r in
-      subst P (sym whole) (stands_failed first a b early reel old (record old { source = None; cutter = held }) stands refl rises
+  -- a piece was taken of the source
+  pub read_goes : (first a early : ℕ) (reel : Option Reel) (old : Reading F) (source source' : F) (buffer : Buffered)
+      → Stands tells feed first a early reel old → old.source ≡ Some source → buffer.packets ≡ old.buffer.packets
+      → (tells → buffer.rest ++ (feed source').left ≡ old.buffer.rest ++ (feed source).left)
+      → Stands tells feed first a early reel (record old { source = Some source'; buffer = buffer })
+  read_goes first a early reel old source source' buffer stands is same read =
+      stands_on first a a early reel old (record old { source = Some source'; buffer = buffer }) stands refl (omega arith)
       (λ owed told left_is.
-      let Q : List ℕ → Type 0 = λ h. AreToldLeft tells feed told old.queue.packets h None 1 in
-      let R : Option F → Type 0 = λ s. AreToldLeft tells feed told old.queue.packets old.cutter s owed in
-      subst Q (sym same) (left_failed told old.queue.packets old.cutter source owed none (subst R is left_is))))
+      let P : List (List ℕ) → Type 0 = λ ps. AreToldLeft tells feed told ps buffer.rest (Some source') owed in
+      let R : Option F → Type 0 = λ s. AreToldLeft tells feed told old.buffer.packets old.buffer.rest s owed in
+      subst P (sym same) (left_read told old.buffer.packets old.buffer.rest buffer.rest source source' owed read (subst R is left_is)))
+
+  -- the source failed, and was handed back
+  pub failed_goes : (first a b early : ℕ) (reel : Option Reel) (old new : Reading F) (source : F) (buffer : Buffered)
+      → Stands tells feed first a early reel old → old.source ≡ Some source → cut_packets old.buffer.rest ≡ [] → buffer.packets ≡ old.buffer.packets
+      → buffer.rest ≡ old.buffer.rest → new ≡ record old { source = None; buffer = buffer } → Rises a b → Stands tells feed first b early reel new
+  failed_goes first a b early reel old new source buffer stands is none same held whole rises =
+      let P : Reading F → Type 0 = λ r. Stands tells feed first b early reel r in
+      subst P (sym whole) (stands_failed first a b early reel old (record old { source = None; buffer = buffer }) stands refl rises
+      (λ owed told left_is.
+      let O : List (List ℕ) → Type 0 = λ ps. AreToldLeft tells feed told ps buffer.rest None 1 in
+      let Q : List ℕ → Type 0 = λ h. AreToldLeft tells feed told old.buffer.packets h None 1 in
+      let R : Option F → Type 0 = λ s. AreToldLeft tells feed told old.buffer.packets old.buffer.rest s owed in
+      subst O (sym same) (subst Q (sym held) (left_failed told old.buffer.packets old.buffer.rest source owed none (subst R is left_is)))))
 
   -- the source came to its end, and was handed back
-  pub ended_goes : (first a b early : ℕ) (reel : Option Reel) (old new : Reading F) (source : F) (held : List ℕ)
-      → Stands tells feed first a early reel old → old.source ≡ Some source → cut_packets old.cutter ≡ [] → held ≡ old.cutter
-      → (tells → (feed source).left ≡ []) → new ≡ record old { source = None; cutter = held } → a ≤ b → Stands tells feed first b early reel new
-  ended_goes first a b early reel old new source held stands is none same ended whole later =
+  pub ended_goes : (first a b early : ℕ) (reel : Option Reel) (old new : Reading F) (source : F) (buffer : Buffered)
+      → Stands tells feed first a early reel old → old.source ≡ Some source → cut_packets old.buffer.rest ≡ [] → buffer.packets ≡ old.buffer.packets
+      → buffer.rest ≡ old.buffer.rest → (tells → (feed source).left ≡ []) → new ≡ record old { source = None; buffer = buffer } → a ≤ b
+      → Stands tells feed first b early reel new
+  ended_goes first a b early reel old new source buffer stands is none same held ended whole later =
       let P : Reading F → Type 0 = λ r. Stands tells feed first b early reel r in
-      subst P (sym whole) (stands_on first a b early reel old (record old { source = None; cutter = held }) stands refl later
+      subst P (sym whole) (stands_on first a b early reel old (record old { source = None; buffer = buffer }) stands refl later
       (λ owed told left_is.
-      let Q : List ℕ → Type 0 = λ h. AreToldLeft tells feed told old.queue.packets h None owed in
-      let R : Option F → Type 0 = λ s. AreToldLeft tells feed told old.queue.packets old.cutter s owed in
-      subst Q (sym same) (left_ended told old.queue.packets old.cutter source owed none ended (subst R is left_is))))
+      let O : List (List ℕ) → Type 0 = λ ps. AreToldLeft tells feed told ps buffer.rest None owed in
+      let Q : List ℕ → Type 0 = λ h. AreToldLeft tells feed told old.buffer.packets h None owed in
+      let R : Option F → Type 0 = λ s. AreToldLeft tells feed told old.buffer.packets old.buffer.rest s owed in
+      subst O (sym same) (subst Q (sym held) (left_ended told old.buffer.packets old.buffer.rest source owed none ended (subst R is left_is)))))
 
-  -- an empty queue was cleared
-  pub cleared_goes : (first a early : ℕ) (reel : Option Reel) (old : Reading F) (queue : Waiting) → Stands tells feed first a early reel old
-      → old.queue.packets ≡ [] → queue ≡ no_packets → Stands tells feed first a early reel (record old { queue = queue })
-  cleared_goes first a early reel old queue stands empty cleared =
-      stands_on first a a early reel old (record old { queue = queue }) stands refl (omega arith)
+  -- another buffer with the same packets and the same rest
+  pub kept_goes : (first a early : ℕ) (reel : Option Reel) (old : Reading F) (buffer : Buffered) → Stands tells feed first a early reel old
+      → buffer.packets ≡ old.buffer.packets → buffer.rest ≡ old.buffer.rest → Stands tells feed first a early reel (record old { buffer = buffer })
+  kept_goes first a early reel old buffer stands same held =
+      stands_on first a a early reel old (record old { buffer = buffer }) stands refl (omega arith)
       (λ owed told left_is.
-      let P : List (List ℕ) → Type 0 = λ ps. AreToldLeft tells feed told ps old.cutter old.source owed in
-      subst P (empty ∙ sym (ap (λ (w : Waiting). w.packets) cleared)) left_is)
+      let O : List (List ℕ) → Type 0 = λ ps. AreToldLeft tells feed told ps buffer.rest old.source owed in
+      let Q : List ℕ → Type 0 = λ h. AreToldLeft tells feed told old.buffer.packets h old.source owed in
+      subst O (sym same) (subst Q (sym held) left_is))
 
   -- a packet was cut, and waits
-  pub cut_goes : (first a early : ℕ) (reel : Option Reel) (old : Reading F) (held : List ℕ) (queue : Waiting) (packet : List ℕ)
-      → Stands tells feed first a early reel old → ((more : List ℕ) → cut_packets (old.cutter ++ more) ≡ packet ∷ cut_packets (held ++ more))
-      → queue.packets ≡ old.queue.packets ++ packet ∷ [] → Stands tells feed first a early reel (record old { cutter = held; queue = queue })
-  cut_goes first a early reel old held queue packet stands cut pushed =
-      stands_on first a a early reel old (record old { cutter = held; queue = queue }) stands refl (omega arith)
+  pub cut_goes : (first a early : ℕ) (reel : Option Reel) (old : Reading F) (buffer : Buffered) → Stands tells feed first a early reel old
+      → CutsOne old.buffer buffer → Stands tells feed first a early reel (record old { buffer = buffer })
+  cut_goes first a early reel old buffer stands cut =
+      stands_on first a a early reel old (record old { buffer = buffer }) stands refl (omega arith)
       (λ owed told left_is.
-      let P : List (List ℕ) → Type 0 = λ ps. AreToldLeft tells feed told ps held old.source owed in
-      subst P (sym pushed) (left_cut told old.queue.packets old.cutter held old.source owed packet cut left_is))
+      let P : List (List ℕ) → Type 0 = λ ps. AreToldLeft tells feed told ps buffer.rest old.source owed in
+      subst P (sym cut.packets) (left_cut told old.buffer.packets old.buffer.rest buffer.rest old.source owed cut.packet cut.first left_is))
+
+  -- none was in the rest
+  pub uncut_goes : (first a early : ℕ) (reel : Option Reel) (old : Reading F) (buffer : Buffered) → Stands tells feed first a early reel old
+      → CutsNone old.buffer buffer → Stands tells feed first a early reel (record old { buffer = buffer })
+  uncut_goes first a early reel old buffer stands cut =
+      stands_on first a a early reel old (record old { buffer = buffer }) stands refl (omega arith)
+      (λ owed told left_is.
+      let P : List (List ℕ) → Type 0 = λ ps. AreToldLeft tells feed told ps buffer.rest old.source owed in
+      subst P (sym cut.packets) (left_skipped told old.buffer.packets old.buffer.rest buffer.rest old.source owed cut.same cut.none left_is))

@@ -25,12 +25,12 @@ use Rattle.satip_world.proofs.DeliveryLemmas.{delivers_none}
 use Rattle.satip_pump.specs.declared.ends.JobEnd.TheVariants.{Stopped, Spent, Want}
 use Rattle.satip_pump.specs.declared.reading.Reading.{Reading}
 use Rattle.satip_pump.specs.Ends.{ended_by}
+use Rattle.satip_pump.specs.Buffers.{Buffered}
 use Rattle.satip_pump.specs.Events.{MakesOne, MakesNone, datagrams_of}
 use Rattle.satip_pump.specs.Loads.{is_of, Gives}
 use Rattle.satip_plain.specs.Pumping.{Reel, Due, Asking, Feeding, Finished, fresh, tuned, after_work, work_told, moved, none_of, after_entry, IsFirst, IsDue, one_if_left, early_by, early_end, Pumps}
 use Rattle.satip_pump.specs.PumpRuns.{RoseBy, last_from, PumpRun}
 use Rattle.satip_plain.specs.Pumping.{rest_of}
-use Rattle.satip_pump.specs.Queues.{Waiting}
 use Rattle.satip_pump.specs.Readings.{AreToldLeft, Stands, Goes}
 use Rattle.satip_pump.specs.Runs.{SoFar, Runs, Feeds, Fails, Answered}
 use Rattle.satip_pump.specs.Works.{Works, Gave}
@@ -317,26 +317,26 @@ module _ {F : Type 0} (reads : Type 0) (feed : F → Feed) where
   pub finished : (may_want : Bool) (front : ℕ) (recording : ℕ → Option (List ℕ)) (tells : Type 0) (k l m : Known) (o n p : Outbox) (first now : ℕ)
       (work : Work) (tune : ℕ) (reading : Reading F) (result : Result Work ServiceFault)
       → Feeds front recording tells reads feed k l o n first now work tune reading → is_of tune work ≡ true
-      → reading.queue.packets ≡ [] → reading.source ≡ None → Works may_want l m tells n p (Ended front tune) result
+      → reading.buffer.packets ≡ [] → reading.source ≡ None → Works may_want l m tells n p (Ended front tune) result
       → Answered may_want front recording tells reads feed k m o p first now reading result
   finished may_want front recording tells k l m o n p first now work tune reading (Ok next) feeds for_it empty shut made =
       let reel : Reel = feeds.reel in
       let ended : Reel = record reel { left = none_of reel.left } in
       let early : ℕ = one_if_left reel.left in
-      let P : List (List ℕ) → Type 0 = λ ps. AreToldLeft reads feed reel.left ps reading.cutter reading.source feeds.stands.owed in
-      let Q : Option F → Type 0 = λ s. AreToldLeft reads feed reel.left [] reading.cutter s feeds.stands.owed in
-      let told : AreToldLeft reads feed reel.left [] reading.cutter None feeds.stands.owed = subst Q shut (subst P empty feeds.stands.is_reel.1) in
-      let R : Option F → Type 0 = λ s. AreToldLeft reads feed (none_of reel.left) [] reading.cutter s 0 in
-      let S : List (List ℕ) → Type 0 = λ ps. AreToldLeft reads feed (none_of reel.left) ps reading.cutter reading.source 0 in
+      let P : List (List ℕ) → Type 0 = λ ps. AreToldLeft reads feed reel.left ps reading.buffer.rest reading.source feeds.stands.owed in
+      let Q : Option F → Type 0 = λ s. AreToldLeft reads feed reel.left [] reading.buffer.rest s feeds.stands.owed in
+      let told : AreToldLeft reads feed reel.left [] reading.buffer.rest None feeds.stands.owed = subst Q shut (subst P empty feeds.stands.is_reel.1) in
+      let R : Option F → Type 0 = λ s. AreToldLeft reads feed (none_of reel.left) [] reading.buffer.rest s 0 in
+      let S : List (List ℕ) → Type 0 = λ ps. AreToldLeft reads feed (none_of reel.left) ps reading.buffer.rest reading.source 0 in
       let event : Ended front tune ≡ Ended front reel.tune = ap (λ (n : ℕ). Ended front n) (sym feeds.same) in
-      let few : early ≤ feeds.stands.owed = owed_for reel.left reading.cutter feeds.stands.owed told in
+      let few : early ≤ feeds.stands.owed = owed_for reel.left reading.buffer.rest feeds.stands.owed told in
       record {
         reel = Some ended;
         early = feeds.early + (early + 0);
         so_far = so_far_one front recording tells k l m o n p (Feeding reel) (Some (WorkIs work)) feeds.early (Ended front tune) next feeds.so_far (inr event) made;
         stands = record {
           owed = 0;
-          is_reel = (feeds.stands.is_reel.0, subst S (sym empty) (subst R (sym shut) (over reel.left reading.cutter feeds.stands.owed told)));
+          is_reel = (feeds.stands.is_reel.0, subst S (sym empty) (subst R (sym shut) (over reel.left reading.buffer.rest feeds.stands.owed told)));
           few = rose_fewer (feeds.early + (early + 0) + 0) (feeds.early + feeds.stands.owed) first now (omega (arith, few)) feeds.stands.few;
         };
       }
@@ -351,23 +351,24 @@ module _ {F : Type 0} (reads : Type 0) (feed : F → Feed) where
   }
 
   -- what a burst gave is a part of the run
-  pub record Given (front : ℕ) (recording : ℕ → Option (List ℕ)) (tells : Type 0) (k m : Known) (o p : Outbox) (first now : ℕ) (tune : ℕ) (reading : Reading F) (q : Waiting) (last : Work) : Type 0 where
+  pub record Given (front : ℕ) (recording : ℕ → Option (List ℕ)) (tells : Type 0) (k m : Known) (o p : Outbox) (first now : ℕ) (tune : ℕ) (reading : Reading F) (q : Buffered) (last : Work) : Type 0 where
     pub reel : Reel
     pub early : ℕ
     pub so_far : SoFar front recording tells k m o p (after_work recording (Some reel) last) (Some (WorkIs last)) early
-    pub stands : Stands reads feed first now early (Some reel) (record reading { queue = q })
+    pub stands : Stands reads feed first now early (Some reel) (record reading { buffer = q })
 
   part_given : (may_want : Bool) (front : ℕ) (recording : ℕ → Option (List ℕ)) (tells : Type 0) (k l m : Known) (o n p : Outbox) (first now : ℕ)
-      (work : Work) (tune : ℕ) (reading : Reading F) (q : Waiting) (result : Result Work ServiceFault)
+      (work : Work) (tune : ℕ) (reading : Reading F) (q : Buffered) (result : Result Work ServiceFault)
       → Feeds front recording tells reads feed k l o n first now work tune reading → is_of tune work ≡ true
-      → (gave : Gave may_want front tune work l m tells n p reading.queue q result)
+      → (gave : Gave may_want front tune work l m tells n p reading.buffer q result)
       → Given front recording tells k m o p first now tune reading q gave.last
   part_given may_want front recording tells k l m o n p first now work tune reading q result feeds for_it gave =
-      let part = gives_pumps front recording feeds.reel gave.caller tune reading.queue.packets work gave.taken q.packets gave.last reading.cutter reading.source
+      let part = gives_pumps front recording feeds.reel gave.caller tune reading.buffer.packets work gave.taken q.packets gave.last reading.buffer.rest reading.source
       feeds.stands.owed gave.gives feeds.same feeds.stands.is_reel.1 in
       let D : Due → Type 0 = λ d. Pumps front recording d (entries gave.caller gave.taken) (after_work recording (Some part.reel) gave.last) 0 in
       let P : List Datagram → Type 0 = λ ds. Delivers tells n p ds in
-      let S : ℕ → Type 0 = λ e. Stands reads feed first now e (Some part.reel) (record reading { queue = q }) in
+      let S : ℕ → Type 0 = λ e. Stands reads feed first now e (Some part.reel) (record reading { buffer = q }) in
+      let R : List ℕ → Type 0 = λ rest. AreToldLeft reads feed part.reel.left q.packets rest reading.source feeds.stands.owed in
       let none : feeds.early ≡ feeds.early + 0 = omega arith in
       record {
         reel = part.reel;
@@ -375,22 +376,22 @@ module _ {F : Type 0} (reads : Type 0) (feed : F → Feed) where
         so_far = so_far_then front recording tells k l m o n p (Feeding feeds.reel) (after_work recording (Some part.reel) gave.last) (Some (WorkIs work)) (Some (WorkIs gave.last))
             feeds.early 0 (entries gave.caller gave.taken) feeds.so_far gave.adds (subst D (stays recording feeds.reel tune work feeds.same for_it) part.pumps)
             (subst P (sym (datagrams_given gave.caller gave.taken)) gave.delivers)
-            (last_given front gave.caller tune reading.queue.packets work gave.taken q.packets gave.last gave.gives gave.suit);
+            (last_given front gave.caller tune reading.buffer.packets work gave.taken q.packets gave.last gave.gives gave.suit);
         stands = subst S none record {
           owed = feeds.stands.owed;
-          is_reel = (feeds.stands.is_reel.0 ∙ ap (λ (n : ℕ). Some n) (feeds.same ∙ sym part.same), part.told);
+          is_reel = (feeds.stands.is_reel.0 ∙ ap (λ (n : ℕ). Some n) (feeds.same ∙ sym part.same), subst R (sym gave.rest) part.told);
           few = feeds.stands.few;
         };
       }
 
   pub given : (may_want : Bool) (front : ℕ) (recording : ℕ → Option (List ℕ)) (tells : Type 0) (k l m : Known) (o n p : Outbox) (first now : ℕ)
-      (work : Work) (tune : ℕ) (reading : Reading F) (q : Waiting) (result : Result Work ServiceFault)
+      (work : Work) (tune : ℕ) (reading : Reading F) (q : Buffered) (result : Result Work ServiceFault)
       → Feeds front recording tells reads feed k l o n first now work tune reading → is_of tune work ≡ true
-      → Gave may_want front tune work l m tells n p reading.queue q result
-      → Answered may_want front recording tells reads feed k m o p first now (record reading { queue = q }) result
+      → Gave may_want front tune work l m tells n p reading.buffer q result
+      → Answered may_want front recording tells reads feed k m o p first now (record reading { buffer = q }) result
   given may_want front recording tells k l m o n p first now work tune reading q (Ok next) feeds for_it gave =
       let part = part_given may_want front recording tells k l m o n p first now work tune reading q (Ok next) feeds for_it gave in
-      let P : Work → Type 0 = λ w. Runs front recording tells reads feed k m o p first now w (record reading { queue = q }) in
+      let P : Work → Type 0 = λ w. Runs front recording tells reads feed k m o p first now w (record reading { buffer = q }) in
       subst P (sym gave.ends) record { reel = Some part.reel; early = part.early; so_far = part.so_far; stands = part.stands }
   given may_want front recording tells k l m o n p first now work tune reading q (Err fault) feeds for_it gave =
       let part = part_given may_want front recording tells k l m o n p first now work tune reading q (Err fault) feeds for_it gave in

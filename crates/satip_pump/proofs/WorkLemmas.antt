@@ -13,11 +13,11 @@ use Rattle.satip_service.specs.Suits.{Suits}
 use Rattle.satip_world.specs.Deliveries.{Delivers}
 use Rattle.satip_world.specs.Outboxes.{Outbox, locked, unlocked}
 use Rattle.satip_world.proofs.DeliveryLemmas.{delivers_within, unsent_within}
+use Rattle.satip_pump.specs.Buffers.{Buffered}
 use Rattle.satip_pump.specs.Bundles.{Bundle, has_room}
 use Rattle.satip_pump.specs.Events.{Makes}
 use Rattle.satip_pump.specs.Loads.{Loaded, is_of, may_give, given_event, Gives, Took}
 use Rattle.satip_plain.specs.Pumping.{work_told}
-use Rattle.satip_pump.specs.Queues.{Waiting}
 use Rattle.satip_pump.specs.Works.{Gave, GaveEnds}
 use Rattle.satip_pump.proofs.BatchLemmas.{both_true}
 
@@ -44,7 +44,7 @@ given_is_of flag front tune work bundle packets some = allowed flag (may_give tu
     allowed true false packets is some = absurd (cc some)
     allowed false may packets is some = absurd (cc some)
 
-pub gave_fewer : (may_want : Bool) (front tune : ℕ) (work : Work) (k l : Known) (tells : Type 0) (o n : Outbox) (q r : Waiting) (result : Result Work ServiceFault)
+pub gave_fewer : (may_want : Bool) (front tune : ℕ) (work : Work) (k l : Known) (tells : Type 0) (o n : Outbox) (q r : Buffered) (result : Result Work ServiceFault)
     → Gave may_want front tune work k l tells o n q r result → length r.packets ≤ length q.packets
 gave_fewer may_want front tune work k l tells o n q r result gave = gives_fewer front tune q.packets work gave.taken r.packets gave.last gave.gives
 
@@ -57,11 +57,10 @@ pub record Burst (may_want : Bool) (k l : Known) (tells : Type 0) (o n : Outbox)
   pub delivers : Delivers tells o n g.datagrams
   pub ends : GaveEnds may_want l f.tune g.work result
 
-pub gave_by : (may_want : Bool) (k l : Known) (tells : Type 0) (o n : Outbox) (f g : Loaded) (q r w : Waiting) (result : Result Work ServiceFault)
-    → r ≡ w → w.packets ≡ g.packets → f.packets ≡ q.packets → f.datagrams ≡ [] → Burst may_want k l tells o n f g result
+pub gave_by : (may_want : Bool) (k l : Known) (tells : Type 0) (o n : Outbox) (f g : Loaded) (q r : Buffered) (result : Result Work ServiceFault)
+    → r ≡ g.buffered → f.buffered ≡ q → f.datagrams ≡ [] → Burst may_want k l tells o n f g result
     → Gave may_want f.front f.tune f.work k l tells o n q r result
-gave_by may_want k l tells o n f g q r w result is same first none burst =
-    let left : r.packets ≡ g.packets = ap (λ (x : Waiting). x.packets) is ∙ same in
+gave_by may_want k l tells o n f g q r result is first none burst =
     let P : List Datagram → Type 0 = λ ds. Delivers tells o n ds in
     let sent : g.datagrams ≡ flat_map (λ (t : Taken Event Answer Output). t.out.datagrams) burst.taken =
     burst.took.datagrams ∙ ap (λ (ds : List Datagram). ds ++ flat_map (λ (t : Taken Event Answer Output). t.out.datagrams) burst.taken) none in
@@ -69,7 +68,8 @@ gave_by may_want k l tells o n f g q r w result is same first none burst =
       caller = burst.caller;
       taken = burst.taken;
       last = g.work;
-      gives = rw (left, ← first) burst.took.gives;
+      gives = rw (is, ← first) burst.took.gives;
+      rest = rw (is, ← first) burst.took.rest;
       suit = burst.suit;
       adds = burst.adds;
       delivers = subst P sent burst.delivers;
@@ -96,13 +96,14 @@ makes_locked may_want k l tells o p m n event (Err fault) free into out none = r
 }
 
 -- packets that were given between a lock and an unlock
-pub gave_locked : (may_want : Bool) (front tune : ℕ) (work : Work) (k l : Known) (tells : Type 0) (o p m n : Outbox) (q r : Waiting) (result : Result Work ServiceFault)
+pub gave_locked : (may_want : Bool) (front tune : ℕ) (work : Work) (k l : Known) (tells : Type 0) (o p m n : Outbox) (q r : Buffered) (result : Result Work ServiceFault)
     → p ≡ locked o → n ≡ unlocked m → Gave may_want front tune work k l tells p m q r result → Gave may_want front tune work k l tells o n q r result
 gave_locked may_want front tune work k l tells o p m n q r result into out gave = record {
   caller = gave.caller;
   taken = gave.taken;
   last = gave.last;
   gives = gave.gives;
+  rest = gave.rest;
   suit = gave.suit;
   adds = gave.adds;
   delivers = delivers_within tells o p m n (flat_map (λ t. t.out.datagrams) gave.taken) into out gave.delivers;

@@ -3,7 +3,8 @@ pub mod Events
 pub mod TickRuns
 pub mod Bundles
 pub mod BatchFields
-pub mod Queues
+pub mod Buffers
+pub mod BufferFields
 pub mod PumpRuns
 pub mod Loads
 pub mod Readings

@@ -8,17 +8,17 @@ use Rattle.satip_plain.specs.declared.answers.Work.{Work}
 use Rattle.satip_plain.specs.declared.answers.Work.TheVariants.{Tune, Nothing, Stopping}
 use Rattle.satip_plain.specs.declared.events.Event.{Event}
 use Rattle.satip_plain.specs.declared.events.Event.TheVariants.{Packet}
+use Rattle.satip_pump.specs.Buffers.{Buffered}
 use Rattle.satip_pump.specs.Bundles.{Bundle, has_room}
 use Rattle.satip_plain.specs.Pumping.{work_told}
 
--- a load: whose packets they are, what the last answer said, the packets that weren't taken, how many more places there
--- are for packets, and the datagrams of those that were
+-- a load: whose packets they are, what the last answer said, what is buffered with the packets that weren't taken, and
+-- the datagrams of those that were
 pub record Loaded : Type 0 where
   pub front : ℕ
   pub tune : ℕ
   pub work : Work
-  pub packets : List (List ℕ)
-  pub room : ℕ
+  pub buffered : Buffered
   pub datagrams : List Datagram
 
 -- whether the work is to read for this tuning number
@@ -47,10 +47,11 @@ Gives front tune packets work (t ∷ ts) left last =
 pub record Took (f g : Loaded) (ts : List (Taken Event Answer Output)) : Type 0 where
   pub front : g.front ≡ f.front
   pub tune : g.tune ≡ f.tune
-  pub room : g.room ≡ f.room
-  pub gives : Gives f.front f.tune f.packets f.work ts g.packets g.work
+  pub rest : g.buffered.rest ≡ f.buffered.rest
+  pub room : g.buffered.room ≡ f.buffered.room
+  pub gives : Gives f.front f.tune f.buffered.packets f.work ts g.buffered.packets g.work
   pub datagrams : g.datagrams ≡ f.datagrams ++ flat_map (λ t. t.out.datagrams) ts
 
 -- nothing was taken of a load since this moment
 pub took_none : (l : Loaded) → Took l l []
-took_none l = record { front = refl; tune = refl; room = refl; gives = (refl, refl); datagrams = sym (append-nil l.datagrams) }
+took_none l = record { front = refl; tune = refl; rest = refl; room = refl; gives = (refl, refl); datagrams = sym (append-nil l.datagrams) }

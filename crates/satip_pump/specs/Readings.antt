@@ -1,18 +1,16 @@
 -- How what a pump has read stands to the recording.
 use Rattle.std.specs.Prelude.{◌≡◌, ◌≢◌, ℕ, ◌+◌, ◌⊎◌, List, [], ◌++◌, Option, Some, None}
 use Rattle.satip_base.specs.Streams.{Feed}
-use Rattle.satip_base.specs.declared.streams.Taken.{Taken}
-use Rattle.satip_base.specs.declared.streams.Taken.TheVariants.{Got, End, Failed}
 use Rattle.satip_ts.specs.Recording.{cut_packets}
 use Rattle.satip_world.specs.Counts.{Rises}
 use Rattle.satip_pump.specs.declared.reading.Reading.{Reading}
 use Rattle.satip_plain.specs.Pumping.{Reel, tuned}
+use Rattle.satip_pump.specs.Buffers.{nothing_read}
 use Rattle.satip_pump.specs.PumpRuns.{RoseBy}
-use Rattle.satip_pump.specs.Queues.{no_packets}
 
 -- nothing is read
 abbrev pub begun : {F : Type 0} → Reading F
-begun = record { tune = None; source = None; cutter = []; queue = no_packets }
+begun = record { tune = None; source = None; buffer = nothing_read }
 
 -- how many sources are held: one or none
 abbrev pub held : {F : Type 0} → Option F → ℕ
@@ -34,7 +32,7 @@ AreToldLeft tells feed (Some packets) waiting held source owed = AreLeft tells f
 abbrev pub IsReel : {F : Type 0} → (tells : Type 0) → (F → Feed) → Option Reel → Reading F → ℕ → Type 0
 IsReel tells feed None reading owed = reading.tune ≡ None
 IsReel tells feed (Some reel) reading owed =
-    (reading.tune ≡ Some reel.tune) × AreToldLeft tells feed reel.left reading.queue.packets reading.cutter reading.source owed
+    (reading.tune ≡ Some reel.tune) × AreToldLeft tells feed reel.left reading.buffer.packets reading.buffer.rest reading.source owed
 
 -- so it is, where so many recordings ended early since the store had so many faults; one more fault may be owed
 pub record Stands {F : Type 0} (tells : Type 0) (feed : F → Feed) (first now early : ℕ) (reel : Option Reel) (reading : Reading F) : Type 0 where
@@ -67,9 +65,3 @@ IsWhole tells left (Some recording) = tells × (left ≡ recording)
 abbrev pub Begins : {F : Type 0} → (tells : Type 0) → (F → Feed) → Option (List ℕ) → ℕ → ℕ → Option F → Type 0
 Begins tells feed recording faults faults' (Some source) = (faults' ≡ faults) × IsWhole tells (feed source).left recording
 Begins tells feed recording faults faults' None = Rises faults faults'
-
--- what was held and left of a source is held and left, or it is at its end, or failed
-abbrev pub Reads : (tells : Type 0) → List ℕ → List ℕ → ℕ → List ℕ → List ℕ → Taken → Type 0
-Reads tells left left' faults' held held' (Got count) = tells → held' ++ left' ≡ held ++ left
-Reads tells left left' faults' held held' End = (held' ≡ held) × (tells → left ≡ [])
-Reads tells left left' faults' held held' Failed = (held' ≡ held) × (faults' ≢ 0) × (tells → left' ≡ left)

@@ -15,9 +15,9 @@ use Rattle.satip_service.specs.Known.{Known, AddsAll}
 use Rattle.satip_service.specs.Suits.{Suits}
 use Rattle.satip_world.specs.Deliveries.{Delivers}
 use Rattle.satip_world.specs.Outboxes.{Outbox}
+use Rattle.satip_pump.specs.Buffers.{Buffered}
 use Rattle.satip_pump.specs.Events.{MakesOne, MakesNone}
 use Rattle.satip_pump.specs.Loads.{Gives, is_of}
-use Rattle.satip_pump.specs.Queues.{Waiting}
 
 -- the answer to such an event tells what is to be done next
 abbrev pub AsksWork : Event → Type 0
@@ -37,11 +37,12 @@ GaveEnds may_want l tune last (Ok work) = work ≡ last
 GaveEnds may_want l tune last (Err fault) = (is_of tune last ≡ true) × Cause may_want l fault
 
 -- packets that waited were given one after another, each an entry, and the outlet was given their datagrams
-pub record Gave (may_want : Bool) (front tune : ℕ) (work : Work) (k l : Known) (tells : Type 0) (o n : Outbox) (q r : Waiting) (result : Result Work ServiceFault) : Type 0 where
+pub record Gave (may_want : Bool) (front tune : ℕ) (work : Work) (k l : Known) (tells : Type 0) (o n : Outbox) (q r : Buffered) (result : Result Work ServiceFault) : Type 0 where
   pub caller : ℕ
   pub taken : List (Taken Event Answer Output)
   pub last : Work
   pub gives : Gives front tune q.packets work taken r.packets last
+  pub rest : r.rest ≡ q.rest
   pub suit : Each (λ t. Suits t.event t.answer) taken
   pub adds : AddsAll k l (entries caller taken)
   pub delivers : Delivers tells o n (flat_map (λ t. t.out.datagrams) taken)

@@ -3,12 +3,12 @@
 #![tactic(auto)]
 
 mod batch;
+mod buffer;
 mod ends;
 mod events;
 mod kits;
 mod lot;
 mod pump;
-mod queue;
 mod reading;
 mod ticker;
 mod works;

@@ -4,7 +4,7 @@ ghost use Rattle.satip_pump.specs.Loads.{Took, given_event, may_give, is_of, too
 ghost use Rattle.satip_plain.specs.Pumping.{work_told};
 
 use crate::batch::Batch;
-use crate::queue::Queue;
+use crate::buffer::Buffer;
 use satip_base::Out;
 use satip_plain::{Answer, Event, Work};
 use satip_service::Lot;
@@ -20,7 +20,7 @@ pub(crate) struct Load<'a> {
     pub work: Work,
     pub given: bool,
     pub ended: bool,
-    pub queue: &'a mut Queue,
+    pub buffer: &'a mut Buffer,
     pub batch: &'a mut Batch,
 }
 
@@ -50,31 +50,31 @@ impl Load<'_> {
     fn next_packet(&self) -> Option<Packet>
         ensures next { option_map (Event.Packet self.now.front self.now.tune) result
             ≡ given_event true (may_give self.now.tune self.now.work self.now.batch.now)
-            self.now.front self.now.tune self.now.queue.now.packets }
+            self.now.front self.now.tune self.now.buffer.now.packets }
     {
         if !is_for(self.work, self.tune) || !self.batch.has_room() {
             return None;
         }
-        self.queue.first()
+        self.buffer.first()
     }
 }
 
 impl Lot for Load<'_> {
     ghost given = { λ l. given_event l.given (may_give l.tune l.work l.batch.now) l.front l.tune
-        l.queue.now.packets };
+        l.buffer.now.packets };
 
     ghost ended = { λ l. l.ended };
 
-    // and it still has the same queue
-    ghost has_taken = { λ f g ts. (g.queue.ghost_name ≡ f.queue.ghost_name) × Took
-        (record { front = f.front; tune = f.tune; work = f.work; packets = f.queue.now.packets; room = f.queue.now.room; datagrams = f.batch.now.datagrams })
-        (record { front = g.front; tune = g.tune; work = g.work; packets = g.queue.now.packets; room = g.queue.now.room; datagrams = g.batch.now.datagrams })
+    // and it still has the same buffer
+    ghost has_taken = { λ f g ts. (g.buffer.ghost_name ≡ f.buffer.ghost_name) × Took
+        (record { front = f.front; tune = f.tune; work = f.work; buffered = f.buffer.now; datagrams = f.batch.now.datagrams })
+        (record { front = g.front; tune = g.tune; work = g.work; buffered = g.buffer.now; datagrams = g.batch.now.datagrams })
         ts };
 
     ghost none_taken = { λ l. (
       refl,
       took_none
-          (record { front = l.front; tune = l.tune; work = l.work; packets = l.queue.now.packets; room = l.queue.now.room; datagrams = l.batch.now.datagrams }),
+          (record { front = l.front; tune = l.tune; work = l.work; buffered = l.buffer.now; datagrams = l.batch.now.datagrams }),
     ) };
 
     fn next(&mut self) -> Option<Event> {
@@ -98,7 +98,7 @@ impl Lot for Load<'_> {
     fn took(&mut self, answer: &Answer, out: &Out) {
         self.given = false;
         self.work = work_of(answer);
-        self.queue.pass();
+        self.buffer.pass();
         self.batch.append(out);
     }
 }

@@ -11,9 +11,9 @@ ghost use Rattle.satip_pump.specs.Runs.{Runs, Feeds, Answered};
 ghost use Rattle.satip_pump.specs.Works.{Works};
 
 use crate::batch::Batch;
+use crate::buffer::PLACES;
 use crate::ends::{JobEnd, end_of};
 use crate::kits::PumpKit;
-use crate::queue::PLACES;
 use crate::reading::{Reading, fill, hand_back, turn_to};
 use crate::works::{give, make_work};
 use satip_base::Out;
@@ -42,7 +42,7 @@ fn give_some<S: Service, M: MuxStore, O: Outlet, P: Pacer>(
 ) -> Result<Work, ServiceFault>
     requires work { is_of tuning.1 tuning.0 ≡ true }
     requires paced { pump.old.since < 64 }
-    requires few { pump.old.since + length pump.old.reading.queue.packets ≤ 64 }
+    requires few { pump.old.since + length pump.old.reading.buffer.packets ≤ 64 }
     requires free { (O.outbox kit.old.outlet).held ≡ false }
     ensures free { (O.outbox kit.new.outlet).held ≡ false }
     ensures same { S.same service.old service.new }
@@ -60,23 +60,23 @@ fn give_some<S: Service, M: MuxStore, O: Outlet, P: Pacer>(
     ensures recordings { (M.shelf kit.new.store).recording ≡ (M.shelf kit.old.store).recording }
     ensures front { pump.new.front ≡ pump.old.front }
     ensures paced { pump.new.since < 64 }
-    ensures few { pump.new.since + length pump.new.reading.queue.packets ≤ 64 }
+    ensures few { pump.new.since + length pump.new.reading.buffer.packets ≤ 64 }
     ensures lent { held pump.old.reading.source ≤ (M.shelf kit.old.store).lent
         → (M.shelf kit.new.store).lent + held pump.old.reading.source
         ≡ (M.shelf kit.old.store).lent + held pump.new.reading.source }
     ensures peak { (M.shelf kit.new.store).peak ≡ (M.shelf kit.old.store).peak }
 {
-    let before = pump.reading.queue.count();
+    let before = pump.reading.buffer.count();
     let answer = give(
         service,
         &mut kit.outlet,
         (pump.front, tuning.1),
         tuning.0,
-        &mut pump.reading.queue,
+        &mut pump.reading.buffer,
         out,
         batch,
     );
-    pump.since += before - pump.reading.queue.count();
+    pump.since += before - pump.reading.buffer.count();
     if pump.since == PLACES {
         kit.pacer.pause();
         pump.since = 0;
@@ -119,7 +119,7 @@ fn feed<R: Wait, S: Service, M: MuxStore, O: Outlet, P: Pacer>(
 ) -> Result<Work, ServiceFault>
     requires work { is_of tuning.1 tuning.0 ≡ true }
     requires paced { pump.old.since < 64 }
-    requires few { pump.old.since + length pump.old.reading.queue.packets ≤ 64 }
+    requires few { pump.old.since + length pump.old.reading.buffer.packets ≤ 64 }
     requires free { (O.outbox kit.old.outlet).held ≡ false }
     ensures free { (O.outbox kit.new.outlet).held ≡ false }
     ensures same { S.same service.old service.new }
@@ -137,17 +137,17 @@ fn feed<R: Wait, S: Service, M: MuxStore, O: Outlet, P: Pacer>(
     ensures recordings { (M.shelf kit.new.store).recording ≡ (M.shelf kit.old.store).recording }
     ensures front { pump.new.front ≡ pump.old.front }
     ensures paced { pump.new.since < 64 }
-    ensures few { pump.new.since + length pump.new.reading.queue.packets ≤ 64 }
+    ensures few { pump.new.since + length pump.new.reading.buffer.packets ≤ 64 }
     ensures lent { held pump.old.reading.source ≤ (M.shelf kit.old.store).lent
         → (M.shelf kit.new.store).lent + held pump.old.reading.source
         ≡ (M.shelf kit.old.store).lent + held pump.new.reading.source }
     ensures peak { (M.shelf kit.new.store).peak ≡ (M.shelf kit.old.store).peak }
 {
-    if pump.reading.queue.count() != 0 {
+    if pump.reading.buffer.count() != 0 {
         return give_some(service, kit, pump, tuning, out, batch);
     }
     fill(rt, &mut pump.reading, &mut kit.store, PLACES - pump.since);
-    if pump.reading.queue.count() != 0 {
+    if pump.reading.buffer.count() != 0 {
         return give_some(service, kit, pump, tuning, out, batch);
     }
     tell_end(service, &mut kit.outlet, pump, tuning.1, out)
@@ -164,7 +164,7 @@ fn tune<R: Wait, S: Service, M: MuxStore, O: Outlet, P: Pacer>(
     batch: &mut Batch,
 ) -> Result<Work, ServiceFault>
     requires paced { pump.old.since < 64 }
-    requires few { pump.old.since + length pump.old.reading.queue.packets ≤ 64 }
+    requires few { pump.old.since + length pump.old.reading.buffer.packets ≤ 64 }
     requires free { (O.outbox kit.old.outlet).held ≡ false }
     ensures free { (O.outbox kit.new.outlet).held ≡ false }
     ensures same { S.same service.old service.new }
@@ -182,7 +182,7 @@ fn tune<R: Wait, S: Service, M: MuxStore, O: Outlet, P: Pacer>(
     ensures recordings { (M.shelf kit.new.store).recording ≡ (M.shelf kit.old.store).recording }
     ensures front { pump.new.front ≡ pump.old.front }
     ensures paced { pump.new.since < 64 }
-    ensures few { pump.new.since + length pump.new.reading.queue.packets ≤ 64 }
+    ensures few { pump.new.since + length pump.new.reading.buffer.packets ≤ 64 }
     ensures lent { held pump.old.reading.source ≤ (M.shelf kit.old.store).lent
         → (M.shelf kit.new.store).lent + held pump.old.reading.source
         ≡ (M.shelf kit.old.store).lent + held pump.new.reading.source }

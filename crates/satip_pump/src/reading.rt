@@ -2,16 +2,12 @@
 ghost use Rattle.std.specs.Prelude.{◌≡◌, ◌+◌, ◌-◌, ◌<◌, ◌≤◌, ◌↔◌, max, true, false, [], length, Some, None, IsTrue};
 ghost use Rattle.satip_ts.specs.Recording.{cut_packets};
 ghost use Rattle.satip_world.specs.Counts.{Rises};
-ghost use Rattle.satip_pump.specs.Readings.{Goes, GoesTo, HasFailed, Begins, Reads, begun, held};
+ghost use Rattle.satip_pump.specs.Readings.{Goes, GoesTo, HasFailed, Begins, begun, held};
 
-use crate::queue::Queue;
-use satip_base::{Source, Taken};
-use satip_ts::Cutter;
+use crate::buffer::Buffer;
+use satip_base::Taken;
 use satip_world::MuxStore;
 use std::sync::Wait;
-
-// How many bytes are taken at once: with less than a packet before them they fit into a cutter.
-const PIECE: usize = 3760;
 
 /// What a pump reads: for which tuning number, from which source, and what was read and is still to
 /// be given. There is no source where it came to its end or failed.
@@ -19,8 +15,7 @@ const PIECE: usize = 3760;
 pub(crate) struct Reading<F> {
     pub tune: Option<u64>,
     pub source: Option<F>,
-    pub cutter: Cutter,
-    pub queue: Queue,
+    pub buffer: Buffer,
 }
 
 impl<F> Reading<F> {
@@ -31,8 +26,7 @@ impl<F> Reading<F> {
         Reading {
             tune: None,
             source: None,
-            cutter: Cutter::new(),
-            queue: Queue::new(),
+            buffer: Buffer::new(),
         }
     }
 }
@@ -87,7 +81,7 @@ pub(crate) fn turn_to<M: MuxStore>(
         (M.shelf store.new).faults reading.new }
     ensures recordings { (M.shelf store.new).recording ≡ (M.shelf store.old).recording }
     ensures tune { reading.new.tune ≡ Some tune }
-    ensures fewer { length reading.new.queue.packets ≤ length reading.old.queue.packets }
+    ensures fewer { length reading.new.buffer.packets ≤ length reading.old.buffer.packets }
     ensures lent { held reading.old.source ≤ (M.shelf store.old).lent
         → (M.shelf store.new).lent + held reading.old.source
         ≡ (M.shelf store.old).lent + held reading.new.source }
@@ -99,38 +93,23 @@ pub(crate) fn turn_to<M: MuxStore>(
     }
     hand_back(reading, store);
     reading.tune = Some(tune);
-    reading.cutter = Cutter::new();
-    reading.queue.clear();
+    reading.buffer.clear();
     reading.source = begin(store, mux);
 }
 
-// Takes a piece of the source, of which the cutter takes all.
-fn take_piece<F: Source>(source: &mut F, cutter: &mut Cutter) -> Taken
-    requires few { length cutter.old < 188 }
-    ensures reads { Reads F.tells (F.feed source.old).left (F.feed source.new).left
-        (F.feed source.new).faults cutter.old cutter.new result }
-{
-    let mut buf = [0; PIECE];
-    match source.take(&mut buf) {
-        Taken::Got(count) => {
-            cutter.feed(&buf[..count]);
-            Taken::Got(count)
-        }
-        Taken::End => Taken::End,
-        Taken::Failed => Taken::Failed,
-    }
-}
-
-// Reads on in the source, which is handed back where it is at its end or failed. Whether there is
-// more to read.
-fn read_more<M: MuxStore>(reading: &mut Reading<M::From>, store: &mut M) -> bool
-    requires few { length reading.old.cutter < 188 }
-    requires none { cut_packets reading.old.cutter ≡ [] }
+// Reads on in the source, for so many packets at most. It is handed back where it is at its end or
+// failed. Whether there is more to read, and room for it.
+fn read_more<M: MuxStore>(reading: &mut Reading<M::From>, store: &mut M, packets: usize) -> bool
+    requires few { length reading.old.buffer.rest < 188 }
+    requires none { cut_packets reading.old.buffer.rest ≡ [] }
+    requires some { 1 ≤ packets }
+    requires most { packets ≤ 64 }
     ensures goes { Goes M.From.tells M.From.feed (M.shelf store.old).faults reading.old
         (M.shelf store.new).faults reading.new }
     ensures recordings { (M.shelf store.new).recording ≡ (M.shelf store.old).recording }
-    ensures shut { result ≡ false → reading.new.source ≡ None }
-    ensures queue { reading.new.queue ≡ reading.old.queue }
+    ensures shut { result ≡ false → reading.new.buffer.packets ≡ [] → reading.new.source ≡ None }
+    ensures packets { reading.new.buffer.packets ≡ reading.old.buffer.packets }
+    ensures room { reading.new.buffer.room ≡ reading.old.buffer.room }
     ensures tune { reading.new.tune ≡ reading.old.tune }
     ensures lent { held reading.old.source ≤ (M.shelf store.old).lent
         → (M.shelf store.new).lent + held reading.old.source
@@ -140,7 +119,10 @@ fn read_more<M: MuxStore>(reading: &mut Reading<M::From>, store: &mut M) -> bool
     let Some(source) = &mut reading.source else {
         return false;
     };
-    match take_piece(source, &mut reading.cutter) {
+    if reading.buffer.make_space() == 0 {
+        return false;
+    }
+    match reading.buffer.take(source, packets) {
         Taken::Got(_) => true,
         Taken::End => {
             hand_back(reading, store);
@@ -153,58 +135,60 @@ fn read_more<M: MuxStore>(reading: &mut Reading<M::From>, store: &mut M) -> bool
     }
 }
 
-// Cuts a packet, or reads on. Whether there is more to read.
-fn read_one<M: MuxStore>(reading: &mut Reading<M::From>, store: &mut M) -> bool
-    requires room { 1 ≤ reading.old.queue.room }
+// Lets a packet wait, or reads on, for so many packets at most. Whether there is more to read, and
+// room for it.
+fn read_one<M: MuxStore>(reading: &mut Reading<M::From>, store: &mut M, packets: usize) -> bool
+    requires some { 1 ≤ packets }
+    requires room { packets ≤ reading.old.buffer.room }
+    requires most { packets ≤ 64 }
     ensures goes { Goes M.From.tells M.From.feed (M.shelf store.old).faults reading.old
         (M.shelf store.new).faults reading.new }
     ensures recordings { (M.shelf store.new).recording ≡ (M.shelf store.old).recording }
-    ensures shut { result ≡ false → reading.new.source ≡ None }
-    ensures most { length reading.new.queue.packets ≤ length reading.old.queue.packets + 1 }
-    ensures room { reading.new.queue.room + length reading.new.queue.packets
-        ≡ reading.old.queue.room + length reading.old.queue.packets }
+    ensures shut { result ≡ false → reading.new.buffer.packets ≡ [] → reading.new.source ≡ None }
+    ensures most { length reading.new.buffer.packets ≤ length reading.old.buffer.packets + 1 }
+    ensures room { reading.new.buffer.room + length reading.new.buffer.packets
+        ≡ reading.old.buffer.room + length reading.old.buffer.packets }
     ensures tune { reading.new.tune ≡ reading.old.tune }
     ensures lent { held reading.old.source ≤ (M.shelf store.old).lent
         → (M.shelf store.new).lent + held reading.old.source
         ≡ (M.shelf store.old).lent + held reading.new.source }
     ensures peak { (M.shelf store.new).peak ≡ (M.shelf store.old).peak }
 {
-    match reading.cutter.next() {
-        Some(packet) => {
-            reading.queue.push(packet);
-            true
-        }
-        None => read_more(reading, store),
+    if reading.buffer.cut() {
+        return true;
     }
+    read_more(reading, store, packets)
 }
 
-/// Reads until so many packets wait, or there is no more to read. It waits for the source.
+/// Reads until so many packets wait, or there is no more to read, or no room for it behind those
+/// that wait. It waits for the source.
 pub(crate) fn fill<R: Wait, M: MuxStore>(
     rt: &R,
     reading: &mut Reading<M::From>,
     store: &mut M,
     most: usize,
 )
-    requires empty { reading.old.queue.packets ≡ [] }
+    requires empty { reading.old.buffer.packets ≡ [] }
     requires some { 1 ≤ most }
     requires most { most ≤ 64 }
     ensures goes { Goes M.From.tells M.From.feed (M.shelf store.old).faults reading.old
         (M.shelf store.new).faults reading.new }
     ensures recordings { (M.shelf store.new).recording ≡ (M.shelf store.old).recording }
-    ensures most { length reading.new.queue.packets ≤ most }
-    ensures empty { reading.new.queue.packets ≡ [] → reading.new.source ≡ None }
+    ensures most { length reading.new.buffer.packets ≤ most }
+    ensures empty { reading.new.buffer.packets ≡ [] → reading.new.source ≡ None }
     ensures tune { reading.new.tune ≡ reading.old.tune }
     ensures lent { held reading.old.source ≤ (M.shelf store.old).lent
         → (M.shelf store.new).lent + held reading.old.source
         ≡ (M.shelf store.old).lent + held reading.new.source }
     ensures peak { (M.shelf store.new).peak ≡ (M.shelf store.old).peak }
 {
-    reading.queue.clear();
+    reading.buffer.renew();
     for _ in rt.forever() {
-        if reading.queue.count() == most {
+        let count = reading.buffer.count();
+        if count == most {
             return;
         }
-        if !read_one(reading, store) {
+        if !read_one(reading, store, most - count) {
             return;
         }
     }

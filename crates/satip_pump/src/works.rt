@@ -3,9 +3,9 @@ ghost use Rattle.std.specs.Prelude.{◌≡◌, ◌≤◌, length, true, false};
 ghost use Rattle.satip_pump.specs.Works.{AsksWork, Works, Gave};
 
 use crate::batch::Batch;
+use crate::buffer::Buffer;
 use crate::events::make_event;
 use crate::lot::{Load, work_of};
-use crate::queue::Queue;
 use satip_base::Out;
 use satip_plain::{Event, Work};
 use satip_service::{Service, ServiceFault};
@@ -39,7 +39,7 @@ pub(crate) fn give<S: Service, O: Outlet>(
     outlet: &mut O,
     tuning: (u16, u64),
     work: Work,
-    queue: &mut Queue,
+    buffer: &mut Buffer,
     out: &mut Out,
     batch: &mut Batch,
 ) -> Result<Work, ServiceFault>
@@ -48,11 +48,11 @@ pub(crate) fn give<S: Service, O: Outlet>(
     ensures same { S.same service.old service.new }
     ensures gave { Gave (S.may_want service.old) tuning.0 tuning.1 work (S.known service.old)
         (S.known service.new)
-        O.tells (O.outbox outlet.old) (O.outbox outlet.new) queue.old queue.new result }
-    ensures fewer { length queue.new.packets ≤ length queue.old.packets }
+        O.tells (O.outbox outlet.old) (O.outbox outlet.new) buffer.old buffer.new result }
+    ensures fewer { length buffer.new.packets ≤ length buffer.old.packets }
 {
     outlet.lock();
-    let gave = burst_and_post(service, outlet, tuning, work, queue, out, batch);
+    let gave = burst_and_post(service, outlet, tuning, work, buffer, out, batch);
     outlet.unlock();
     gave
 }
@@ -63,7 +63,7 @@ fn burst_and_post<S: Service, O: Outlet>(
     outlet: &mut O,
     tuning: (u16, u64),
     work: Work,
-    queue: &mut Queue,
+    buffer: &mut Buffer,
     out: &mut Out,
     batch: &mut Batch,
 ) -> Result<Work, ServiceFault>
@@ -71,8 +71,8 @@ fn burst_and_post<S: Service, O: Outlet>(
     ensures same { S.same service.old service.new }
     ensures gave { Gave (S.may_want service.old) tuning.0 tuning.1 work (S.known service.old)
         (S.known service.new)
-        O.tells (O.outbox outlet.old) (O.outbox outlet.new) queue.old queue.new result }
-    ensures fewer { length queue.new.packets ≤ length queue.old.packets }
+        O.tells (O.outbox outlet.old) (O.outbox outlet.new) buffer.old buffer.new result }
+    ensures fewer { length buffer.new.packets ≤ length buffer.old.packets }
 {
     batch.clear();
     let mut load = Load {
@@ -81,7 +81,7 @@ fn burst_and_post<S: Service, O: Outlet>(
         work,
         given: false,
         ended: false,
-        queue,
+        buffer,
         batch,
     };
     let made = service.burst(&mut load, out);

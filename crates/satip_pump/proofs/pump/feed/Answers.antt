@@ -11,7 +11,7 @@ returns-then-count-ne0-2-clause-answered g c = λ k o first feeds.
 
 pub returns-clause-answered : goal.returns-clause-answered
 returns-clause-answered g c = λ k o first feeds.
-    let empty : c.fill.new.reading.queue.packets ≡ [] = none_waits c.fill.new.reading.queue.packets (omega arith) in
+    let empty : c.fill.new.reading.buffer.packets ≡ [] = none_waits c.fill.new.reading.buffer.packets (omega arith) in
     finished _ _ _ _ _ _ k _ _ o _ _ first _ _ _ _ _ (feeds_on _ _ _ _ _ k _ o _ first _ _ _ _ _ _ feeds c.fill.ensures.goes) c.requires.work
     empty (c.fill.ensures.empty empty) c.tell_end.ensures.works
 
@@ -19,4 +19,4 @@ pub returns-clause-paces : goal.returns-clause-paces
 returns-clause-paces g c = λ own first paced. works_pace _ _ _ _ _ _ _ _ own first _ _ c.tell_end.ensures.works refl paced
 
 pub tell_end-requires-clause-handed_back : goal.tell_end-requires-clause-handed_back
-tell_end-requires-clause-handed_back g c = c.fill.ensures.empty (none_waits c.fill.new.reading.queue.packets (omega arith))
+tell_end-requires-clause-handed_back g c = c.fill.ensures.empty (none_waits c.fill.new.reading.buffer.packets (omega arith))

@@ -9,8 +9,8 @@ invariant-loop g l =
     × Goes g.M.From.Source.tells g.M.From.Source.feed (g.M.MuxStore.shelf l.fn.store).faults l.fn.reading (g.M.MuxStore.shelf l.store).faults l.reading
     × ((g.M.MuxStore.shelf l.store).recording ≡ (g.M.MuxStore.shelf l.fn.store).recording)
     × (l.reading.tune ≡ l.fn.reading.tune)
-    × (l.reading.queue.room + length l.reading.queue.packets ≡ 64)
-    × (length l.reading.queue.packets ≤ l.most)
+    × (l.reading.buffer.room + length l.reading.buffer.packets ≡ 64)
+    × (length l.reading.buffer.packets ≤ l.most)
     × (held l.fn.reading.source ≤ (g.M.MuxStore.shelf l.fn.store).lent
     → (g.M.MuxStore.shelf l.store).lent + held l.fn.reading.source ≡ (g.M.MuxStore.shelf l.fn.store).lent + held l.reading.source)
     × ((g.M.MuxStore.shelf l.store).peak ≡ (g.M.MuxStore.shelf l.fn.store).peak)

@@ -9,8 +9,8 @@ returns-in-Ok-clause-gave g c =
     let b = c.in-Ok.ensures.bursts in
     let name = b.has.0 in
     let load = c.burst-made.new.lot in
-    let loaded : Loaded = record { front = load.front; tune = load.tune; work = load.work; packets = load.queue.now.packets; room = load.queue.now.room; datagrams = load.batch.now.datagrams } in
-    gave_by _ _ _ _ _ _ _ loaded _ _ load.queue.now _ (search rules) refl refl (ap (λ (x : Bundle). x.datagrams) c.clear.ensures.empty) record {
+    let loaded : Loaded = record { front = load.front; tune = load.tune; work = load.work; buffered = load.buffer.now; datagrams = load.batch.now.datagrams } in
+    gave_by _ _ _ _ _ _ _ loaded _ _ _ (search rules) refl (ap (λ (x : Bundle). x.datagrams) c.clear.ensures.empty) record {
       caller = b.caller;
       taken = b.taken;
       took = b.has.1;
@@ -29,16 +29,16 @@ returns-in-Err-clause-gave g c =
     let b = c.in-Err.ensures.bursts in
     let name = b.has.0 in
     let load = c.burst-made.new.lot in
-    let loaded : Loaded = record { front = load.front; tune = load.tune; work = load.work; packets = load.queue.now.packets; room = load.queue.now.room; datagrams = load.batch.now.datagrams } in
+    let loaded : Loaded = record { front = load.front; tune = load.tune; work = load.work; buffered = load.buffer.now; datagrams = load.batch.now.datagrams } in
     let tune : load.tune ≡ c.args.tuning.1 = b.has.1.tune in
-    gave_by _ _ _ _ _ _ _ loaded _ _ load.queue.now _ (search rules) refl refl (ap (λ (x : Bundle). x.datagrams) c.clear.ensures.empty) record {
+    gave_by _ _ _ _ _ _ _ loaded _ _ _ (search rules) refl (ap (λ (x : Bundle). x.datagrams) c.clear.ensures.empty) record {
       caller = b.caller;
       taken = b.taken;
       took = b.has.1;
       suit = b.suit;
       adds = b.adds;
       delivers = c.post.ensures.delivers;
-      ends = (rw (← tune) (given_is_of load.given load.front load.tune load.work load.batch.now load.queue.now.packets b.ends.0), b.ends.1);
+      ends = (rw (← tune) (given_is_of load.given load.front load.tune load.work load.batch.now load.buffer.now.packets b.ends.0), b.ends.1);
     }
 
 pub returns-in-Err-clause-fewer : goal.returns-in-Err-clause-fewer
