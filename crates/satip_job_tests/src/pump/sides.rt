@@ -1,5 +1,7 @@
 //! A pump beside the plain one, over many generated recordings.
 
+ghost use Rattle.std.specs.Prelude.{◌≤◌};
+
 use super::plain::PlainPump;
 use super::script::{Note, Scripted};
 use super::{FIRST, Kit, SECOND, kit, pump};
