@@ -11,5 +11,6 @@ mod rows;
 mod verdict;
 
 pub use checking::first_wrong_line;
+pub use index::{Spot, first_missing, first_repeated, sort_spots};
 pub use rows::worked_verdicts;
 pub use verdict::Verdict;
