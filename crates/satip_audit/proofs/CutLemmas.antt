@@ -48,7 +48,8 @@ found_is p text (Some k) h inside =
 pub finds : (at : ℕ) (text : List ℕ) (r : Option ℕ) → IsFirstByte (is_byte at) text r → (piece rest : List ℕ) → list_any (is_byte at) piece ≡ false
     → text ≡ piece ++ at ∷ rest → r ≡ Some (length piece)
 finds at text r h piece rest none e =
-    let place : position_or_len (is_byte at) text ≡ length piece = ap (λ (t : List ℕ). position_or_len (is_byte at) t) e ∙ place_behind (is_byte at) piece at rest none (same_byte at) in
+    let place : position_or_len (is_byte at) text ≡ length piece = ap (λ (t : List ℕ). position_or_len (is_byte at) t) e
+    ∙ place_behind (is_byte at) piece at rest none (same_byte at) in
     let long : length text ≡ length piece + (1 + length rest) = ap length e ∙ length-append piece (at ∷ rest) ∙ omega arith in
     found_is (is_byte at) text r h (omega (arith, place, long)) ∙ ap (λ (n : ℕ). Some n) place
 

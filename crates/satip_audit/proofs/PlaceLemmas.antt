@@ -156,7 +156,8 @@ record Gap (n : ℕ) (xs : List ℕ) (p : ℕ) : Type 0 where
   from : n ≤ p
   named : (q : ℕ) → n ≤ q → q < p → 1 ≤ times xs q
 
-gap_by : (n x : ℕ) (xs : List ℕ) (p : ℕ) → n ≤ x → Rises (suc x) xs → (Rises (suc n) xs → Some p ≡ gap_in (suc n) xs → Gap (suc n) xs p) → (b : Bool) → (x == n) ≡ b
+gap_by : (n x : ℕ) (xs : List ℕ) (p : ℕ) → n ≤ x → Rises (suc x) xs
+    → (Rises (suc n) xs → Some p ≡ gap_in (suc n) xs → Gap (suc n) xs p) → (b : Bool) → (x == n) ≡ b
     → Some p ≡ cond b (gap_in (suc n) xs) (Some n) → Gap n (x ∷ xs) p
 gap_by n x xs p up rises after true is more =
     let same = eqb-true x n is in

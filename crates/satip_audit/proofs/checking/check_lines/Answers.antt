@@ -12,8 +12,8 @@ pub returns-then-not-is_right : goal.returns-then-not-is_right
 returns-then-not-is_right c =
     let some : 0 < length c.lines.rest.now = grind (arith, nat_tests, c.is_empty.ensures, c.lines-test.true) in
     record {
-      checked = wrong_line _ c.lines.rest.now c.in-Some.line.now c.in-Some.behind.now _ c.lines.invariant (not_nil c.lines.rest.now some) c.in-Some.ensures.finds
-          c.if-not-is_right.ensures.right;
+      checked = wrong_line _ c.lines.rest.now c.in-Some.line.now c.in-Some.behind.now _ c.lines.invariant
+          (not_nil c.lines.rest.now some) c.in-Some.ensures.finds c.if-not-is_right.ensures.right;
     }
 
 pub lines-preserved : goal.lines-preserved

@@ -25,9 +25,11 @@ returns-in-Ok-clause-bytes c = λ bytes are fits is.
 pub returns-in-Err-clause-finds : goal.returns-in-Err-clause-finds
 returns-in-Err-clause-finds c = λ bytes are fits is.
     absurd (ok_not_err _ _
-    (decoded c.args.digits.now bytes _ _ _ are is (omega (arith, fits, length-take {A = ℕ}, length-digits c.args.digits.now bytes is)) c.in-Err.ensures.value).0 refl)
+    (decoded c.args.digits.now bytes _ _ _ are is
+    (omega (arith, fits, length-take {A = ℕ}, length-digits c.args.digits.now bytes is)) c.in-Err.ensures.value).0 refl)
 
 pub returns-in-Err-clause-bytes : goal.returns-in-Err-clause-bytes
 returns-in-Err-clause-bytes c = λ bytes are fits is.
     absurd (ok_not_err _ _
-    (decoded c.args.digits.now bytes _ _ _ are is (omega (arith, fits, length-take {A = ℕ}, length-digits c.args.digits.now bytes is)) c.in-Err.ensures.value).0 refl)
+    (decoded c.args.digits.now bytes _ _ _ are is
+    (omega (arith, fits, length-take {A = ℕ}, length-digits c.args.digits.now bytes is)) c.in-Err.ensures.value).0 refl)
