@@ -13,7 +13,7 @@ mod tests;
 mod texts;
 mod transports;
 
-pub use replies::write_turned;
+pub use replies::ChannelReply;
 pub use requests::{read_request, request};
 pub use rows::{worked_replies, worked_transports};
 pub use transports::interleaved;

@@ -1,33 +1,96 @@
 //! Replies that tell channels in place of UDP ports (RFC 2326, sections 10.12 and 12.39).
-ghost use Rattle.std.specs.Prelude.{◌≡◌, ◌≤◌, length, IfSome, IfNone};
+ghost use Rattle.std.specs.Prelude.{◌≡◌, ◌+◌, ◌≤◌, [], ◌++◌, length, vec_len, vec_capacity, decimal, IfSome, IfNone, IfOk};
 ghost use Rattle.std.specs.Option.{option_copied, option_and_then};
-ghost use Rattle.satip_base.specs.Output.{Wrote};
+ghost use Rattle.satip_base.specs.declared.limits.TheConstants.{REPLY_BYTES as MOST};
 ghost use Rattle.satip_channels.specs.Turned.{behind_name as name_left, channel_line, ports_between as ports_beside, ports_told as told_ports, IsFirstLine, HasNoLine, turned, turned_line, without_return as return_left};
 ghost use Rattle.satip_rtsp.specs.Transports.{port_up_to};
 
 use crate::texts::text_of;
-use satip_base::{Out, Ports, read_number};
+use itoa::Buffer;
+use satip_base::limits::REPLY_BYTES;
+use satip_base::{Ports, Want, read_number};
 use satip_tune::{cut, same_bytes};
+use std::alloc::Global;
+use std::marker::Model;
 
-/// Appends a reply as a client of channels reads it: in its head each line
-/// `Transport: RTP/AVP;unicast;client_port=p-q` becomes
-/// `Transport: RTP/AVP/TCP;unicast;interleaved=a-b`, where a is p - 1 and b is q - 1. All other
-/// lines stay, and so does what stands behind the head's empty line.
-pub fn write_turned(reply: &[u8], out: &mut Out)
-    requires room { length (turned reply.now) ≤ out.old.reply_spare }
-    ensures wrote { Wrote out.old (turned reply.now) out.new }
+// Bytes of a turned reply at most: a line that is turned gets less than twice as long.
+const ROOM: usize = 2 * REPLY_BYTES;
+
+/// A reply as a client of channels is told it. All memory is taken when it is made.
+#[derive(Drop)]
+pub struct ChannelReply {
+    text: Vec<u8>,
+}
+
+impl Model for ChannelReply {
+    ghost use Rattle.std.specs.Prelude.{List, ℕ, vec_capacity, ◌≤◌};
+
+    ghost Value = { List ℕ };
+
+    ghost view = { λ r. r.text.items };
+
+    ghost invariant = { λ r. 262144 ≤ vec_capacity r.text };
+}
+
+impl ChannelReply {
+    /// Takes all memory. There is no reply yet.
+    pub fn make(alloc: Global) -> Result<ChannelReply, Want>
+        ensures empty { IfOk result (λ reply. reply ≡ []) }
+    {
+        match Vec::with_capacity(alloc, ROOM) {
+            Ok(text) => Ok(ChannelReply { text }),
+            Err(_) => Err(Want),
+        }
+    }
+
+    /// Puts a reply of the server, which has at most 131072 bytes, in the place of the one before:
+    /// in its head each line `Transport: RTP/AVP;unicast;client_port=p-q` becomes
+    /// `Transport: RTP/AVP/TCP;unicast;interleaved=a-b`, where a is p - 1 and b is q - 1. All other
+    /// lines stay, and so does what stands behind the head's empty line.
+    pub fn turn(&mut self, reply: &[u8])
+        requires whole { length reply.now ≤ MOST }
+        ensures turned { self.new ≡ turned reply.now }
+    {
+        self.text.clear();
+        append_turned(reply, &mut self.text);
+    }
+
+    /// The bytes of the turned reply.
+    pub fn bytes(&self) -> &[u8]
+        ensures bytes { result.now ≡ self.now }
+    {
+        &self.text
+    }
+}
+
+fn append_turned(reply: &[u8], text: &mut Vec<u8>)
+    requires empty { text.old.items ≡ [] }
+    requires whole { length reply.now ≤ 131072 }
+    requires room { 262144 ≤ vec_capacity text.old }
+    ensures turned { text.new.items ≡ turned reply.now }
+    ensures room { 262144 ≤ vec_capacity text.new }
 {
     let mut left = reply;
     while let Some((line, rest)) = first_line(left) {
         if same_bytes(line, b"\r") {
-            out.write(left);
+            append(text, left);
             return;
         }
-        write_line(line, out);
-        out.write(b"\n");
+        append_line(line, text);
+        append(text, b"\n");
         left = rest;
     }
-    out.write(left);
+    append(text, left);
+}
+
+// Appends within the memory that the text has.
+fn append(text: &mut Vec<u8>, bytes: &[u8])
+    requires room { vec_len text.old + length bytes.now ≤ vec_capacity text.old }
+    ensures items { text.new.items ≡ text.old.items ++ bytes.now }
+    ensures count { vec_len text.new ≡ vec_len text.old + length bytes.now }
+    ensures capacity { vec_capacity text.old ≤ vec_capacity text.new }
+{
+    text.extend_from_slice(bytes).unwrap();
 }
 
 // The first line without its line feed, and what stands behind it; None where no line feed comes.
@@ -41,26 +104,39 @@ fn first_line(text: &[u8]) -> Option<(&[u8], &[u8])>
     }
 }
 
-fn write_line(line: &[u8], out: &mut Out)
-    requires room { length (turned_line line.now) ≤ out.old.reply_spare }
-    ensures wrote { Wrote out.old (turned_line line.now) out.new }
+fn append_line(line: &[u8], text: &mut Vec<u8>)
+    requires room { vec_len text.old + length (turned_line line.now) ≤ vec_capacity text.old }
+    ensures items { text.new.items ≡ text.old.items ++ turned_line line.now }
+    ensures count { vec_len text.new ≡ vec_len text.old + length (turned_line line.now) }
+    ensures capacity { vec_capacity text.old ≤ vec_capacity text.new }
 {
     match ports_told(line) {
-        None => out.write(line),
-        Some(ports) => write_channels(ports, out),
+        None => append(text, line),
+        Some(ports) => append_channels(ports, text),
     }
 }
 
 #[tactic(auto, unfolding(crate::specs::Turned::channel_line))]
-fn write_channels(ports: Ports, out: &mut Out)
-    requires room { length (channel_line ports) ≤ out.old.reply_spare }
-    ensures wrote { Wrote out.old (channel_line ports) out.new }
+fn append_channels(ports: Ports, text: &mut Vec<u8>)
+    requires room { vec_len text.old + length (channel_line ports) ≤ vec_capacity text.old }
+    ensures items { text.new.items ≡ text.old.items ++ channel_line ports }
+    ensures count { vec_len text.new ≡ vec_len text.old + length (channel_line ports) }
+    ensures capacity { vec_capacity text.old ≤ vec_capacity text.new }
 {
-    out.write(b"Transport: RTP/AVP/TCP;unicast;interleaved=");
-    out.write_number(ports.rtp.saturating_sub(1) as u64);
-    out.write(b"-");
-    out.write_number(ports.rtcp.saturating_sub(1) as u64);
-    out.write(b"\r");
+    append(text, b"Transport: RTP/AVP/TCP;unicast;interleaved=");
+    append_number(text, ports.rtp.saturating_sub(1));
+    append(text, b"-");
+    append_number(text, ports.rtcp.saturating_sub(1));
+    append(text, b"\r");
+}
+
+fn append_number(text: &mut Vec<u8>, number: u16)
+    requires room { vec_len text.old + length (decimal number) ≤ vec_capacity text.old }
+    ensures items { text.new.items ≡ text.old.items ++ decimal number }
+    ensures count { vec_len text.new ≡ vec_len text.old + length (decimal number) }
+    ensures capacity { vec_capacity text.old ≤ vec_capacity text.new }
+{
+    append(text, Buffer::new().format(number).as_bytes());
 }
 
 #[tactic(auto, unfolding(crate::specs::Turned::ports_told))]

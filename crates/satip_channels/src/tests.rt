@@ -1,6 +1,7 @@
 //! Requests and replies of a connection that carries the packets too, on the code.
 
-use crate::{interleaved, read_request, request, worked_replies, worked_transports, write_turned};
+use crate::{ChannelReply, interleaved, read_request, request, worked_replies, worked_transports};
+use satip_base::limits::REPLY_BYTES;
 use satip_base::{Out, Ports, SessionId};
 use satip_frame::{Framer, Step};
 use satip_rtsp::{Refusal, Request, write_setup};
@@ -30,10 +31,13 @@ fn read_over(alloc: Global, into: &mut Request, text: &[u8]) -> Result<(), Fail>
     }
 }
 
-fn turned(alloc: Global, reply: &[u8]) -> Result<Out, Fail> {
-    let mut out = Out::make(alloc)?;
-    write_turned(reply, &mut out);
-    Ok(out)
+// Whether a reply is turned into this text.
+fn turns(told: &mut ChannelReply, reply: &[u8], want: &[u8]) -> bool {
+    if reply.len() > REPLY_BYTES {
+        return false;
+    }
+    told.turn(reply);
+    told.bytes() == want
 }
 
 #[test]
@@ -73,20 +77,21 @@ fn reply_to_setup_tells_channels(rt: HostRuntime) -> Result<(), Fail> {
     let mut out = Out::make(rt.alloc())?;
     let session = SessionId { count: 1, word: 10 };
     write_setup(Some(1), session, 60, Ports { rtp: 1, rtcp: 2 }, 1, &mut out);
-    let told = turned(rt.alloc(), out.reply())?;
+    let mut told = ChannelReply::make(rt.alloc())?;
     let want: &[u8] =
         b"RTSP/1.0 200 OK\r\nCSeq: 1\r\nSession: 000000010000000a;timeout=60\r\nTransport: RTP/AVP/TCP;unicast;interleaved=0-1\r\ncom.ses.streamID: 1\r\n\r\n";
-    assert!(rt; told.reply() == want);
+    assert!(rt; turns(&mut told, out.reply(), want));
     Ok(())
 }
 
 #[test]
 fn other_replies_stay(rt: HostRuntime) -> Result<(), Fail> {
+    let mut told = ChannelReply::make(rt.alloc())?;
     let play: &[u8] =
         b"RTSP/1.0 200 OK\r\nCSeq: 2\r\nSession: 000000010000000a\r\nRTP-Info: url=rtsp://192.168.1.10/stream=1;seq=65535\r\n\r\n";
-    assert!(rt; turned(rt.alloc(), play)?.reply() == play);
+    assert!(rt; turns(&mut told, play, play));
     let body: &[u8] = b"RTSP/1.0 200 OK\r\n\r\nTransport: RTP/AVP;unicast;client_port=1-2\r\n\r\n";
-    assert!(rt; turned(rt.alloc(), body)?.reply() == body);
-    assert!(rt; turned(rt.alloc(), b"")?.reply() == b"".as_slice());
+    assert!(rt; turns(&mut told, body, body));
+    assert!(rt; turns(&mut told, b"", b""));
     Ok(())
 }
