@@ -1,31 +1,32 @@
 //! Requests and replies of a connection that carries the packets too, on the code.
 
 use crate::{ChannelReply, interleaved, read_request, request, worked_replies, worked_transports};
+use satip_base::Ports;
 use satip_base::limits::REPLY_BYTES;
-use satip_base::{Out, Ports, SessionId};
-use satip_frame::{Framer, Step};
-use satip_rtsp::{Refusal, Request, write_setup};
+use satip_frame::{Break, Framer, Step};
+use satip_rtsp::Request;
 use std::alloc::Global;
 use std::test::Fail;
 
-// The request of a text that is one message.
-fn request_of(alloc: Global, text: &[u8]) -> Result<Request, Fail> {
+// The ports that a text asks for, which is one message.
+fn ports_of(alloc: Global, text: &[u8]) -> Result<Option<Ports>, Fail> {
     let mut framer = Framer::make(alloc)?;
     framer.feed(text);
     match framer.next() {
-        Step::Message => Ok(request(&framer.message().ok_or("message")?)),
+        Step::Message => Ok(request(&framer.message().ok_or("message")?).ports),
         _ => Err(Fail::from("no message")),
     }
 }
 
-// The same over an older request.
-fn read_over(alloc: Global, into: &mut Request, text: &[u8]) -> Result<(), Fail> {
+// The same, read over an older request.
+fn ports_over(alloc: Global, text: &[u8]) -> Result<Option<Ports>, Fail> {
     let mut framer = Framer::make(alloc)?;
     framer.feed(text);
     match framer.next() {
         Step::Message => {
-            read_request(&framer.message().ok_or("message")?, into);
-            Ok(())
+            let mut into = Request::broken(Break::Bad);
+            read_request(&framer.message().ok_or("message")?, &mut into);
+            Ok(into.ports)
         }
         _ => Err(Fail::from("no message")),
     }
@@ -45,28 +46,25 @@ fn setup_asks_for_channels(rt: HostRuntime) -> Result<(), Fail> {
     worked_transports();
     let text =
         b"SETUP rtsp://h/?src=1 RTSP/1.0\r\nCSeq: 1\r\nTransport: RTP/AVP/TCP;unicast;interleaved=0-1\r\n\r\n";
-    let asked = request_of(rt.alloc(), text)?;
-    assert_eq!(rt; asked.ports, Some(Ports { rtp: 1, rtcp: 2 }));
-    assert_eq!(rt; asked.refusal, None);
+    assert_eq!(rt;
+        ports_of(rt.alloc(), text)?,
+        Some(Ports { rtp: 1, rtcp: 2 })
+    );
+    assert_eq!(rt;
+        ports_over(rt.alloc(), text)?,
+        Some(Ports { rtp: 1, rtcp: 2 })
+    );
     let text =
         b"SETUP rtsp://h/?src=1 RTSP/1.0\r\nCSeq: 1\r\nTransport: RTP/AVP;unicast;client_port=1400-1401\r\n\r\n";
-    let mut asked = request_of(rt.alloc(), text)?;
-    assert_eq!(rt; asked.ports, None);
-    assert_eq!(rt; asked.refusal, None);
+    assert_eq!(rt; ports_of(rt.alloc(), text)?, None);
     let text =
         b"PLAY rtsp://h/ RTSP/1.0\r\nCSeq: 1\r\nTransport: RTP/AVP/TCP;interleaved=0-1\r\n\r\n";
-    read_over(rt.alloc(), &mut asked, text)?;
-    assert_eq!(rt; asked.ports, None);
+    assert_eq!(rt; ports_of(rt.alloc(), text)?, None);
     let text = b"SETUP rtsp://h/ RTSP/1.0\r\nTransport: RTP/AVP/TCP;interleaved=0-1\r\n\r\n";
-    read_over(rt.alloc(), &mut asked, text)?;
-    assert_eq!(rt; (asked.ports, asked.refusal), (None, Some(Refusal::NoCseq)));
-    let text =
-        b"SETUP rtsp://h/ RTSP/1.0\r\nCSeq: 9\r\nTransport: RTP/AVP/TCP;interleaved=8-3\r\n\r\n";
-    read_over(rt.alloc(), &mut asked, text)?;
-    assert_eq!(rt; asked.ports, Some(Ports { rtp: 9, rtcp: 4 }));
+    assert_eq!(rt; ports_over(rt.alloc(), text)?, None);
     assert_eq!(rt;
-        interleaved(b"RTP/AVP/TCP;interleaved=6"),
-        Some(Ports { rtp: 7, rtcp: 8 })
+        interleaved(b"RTP/AVP/TCP;interleaved=8-3"),
+        Some(Ports { rtp: 9, rtcp: 4 })
     );
     Ok(())
 }
@@ -74,13 +72,12 @@ fn setup_asks_for_channels(rt: HostRuntime) -> Result<(), Fail> {
 #[test]
 fn reply_to_setup_tells_channels(rt: HostRuntime) -> Result<(), Fail> {
     worked_replies();
-    let mut out = Out::make(rt.alloc())?;
-    let session = SessionId { count: 1, word: 10 };
-    write_setup(Some(1), session, 60, Ports { rtp: 1, rtcp: 2 }, 1, &mut out);
     let mut told = ChannelReply::make(rt.alloc())?;
+    let reply: &[u8] =
+        b"RTSP/1.0 200 OK\r\nCSeq: 1\r\nSession: 000000010000000a;timeout=60\r\nTransport: RTP/AVP;unicast;client_port=1-256\r\ncom.ses.streamID: 1\r\n\r\n";
     let want: &[u8] =
-        b"RTSP/1.0 200 OK\r\nCSeq: 1\r\nSession: 000000010000000a;timeout=60\r\nTransport: RTP/AVP/TCP;unicast;interleaved=0-1\r\ncom.ses.streamID: 1\r\n\r\n";
-    assert!(rt; turns(&mut told, out.reply(), want));
+        b"RTSP/1.0 200 OK\r\nCSeq: 1\r\nSession: 000000010000000a;timeout=60\r\nTransport: RTP/AVP/TCP;unicast;interleaved=0-255\r\ncom.ses.streamID: 1\r\n\r\n";
+    assert!(rt; turns(&mut told, reply, want));
     Ok(())
 }
 

@@ -5,7 +5,7 @@ use Rattle.satip_history.specs.History.{entry}
 use Rattle.satip_core.specs.Held.{Held as HeldServer}
 use Rattle.satip_core.specs.Serving.{StandsAfter}
 use Rattle.satip_lanes.specs.Lanes.{PlainLanes, no_lanes}
-use Rattle.satip_plain.specs.Histories.{Item, Legal}
+use Rattle.satip_plain.specs.Histories.{Item}
 use Rattle.satip_tunnel.specs.declared.events.TunnelEvent.{TunnelEvent}
 use Rattle.satip_tunnel.specs.declared.events.TunnelEvent.TheVariants.{Inner, Enter, Drain, Leave}
 use Rattle.satip_tunnel.specs.declared.events.TunnelAnswer.{TunnelAnswer}
@@ -13,7 +13,7 @@ use Rattle.satip_tunnel.specs.declared.events.TunnelAnswer.TheVariants.{Inner as
 use Rattle.satip_tunnel.specs.Held.{Held}
 use Rattle.satip_tunnel.specs.Tunnels.{moved_by}
 use Rattle.satip_tunnel.specs.Answers.{IsAnswered}
-use Rattle.satip_tunnel.specs.Histories.{LanesFrom, TunnelItem, TunnelLegal, inner_by, inners, lanes_after, lanes_from, moved}
+use Rattle.satip_tunnel.specs.Histories.{LanesFrom, TunnelItem, inner_by, inners, lanes_after, lanes_from, moved}
 use Rattle.satip_tunnel.specs.Standing.{MatchInner, Stands}
 
 inners-append : (h k : List TunnelItem) → inners (h ++ k) ≡ inners h ++ inners k
@@ -56,14 +56,10 @@ stands_more old new h n event answer out answered lanes server stands =
     let t : TunnelItem = entry n event answer out in
     let last : inners (t ∷ []) ≡ inner_by n event answer out = append-nil (inner_by n event answer out) in
     let whole : inners (h ++ t ∷ []) ≡ inners h ++ inner_by n event answer out =
-        inners-append h (t ∷ []) ∙ ap (λ rest. inners h ++ rest) last in
+    inners-append h (t ∷ []) ∙ ap (λ rest. inners h ++ rest) last in
     let is : IsAnswered (lanes_after h) event answer out = subst (λ l. IsAnswered l event answer out) stands.lanes answered in
     record {
       server = subst (λ k. StandsAfter new.server k) (sym whole) (server_more old.server new.server (inners h) n event answer out server stands.server);
       lanes = lanes ∙ ap (moved_by event out.datagrams) stands.lanes ∙ sym (lanes_from-append no_lanes h (t ∷ []));
       answered = answered_more no_lanes h (t ∷ []) stands.answered (is, tt);
     }
-
--- what a tunnel stands for is legal
-pub stands_legal : (t : Held) (h : List TunnelItem) → Stands t h → TunnelLegal t.server.setting h
-stands_legal t h stands = record { inner = stands.server.lawful; lanes = stands.answered }

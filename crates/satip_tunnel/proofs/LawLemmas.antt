@@ -86,7 +86,7 @@ numbers_told lanes [] answered = refl
 numbers_told lanes (t ∷ ts) answered =
     let calls = calls_by t.event t.out.datagrams in
     let rest : numbers_in ts ≡ numbers_given (after lanes calls) (all_calls ts) =
-        numbers_told (moved lanes t) ts answered.1 ∙ ap (λ l. numbers_given l (all_calls ts)) (moved_by_calls t.event t.out.datagrams lanes) in
+    numbers_told (moved lanes t) ts answered.1 ∙ ap (λ l. numbers_given l (all_calls ts)) (moved_by_calls t.event t.out.datagrams lanes) in
     ap (λ front. front ++ numbers_in ts) (number_told t.event lanes t.answer t.out answered.0)
     ∙ ap (λ back. numbers_given lanes calls ++ back) rest
     ∙ sym (numbers_given-append lanes calls (all_calls ts))

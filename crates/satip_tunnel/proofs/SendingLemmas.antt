@@ -20,6 +20,6 @@ brought_more first before after all place is next = one_more (slice_get all plac
     one_more None e no = absurd no
     one_more (Some d) e put =
         let more : take (place + 1) all ≡ take place all ++ d ∷ [] =
-            take_more all place d (slice_get_within all place d e)
-            ∙ ap (λ (x : Datagram). take place all ++ x ∷ []) (get_or_from_slice_get all place d d e) in
+        take_more all place d (slice_get_within all place d e)
+        ∙ ap (λ (x : Datagram). take place all ++ x ∷ []) (get_or_from_slice_get all place d d e) in
         put ∙ ap (put_to d.to d.bytes) is ∙ sym (ap (λ ds. put_all ds first) more ∙ put_all-append (take place all) (d ∷ []) first)

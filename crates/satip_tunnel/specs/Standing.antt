@@ -13,7 +13,7 @@ use Rattle.satip_tunnel.specs.declared.events.TunnelEvent.TheVariants.{Inner}
 use Rattle.satip_tunnel.specs.declared.events.TunnelAnswer.{TunnelAnswer}
 use Rattle.satip_tunnel.specs.declared.events.TunnelAnswer.TheVariants.{Inner as InnerAnswer}
 use Rattle.satip_tunnel.specs.Held.{Held}
-use Rattle.satip_tunnel.specs.Histories.{LanesFrom, TunnelItem, inners, lanes_after}
+use Rattle.satip_tunnel.specs.Histories.{LanesFrom, TunnelItem, TunnelLegal, inners, lanes_after}
 
 -- the server did the plain server's step, and stands for one more entry
 pub record InnerDone (old : HeldServer) (event : Event) (answer : Answer) (out : Output) (new : HeldServer) : Type 0 where
@@ -32,3 +32,7 @@ pub record Stands (t : Held) (h : List TunnelItem) : Type 0 where
   pub server : StandsAfter t.server (inners h)
   pub lanes : t.lanes ≡ lanes_after h
   pub answered : LanesFrom no_lanes h
+
+-- what a tunnel stands for is legal
+pub stands_legal : (t : Held) (h : List TunnelItem) → Stands t h → TunnelLegal t.server.setting h
+stands_legal t h stands = record { inner = stands.server.lawful; lanes = stands.answered }

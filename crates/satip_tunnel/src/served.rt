@@ -8,8 +8,7 @@ use satip_plain::Setting;
 
 impl Served for Tunnel {
     ghost use Rattle.satip_tunnel.specs.Histories.{TunnelLegal};
-    ghost use Rattle.satip_tunnel.specs.Standing.{Stands};
-    ghost use Rattle.satip_tunnel.proofs.HistoryLemmas.{stands_legal};
+    ghost use Rattle.satip_tunnel.specs.Standing.{Stands, stands_legal};
 
     type Event = TunnelEvent;
 
