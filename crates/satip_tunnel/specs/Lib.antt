@@ -4,3 +4,4 @@ pub mod Answers
 pub mod Histories
 pub mod Standing
 pub mod Laws
+pub mod Rows

@@ -4,10 +4,12 @@
 
 mod events;
 mod laws;
+mod rows;
 mod sending;
 mod served;
 mod tunnel;
 
 pub use events::{TunnelAnswer, TunnelEvent};
 pub use laws::lane_numbers_rise;
+pub use rows::worked_rows;
 pub use tunnel::Tunnel;
