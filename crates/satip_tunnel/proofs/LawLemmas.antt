@@ -16,12 +16,12 @@ use Rattle.satip_tunnel.specs.Histories.{LanesFrom, TunnelItem, TunnelLegal, mov
 use Rattle.satip_tunnel.specs.Laws.{LaneNumbersRise, number_in, numbers_in}
 
 -- each datagram as a call of the lanes
-puts : List Datagram → List Call
+abbrev puts : List Datagram → List Call
 puts [] = []
 puts (d ∷ ds) = Put d.to d.bytes ∷ puts ds
 
 -- an event as calls of the lanes
-calls_by : TunnelEvent → List Datagram → List Call
+abbrev calls_by : TunnelEvent → List Datagram → List Call
 calls_by (Inner event) sent = puts sent
 calls_by Enter sent = Entering ∷ []
 calls_by (Drain number) sent = Draining number ∷ []
@@ -37,7 +37,7 @@ moved_by_calls Enter sent lanes = refl
 moved_by_calls (Drain number) sent lanes = refl
 moved_by_calls (Leave number) sent lanes = refl
 
-all_calls : List TunnelItem → List Call
+abbrev all_calls : List TunnelItem → List Call
 all_calls [] = []
 all_calls (t ∷ ts) = calls_by t.event t.out.datagrams ++ all_calls ts
 

@@ -17,7 +17,7 @@ brought_more first before after all place is next = one_more (slice_get all plac
   where
     one_more : (found : Option Datagram) → slice_get all place ≡ found → IsSomeAnd found (λ d. after ≡ put_to d.to d.bytes before)
         → after ≡ put_all (take (place + 1) all) first
-    one_more None e no = absurd no
+    one_more None e nothing = absurd nothing
     one_more (Some d) e put =
         let more : take (place + 1) all ≡ take place all ++ d ∷ [] =
         take_more all place d (slice_get_within all place d e)
