@@ -14,10 +14,22 @@ fn lanes_are_64_with_numbers_of_their_own(rt: HostRuntime) -> Result<(), Fail> {
         let answer = tunnel.event(&TunnelEvent::Enter, &mut out);
         assert_eq!(rt; answer, TunnelAnswer::Lane(number));
     }
-    assert_eq!(rt; tunnel.event(&TunnelEvent::Enter, &mut out), TunnelAnswer::Full);
-    assert_eq!(rt; tunnel.event(&TunnelEvent::Leave { lane: 7 }, &mut out), TunnelAnswer::Left);
-    assert_eq!(rt; tunnel.event(&TunnelEvent::Enter, &mut out), TunnelAnswer::Lane(65));
-    assert_eq!(rt; tunnel.event(&TunnelEvent::Enter, &mut out), TunnelAnswer::Full);
+    assert_eq!(rt;
+        tunnel.event(&TunnelEvent::Enter, &mut out),
+        TunnelAnswer::Full
+    );
+    assert_eq!(rt;
+        tunnel.event(&TunnelEvent::Leave { lane: 7 }, &mut out),
+        TunnelAnswer::Left
+    );
+    assert_eq!(rt;
+        tunnel.event(&TunnelEvent::Enter, &mut out),
+        TunnelAnswer::Lane(65)
+    );
+    assert_eq!(rt;
+        tunnel.event(&TunnelEvent::Enter, &mut out),
+        TunnelAnswer::Full
+    );
     Ok(())
 }
 
@@ -57,7 +69,10 @@ fn full_lane_breaks_alone(rt: HostRuntime) -> Result<(), Fail> {
         assert!(rt; &out.reply()[..4] == [0x24, 0x06, 0x05, 0x30].as_slice());
     }
     for _drained in 0..8 {
-        assert_eq!(rt; drain(&mut tunnel, 1, &mut out), TunnelAnswer::Frames(65268));
+        assert_eq!(rt;
+            drain(&mut tunnel, 1, &mut out),
+            TunnelAnswer::Frames(65268)
+        );
         assert!(rt; &out.reply()[..4] == [0x24, 0x02, 0x05, 0x30].as_slice());
     }
     assert_eq!(rt; drain(&mut tunnel, 1, &mut out), TunnelAnswer::Frames(1332));

@@ -2,8 +2,9 @@
 
 ghost use Rattle.std.specs.Prelude.{◌≡◌};
 
+use satip_base::limits::REPLY_BYTES;
 use satip_base::{Draw, Out, Peer};
-use satip_channels::{request, write_turned};
+use satip_channels::{ChannelReply, request};
 use satip_config::Config;
 use satip_frame::{Framer, Step};
 use satip_plain::Event;
@@ -75,11 +76,14 @@ pub fn ask(alloc: Global, lane: u32, text: &[u8]) -> Result<TunnelEvent, Fail> {
     }
 }
 
-/// What the reply in an output is on a connection of channels.
-pub fn turned(alloc: Global, out: &Out) -> Result<Out, Fail> {
-    let mut told = Out::make(alloc)?;
-    write_turned(out.reply(), &mut told);
-    Ok(told)
+/// Whether the reply in an output is this one on a connection of channels.
+pub fn tells(alloc: Global, out: &Out, want: &[u8]) -> Result<bool, Fail> {
+    let mut told = ChannelReply::make(alloc)?;
+    if out.reply().len() > REPLY_BYTES {
+        return Ok(false);
+    }
+    told.turn(out.reply());
+    Ok(told.bytes() == want)
 }
 
 /// The clock goes on.
