@@ -9,7 +9,7 @@ use Rattle.satip_recorder.specs.Arrivals.{AreRead, IsLast, TookTurns}
 
 pub read-then : (xs ys : List (List ℕ)) (ds es : List Datagram) → AreRead xs ds → AreRead ys es → AreRead (xs ++ ys) (ds ++ es)
 read-then [] ys ds es first second = subst (λ (x : List Datagram). AreRead ys (x ++ es)) (sym first) second
-read-then (x ∷ xs) ys ds es (inl no) second = inl (no.0, read-then xs ys ds es no.1 second)
+read-then (x ∷ xs) ys ds es (inl out) second = inl (out.0, read-then xs ys ds es out.1 second)
 read-then (x ∷ xs) ys ds es (inr is) second =
     inr (is.0, is.1, is.2 ++ es, ap (λ (t : List Datagram). t ++ es) is.3, read-then xs ys is.2 es is.4 second)
 
@@ -20,7 +20,7 @@ small-cons d ds h all (suc k) e l = all k e (omega arith)
 -- the number of an arrival has two bytes
 pub small : (xs : List (List ℕ)) (ds : List Datagram) → AreRead xs ds → All (λ x. x.number < 65536) ds
 small [] ds is = subst (λ (x : List Datagram). All (λ y. y.number < 65536) x) (sym is) (λ k e l. absurd (omega arith))
-small (x ∷ xs) ds (inl no) = small xs ds no.1
+small (x ∷ xs) ds (inl out) = small xs ds out.1
 small (x ∷ xs) ds (inr is) =
     subst (λ (t : List Datagram). All (λ y. y.number < 65536) t) (sym is.3) (small-cons is.0 is.2 is.1.small (small xs is.2 is.4))
 

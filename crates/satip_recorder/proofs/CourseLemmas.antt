@@ -1,18 +1,18 @@
 -- Turns of receiving, one after another.
-use Rattle.std.proofs.Common.{◌≡◌, ◌⊎◌, inl, inr, ℕ, ◌+◌, ◌<◌, ◌≤◌, suc, List, [], ◌∷◌, ◌++◌, length, refl, sym, ap, ◌∙◌, subst, arith, append_assoc, append-nil, length-append}
-use Rattle.satip_base.specs.Streams.{Rose}
+use Rattle.std.proofs.Common.{◌≡◌, ◌⊎◌, inl, inr, ℕ, ◌+◌, ◌<◌, ◌≤◌, suc, List, [], ◌∷◌, ◌++◌, length, refl, sym, ap, ◌∙◌, subst, arith, append_assoc, append-nil, length-append, Result, Ok, Err}
 use Rattle.satip_world.specs.Counts.{Rises}
 use Rattle.satip_world.specs.Dials.{Dial, Reads}
 use Rattle.satip_world.specs.Lines.{Line, Grew}
 use Rattle.satip_inlet.specs.Inboxes.{Inbox}
+use Rattle.satip_catch.specs.Catching.{Catch, catching}
 use Rattle.satip_client.proofs.PulseLemmas.{grew_then, grew_none, faults_then}
 use Rattle.satip_client.specs.Leases.{Terms}
-use Rattle.satip_client.specs.Pulses.{after_reading, sent_at, Beat, NotBeat, BeatFailed}
+use Rattle.satip_client.specs.Pulses.{after_reading, sent_at, Beat, NotBeat, BeatFailed, Beats}
 use Rattle.satip_client.specs.declared.ending.RecordEnd.{RecordEnd}
 use Rattle.satip_client.specs.declared.ending.RecordEnd.TheVariants.{Done, OutputFault, Refused, BadReply, Silent, PeerFault, Closed, OutOfMemory}
 use Rattle.satip_client.specs.declared.pulse.Pulse.{Pulse}
 use Rattle.satip_recorder.specs.Arrivals.{TookTurns}
-use Rattle.satip_recorder.specs.Courses.{Talk, Reel, talk, ReadsAll, after_readings, options_sent, Beaten, BeatenUntil, Caught, CaughtUntil, CatchCause, Cause, Course, Stopped}
+use Rattle.satip_recorder.specs.Courses.{Talk, Reel, talk, ReadsAll, after_readings, options_sent, Beaten, BeatenUntil, Caught, CaughtUntil, CatchCause, Cause, Catches, Course, Stopped, Turns, TakesTurn, IsReady}
 use Rattle.satip_recorder.proofs.ArrivalLemmas.{turns-then, turns-fewer, turns-none}
 use Rattle.satip_recorder.proofs.WoundLemmas.{caught-then, caught-until, wound-none, wound-all}
 
@@ -141,17 +141,18 @@ cause-of limit a b i j PeerFault cause = inr cause
 cause-of limit a b i j Closed cause = cause
 cause-of limit a b i j OutOfMemory cause = absurd cause
 
-pub cause-after : (limit k : ℕ) (a m b : Line) (i l j : Inbox) (end : RecordEnd) → m.send_faults ≡ a.send_faults → l.faults ≡ i.faults → TookTurns k i l
-    → Cause limit m b l j end → Cause limit a b i j end
-cause-after limit k a m b i l j Done sends faults took cause = cause
-cause-after limit k a m b i l j OutputFault sends faults took cause = cause
-cause-after limit k a m b i l j (Refused code) sends faults took cause = cause
-cause-after limit k a m b i l j BadReply sends faults took cause = cause
-cause-after limit k a m b i l j Silent sends faults took cause = turns-fewer (k + limit) limit i j (omega arith) (turns-then k limit i l j took cause)
-cause-after limit k a m b i l j PeerFault sends faults took (inl rises) = inl (rises-from a.send_faults m.send_faults b.send_faults sends rises)
-cause-after limit k a m b i l j PeerFault sends faults took (inr rises) = inr (rises-from i.faults l.faults j.faults faults rises)
-cause-after limit k a m b i l j Closed sends faults took cause = cause
-cause-after limit k a m b i l j OutOfMemory sends faults took cause = cause
+pub cause-after : (limit rest k : ℕ) (a m b : Line) (i l j : Inbox) (end : RecordEnd) → limit ≤ k + rest → m.send_faults ≡ a.send_faults
+    → l.faults ≡ i.faults → TookTurns k i l → Cause rest m b l j end → Cause limit a b i j end
+cause-after limit rest k a m b i l j Done less sends faults took cause = cause
+cause-after limit rest k a m b i l j OutputFault less sends faults took cause = cause
+cause-after limit rest k a m b i l j (Refused code) less sends faults took cause = cause
+cause-after limit rest k a m b i l j BadReply less sends faults took cause = cause
+cause-after limit rest k a m b i l j Silent less sends faults took cause =
+    turns-fewer (k + rest) limit i j less (turns-then k rest i l j took cause)
+cause-after limit rest k a m b i l j PeerFault less sends faults took (inl rises) = inl (rises-from a.send_faults m.send_faults b.send_faults sends rises)
+cause-after limit rest k a m b i l j PeerFault less sends faults took (inr rises) = inr (rises-from i.faults l.faults j.faults faults rises)
+cause-after limit rest k a m b i l j Closed less sends faults took cause = cause
+cause-after limit rest k a m b i l j OutOfMemory less sends faults took cause = cause
 
 -- one turn after others
 pub course-then : (t ti to te : Type 0) (a m b : Talk) (i l j : Inbox) (o p n : Reel) (address : List ℕ) (terms : Terms)
@@ -164,34 +165,38 @@ course-then t ti to te a m b i l j o p n address terms first some second = recor
       (caught-then ti to te i l j o p n (length first.moments) (length second.moments) first.reels some second.reels);
 }
 
-pub stopped-after : (t ti to te : Type 0) (a m b : Talk) (i l j : Inbox) (o p n : Reel) (address : List ℕ) (terms : Terms) (limit : ℕ)
-    (end : RecordEnd) → Course t ti to te a m i l o p address terms → 0 < p.tape.left
-    → Stopped t ti to te m b l j p n address terms limit end → Stopped t ti to te a b i j o n address terms limit end
-stopped-after t ti to te a m b i l j o p n address terms limit end first some second = record {
-  talks = beaten-until t a m b address terms first.moments first.talks second.talks;
-  reels = caught-until ti to te i l j o p n (length first.moments) end first.reels some second.reels;
-  cause = cause-after limit (length first.moments) a.wire m.wire b.wire i l j end first.talks.faults.send_faults first.reels.faults
-      first.reels.took second.cause;
-}
+pub course-next : (t ti to te : Type 0) (a m b : Talk) (i l j : Inbox) (o p n : Reel) (address : List ℕ) (terms : Terms)
+    → (first : Course t ti to te a m i l o p address terms) → 0 < p.tape.left
+    → (second : (c : Course t ti to te m b l j p n address terms) × (length c.moments ≡ 1))
+    → (c : Course t ti to te a b i j o n address terms) × (length c.moments ≡ length first.moments + 1)
+course-next t ti to te a m b i l j o p n address terms first some second = (
+  record {
+    moments = first.moments ++ second.0.moments;
+    talks = beaten-then t a m b address terms first.moments second.0.moments first.talks second.0.talks;
+    reels = subst (λ (k : ℕ). Caught ti to te i j o n k) (sym (length-append first.moments second.0.moments))
+        (caught-then ti to te i l j o p n (length first.moments) (length second.0.moments) first.reels some second.0.reels);
+  },
+  omega (arith, length-append first.moments second.0.moments, second.1),
+)
 
-pub course-none : (t ti to te : Type 0) (a : Talk) (i : Inbox) (o : Reel) (address : List ℕ) (terms : Terms)
-    → Course t ti to te a a i i o o address terms
-course-none t ti to te a i o address terms = record {
-  moments = [];
-  talks = beaten-none t a address terms;
-  reels = caught-nothing ti to te i o;
-}
+pub stopped-after : (t ti to te : Type 0) (a m b : Talk) (i l j : Inbox) (o p n : Reel) (address : List ℕ) (terms : Terms) (limit rest : ℕ)
+    (end : RecordEnd) (result : Result (Unit {0}) RecordEnd) → (first : Course t ti to te a m i l o p address terms) → 0 < p.tape.left
+    → limit ≤ length first.moments + rest → result ≡ Err end → Stopped t ti to te m b l j p n address terms rest end
+    → Turns t ti to te a b i j o n address terms limit result
+stopped-after t ti to te a m b i l j o p n address terms limit rest end result first some less is second =
+    subst (λ (r : Result (Unit {0}) RecordEnd). Turns t ti to te a b i j o n address terms limit r) (sym is) (record {
+      talks = beaten-until t a m b address terms first.moments first.talks second.talks;
+      reels = caught-until ti to te i l j o p n (length first.moments) end first.reels some second.reels;
+      cause = cause-after limit rest (length first.moments) a.wire m.wire b.wire i l j end less first.talks.faults.send_faults
+          first.reels.faults first.reels.took second.cause;
+    })
+
+pub course-begun : (t ti to te : Type 0) (a : Talk) (i : Inbox) (o : Reel) (address : List ℕ) (terms : Terms)
+    → (c : Course t ti to te a a i i o o address terms) × (length c.moments ≡ 0)
+course-begun t ti to te a i o address terms =
+    (record { moments = []; talks = beaten-none t a address terms; reels = caught-nothing ti to te i o }, refl)
 
 -- one turn
-pub course-one : (t ti to te : Type 0) (w x : Line) (d e : Dial) (p q : Pulse) (i j : Inbox) (o n : Reel) (address : List ℕ) (terms : Terms)
-    (moment : ℕ) → Reads d e moment → Beat t w x address terms p q moment → Caught ti to te i j o n 1
-    → Course t ti to te (talk w d p) (talk x e q) i j o n address terms
-course-one t ti to te w x d e p q i j o n address terms moment reads beat caught = record {
-  moments = moment ∷ [];
-  talks = beaten-one t w x d e p q address terms moment reads beat;
-  reels = caught;
-}
-
 pub stopped-catching : (t ti to te : Type 0) (w x : Line) (d e : Dial) (p q : Pulse) (i j : Inbox) (o n : Reel) (address : List ℕ)
     (terms : Terms) (limit : ℕ) (end : RecordEnd) (moment : ℕ) → Reads d e moment → Beat t w x address terms p q moment
     → CaughtUntil ti to te i j o n end → CatchCause i j end
@@ -245,3 +250,46 @@ stopped-wanted t ti to te w x d e p q i o address terms limit moment reads beat 
   };
   cause = tt;
 }
+
+-- one turn, by what its parts come to
+pub turn-taken : (t ti to te : Type 0) (w x : Line) (d e : Dial) (p q : Pulse) (i j : Inbox) (o n : Reel) (address : List ℕ) (terms : Terms)
+    (limit : ℕ) (result : Result (Unit {0}) RecordEnd) → (b : Beats t w x d e address terms p q (Ok tt)) → Catches ti to te i j o n result
+    → TakesTurn t ti to te (talk w d p) (talk x e q) i j o n address terms limit result
+turn-taken t ti to te w x d e p q i j o n address terms limit (Ok done) b caught = (
+  record {
+    moments = b.moment ∷ [];
+    talks = beaten-one t w x d e p q address terms b.moment b.reads b.beats;
+    reels = caught;
+  },
+  refl,
+)
+turn-taken t ti to te w x d e p q i j o n address terms limit (Err end) b caught =
+    stopped-catching t ti to te w x d e p q i j o n address terms limit end b.moment b.reads b.beats caught.0 caught.1
+
+stopped-beat : (t ti to te : Type 0) (w x : Line) (d e : Dial) (p q : Pulse) (i : Inbox) (o : Reel) (address : List ℕ) (terms : Terms)
+    (limit : ℕ) (end : RecordEnd) → Beats t w x d e address terms p q (Err end)
+    → Stopped t ti to te (talk w d p) (talk x e q) i i o o address terms limit end
+stopped-beat t ti to te w x d e p q i o address terms limit Done b = absurd b.beats
+stopped-beat t ti to te w x d e p q i o address terms limit OutputFault b = absurd b.beats
+stopped-beat t ti to te w x d e p q i o address terms limit (Refused code) b = absurd b.beats
+stopped-beat t ti to te w x d e p q i o address terms limit BadReply b = absurd b.beats
+stopped-beat t ti to te w x d e p q i o address terms limit Silent b = absurd b.beats
+stopped-beat t ti to te w x d e p q i o address terms limit PeerFault b =
+    stopped-failed t ti to te w x d e p q i o address terms limit b.moment b.reads b.beats
+stopped-beat t ti to te w x d e p q i o address terms limit Closed b = absurd b.beats
+stopped-beat t ti to te w x d e p q i o address terms limit OutOfMemory b =
+    stopped-wanted t ti to te w x d e p q i o address terms limit b.moment b.reads b.beats
+
+pub turn-failed : (t ti to te : Type 0) (w x : Line) (d e : Dial) (p q : Pulse) (i : Inbox) (o : Reel) (address : List ℕ) (terms : Terms)
+    (limit : ℕ) (end : RecordEnd) (result : Result (Unit {0}) RecordEnd) → result ≡ Err end → Beats t w x d e address terms p q (Err end)
+    → TakesTurn t ti to te (talk w d p) (talk x e q) i i o o address terms limit result
+turn-failed t ti to te w x d e p q i o address terms limit end result is b =
+    subst (λ (r : Result (Unit {0}) RecordEnd). TakesTurn t ti to te (talk w d p) (talk x e q) i i o o address terms limit r) (sym is)
+    (stopped-beat t ti to te w x d e p q i o address terms limit end b)
+
+-- a new catcher can take a datagram
+pub ready-new : (c : Catch) → c ≡ catching → IsReady c
+ready-new c is = subst (λ (x : Catch). IsReady x) (sym is) (record {
+  rests = record { unfinished = refl; few = omega arith };
+  number = omega arith;
+})

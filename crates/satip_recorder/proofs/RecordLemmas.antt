@@ -126,7 +126,7 @@ ended_receiving t ti to te o m x d e f mark q i j p r n address query count term
       items = sym (catches stopped.reels.datagrams w.arrivals w.read) ∙ w.whole;
       written = w.written;
       lines_are = refl;
-      cause = cause-after (turn_limit count) 0 o m x i i j end opened.faults.send_faults refl (turns-none i) stopped.cause;
+      cause = cause-after (turn_limit count) (turn_limit count) 0 o m x i i j end (omega arith) opened.faults.send_faults refl (turns-none i) stopped.cause;
     }
 
 -- what an end of each part comes to

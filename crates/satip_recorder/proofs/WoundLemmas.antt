@@ -1,20 +1,23 @@
 -- What a catcher hands up of datagrams that came one after another.
-use Rattle.std.proofs.Common.{◌≡◌, ◌⊎◌, inl, inr, ℕ, ◌-◌, ◌<◌, List, [], ◌∷◌, ◌++◌, length, take, refl, sym, ap, ◌∙◌, subst, arith, append_assoc, append-nil}
+use Rattle.std.proofs.Common.{◌≡◌, ◌⊎◌, inl, inr, ℕ, ◌+◌, ◌-◌, ◌%◌, ◌<◌, zero, suc, List, [], ◌∷◌, ◌++◌, length, take, refl, sym, ap, ◌∙◌, subst, arith, append_assoc, append-nil}
 use Rattle.satip_base.specs.Streams.{Drain, PutAll}
+use Rattle.satip_base.specs.declared.streams.Put.{Put}
+use Rattle.satip_base.specs.declared.streams.Put.TheVariants.{Whole, Failed}
 use Rattle.satip_inlet.specs.Inboxes.{Inbox, GotDatagram, GotNone, FailedToGet}
 use Rattle.satip_catch.specs.Caught.{Datagram}
-use Rattle.satip_catch.specs.Catching.{Catch, taken, datagram}
+use Rattle.satip_catch.specs.Catching.{Catch, after_item, taken, datagram}
 use Rattle.satip_catch.specs.Rtp.{IsRtp, Says}
-use Rattle.satip_catch.specs.Runs.{all_items, drained, handed_up, after_all}
+use Rattle.satip_catch.specs.Runs.{after_items, all_items, drained, handed_up, after_all}
 use Rattle.satip_catch.specs.declared.item.Item.{Item}
 use Rattle.satip_catch.specs.declared.view.RtpView.{RtpView}
 use Rattle.satip_client.specs.declared.ending.RecordEnd.{RecordEnd}
 use Rattle.satip_client.specs.declared.ending.RecordEnd.TheVariants.{Done, OutputFault, Refused, BadReply, Silent, PeerFault, Closed, OutOfMemory}
 use Rattle.satip_recorder.specs.Arrivals.{IsArrival}
-use Rattle.satip_recorder.specs.Tapes.{Taped, TapeFailed, Tells, gap_lines, packets_in}
-use Rattle.satip_recorder.specs.Courses.{Reel, reel, Wound, WoundUntil, Caught, CaughtUntil, IsWritten}
+use Rattle.satip_recorder.specs.Tapes.{Taped, TapeFailed, TapesAs, Tells, gap_lines, packets_in}
+use Rattle.satip_recorder.specs.Courses.{Reel, reel, Winds, Wound, WoundUntil, Caught, CaughtUntil, IsWritten}
 use Rattle.satip_recorder.specs.declared.tape.Tape.{Tape}
 use Rattle.satip_recorder.proofs.ArrivalLemmas.{read-then, turns-then, turn-got, turn-none}
+use Rattle.satip_recorder.proofs.ItemLemmas.{taken-ready}
 use Rattle.satip_recorder.proofs.TapeLemmas.{puts-then, puts-failed, tells-then, bytes-then, lines-then, taped-then, taped-none}
 
 handed_up-then : (c : Catch) (ds es : List Datagram) → handed_up c (ds ++ es) ≡ handed_up c ds ++ handed_up (after_all c ds) es
@@ -104,9 +107,9 @@ wound-none tells tells_lines o = record {
 
 -- a datagram that isn't RTP
 pub wound-other : (tells tells_lines : Type 0) (o : Reel) (bytes : List ℕ) → (IsRtp bytes → ⊥) → Wound tells tells_lines o o (bytes ∷ [])
-wound-other tells tells_lines o bytes no = record {
+wound-other tells tells_lines o bytes out = record {
   arrivals = [];
-  read = inl (no, refl);
+  read = inl (out, refl);
   taped = taped-none tells tells_lines o.output o.errors o.tape;
   caught = λ left. refl;
 }
@@ -204,3 +207,27 @@ caught-until tells tells_output tells_errors i m j o p n k end first some second
       ∙ append_assoc i.given first.datagrams second.datagrams;
   wound = wound-until tells_output tells_errors o p n end first.datagrams second.datagrams first.wound some second.wound;
 }
+
+-- one datagram, by what its items come to
+pub winds : (tells tells_lines : Type 0) (c m e : Catch) (p q : Tape) (o n d f : Drain) (bytes : List ℕ) (view : RtpView) (result : Put)
+    → Says bytes view → view.number < 65536 → m ≡ taken (datagram view) c → TapesAs tells tells_lines o n d f p q (all_items m) result
+    → (result ≡ Whole → 0 < q.left → e ≡ drained m) → Winds tells tells_lines (reel c p o d) (reel e q n f) bytes result
+winds tells tells_lines c m e p q o n d f bytes view Whole says number is taped rest =
+    wound-one tells tells_lines c e p q o n d f bytes view says number
+    (subst (λ (x : Catch). Taped tells tells_lines o n d f p q (all_items x)) is taped)
+    (λ left. rest refl left ∙ ap (λ (x : Catch). drained x) is)
+winds tells tells_lines c m e p q o n d f bytes view Failed says number is failed rest =
+    wound-failed tells tells_lines c e p q o n d f bytes view says number
+    (subst (λ (x : Catch). TapeFailed tells tells_lines o n d f p q (all_items x)) is failed)
+
+drained-number : (n : ℕ) (c : Catch) → c.next < 65536 → (after_items n c).next < 65536
+drained-number zero c h = h
+drained-number (suc n) c h =
+    let after : (after_item c).next < 65536 = omega arith in
+    drained-number n (after_item c) after
+
+pub next-number : (c m e : Catch) (view : RtpView) → view.number < 65536 → c.next < 65536 → m ≡ taken (datagram view) c → e ≡ drained m
+    → e.next < 65536
+next-number c m e view number next is rest =
+    let small : m.next < 65536 = subst (λ (x : Catch). x.next < 65536) (sym is) (taken-ready (datagram view) c number next).number in
+    subst (λ (x : Catch). x.next < 65536) (sym rest) (drained-number (length m.held) m small)

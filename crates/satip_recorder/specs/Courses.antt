@@ -167,6 +167,14 @@ Turns tells tells_inlet tells_output tells_errors a b i j o n address terms limi
 Turns tells tells_inlet tells_output tells_errors a b i j o n address terms limit (Err end) =
     Stopped tells tells_inlet tells_output tells_errors a b i j o n address terms limit end
 
+-- one turn
+abbrev pub TakesTurn : (tells tells_inlet tells_output tells_errors : Type 0) (a b : Talk) (i j : Inbox) (o n : Reel)
+    (address : List ℕ) (terms : Terms) (limit : ℕ) → Result (Unit {0}) RecordEnd → Type 0
+TakesTurn tells tells_inlet tells_output tells_errors a b i j o n address terms limit (Ok done) =
+    (course : Course tells tells_inlet tells_output tells_errors a b i j o n address terms) × (length course.moments ≡ 1)
+TakesTurn tells tells_inlet tells_output tells_errors a b i j o n address terms limit (Err end) =
+    Stopped tells tells_inlet tells_output tells_errors a b i j o n address terms limit end
+
 -- a catcher that can take a datagram
 pub record IsReady (c : Catch) : Type 0 where
   pub rests : Rests c

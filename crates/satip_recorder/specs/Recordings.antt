@@ -38,7 +38,8 @@ fresh_tape count = record { left = bytes_of count; muted = false }
 pub record IsFresh (count : ℕ) (recorder : Recorder) : Type 0 where
   pub cseq : recorder.pulse.cseq ≡ 3
   pub catcher : recorder.catcher ≡ catching
-  pub tape : recorder.tape ≡ fresh_tape count
+  pub left : recorder.tape.left ≡ bytes_of count
+  pub muted : recorder.tape.muted ≡ false
   pub turns : recorder.turns ≡ turn_limit count
 
 -- the connection, the clock, the inlet and the output

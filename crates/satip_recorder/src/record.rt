@@ -45,8 +45,15 @@ fn run<W: Conn, I: Inlet, M: Clock, O: Sink, E: Sink>(
         (E.drain errors.old) (E.drain errors.new) wish.now.address.now wish.now.query.now
         wish.now.count recorder.new.tape.muted result }
 {
-    let port = inlet.port();
-    let lease = open(alloc, wire, moment, wish, port, recorder)?;
+    let lease = open(
+        alloc,
+        wire,
+        moment,
+        wish,
+        inlet.port(),
+        &mut recorder.page,
+        &mut recorder.pulse.mark,
+    )?;
     receive(
         wire,
         inlet,
@@ -57,7 +64,8 @@ fn run<W: Conn, I: Inlet, M: Clock, O: Sink, E: Sink>(
         output,
         errors,
     )?;
-    leave(wire, wish.address, &lease, recorder)
+    let cseq = recorder.pulse.cseq;
+    leave(wire, wish.address, &lease, cseq, &mut recorder.page)
 }
 
 fn end_of(outcome: Result<(), RecordEnd>) -> RecordEnd

@@ -1,8 +1,8 @@
 //! Receiving, turn by turn, until enough is written.
 
 ghost use Rattle.std.specs.Prelude.{◌≡◌, ◌+◌, ◌<◌, ◌≤◌, IfOk, false, length};
-ghost use Rattle.satip_catch.specs.Catching.{Rests};
-ghost use Rattle.satip_recorder.specs.Courses.{Catches, IsReady, Turns, Winds, reel, talk};
+ghost use Rattle.satip_catch.specs.Catching.{catching};
+ghost use Rattle.satip_recorder.specs.Courses.{Catches, IsReady, TakesTurn, Turns, Winds, reel, talk};
 
 use crate::recorder::Recorder;
 use crate::tape::{Tape, put_items};
@@ -28,7 +28,7 @@ pub(crate) fn receive<W: Conn, I: Inlet, M: Clock, O: Sink, E: Sink>(
 ) -> Result<(), RecordEnd>
     requires few { recorder.old.pulse.cseq + recorder.old.turns < 4294967295 }
     requires some { 0 < recorder.old.tape.left }
-    requires ready { IsReady recorder.old.catcher }
+    requires fresh { recorder.old.catcher ≡ catching }
     ensures turns { Turns W.tells I.tells O.tells E.tells
         (talk (W.line wire.old) (M.dial moment.old) recorder.old.pulse)
         (talk (W.line wire.new) (M.dial moment.new) recorder.new.pulse)
@@ -62,7 +62,7 @@ fn take_turn<W: Conn, I: Inlet, M: Clock, O: Sink, E: Sink>(
 ) -> Result<(), RecordEnd>
     requires few { recorder.old.pulse.cseq < 4294967295 }
     requires ready { IsReady recorder.old.catcher }
-    ensures turns { Turns W.tells I.tells O.tells E.tells
+    ensures turns { TakesTurn W.tells I.tells O.tells E.tells
         (talk (W.line wire.old) (M.dial moment.old) recorder.old.pulse)
         (talk (W.line wire.new) (M.dial moment.new) recorder.new.pulse)
         (I.inbox inlet.old) (I.inbox inlet.new)
