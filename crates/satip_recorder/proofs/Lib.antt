@@ -5,5 +5,4 @@ pub mod HandLemmas
 pub mod ArrivalLemmas
 pub mod WoundLemmas
 pub mod CourseLemmas
-pub mod OpeningLemmas
 pub mod RecordLemmas

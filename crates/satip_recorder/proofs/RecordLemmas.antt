@@ -25,9 +25,9 @@ use Rattle.satip_recorder.specs.Recordings.{bytes_of, turn_limit, fresh_tape, Ou
 use Rattle.satip_recorder.specs.declared.tape.Tape.{Tape}
 use Rattle.satip_recorder.proofs.ArrivalLemmas.{small, turns-none}
 use Rattle.satip_recorder.proofs.CourseLemmas.{cause-after}
-use Rattle.satip_recorder.proofs.TapeLemmas.{tells-then}
+use Rattle.satip_recorder.proofs.TapeLemmas.{tells-none, tells-then}
 
-abbrev numbered : ℕ → ℕ → Pulse
+abbrev pub numbered : ℕ → ℕ → Pulse
 numbered mark cseq = record { mark = mark; cseq = cseq }
 
 pub pulse-first : (p : Pulse) → p.cseq ≡ 3 → p ≡ first_pulse p.mark
@@ -163,7 +163,7 @@ leaving-records t ti to o n address query count lines PeerFault is = inr (inr is
 leaving-records t ti to o n address query count lines Closed is = absurd is.cause
 leaving-records t ti to o n address query count lines OutOfMemory is = inr (inr (inr is))
 
-said-of : (tells : Type 0) (o n : Drain) (lines : List ℕ) (muted : Bool) → Tells tells o n lines false muted → Said tells o n lines
+pub said-of : (tells : Type 0) (o n : Drain) (lines : List ℕ) (muted : Bool) → Tells tells o n lines false muted → Said tells o n lines
 said-of tells o n lines false told = inl told
 said-of tells o n lines true told = inr told
 
@@ -264,11 +264,60 @@ ends t ti to te o n r m s address query count muted silent result end is run tol
   said = said-of te r s (run.lines ++ line_for end) silent (tells-then te r m s run.lines (line_for end) false muted silent run.told told);
 }
 
-pub ends_unbegun : (t ti to te : Type 0) (o : Outside) (r s : Drain) (address query : List ℕ) (count : ℕ) (silent : Bool)
-    → Tells te r s (line_for OutOfMemory) false silent
-    → Ends te r s OutOfMemory (λ (lines : List ℕ). Records t ti to o o address query count lines OutOfMemory)
-ends_unbegun t ti to te o r s address query count silent told = record {
-  lines = [];
-  comes = inl (record { same = refl; lines_are = refl });
-  said = said-of te r s (line_for OutOfMemory) silent told;
-}
+pub ends_unbegun : (t ti to te : Type 0) (o : Outside) (r s : Drain) (address query : List ℕ) (count : ℕ) (end : RecordEnd) → end ≡ OutOfMemory
+    → Said te r s (line_for OutOfMemory) → Ends te r s end (λ (lines : List ℕ). Records t ti to o o address query count lines end)
+ends_unbegun t ti to te o r s address query count end is said =
+    subst (λ (x : RecordEnd). Ends te r s x (λ (lines : List ℕ). Records t ti to o o address query count lines x)) (sym is) (record {
+      lines = [];
+      comes = inl (record { same = refl; lines_are = refl });
+      said = said;
+    })
+
+abbrev tape_of : ℕ → Bool → Tape
+tape_of left muted = record { left = left; muted = muted }
+
+tape-fresh : (count : ℕ) (t : Tape) → t.left ≡ bytes_of count → t.muted ≡ false → t ≡ fresh_tape count
+tape-fresh count t left muted = ap (λ (k : ℕ). tape_of k t.muted) left ∙ ap (λ (b : Bool). tape_of (bytes_of count) b) muted
+
+-- a run, by what its calls come to
+pub run_opening : (t ti to te : Type 0) (o x : Line) (d e : Dial) (i : Inbox) (p r : Drain) (address query : List ℕ) (port count : ℕ) (muted : Bool)
+    (end : RecordEnd) (result : Result (Unit {0}) RecordEnd) → result ≡ Err end → port ≡ i.port → muted ≡ false
+    → EndsOpening t o x d e address query port end
+    → Runs t ti to te (outside o d i p) (outside x e i p) r r address query count muted result
+run_opening t ti to te o x d e i p r address query port count muted end result is at quiet ends =
+    subst (λ (y : Result (Unit {0}) RecordEnd). Runs t ti to te (outside o d i p) (outside x e i p) r r address query count muted y) (sym is)
+    (runs_opening t ti to te (outside o d i p) (outside x e i p) r r address query count muted end
+    (subst (λ (k : ℕ). EndsOpening t o x d e address query k end) at ends) refl refl
+    (subst (λ (b : Bool). Tells te r r [] false b) (sym quiet) (tells-none te r false)))
+
+pub run_receiving : (t ti to te : Type 0) (o m x : Line) (d e f : Dial) (mark cseq : ℕ) (q : Pulse) (i j : Inbox) (c b : Catch) (v u : Tape)
+    (p y r s : Drain) (address query : List ℕ) (port count turns : ℕ) (terms : Terms) (end : RecordEnd) (result : Result (Unit {0}) RecordEnd)
+    → result ≡ Err end → port ≡ i.port → cseq ≡ 3 → c ≡ catching → v.left ≡ bytes_of count → v.muted ≡ false → turns ≡ turn_limit count
+    → Opened t o m d e address query port mark terms
+    → Stopped t ti to te (talk m e (numbered mark cseq)) (talk x f q) i j (reel c v p r) (reel b u y s) address terms turns end
+    → Runs t ti to te (outside o d i p) (outside x f j y) r s address query count u.muted result
+run_receiving t ti to te o m x d e f mark cseq q i j c b v u p y r s address query port count turns terms end result is at first new left quiet limit
+    opened stopped =
+    subst (λ (z : Result (Unit {0}) RecordEnd). Runs t ti to te (outside o d i p) (outside x f j y) r s address query count u.muted z) (sym is)
+    (runs_receiving t ti to te o m x d e f mark q i j p r (reel b u y s) address query count terms end
+    (subst (λ (k : ℕ). Opened t o m d e address query k mark terms) at opened)
+    (from_fresh (λ (a : Pulse) (z : Catch) (w : Tape). Stopped t ti to te (talk m e a) (talk x f q) i j (reel z w p r) (reel b u y s)
+    address terms (turn_limit count) end) (numbered mark cseq) (first_pulse mark) c catching v (fresh_tape count)
+    (ap (λ (k : ℕ). numbered mark k) first) new (tape-fresh count v left quiet)
+    (subst (λ (k : ℕ). Stopped t ti to te (talk m e (numbered mark cseq)) (talk x f q) i j (reel c v p r) (reel b u y s) address terms k end)
+    limit stopped)))
+
+pub run_leaving : (t ti to te : Type 0) (o m w x : Line) (d e f : Dial) (mark cseq : ℕ) (q : Pulse) (i j : Inbox) (c b : Catch) (v u : Tape)
+    (p y r s : Drain) (address query : List ℕ) (port count : ℕ) (terms : Terms) (result : Result (Unit {0}) RecordEnd)
+    → port ≡ i.port → cseq ≡ 3 → c ≡ catching → v.left ≡ bytes_of count → v.muted ≡ false
+    → Opened t o m d e address query port mark terms
+    → Course t ti to te (talk m e (numbered mark cseq)) (talk w f q) i j (reel c v p r) (reel b u y s) address terms
+    → u.left ≡ 0 → Leaves t w x address terms q.cseq result
+    → Runs t ti to te (outside o d i p) (outside x f j y) r s address query count u.muted result
+run_leaving t ti to te o m w x d e f mark cseq q i j c b v u p y r s address query port count terms result at first new left quiet opened course
+    full leaves =
+    runs_leaving t ti to te o m w x d e f mark q i j p r (reel b u y s) address query count terms result
+    (subst (λ (k : ℕ). Opened t o m d e address query k mark terms) at opened)
+    (from_fresh (λ (a : Pulse) (z : Catch) (h : Tape). Course t ti to te (talk m e a) (talk w f q) i j (reel z h p r) (reel b u y s)
+    address terms) (numbered mark cseq) (first_pulse mark) c catching v (fresh_tape count)
+    (ap (λ (k : ℕ). numbered mark k) first) new (tape-fresh count v left quiet) course) full leaves

@@ -2,7 +2,7 @@
 
 ghost use Rattle.std.specs.Prelude.{◌≡◌, ℕ, ◌≤◌, ◌⊎◌, false, List};
 ghost use Rattle.satip_client.specs.Ends.{line_for};
-ghost use Rattle.satip_recorder.specs.Recordings.{Completed, EndedLeaving, EndedOpening, EndedReceiving, Ends, IsFresh, NotBegun, Records, Runs, end_of as end_for, outside};
+ghost use Rattle.satip_recorder.specs.Recordings.{Completed, EndedLeaving, EndedOpening, EndedReceiving, Ends, IsFresh, NotBegun, Records, Runs, Said, end_of as end_for, outside};
 ghost use Rattle.satip_recorder.specs.Tapes.{Tells};
 
 use crate::opening::{leave, open};
@@ -90,6 +90,20 @@ fn say<E: Sink>(end: RecordEnd, tape: &mut Tape, errors: &mut E)
     tell(line.bytes(), tape, errors);
 }
 
+// Tells that there is no memory to begin with.
+fn say_want<E: Sink>(errors: &mut E) -> RecordEnd
+    ensures end { result ≡ RecordEnd.OutOfMemory }
+    ensures said { Said E.tells (E.drain errors.old) (E.drain errors.new)
+        (line_for RecordEnd.OutOfMemory) }
+{
+    let mut tape = Tape {
+        left: 0,
+        muted: false,
+    };
+    say(RecordEnd::OutOfMemory, &mut tape, errors);
+    RecordEnd::OutOfMemory
+}
+
 // A recording over what it is made with.
 fn record<W: Conn, I: Inlet, M: Clock, O: Sink, E: Sink>(
     alloc: Global,
@@ -109,12 +123,7 @@ fn record<W: Conn, I: Inlet, M: Clock, O: Sink, E: Sink>(
         wish.now.address.now wish.now.query.now wish.now.count lines result) }
 {
     let Ok(mut recorder) = Recorder::make(alloc, wish.count) else {
-        let mut tape = Tape {
-            left: 0,
-            muted: false,
-        };
-        say(RecordEnd::OutOfMemory, &mut tape, errors);
-        return RecordEnd::OutOfMemory;
+        return say_want(errors);
     };
     let end = end_of(run(
         alloc,

@@ -54,7 +54,7 @@ struct Scene<'a> {
 }
 
 // A scene without idle or failing calls.
-fn scene<'a>(replies: &'a [&'a [u8]], datagrams: &'a [&'a [u8]]) -> Scene<'a> {
+fn quiet<'a>(replies: &'a [&'a [u8]], datagrams: &'a [&'a [u8]]) -> Scene<'a> {
     Scene {
         replies,
         moments: &[],
@@ -129,7 +129,7 @@ fn play(alloc: Global, scene: &Scene, count: u32) -> Result<Played, Want> {
 #[test]
 fn two_packets_are_recorded(rt: HostRuntime) -> Result<(), Fail> {
     let first = datagram(9);
-    let played = play(rt.alloc(), &scene(&[GRANTED, ACCEPTED], &[&first]), 2)?;
+    let played = play(rt.alloc(), &quiet(&[GRANTED, ACCEPTED], &[&first]), 2)?;
     assert_eq!(rt; played.end(), RecordEnd::Done);
     assert!(rt; played.written() == &first[HEAD..HEAD + 376]);
     let (opened, left) = played.sent().split_at(OPENED.len().min(played.sent().len()));
@@ -142,7 +142,7 @@ fn two_packets_are_recorded(rt: HostRuntime) -> Result<(), Fail> {
 #[test]
 fn a_busy_server_is_told(rt: HostRuntime) -> Result<(), Fail> {
     let busy: &[u8] = b"RTSP/1.0 503 Service Unavailable\r\nCSeq: 1\r\n\r\n";
-    let played = play(rt.alloc(), &scene(&[busy], &[]), 2)?;
+    let played = play(rt.alloc(), &quiet(&[busy], &[]), 2)?;
     assert_eq!(rt; played.end(), RecordEnd::Refused(503));
     assert!(rt; played.written().is_empty());
     assert!(rt; played.told() == b"refused 503\n".as_slice());
@@ -153,7 +153,7 @@ fn a_busy_server_is_told(rt: HostRuntime) -> Result<(), Fail> {
 fn a_gap_is_told_once_it_is_passed(rt: HostRuntime) -> Result<(), Fail> {
     let (first, far, late, next) = (datagram(10), datagram(75), datagram(11), datagram(12));
     let came: [&[u8]; 4] = [&first, &far, &late, &next];
-    let played = play(rt.alloc(), &scene(&[GRANTED, ACCEPTED], &came), 6)?;
+    let played = play(rt.alloc(), &quiet(&[GRANTED, ACCEPTED], &came), 6)?;
     assert_eq!(rt; played.end(), RecordEnd::Done);
     assert_eq!(rt; played.written().len(), 1128);
     let (begin, end) = played.written().split_at(played.written().len().min(564));
@@ -167,7 +167,7 @@ fn a_gap_is_told_once_it_is_passed(rt: HostRuntime) -> Result<(), Fail> {
 fn repeated_and_late_datagrams_are_put_in_order(rt: HostRuntime) -> Result<(), Fail> {
     let (first, late, next) = (datagram(65535), datagram(0), datagram(1));
     let came: [&[u8]; 6] = [&first, &first, &next, b"no RTP", &late, &late];
-    let played = play(rt.alloc(), &scene(&[GRANTED, ACCEPTED], &came), 8)?;
+    let played = play(rt.alloc(), &quiet(&[GRANTED, ACCEPTED], &came), 8)?;
     assert_eq!(rt; played.end(), RecordEnd::Done);
     assert_eq!(rt; played.written().len(), 1504);
     let (begin, rest) = played.written().split_at(played.written().len().min(564));
@@ -182,9 +182,12 @@ fn repeated_and_late_datagrams_are_put_in_order(rt: HostRuntime) -> Result<(), F
 #[test]
 fn half_of_the_timeout_brings_options(rt: HostRuntime) -> Result<(), Fail> {
     let first = datagram(9);
-    let mut waits = scene(&[GRANTED, ACCEPTED], &[&first]);
-    waits.moments = &[5, 1004, 1005, 1006];
-    waits.idle = &[1, 2];
+    let opened: [&[u8]; 2] = [GRANTED, ACCEPTED];
+    let came: [&[u8]; 1] = [&first];
+    let mut waits = quiet(&opened, &came);
+    let (moments, idle) = ([5, 1004, 1005, 1006], [1, 2]);
+    waits.moments = &moments;
+    waits.idle = &idle;
     let played = play(rt.alloc(), &waits, 1)?;
     assert_eq!(rt; played.end(), RecordEnd::Done);
     let rest = played.sent().split_at(OPENED.len().min(played.sent().len())).1;
@@ -198,22 +201,24 @@ fn faults_end_it(rt: HostRuntime) -> Result<(), Fail> {
     let alloc = rt.alloc();
     let first = datagram(9);
     let came: [&[u8]; 1] = [&first];
-    let mut failing = scene(&[GRANTED, ACCEPTED], &came);
-    failing.failing_inlet = &[1];
+    let opened: [&[u8]; 2] = [GRANTED, ACCEPTED];
+    let (once, thrice) = ([1], [3]);
+    let mut failing = quiet(&opened, &came);
+    failing.failing_inlet = &once;
     let played = play(alloc, &failing, 1)?;
     assert_eq!(rt; played.end(), RecordEnd::PeerFault);
     assert!(rt; played.told() == b"peer fault\n".as_slice());
-    let mut failing = scene(&[GRANTED, ACCEPTED], &came);
-    failing.failing_output = &[1];
+    let mut failing = quiet(&opened, &came);
+    failing.failing_output = &once;
     let played = play(alloc, &failing, 1)?;
     assert_eq!(rt; played.end(), RecordEnd::OutputFault);
     assert_eq!(rt; played.written().len(), 100);
-    let mut failing = scene(&[GRANTED, ACCEPTED], &came);
-    failing.failing_sends = &[3];
+    let mut failing = quiet(&opened, &came);
+    failing.failing_sends = &thrice;
     let played = play(alloc, &failing, 1)?;
     assert_eq!(rt; played.end(), RecordEnd::PeerFault);
     assert_eq!(rt; played.sent().len(), OPENED.len() + 5);
-    let played = play(alloc, &scene(&[GRANTED], &came), 1)?;
+    let played = play(alloc, &quiet(&[GRANTED], &came), 1)?;
     assert_eq!(rt; played.end(), RecordEnd::Closed);
     assert!(rt; played.told() == b"closed\n".as_slice());
     Ok(())
@@ -221,7 +226,7 @@ fn faults_end_it(rt: HostRuntime) -> Result<(), Fail> {
 
 #[test]
 fn silence_ends_it(rt: HostRuntime) -> Result<(), Fail> {
-    let played = play(rt.alloc(), &scene(&[GRANTED, ACCEPTED], &[]), 1)?;
+    let played = play(rt.alloc(), &quiet(&[GRANTED, ACCEPTED], &[]), 1)?;
     assert_eq!(rt; played.end(), RecordEnd::Silent);
     assert!(rt; played.told() == b"silent\n".as_slice());
     Ok(())
@@ -230,10 +235,12 @@ fn silence_ends_it(rt: HostRuntime) -> Result<(), Fail> {
 #[test]
 fn behind_a_line_that_fails_none_is_told(rt: HostRuntime) -> Result<(), Fail> {
     let (first, far) = (datagram(10), datagram(75));
+    let opened: [&[u8]; 2] = [GRANTED, ACCEPTED];
     let came: [&[u8]; 2] = [&first, &far];
-    let mut failing = scene(&[GRANTED, ACCEPTED], &came);
-    failing.failing_errors = &[1];
-    failing.failing_inlet = &[3];
+    let mut failing = quiet(&opened, &came);
+    let (once, thrice) = ([1], [3]);
+    failing.failing_errors = &once;
+    failing.failing_inlet = &thrice;
     let played = play(rt.alloc(), &failing, 6)?;
     assert_eq!(rt; played.end(), RecordEnd::PeerFault);
     assert!(rt; played.told() == b"gap".as_slice());
