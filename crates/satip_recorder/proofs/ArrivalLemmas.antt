@@ -66,6 +66,7 @@ turn-none tells i j got = record { counted = counted got.idles.rose; stays = sta
     counted : (i.idles < j.idles) ⊎ (18446744073709551615 ≤ j.idles) → (i.count + i.idles + 1 ≤ j.count + j.idles) ⊎ IsLast j
     counted (inl more) = inl (omega (arith, got.count, more))
     counted (inr last) = inr (inr last)
+
     stays : IsLast i → IsLast j
     stays (inl a) = inl (omega (arith, got.count, a))
     stays (inr a) = inr (omega (arith, got.idles.kept, a))

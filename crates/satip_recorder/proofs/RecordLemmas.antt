@@ -132,8 +132,8 @@ ended_receiving t ti to te o m x d e f mark q i j p r n address query count term
 -- what an end of each part comes to
 opening-records : (t ti to : Type 0) (o n : Outside) (address query : List ℕ) (count : ℕ) (lines : List ℕ) (end : RecordEnd)
     → EndedOpening t o n address query lines end → Records t ti to o n address query count lines end
-opening-records t ti to o n address query count lines Done is = elim is.ends [ | inl s ↦ absurd s.ends | inr s ↦ absurd s.ends ]
-opening-records t ti to o n address query count lines OutputFault is = elim is.ends [ | inl s ↦ absurd s.ends | inr s ↦ absurd s.ends ]
+opening-records t ti to o n address query count lines Done is = elim is.ends [ inl s ↦ absurd s.ends | inr s ↦ absurd s.ends ]
+opening-records t ti to o n address query count lines OutputFault is = elim is.ends [ inl s ↦ absurd s.ends | inr s ↦ absurd s.ends ]
 opening-records t ti to o n address query count lines (Refused code) is = is
 opening-records t ti to o n address query count lines BadReply is = is
 opening-records t ti to o n address query count lines Silent is = inl is
@@ -321,3 +321,10 @@ run_leaving t ti to te o m w x d e f mark cseq q i j c b v u p y r s address que
     (from_fresh (λ (a : Pulse) (z : Catch) (h : Tape). Course t ti to te (talk m e a) (talk w f q) i j (reel z h p r) (reel b u y s)
     address terms) (numbered mark cseq) (first_pulse mark) c catching v (fresh_tape count)
     (ap (λ (k : ℕ). numbered mark k) first) new (tape-fresh count v left quiet) course) full leaves
+
+-- a recording with this end
+pub ends_as : (t ti to te : Type 0) (o n : Outside) (r s : Drain) (address query : List ℕ) (count : ℕ) (end other : RecordEnd) → end ≡ other
+    → Ends te r s end (λ (lines : List ℕ). Records t ti to o n address query count lines end)
+    → Ends te r s other (λ (lines : List ℕ). Records t ti to o n address query count lines other)
+ends_as t ti to te o n r s address query count end other is e =
+    subst (λ (x : RecordEnd). Ends te r s x (λ (lines : List ℕ). Records t ti to o n address query count lines x)) is e

@@ -46,12 +46,7 @@ pub(crate) fn put_items<O: Sink, E: Sink>(
 }
 
 // Writes packets, or tells of a gap.
-fn put_item<O: Sink, E: Sink>(
-    item: &Item,
-    tape: &mut Tape,
-    output: &mut O,
-    errors: &mut E,
-) -> Put
+fn put_item<O: Sink, E: Sink>(item: &Item, tape: &mut Tape, output: &mut O, errors: &mut E) -> Put
     requires some { 0 < tape.old.left }
     ensures tapes { TapesAs O.tells E.tells (O.drain output.old) (O.drain output.new)
         (E.drain errors.old) (E.drain errors.new) tape.old tape.new

@@ -1,11 +1,9 @@
 //! Whole recordings over memory.
 use crate::{Recorded, Wish, record_by};
-use satip_base::MemorySink;
-use satip_base::Want;
+use satip_base::{MemorySink, Want};
 use satip_client::RecordEnd;
 use satip_inlet::MemoryInlet;
-use satip_world::MemoryClock;
-use satip_world::MemoryConn;
+use satip_world::{MemoryClock, MemoryConn};
 use std::alloc::Global;
 use std::test::Fail;
 
@@ -18,7 +16,8 @@ const GRANTED: &[u8] =
 
 const ACCEPTED: &[u8] = b"RTSP/1.0 200 OK\r\nCSeq: 2\r\n\r\n";
 
-const OPENED: &[u8] = b"SETUP rtsp://127.0.0.1:18554/?freq=12402&pol=v&msys=dvbs&sr=27500&pids=all RTSP/1.0\r\nCSeq: 1\r\nTransport: RTP/AVP;unicast;client_port=5000-5001\r\n\r\nPLAY rtsp://127.0.0.1:18554/stream=7 RTSP/1.0\r\nCSeq: 2\r\nSession: 1a\r\n\r\n";
+const OPENED: &[u8] =
+    b"SETUP rtsp://127.0.0.1:18554/?freq=12402&pol=v&msys=dvbs&sr=27500&pids=all RTSP/1.0\r\nCSeq: 1\r\nTransport: RTP/AVP;unicast;client_port=5000-5001\r\n\r\nPLAY rtsp://127.0.0.1:18554/stream=7 RTSP/1.0\r\nCSeq: 2\r\nSession: 1a\r\n\r\n";
 
 const LEFT: &[u8] =
     b"TEARDOWN rtsp://127.0.0.1:18554/stream=7 RTSP/1.0\r\nCSeq: 3\r\nSession: 1a\r\n\r\n";
@@ -110,15 +109,7 @@ fn play(alloc: Global, scene: &Scene, count: u32) -> Result<Played, Want> {
         query: QUERY,
         count: count.clamp(1, 1000000),
     };
-    let recorded = record_by(
-        alloc,
-        wire,
-        inlet,
-        moment,
-        &wish,
-        &mut output,
-        &mut errors,
-    );
+    let recorded = record_by(alloc, wire, inlet, moment, &wish, &mut output, &mut errors);
     Ok(Played {
         recorded,
         output,
@@ -132,7 +123,9 @@ fn two_packets_are_recorded(rt: HostRuntime) -> Result<(), Fail> {
     let played = play(rt.alloc(), &quiet(&[GRANTED, ACCEPTED], &[&first]), 2)?;
     assert_eq!(rt; played.end(), RecordEnd::Done);
     assert!(rt; played.written() == &first[HEAD..HEAD + 376]);
-    let (opened, left) = played.sent().split_at(OPENED.len().min(played.sent().len()));
+    let (opened, left) = played
+        .sent()
+        .split_at(OPENED.len().min(played.sent().len()));
     assert!(rt; opened == OPENED);
     assert!(rt; left == LEFT);
     assert!(rt; played.told().is_empty());
@@ -190,8 +183,12 @@ fn half_of_the_timeout_brings_options(rt: HostRuntime) -> Result<(), Fail> {
     waits.idle = &idle;
     let played = play(rt.alloc(), &waits, 1)?;
     assert_eq!(rt; played.end(), RecordEnd::Done);
-    let rest = played.sent().split_at(OPENED.len().min(played.sent().len())).1;
-    let wanted: &[u8] = b"OPTIONS rtsp://127.0.0.1:18554/ RTSP/1.0\r\nCSeq: 3\r\nSession: 1a\r\n\r\nTEARDOWN rtsp://127.0.0.1:18554/stream=7 RTSP/1.0\r\nCSeq: 4\r\nSession: 1a\r\n\r\n";
+    let rest = played
+        .sent()
+        .split_at(OPENED.len().min(played.sent().len()))
+        .1;
+    let wanted: &[u8] =
+        b"OPTIONS rtsp://127.0.0.1:18554/ RTSP/1.0\r\nCSeq: 3\r\nSession: 1a\r\n\r\nTEARDOWN rtsp://127.0.0.1:18554/stream=7 RTSP/1.0\r\nCSeq: 4\r\nSession: 1a\r\n\r\n";
     assert!(rt; rest == wanted);
     Ok(())
 }

@@ -40,7 +40,9 @@ pub(crate) fn receive<W: Conn, I: Inlet, M: Clock, O: Sink, E: Sink>(
     ensures few { recorder.new.pulse.cseq < 4294967295 }
 {
     'turns: while recorder.turns > 0 {
-        take_turn(wire, inlet, moment, address, lease, recorder, output, errors)?;
+        take_turn(
+            wire, inlet, moment, address, lease, recorder, output, errors,
+        )?;
         if recorder.tape.left == 0 {
             return Ok(());
         }

@@ -9,7 +9,7 @@ abbrev pub invariant-items : goal.invariant-items
 invariant-items g l =
     (so_far : List Item)
     × Taped g.O.Sink.tells g.E.Sink.tells (g.O.Sink.drain l.initial.output) (g.O.Sink.drain l.output)
-        (g.E.Sink.drain l.initial.errors) (g.E.Sink.drain l.errors) l.initial.tape l.tape so_far
+    (g.E.Sink.drain l.initial.errors) (g.E.Sink.drain l.errors) l.initial.tape l.tape so_far
     × (all_items l.initial.catcher ≡ so_far ++ all_items l.catcher)
     × (drained l.initial.catcher ≡ drained l.catcher)
     × (l.catcher.next < 65536)
