@@ -1,8 +1,7 @@
 -- Datagrams that came one after another, and the turns in which they did.
-use Rattle.std.proofs.Common.{◌≡◌, ◌⊎◌, inl, inr, ℕ, ◌+◌, ◌<◌, ◌≤◌, zero, suc, min, List, [], ◌∷◌, ◌++◌, length, get_or, sym, ap, subst, arith}
+use Rattle.std.proofs.Common.{◌⊎◌, inl, inr, ℕ, ◌+◌, ◌<◌, ◌≤◌, zero, suc, List, [], ◌∷◌, ◌++◌, sym, ap, subst, arith}
 use Rattle.std.proofs.lemmas.Bool.{cases_lt}
 use Rattle.std.specs.List.{All}
-use Rattle.satip_world.specs.Counts.{Rises}
 use Rattle.satip_inlet.specs.Inboxes.{Inbox, GotDatagram, GotNone}
 use Rattle.satip_catch.specs.Caught.{Datagram}
 use Rattle.satip_recorder.specs.Arrivals.{AreRead, IsLast, TookTurns}

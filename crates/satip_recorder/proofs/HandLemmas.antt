@@ -1,5 +1,5 @@
 -- Items that a catcher hands up, written and told.
-use Rattle.std.proofs.Common.{◌≡◌, ℕ, ◌<◌, false, List, [], ◌∷◌, ◌++◌, length, Option, None, Some, sym, ap, ◌∙◌, subst, append_assoc, append-nil}
+use Rattle.std.proofs.Common.{◌≡◌, ◌<◌, false, List, [], ◌∷◌, ◌++◌, None, Some, sym, ap, ◌∙◌, subst, append_assoc, append-nil}
 use Rattle.satip_base.specs.Streams.{Drain}
 use Rattle.satip_catch.specs.declared.item.Item.{Item}
 use Rattle.satip_catch.specs.Catching.{Catch, next_item, after_item}

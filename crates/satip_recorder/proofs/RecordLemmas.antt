@@ -1,9 +1,9 @@
 -- A whole recording, by its parts.
-use Rattle.std.proofs.Common.{◌≡◌, ◌⊎◌, inl, inr, ℕ, ◌+◌, ◌≤◌, Bool, true, false, List, [], ◌∷◌, ◌++◌, length, take, refl, sym, ap, ◌∙◌, subst, arith, append_assoc, append-nil, Result, Ok, Err}
+use Rattle.std.proofs.Common.{◌≡◌, inl, inr, ℕ, Bool, true, false, List, [], ◌∷◌, ◌++◌, length, take, refl, sym, ap, ◌∙◌, subst, arith, append_assoc, append-nil, Result, Ok, Err}
 use Rattle.satip_base.specs.Streams.{Drain, PutAll}
 use Rattle.satip_world.specs.Counts.{Rises}
 use Rattle.satip_world.specs.Dials.{Dial, Reads}
-use Rattle.satip_world.specs.Lines.{Line, Grew, SentAll}
+use Rattle.satip_world.specs.Lines.{Line, Grew}
 use Rattle.satip_inlet.specs.Inboxes.{Inbox}
 use Rattle.satip_catch.specs.Caught.{Datagram, caught}
 use Rattle.satip_catch.specs.Catching.{Catch, catching}
@@ -19,9 +19,9 @@ use Rattle.satip_client.specs.Ends.{line_for}
 use Rattle.satip_client.proofs.PulseLemmas.{grew_then, grew_none}
 use Rattle.satip_recorder.specs.Tapes.{gap_lines, packets_in, Tells}
 use Rattle.satip_recorder.specs.Arrivals.{AreRead}
-use Rattle.satip_recorder.specs.Courses.{Reel, talk, reel, ReadsAll, after_readings, options_sent, Course, Stopped, Cause}
+use Rattle.satip_recorder.specs.Courses.{Reel, talk, reel, ReadsAll, options_sent, Course, Stopped}
 use Rattle.satip_recorder.specs.Openings.{Opened, EndsOpening, Leaves, LeavesNot}
-use Rattle.satip_recorder.specs.Recordings.{bytes_of, turn_limit, fresh_tape, Outside, outside, first_pulse, Opening, Filled, Completed, EndedLeaving, EndedReceiving, EndedOpening, NotBegun, Records, Runs, Said, Ends, LeaveCause, end_of}
+use Rattle.satip_recorder.specs.Recordings.{bytes_of, turn_limit, fresh_tape, Outside, outside, first_pulse, Opening, Filled, EndedLeaving, EndedReceiving, EndedOpening, Records, Runs, Said, Ends, LeaveCause, end_of}
 use Rattle.satip_recorder.specs.declared.tape.Tape.{Tape}
 use Rattle.satip_recorder.proofs.ArrivalLemmas.{small, turns-none}
 use Rattle.satip_recorder.proofs.CourseLemmas.{cause-after}

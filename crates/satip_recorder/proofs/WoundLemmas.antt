@@ -1,5 +1,5 @@
 -- What a catcher hands up of datagrams that came one after another.
-use Rattle.std.proofs.Common.{◌≡◌, ◌⊎◌, inl, inr, ℕ, ◌+◌, ◌-◌, ◌%◌, ◌<◌, zero, suc, List, [], ◌∷◌, ◌++◌, length, take, refl, sym, ap, ◌∙◌, subst, arith, append_assoc, append-nil}
+use Rattle.std.proofs.Common.{◌≡◌, inl, inr, ℕ, ◌+◌, ◌<◌, zero, suc, List, [], ◌∷◌, ◌++◌, length, take, refl, sym, ap, ◌∙◌, subst, arith, append_assoc, append-nil}
 use Rattle.satip_base.specs.Streams.{Drain, PutAll}
 use Rattle.satip_base.specs.declared.streams.Put.{Put}
 use Rattle.satip_base.specs.declared.streams.Put.TheVariants.{Whole, Failed}

@@ -1,5 +1,5 @@
 -- A client that keeps its session alive, receives datagrams, puts them in order and writes their packets, turn by turn.
-use Rattle.std.specs.Prelude.{◌≡◌, ℕ, ◌+◌, ◌<◌, ◌≤◌, ◌⊎◌, true, length, List, [], ◌∷◌, ◌++◌, take, Result, Ok, Err}
+use Rattle.std.specs.Prelude.{◌≡◌, ℕ, ◌<◌, ◌⊎◌, true, length, List, [], ◌∷◌, ◌++◌, take, Result, Ok, Err}
 use Rattle.satip_base.specs.Streams.{Drain, PutAll, FailedToPut}
 use Rattle.satip_base.specs.declared.streams.Put.{Put}
 use Rattle.satip_base.specs.declared.streams.Put.TheVariants.{Whole, Failed}

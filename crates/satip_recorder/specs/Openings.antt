@@ -1,6 +1,5 @@
 -- The first two requests of a recording, and the last one.
 use Rattle.std.specs.Prelude.{◌≡◌, ℕ, ◌⊎◌, List, [], ◌++◌, drop, Result, Ok, Err}
-use Rattle.satip_world.specs.Counts.{Rises}
 use Rattle.satip_world.specs.Dials.{Dial, Reads}
 use Rattle.satip_world.specs.Lines.{Line, Grew, SentAll, SendFailed}
 use Rattle.satip_requests.specs.Requests.{setup_request, play_request, teardown_request}

@@ -163,7 +163,8 @@ pub fn record_by<W: Conn, I: Inlet, M: Clock, O: Sink, E: Sink>(
         (E.drain errors.old) (E.drain errors.new) RecordEnd.Done (λ (lines : List ℕ).
         Completed W.tells I.tells O.tells
         (outside (W.line wire) (M.dial moment) (I.inbox inlet) (O.drain output.old))
-        (outside (W.line result.wire) (M.dial result.moment) (I.inbox result.inlet) (O.drain output.new))
+        (outside (W.line result.wire) (M.dial result.moment) (I.inbox result.inlet)
+        (O.drain output.new))
         wish.now.address.now wish.now.query.now wish.now.count lines) }
 
     // With the others a beginning of that; why each comes.
@@ -171,66 +172,79 @@ pub fn record_by<W: Conn, I: Inlet, M: Clock, O: Sink, E: Sink>(
         (E.drain errors.old) (E.drain errors.new) RecordEnd.OutputFault (λ (lines : List ℕ).
         EndedReceiving W.tells I.tells O.tells
         (outside (W.line wire) (M.dial moment) (I.inbox inlet) (O.drain output.old))
-        (outside (W.line result.wire) (M.dial result.moment) (I.inbox result.inlet) (O.drain output.new))
+        (outside (W.line result.wire) (M.dial result.moment) (I.inbox result.inlet)
+        (O.drain output.new))
         wish.now.address.now wish.now.query.now wish.now.count lines RecordEnd.OutputFault) }
     ensures refused { (code : ℕ) → result.end ≡ RecordEnd.Refused code → Ends E.tells
         (E.drain errors.old) (E.drain errors.new) (RecordEnd.Refused code) (λ (lines : List ℕ).
         EndedOpening W.tells
         (outside (W.line wire) (M.dial moment) (I.inbox inlet) (O.drain output.old))
-        (outside (W.line result.wire) (M.dial result.moment) (I.inbox result.inlet) (O.drain output.new))
+        (outside (W.line result.wire) (M.dial result.moment) (I.inbox result.inlet)
+        (O.drain output.new))
         wish.now.address.now wish.now.query.now lines (RecordEnd.Refused code)) }
     ensures bad_reply { result.end ≡ RecordEnd.BadReply → Ends E.tells
         (E.drain errors.old) (E.drain errors.new) RecordEnd.BadReply (λ (lines : List ℕ).
         EndedOpening W.tells
         (outside (W.line wire) (M.dial moment) (I.inbox inlet) (O.drain output.old))
-        (outside (W.line result.wire) (M.dial result.moment) (I.inbox result.inlet) (O.drain output.new))
+        (outside (W.line result.wire) (M.dial result.moment) (I.inbox result.inlet)
+        (O.drain output.new))
         wish.now.address.now wish.now.query.now lines RecordEnd.BadReply) }
     ensures silent { result.end ≡ RecordEnd.Silent → Ends E.tells
         (E.drain errors.old) (E.drain errors.new) RecordEnd.Silent (λ (lines : List ℕ).
         EndedOpening W.tells
         (outside (W.line wire) (M.dial moment) (I.inbox inlet) (O.drain output.old))
-        (outside (W.line result.wire) (M.dial result.moment) (I.inbox result.inlet) (O.drain output.new))
+        (outside (W.line result.wire) (M.dial result.moment) (I.inbox result.inlet)
+        (O.drain output.new))
         wish.now.address.now wish.now.query.now lines RecordEnd.Silent
         ⊎ EndedReceiving W.tells I.tells O.tells
         (outside (W.line wire) (M.dial moment) (I.inbox inlet) (O.drain output.old))
-        (outside (W.line result.wire) (M.dial result.moment) (I.inbox result.inlet) (O.drain output.new))
+        (outside (W.line result.wire) (M.dial result.moment) (I.inbox result.inlet)
+        (O.drain output.new))
         wish.now.address.now wish.now.query.now wish.now.count lines RecordEnd.Silent) }
     ensures peer_fault { result.end ≡ RecordEnd.PeerFault → Ends E.tells
         (E.drain errors.old) (E.drain errors.new) RecordEnd.PeerFault (λ (lines : List ℕ).
         EndedOpening W.tells
         (outside (W.line wire) (M.dial moment) (I.inbox inlet) (O.drain output.old))
-        (outside (W.line result.wire) (M.dial result.moment) (I.inbox result.inlet) (O.drain output.new))
+        (outside (W.line result.wire) (M.dial result.moment) (I.inbox result.inlet)
+        (O.drain output.new))
         wish.now.address.now wish.now.query.now lines RecordEnd.PeerFault
         ⊎ (EndedReceiving W.tells I.tells O.tells
         (outside (W.line wire) (M.dial moment) (I.inbox inlet) (O.drain output.old))
-        (outside (W.line result.wire) (M.dial result.moment) (I.inbox result.inlet) (O.drain output.new))
+        (outside (W.line result.wire) (M.dial result.moment) (I.inbox result.inlet)
+        (O.drain output.new))
         wish.now.address.now wish.now.query.now wish.now.count lines RecordEnd.PeerFault
         ⊎ EndedLeaving W.tells I.tells O.tells
         (outside (W.line wire) (M.dial moment) (I.inbox inlet) (O.drain output.old))
-        (outside (W.line result.wire) (M.dial result.moment) (I.inbox result.inlet) (O.drain output.new))
+        (outside (W.line result.wire) (M.dial result.moment) (I.inbox result.inlet)
+        (O.drain output.new))
         wish.now.address.now wish.now.query.now wish.now.count lines RecordEnd.PeerFault)) }
     ensures closed { result.end ≡ RecordEnd.Closed → Ends E.tells
         (E.drain errors.old) (E.drain errors.new) RecordEnd.Closed (λ (lines : List ℕ).
         EndedOpening W.tells
         (outside (W.line wire) (M.dial moment) (I.inbox inlet) (O.drain output.old))
-        (outside (W.line result.wire) (M.dial result.moment) (I.inbox result.inlet) (O.drain output.new))
+        (outside (W.line result.wire) (M.dial result.moment) (I.inbox result.inlet)
+        (O.drain output.new))
         wish.now.address.now wish.now.query.now lines RecordEnd.Closed) }
     ensures out_of_memory { result.end ≡ RecordEnd.OutOfMemory → Ends E.tells
         (E.drain errors.old) (E.drain errors.new) RecordEnd.OutOfMemory (λ (lines : List ℕ).
         NotBegun
         (outside (W.line wire) (M.dial moment) (I.inbox inlet) (O.drain output.old))
-        (outside (W.line result.wire) (M.dial result.moment) (I.inbox result.inlet) (O.drain output.new)) lines
+        (outside (W.line result.wire) (M.dial result.moment) (I.inbox result.inlet)
+        (O.drain output.new)) lines
         ⊎ (EndedOpening W.tells
         (outside (W.line wire) (M.dial moment) (I.inbox inlet) (O.drain output.old))
-        (outside (W.line result.wire) (M.dial result.moment) (I.inbox result.inlet) (O.drain output.new))
+        (outside (W.line result.wire) (M.dial result.moment) (I.inbox result.inlet)
+        (O.drain output.new))
         wish.now.address.now wish.now.query.now lines RecordEnd.OutOfMemory
         ⊎ (EndedReceiving W.tells I.tells O.tells
         (outside (W.line wire) (M.dial moment) (I.inbox inlet) (O.drain output.old))
-        (outside (W.line result.wire) (M.dial result.moment) (I.inbox result.inlet) (O.drain output.new))
+        (outside (W.line result.wire) (M.dial result.moment) (I.inbox result.inlet)
+        (O.drain output.new))
         wish.now.address.now wish.now.query.now wish.now.count lines RecordEnd.OutOfMemory
         ⊎ EndedLeaving W.tells I.tells O.tells
         (outside (W.line wire) (M.dial moment) (I.inbox inlet) (O.drain output.old))
-        (outside (W.line result.wire) (M.dial result.moment) (I.inbox result.inlet) (O.drain output.new))
+        (outside (W.line result.wire) (M.dial result.moment) (I.inbox result.inlet)
+        (O.drain output.new))
         wish.now.address.now wish.now.query.now wish.now.count lines RecordEnd.OutOfMemory))) }
 {
     let mut wire = wire;

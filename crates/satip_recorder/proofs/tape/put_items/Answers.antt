@@ -1,4 +1,4 @@
-use Rattle.std.proofs.Common.{◌≡◌, ◌∷◌, [], ◌++◌, refl, sym, ◌∙◌, arith}
+use Rattle.std.proofs.Common.{◌∷◌, [], ◌++◌, refl, sym, ◌∙◌, arith}
 use Rattle.satip_recorder.proofs.HandLemmas.{steps_on, hand-more, hand-done, hand-rest, hand-full, hand-failed}
 use Rattle.satip_recorder.proofs.TapeLemmas.{taped-none}
 use Rattle.satip_recorder.proofs.tape.put_items.Goals as goal
