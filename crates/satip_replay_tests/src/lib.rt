@@ -25,4 +25,4 @@ mod reports;
 mod retuning;
 
 #[cfg(test)]
-use satip_replay_steps::{bytes, clients, row, steps};
+use satip_replay_fixtures::{bytes, clients, row, steps};

@@ -1,6 +1,6 @@
 //! The bytes of a report.
 
-use satip_replay_steps::bytes::report;
+use satip_replay_fixtures::bytes::report;
 use std::test::Fail;
 
 #[test]

@@ -1,8 +1,14 @@
-//! Connections, workers and pumps over memory and the one-thread server, and that server as a
-//! service. It has nothing but tests.
+//! Connections over memory and the one-thread server, with input that is broken and devices that
+//! fail. It has nothing but tests.
 #![tactic(auto)]
 
 #[cfg(test)]
-mod solo;
+mod connections;
 #[cfg(test)]
-mod tests;
+mod faults;
+#[cfg(test)]
+mod http;
+#[cfg(test)]
+mod messages;
+#[cfg(test)]
+mod wanted;

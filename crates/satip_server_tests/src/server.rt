@@ -11,6 +11,7 @@ use satip_rtsp::{Method, Request, SessionName};
 use satip_ts::Packet;
 use satip_tune::{Front, Mux, Pol, System};
 use std::alloc::Global;
+use std::process::Abort;
 use std::test::Fail;
 
 const PEER: Peer = Peer { ip: 3232235796 };
@@ -92,55 +93,83 @@ fn packet(pid: u8) -> Result<Packet, Fail> {
 
 const FIRST_QUERY: &[u8] = b"src=1&freq=11361.75&pol=h&msys=dvbs2&sr=22000&pids=0,16";
 
-#[test]
-fn seven_packets_are_a_datagram(rt: HostRuntime) -> Result<(), Fail> {
-    let mut out = Out::make(rt.alloc())?;
-    let mut server = server(rt.alloc())?;
-    let setup = Request {
+/// A SETUP of no session, which founds the first stream.
+fn setup(query: Query) -> Request {
+    Request {
         method: Method::Setup,
         stream: None,
         session: SessionName::Absent,
-        query: query(FIRST_QUERY)?,
+        query,
         ports: Some(Ports {
             rtp: 1400,
             rtcp: 1401,
         }),
         ..request(Method::Setup)
-    };
-    let replied = server.request(PEER, DRAW, &setup, &mut out);
-    assert_eq!(rt; replied.status, 200);
-    let text =
-        b"RTSP/1.0 200 OK\r\nCSeq: 2\r\nSession: 000000010000000a;timeout=60\r\nTransport: RTP/AVP;unicast;client_port=1400-1401\r\ncom.ses.streamID: 1\r\n\r\n";
-    assert_eq!(rt; out.reply(), text.as_slice());
-    assert_eq!(rt; server.ask(1, &mut out), Work::Tune { mux: 1, tune: 1 });
-    let play = request(Method::Play);
-    assert_eq!(rt; server.request(PEER, DRAW, &play, &mut out).status, 200);
-    let text =
-        b"RTSP/1.0 200 OK\r\nCSeq: 2\r\nSession: 000000010000000a\r\nRTP-Info: url=rtsp://192.168.1.10/stream=1;seq=65535\r\n\r\n";
-    assert_eq!(rt; out.reply(), text.as_slice());
-    let packet = packet(16)?;
-    for _given in 0..6 {
-        let _work = server.packet(1, 1, &packet, &mut out);
-        assert_eq!(rt; out.count(), 0);
     }
-    let _work = server.packet(1, 1, &packet, &mut out);
-    assert_eq!(rt; out.count(), 1);
-    let _work = server.packet(1, 2, &packet, &mut out);
-    assert_eq!(rt; out.count(), 0);
-    assert_eq!(rt; server.ended(1, 1, &mut out), Work::Nothing);
-    let teardown = request(Method::Teardown);
+}
+
+/// Makes a request, which is answered with this status.
+fn ask(rt: &impl Abort, server: &mut Server, out: &mut Out, request: &Request, status: u16) {
+    assert_eq!(rt; server.request(PEER, DRAW, request, out).status, status);
+}
+
+/// Makes a request, which is answered with this reply of status 200.
+fn ask_well(rt: &impl Abort, server: &mut Server, out: &mut Out, request: &Request, reply: &[u8]) {
+    assert_eq!(rt; server.request(PEER, DRAW, request, out).status, 200);
+    assert_eq!(rt; out.reply(), reply);
+}
+
+/// Gives a packet again and again for a tune number, behind which so many datagrams leave.
+fn give_each(
+    rt: &impl Abort,
+    server: &mut Server,
+    out: &mut Out,
+    packet: &Packet,
+    tune: u64,
+    datagrams: &[usize],
+) {
+    for count in datagrams {
+        let _work = server.packet(1, tune, packet, out);
+        assert_eq!(rt; out.count(), *count);
+    }
+}
+
+/// Makes a TEARDOWN of the first session as an event.
+fn tear_down(rt: &impl Abort, server: &mut Server, out: &mut Out) {
     let event = Event::Request {
         peer: PEER,
         draw: DRAW,
-        request: teardown,
+        request: request(Method::Teardown),
     };
     let ok = Answer::Replied(Replied {
         status: 200,
         closing: false,
     });
-    assert_eq!(rt; server.event(&event, &mut out), ok);
-    let gone = server.request(PEER, DRAW, &request(Method::Options), &mut out);
-    assert_eq!(rt; gone.status, 454);
+    assert_eq!(rt; server.event(&event, out), ok);
+}
+
+const SETUP_REPLY: &[u8] =
+    b"RTSP/1.0 200 OK\r\nCSeq: 2\r\nSession: 000000010000000a;timeout=60\r\nTransport: RTP/AVP;unicast;client_port=1400-1401\r\ncom.ses.streamID: 1\r\n\r\n";
+
+const PLAY_REPLY: &[u8] =
+    b"RTSP/1.0 200 OK\r\nCSeq: 2\r\nSession: 000000010000000a\r\nRTP-Info: url=rtsp://192.168.1.10/stream=1;seq=65535\r\n\r\n";
+
+#[test]
+fn seven_packets_are_a_datagram(rt: HostRuntime) -> Result<(), Fail> {
+    let query = query(FIRST_QUERY)?;
+    let packet = packet(16)?;
+    let mut out = Out::make(rt.alloc())?;
+    let mut server = server(rt.alloc())?;
+    ask_well(&rt, &mut server, &mut out, &setup(query), SETUP_REPLY);
+    assert_eq!(rt; server.ask(1, &mut out), Work::Tune { mux: 1, tune: 1 });
+    let play = request(Method::Play);
+    ask_well(&rt, &mut server, &mut out, &play, PLAY_REPLY);
+    let seven = [0, 0, 0, 0, 0, 0, 1];
+    give_each(&rt, &mut server, &mut out, &packet, 1, &seven);
+    give_each(&rt, &mut server, &mut out, &packet, 2, &[0]);
+    assert_eq!(rt; server.ended(1, 1, &mut out), Work::Nothing);
+    tear_down(&rt, &mut server, &mut out);
+    ask(&rt, &mut server, &mut out, &request(Method::Options), 454);
     Ok(())
 }
 
@@ -148,25 +177,15 @@ fn seven_packets_are_a_datagram(rt: HostRuntime) -> Result<(), Fail> {
 fn a_session_that_is_not_heard_of_ends(rt: HostRuntime) -> Result<(), Fail> {
     let mut out = Out::make(rt.alloc())?;
     let mut server = server(rt.alloc())?;
-    let setup = Request {
-        method: Method::Setup,
-        stream: None,
-        session: SessionName::Absent,
-        ports: Some(Ports {
-            rtp: 1400,
-            rtcp: 1401,
-        }),
-        ..request(Method::Setup)
-    };
-    assert_eq!(rt; server.request(PEER, DRAW, &setup, &mut out).status, 200);
+    ask(&rt, &mut server, &mut out, &setup(Query::new()), 200);
     let describe = Request {
         session: SessionName::Absent,
         ..request(Method::Describe)
     };
     let _beat = server.tick(60999, &mut out);
-    assert_eq!(rt; server.request(PEER, DRAW, &describe, &mut out).status, 200);
+    ask(&rt, &mut server, &mut out, &describe, 200);
     let _beat = server.tick(61000, &mut out);
-    assert_eq!(rt; server.request(PEER, DRAW, &describe, &mut out).status, 404);
+    ask(&rt, &mut server, &mut out, &describe, 404);
     let text = b"RTSP/1.0 404 Not Found\r\nCSeq: 2\r\n\r\n";
     assert_eq!(rt; out.reply(), text.as_slice());
     assert_eq!(rt; server.stop(&mut out), Beat::Stopping);

@@ -5,4 +5,4 @@
 mod stress;
 
 #[cfg(test)]
-use satip_replay_steps::row;
+use satip_replay_fixtures::row;

@@ -1,14 +1,15 @@
 //! Pumps of the first front end, which a SETUP tuned.
 ghost use Rattle.std.specs.Prelude.{◌≡◌, false, IfOk};
 
-use crate::tests::setting::{ask, end, give, letters, packet_bytes, set_up, solo};
 use satip_base::{Out, Want};
 use satip_history::Entry;
 use satip_memory::{MemoryOutlet, MemoryPacer, MemoryStore};
 use satip_plain::{Answer, Event, Work};
 use satip_pump::{Batch, JobEnd, PumpKit, run_pump};
+use satip_run_fixtures::setting::{ask, end, give, letters, packet_bytes, set_up, solo};
 use satip_solo::Solo;
 use std::alloc::Global;
+use std::process::Abort;
 use std::sync::Wait;
 use std::test::Fail;
 
@@ -116,14 +117,19 @@ fn pump_tuned<R: Wait + Sync>(rt: &R, alloc: Global, stop: u64, kit: Kit) -> Res
     pump(rt, alloc, &mut solo, kit)
 }
 
+// Compares the end with a stop, and the kinds of all entries with those wanted.
+fn is_stopped(rt: &impl Abort, pumped: &Pumped, kinds: &[u8]) {
+    assert_eq!(rt; pumped.end, JobEnd::Stopped);
+    assert_eq!(rt; pumped.kinds.as_slice(), kinds);
+}
+
 #[test]
 fn rubbish_and_a_tail_are_no_packets(rt: HostRuntime) -> Result<(), Fail> {
     let alloc = rt.alloc();
     let text = recording(alloc, &[0, 1, 2, 3, 4], 2, &[0x47; 100])?;
     let kit = kit(alloc, &[], &text, &[], &[])?;
     let pumped = pump_tuned(&rt, alloc, 5, kit)?;
-    assert_eq!(rt; pumped.end, JobEnd::Stopped);
-    assert_eq!(rt; pumped.kinds.as_slice(), b"RAPPESA".as_slice());
+    is_stopped(&rt, &pumped, b"RAPPESA");
     assert!(rt; pumped.last == Some(STOPPING));
     Ok(())
 }
@@ -134,8 +140,7 @@ fn a_start_that_fails_ends_the_recording(rt: HostRuntime) -> Result<(), Fail> {
     let text = recording(alloc, &[], 3, &[])?;
     let kit = kit(alloc, &[1], &text, &[], &[])?;
     let pumped = pump_tuned(&rt, alloc, 3, kit)?;
-    assert_eq!(rt; pumped.end, JobEnd::Stopped);
-    assert_eq!(rt; pumped.kinds.as_slice(), b"RAESA".as_slice());
+    is_stopped(&rt, &pumped, b"RAESA");
     Ok(())
 }
 
@@ -145,8 +150,7 @@ fn a_take_that_fails_ends_the_recording(rt: HostRuntime) -> Result<(), Fail> {
     let text = recording(alloc, &[], 3, &[])?;
     let kit = kit(alloc, &[], &text, &[188, 188], &[2])?;
     let pumped = pump_tuned(&rt, alloc, 4, kit)?;
-    assert_eq!(rt; pumped.end, JobEnd::Stopped);
-    assert_eq!(rt; pumped.kinds.as_slice(), b"RAPESA".as_slice());
+    is_stopped(&rt, &pumped, b"RAPESA");
     Ok(())
 }
 
@@ -207,13 +211,8 @@ fn have_like_entries(first: &Solo, second: &Solo) -> bool {
     first.entries().len() == second.entries().len()
 }
 
-#[test]
-fn bursts_make_the_entries_of_single_calls(rt: HostRuntime) -> Result<(), Fail> {
-    let alloc = rt.alloc();
-    let text = recording(alloc, &[], 130, &[])?;
-    let kit = kit(alloc, &[], &text, &[], &[])?;
-    let mut solo = tuned(alloc, 133)?;
-    let pumped = pump(&rt, alloc, &mut solo, kit)?;
+// Compares what a pump of 130 packets came to with what is wanted.
+fn is_of_130(rt: &impl Abort, pumped: &Pumped) {
     assert_eq!(rt; pumped.end, JobEnd::Stopped);
     // behind 64 and 128 packets, and where the end of the recording was told to do nothing
     assert_eq!(rt; pumped.pauses, 3);
@@ -222,8 +221,24 @@ fn bursts_make_the_entries_of_single_calls(rt: HostRuntime) -> Result<(), Fail> 
         pumped.kinds.iter().filter(|kind| **kind == b'P').count(),
         130
     );
-    assert!(rt; answer_at(&solo, 1) == Some(TOLD));
     assert!(rt; pumped.last == Some(STOPPING));
-    assert!(rt; have_like_entries(&solo, &singly(alloc, 130, 133)?));
+}
+
+// Compares the entries with those of single calls.
+fn is_told_singly(rt: &impl Abort, alloc: Global, solo: &Solo) -> Result<(), Fail> {
+    let other = singly(alloc, 130, 133)?;
+    assert!(rt; answer_at(solo, 1) == Some(TOLD));
+    assert!(rt; have_like_entries(solo, &other));
     Ok(())
+}
+
+#[test]
+fn bursts_make_the_entries_of_single_calls(rt: HostRuntime) -> Result<(), Fail> {
+    let alloc = rt.alloc();
+    let text = recording(alloc, &[], 130, &[])?;
+    let kit = kit(alloc, &[], &text, &[], &[])?;
+    let mut solo = tuned(alloc, 133)?;
+    let pumped = pump(&rt, alloc, &mut solo, kit)?;
+    is_of_130(&rt, &pumped);
+    is_told_singly(&rt, alloc, &solo)
 }

@@ -16,7 +16,8 @@ use satip_tune::{Front, Mux, Pol, System};
 use std::alloc::Global;
 use std::test::Fail;
 
-pub(crate) const CLIENT: Peer = Peer { ip: 3232235796 };
+/// The client's host, 192.168.1.20.
+pub const CLIENT: Peer = Peer { ip: 3232235796 };
 
 const DRAW: Draw = Draw {
     word: 10,
@@ -83,7 +84,7 @@ fn server(alloc: Global) -> Result<Server, Fail>
 }
 
 /// The server before its first event, with a Stop before the call of this number.
-pub(crate) fn solo(alloc: Global, stop: Option<u64>) -> Result<Solo, Fail> {
+pub fn solo(alloc: Global, stop: Option<u64>) -> Result<Solo, Fail> {
     Ok(Solo::make(alloc, server(alloc)?, stop)?)
 }
 
@@ -142,7 +143,7 @@ fn setup(query: Query) -> Event {
 }
 
 /// The bytes of a packet of PID 16.
-pub(crate) fn packet_bytes() -> [u8; 188] {
+pub fn packet_bytes() -> [u8; 188] {
     let mut bytes = [0; 188];
     bytes[0] = 0x47;
     bytes[2] = 16;
@@ -172,7 +173,7 @@ fn status(answer: Answer) -> u16 {
 }
 
 /// Makes the SETUP that founds the first stream.
-pub(crate) fn set_up(solo: &mut Solo, out: &mut Out) -> Result<u16, Fail> {
+pub fn set_up(solo: &mut Solo, out: &mut Out) -> Result<u16, Fail> {
     let mut query = Query::new();
     read(TUNING, &mut query).ok().ok_or("query")?;
     let setup = setup(query);
@@ -180,38 +181,38 @@ pub(crate) fn set_up(solo: &mut Solo, out: &mut Out) -> Result<u16, Fail> {
 }
 
 /// Makes the PLAY of the first session.
-pub(crate) fn play(solo: &mut Solo, out: &mut Out) -> Result<u16, Fail> {
+pub fn play(solo: &mut Solo, out: &mut Out) -> Result<u16, Fail> {
     Ok(status(make(solo, &request(Method::Play), out)?))
 }
 
 /// Makes a DESCRIBE of the first stream, of no session.
-pub(crate) fn ask_of_stream(solo: &mut Solo, out: &mut Out) -> Result<u16, Fail> {
+pub fn ask_of_stream(solo: &mut Solo, out: &mut Out) -> Result<u16, Fail> {
     Ok(status(make(solo, &describe(), out)?))
 }
 
 /// Makes a tick at this moment.
-pub(crate) fn tick(solo: &mut Solo, now: u64, out: &mut Out) -> Result<Answer, Fail> {
+pub fn tick(solo: &mut Solo, now: u64, out: &mut Out) -> Result<Answer, Fail> {
     make(solo, &Event::Tick { now }, out)
 }
 
 /// Gives a packet of PID 16 for the first tuning of the first front end.
-pub(crate) fn give(solo: &mut Solo, out: &mut Out) -> Result<Answer, Fail> {
+pub fn give(solo: &mut Solo, out: &mut Out) -> Result<Answer, Fail> {
     let first = Packet::of(&packet_bytes()).ok_or("packet")?;
     make(solo, &packet(first), out)
 }
 
 /// Asks what the first front end's pump is to do.
-pub(crate) fn ask(solo: &mut Solo, out: &mut Out) -> Result<Answer, Fail> {
+pub fn ask(solo: &mut Solo, out: &mut Out) -> Result<Answer, Fail> {
     make(solo, &Event::Ask { front: 1 }, out)
 }
 
 /// Ends the recording of the first front end's first tuning.
-pub(crate) fn end(solo: &mut Solo, out: &mut Out) -> Result<Answer, Fail> {
+pub fn end(solo: &mut Solo, out: &mut Out) -> Result<Answer, Fail> {
     make(solo, &Event::Ended { front: 1, tune: 1 }, out)
 }
 
 /// The kinds of the entries, a letter each.
-pub(crate) fn letters(alloc: Global, solo: &Solo) -> Result<Vec<u8>, Fail> {
+pub fn letters(alloc: Global, solo: &Solo) -> Result<Vec<u8>, Fail> {
     let mut letters = Vec::new(alloc);
     for entry in solo.entries() {
         letters.push(letter(entry))?;

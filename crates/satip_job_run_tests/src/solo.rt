@@ -6,11 +6,13 @@ ghost use Rattle.satip_solo.specs.Log.{Before, is_at};
 use satip_base::Out;
 use satip_config::Config;
 use satip_core::Server;
+use satip_history::Entry;
 use satip_plain::{Answer, Beat, Event, Work};
 use satip_service::Service;
 use satip_solo::Solo;
 use satip_tune::Front;
 use std::alloc::Global;
+use std::process::Abort;
 use std::test::Fail;
 
 // The Stop comes before the call of its number, and before no other.
@@ -50,6 +52,24 @@ fn solo(alloc: Global, stop: Option<u64>) -> Result<Solo, Fail> {
     Ok(Solo::make(alloc, server(alloc)?, stop)?)
 }
 
+// Compares the callers of five entries, of which the third is the Stop.
+fn stops_third(
+    rt: &impl Abort,
+    alloc: Global,
+    entries: &[Entry<Event, Answer, Out>],
+) -> Result<(), Fail> {
+    assert_eq!(rt; entries.len(), 5);
+    let mut callers = Vec::new(alloc);
+    for entry in entries {
+        callers.push(entry.caller)?;
+    }
+    assert_eq!(rt; callers.as_slice(), [0u64, 0, 1, 0, 0].as_slice());
+    let stop = entries.get(2).ok_or("stop")?;
+    assert!(rt; matches!(stop.event, Event::Stop));
+    assert!(rt; stop.answer == Answer::Beat(Beat::Stopping));
+    Ok(())
+}
+
 #[test]
 fn the_stop_comes_before_its_call(rt: HostRuntime) -> Result<(), Fail> {
     let alloc = rt.alloc();
@@ -62,17 +82,7 @@ fn the_stop_comes_before_its_call(rt: HostRuntime) -> Result<(), Fail> {
         let answer = solo.call(&ask, &mut out).ok().ok_or("answer")?;
         assert!(rt; answer == Answer::Work(work));
     }
-    let entries = solo.entries();
-    assert_eq!(rt; entries.len(), 5);
-    let mut callers = Vec::new(alloc);
-    for entry in entries {
-        callers.push(entry.caller)?;
-    }
-    assert_eq!(rt; callers.as_slice(), [0u64, 0, 1, 0, 0].as_slice());
-    let stop = entries.get(2).ok_or("stop")?;
-    assert!(rt; matches!(stop.event, Event::Stop));
-    assert!(rt; stop.answer == Answer::Beat(Beat::Stopping));
-    Ok(())
+    stops_third(&rt, alloc, solo.entries())
 }
 
 #[test]

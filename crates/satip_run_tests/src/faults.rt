@@ -1,9 +1,10 @@
 //! RTSP connections whose receives and sends fail.
 
-use crate::tests::connections::{OPTIONS, SETUP, SETUP_REPLY, Seen, serve, serve_alone};
-use crate::tests::setting::{give, play, set_up, solo, tick};
+use crate::wanted::wants;
 use satip_base::Out;
 use satip_memory::MemoryConn;
+use satip_run_fixtures::serving::{OPTIONS, SETUP, SETUP_REPLY, Seen, serve, serve_alone};
+use satip_run_fixtures::setting::{give, play, set_up, solo, tick};
 use satip_solo::Solo;
 use satip_world::{ConnEnd, DoorKind};
 use std::alloc::Global;
@@ -20,9 +21,7 @@ fn a_first_receive_that_fails_ends_the_connection(rt: HostRuntime) -> Result<(),
     let alloc = rt.alloc();
     let conn = MemoryConn::make(alloc, &[SETUP], &[1], &[], 0)?;
     let seen = serve_alone(&rt, alloc, DoorKind::Rtsp, conn)?;
-    assert!(rt; seen.end == ConnEnd::ReadFault);
-    assert_eq!(rt; seen.kinds.as_slice(), b"".as_slice());
-    assert_eq!(rt; seen.sent.as_slice(), b"".as_slice());
+    wants(&rt, &seen, ConnEnd::ReadFault, b"", b"");
     Ok(())
 }
 
@@ -31,9 +30,7 @@ fn a_later_receive_that_fails_ends_the_connection(rt: HostRuntime) -> Result<(),
     let alloc = rt.alloc();
     let conn = MemoryConn::make(alloc, &[SETUP, OPTIONS], &[2], &[], 0)?;
     let seen = serve_alone(&rt, alloc, DoorKind::Rtsp, conn)?;
-    assert!(rt; seen.end == ConnEnd::ReadFault);
-    assert_eq!(rt; seen.kinds.as_slice(), b"R".as_slice());
-    assert_eq!(rt; seen.sent.as_slice(), SETUP_REPLY);
+    wants(&rt, &seen, ConnEnd::ReadFault, b"R", SETUP_REPLY);
     Ok(())
 }
 
@@ -42,9 +39,7 @@ fn a_send_that_fails_passes_a_beginning(rt: HostRuntime) -> Result<(), Fail> {
     let alloc = rt.alloc();
     let conn = MemoryConn::make(alloc, &[OPTIONS], &[], &[1], 10)?;
     let seen = serve_alone(&rt, alloc, DoorKind::Rtsp, conn)?;
-    assert!(rt; seen.end == ConnEnd::WriteFault);
-    assert_eq!(rt; seen.kinds.as_slice(), b"R".as_slice());
-    assert_eq!(rt; seen.sent.as_slice(), b"RTSP/1.0 2".as_slice());
+    wants(&rt, &seen, ConnEnd::WriteFault, b"R", b"RTSP/1.0 2");
     Ok(())
 }
 

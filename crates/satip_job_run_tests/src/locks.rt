@@ -1,15 +1,16 @@
 //! Outlets that count, and a connection that notes what left before a reply.
 ghost use Rattle.std.specs.Prelude.{◌≡◌, false, IfOk};
 
-use crate::tests::connections::{KEY, PLAY, SETUP, joined};
-use crate::tests::setting::{CLIENT, give, letters, packet_bytes, play, set_up, solo};
 use satip_base::{Address, Out, Put};
 use satip_memory::{MemoryClock, MemoryConn, MemoryDoors, MemoryOutlet, MemoryPacer, MemoryStore};
 use satip_pump::{Batch, JobEnd, PumpKit, TickKit, run_pump, run_ticker};
+use satip_run_fixtures::serving::{KEY, PLAY, SETUP, joined};
+use satip_run_fixtures::setting::{CLIENT, give, letters, packet_bytes, play, set_up, solo};
 use satip_solo::Solo;
 use satip_worker::{Draws, Room, WorkerEnd, WorkerKit, run_worker, serve_connection};
 use satip_world::{Conn, ConnEnd, DoorKind, Outlet, Received};
 use std::alloc::Global;
+use std::process::Abort;
 use std::sync::Wait;
 use std::sync::atomic::{AtomicU64, Ordering};
 use std::test::Fail;
@@ -153,6 +154,14 @@ fn tick<R: Wait + Sync>(
     Ok(run_ticker(rt, solo, &mut kit, &mut out))
 }
 
+// Compares the counts of seven locks and two datagrams.
+fn is_tallied(rt: &impl Abort, tally: &Tally) {
+    assert_eq!(rt; tally.locks(), 7);
+    assert_eq!(rt; tally.unlocks(), 7);
+    assert_eq!(rt; tally.sent(), 2);
+    assert_eq!(rt; tally.astray(), 0);
+}
+
 // Two requests, four calls of the pump and a tick, each under a lock of its own; the seven packets
 // leave as one datagram, and the tick sends a report.
 #[test]
@@ -165,10 +174,7 @@ fn three_jobs_lock_for_each_event(rt: HostRuntime) -> Result<(), Fail> {
     assert_eq!(rt; tick(&rt, alloc, &mut solo, &tally)?, JobEnd::Stopped);
     let kinds = letters(alloc, &solo)?;
     assert_eq!(rt; kinds.as_slice(), b"RRAPPPPPPPESAT".as_slice());
-    assert_eq!(rt; tally.locks(), 7);
-    assert_eq!(rt; tally.unlocks(), 7);
-    assert_eq!(rt; tally.sent(), 2);
-    assert_eq!(rt; tally.astray(), 0);
+    is_tallied(&rt, &tally);
     Ok(())
 }
 
@@ -195,38 +201,56 @@ impl<'a> Conn for NotingConn<'a> {
     }
 }
 
-// The packets that a session holds leave before the reply to its TEARDOWN.
-#[test]
-fn a_reply_follows_the_datagrams_of_its_request(rt: HostRuntime) -> Result<(), Fail> {
-    let alloc = rt.alloc();
-    let tally = Tally::new();
-    let mut solo = solo(alloc, None)?;
+// Sets up and plays, and gives three packets, which are held.
+fn play_three(rt: &impl Abort, alloc: Global, solo: &mut Solo) -> Result<(), Fail> {
     let mut out = Out::make(alloc)?;
-    assert_eq!(rt; set_up(&mut solo, &mut out)?, 200);
-    assert_eq!(rt; play(&mut solo, &mut out)?, 200);
+    assert_eq!(rt; set_up(solo, &mut out)?, 200);
+    assert_eq!(rt; play(solo, &mut out)?, 200);
     for _ in 0..3u8 {
-        give(&mut solo, &mut out)?;
+        give(solo, &mut out)?;
     }
-    let mut conn = NotingConn {
-        conn: MemoryConn::make(alloc, &[TEARDOWN], &[], &[], 0)?,
-        tally: &tally,
-        before: 0,
-    };
-    let mut outlet = outlet(alloc, &tally)?;
+    Ok(())
+}
+
+// Serves a connection, and tallies what leaves.
+fn serve<R: Wait + Sync>(
+    rt: &R,
+    alloc: Global,
+    solo: &mut Solo,
+    conn: &mut NotingConn,
+    tally: &Tally,
+) -> Result<ConnEnd, Fail> {
+    let mut outlet = outlet(alloc, tally)?;
+    let mut room = Room::make(alloc)?;
     let mut draws = Draws::make(&KEY, 0);
     let mut pacer = MemoryPacer::new();
-    let mut room = Room::make(alloc)?;
     let end = serve_connection(
-        &rt,
-        &mut solo,
+        rt,
+        solo,
         DoorKind::Rtsp,
         CLIENT,
-        &mut conn,
+        conn,
         &mut outlet,
         &mut pacer,
         &mut draws,
         &mut room,
     );
+    Ok(end)
+}
+
+// The packets that a session holds leave before the reply to its TEARDOWN.
+#[test]
+fn a_reply_follows_the_datagrams_of_its_request(rt: HostRuntime) -> Result<(), Fail> {
+    let alloc = rt.alloc();
+    let tally = Tally::new();
+    let mut conn = NotingConn {
+        conn: MemoryConn::make(alloc, &[TEARDOWN], &[], &[], 0)?,
+        tally: &tally,
+        before: 0,
+    };
+    let mut solo = solo(alloc, None)?;
+    play_three(&rt, alloc, &mut solo)?;
+    let end = serve(&rt, alloc, &mut solo, &mut conn, &tally)?;
     assert!(rt; end == ConnEnd::Done);
     assert_eq!(rt; tally.sent(), 1);
     assert_eq!(rt; conn.before, 1);

@@ -1,16 +1,12 @@
 //! HTTP connections.
 
-use crate::tests::connections::{Seen, serve_alone};
+use crate::wanted::wants;
 use satip_memory::MemoryConn;
+use satip_run_fixtures::serving::{GET, HEAD, Seen, serve_alone};
 use satip_world::{ConnEnd, DoorKind};
 use std::alloc::Global;
 use std::sync::Wait;
 use std::test::Fail;
-
-pub(crate) const GET: &[u8] = b"GET /?freq=12402&pol=v&msys=dvbs&sr=27500 HTTP/1.1\r\n\r\n";
-
-pub(crate) const HEAD: &[u8] =
-    b"HTTP/1.1 200 OK\r\nContent-Type: video/mp2t\r\nConnection: close\r\n\r\n";
 
 // A connection with one GET, whose receives and sends of these numbers fail.
 fn get<R: Wait + Sync>(
@@ -27,10 +23,8 @@ fn get<R: Wait + Sync>(
 fn a_get_without_packets_is_closed_at_the_end_of_its_input(rt: HostRuntime) -> Result<(), Fail> {
     let alloc = rt.alloc();
     let seen = get(&rt, alloc, &[], &[])?;
-    assert!(rt; seen.end == ConnEnd::Done);
-    assert_eq!(rt; seen.kinds.as_slice(), b"GLC".as_slice());
+    wants(&rt, &seen, ConnEnd::Done, b"GLC", HEAD);
     assert_eq!(rt; HEAD.len(), 64);
-    assert_eq!(rt; seen.sent.as_slice(), HEAD);
     Ok(())
 }
 
@@ -38,9 +32,7 @@ fn a_get_without_packets_is_closed_at_the_end_of_its_input(rt: HostRuntime) -> R
 fn a_head_that_is_not_sent_closes_the_session(rt: HostRuntime) -> Result<(), Fail> {
     let alloc = rt.alloc();
     let seen = get(&rt, alloc, &[], &[1])?;
-    assert!(rt; seen.end == ConnEnd::WriteFault);
-    assert_eq!(rt; seen.kinds.as_slice(), b"GC".as_slice());
-    assert_eq!(rt; seen.sent.as_slice(), b"".as_slice());
+    wants(&rt, &seen, ConnEnd::WriteFault, b"GC", b"");
     Ok(())
 }
 
@@ -50,8 +42,6 @@ fn a_receive_that_fails_behind_an_empty_pull_closes_the_session(
 ) -> Result<(), Fail> {
     let alloc = rt.alloc();
     let seen = get(&rt, alloc, &[2], &[])?;
-    assert!(rt; seen.end == ConnEnd::ReadFault);
-    assert_eq!(rt; seen.kinds.as_slice(), b"GLC".as_slice());
-    assert_eq!(rt; seen.sent.as_slice(), HEAD);
+    wants(&rt, &seen, ConnEnd::ReadFault, b"GLC", HEAD);
     Ok(())
 }

@@ -1,14 +1,16 @@
 //! Workers and the connections of their doors.
 ghost use Rattle.std.specs.Prelude.{◌≡◌, false, IfOk};
 
-use crate::tests::connections::{KEY, OPTIONS, OPTIONS_REPLY, SETUP, SETUP_REPLY, joined};
-use crate::tests::http::{GET, HEAD};
-use crate::tests::setting::{CLIENT, letters, solo};
 use satip_memory::{MemoryConn, MemoryDoors, MemoryOutlet, MemoryPacer};
+use satip_run_fixtures::serving::{
+    GET, HEAD, KEY, OPTIONS, OPTIONS_REPLY, SETUP, SETUP_REPLY, joined,
+};
+use satip_run_fixtures::setting::{CLIENT, letters, solo};
 use satip_solo::Solo;
 use satip_worker::{Room, WorkerEnd, WorkerKit, run_worker};
 use satip_world::{ConnEnd, DoorKind};
 use std::alloc::Global;
+use std::process::Abort;
 use std::sync::Wait;
 use std::test::Fail;
 
@@ -87,14 +89,19 @@ fn work<R: Wait + Sync>(rt: &R, alloc: Global, doors: MemoryDoors) -> Result<Wor
     })
 }
 
+// Compares the end, the kinds of all entries and the bytes that were sent with those wanted.
+fn wants(rt: &impl Abort, worked: &Worked, end: WorkerEnd, kinds: &[u8], sent: &[u8]) {
+    assert!(rt; worked.end == end);
+    assert_eq!(rt; worked.kinds.as_slice(), kinds);
+    assert_eq!(rt; worked.sent.as_slice(), sent);
+}
+
 #[test]
 fn doors_that_fail_end_the_worker(rt: HostRuntime) -> Result<(), Fail> {
     let alloc = rt.alloc();
     let doors = doors(alloc, &[(DoorKind::Rtsp, OPTIONS)])?;
     let worked = work(&rt, alloc, doors)?;
-    assert!(rt; worked.end == WorkerEnd::DoorsFault);
-    assert_eq!(rt; worked.kinds.as_slice(), b"R".as_slice());
-    assert_eq!(rt; worked.sent.as_slice(), OPTIONS_REPLY);
+    wants(&rt, &worked, WorkerEnd::DoorsFault, b"R", OPTIONS_REPLY);
     Ok(())
 }
 
@@ -102,13 +109,11 @@ fn doors_that_fail_end_the_worker(rt: HostRuntime) -> Result<(), Fail> {
 fn two_connections_come_before_the_doors_fail(rt: HostRuntime) -> Result<(), Fail> {
     let alloc = rt.alloc();
     let two = joined(alloc, &[SETUP, OPTIONS])?;
+    let wanted = joined(alloc, &[SETUP_REPLY, OPTIONS_REPLY, HEAD])?;
     let doors = doors(alloc, &[(DoorKind::Rtsp, &two), (DoorKind::Http, GET)])?;
     let worked = work(&rt, alloc, doors)?;
-    assert!(rt; worked.end == WorkerEnd::DoorsFault);
-    assert_eq!(rt; worked.kinds.as_slice(), b"RRGLC".as_slice());
+    wants(&rt, &worked, WorkerEnd::DoorsFault, b"RRGLC", &wanted);
     assert_eq!(rt; worked.count, 2);
     assert!(rt; worked.done);
-    let wanted = joined(alloc, &[SETUP_REPLY, OPTIONS_REPLY, HEAD])?;
-    assert_eq!(rt; worked.sent.as_slice(), wanted.as_slice());
     Ok(())
 }
