@@ -108,15 +108,18 @@ fn play(
     })
 }
 
+// The bytes before a place and those from it on; all are before a place that is too far.
+fn cut(bytes: &[u8], place: usize) -> (&[u8], &[u8]) {
+    bytes.split_at(place.min(bytes.len()))
+}
+
 #[test]
 fn two_packets_are_recorded(rt: HostRuntime) -> Result<(), Fail> {
     let first = datagram(9);
     let played = play(rt.alloc(), &[GRANTED, ACCEPTED], &[&first], NONE, 2)?;
     assert_eq!(rt; played.end(), RecordEnd::Done);
     assert!(rt; played.written() == &first[HEAD..HEAD + 376]);
-    let (opened, left) = played
-        .sent()
-        .split_at(OPENED.len().min(played.sent().len()));
+    let (opened, left) = cut(played.sent(), OPENED.len());
     assert!(rt; opened == OPENED);
     assert!(rt; left == LEFT);
     assert!(rt; played.told().is_empty());
@@ -140,7 +143,7 @@ fn a_gap_is_told_once_it_is_passed(rt: HostRuntime) -> Result<(), Fail> {
     let played = play(rt.alloc(), &[GRANTED, ACCEPTED], &came, NONE, 6)?;
     assert_eq!(rt; played.end(), RecordEnd::Done);
     assert_eq!(rt; played.written().len(), 1128);
-    let (begin, end) = played.written().split_at(played.written().len().min(564));
+    let (begin, end) = cut(played.written(), 564);
     assert!(rt; begin == &first[HEAD..]);
     assert!(rt; end == &next[HEAD..]);
     assert!(rt; played.told() == b"gap 11 1\n".as_slice());
@@ -154,8 +157,8 @@ fn repeated_and_late_datagrams_are_put_in_order(rt: HostRuntime) -> Result<(), F
     let played = play(rt.alloc(), &[GRANTED, ACCEPTED], &came, NONE, 8)?;
     assert_eq!(rt; played.end(), RecordEnd::Done);
     assert_eq!(rt; played.written().len(), 1504);
-    let (begin, rest) = played.written().split_at(played.written().len().min(564));
-    let (middle, end) = rest.split_at(rest.len().min(564));
+    let (begin, rest) = cut(played.written(), 564);
+    let (middle, end) = cut(rest, 564);
     assert!(rt; begin == &first[HEAD..]);
     assert!(rt; middle == &late[HEAD..]);
     assert!(rt; end == &next[HEAD..HEAD + 376]);
@@ -170,10 +173,7 @@ fn half_of_the_timeout_brings_options(rt: HostRuntime) -> Result<(), Fail> {
     let came: [&[u8]; 2] = [b"no RTP", &first];
     let played = play(rt.alloc(), &[GRANTED, ACCEPTED], &came, waits, 1)?;
     assert_eq!(rt; played.end(), RecordEnd::Done);
-    let rest = played
-        .sent()
-        .split_at(OPENED.len().min(played.sent().len()))
-        .1;
+    let (_, rest) = cut(played.sent(), OPENED.len());
     let wanted: &[u8] =
         b"OPTIONS rtsp://127.0.0.1:18554/ RTSP/1.0\r\nCSeq: 3\r\nSession: 1a\r\n\r\nTEARDOWN rtsp://127.0.0.1:18554/stream=7 RTSP/1.0\r\nCSeq: 4\r\nSession: 1a\r\n\r\n";
     assert!(rt; rest == wanted);
