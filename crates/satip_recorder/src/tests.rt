@@ -37,33 +37,23 @@ fn datagram(number: u16) -> [u8; 576] {
     bytes
 }
 
-// What a recording is made with. At each call with a number of `failing` its device fails; `idle`
-// are calls of the inlet that find nothing.
-#[derive(Drop)]
-struct Scene<'a> {
-    replies: &'a [&'a [u8]],
-    moments: &'a [u64],
-    datagrams: &'a [&'a [u8]],
-    idle: &'a [u64],
-    failing_sends: &'a [u64],
-    failing_inlet: &'a [u64],
-    failing_output: &'a [u64],
-    failing_errors: &'a [u64],
+// Which call of a device fails, from 1; 0 is none. `idle` is a call of the inlet that finds nothing.
+#[derive(Clone, Copy)]
+struct Troubles {
+    idle: u64,
+    send: u64,
+    inlet: u64,
+    output: u64,
+    errors: u64,
 }
 
-// A scene without idle or failing calls.
-fn quiet<'a>(replies: &'a [&'a [u8]], datagrams: &'a [&'a [u8]]) -> Scene<'a> {
-    Scene {
-        replies,
-        moments: &[],
-        datagrams,
-        idle: &[],
-        failing_sends: &[],
-        failing_inlet: &[],
-        failing_output: &[],
-        failing_errors: &[],
-    }
-}
+const NONE: Troubles = Troubles {
+    idle: 0,
+    send: 0,
+    inlet: 0,
+    output: 0,
+    errors: 0,
+};
 
 // How a recording ended, what was sent on its connection, written, and told.
 #[derive(Drop)]
@@ -91,18 +81,19 @@ impl Played {
     }
 }
 
-fn play(alloc: Global, scene: &Scene, count: u32) -> Result<Played, Want> {
-    let wire = MemoryConn::make(alloc, scene.replies, &[], scene.failing_sends, 5)?;
-    let inlet = MemoryInlet::make(
-        alloc,
-        5000,
-        scene.datagrams,
-        scene.idle,
-        scene.failing_inlet,
-    )?;
-    let moment = MemoryClock::make(alloc, scene.moments)?;
-    let mut output = MemorySink::make(alloc, scene.failing_output, 100)?;
-    let mut errors = MemorySink::make(alloc, scene.failing_errors, 3)?;
+fn play(
+    alloc: Global,
+    replies: &[&[u8]],
+    datagrams: &[&[u8]],
+    troubles: Troubles,
+    count: u32,
+) -> Result<Played, Want> {
+    let wire = MemoryConn::make(alloc, replies, &[], &[troubles.send], 5)?;
+    let (idle, failing) = ([troubles.idle], [troubles.inlet]);
+    let inlet = MemoryInlet::make(alloc, 5000, datagrams, &idle, &failing)?;
+    let moment = MemoryClock::make(alloc, &[5, 1004, 1005, 1006])?;
+    let mut output = MemorySink::make(alloc, &[troubles.output], 100)?;
+    let mut errors = MemorySink::make(alloc, &[troubles.errors], 3)?;
     let wish = Wish {
         address: ADDRESS,
         query: QUERY,
@@ -116,15 +107,18 @@ fn play(alloc: Global, scene: &Scene, count: u32) -> Result<Played, Want> {
     })
 }
 
+// The bytes before a place and those from it on; all are before a place that is too far.
+fn cut(bytes: &[u8], place: usize) -> (&[u8], &[u8]) {
+    bytes.split_at(place.min(bytes.len()))
+}
+
 #[test]
 fn two_packets_are_recorded(rt: HostRuntime) -> Result<(), Fail> {
     let first = datagram(9);
-    let played = play(rt.alloc(), &quiet(&[GRANTED, ACCEPTED], &[&first]), 2)?;
+    let played = play(rt.alloc(), &[GRANTED, ACCEPTED], &[&first], NONE, 2)?;
     assert_eq!(rt; played.end(), RecordEnd::Done);
     assert!(rt; played.written() == &first[HEAD..HEAD + 376]);
-    let (opened, left) = played
-        .sent()
-        .split_at(OPENED.len().min(played.sent().len()));
+    let (opened, left) = cut(played.sent(), OPENED.len());
     assert!(rt; opened == OPENED);
     assert!(rt; left == LEFT);
     assert!(rt; played.told().is_empty());
@@ -134,7 +128,7 @@ fn two_packets_are_recorded(rt: HostRuntime) -> Result<(), Fail> {
 #[test]
 fn a_busy_server_is_told(rt: HostRuntime) -> Result<(), Fail> {
     let busy: &[u8] = b"RTSP/1.0 503 Service Unavailable\r\nCSeq: 1\r\n\r\n";
-    let played = play(rt.alloc(), &quiet(&[busy], &[]), 2)?;
+    let played = play(rt.alloc(), &[busy], &[], NONE, 2)?;
     assert_eq!(rt; played.end(), RecordEnd::Refused(503));
     assert!(rt; played.written().is_empty());
     assert!(rt; played.told() == b"refused 503\n".as_slice());
@@ -145,10 +139,10 @@ fn a_busy_server_is_told(rt: HostRuntime) -> Result<(), Fail> {
 fn a_gap_is_told_once_it_is_passed(rt: HostRuntime) -> Result<(), Fail> {
     let (first, far, late, next) = (datagram(10), datagram(75), datagram(11), datagram(12));
     let came: [&[u8]; 4] = [&first, &far, &late, &next];
-    let played = play(rt.alloc(), &quiet(&[GRANTED, ACCEPTED], &came), 6)?;
+    let played = play(rt.alloc(), &[GRANTED, ACCEPTED], &came, NONE, 6)?;
     assert_eq!(rt; played.end(), RecordEnd::Done);
     assert_eq!(rt; played.written().len(), 1128);
-    let (begin, end) = played.written().split_at(played.written().len().min(564));
+    let (begin, end) = cut(played.written(), 564);
     assert!(rt; begin == &first[HEAD..]);
     assert!(rt; end == &next[HEAD..]);
     assert!(rt; played.told() == b"gap 11 1\n".as_slice());
@@ -159,11 +153,11 @@ fn a_gap_is_told_once_it_is_passed(rt: HostRuntime) -> Result<(), Fail> {
 fn repeated_and_late_datagrams_are_put_in_order(rt: HostRuntime) -> Result<(), Fail> {
     let (first, late, next) = (datagram(65535), datagram(0), datagram(1));
     let came: [&[u8]; 6] = [&first, &first, &next, b"no RTP", &late, &late];
-    let played = play(rt.alloc(), &quiet(&[GRANTED, ACCEPTED], &came), 8)?;
+    let played = play(rt.alloc(), &[GRANTED, ACCEPTED], &came, NONE, 8)?;
     assert_eq!(rt; played.end(), RecordEnd::Done);
     assert_eq!(rt; played.written().len(), 1504);
-    let (begin, rest) = played.written().split_at(played.written().len().min(564));
-    let (middle, end) = rest.split_at(rest.len().min(564));
+    let (begin, rest) = cut(played.written(), 564);
+    let (middle, end) = cut(rest, 564);
     assert!(rt; begin == &first[HEAD..]);
     assert!(rt; middle == &late[HEAD..]);
     assert!(rt; end == &next[HEAD..HEAD + 376]);
@@ -174,18 +168,11 @@ fn repeated_and_late_datagrams_are_put_in_order(rt: HostRuntime) -> Result<(), F
 #[test]
 fn half_of_the_timeout_brings_options(rt: HostRuntime) -> Result<(), Fail> {
     let first = datagram(9);
-    let opened: [&[u8]; 2] = [GRANTED, ACCEPTED];
-    let came: [&[u8]; 1] = [&first];
-    let mut waits = quiet(&opened, &came);
-    let (moments, idle) = ([5, 1004, 1005, 1006], [1, 2]);
-    waits.moments = &moments;
-    waits.idle = &idle;
-    let played = play(rt.alloc(), &waits, 1)?;
+    let waits = Troubles { idle: 1, ..NONE };
+    let came: [&[u8]; 2] = [b"no RTP", &first];
+    let played = play(rt.alloc(), &[GRANTED, ACCEPTED], &came, waits, 1)?;
     assert_eq!(rt; played.end(), RecordEnd::Done);
-    let rest = played
-        .sent()
-        .split_at(OPENED.len().min(played.sent().len()))
-        .1;
+    let (_, rest) = cut(played.sent(), OPENED.len());
     let wanted: &[u8] =
         b"OPTIONS rtsp://127.0.0.1:18554/ RTSP/1.0\r\nCSeq: 3\r\nSession: 1a\r\n\r\nTEARDOWN rtsp://127.0.0.1:18554/stream=7 RTSP/1.0\r\nCSeq: 4\r\nSession: 1a\r\n\r\n";
     assert!(rt; rest == wanted);
@@ -193,28 +180,38 @@ fn half_of_the_timeout_brings_options(rt: HostRuntime) -> Result<(), Fail> {
 }
 
 #[test]
-fn faults_end_it(rt: HostRuntime) -> Result<(), Fail> {
-    let alloc = rt.alloc();
+fn a_failing_inlet_ends_it(rt: HostRuntime) -> Result<(), Fail> {
     let first = datagram(9);
-    let came: [&[u8]; 1] = [&first];
-    let opened: [&[u8]; 2] = [GRANTED, ACCEPTED];
-    let (once, thrice) = ([1], [3]);
-    let mut failing = quiet(&opened, &came);
-    failing.failing_inlet = &once;
-    let played = play(alloc, &failing, 1)?;
+    let failing = Troubles { inlet: 1, ..NONE };
+    let played = play(rt.alloc(), &[GRANTED, ACCEPTED], &[&first], failing, 1)?;
     assert_eq!(rt; played.end(), RecordEnd::PeerFault);
     assert!(rt; played.told() == b"peer fault\n".as_slice());
-    let mut failing = quiet(&opened, &came);
-    failing.failing_output = &once;
-    let played = play(alloc, &failing, 1)?;
+    Ok(())
+}
+
+#[test]
+fn a_failing_output_ends_it(rt: HostRuntime) -> Result<(), Fail> {
+    let first = datagram(9);
+    let failing = Troubles { output: 1, ..NONE };
+    let played = play(rt.alloc(), &[GRANTED, ACCEPTED], &[&first], failing, 1)?;
     assert_eq!(rt; played.end(), RecordEnd::OutputFault);
     assert_eq!(rt; played.written().len(), 100);
-    let mut failing = quiet(&opened, &came);
-    failing.failing_sends = &thrice;
-    let played = play(alloc, &failing, 1)?;
+    Ok(())
+}
+
+#[test]
+fn a_last_request_that_fails_ends_it(rt: HostRuntime) -> Result<(), Fail> {
+    let first = datagram(9);
+    let failing = Troubles { send: 3, ..NONE };
+    let played = play(rt.alloc(), &[GRANTED, ACCEPTED], &[&first], failing, 1)?;
     assert_eq!(rt; played.end(), RecordEnd::PeerFault);
     assert_eq!(rt; played.sent().len(), OPENED.len() + 5);
-    let played = play(alloc, &quiet(&[GRANTED], &came), 1)?;
+    Ok(())
+}
+
+#[test]
+fn a_connection_that_ends_early_ends_it(rt: HostRuntime) -> Result<(), Fail> {
+    let played = play(rt.alloc(), &[GRANTED], &[], NONE, 1)?;
     assert_eq!(rt; played.end(), RecordEnd::Closed);
     assert!(rt; played.told() == b"closed\n".as_slice());
     Ok(())
@@ -222,7 +219,7 @@ fn faults_end_it(rt: HostRuntime) -> Result<(), Fail> {
 
 #[test]
 fn silence_ends_it(rt: HostRuntime) -> Result<(), Fail> {
-    let played = play(rt.alloc(), &quiet(&[GRANTED, ACCEPTED], &[]), 1)?;
+    let played = play(rt.alloc(), &[GRANTED, ACCEPTED], &[], NONE, 1)?;
     assert_eq!(rt; played.end(), RecordEnd::Silent);
     assert!(rt; played.told() == b"silent\n".as_slice());
     Ok(())
@@ -231,13 +228,13 @@ fn silence_ends_it(rt: HostRuntime) -> Result<(), Fail> {
 #[test]
 fn behind_a_line_that_fails_none_is_told(rt: HostRuntime) -> Result<(), Fail> {
     let (first, far) = (datagram(10), datagram(75));
-    let opened: [&[u8]; 2] = [GRANTED, ACCEPTED];
+    let failing = Troubles {
+        inlet: 3,
+        errors: 1,
+        ..NONE
+    };
     let came: [&[u8]; 2] = [&first, &far];
-    let mut failing = quiet(&opened, &came);
-    let (once, thrice) = ([1], [3]);
-    failing.failing_errors = &once;
-    failing.failing_inlet = &thrice;
-    let played = play(rt.alloc(), &failing, 6)?;
+    let played = play(rt.alloc(), &[GRANTED, ACCEPTED], &came, failing, 6)?;
     assert_eq!(rt; played.end(), RecordEnd::PeerFault);
     assert!(rt; played.told() == b"gap".as_slice());
     Ok(())
