@@ -1,7 +1,8 @@
 //! The command `serve` over loopback, and what the real desk can't have.
 
 use crate::desk::RealDesk;
-use satip_base::{MemorySink, MemorySource, Text};
+use satip_base::Text;
+use satip_memory::{MemorySink, MemorySource};
 use satip_program::satip;
 use std::alloc::Global;
 use std::io::{Read, Write};

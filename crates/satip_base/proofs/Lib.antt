@@ -2,4 +2,3 @@ pub mod NumberLemmas
 pub mod TextLemmas
 pub mod OutLemmas
 pub mod Writing
-pub mod StreamLemmas

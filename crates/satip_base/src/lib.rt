@@ -4,7 +4,6 @@
 mod adapters;
 mod identity;
 pub mod limits;
-mod memory;
 mod network;
 mod numbers;
 mod out;
@@ -18,7 +17,6 @@ mod words;
 
 pub use adapters::{ReadSource, WriteSink};
 pub use identity::{Draw, SessionId};
-pub use memory::{MemorySink, MemorySource};
 pub use network::{Address, Peer, Ports};
 pub use numbers::{read_ip, read_number};
 pub use out::Out;

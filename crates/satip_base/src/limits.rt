@@ -15,8 +15,11 @@ pub const PACKETS_A_DATAGRAM: usize = 7;
 /// Bytes of an RTP header without contributing sources (RFC 3550, 5.1).
 pub const RTP_HEAD: usize = 12;
 
+/// Bytes of the transport packets of an RTP datagram at most.
+pub const PAYLOAD: usize = PACKETS_A_DATAGRAM * PACKET;
+
 /// Bytes of an RTP datagram at most.
-pub const DATAGRAM: usize = RTP_HEAD + PACKETS_A_DATAGRAM * PACKET;
+pub const DATAGRAM: usize = RTP_HEAD + PAYLOAD;
 
 /// Bytes of the RTP datagrams of all sessions, one of each.
 pub const DATAGRAMS: usize = SESSIONS * DATAGRAM;

@@ -4,15 +4,14 @@ ghost use Rattle.std.specs.Prelude.{◌≡◌, ◌+◌, ◌≤◌, [], length, d
 ghost use Rattle.satip_base.specs.Printed.{Printed};
 ghost use Rattle.satip_base.specs.Texts.{address_text};
 
+use crate::limits::REPORT;
 use itoa::Buffer;
 use std::marker::Model;
-
-const ROOM: usize = 1600;
 
 /// A list of at most 1600 bytes. It takes no memory beside its own.
 #[derive(Drop)]
 pub struct Strip {
-    room: [u8; ROOM],
+    room: [u8; REPORT],
     count: usize,
 }
 
@@ -32,7 +31,7 @@ impl Strip {
         ensures empty { result ≡ [] }
     {
         Strip {
-            room: [0; ROOM],
+            room: [0; REPORT],
             count: 0,
         }
     }
@@ -40,14 +39,14 @@ impl Strip {
     /// What is printed onto it.
     pub fn bytes(&self) -> &[u8]
         ensures bytes { result.now ≡ self.now }
-        ensures limit { length self.now ≤ 1600 }
+        ensures limit { length self.now ≤ REPORT }
     {
         &self.room[..self.count]
     }
 
     /// Appends bytes.
     pub fn write(&mut self, bytes: &[u8])
-        requires room { length self.old + length bytes.now ≤ 1600 }
+        requires room { length self.old + length bytes.now ≤ REPORT }
         ensures printed { Printed self.old bytes.now self.new }
     {
         let end = self.count + bytes.len();
@@ -57,7 +56,7 @@ impl Strip {
 
     /// Appends a number, in decimal.
     pub fn write_number(&mut self, number: u64)
-        requires room { length self.old + length (decimal number) ≤ 1600 }
+        requires room { length self.old + length (decimal number) ≤ REPORT }
         ensures printed { Printed self.old (decimal number) self.new }
     {
         self.write(Buffer::new().format(number).as_bytes());

@@ -97,30 +97,6 @@ fn a_text_keeps_its_bytes(rt: HostRuntime) -> Result<(), Fail> {
 }
 
 #[test]
-fn a_memory_source_gives_pieces_and_fails_when_told(rt: HostRuntime) -> Result<(), Fail> {
-    let mut source = MemorySource::make(rt.alloc(), b"abcdef", &[2], &[2])?;
-    let mut buf = [0u8; 3];
-    assert_eq!(rt; source.take(&mut buf), Taken::Got(2));
-    assert_eq!(rt; source.take(&mut buf), Taken::Failed);
-    assert_eq!(rt; source.take(&mut buf), Taken::Got(3));
-    assert!(rt; buf == *b"cde");
-    assert_eq!(rt; source.take(&mut buf), Taken::Got(1));
-    assert_eq!(rt; source.take(&mut buf), Taken::End);
-    assert_eq!(rt; source.take(&mut buf), Taken::End);
-    Ok(())
-}
-
-#[test]
-fn a_memory_sink_keeps_what_is_put_and_fails_when_told(rt: HostRuntime) -> Result<(), Fail> {
-    let mut sink = MemorySink::make(rt.alloc(), &[2], 1)?;
-    assert_eq!(rt; sink.put(b"ab"), Put::Whole);
-    assert_eq!(rt; sink.put(b"cd"), Put::Failed);
-    assert_eq!(rt; sink.put(b"ef"), Put::Whole);
-    assert_eq!(rt; sink.sent(), b"abcef".as_slice());
-    Ok(())
-}
-
-#[test]
 fn the_adapters_read_and_write(rt: HostRuntime) -> Result<(), Fail> {
     let mut source = ReadSource::new(b"ab".as_slice());
     let mut buf = [0u8; 4];

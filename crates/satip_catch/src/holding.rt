@@ -7,6 +7,7 @@ ghost use Rattle.satip_catch.specs.Held.{IsNear, held_by, tail_held};
 use crate::packets::Packets;
 use crate::tail::Tail;
 use circular_buffer::HeapCircularBuffer;
+use satip_base::limits::PAYLOAD;
 
 pub(crate) const PLACES: usize = 64;
 
@@ -62,7 +63,7 @@ fn push_missing(ring: &mut Ring, count: u32)
 
 /// Holds the packets of a datagram that is so far ahead. False where it is held, or was passed.
 pub(crate) fn hold(ring: &mut Ring, tail: &mut Option<Tail>, ahead: usize, packets: &[u8]) -> bool
-    requires few { length packets.now ≤ 1316 }
+    requires few { length packets.now ≤ PAYLOAD }
     requires capacity { ring.old.capacity ≡ 64 }
     requires settled { tail.old ≡ None }
     ensures new { result ≡ is_new ahead ring.old.items }
@@ -87,7 +88,7 @@ pub(crate) fn hold(ring: &mut Ring, tail: &mut Option<Tail>, ahead: usize, packe
 
 /// Fills a place for which nothing came.
 fn fill(ring: &mut Ring, at: usize, packets: &[u8]) -> bool
-    requires few { length packets.now ≤ 1316 }
+    requires few { length packets.now ≤ PAYLOAD }
     requires within { at < length ring.old.items }
     ensures new { result ≡ is_new at ring.old.items }
     ensures held { ring.new.items

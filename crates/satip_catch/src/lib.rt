@@ -9,8 +9,6 @@ mod laws;
 mod packets;
 mod rtp;
 mod tail;
-#[cfg(test)]
-mod tests;
 mod view;
 
 pub use catcher::Catcher;

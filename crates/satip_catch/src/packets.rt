@@ -1,12 +1,13 @@
 //! `Packets`, which a clause sees as the list of the bytes.
 ghost use Rattle.std.specs.Prelude.{◌≡◌, ◌≤◌, length};
 
+use satip_base::limits::PAYLOAD;
 use std::marker::Model;
 
 /// The bytes of the packets of one datagram: at most 1316.
 #[derive(Drop)]
 pub struct Packets {
-    bytes: [u8; 1316],
+    bytes: [u8; PAYLOAD],
     length: u16,
 }
 
@@ -23,10 +24,10 @@ impl Model for Packets {
 impl Packets {
     /// A copy of these bytes.
     pub fn of(bytes: &[u8]) -> Packets
-        requires few { length bytes.now ≤ 1316 }
+        requires few { length bytes.now ≤ PAYLOAD }
         ensures bytes { result ≡ bytes.now }
     {
-        let mut copy = [0; 1316];
+        let mut copy = [0; PAYLOAD];
         copy[..bytes.len()].copy_from_slice(bytes);
         Packets {
             bytes: copy,

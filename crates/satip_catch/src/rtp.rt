@@ -4,12 +4,7 @@ ghost use Rattle.satip_catch.specs.Packets.{ArePackets};
 ghost use Rattle.satip_catch.specs.Rtp.{IsRtp, Says};
 
 use crate::view::RtpView;
-
-const HEADER: usize = 12;
-
-const PACKET: usize = 188;
-
-const MOST_PACKETS: usize = 7;
+use satip_base::limits::{PACKET, PACKETS_A_DATAGRAM, RTP_HEAD};
 
 const SYNC_BYTE: u8 = 0x47;
 
@@ -19,10 +14,10 @@ const SYNC_BYTE: u8 = 0x47;
 pub fn read_rtp(bytes: &[u8]) -> Option<RtpView<'_>>
     ensures read { MatchOption result (¬ IsRtp bytes.now) (λ view. Says bytes.now view) }
 {
-    if bytes.len() < HEADER {
+    if bytes.len() < RTP_HEAD {
         return None;
     }
-    let (header, packets) = bytes.split_at(HEADER);
+    let (header, packets) = bytes.split_at(RTP_HEAD);
     if header[0] != 0x80 || header[1] % 128 != 33 || !are_packets(packets) {
         return None;
     }
@@ -37,7 +32,7 @@ fn are_packets(bytes: &[u8]) -> bool
     ensures test { IsTrue result ↔ ArePackets bytes.now }
 {
     let count = bytes.len() / PACKET;
-    if bytes.len() % PACKET != 0 || count == 0 || count > MOST_PACKETS {
+    if bytes.len() % PACKET != 0 || count == 0 || count > PACKETS_A_DATAGRAM {
         return false;
     }
     for number in 0..count {

@@ -1,8 +1,8 @@
 //! Exchanges over memory.
 use crate::{Heard, Lease, Pulse, RecordEnd, keep_alive, set_up, start};
 use satip_base::{Strip, Want};
+use satip_memory::{MemoryClock, MemoryConn};
 use satip_requests::Page;
-use satip_world::{MemoryClock, MemoryConn};
 use std::alloc::Global;
 use std::test::Fail;
 

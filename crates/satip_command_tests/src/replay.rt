@@ -4,8 +4,9 @@ ghost use Rattle.satip_config.specs.Configuration.{Configuration};
 ghost use Rattle.satip_plain.specs.declared.events.Event.TheVariants.{Ask, Stop};
 ghost use Rattle.satip_replay.specs.Replays.{replayed};
 
-use satip_base::{MemorySink, MemorySource, ReadSource, Source};
+use satip_base::{ReadSource, Source};
 use satip_config::{ConfigFault, ConfigKey, ConfigName};
+use satip_memory::{MemorySink, MemorySource};
 use satip_replay::{ReplayEnd, replay};
 use std::alloc::Global;
 use std::io::{Read, repeat};

@@ -7,3 +7,4 @@ pub mod SessionLemmas
 pub mod BitLemmas
 pub mod RowLemmas
 pub mod Passing
+pub mod Remarking

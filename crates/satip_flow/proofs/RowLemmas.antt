@@ -1,20 +1,20 @@
 -- Subscribers stay marked where they select, when another slot is marked anew.
-use Rattle.std.proofs.Common.{ℕ, ◌≡◌, ◌≢◌, ◌+◌, ◌*◌, ◌/◌, ◌%◌, ◌<◌, ◌≤◌, zero, suc, Bool, true, false, cond, not, eqb, ◌&&◌, ◌||◌, List, [], ◌∷◌, length, map, set, get_or, bit_or, w64, ◌^◌, inl, inr, Option, refl, sym, ap, subst, ◌∙◌, arith}
+use Rattle.std.proofs.Common.{ℕ, ◌≡◌, ◌≢◌, ◌+◌, ◌*◌, ◌/◌, ◌%◌, ◌<◌, ◌≤◌, zero, suc, Bool, true, false, cond, not, eqb, ◌&&◌, ◌||◌, List, [], ◌∷◌, length, map, set, get_or, bit_or, w64, ◌^◌, inl, inr, ◌⊎◌, Option, refl, sym, ap, subst, ◌∙◌, arith}
 use Rattle.std.proofs.lemmas.Bool.{false≢true, cases_eq, cases_lt, eq-eqb}
 use Rattle.std.proofs.lemmas.Bool.Decides.{nat_tests}
 use Rattle.std.proofs.lemmas.Grind.{get_or-set_at}
-use Rattle.std.proofs.lemmas.List.{length-map, get_or-set_other, set-get_or}
-use Rattle.std.proofs.lemmas.Nat.Bits.{bit_at_set_same, bit_at_set_other}
+use Rattle.std.proofs.lemmas.List.{length-map, get_or-set_other, get_or_past, set-get_or}
+use Rattle.std.proofs.lemmas.Nat.Bits.{bit_at-zero, bit_at_set_same, bit_at_set_other}
 use Rattle.std.specs.Int.{bit_at}
 use Rattle.std.specs.List.{list_any}
 use Rattle.satip_ts.specs.Packet.{pid_of}
 use Rattle.satip_pids.specs.Pids.{Pids, has_pid}
 use Rattle.satip_flow.specs.declared.place.Place.{Place}
-use Rattle.satip_flow.specs.Subscription.{Subscription, Feed, subscription, has_slot, is_at, is_of, selects, changed}
+use Rattle.satip_flow.specs.Subscription.{Subscription, Feed, subscription, has_slot, is_at, is_of, takes, selects, changed}
 use Rattle.satip_flow.specs.Subscriptions.{SlotsApart, IsFrontOrNone, comes_before, put, without}
 use Rattle.satip_flow.specs.Bits.{IsNextBit}
 use Rattle.satip_flow.specs.Standing.{IsNowhere}
-use Rattle.satip_flow.specs.Rows.{marks, IsMarked, KeepsOthers, IsShown, AllShown, IsPlaced}
+use Rattle.satip_flow.specs.Rows.{marks, IsMarked, KeepsOthers, IsShown, AllShown, IsPlaced, NoneMarked}
 use Rattle.satip_flow.proofs.Slots.{or_false, slot_is, read_same, slot_below, at_most_64, nowhere}
 
 -- two changes of one slot are a change of it
@@ -265,3 +265,28 @@ nowhere_other slot places xs one placed within is other =
     let at : get_or places slot 0 ≡ i = ap (λ n. get_or places n 0) (sym same) ∙ placed i d h in
     let one_is : one ≡ get_or xs i d = is ∙ ap (λ j. get_or xs j one) at ∙ read_same xs i one d h in
     absurd (other (ap (λ s. s.place.slot) one_is ∙ same))))
+
+-- where no slot is marked, no subscriber takes packets
+marks_none : (rows : List ℕ) (front pid : ℕ) → NoneMarked rows → marks rows front pid ≡ 0
+marks_none rows zero pid none = refl
+marks_none rows (suc front) pid none = each (cases_lt (128 * front + pid / 64) (length rows))
+  where
+    each : (128 * front + pid / 64 < length rows) ⊎ (length rows ≤ 128 * front + pid / 64) → get_or rows (128 * front + pid / 64) 0 ≡ 0
+    each (inl within) = none (128 * front + pid / 64) within
+    each (inr past) = get_or_past rows (128 * front + pid / 64) 0 past
+
+one_takes : (rows : List ℕ) (s : Subscription) (front pid : ℕ) → NoneMarked rows → IsShown rows s → pid < 8192 → takes front pid s ≡ false
+one_takes rows s front pid none shown below = each (is_at front s.front) (has_pid s.pids pid) refl refl
+  where
+    each : (at has : Bool) → is_at front s.front ≡ at → has_pid s.pids pid ≡ has → (at && has) ≡ false
+    each false has is_it has_it = refl
+    each true false is_it has_it = refl
+    each true true is_it has_it =
+        let one = shown.marked front pid is_it below has_it in
+        let zero_there = ap (λ word. bit_at word s.place.slot) (marks_none rows front pid none) ∙ bit_at-zero s.place.slot in
+        absurd (omega (arith, one, zero_there))
+
+pub none_takes : (rows : List ℕ) (xs : List Subscription) → NoneMarked rows → AllShown rows xs → (front pid : ℕ) → pid < 8192 → list_any (takes front pid) xs ≡ false
+none_takes rows [] none shown front pid below = refl
+none_takes rows (x ∷ xs) none (one, others) front pid below =
+    ap (λ t. t || list_any (takes front pid) xs) (one_takes rows x front pid none one below) ∙ none_takes rows xs none others front pid below

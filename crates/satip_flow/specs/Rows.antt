@@ -14,6 +14,10 @@ marks rows (suc front) pid = slice_index_or rows (128 * front + pid / 64) 0
 abbrev pub IsMarked : List ℕ → ℕ → Option ℕ → Pids → Type 0
 IsMarked rows slot own pids = (front pid : ℕ) → is_at front own ≡ true → pid < 8192 → has_pid pids pid ≡ true → bit_at (marks rows front pid) slot ≡ 1
 
+-- no slot is marked
+abbrev pub NoneMarked : List ℕ → Type 0
+NoneMarked rows = (at : ℕ) → at < length rows → slice_index_or rows at 0 ≡ 0
+
 -- the other slots are marked as they were
 abbrev pub KeepsOthers : ℕ → List ℕ → List ℕ → Type 0
 KeepsOthers slot old new = (at other : ℕ) → other < 64 → other ≢ slot → bit_at (slice_index_or new at 0) other ≡ bit_at (slice_index_or old at 0) other

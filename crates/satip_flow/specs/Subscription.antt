@@ -57,6 +57,10 @@ abbrev pub fed_datagrams : List ℕ → ℕ → Feed → List Datagram
 fed_datagrams packet clock (ToAddress to p) = leaving false (holding p packet) clock to
 fed_datagrams packet clock (ToQueue packets) = []
 
+-- whether it takes packets of a front and a PID
+abbrev pub takes : ℕ → ℕ → Subscription → Bool
+takes front pid s = is_at front s.front && has_pid s.pids pid
+
 -- a packet of a front is given to it, if it selects the packet
 abbrev pub given : ℕ → List ℕ → Subscription → Subscription
 given front packet s = if selects front packet s then record s { feed = fed packet s.feed } else s

@@ -5,7 +5,7 @@ ghost use Rattle.std.specs.Int.{bit_at};
 ghost use Rattle.circular_buffer.specs.Buffer.{buffer};
 ghost use Rattle.satip_rtp.specs.Sending.{SendsAll};
 ghost use Rattle.satip_rtp.specs.Packing.{packing};
-ghost use Rattle.satip_flow.specs.Subscription.{sender_state, pulled_bytes, WrotePulled, subscription, Subscription, ToAddress, ToQueue, has_slot, given, given_datagrams, flushed, flush_datagrams, holds, readdressed, pulled, changed, meets_full, packing_of, queue_of, selects};
+ghost use Rattle.satip_flow.specs.Subscription.{sender_state, pulled_bytes, WrotePulled, subscription, Subscription, ToAddress, ToQueue, has_slot, takes, given, given_datagrams, flushed, flush_datagrams, holds, readdressed, pulled, changed, meets_full, packing_of, queue_of, selects};
 ghost use Rattle.satip_flow.specs.Rows.{AllShown, IsPlaced};
 ghost use Rattle.satip_flow.specs.Standing.{IsNowhere, StandsAt, HoldsOfAt, ChangesAt};
 ghost use Rattle.satip_flow.specs.Queues.{has_queue};
@@ -14,10 +14,10 @@ ghost use Rattle.satip_flow.specs.Subscriptions.{put, comes_before, change_slot,
 use crate::bits::next_bit;
 use crate::place::{Place, SenderState};
 use crate::places::{note_places, places_of};
-use crate::rows::{make_rows, mark, slots_of, unmark};
+use crate::rows::{are_unmarked, make_rows, mark, remark, slots_of, unmark};
 use crate::sink::Queue;
 use crate::subscriber::Subscriber;
-use satip_base::limits::{QUEUED, SESSIONS};
+use satip_base::limits::{DATAGRAM, DATAGRAMS, PULLED_BYTES, QUEUED, SESSIONS};
 use satip_base::{Address, Out, Want};
 use satip_pids::PidSet;
 use satip_rtp::Packer;
@@ -131,14 +131,14 @@ impl Flow {
     /// Gives a packet of a front to each subscriber that stands there and selects it. Bit k of the
     /// answer is set exactly where the packet met the full queue of the subscriber in slot k.
     pub fn packet(&mut self, front: u16, packet: &Packet, clock: u64, out: &mut Out) -> u64
-        requires bytes { 84992 ≤ out.old.datagram_spare }
+        requires bytes { DATAGRAMS ≤ out.old.datagram_spare }
         requires count { 64 ≤ out.old.count_spare }
         ensures given { self.new ≡ map (given front packet.now) self.old }
         ensures sent { SendsAll out.old
             (flat_map (given_datagrams front packet.now clock) self.old) out.new }
         ensures overrun { (slot : ℕ)
             → bit_at result slot ≡ (if is_overrun front packet.now self.old slot then 1 else 0) }
-        ensures bytes_spare { out.old.datagram_spare ≤ out.new.datagram_spare + 84992 }
+        ensures bytes_spare { out.old.datagram_spare ≤ out.new.datagram_spare + DATAGRAMS }
         ensures count_spare { out.old.count_spare ≤ out.new.count_spare + 64 }
     {
         let slots = slots_of(&self.rows, front, packet.pid());
@@ -149,13 +149,13 @@ impl Flow {
     /// What the packer of the slot's subscriber holds leaves. False exactly where the slot has no
     /// subscriber that gets datagrams, or its packer holds nothing.
     pub fn flush(&mut self, slot: u16, clock: u64, out: &mut Out) -> bool
-        requires bytes { 1328 ≤ out.old.datagram_spare }
+        requires bytes { DATAGRAM ≤ out.old.datagram_spare }
         requires count { out.old.count_spare ≢ 0 }
         ensures held { result ≡ holds_any (feed_of_slot slot self.old) }
         ensures flushed { self.new ≡ change_slot slot flushed self.old }
         ensures sent { SendsAll out.old
             (flushed_datagrams clock (feed_of_slot slot self.old)) out.new }
-        ensures bytes_spare { out.old.datagram_spare ≤ out.new.datagram_spare + 1328 }
+        ensures bytes_spare { out.old.datagram_spare ≤ out.new.datagram_spare + DATAGRAM }
         ensures count_spare { out.old.count_spare ≤ out.new.count_spare + 1 }
     {
         let Some(at) = place_of(&self.subscribers, &self.places, slot) else {
@@ -167,7 +167,7 @@ impl Flow {
     /// Moves the first packets of the slot's queue, at most 64, to the reply, and answers the
     /// number of their bytes. None exactly where the slot has no subscriber with a queue.
     pub fn pull(&mut self, slot: u16, out: &mut Out) -> Option<usize>
-        requires room { 12032 ≤ out.old.reply_spare }
+        requires room { PULLED_BYTES ≤ out.old.reply_spare }
         ensures bytes { result ≡ pulled_bytes (queue_of_slot slot self.old) }
         ensures pulled { self.new ≡ change_slot slot pulled self.old }
         ensures wrote { WrotePulled (queue_of_slot slot self.old) out.old out.new }
@@ -204,15 +204,13 @@ impl Flow {
         true
     }
 
-    /// Whether no slot is marked.
-    #[cfg(test)]
-    pub(crate) fn is_unmarked(&self) -> bool {
-        for row in &self.rows {
-            if *row != 0 {
-                return false;
-            }
-        }
-        true
+    /// Whether no slot is marked as one whose subscriber may select a packet. Then no subscriber
+    /// selects any; once all have ended it's true, but no clause says so.
+    pub fn is_unmarked(&self) -> bool
+        ensures unselected { result ≡ true → (front pid : ℕ) → pid < 8192
+            → list_any (takes front pid) self.now ≡ false }
+    {
+        are_unmarked(&self.rows)
     }
 }
 
@@ -332,9 +330,8 @@ fn change_at(
 {
     let place = subscribers[at].place();
     if place.stream == stream {
-        unmark(rows, place.slot, subscribers[at].front());
+        remark(rows, &subscribers[at], front, pids);
         subscribers[at].change(stream, front, pids);
-        mark(rows, place.slot, front, pids);
     }
 }
 
@@ -349,13 +346,13 @@ fn readdress_at(subscribers: &mut Vec<Subscriber>, at: usize, to: Address) -> bo
 
 fn flush_at(subscribers: &mut Vec<Subscriber>, at: usize, clock: u64, out: &mut Out) -> bool
     requires within { at < vec_len subscribers.old }
-    requires bytes { 1328 ≤ out.old.datagram_spare }
+    requires bytes { DATAGRAM ≤ out.old.datagram_spare }
     requires count { out.old.count_spare ≢ 0 }
     ensures changed { ChangesAt subscribers.old.items at flushed subscribers.new.items }
     ensures sent { HoldsOfAt subscribers.old.items at
         (λ s. SendsAll out.old (flush_datagrams clock s.feed) out.new) }
     ensures held { HoldsOfAt subscribers.old.items at (λ s. result ≡ holds s.feed) }
-    ensures bytes_spare { out.old.datagram_spare ≤ out.new.datagram_spare + 1328 }
+    ensures bytes_spare { out.old.datagram_spare ≤ out.new.datagram_spare + DATAGRAM }
     ensures count_spare { out.old.count_spare ≤ out.new.count_spare + 1 }
     ensures capacity { vec_capacity subscribers.new ≡ vec_capacity subscribers.old }
 {
@@ -364,7 +361,7 @@ fn flush_at(subscribers: &mut Vec<Subscriber>, at: usize, clock: u64, out: &mut 
 
 fn pull_at(subscribers: &mut Vec<Subscriber>, at: usize, out: &mut Out) -> Option<usize>
     requires within { at < vec_len subscribers.old }
-    requires room { 12032 ≤ out.old.reply_spare }
+    requires room { PULLED_BYTES ≤ out.old.reply_spare }
     ensures changed { ChangesAt subscribers.old.items at pulled subscribers.new.items }
     ensures wrote { HoldsOfAt subscribers.old.items at
         (λ s. WrotePulled (queue_of s.feed) out.old out.new) }
@@ -389,7 +386,7 @@ fn give_all(
     requires selected { (at : ℕ) → at < length subscribers.old.items
         → HoldsOfAt subscribers.old.items at (λ s. selects front packet.now s ≡ true
         → bit_at places at ≡ 1) }
-    requires bytes { 84992 ≤ out.old.datagram_spare }
+    requires bytes { DATAGRAMS ≤ out.old.datagram_spare }
     requires count { 64 ≤ out.old.count_spare }
     ensures given { subscribers.new.items ≡ map (given front packet.now) subscribers.old.items }
     ensures sent { SendsAll out.old
@@ -398,7 +395,7 @@ fn give_all(
         → bit_at result slot
         ≡ (if is_overrun front packet.now subscribers.old.items slot then 1 else 0) }
     ensures capacity { vec_capacity subscribers.new ≡ vec_capacity subscribers.old }
-    ensures bytes_spare { out.old.datagram_spare ≤ out.new.datagram_spare + 84992 }
+    ensures bytes_spare { out.old.datagram_spare ≤ out.new.datagram_spare + DATAGRAMS }
     ensures count_spare { out.old.count_spare ≤ out.new.count_spare + 64 }
 {
     let mut overrun = 0;
@@ -421,7 +418,7 @@ fn give_at(
 ) -> u64
     requires within { at < vec_len subscribers.old }
     requires slot { HoldsOfAt subscribers.old.items at (λ s. s.place.slot < 64) }
-    requires bytes { 1328 ≤ out.old.datagram_spare }
+    requires bytes { DATAGRAM ≤ out.old.datagram_spare }
     requires count { out.old.count_spare ≢ 0 }
     ensures changed { ChangesAt subscribers.old.items at
         (given front packet.now) subscribers.new.items }
@@ -430,7 +427,7 @@ fn give_at(
     ensures overrun { HoldsOfAt subscribers.old.items at (λ s. (slot : ℕ)
         → bit_at result slot ≡ (if meets_full front packet.now slot s then 1 else 0)) }
     ensures capacity { vec_capacity subscribers.new ≡ vec_capacity subscribers.old }
-    ensures bytes_spare { out.old.datagram_spare ≤ out.new.datagram_spare + 1328 }
+    ensures bytes_spare { out.old.datagram_spare ≤ out.new.datagram_spare + DATAGRAM }
     ensures count_spare { out.old.count_spare ≤ out.new.count_spare + 1 }
 {
     let slot = subscribers[at].place().slot;

@@ -7,13 +7,9 @@ mod flow;
 mod laws;
 mod place;
 mod places;
-#[cfg(test)]
-mod plain;
 mod rows;
 mod sink;
 mod subscriber;
-#[cfg(test)]
-mod tests;
 
 pub use flow::Flow;
 pub use laws::each_call_keeps_rest;

@@ -1,12 +1,13 @@
 //! Which slots have a subscriber that may select a packet: a word for each front end and 64 PIDs,
 //! with a bit for each slot.
-ghost use Rattle.std.specs.Prelude.{◌≡◌, ◌≢◌, ◌+◌, ◌*◌, ◌/◌, ◌<◌, ◌≤◌, ℕ, [], true, vec_len, length, slice_index_or, if◌then◌else◌, IfOk};
+ghost use Rattle.std.specs.Prelude.{◌≡◌, ◌≢◌, ◌+◌, ◌*◌, ◌/◌, ◌<◌, ◌≤◌, ◌↔◌, ℕ, [], true, vec_len, length, slice_index_or, if◌then◌else◌, IfOk, IsTrue};
 ghost use Rattle.std.specs.Int.{bit_at};
 ghost use Rattle.satip_pids.specs.Pids.{has_pid};
 ghost use Rattle.satip_flow.specs.Subscriptions.{IsFrontOrNone};
-ghost use Rattle.satip_flow.specs.Rows.{marks, IsMarked, KeepsOthers};
+ghost use Rattle.satip_flow.specs.Rows.{marks, IsMarked, IsShown, KeepsOthers, NoneMarked};
 
 use crate::bits::with_bit;
+use crate::subscriber::Subscriber;
 use satip_base::Want;
 use satip_base::limits::FRONTS;
 use satip_pids::PidSet;
@@ -66,6 +67,84 @@ pub(crate) fn unmark(rows: &mut Vec<u64>, slot: u16, front: Option<u16>)
     if let Some(front) = front {
         unmark_front(rows, WORDS * (front as usize - 1), slot);
     }
+}
+
+/// Whether no slot is marked anywhere.
+pub(crate) fn are_unmarked(rows: &[u64]) -> bool
+    ensures unmarked { IsTrue result ↔ NoneMarked rows.now }
+{
+    for row in rows {
+        if *row != 0 {
+            return false;
+        }
+    }
+    true
+}
+
+/// Marks the slot of a subscriber, which is marked where it selects, for another front end or other
+/// PIDs instead. At the same front end only the words change whose PIDs do.
+pub(crate) fn remark(
+    rows: &mut Vec<u64>,
+    subscriber: &Subscriber,
+    front: Option<u16>,
+    pids: &PidSet,
+)
+    requires count { vec_len rows.old ≡ 2048 }
+    requires slot { subscriber.now.place.slot < 64 }
+    requires shown { IsShown rows.old.items subscriber.now }
+    requires front { IsFrontOrNone front }
+    ensures marked { IsMarked rows.new.items subscriber.now.place.slot front pids.now }
+    ensures others { KeepsOthers subscriber.now.place.slot rows.old.items rows.new.items }
+    ensures count { vec_len rows.new ≡ 2048 }
+{
+    let slot = subscriber.place().slot;
+    let own = subscriber.front();
+    if own != front {
+        unmark(rows, slot, own);
+        mark(rows, slot, front, pids);
+        return;
+    }
+    if let Some(front) = front {
+        let start = WORDS * (front as usize - 1);
+        remark_front(rows, start, slot, subscriber.pids(), pids);
+    }
+}
+
+// Marks a slot in the words from a place on for other PIDs than it is marked for.
+fn remark_front(rows: &mut Vec<u64>, start: usize, slot: u16, old: &PidSet, pids: &PidSet)
+    requires within { start + 128 ≤ vec_len rows.old }
+    requires slot { slot < 64 }
+    requires marked { (pid : ℕ) → pid < 8192 → has_pid old.now pid ≡ true
+        → bit_at (slice_index_or rows.old.items (start + pid / 64) 0) slot ≡ 1 }
+    ensures marked { (pid : ℕ) → pid < 8192 → has_pid pids.now pid ≡ true
+        → bit_at (slice_index_or rows.new.items (start + pid / 64) 0) slot ≡ 1 }
+    ensures others { KeepsOthers slot rows.old.items rows.new.items }
+    ensures count { vec_len rows.new ≡ vec_len rows.old }
+{
+    for at in 0..WORDS {
+        remark_word(rows, start, at, slot, old, pids);
+    }
+}
+
+// Marks a slot in one of these words, which stays where the sets have the same of its PIDs.
+fn remark_word(rows: &mut Vec<u64>, start: usize, at: usize, slot: u16, old: &PidSet, pids: &PidSet)
+    requires within { start + 128 ≤ vec_len rows.old }
+    requires word { at < 128 }
+    requires slot { slot < 64 }
+    ensures marked { (pid : ℕ) → pid / 64 ≡ at → (has_pid old.now pid ≡ true
+        → bit_at (slice_index_or rows.old.items (start + at) 0) slot ≡ 1)
+        → has_pid pids.now pid ≡ true
+        → bit_at (slice_index_or rows.new.items (start + at) 0) slot ≡ 1 }
+    ensures elsewhere { (place : ℕ) → place ≢ start + at
+        → slice_index_or rows.new.items place 0 ≡ slice_index_or rows.old.items place 0 }
+    ensures others { KeepsOthers slot rows.old.items rows.new.items }
+    ensures count { vec_len rows.new ≡ vec_len rows.old }
+{
+    let word = pids.word(at);
+    if word == old.word(at) {
+        return;
+    }
+    rows[start + at] = with_bit(rows[start + at], slot, word != 0);
 }
 
 // Marks a slot in the words from a place on.

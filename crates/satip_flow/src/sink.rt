@@ -8,7 +8,7 @@ ghost use Rattle.satip_flow.specs.Sinks.{feed_of, IsSink};
 ghost use Rattle.satip_flow.specs.Subscription.{pulled_bytes, WrotePulled, is_full, fed, fed_datagrams, flushed_feed, flush_datagrams, holds, pulled_feed, queue_of};
 
 use circular_buffer::HeapCircularBuffer;
-use satip_base::limits::{PACKET, PULLED};
+use satip_base::limits::{DATAGRAM, PACKET, PULLED, PULLED_BYTES};
 use satip_base::{Address, Out};
 use satip_rtp::Packer;
 use satip_ts::Packet;
@@ -26,13 +26,13 @@ pub(crate) enum Sink {
 /// Gives a packet to a packer or a queue. True where the queue is full.
 pub(crate) fn feed(sink: &mut Sink, packet: &Packet, clock: u64, out: &mut Out) -> bool
     requires sound { IsSink sink.old }
-    requires bytes { 1328 ≤ out.old.datagram_spare }
+    requires bytes { DATAGRAM ≤ out.old.datagram_spare }
     requires count { out.old.count_spare ≢ 0 }
     ensures sound { IsSink sink.new }
     ensures fed { feed_of sink.new ≡ fed packet.now (feed_of sink.old) }
     ensures sent { SendsAll out.old (fed_datagrams packet.now clock (feed_of sink.old)) out.new }
     ensures full { result ≡ is_full (feed_of sink.old) }
-    ensures bytes_spare { out.old.datagram_spare ≤ out.new.datagram_spare + 1328 }
+    ensures bytes_spare { out.old.datagram_spare ≤ out.new.datagram_spare + DATAGRAM }
     ensures count_spare { out.old.count_spare ≤ out.new.count_spare + 1 }
 {
     match sink {
@@ -47,13 +47,13 @@ pub(crate) fn feed(sink: &mut Sink, packet: &Packet, clock: u64, out: &mut Out) 
 /// Sends what a packer holds. False where that is nothing.
 pub(crate) fn flush_sink(sink: &mut Sink, clock: u64, out: &mut Out) -> bool
     requires sound { IsSink sink.old }
-    requires bytes { 1328 ≤ out.old.datagram_spare }
+    requires bytes { DATAGRAM ≤ out.old.datagram_spare }
     requires count { out.old.count_spare ≢ 0 }
     ensures sound { IsSink sink.new }
     ensures flushed { feed_of sink.new ≡ flushed_feed (feed_of sink.old) }
     ensures sent { SendsAll out.old (flush_datagrams clock (feed_of sink.old)) out.new }
     ensures held { result ≡ holds (feed_of sink.old) }
-    ensures bytes_spare { out.old.datagram_spare ≤ out.new.datagram_spare + 1328 }
+    ensures bytes_spare { out.old.datagram_spare ≤ out.new.datagram_spare + DATAGRAM }
     ensures count_spare { out.old.count_spare ≤ out.new.count_spare + 1 }
 {
     match sink {
@@ -65,7 +65,7 @@ pub(crate) fn flush_sink(sink: &mut Sink, clock: u64, out: &mut Out) -> bool
 /// Moves the first 64 packets of a queue to the reply, and answers the number of their bytes.
 pub(crate) fn pull_sink(sink: &mut Sink, out: &mut Out) -> Option<usize>
     requires sound { IsSink sink.old }
-    requires room { 12032 ≤ out.old.reply_spare }
+    requires room { PULLED_BYTES ≤ out.old.reply_spare }
     ensures sound { IsSink sink.new }
     ensures pulled { feed_of sink.new ≡ pulled_feed (feed_of sink.old) }
     ensures wrote { WrotePulled (queue_of (feed_of sink.old)) out.old out.new }
@@ -79,10 +79,10 @@ pub(crate) fn pull_sink(sink: &mut Sink, out: &mut Out) -> Option<usize>
 
 // Moves the first 64 packets to the reply, and answers the number of their bytes.
 fn pull_queue(queue: &mut Queue, out: &mut Out) -> usize
-    requires room { 12032 ≤ out.old.reply_spare }
+    requires room { PULLED_BYTES ≤ out.old.reply_spare }
     ensures left { queue.new ≡ buffer (drop 64 queue.old.items) queue.old.capacity }
     ensures wrote { Wrote out.old (concat (take 64 queue.old.items)) out.new }
-    ensures bytes { result ≡ 188 * length (take 64 queue.old.items) }
+    ensures bytes { result ≡ PACKET * length (take PULLED queue.old.items) }
 {
     let mut bytes = 0;
     for _pulled in 0..PULLED {
@@ -93,10 +93,10 @@ fn pull_queue(queue: &mut Queue, out: &mut Out) -> usize
 
 // Moves the first packet to the reply, if there is one, and answers the number of its bytes.
 fn pull_packet(queue: &mut Queue, out: &mut Out) -> usize
-    requires room { 188 ≤ out.old.reply_spare }
+    requires room { PACKET ≤ out.old.reply_spare }
     ensures left { queue.new ≡ buffer (drop 1 queue.old.items) queue.old.capacity }
     ensures wrote { Wrote out.old (concat (take 1 queue.old.items)) out.new }
-    ensures bytes { result ≡ 188 * length (take 1 queue.old.items) }
+    ensures bytes { result ≡ PACKET * length (take 1 queue.old.items) }
     ensures spare { out.new.reply_spare + result ≡ out.old.reply_spare }
 {
     match queue.pop_front() {

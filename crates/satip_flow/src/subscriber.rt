@@ -6,6 +6,7 @@ ghost use Rattle.satip_flow.specs.Subscription.{sender_state, pulled_bytes, Wrot
 
 use crate::place::{Place, SenderState};
 use crate::sink::{Queue, Sink, feed, flush_sink, pull_sink};
+use satip_base::limits::{DATAGRAM, PULLED_BYTES};
 use satip_base::{Address, Out};
 use satip_pids::PidSet;
 use satip_rtp::Packer;
@@ -83,6 +84,12 @@ impl Subscriber {
         self.front
     }
 
+    pub(crate) fn pids(&self) -> &PidSet
+        ensures pids { result.now ≡ self.now.pids }
+    {
+        &self.pids
+    }
+
     /// Whether a packet of a front is for this subscriber.
     pub(crate) fn selects(&self, front: u16, packet: &Packet) -> bool
         ensures selected { result ≡ selects front packet.now self.now }
@@ -96,12 +103,12 @@ impl Subscriber {
     /// Gives it a packet of a front, if it selects the packet. True where the packet met a full
     /// queue.
     pub(crate) fn give(&mut self, front: u16, packet: &Packet, clock: u64, out: &mut Out) -> bool
-        requires bytes { 1328 ≤ out.old.datagram_spare }
+        requires bytes { DATAGRAM ≤ out.old.datagram_spare }
         requires count { out.old.count_spare ≢ 0 }
         ensures given { self.new ≡ given front packet.now self.old }
         ensures sent { SendsAll out.old (given_datagrams front packet.now clock self.old) out.new }
         ensures overrun { result ≡ overruns front packet.now self.old }
-        ensures bytes_spare { out.old.datagram_spare ≤ out.new.datagram_spare + 1328 }
+        ensures bytes_spare { out.old.datagram_spare ≤ out.new.datagram_spare + DATAGRAM }
         ensures count_spare { out.old.count_spare ≤ out.new.count_spare + 1 }
     {
         if !self.selects(front, packet) {
@@ -112,12 +119,12 @@ impl Subscriber {
 
     /// Sends what its packer holds. False where that is nothing, and where it has a queue.
     pub(crate) fn flush(&mut self, clock: u64, out: &mut Out) -> bool
-        requires bytes { 1328 ≤ out.old.datagram_spare }
+        requires bytes { DATAGRAM ≤ out.old.datagram_spare }
         requires count { out.old.count_spare ≢ 0 }
         ensures flushed { self.new ≡ flushed self.old }
         ensures sent { SendsAll out.old (flush_datagrams clock self.old.feed) out.new }
         ensures held { result ≡ holds self.old.feed }
-        ensures bytes_spare { out.old.datagram_spare ≤ out.new.datagram_spare + 1328 }
+        ensures bytes_spare { out.old.datagram_spare ≤ out.new.datagram_spare + DATAGRAM }
         ensures count_spare { out.old.count_spare ≤ out.new.count_spare + 1 }
     {
         flush_sink(&mut self.sink, clock, out)
@@ -149,7 +156,7 @@ impl Subscriber {
 
     /// Moves at most 64 packets of its queue to the reply, and answers the number of their bytes.
     pub(crate) fn pull(&mut self, out: &mut Out) -> Option<usize>
-        requires room { 12032 ≤ out.old.reply_spare }
+        requires room { PULLED_BYTES ≤ out.old.reply_spare }
         ensures pulled { self.new ≡ pulled self.old }
         ensures wrote { WrotePulled (queue_of self.old.feed) out.old out.new }
         ensures bytes { result ≡ pulled_bytes (queue_of self.old.feed) }

@@ -4,7 +4,7 @@ use Rattle.satip_frame.specs.declared.framing.Break.TheVariants.{Bad, TooLong}
 use Rattle.satip_frame.specs.Said.{Said}
 use Rattle.satip_frame.specs.Stream.{Tail, Unfinished, Broken, Messages, Leads}
 use Rattle.satip_frame.specs.Held.{Held, new_framer, step_of, Tells}
-use Rattle.satip_frame.specs.Calls.{Call, Took, Found, Told, Does, DoAll, fed, handed, HandsOutFirst, MissesNothing}
+use Rattle.satip_frame.specs.Calls.{Call, Took, Found, Told, Does, DoEach, DoAll, fed, handed, HandsOutFirst, MissesNothing}
 use Rattle.satip_frame.proofs.FramerLemmas.{leads_on}
 
 told_leads : (tail : Tail) (text : List ℕ) (ms : List Said) (new : Held) → Tells text ms new (step_of tail) → Leads text ms new.bytes
@@ -37,13 +37,13 @@ pub hands_out_first : HandsOutFirst
 hands_out_first calls held all = (held.bytes, leads_by_calls new_framer calls held all [] [] refl)
 
 -- what the last of a list of calls did
-last_does : (old : Held) (calls : List Call) (call : Call) (new : Held) → DoAll old (calls ++ call ∷ []) new
-    → (before : Held) × DoAll old calls before × Does before call new
-last_does old [] call new (next, does, same) = (old, refl, subst (Does old call) same does)
-last_does old (first ∷ calls) call new (next, does, all) =
-    let (before, run, last) = last_does next calls call new all in (before, (next, does, run), last)
+pub last_does : {Holder : Type 0} (does : Holder → Call → Holder → Type 0) (old : Holder) (calls : List Call) (call : Call) (new : Holder)
+    → DoEach does old (calls ++ call ∷ []) new → (before : Holder) × DoEach does old calls before × does before call new
+last_does does old [] call new (next, done, same) = (old, refl, subst (does old call) same done)
+last_does does old (first ∷ calls) call new (next, done, all) =
+    let (before, run, last) = last_does does next calls call new all in (before, (next, done, run), last)
 
 pub misses_nothing : MissesNothing
 misses_nothing calls tail held all =
-    let (before, run, last) = last_does new_framer calls (Told tail) held all in
+    let (before, run, last) = last_does Does new_framer calls (Told tail) held all in
     told_messages tail (fed calls) (handed calls) held (last (fed calls) (handed calls) (leads_by_calls new_framer calls before run [] [] refl))

@@ -277,7 +277,7 @@ record FirstEnd (text : List ℕ) (n : ℕ) : Type 0 where
   ends : IsTrue (ends_in_empty_line (take at text))
   first : (k : ℕ) → k < at → IsTrue (ends_in_empty_line (take k text)) → ⊥
 
-no_line_first : (text : List ℕ) (k : ℕ) → k ≤ 0 → IsTrue (ends_in_empty_line (take k text)) → ⊥
+pub no_line_first : (text : List ℕ) (k : ℕ) → k ≤ 0 → IsTrue (ends_in_empty_line (take k text)) → ⊥
 no_line_first text k none ends =
     let zero_is : k ≡ 0 = omega arith in
     let at_zero : false ≡ true = subst (λ j. IsTrue (ends_in_empty_line (take j text))) zero_is ends in cc

@@ -159,7 +159,7 @@ has_head_more {text} {h} {m} {b} more has = record {
   good = subst (λ t. IsGoodHead t m b) (sym (take_more text more h h (omega arith) has.end.in_range)) has.good;
 }
 
-begins_more : {text : List ℕ} {m : Said} {rest : List ℕ} (more : List ℕ) → Begins text m rest → Begins (text ++ more) m (rest ++ more)
+pub begins_more : {text : List ℕ} {m : Said} {rest : List ℕ} (more : List ℕ) → Begins text m rest → Begins (text ++ more) m (rest ++ more)
 begins_more {text} {m} {rest} more x = record {
   head = x.head;
   body = x.body;
@@ -169,7 +169,7 @@ begins_more {text} {m} {rest} more x = record {
   rest_is = ap (λ r. r ++ more) x.rest_is ∙ sym (drop-append-le (x.head + x.body) text more x.whole);
 }
 
-broken_more : (text : List ℕ) (cause : Break) (more : List ℕ) → Ends text (Broken cause) → Ends (text ++ more) (Broken cause)
+pub broken_more : (text : List ℕ) (cause : Break) (more : List ℕ) → Ends text (Broken cause) → Ends (text ++ more) (Broken cause)
 broken_more text Bad more (inl endless) =
     inl (omega (arith, endless.0, length-append text more), no_line_more text more 8192 endless.0 endless.1)
 broken_more text Bad more (inr bad) =
@@ -202,7 +202,7 @@ skip_shorter_by b text true e again = rw e (omega arith)
 skip_shorter_by b text false e again = rw e (omega arith)
 
 -- the text behind its line ends, when more bytes come
-skip_newlines-append : (text more : List ℕ) → skip_newlines (text ++ more) ≡ skip_newlines (skip_newlines text ++ more)
+pub skip_newlines-append : (text more : List ℕ) → skip_newlines (text ++ more) ≡ skip_newlines (skip_newlines text ++ more)
 skip_newlines-append [] more = refl
 skip_newlines-append (b ∷ text) more = skip_append_by b text more (is_newline b) refl (skip_newlines-append text more)
 
@@ -234,7 +234,7 @@ begins_skipped_more text more m rest x =
     let some = begins_some x in
     subst (λ t. Begins t m (rest ++ more)) (sym (skip_some text more (omega arith))) (begins_more more x)
 
-broken_some : (text : List ℕ) (cause : Break) → Ends text (Broken cause) → 0 < length text
+pub broken_some : (text : List ℕ) (cause : Break) → Ends text (Broken cause) → 0 < length text
 broken_some text Bad (inl endless) = omega (arith, endless.0)
 broken_some text Bad (inr bad) = omega (arith, head_some bad.1, bad.1.in_range)
 broken_some text TooLong long = omega (arith, head_some long.3.end, long.3.end.in_range)

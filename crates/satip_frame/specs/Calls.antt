@@ -18,10 +18,14 @@ Does old (Found m) new =
     (new.found ≡ Some m) × ((text : List ℕ) (ms : List Said) → Leads text ms old.bytes → Tells text ms new Message)
 Does old (Told tail) new = (text : List ℕ) (ms : List Said) → Leads text ms old.bytes → Tells text ms new (step_of tail)
 
+-- what holds the bytes before and after a list of calls, each of which does this
+abbrev pub DoEach : {Holder : Type 0} → (Holder → Call → Holder → Type 0) → Holder → List Call → Holder → Type 0
+DoEach does old [] new = old ≡ new
+DoEach {Holder} does old (call ∷ calls) new = (next : Holder) × does old call next × DoEach does next calls new
+
 -- a framer before and after a list of calls
 abbrev pub DoAll : Held → List Call → Held → Type 0
-DoAll old [] new = old ≡ new
-DoAll old (call ∷ calls) new = (next : Held) × Does old call next × DoAll next calls new
+DoAll = DoEach Does
 
 -- the bytes that a list of calls took
 abbrev pub fed : List Call → List ℕ

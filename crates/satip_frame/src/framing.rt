@@ -176,7 +176,28 @@ impl Framer {
         }
     }
 
-    /// The message that the last `next` found: None where that found none, and after a `feed`.
+    /// The bytes that wait: they were fed, and no message took them yet.
+    pub fn held(&self) -> &[u8]
+        ensures bytes { result.now ≡ self.now.bytes }
+    {
+        self.buffer.split_at(self.start).1
+    }
+
+    /// Passes over the first bytes that wait, so many, which then belong to no message. The
+    /// message that was found last is gone then.
+    pub fn skip(&mut self, count: usize)
+        requires within { count ≤ length self.old.bytes }
+        requires goes_on { IsNone self.old.ended }
+        ensures bytes { self.new.bytes ≡ drop count self.old.bytes }
+        ensures found { IsNone self.new.found }
+        ensures ended { IsNone self.new.ended }
+    {
+        self.start += count;
+        self.state = State::Reading;
+    }
+
+    /// The message that the last `next` found: None where that found none, and after a `feed`
+    /// or a `skip`.
     pub fn message(&self) -> Option<Message<'_>>
         ensures found { result ≡ self.now.found }
     {

@@ -179,7 +179,8 @@ fn read_version(head: &[u8], start: usize) -> Option<(Span, usize)>
     Some((Span { start, end }, next))
 }
 
-fn read_line_end(head: &[u8], at: usize) -> Option<usize>
+/// Where the line end that stands at `at` ends, LF or CR LF; None where none stands there.
+pub fn read_line_end(head: &[u8], at: usize) -> Option<usize>
     requires { at ≤ length head.now }
     ensures within { IfSome result (λ next. next ≤ length head.now) }
     ensures found { IfSome result (λ next. (line_end : LineEnd)

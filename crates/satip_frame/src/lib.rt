@@ -10,8 +10,9 @@ mod looking;
 mod said;
 
 pub use framing::{Break, Framer, Step};
+pub use heads::read_line_end;
 pub use laws::{
     all_are_first, first_by_more_bytes, first_is_first, hands_out_first, has_reading,
     kept_by_more_bytes, misses_nothing, no_more_than_bytes, one_reading,
 };
-pub use said::Message;
+pub use said::{Message, body_length, first_header};

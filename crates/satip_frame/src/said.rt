@@ -91,7 +91,10 @@ impl<'a> Message<'a> {
     }
 }
 
-fn first_header<'a>(head: &'a [u8], headers: &[HeaderSpan], name: &[u8]) -> Option<&'a [u8]>
+/// The value of the first header of that name, of headers that stand at these places of a head,
+/// without the blanks around it; None where there is none. The case of ASCII letters in a name
+/// doesn't matter (RFC 2326, section 4.2).
+pub fn first_header<'a>(head: &'a [u8], headers: &[HeaderSpan], name: &[u8]) -> Option<&'a [u8]>
     requires { All (IsHeaderWithin (length head.now)) headers.now }
     ensures first { option_copied result
         ≡ first_value name.now (map (header_bytes head.now) headers.now) }
@@ -104,9 +107,10 @@ fn first_header<'a>(head: &'a [u8], headers: &[HeaderSpan], name: &[u8]) -> Opti
     None
 }
 
-/// The length of the body that follows a head with these headers: None where `Content-Length`
-/// stands there twice or gives no number.
-pub(crate) fn body_length(head: &[u8], headers: &[HeaderSpan]) -> Option<u64>
+/// How many bytes of body follow a head whose headers stand at these places of it (RFC 2326,
+/// section 12.14): 0 without `Content-Length`, and None where it stands there twice or gives no
+/// number below 2^64.
+pub fn body_length(head: &[u8], headers: &[HeaderSpan]) -> Option<u64>
     requires { All (IsHeaderWithin (length head.now)) headers.now }
     ensures value { result ≡ body_length (map (header_bytes head.now) headers.now) }
 {

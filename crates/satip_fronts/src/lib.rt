@@ -8,6 +8,3 @@ mod rows;
 pub use choice::Place;
 pub use fronts::Fronts;
 pub use rows::{FrontRow, FrontState};
-
-#[cfg(test)]
-mod tests;

@@ -1,2 +1,1 @@
 pub mod Inboxes
-pub mod Mails

@@ -12,10 +12,10 @@ mod script;
 mod sides;
 
 use satip_base::{Out, Want};
+use satip_memory::{MemoryClock, MemoryOutlet, MemoryPacer, MemoryStore};
 use satip_plain::{Answer, Beat, Event, Work};
 use satip_pump::{Batch, JobEnd, PumpKit, TickKit, run_pump, run_ticker};
 use satip_ts::Packet;
-use satip_world::{MemoryClock, MemoryOutlet, MemoryPacer, MemoryStore};
 use script::{ASK, ENDED, Note, Scripted};
 use std::alloc::Global;
 use std::sync::Wait;

@@ -3,8 +3,9 @@
 mod script;
 
 use satip_base::Peer;
+use satip_memory::{MemoryConn, MemoryDoors, MemoryOutlet, MemoryPacer};
 use satip_worker::*;
-use satip_world::{ConnEnd, DoorKind, MemoryConn, MemoryDoors, MemoryOutlet, MemoryPacer};
+use satip_world::{ConnEnd, DoorKind};
 use script::Scripted;
 use std::alloc::Global;
 use std::sync::Wait;

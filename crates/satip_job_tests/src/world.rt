@@ -3,6 +3,7 @@
 ghost use Rattle.std.specs.Prelude.{◌≡◌, false};
 
 use satip_base::{Address, Failed, Peer, Put, Source, Taken};
+use satip_memory::*;
 use satip_world::*;
 use std::alloc::Global;
 use std::test::Fail;

@@ -6,8 +6,6 @@ mod lanes;
 mod laws;
 mod queue;
 mod ring;
-#[cfg(test)]
-mod tests;
 
 pub use lane::Drained;
 pub use lanes::Lanes;

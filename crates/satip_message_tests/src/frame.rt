@@ -81,6 +81,41 @@ fn a_message_has_words_and_headers(rt: HostRuntime) -> Result<(), Fail> {
 }
 
 #[test]
+fn what_waits_is_shown_and_passed_over(rt: HostRuntime) -> Result<(), Fail> {
+    let mut framer = Framer::make(rt.alloc()).ok().ok_or("memory")?;
+    framer.reset();
+    assert!(rt; framer.held().is_empty());
+    framer.feed(b"$\x00\x00\x01OOPTIONS * RTSP/1.0\r\n\r\nleft");
+    assert_eq!(rt;
+        framer.held().split_at(framer.held().len().min(6)).0,
+        b"$\x00\x00\x01OO".as_slice()
+    );
+    if framer.held().len() > 5 {
+        framer.skip(5);
+    }
+    assert_eq!(rt; framer.held(), b"OPTIONS * RTSP/1.0\r\n\r\nleft".as_slice());
+    assert_eq!(rt; framer.next(), Step::Message);
+    assert!(rt; framer.message().is_some());
+    assert_eq!(rt; framer.held(), b"left".as_slice());
+    Ok(())
+}
+
+#[test]
+fn a_message_is_gone_where_bytes_are_passed_over(rt: HostRuntime) -> Result<(), Fail> {
+    let mut framer = Framer::make(rt.alloc()).ok().ok_or("memory")?;
+    framer.reset();
+    framer.feed(b"OPTIONS * RTSP/1.0\r\n\r\n");
+    match framer.next() {
+        Step::Message => framer.skip(0),
+        Step::More => return Err(Fail::from("More")),
+        Step::Bad => return Err(Fail::from("Bad")),
+        Step::TooLong => return Err(Fail::from("TooLong")),
+    }
+    assert!(rt; framer.message().is_none());
+    Ok(())
+}
+
+#[test]
 fn a_head_has_at_most_8192_bytes(rt: HostRuntime) -> Result<(), Fail> {
     let mut framer = Framer::make(rt.alloc()).ok().ok_or("memory")?;
     let line = vec![in rt.alloc(); b'a'; 8156]?;

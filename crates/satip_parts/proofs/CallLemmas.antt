@@ -7,7 +7,9 @@ use Rattle.satip_frame.specs.Held.{step_of}
 use Rattle.satip_parts.specs.Frames.{inside}
 use Rattle.satip_parts.specs.Parts.{Parts}
 use Rattle.satip_parts.specs.Held.{Held, new_parter, IsReadUpTo, Tells}
-use Rattle.satip_parts.specs.Calls.{Call, Took, Found, Told, Does, DoAll, fed, handed, PartsLaw}
+use Rattle.satip_frame.specs.Calls.{Call, Took, Found, Told, fed, handed}
+use Rattle.satip_frame.proofs.CallLemmas.{last_does}
+use Rattle.satip_parts.specs.Calls.{Does, DoAll, PartsLaw}
 use Rattle.satip_parts.proofs.ParterLemmas.{feed_follows}
 
 told_read : (tail : Tail) (text : List ℕ) (ms : List Said) (new : Held) → Tells text ms new (step_of tail) → IsReadUpTo text ms new
@@ -37,17 +39,10 @@ read_by_calls old (Found m ∷ calls) new (next, does, all) text ms reads =
 read_by_calls old (Told tail ∷ calls) new (next, does, all) text ms reads =
     read_by_calls next calls new all text ms (told_read tail text ms next (does text ms reads))
 
--- what the last of a list of calls did
-last_does : (old : Held) (calls : List Call) (call : Call) (new : Held) → DoAll old (calls ++ call ∷ []) new
-    → (before : Held) × DoAll old calls before × Does before call new
-last_does old [] call new (next, does, same) = (old, refl, subst (Does old call) same does)
-last_does old (first ∷ calls) call new (next, does, all) =
-    let (before, run, last) = last_does next calls call new all in (before, (next, does, run), last)
-
 pub parts_hold : PartsLaw
 parts_hold = record {
   first = λ calls held all. (inside held.to_come, held.bytes, read_by_calls new_parter calls held all [] [] (λ more. refl));
   complete = λ calls tail held all.
-      let (before, run, last) = last_does new_parter calls (Told tail) held all in
+      let (before, run, last) = last_does Does new_parter calls (Told tail) held all in
       told_parts tail (fed calls) (handed calls) held (last (fed calls) (handed calls) (read_by_calls new_parter calls before run [] [] (λ more. refl)));
 }

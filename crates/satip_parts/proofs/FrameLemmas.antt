@@ -1,6 +1,7 @@
 -- What stands behind the frames at the front of a text, and when more bytes come.
-use Rattle.std.proofs.Common.{◌≡◌, ℕ, zero, suc, ◌+◌, ◌*◌, ◌-◌, ◌/◌, ◌%◌, ◌<◌, ◌≤◌, Bool, true, false, cond, eqb, get_or, List, [], ◌∷◌, ◌++◌, length, drop, Option, Some, None, refl, ap, ◌∙◌, subst, arith}
+use Rattle.std.proofs.Common.{◌≡◌, ℕ, zero, suc, ◌+◌, ◌*◌, ◌-◌, ◌/◌, ◌%◌, ◌<◌, ◌≤◌, Bool, true, false, cond, eqb, get_or, List, [], ◌∷◌, ◌++◌, length, drop, Option, Some, None, refl, sym, ap, ◌∙◌, subst, arith}
 use Rattle.satip_frame.specs.Stream.{skip_newlines}
+use Rattle.satip_frame.proofs.StreamLemmas.{skip_newlines-append}
 use Rattle.satip_parts.specs.Frames.{Spot, Between, Channel, High, Low, Inside, inside, is_line_end, move, passed, behind, frame, IsStart}
 
 -- ---- the first byte of a message
@@ -34,6 +35,24 @@ behind_clean_by spot b text (Some next) e again = again next
 pub behind_clean : (spot : Spot) (text : List ℕ) → skip_newlines (behind spot text) ≡ behind spot text
 behind_clean spot [] = refl
 behind_clean spot (b ∷ text) = behind_clean_by spot b text (move spot b) refl (λ next. behind_clean next text)
+
+behind_skipped_by : (b : ℕ) (text : List ℕ) (r : Bool) → is_line_end b ≡ r → behind Between text ≡ behind Between (skip_newlines text)
+    → behind Between (b ∷ text) ≡ behind Between (cond r (skip_newlines text) (b ∷ text))
+behind_skipped_by b text true e again =
+    ap (λ r. passed (cond r (Some Between) (cond (eqb b 36) (Some Channel) None)) (λ next. behind next text) (b ∷ text)) e ∙ again
+behind_skipped_by b text false e again = refl
+
+-- line ends before it count nowhere
+pub behind_skipped : (text : List ℕ) → behind Between text ≡ behind Between (skip_newlines text)
+behind_skipped [] = refl
+behind_skipped (b ∷ text) = behind_skipped_by b text (is_line_end b) refl (behind_skipped text)
+
+-- whatever follows
+pub same_behind : (a b : List ℕ) → skip_newlines a ≡ skip_newlines b → (more : List ℕ) → behind Between (a ++ more) ≡ behind Between (b ++ more)
+same_behind a b e more =
+    behind_skipped (a ++ more)
+    ∙ ap (λ t. behind Between t) (skip_newlines-append a more ∙ ap (λ t. skip_newlines (t ++ more)) e ∙ sym (skip_newlines-append b more))
+    ∙ sym (behind_skipped (b ++ more))
 
 -- ---- more bytes
 

@@ -1,5 +1,4 @@
 pub mod FrameLemmas
 pub mod PartLemmas
 pub mod CallLemmas
-pub mod ReadLemmas
 pub mod ParterLemmas

@@ -1,48 +1,16 @@
 -- The messages of a text with frames: determined, and kept when more bytes come.
-use Rattle.std.proofs.Common.{◌≡◌, ℕ, zero, suc, ◌+◌, ◌<◌, ◌≤◌, List, [], ◌∷◌, ◌++◌, length, take, drop, refl, sym, ap, ◌∙◌, subst, inl, arith, append_assoc, append-nil, length-append, lit<, IsTrue}
-use Rattle.std.proofs.lemmas.List.{take-append-le, drop-append-le, take-take}
+use Rattle.std.proofs.Common.{◌≡◌, ℕ, zero, suc, ◌+◌, ◌<◌, List, [], ◌∷◌, ◌++◌, length, refl, sym, ap, ◌∙◌, subst, inl, arith, append_assoc, append-nil, lit<}
 use Rattle.satip_frame.specs.declared.framing.Break.{Break}
 use Rattle.satip_frame.specs.Said.{Said}
-use Rattle.satip_frame.specs.Head.{HasNoEmptyLine, ends_in_empty_line, IsGoodHead}
-use Rattle.satip_frame.specs.Stream.{Tail, Unfinished, Broken, skip_newlines, Begins, Ends, Messages}
-use Rattle.satip_frame.proofs.StreamLemmas.{begins_unique, begins_and_ends, ends_unique, begins_some, broken_stays as frame_broken_stays}
-use Rattle.satip_frame.proofs.ReadingLemmas.{reading_of}
+use Rattle.satip_frame.specs.Stream.{Tail, Unfinished, Broken, Begins, Ends, Messages}
+use Rattle.satip_frame.proofs.StreamLemmas.{begins_unique, begins_and_ends, ends_unique, begins_some, begins_more, broken_some, broken_more}
+use Rattle.satip_frame.proofs.ReadingLemmas.{no_line_first, reading_of}
 use Rattle.satip_parts.specs.Frames.{Spot, Between, behind, frame, IsStart}
 use Rattle.satip_parts.specs.Laws.{Frame, Message, joined, messages_in, WholePartsAreRead}
 use Rattle.satip_parts.specs.Parts.{Parts, Leads}
 use Rattle.satip_parts.proofs.FrameLemmas.{behind_clean, behind_some, behind_shorter, frame_passed, start_here}
 
 -- ---- one message at the front
-
--- a text with the same first bytes begins with the same message
-pub begins_front : {a : List ℕ} {m : Said} {r : List ℕ} (b : List ℕ) (x : Begins a m r) → x.head + x.body ≤ length b
-    → take (x.head + x.body) b ≡ take (x.head + x.body) a → Begins b m (drop (x.head + x.body) b)
-begins_front {a} {m} {r} b x within e =
-    let n = x.head + x.body in
-    let same : (k : ℕ) → k ≤ n → take k b ≡ take k a =
-    λ k below. sym (take-take k n b below) ∙ ap (λ t. take k t) e ∙ take-take k n a below in
-    record {
-      head = x.head;
-      body = x.body;
-      has_head = record {
-        end = record {
-          in_range = omega (arith, within);
-          within = x.has_head.end.within;
-          ends = subst (λ t. IsTrue (ends_in_empty_line t)) (sym (same x.head (omega arith))) x.has_head.end.ends;
-          first = λ k below ends. x.has_head.end.first k below (subst (λ t. IsTrue (ends_in_empty_line t)) (same k (omega (arith, below))) ends);
-        };
-        good = subst (λ t. IsGoodHead t m x.body) (sym (same x.head (omega arith))) x.has_head.good;
-      };
-      fits = x.fits;
-      whole = within;
-      rest_is = refl;
-    }
-
-begins_more : {text : List ℕ} {m : Said} {rest : List ℕ} (more : List ℕ) → Begins text m rest → Begins (text ++ more) m (rest ++ more)
-begins_more {text} {m} {rest} more x =
-    subst (λ r. Begins (text ++ more) m r)
-    (drop-append-le (x.head + x.body) text more x.whole ∙ ap (λ r. r ++ more) (sym x.rest_is))
-    (begins_front (text ++ more) x (omega (arith, x.whole, length-append text more)) (take-append-le (x.head + x.body) text more x.whole))
 
 begins_behind_more : (text more : List ℕ) (m : Said) (rest : List ℕ) → Begins (behind Between text) m rest
     → Begins (behind Between (text ++ more)) m (rest ++ more)
@@ -52,28 +20,13 @@ begins_behind_more text more m rest x =
 
 -- ---- nothing at the front
 
-no_empty_line : HasNoEmptyLine 0 []
-no_empty_line zero within ends = cc ends
-no_empty_line (suc k) within ends = absurd (omega (arith, within))
-
 pub empty_ends : Ends [] Unfinished
-empty_ends = inl (lit< tt, no_empty_line)
+empty_ends = inl (lit< tt, no_line_first [])
 
-some_of : (t : List ℕ) → (t ≡ [] → ⊥) → 0 < length t
-some_of [] none = absurd (none refl)
-some_of (b ∷ t) none = omega arith
-
-broken_some : (t : List ℕ) (cause : Break) → Ends t (Broken cause) → 0 < length t
-broken_some t cause x = some_of t (λ e.
-    let same : Broken cause ≡ Unfinished = ends_unique [] (Broken cause) Unfinished (subst (λ s. Ends s (Broken cause)) e x) empty_ends in cc)
-
-broken_more : (text more : List ℕ) (cause : Break) → Ends (behind Between text) (Broken cause) → Ends (behind Between (text ++ more)) (Broken cause)
-broken_more text more cause x =
+ends_behind_more : (text more : List ℕ) (cause : Break) → Ends (behind Between text) (Broken cause) → Ends (behind Between (text ++ more)) (Broken cause)
+ends_behind_more text more cause x =
     let t = behind Between text in
-    let on = behind_some Between text more (broken_some t cause x) in
-    let stays : Ends (skip_newlines (t ++ more)) (Broken cause) =
-    frame_broken_stays t more [] cause (subst (λ s. Ends s (Broken cause)) (sym (behind_clean Between text)) x) in
-    subst (λ s. Ends s (Broken cause)) (behind_clean Between (text ++ more)) (subst (λ s. Ends (skip_newlines s) (Broken cause)) (sym on) stays)
+    subst (λ s. Ends s (Broken cause)) (sym (behind_some Between text more (broken_some t cause x))) (broken_more t cause more x)
 
 -- ---- the laws
 
@@ -97,7 +50,7 @@ list_grows text more (m ∷ ms) (n ∷ ns) s t x y =
 
 pub broken_stays : (text more : List ℕ) (ms : List Said) (cause : Break) → Parts text ms (Broken cause)
     → Parts (text ++ more) ms (Broken cause)
-broken_stays text more [] cause x = broken_more text more cause x
+broken_stays text more [] cause x = ends_behind_more text more cause x
 broken_stays text more (m ∷ ms) cause x =
     (x.0 ++ more, begins_behind_more text more m x.0 x.1, broken_stays x.0 more ms cause x.2)
 

@@ -1,121 +1,123 @@
--- What a parter may answer from what stands at the front of its bytes.
-use Rattle.std.proofs.Common.{◌≡◌, ℕ, ◌+◌, ◌≤◌, Bool, true, false, List, [], ◌∷◌, ◌++◌, length, drop, Option, Some, None, sym, ap, ◌∙◌, subst, arith, length-append, drop-drop, IsSomeAnd, MatchBool}
+-- What a parter may answer from what its framer tells of the bytes behind the frames.
+use Rattle.std.proofs.Common.{◌≡◌, ℕ, Bool, true, false, List, [], ◌∷◌, ◌++◌, length, drop, Option, Some, None, is_some, refl, sym, ap, ◌∙◌, subst, arith, length-append, IsSomeAnd, MatchBool}
 use Rattle.satip_frame.specs.declared.framing.Break.{Break}
 use Rattle.satip_frame.specs.declared.framing.Break.TheVariants.{Bad as cause_bad, TooLong as cause_too_long}
 use Rattle.satip_frame.specs.declared.framing.Step.{Step}
 use Rattle.satip_frame.specs.declared.framing.Step.TheVariants.{Message, More, Bad, TooLong}
 use Rattle.satip_frame.specs.Said.{Said}
-use Rattle.satip_frame.specs.Held.{step_of, cause_of}
-use Rattle.satip_frame.specs.Stream.{Tail, Unfinished, Broken, Begins, Ends}
+use Rattle.satip_frame.specs.Held.{Held as Framed, step_of, cause_of, Tells as FramerTells}
+use Rattle.satip_frame.specs.Stream.{Tail, Unfinished, Broken, skip_newlines, Begins, Ends, Messages}
 use Rattle.satip_parts.specs.Frames.{Between, inside, behind, IsStart}
 use Rattle.satip_parts.specs.Parts.{Parts, Leads}
 use Rattle.satip_parts.specs.Held.{Held, IsReadUpTo, Tells}
-use Rattle.satip_parts.specs.Fronts.{IsPassed, IsOpen, IsRead, IsEnd}
-use Rattle.satip_parts.proofs.FrameLemmas.{start_here}
+use Rattle.satip_parts.specs.Fronts.{IsPassed, IsEnd, IsOpen, parter_of}
+use Rattle.satip_parts.proofs.FrameLemmas.{start_here, start_clean, behind_skipped, same_behind}
 use Rattle.satip_parts.proofs.PartLemmas.{empty_ends, one_list, leads_first, ends_from_rest, leads_more, leads_on, leads-append}
-use Rattle.satip_parts.proofs.ReadLemmas.{some_map}
 
--- the bytes go on in the same way
-abbrev pub GoesOn : Held → Held → Type 0
-GoesOn old new = (more : List ℕ) → behind (inside old.to_come) (old.bytes ++ more) ≡ behind (inside new.to_come) (new.bytes ++ more)
+-- the bytes go on in the same way, whatever follows
+abbrev pub GoesOn : Held → ℕ → List ℕ → Type 0
+GoesOn old left bytes = (more : List ℕ) → behind (inside old.to_come) (old.bytes ++ more) ≡ behind (inside left) (bytes ++ more)
 
--- a text that was read up to where it ends has this tail
-pub end_told : (old new : Held) (t : Tail) → GoesOn old new → Ends (behind (inside new.to_come) new.bytes) t
-    → (text : List ℕ) (ms : List Said) → IsReadUpTo text ms old → Parts text ms t × IsReadUpTo text ms new
-end_told old new t same ends text ms reads =
-    let on = leads_on text ms (inside old.to_come) (inside new.to_come) old.bytes new.bytes reads same in
-    (ends_from_rest text ms (inside new.to_come) new.bytes t on ends, on)
+-- behind what was passed over
+pub passed_on : (old : Held) (framer : Framed) (to_come : ℕ) (seen : List ℕ) (count left : ℕ) → parter_of to_come framer ≡ old → seen ≡ framer.bytes
+    → IsPassed seen to_come count left → GoesOn old left (drop count seen)
+passed_on old framer to_come seen count left is shown passed more =
+    ap (λ (h : Held). behind (inside h.to_come) (h.bytes ++ more)) (sym is) ∙ ap (λ b. behind (inside to_come) (b ++ more)) (sym shown) ∙ passed.same more
 
--- the message at the front is the next one of each text
-pub found_told : (old new : Held) (mid : List ℕ) → ((more : List ℕ) → behind (inside old.to_come) (old.bytes ++ more) ≡ behind (inside 0) (mid ++ more))
-    → new.to_come ≡ 0 → IsSomeAnd new.found (λ m. Begins (behind (inside 0) mid) m new.bytes)
-    → (text : List ℕ) (ms : List Said) → IsReadUpTo text ms old → IsSomeAnd new.found (λ m. IsReadUpTo text (ms ++ m ∷ []) new)
-found_told old new mid same between found text ms reads =
-    let on = leads_on text ms (inside old.to_come) (inside 0) old.bytes mid reads same in
-    some_map new.found (λ m begins.
-    subst (λ n. Leads text (ms ++ m ∷ []) (inside n) new.bytes) (sym between)
-    (leads_more text ms (inside 0) mid m new.bytes on begins)) found
+-- no frame stands before the next message of the bytes
+abbrev pub IsClear : List ℕ → Type 0
+IsClear bytes = behind Between bytes ≡ skip_newlines bytes
 
--- ---- where the bytes go on
+pub start_clear : (bytes : List ℕ) → IsStart bytes → IsClear bytes
+start_clear bytes start = start_here bytes start ∙ sym (start_clean bytes start)
 
-pub rest_at : (seen items : List ℕ) (start count : ℕ) → seen ≡ drop start items → drop count seen ≡ drop (start + count) items
-rest_at seen items start count e = ap (λ t. drop count t) e ∙ drop-drop count start items
+pub some_map : {P Q : Said → Type 0} (o : Option Said) → ((m : Said) → P m → Q m) → IsSomeAnd o P → IsSomeAnd o Q
+some_map None f x = x
+some_map (Some m) f x = f m x
 
--- behind what is passed over
-pub passed_on : (seen items : List ℕ) (start to_come count left : ℕ) → seen ≡ drop start items → IsPassed seen to_come count left
-    → (more : List ℕ) → behind (inside to_come) (drop start items ++ more) ≡ behind (inside left) (drop (start + count) items ++ more)
-passed_on seen items start to_come count left e passed more =
-    let here = subst (λ s. IsPassed s to_come count left) e passed in
-    here.same more ∙ ap (λ t. behind (inside left) (t ++ more)) (drop-drop count start items)
+pub if_true : (A B : Type 0) (r : Bool) → MatchBool r A B → r ≡ true → A
+if_true A B true x e = x
+if_true A B false x e = absurd (cc)
 
-pub open_ends : (seen items : List ℕ) (start count left : ℕ) → seen ≡ drop start items → IsOpen (drop count seen) left
-    → Ends (behind (inside left) (drop (start + count) items)) Unfinished
-open_ends seen items start count left e stands =
-    subst (λ t. Ends t Unfinished) (sym (ap (λ t. behind (inside left) t) (sym (rest_at seen items start count e)) ∙ stands.none)) empty_ends
+pub if_false : (A B : Type 0) (r : Bool) → MatchBool r A B → r ≡ false → B
+if_false A B true x e = absurd (cc)
+if_false A B false x e = x
 
-pub open_of : (A B : Type 0) (r : Bool) → MatchBool r A B → r ≡ false → B
-open_of A B true x e = absurd (cc)
-open_of A B false x e = x
+-- ---- what the framer tells of the bytes at which a text stands
 
-pub message_of : (A B : Type 0) (r : Bool) → MatchBool r A B → r ≡ true → A
-message_of A B true x e = x
-message_of A B false x e = absurd (cc)
+module _ (old : Held) (mid : List ℕ) (same : GoesOn old 0 mid) (clear : IsClear mid) (text : List ℕ) (ms : List Said) (reads : IsReadUpTo text ms old) where
+  at_mid : Leads text ms Between mid
+  at_mid = leads_on text ms (inside old.to_come) Between old.bytes mid reads same
 
--- ---- a message at the front
+  tail_told : (t : Tail) (new : Framed) → Messages mid [] t × (skip_newlines mid ≡ skip_newlines new.bytes)
+      → Parts text ms t × IsReadUpTo text ms (parter_of 0 new)
+  tail_told t new told = (
+    ends_from_rest text ms Between mid t at_mid (subst (λ s. Ends s t) (sym clear) told.0),
+    leads_on text ms Between Between mid new.bytes at_mid (same_behind mid new.bytes told.1),
+  )
 
-pub read_within : (step : Step) (bytes : List ℕ) (found : Option Said) (count : ℕ) → IsRead bytes found step count → count ≤ length bytes
-read_within Message bytes found count read = read.1
-read_within More bytes found count read = omega (arith, read.2)
-read_within Bad bytes found count read = omega (arith, read.2)
-read_within TooLong bytes found count read = omega (arith, read.2)
+  pub told_here : (step : Step) (new : Framed) → FramerTells mid [] new step → Tells text ms (parter_of 0 new) step
+  told_here Message new told = some_map new.found (λ m x.
+      leads_on text (ms ++ m ∷ []) Between Between x.0 new.bytes
+      (leads_more text ms Between mid m x.0 at_mid (subst (λ s. Begins s m x.0) (sym clear) x.1))
+      (same_behind x.0 new.bytes x.2)) told
+  told_here More new told = tail_told Unfinished new told
+  told_here Bad new told = tail_told (Broken cause_bad) new told
+  told_here TooLong new told = tail_told (Broken cause_too_long) new told
 
-stays_here : (bytes : List ℕ) (count left : ℕ) → left ≡ 0 → count ≡ 0 → IsStart bytes → behind (inside left) (drop count bytes) ≡ bytes
-stays_here bytes count left between none start =
-    ap (λ n. behind (inside n) (drop count bytes)) between ∙ ap (λ k. behind Between (drop k bytes)) none ∙ start_here bytes start
+-- and so of each text that was read up to what the parter held
+pub told_of : (old : Held) (mid : List ℕ) (left : ℕ) (step : Step) (new : Framed) → GoesOn old left mid → left ≡ 0 → IsClear mid
+    → FramerTells mid [] new step → (text : List ℕ) (ms : List Said) → IsReadUpTo text ms old → Tells text ms (parter_of left new) step
+told_of old mid left step new same between clear told text ms reads =
+    subst (λ n. Tells text ms (parter_of n new) step) (sym between)
+    (told_here old mid (subst (λ n. GoesOn old n mid) between same) clear text ms reads step new told)
 
-pub read_rests : (step : Step) (bytes : List ℕ) (found : Option Said) (count left : ℕ) → left ≡ 0 → IsStart bytes
-    → IsRead bytes found step count → IsEnd (drop count bytes) left (cause_of step)
-read_rests Message bytes found count left between start read = tt
-read_rests More bytes found count left between start read = tt
-read_rests Bad bytes found count left between start read =
-    subst (λ t. Ends t (Broken cause_bad)) (sym (stays_here bytes count left between read.2 start)) read.0
-read_rests TooLong bytes found count left between start read =
-    subst (λ t. Ends t (Broken cause_too_long)) (sym (stays_here bytes count left between read.2 start)) read.0
+-- nothing stands there that is whole
+pub open_told : (old : Held) (left : ℕ) (new : Framed) → GoesOn old left new.bytes → IsOpen new.bytes left
+    → (text : List ℕ) (ms : List Said) → IsReadUpTo text ms old → Tells text ms (parter_of left new) More
+open_told old left new same is_open text ms reads =
+    let on = leads_on text ms (inside old.to_come) (inside left) old.bytes new.bytes reads same in
+    (ends_from_rest text ms (inside left) new.bytes Unfinished on (subst (λ s. Ends s Unfinished) (sym is_open.none) empty_ends), on)
 
--- the text ends at what was read
-read_end : (old new : Held) (mid : List ℕ) (count : ℕ) (t : Tail)
-    → ((more : List ℕ) → behind (inside old.to_come) (old.bytes ++ more) ≡ behind (inside 0) (mid ++ more))
-    → new.to_come ≡ 0 → IsStart mid → new.bytes ≡ drop count mid → count ≡ 0 → Ends mid t
-    → (text : List ℕ) (ms : List Said) → IsReadUpTo text ms old → Parts text ms t × IsReadUpTo text ms new
-read_end old new mid count t same between start left none ends text ms reads =
-    let whole : new.bytes ≡ mid = left ∙ ap (λ k. drop k mid) none in
-    end_told old new t (λ more.
-    same more
-    ∙ ap (λ b. behind (inside 0) (b ++ more)) (sym whole)
-    ∙ ap (λ n. behind (inside n) (new.bytes ++ more)) (sym between))
-    (subst (λ b. Ends b t)
-    (sym (ap (λ n. behind (inside n) new.bytes) between ∙ ap (λ b. behind Between b) whole ∙ start_here mid start)) ends)
-    text ms reads
+-- ---- a text that ended
 
--- what the step tells of each text
-pub read_told : (step : Step) (old new : Held) (mid : List ℕ) (count : ℕ)
-    → ((more : List ℕ) → behind (inside old.to_come) (old.bytes ++ more) ≡ behind (inside 0) (mid ++ more))
-    → new.to_come ≡ 0 → IsStart mid → new.bytes ≡ drop count mid → IsRead mid new.found step count
-    → (text : List ℕ) (ms : List Said) → IsReadUpTo text ms old → Tells text ms new step
-read_told Message old new mid count same between start left read text ms reads =
-    found_told old new mid same between
-    (some_map new.found (λ m begins.
-    subst (λ r. Begins (behind Between mid) m r) (sym left)
-    (subst (λ b. Begins b m (drop count mid)) (sym (start_here mid start)) begins)) read.0)
-    text ms reads
-read_told More old new mid count same between start left read text ms reads =
-    read_end old new mid count Unfinished same between start left read.2 read.0 text ms reads
-read_told Bad old new mid count same between start left read text ms reads =
-    read_end old new mid count (Broken cause_bad) same between start left read.2 read.0 text ms reads
-read_told TooLong old new mid count same between start left read text ms reads =
-    read_end old new mid count (Broken cause_too_long) same between start left read.2 read.0 text ms reads
+end_here : (cause : Break) (mid new : List ℕ) (left : ℕ) → left ≡ 0 → IsClear mid
+    → Ends (skip_newlines mid) (Broken cause) × (skip_newlines mid ≡ skip_newlines new) → IsEnd new left (Some cause)
+end_here cause mid new left between clear told = (
+  between,
+  behind_skipped new ∙ ap (λ t. behind Between t) (sym told.1) ∙ sym (behind_skipped mid) ∙ clear ∙ told.1,
+  subst (λ s. Ends s (Broken cause)) told.1 told.0,
+)
 
--- what was told is all that can be
+rests_by : (step : Step) (mid : List ℕ) (left : ℕ) (new : Framed) → left ≡ 0 → IsClear mid → FramerTells mid [] new step
+    → IsEnd new.bytes left (cause_of step)
+rests_by Message mid left new between clear told = tt
+rests_by More mid left new between clear told = tt
+rests_by Bad mid left new between clear told = end_here cause_bad mid new.bytes left between clear told
+rests_by TooLong mid left new between clear told = end_here cause_too_long mid new.bytes left between clear told
+
+-- it is broken where the parter stands then
+pub rests_of : (step : Step) (mid : List ℕ) (left : ℕ) (new : Framed) → left ≡ 0 → IsClear mid → FramerTells mid [] new step
+    → new.ended ≡ cause_of step → IsEnd new.bytes left new.ended
+rests_of step mid left new between clear told e = subst (IsEnd new.bytes left) (sym e) (rests_by step mid left new between clear told)
+
+pub end_clear : (bytes : List ℕ) (left : ℕ) (ended : Option Break) → IsEnd bytes left ended → is_some ended ≡ true → (left ≡ 0) × IsClear bytes
+end_clear bytes left None is_end some = absurd (cc)
+end_clear bytes left (Some cause) is_end some = (is_end.0, is_end.1)
+
+cause_known : (cause : Break) → is_some (cause_of (step_of (Broken cause))) ≡ true
+cause_known cause_bad = refl
+cause_known cause_too_long = refl
+
+-- and stays so
+pub stays_ended : (bytes : List ℕ) (left : ℕ) (ended : Option Break) → IsEnd bytes left ended → is_some ended ≡ true
+    → (step : Step) → ((tail : Tail) → Messages bytes [] tail → step ≡ step_of tail) → is_some (cause_of step) ≡ true
+stays_ended bytes left None is_end some step exact = absurd (cc)
+stays_ended bytes left (Some cause) is_end some step exact =
+    ap (λ s. is_some (cause_of s)) (exact (Broken cause) is_end.2) ∙ cause_known cause
+
+-- ---- what was told is all that can be
+
 longer : (ms others : List Said) (m : Said) → ms ≡ (ms ++ m ∷ []) ++ others → ⊥
 longer ms others m e =
     omega (arith, ap length e, length-append (ms ++ m ∷ []) others, length-append ms (m ∷ []))
@@ -133,13 +135,7 @@ exact_of More text ms t new told parts = ap step_of (one_list text ms ms Unfinis
 exact_of Bad text ms t new told parts = ap step_of (one_list text ms ms (Broken cause_bad) t told.0 parts).1
 exact_of TooLong text ms t new told parts = ap step_of (one_list text ms ms (Broken cause_too_long) t told.0 parts).1
 
--- a text that ended stays so
-pub ended_told : (old new : Held) (cause : Break) (step : Step) → step ≡ step_of (Broken cause) → GoesOn old new
-    → Ends (behind (inside new.to_come) new.bytes) (Broken cause) → (text : List ℕ) (ms : List Said) → IsReadUpTo text ms old → Tells text ms new step
-ended_told old new cause_bad step e same ends text ms reads =
-    subst (Tells text ms new) (sym e) (end_told old new (Broken cause_bad) same ends text ms reads)
-ended_told old new cause_too_long step e same ends text ms reads =
-    subst (Tells text ms new) (sym e) (end_told old new (Broken cause_too_long) same ends text ms reads)
+-- ---- more bytes
 
 -- a text goes on with the bytes that are taken
 pub feed_follows : (to_come still : ℕ) (old new taken : List ℕ) → still ≡ to_come → new ≡ old ++ taken

@@ -4,14 +4,9 @@ use Rattle.satip_frame.specs.declared.framing.Step.TheVariants.{Message}
 use Rattle.satip_frame.specs.Said.{Said}
 use Rattle.satip_frame.specs.Stream.{Tail}
 use Rattle.satip_frame.specs.Held.{step_of}
+use Rattle.satip_frame.specs.Calls.{Call, Took, Found, Told, DoEach, fed, handed}
 use Rattle.satip_parts.specs.Parts.{Parts, AreFirst}
 use Rattle.satip_parts.specs.Held.{Held, new_parter, IsReadUpTo, Tells}
-
--- a feed took these bytes, or a step found this message, or told this tail
-pub data Call : Type 0 where
-  Took : List ℕ → Call
-  Found : Said → Call
-  Told : Tail → Call
 
 -- a parter before and after a call, by the clauses `bytes` and `to_come` of `feed`, and `told` of `next`
 abbrev pub Does : Held → Call → Held → Type 0
@@ -22,22 +17,7 @@ Does old (Told tail) new = (text : List ℕ) (ms : List Said) → IsReadUpTo tex
 
 -- a parter before and after a list of calls
 abbrev pub DoAll : Held → List Call → Held → Type 0
-DoAll old [] new = old ≡ new
-DoAll old (call ∷ calls) new = (next : Held) × Does old call next × DoAll next calls new
-
--- the bytes that a list of calls took
-abbrev pub fed : List Call → List ℕ
-fed [] = []
-fed (Took bytes ∷ calls) = bytes ++ fed calls
-fed (Found _ ∷ calls) = fed calls
-fed (Told _ ∷ calls) = fed calls
-
--- the messages that a list of calls found
-abbrev pub handed : List Call → List Said
-handed [] = []
-handed (Took _ ∷ calls) = handed calls
-handed (Found m ∷ calls) = m ∷ handed calls
-handed (Told _ ∷ calls) = handed calls
+DoAll = DoEach Does
 
 -- whatever the pieces, the messages found are the first ones of the text fed; and where a tail was told,
 -- they are all of the text fed, and its tail is that

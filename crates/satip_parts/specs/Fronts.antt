@@ -1,15 +1,10 @@
 -- What the code says of the front of bytes.
-use Rattle.std.specs.Prelude.{◌≡◌, ℕ, ◌+◌, ◌<◌, ◌≤◌, List, [], ◌++◌, length, drop, Option, Some, None, IsSomeAnd}
-use Rattle.std.specs.Global.{Vec}
-use Rattle.std.specs.Prelude.{vec_len, vec_capacity}
+use Rattle.std.specs.Prelude.{◌≡◌, ℕ, ◌<◌, ◌≤◌, Bool, List, [], ◌++◌, length, drop, Option, Some, None, is_some}
 use Rattle.satip_frame.specs.declared.framing.Break.{Break}
-use Rattle.satip_frame.specs.declared.framing.Break.TheVariants.{Bad as cause_bad, TooLong as cause_too_long}
-use Rattle.satip_frame.specs.declared.framing.Step.{Step}
-use Rattle.satip_frame.specs.declared.framing.Step.TheVariants.{Message, More, Bad, TooLong}
-use Rattle.satip_frame.specs.Said.{Said}
-use Rattle.satip_frame.specs.Stream.{Unfinished, Broken, Begins, Ends}
-use Rattle.satip_parts.specs.Frames.{inside, behind, IsStart}
-use Rattle.satip_parts.specs.Held.{capacity}
+use Rattle.satip_frame.specs.Stream.{Broken, skip_newlines, Ends}
+use Rattle.satip_frame.specs.Held.{Held as Framed}
+use Rattle.satip_parts.specs.Frames.{Between, inside, behind, IsStart}
+use Rattle.satip_parts.specs.Held.{Held}
 use Rattle.satip_parts.specs.declared.passing.Front.{Front}
 use Rattle.satip_parts.specs.declared.passing.Front.TheVariants.{Passed, Open, Start}
 
@@ -34,25 +29,17 @@ IsFront bytes to_come (Passed count left) = IsPassed bytes to_come count left ×
 IsFront bytes to_come Open = IsOpen bytes to_come
 IsFront bytes to_come Start = IsAtMessage bytes to_come
 
--- a message is whole in the bytes
-abbrev pub HasMessage : List ℕ → Type 0
-HasMessage bytes = (m : Said) × (rest : List ℕ) × Begins bytes m rest
-
--- the message at the front was read so, and has so many bytes
-abbrev pub IsRead : List ℕ → Option Said → Step → ℕ → Type 0
-IsRead bytes found Message count = IsSomeAnd found (λ m. Begins bytes m (drop count bytes)) × (count ≤ length bytes)
-IsRead bytes found More count = Ends bytes Unfinished × (found ≡ None) × (count ≡ 0)
-IsRead bytes found Bad count = Ends bytes (Broken cause_bad) × (found ≡ None) × (count ≡ 0)
-IsRead bytes found TooLong count = Ends bytes (Broken cause_too_long) × (found ≡ None) × (count ≡ 0)
-
--- a text that ended is broken where the parter stands
+-- a text that ended is broken where the parter stands: behind line ends, as the framer stands there
 abbrev pub IsEnd : List ℕ → ℕ → Option Break → Type 0
 IsEnd bytes to_come None = Unit {0}
-IsEnd bytes to_come (Some cause) = Ends (behind (inside to_come) bytes) (Broken cause)
+IsEnd bytes to_come (Some cause) =
+    (to_come ≡ 0) × (behind Between bytes ≡ skip_newlines bytes) × Ends (skip_newlines bytes) (Broken cause)
+
+-- a framer that stands behind a frame's bytes, or before the last ones of it, so many
+abbrev pub parter_of : ℕ → Framed → Held
+parter_of to_come framer = record { to_come = to_come; bytes = framer.bytes; found = framer.found; ended = framer.ended }
 
 -- what is true of each parter
-pub record IsParter (buffer : Vec ℕ) (start to_come : ℕ) (ended : Option Break) : Type 0 where
-  pub start_within : start ≤ vec_len buffer
-  pub held : vec_len buffer ≤ capacity
-  pub room : capacity ≤ vec_capacity buffer
-  pub rests : IsEnd (drop start buffer.items) to_come ended
+pub record IsParter (framer : Framed) (to_come : ℕ) (ended : Bool) : Type 0 where
+  pub known : ended ≡ is_some framer.ended
+  pub rests : IsEnd framer.bytes to_come framer.ended

@@ -5,7 +5,6 @@
 mod laws;
 mod parting;
 mod passing;
-mod reading;
 #[cfg(test)]
 mod tests;
 

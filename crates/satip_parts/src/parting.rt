@@ -1,22 +1,18 @@
-//! The parter: it holds the bytes that no message and no frame took yet, and finds the next message
-//! in them.
-ghost use Rattle.std.specs.Prelude.{◌≡◌, ◌↔◌, ◌⊎◌, ◌<◌, ◌≤◌, ◌++◌, ℕ, List, [], length, take, drop, vec_len, vec_capacity, IfOk, IsSome, IsNone};
+//! The parter: it passes over the frames in the bytes that its framer holds, and has the framer
+//! find the next message in them.
+ghost use Rattle.std.specs.Prelude.{◌≡◌, ◌↔◌, ◌⊎◌, ◌<◌, ◌≤◌, ◌++◌, ℕ, List, [], length, take, IfOk, IsSome, IsNone, is_some};
 ghost use Rattle.satip_frame.specs.Said.{Said};
-ghost use Rattle.satip_frame.specs.Stream.{Tail, Broken};
-ghost use Rattle.satip_frame.specs.Held.{cause_of, step_of};
+ghost use Rattle.satip_frame.specs.Stream.{Tail};
+ghost use Rattle.satip_frame.specs.Held.{capacity, cause_of, step_of};
 ghost use Rattle.satip_parts.specs.Parts.{Parts};
-ghost use Rattle.satip_parts.specs.Held.{Held, new_parter, capacity, bytes_taken, IsReadUpTo, Tells};
-ghost use Rattle.satip_parts.specs.Fronts.{IsParter};
+ghost use Rattle.satip_parts.specs.Held.{Held, new_parter, bytes_taken, IsReadUpTo, Tells};
+ghost use Rattle.satip_parts.specs.Fronts.{IsParter, parter_of};
 
 use crate::passing::pass_over;
-use crate::reading::read_front;
 use satip_base::Want;
-use satip_frame::{Break, Framer, Message, Step};
+use satip_frame::{Framer, Message, Step};
 use std::alloc::Global;
 use std::marker::Model;
-
-/// The most bytes that are held: a message's head of 8192 and its body of 4096.
-const CAPACITY: usize = 12288;
 
 /// Finds the messages of a connection's bytes, which come in pieces, whatever the pieces are, and
 /// passes over the interleaved frames between them (RFC 2326, section 10.12): `$`, a byte of
@@ -24,11 +20,9 @@ const CAPACITY: usize = 12288;
 /// need fit in them.
 #[derive(Drop)]
 pub struct Parter {
-    buffer: Vec<u8>,
-    start: usize,
-    to_come: usize,
     framer: Framer,
-    ended: Option<Break>,
+    to_come: usize,
+    ended: bool,
 }
 
 impl Model for Parter {
@@ -36,17 +30,11 @@ impl Model for Parter {
 
     ghost Value = { Held };
 
-    ghost use Rattle.std.specs.Prelude.{drop};
-    ghost use Rattle.satip_parts.specs.Fronts.{IsParter};
+    ghost use Rattle.satip_parts.specs.Fronts.{IsParter, parter_of};
 
-    ghost view = { λ p. record {
-      to_come = p.to_come;
-      bytes = drop p.start p.buffer.items;
-      found = p.framer.found;
-      ended = p.ended;
-    } };
+    ghost view = { λ p. parter_of p.to_come p.framer };
 
-    ghost invariant = { λ p. IsParter p.buffer p.start p.to_come p.ended };
+    ghost invariant = { λ p. IsParter p.framer p.to_come p.ended };
 }
 
 impl Parter {
@@ -55,27 +43,20 @@ impl Parter {
         ensures made { IfOk result (λ parter. parter ≡ new_parter) }
     {
         let framer = Framer::make(alloc)?;
-        match Vec::with_capacity(alloc, CAPACITY) {
-            Ok(buffer) => Ok(Parter {
-                buffer,
-                start: 0,
-                to_come: 0,
-                framer,
-                ended: None,
-            }),
-            Err(_) => Err(Want),
-        }
+        Ok(Parter {
+            framer,
+            to_come: 0,
+            ended: false,
+        })
     }
 
     /// Forgets all bytes, as for a new connection.
     pub fn reset(&mut self)
         ensures made { self.new ≡ new_parter }
     {
-        self.buffer.clear();
-        self.start = 0;
-        self.to_come = 0;
         self.framer.reset();
-        self.ended = None;
+        self.to_come = 0;
+        self.ended = false;
     }
 
     /// Takes bytes from the front of a piece, as many as there is room for, and answers how many.
@@ -94,15 +75,7 @@ impl Parter {
         ensures found { IsNone self.new.found }
         ensures ended { self.new.ended ≡ self.old.ended }
     {
-        self.framer.reset();
-        if self.ended.is_some() {
-            return 0;
-        }
-        forget(&mut self.buffer, self.start);
-        self.start = 0;
-        let count = piece.len().min(CAPACITY - self.buffer.len());
-        self.buffer.extend_from_slice(&piece[..count]).unwrap();
-        count
+        self.framer.feed(piece)
     }
 
     /// Looks for the next message in the bytes that were fed, behind the frames before it. `Bad`
@@ -122,20 +95,18 @@ impl Parter {
         ensures shorter { length self.new.bytes ≤ length self.old.bytes }
         ensures room { result ≡ Step.More → length self.new.bytes < capacity }
     {
-        self.framer.reset();
-        if let Some(cause) = self.ended {
-            return step_of(cause);
+        if self.ended {
+            return self.framer.next();
         }
-        let place = pass_over(self.buffer.split_at(self.start).1, self.to_come);
-        self.start += place.count;
+        let place = pass_over(self.framer.held(), self.to_come);
+        self.framer.skip(place.count);
         self.to_come = place.to_come;
         if !place.at_message {
             return Step::More;
         }
-        let reading = read_front(&mut self.framer, self.buffer.split_at(self.start).1);
-        self.start += reading.count;
-        self.ended = cause_of(reading.step);
-        reading.step
+        let step = self.framer.next();
+        self.ended = is_end(step);
+        step
     }
 
     /// The message that the last `next` found: None where that found none, and after a `feed`.
@@ -146,34 +117,14 @@ impl Parter {
     }
 }
 
-fn step_of(cause: Break) -> Step
-    ensures step { result ≡ step_of (Broken cause) }
-{
-    match cause {
-        Break::Bad => Step::Bad,
-        Break::TooLong => Step::TooLong,
-    }
-}
-
-// How a text ended, by a step.
-fn cause_of(step: Step) -> Option<Break>
-    ensures cause { result ≡ cause_of step }
+// Whether no further message can be read.
+fn is_end(step: Step) -> bool
+    ensures end { result ≡ is_some (cause_of step) }
 {
     match step {
-        Step::Message => None,
-        Step::More => None,
-        Step::Bad => Some(Break::Bad),
-        Step::TooLong => Some(Break::TooLong),
+        Step::Message => false,
+        Step::More => false,
+        Step::Bad => true,
+        Step::TooLong => true,
     }
-}
-
-// Drops the first bytes of the buffer, and moves the others to its front.
-fn forget(buffer: &mut Vec<u8>, count: usize)
-    requires { count ≤ vec_len buffer.old }
-    ensures items { buffer.new.items ≡ drop count buffer.old.items }
-    ensures room { vec_capacity buffer.new ≡ vec_capacity buffer.old }
-{
-    let kept = buffer.len() - count;
-    buffer.copy_within(count.., 0);
-    buffer.truncate(kept);
 }

@@ -1,6 +1,6 @@
 //! A list of numbers in a fixed array.
 
-ghost use Rattle.std.specs.Prelude.{◌≡◌, ◌+◌, ◌<◌, ◌≤◌, ◌↔◌, ℕ, List, [], ◌∷◌, ◌++◌, length, insert, IsTrue};
+ghost use Rattle.std.specs.Prelude.{◌≡◌, ◌<◌, ◌↔◌, [], ◌∷◌, ◌++◌, length, IsTrue, ◌≤◌};
 
 use std::marker::Model;
 
@@ -63,23 +63,4 @@ impl<const ROOM: usize> Numbers<ROOM> {
         self.places[self.count] = number;
         self.count += 1;
     }
-
-    /// Puts a number at a place; those from there on move up by one.
-    pub fn insert(&mut self, place: usize, number: u16)
-        requires within { place ≤ length self.old }
-        requires room { length self.old < ROOM }
-        ensures added { self.new ≡ insert self.old place number }
-    {
-        self.push(number);
-        last_to(&mut self.places[..self.count], place);
-    }
-}
-
-// Moves the last number to a place, and the numbers from there on up by one.
-fn last_to(numbers: &mut [u16], place: usize)
-    requires { place < length numbers.old }
-    ensures { (front : List ℕ) (last : ℕ) → numbers.old ≡ front ++ last ∷ []
-        → numbers.new ≡ insert front place last }
-{
-    numbers[place..].rotate_right(1);
 }

@@ -3,7 +3,6 @@ pub mod TalkLemmas
 pub mod TalkerLemmas
 pub mod TurnLemmas
 pub mod LineLemmas
-pub mod DrawerLemmas
 pub mod OutcomeLemmas
 pub mod AcceptsLemmas
 pub mod ServingLemmas

@@ -1,6 +1,4 @@
 pub mod Commands
-pub mod Cabinets
-pub mod Drawers
 pub mod Talk
 pub mod Talking
 pub mod Gathering

@@ -4,7 +4,6 @@
 mod commands;
 mod conversation;
 mod gathered;
-mod memory_desk;
 mod outcomes;
 mod serving;
 mod talk;
@@ -12,7 +11,6 @@ mod talker;
 mod telling;
 mod top;
 
-pub use memory_desk::{MemoryDesk, MemoryJobs};
 pub use satip_serve::{Jobs, Last};
 pub use satip_serving::{Desk, JobsFault};
 pub use top::{Ended, offline, satip};

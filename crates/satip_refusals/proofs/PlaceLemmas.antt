@@ -1,5 +1,5 @@
 -- What is told of a session by its row, and which refusal is the first.
-use Rattle.std.proofs.Common.{◌≡◌, ◌∙◌, ℕ, ◌==◌, ◌&&◌, ◌||◌, not, Bool, true, false, List, ◌∷◌, Option, None, Some, is_none, is_some, option_map, refl, ap}
+use Rattle.std.proofs.Common.{◌≡◌, ◌∙◌, ℕ, ◌==◌, ◌&&◌, ◌||◌, not, Bool, true, false, List, ◌∷◌, Option, None, Some, is_none, is_some, option_map, refl, sym, ap}
 use Rattle.std.specs.Option.{option_map_or}
 use Rattle.satip_plain.specs.State.{Session, State, owner, same_id}
 use Rattle.satip_plain.specs.Refusals.{Refused, first_given, where_true, owns}
@@ -49,9 +49,12 @@ and_same {a = a} {d = d} e f = ap (λ x. a && x) f ∙ ap (λ x. x && d) e
 pub or_same : {a b c d : Bool} → a ≡ b → c ≡ d → (a || c) ≡ (b || d)
 or_same {a = a} {d = d} e f = ap (λ x. a || x) f ∙ ap (λ x. x || d) e
 
-pub and_none : (a : Bool) → false ≡ (a && false)
-and_none true = refl
-and_none false = refl
+-- a test that is made first
+pub tried_first : {a b : Bool} (c : Bool) → a ≡ b → a ≡ true → c ≡ (b && c)
+tried_first c same holds = ap (λ x. x && c) (sym holds ∙ same)
+
+pub failed_first : {a b : Bool} (c : Bool) → a ≡ b → a ≡ false → false ≡ (b && c)
+failed_first c same fails = ap (λ x. x && c) (sym fails ∙ same)
 
 pub first_none : (o : Option Refused) (more : List (Option Refused)) → None ≡ o → first_given more ≡ first_given (o ∷ more)
 first_none o more e = ap (λ x. first_given (x ∷ more)) e

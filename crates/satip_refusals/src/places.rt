@@ -144,9 +144,11 @@ pub fn stream_of_another(parts: &Parts, request: &Request) -> bool
     ensures another { (c : Config) (st : State) → StandsFor c parts.now st
         → result ≡ is_stream_of_another st request.now }
 {
-    let session = session_named(parts, request.session);
     let used = is_setup(request.method) | needs_session(request.method);
-    used & is_of_another(session, request.stream)
+    if !used {
+        return false;
+    }
+    is_of_another(session_named(parts, request.session), request.stream)
 }
 
 // The number of the session's stream.
@@ -159,14 +161,16 @@ fn number_of(session: Option<Session>) -> Option<u16>
     }
 }
 
-// The number that is named, or else that of the session's stream where one is needed.
-fn number_or(named: Option<u16>, needs: bool, own: Option<u16>) -> Option<u16>
-    ensures number { result ≡ (if is_some named then named else (if needs then own else None)) }
+// The number of the session's stream, where a session is needed.
+fn own_number(parts: &Parts, request: &Request) -> Option<u16>
+    ensures number { (c : Config) (st : State) → StandsFor c parts.now st
+        → result ≡ (if needs_one request.now.method
+        then option_map (λ s. s.stream) (session_named_by st request.now.session) else None) }
 {
-    match named {
-        Some(number) => Some(number),
-        None => { if needs { own } else { None } }
+    if !needs_session(request.method) {
+        return None;
     }
+    number_of(session_named(parts, request.session))
 }
 
 /// The number of the stream that a request is about: the named one, in PLAY and TEARDOWN else the
@@ -175,8 +179,10 @@ pub fn number_meant(parts: &Parts, request: &Request) -> Option<u16>
     ensures number { (c : Config) (st : State) → StandsFor c parts.now st
         → result ≡ number_meant_by st request.now }
 {
-    let own = number_of(session_named(parts, request.session));
-    number_or(request.stream, needs_session(request.method), own)
+    match request.stream {
+        Some(number) => Some(number),
+        None => own_number(parts, request),
+    }
 }
 
 /// That stream, where it lives.
@@ -209,12 +215,17 @@ pub fn not_owner(parts: &Parts, request: &Request) -> bool
     ensures other { (c : Config) (st : State) → StandsFor c parts.now st
         → result ≡ is_not_owner st request.now }
 {
-    let session = session_named(parts, request.session);
+    let given = changes(request.method) & request.query.any();
+    if !given {
+        return false;
+    }
     match stream_meant(parts, request) {
         None => false,
         Some(stream) => {
-            let owned = is_owner(parts.owner(stream.number), session);
-            changes(request.method) & request.query.any() & !owned
+            !is_owner(
+                parts.owner(stream.number),
+                session_named(parts, request.session),
+            )
         }
     }
 }

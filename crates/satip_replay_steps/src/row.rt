@@ -2,8 +2,10 @@
 
 use crate::bytes::{datagram, packet, report};
 use crate::clients::{Client, Session};
-use satip_base::{MemorySink, MemorySource, Text};
-use satip_program::{MemoryDesk, offline};
+use satip_base::Text;
+use satip_memory::{MemorySink, MemorySource};
+use satip_memory_desk::MemoryDesk;
+use satip_program::offline;
 use std::alloc::Global;
 use std::test::Fail;
 

@@ -2,8 +2,8 @@
 //! statuses.
 
 use crate::row::{CONFIGURATION, Ran, run};
-use satip_base::MemorySource;
-use satip_program::MemoryDesk;
+use satip_memory::MemorySource;
+use satip_memory_desk::MemoryDesk;
 use std::alloc::Global;
 use std::test::Fail;
 

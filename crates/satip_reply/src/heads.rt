@@ -8,9 +8,9 @@ ghost use Rattle.httparse.specs.Spans.{IsSectionAt, IsSectionOf, IsSectionWithin
 ghost use Rattle.satip_reply.specs.Heads.{Head, HasHead, IsReason, is_phrase_byte as is_byte_of_phrase};
 ghost use Rattle.satip_reply.specs.Places.{HasLine, HasStatus, IsHeadAt, IsHeadWithin, IsLineAt};
 
-use crate::headers::body_length;
 use httparse::Status;
 use httparse::spans::{HeaderSpan, parse_headers_from};
+use satip_frame::{body_length, read_line_end};
 
 /// The most bytes of a head.
 pub(crate) const HEAD_LIMIT: usize = 8192;
@@ -163,24 +163,4 @@ fn is_phrase_byte(byte: u8) -> bool
     ensures test { result ≡ is_byte_of_phrase byte }
 {
     byte != b'\r' && byte != b'\n'
-}
-
-fn read_line_end(text: &[u8], at: usize) -> Option<usize>
-    requires { at ≤ length text.now }
-    ensures within { IfSome result (λ next. next ≤ length text.now) }
-    ensures found { IfSome result (λ next. (end : LineEnd)
-        × (drop at text.now ≡ print_end end ++ drop next text.now)) }
-    ensures none { IfNone result ((end : LineEnd) (rest : List ℕ)
-        → drop at text.now ≡ print_end end ++ rest → ⊥) }
-{
-    if at == text.len() {
-        return None;
-    }
-    if text[at] == b'\n' {
-        return Some(at + 1);
-    }
-    if text[at] == b'\r' && at + 1 < text.len() && text[at + 1] == b'\n' {
-        return Some(at + 2);
-    }
-    None
 }

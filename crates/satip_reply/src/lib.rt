@@ -3,7 +3,6 @@
 
 mod draft;
 mod fields;
-mod headers;
 mod heads;
 mod reply;
 mod rows;

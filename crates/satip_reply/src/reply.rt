@@ -6,9 +6,9 @@ ghost use Rattle.satip_reply.specs.Replies.{IsReadAs, Says};
 
 use crate::draft::Draft;
 use crate::fields::{number_u16, number_u32, session_of, timeout_of};
-use crate::headers::first_header;
 use crate::heads::{HEAD_LIMIT, HEADER_LIMIT, HeadRead, STATUS_END, read_head};
 use httparse::spans::{EMPTY_HEADER_SPAN, HeaderSpan};
+use satip_frame::first_header;
 
 /// The shortest head, the most bytes that a text can lack.
 const SHORTEST: &[u8; 14] = b"RTSP/1.0 000\n\n";

@@ -3,8 +3,6 @@
 
 mod laws;
 mod packer;
-#[cfg(test)]
-mod tests;
 
 pub use laws::{all_calls_cut, cut_loses_nothing, each_call_cuts};
 pub use packer::Packer;

@@ -5,16 +5,10 @@ ghost use Rattle.satip_rtp.specs.Held.{packets_in};
 ghost use Rattle.satip_rtp.specs.Sending.{SendsAll};
 ghost use Rattle.satip_rtp.specs.Packing.{packing, holding, after_cut, leaving};
 
+use satip_base::limits::{DATAGRAM, PACKET, PAYLOAD, RTP_HEAD};
 use satip_base::{Address, Out};
 use satip_ts::Packet;
 use std::marker::Model;
-
-const HEADER_BYTES: usize = 12;
-
-const PACKET_BYTES: usize = 188;
-
-// A header and seven packets.
-const DATAGRAM_BYTES: usize = 1328;
 
 /// Packs the packets of one session: 7 in a datagram, fewer only where it is flushed.
 #[derive(Drop)]
@@ -24,7 +18,7 @@ pub struct Packer {
     datagrams: u32,
     octets: u32,
     // The datagram that leaves next: room for its header, and the packets held behind it.
-    bytes: [u8; DATAGRAM_BYTES],
+    bytes: [u8; DATAGRAM],
     count: usize,
 }
 
@@ -57,7 +51,7 @@ impl Packer {
             next: first,
             datagrams: 0,
             octets: 0,
-            bytes: [0; DATAGRAM_BYTES],
+            bytes: [0; DATAGRAM],
             count: 0,
         }
     }
@@ -65,13 +59,13 @@ impl Packer {
     /// Takes a packet. True exactly where it is the seventh: then the datagram of the seven is
     /// appended.
     pub fn push(&mut self, packet: &Packet, clock: u64, to: Address, out: &mut Out) -> bool
-        requires bytes { 1328 ≤ out.old.datagram_spare }
+        requires bytes { DATAGRAM ≤ out.old.datagram_spare }
         requires count { out.old.count_spare ≢ 0 }
         ensures seventh { IsTrue result ↔ (length self.old.held ≡ 6) }
         ensures packing { self.new ≡ after_cut false (holding self.old packet.now) }
         ensures sent { SendsAll out.old (leaving false (holding self.old packet.now) clock to)
             out.new }
-        ensures bytes_spare { out.old.datagram_spare ≤ out.new.datagram_spare + 1328 }
+        ensures bytes_spare { out.old.datagram_spare ≤ out.new.datagram_spare + DATAGRAM }
         ensures count_spare { out.old.count_spare ≤ out.new.count_spare + 1 }
     {
         put_packet(&mut self.bytes, self.count, packet.bytes());
@@ -84,27 +78,27 @@ impl Packer {
         self.count = 0;
         self.next = self.next.wrapping_add(1);
         self.datagrams = self.datagrams.wrapping_add(1);
-        self.octets = self.octets.wrapping_add(1316);
+        self.octets = self.octets.wrapping_add(PAYLOAD as u32);
         true
     }
 
     /// Sends what is held. False exactly where that is nothing.
     pub fn flush(&mut self, clock: u64, to: Address, out: &mut Out) -> bool
-        requires bytes { 1328 ≤ out.old.datagram_spare }
+        requires bytes { DATAGRAM ≤ out.old.datagram_spare }
         requires count { out.old.count_spare ≢ 0 }
         ensures nothing { (result ≡ false) ↔ (self.old.held ≡ []) }
         ensures packing { self.new ≡ after_cut true self.old }
         ensures sent { SendsAll out.old (leaving true self.old clock to) out.new }
-        ensures bytes_spare { out.old.datagram_spare ≤ out.new.datagram_spare + 1328 }
+        ensures bytes_spare { out.old.datagram_spare ≤ out.new.datagram_spare + DATAGRAM }
         ensures count_spare { out.old.count_spare ≤ out.new.count_spare + 1 }
     {
         if self.count == 0 {
             return false;
         }
         write_header(&mut self.bytes, self.next, clock, self.ssrc);
-        let end = HEADER_BYTES + PACKET_BYTES * self.count;
+        let end = RTP_HEAD + PACKET * self.count;
         out.append(to, &self.bytes[..end]);
-        self.octets = self.octets.wrapping_add(188 * self.count as u32);
+        self.octets = self.octets.wrapping_add(PACKET as u32 * self.count as u32);
         self.count = 0;
         self.next = self.next.wrapping_add(1);
         self.datagrams = self.datagrams.wrapping_add(1);
@@ -135,16 +129,16 @@ impl Packer {
 }
 
 // Puts a packet behind those before it.
-fn put_packet(bytes: &mut [u8; DATAGRAM_BYTES], place: usize, packet: &[u8; PACKET_BYTES])
+fn put_packet(bytes: &mut [u8; DATAGRAM], place: usize, packet: &[u8; PACKET])
     requires within { place ≤ 6 }
     ensures put { packets_in bytes.new (place + 1) ≡ packets_in bytes.old place ++ packet.now ∷ [] }
 {
-    let start = HEADER_BYTES + PACKET_BYTES * place;
-    bytes[start..start + PACKET_BYTES].copy_from_slice(packet);
+    let start = RTP_HEAD + PACKET * place;
+    bytes[start..start + PACKET].copy_from_slice(packet);
 }
 
 // Writes the header in front of the packets.
-fn write_header(bytes: &mut [u8; DATAGRAM_BYTES], number: u16, clock: u64, ssrc: u32)
+fn write_header(bytes: &mut [u8; DATAGRAM], number: u16, clock: u64, ssrc: u32)
     ensures header { bytes.new ≡ rtp_header number clock ssrc ++ drop 12 bytes.old }
 {
     bytes[..2].copy_from_slice(&[0x80, 0x21]);

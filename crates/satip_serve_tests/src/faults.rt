@@ -1,14 +1,16 @@
 //! The command `serve` whose doors fail, or whose desk gives no kits.
 
 ghost use Rattle.std.specs.Prelude.{◌≡◌, None, IfOk};
-ghost use Rattle.satip_program.specs.Drawers.{AreNewKits};
+ghost use Rattle.satip_memory_desk.specs.Drawers.{AreNewKits};
 
 use crate::shared::{Ran, run, words};
-use satip_base::MemorySource;
-use satip_program::{Jobs, MemoryDesk, MemoryJobs};
+use satip_memory::{
+    MemoryClock, MemoryDoors, MemoryOutlet, MemoryPacer, MemorySource, MemoryStore,
+};
+use satip_memory_desk::{MemoryDesk, MemoryJobs};
+use satip_program::Jobs;
 use satip_pump::{PumpKit, TickKit};
 use satip_worker::WorkerKit;
-use satip_world::{MemoryClock, MemoryDoors, MemoryOutlet, MemoryPacer, MemoryStore};
 use std::alloc::Global;
 use std::sync::Wait;
 use std::test::Fail;

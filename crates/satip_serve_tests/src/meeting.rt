@@ -1,14 +1,17 @@
 //! The command `serve` with two workers, a pump and the ticker, each of which waits for all others.
 
 ghost use Rattle.std.specs.Prelude.{◌≡◌, length, IfOk};
-ghost use Rattle.satip_program.specs.Drawers.{AreNewKits};
+ghost use Rattle.satip_memory_desk.specs.Drawers.{AreNewKits};
 
 use crate::shared::{has_served, words, worker};
-use satip_base::{Failed, MemorySink, MemorySource, Text, Want};
+use satip_base::{Failed, Text, Want};
 use satip_config::Config;
+use satip_memory::{
+    MemoryClock, MemoryDoors, MemoryOutlet, MemoryPacer, MemorySink, MemorySource, MemoryStore,
+};
 use satip_program::{Desk, Jobs, JobsFault, satip};
 use satip_pump::{PumpKit, TickKit};
-use satip_world::{MemoryClock, MemoryDoors, MemoryOutlet, MemoryPacer, MemoryStore, Pacer};
+use satip_world::Pacer;
 use std::alloc::Global;
 use std::snapshot::Snapshot;
 use std::sync::atomic::{AtomicBool, AtomicU64, Ordering};
@@ -130,7 +133,7 @@ struct MeetingDesk<'a> {
 
 impl<'a> Desk for MeetingDesk<'a> {
     ghost use Rattle.std.specs.Prelude.{None, option_map};
-    ghost use Rattle.satip_program.specs.Drawers.{memory_view};
+    ghost use Rattle.satip_memory_desk.specs.Drawers.{memory_view};
 
     type Config = MemorySource;
 

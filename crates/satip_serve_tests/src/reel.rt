@@ -47,7 +47,7 @@ pub struct ReelStore {
 
 impl Model for ReelStore {
     ghost use Rattle.std.specs.Prelude.{[]};
-    ghost use Rattle.satip_world.specs.Recordings.{Shelf};
+    ghost use Rattle.satip_memory.specs.Shelves.{Shelf};
 
     ghost Value = { Shelf };
 
@@ -60,7 +60,7 @@ impl Model for ReelStore {
 }
 
 impl ReelStore {
-    ghost use Rattle.satip_world.specs.Recordings.{empty_shelf};
+    ghost use Rattle.satip_memory.specs.Shelves.{empty_shelf};
 
     pub fn new(packets: u64) -> ReelStore
         ensures empty { result ≡ empty_shelf }
@@ -75,7 +75,7 @@ impl ReelStore {
 }
 
 impl MuxStore for ReelStore {
-    ghost use Rattle.satip_world.specs.Recordings.{store_view};
+    ghost use Rattle.satip_memory.specs.Shelves.{store_view};
 
     type From = Reel;
 

@@ -1,13 +1,13 @@
 //! The command `serve` with two workers, over memory, which may be refused.
 
 ghost use Rattle.std.specs.Prelude.{IfOk};
-ghost use Rattle.satip_program.specs.Drawers.{AreNewKits};
+ghost use Rattle.satip_memory_desk.specs.Drawers.{AreNewKits};
 
 use crate::shared::{words, worker};
-use satip_base::{MemorySink, MemorySource};
-use satip_program::{Ended, Jobs, MemoryDesk, MemoryJobs, satip};
+use satip_memory::{MemoryClock, MemoryOutlet, MemoryPacer, MemorySink, MemorySource, MemoryStore};
+use satip_memory_desk::{MemoryDesk, MemoryJobs};
+use satip_program::{Ended, Jobs, satip};
 use satip_pump::{PumpKit, TickKit};
-use satip_world::{MemoryClock, MemoryOutlet, MemoryPacer, MemoryStore};
 use std::alloc::Global;
 use std::test::Fail;
 

@@ -5,10 +5,11 @@ ghost use Rattle.std.specs.Prelude.{◌≡◌, true, None, IfOk};
 ghost use Rattle.satip_world.specs.Halls.{fresh_hall};
 ghost use Rattle.satip_world.specs.Outboxes.{fresh_outbox};
 
-use satip_base::{MemorySink, MemorySource, Peer, Text, Want};
+use satip_base::{Peer, Text, Want};
+use satip_memory::{MemoryConn, MemoryDoors, MemoryOutlet, MemorySink, MemorySource};
 use satip_program::{Desk, Ended, satip};
 use satip_worker::WorkerKit;
-use satip_world::{ConnEnd, DoorKind, MemoryConn, MemoryDoors, MemoryOutlet, Pacer};
+use satip_world::{ConnEnd, DoorKind, Pacer};
 use std::alloc::Global;
 use std::sync::Wait;
 use std::test::Fail;

@@ -2,8 +2,8 @@
 //! is too long.
 
 use crate::shared::{OK, OPTIONS, run, words_of};
-use satip_base::MemorySource;
-use satip_program::MemoryDesk;
+use satip_memory::MemorySource;
+use satip_memory_desk::MemoryDesk;
 use std::alloc::Global;
 use std::sync::Wait;
 use std::test::Fail;

@@ -6,7 +6,7 @@ use crate::deeds::{Deeds, Gate, OPEN};
 use crate::shared::{OK, OPTIONS, Ran, run, words};
 use crate::waiting::{Piece, Served};
 use crate::waiting_desk::{Plan, WaitingDesk};
-use satip_base::MemorySource;
+use satip_memory::MemorySource;
 use satip_world::ConnEnd;
 use std::test::Fail;
 

@@ -2,17 +2,18 @@
 //! each of two front ends, and the ticker.
 
 ghost use Rattle.std.specs.Prelude.{◌≡◌, length, false, IfOk};
-ghost use Rattle.satip_program.specs.Drawers.{AreNewKits};
+ghost use Rattle.satip_memory_desk.specs.Drawers.{AreNewKits};
 ghost use Rattle.satip_world.specs.Halls.{fresh_hall};
 ghost use Rattle.satip_world.specs.Outboxes.{fresh_outbox};
-ghost use Rattle.satip_world.specs.Recordings.{empty_shelf};
+ghost use Rattle.satip_memory.specs.Shelves.{empty_shelf};
 
 use crate::counting::{CountingOutlet, LookingPacer, StillClock};
 use crate::deeds::{Deeds, Gate, OPEN, Place};
 use crate::reel::ReelStore;
 use crate::waiting::{Piece, WaitingDoors};
-use satip_base::{Failed, MemorySource, Text, Want};
+use satip_base::{Failed, Text, Want};
 use satip_config::Config;
+use satip_memory::MemorySource;
 use satip_program::{Desk, Jobs, JobsFault};
 use satip_pump::{PumpKit, TickKit};
 use satip_worker::WorkerKit;
@@ -166,7 +167,7 @@ impl<'a> WaitingDesk<'a> {
 
 impl<'a> Desk for WaitingDesk<'a> {
     ghost use Rattle.std.specs.Prelude.{None, option_map};
-    ghost use Rattle.satip_program.specs.Drawers.{memory_view};
+    ghost use Rattle.satip_memory_desk.specs.Drawers.{memory_view};
 
     type Config = MemorySource;
 

@@ -8,12 +8,11 @@ mod rows;
 
 use satip_base::Peer;
 use satip_config::Config;
+use satip_memory::{MemoryClock, MemoryConn, MemoryDoors, MemoryOutlet, MemoryPacer, MemoryStore};
 use satip_pump::TickKit;
 use satip_serve::{Jobs, ServeEnd, serve};
 use satip_worker::WorkerKit;
-use satip_world::{
-    DoorKind, MemoryClock, MemoryConn, MemoryDoors, MemoryOutlet, MemoryPacer, MemoryStore,
-};
+use satip_world::DoorKind;
 use std::alloc::Global;
 use std::sync::Wait;
 use std::test::Fail;

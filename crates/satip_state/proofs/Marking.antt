@@ -3,6 +3,7 @@ use Rattle.std.proofs.Common.{◌≡◌, ℕ, ◌+◌, ◌<◌, ◌==◌, ◌&&�
 use Rattle.std.specs.Int.{bit_at}
 use Rattle.std.specs.List.{slice_get}
 use Rattle.std.specs.Option.{option_map}
+use Rattle.std.proofs.lemmas.Nat.Bits.{bit_at-zero}
 use Rattle.std.proofs.lemmas.Bool.{or_cases, and_parts, and_from, eqb-true, eq-eqb, true≢false, cases_Bool, not-true, cases_eq}
 use Rattle.satip_base.specs.declared.identity.SessionId.{SessionId}
 use Rattle.satip_history.specs.Lists.{Each, Has}
@@ -82,6 +83,19 @@ nobody_marked c v st ends marks slot e none = record {
   stands = e.stands;
   marked = e.marked;
   clear = next_clear v.table.seats ends slot e.clear (λ seat has same. absurd (none_has slot v.table.seats seat none has same));
+}
+
+-- where no slot is marked, nobody is left to end
+pub none_marked : (c : Config) (v : Kept) (st : State) (ends : SessionId → Bool) (marks slot : ℕ) → marks ≡ 0 → EndedMarked c v st ends marks slot → EndedMarked c v st ends marks 64
+none_marked c v st ends marks slot none e = record {
+  who = e.who;
+  some = e.some;
+  stands = e.stands;
+  marked = e.marked;
+  clear = each_has (λ z. z.slot < 64 → ends z.session.id ≡ false) v.table.seats (λ seat has below.
+      let bit : 0 ≡ cond (ends seat.session.id) 1 0 =
+      sym (bit_at-zero seat.slot) ∙ ap (λ m. bit_at m seat.slot) (sym none) ∙ each_at (IsMarked marks ends) v.table.seats seat e.marked has in
+      bit_clear 0 (ends seat.session.id) refl bit);
 }
 
 -- who has a slot is alone with it

@@ -66,6 +66,9 @@ impl Parts {
         ensures ended { (c : Config) (st : State) (ends : SessionId → Bool)
             → EndedMarked c self.old st ends marks 0 → EndedMarked c self.new st ends marks 64 }
     {
+        if marks == 0 {
+            return;
+        }
         for slot in 0..SLOTS {
             self.end_slot(marks, slot);
         }

@@ -5,8 +5,8 @@ use crate::row::{Ran, run};
 use rand_chacha::ChaCha8Rng;
 use rand_core::SeedableRng;
 use rand_core::utils::NextWord;
-use satip_base::MemorySource;
-use satip_program::MemoryDesk;
+use satip_memory::MemorySource;
+use satip_memory_desk::MemoryDesk;
 use std::alloc::Global;
 use std::test::Fail;
 

@@ -11,8 +11,3 @@ mod table;
 pub use session::{NewSession, Seat, Session};
 pub use stream::Stream;
 pub use table::Table;
-
-#[cfg(test)]
-mod plain;
-#[cfg(test)]
-mod tests;

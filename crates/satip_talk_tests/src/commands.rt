@@ -1,7 +1,9 @@
 //! The words of the commands, what a talk answers, and the faults of a replay.
 
-use satip_base::{MemorySink, MemorySource, Text};
-use satip_program::{MemoryDesk, offline};
+use satip_base::Text;
+use satip_memory::{MemorySink, MemorySource};
+use satip_memory_desk::MemoryDesk;
+use satip_program::offline;
 use std::alloc::Global;
 use std::test::Fail;
 

@@ -5,8 +5,3 @@ mod heap;
 mod timer;
 
 pub use timer::{KEYS, Timer};
-
-#[cfg(test)]
-mod plain;
-#[cfg(test)]
-mod tests;

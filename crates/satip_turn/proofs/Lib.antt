@@ -9,4 +9,3 @@ pub mod Drawing
 pub mod Joining
 pub mod Bursts
 pub mod Crossing
-pub mod Counting

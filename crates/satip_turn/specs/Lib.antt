@@ -6,4 +6,3 @@ pub mod Seats
 pub mod Shown
 pub mod Tried
 pub mod Fed
-pub mod Counted

@@ -8,8 +8,6 @@ mod feed;
 mod passes;
 mod rule;
 mod seat;
-#[cfg(test)]
-mod tests;
 mod turns;
 mod view;
 

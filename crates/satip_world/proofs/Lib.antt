@@ -1,3 +1,1 @@
-mod ContentLemmas
-mod ReelLemmas
 pub mod DeliveryLemmas

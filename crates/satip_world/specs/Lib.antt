@@ -5,6 +5,3 @@ pub mod Deliveries
 pub mod Recordings
 pub mod Dials
 pub mod Halls
-pub mod Kept
-pub mod Reels
-pub mod Lobby

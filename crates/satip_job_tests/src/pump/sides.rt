@@ -6,8 +6,8 @@ use super::plain::PlainPump;
 use super::script::{Note, Scripted};
 use super::{FIRST, SECOND, kit, pump};
 use satip_base::Out;
+use satip_memory::MemoryStore;
 use satip_pump::JobEnd;
-use satip_world::MemoryStore;
 use std::alloc::Global;
 use std::test::Fail;
 

@@ -3,9 +3,10 @@ ghost use Rattle.std.specs.Prelude.{◌≡◌, false};
 
 use crate::tests::setting::{CLIENT, ask_of_stream, letters, solo, tick};
 use satip_base::Out;
+use satip_memory::{MemoryConn, MemoryOutlet, MemoryPacer};
 use satip_solo::Solo;
 use satip_worker::{Draws, Room, serve_connection};
-use satip_world::{ConnEnd, DoorKind, MemoryConn, MemoryOutlet, MemoryPacer};
+use satip_world::{ConnEnd, DoorKind};
 use std::alloc::Global;
 use std::sync::Wait;
 use std::test::Fail;

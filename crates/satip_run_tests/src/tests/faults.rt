@@ -3,8 +3,9 @@
 use crate::tests::connections::{OPTIONS, SETUP, SETUP_REPLY, Seen, serve, serve_alone};
 use crate::tests::setting::{give, play, set_up, solo, tick};
 use satip_base::Out;
+use satip_memory::MemoryConn;
 use satip_solo::Solo;
-use satip_world::{ConnEnd, DoorKind, MemoryConn};
+use satip_world::{ConnEnd, DoorKind};
 use std::alloc::Global;
 use std::sync::Wait;
 use std::test::Fail;

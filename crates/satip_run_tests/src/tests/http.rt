@@ -1,7 +1,8 @@
 //! HTTP connections.
 
 use crate::tests::connections::{Seen, serve_alone};
-use satip_world::{ConnEnd, DoorKind, MemoryConn};
+use satip_memory::MemoryConn;
+use satip_world::{ConnEnd, DoorKind};
 use std::alloc::Global;
 use std::sync::Wait;
 use std::test::Fail;

@@ -4,13 +4,11 @@ ghost use Rattle.std.specs.Prelude.{◌≡◌, false, IfOk};
 use crate::tests::connections::{KEY, PLAY, SETUP, joined};
 use crate::tests::setting::{CLIENT, give, letters, packet_bytes, play, set_up, solo};
 use satip_base::{Address, Out, Put};
+use satip_memory::{MemoryClock, MemoryConn, MemoryDoors, MemoryOutlet, MemoryPacer, MemoryStore};
 use satip_pump::{Batch, JobEnd, PumpKit, TickKit, run_pump, run_ticker};
 use satip_solo::Solo;
 use satip_worker::{Draws, Room, WorkerEnd, WorkerKit, run_worker, serve_connection};
-use satip_world::{
-    Conn, ConnEnd, DoorKind, MemoryClock, MemoryConn, MemoryDoors, MemoryOutlet, MemoryPacer,
-    MemoryStore, Outlet, Received,
-};
+use satip_world::{Conn, ConnEnd, DoorKind, Outlet, Received};
 use std::alloc::Global;
 use std::sync::Wait;
 use std::sync::atomic::{AtomicU64, Ordering};

@@ -1,7 +1,8 @@
 //! RTSP connections that receive what is no message, or a long one.
 
 use crate::tests::connections::{OPTIONS, OPTIONS_REPLY, joined, serve_alone};
-use satip_world::{ConnEnd, DoorKind, MemoryConn};
+use satip_memory::MemoryConn;
+use satip_world::{ConnEnd, DoorKind};
 use std::alloc::Global;
 use std::sync::Wait;
 use std::test::Fail;

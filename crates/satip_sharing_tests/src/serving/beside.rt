@@ -6,13 +6,12 @@ ghost use Rattle.satip_fronts.specs.FrontEnds.{IsNumbered};
 use super::gated::{Client, Gate, GatedClock, GatedDoors, GatedOutlet, GatedPacer, Signals};
 use satip_base::Peer;
 use satip_config::Config;
+use satip_memory::{MemoryClock, MemoryConn, MemoryDoors, MemoryOutlet, MemoryPacer, MemoryStore};
 use satip_pump::{PumpKit, TickKit};
 use satip_serve::{Jobs, ServeEnd, serve};
 use satip_tune::{Front, Mux, Pol, System};
 use satip_worker::WorkerKit;
-use satip_world::{
-    ConnEnd, DoorKind, MemoryClock, MemoryConn, MemoryDoors, MemoryOutlet, MemoryPacer, MemoryStore,
-};
+use satip_world::{ConnEnd, DoorKind};
 use std::alloc::Global;
 use std::test::Fail;
 

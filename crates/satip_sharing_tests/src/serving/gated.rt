@@ -1,10 +1,8 @@
 //! Devices over memory that wait for what other jobs do.
 
 use satip_base::{Address, Peer, Put};
-use satip_world::{
-    Clock, Conn, ConnEnd, Door, DoorKind, Doors, MemoryClock, MemoryConn, MemoryDoors,
-    MemoryOutlet, MemoryPacer, Outlet, Pacer, Received,
-};
+use satip_memory::{MemoryClock, MemoryConn, MemoryDoors, MemoryOutlet, MemoryPacer};
+use satip_world::{Clock, Conn, ConnEnd, Door, DoorKind, Doors, Outlet, Pacer, Received};
 use std::sync::atomic::{AtomicBool, AtomicU64, Ordering};
 use std::thread;
 

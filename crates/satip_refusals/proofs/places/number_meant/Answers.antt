@@ -1,15 +1,10 @@
-use Rattle.std.proofs.Common.{◌∙◌, Bool, Option, ℕ, None, cond, ap, is_some}
+use Rattle.std.proofs.Common.{◌∙◌, Option, ℕ, None, cond, option_map, is_some, ap, sym}
 use Rattle.satip_plain.specs.Refusals.{session_named, needs_session}
-use Rattle.satip_refusals.specs.Rows.{number_in}
-use Rattle.satip_refusals.proofs.PlaceLemmas.{number_row}
 use Rattle.satip_refusals.proofs.places.number_meant.Goals as goal
 
-pub returns : goal.returns
-returns c = record {
+pub returns-in-None : goal.returns-in-None
+returns-in-None c = record {
   number = λ cfg st stands.
-      let named = c.args.request.now.stream in
-      c.number_or.ensures.number
-      ∙ ap (λ (needs : Bool). cond (is_some named) named (cond needs c.number_of-own.result None)) c.needs_session.ensures.needs
-      ∙ ap (λ (own : Option ℕ). cond (is_some named) named (cond (needs_session c.args.request.now.method) own None))
-      (c.number_of-own.ensures.number ∙ ap number_in (c.session_named.ensures.session cfg st stands) ∙ number_row (session_named st c.args.request.now.session));
+      let own : Option ℕ = cond (needs_session c.args.request.now.method) (option_map (λ s. s.stream) (session_named st c.args.request.now.session)) None in
+      c.own_number.ensures.number cfg st stands ∙ ap (λ (stream : Option ℕ). cond (is_some stream) stream own) (sym c.in-None.is);
 }

@@ -1,122 +1,87 @@
-use Rattle.std.proofs.Common.{◌≡◌, ◌+◌, ◌++◌, true, false, drop, refl, sym, ap, ◌∙◌, subst, arith, rules, length-drop}
+use Rattle.std.proofs.Common.{◌≡◌, ◌++◌, [], true, false, drop, is_some, refl, sym, ap, ◌∙◌, subst, rules}
 use Rattle.satip_frame.specs.declared.framing.Step.TheVariants.{More}
-use Rattle.satip_frame.specs.Held.{cause_of}
-use Rattle.satip_frame.specs.Stream.{Unfinished}
-use Rattle.satip_parts.specs.Frames.{inside, behind, IsStart}
+use Rattle.satip_frame.specs.Stream.{skip_newlines}
+use Rattle.satip_parts.specs.Frames.{inside, behind}
 use Rattle.satip_parts.specs.Held.{Held}
-use Rattle.satip_parts.specs.Fronts.{IsPassed, IsOpen, IsAtMessage, IsRead, IsEnd}
-use Rattle.satip_parts.proofs.ParterLemmas.{passed_on, rest_at, open_ends, open_of, message_of, read_within, read_rests, read_told, end_told, ended_told, exact_of}
+use Rattle.satip_parts.specs.Fronts.{IsOpen, IsAtMessage, parter_of}
+use Rattle.satip_parts.proofs.ParterLemmas.{GoesOn, passed_on, IsClear, start_clear, if_true, if_false, told_of, open_told, rests_of, end_clear, stays_ended, exact_of}
 use Rattle.satip_parts.proofs.parting.Parter.next.Goals as goal
 
-pub returns-in-Some-clause-told : goal.returns-in-Some-clause-told
-returns-in-Some-clause-told c =
-    let f = c.self.inside in
-    let new : Held = record { to_come = f.to_come; bytes = drop f.start f.buffer.items; found = c.reset.new.self.found; ended = f.ended } in
-    ended_told c.args.self.now new c.in-Some.cause c.step_of.result c.step_of.ensures.step
-    (λ more. ap (λ (h : Held). behind (inside h.to_come) (h.bytes ++ more)) (sym c.self.view_is))
-    (subst (IsEnd (drop f.start f.buffer.items) f.to_come) c.in-Some.is c.self.invariant.rests)
+-- ---- the text had ended
 
-pub returns-in-Some-clause-exact : goal.returns-in-Some-clause-exact
-returns-in-Some-clause-exact c =
-    let f = c.self.inside in
-    let new : Held = record { to_come = f.to_come; bytes = drop f.start f.buffer.items; found = c.reset.new.self.found; ended = f.ended } in
-    λ text ms tail reads parts. exact_of c.step_of.result text ms tail new (returns-in-Some-clause-told c text ms reads) parts
+pub invariant_of-self : goal.invariant_of-self
+invariant_of-self c =
+    let framer = c.self.inside.framer in
+    let some = sym c.self.invariant.known ∙ c.if-self.true in
+    let at = end_clear framer.bytes c.self.inside.to_come framer.ended c.self.invariant.rests some in
+    let known = stays_ended framer.bytes c.self.inside.to_come framer.ended c.self.invariant.rests some c.next.result
+    (λ tail messages. c.next.ensures.exact framer.bytes [] tail refl messages) in
+    record {
+      known = c.if-self.true ∙ sym (ap is_some c.next.ensures.ended ∙ known);
+      rests = rests_of c.next.result framer.bytes c.self.inside.to_come c.next.new.self at.0 at.1
+          (c.next.ensures.told framer.bytes [] refl) c.next.ensures.ended;
+    }
+
+pub returns-then-self-clause-told : goal.returns-then-self-clause-told
+returns-then-self-clause-told c =
+    let framer = c.self.inside.framer in
+    let some = sym c.self.invariant.known ∙ c.if-self.true in
+    let at = end_clear framer.bytes c.self.inside.to_come framer.ended c.self.invariant.rests some in
+    told_of c.args.self.now framer.bytes c.self.inside.to_come c.next.result c.next.new.self
+    (λ more. ap (λ (h : Held). behind (inside h.to_come) (h.bytes ++ more)) (sym c.self.view_is))
+    at.0 at.1 (c.next.ensures.told framer.bytes [] refl)
+
+pub returns-then-self-clause-exact : goal.returns-then-self-clause-exact
+returns-then-self-clause-exact c = λ text ms tail reads parts.
+    exact_of c.next.result text ms tail (parter_of c.self.inside.to_come c.next.new.self) (returns-then-self-clause-told c text ms reads) parts
+
+-- ---- no message begins in the bytes
 
 pub returns-then-not-place-clause-told : goal.returns-then-not-place-clause-told
 returns-then-not-place-clause-told c =
-    let f = c.self.inside in
     let place = c.pass_over-place.result in
-    let new : Held = record {
-      to_come = place.to_come;
-      bytes = drop (f.start + place.count) f.buffer.items;
-      found = c.reset.new.self.found;
-      ended = f.ended;
-    } in
-    let seen : c.split_at.result.1.now ≡ drop f.start f.buffer.items =
-    c.split_at.ensures.back ∙ ap (λ t. drop f.start t) c.deref.ensures.value in
+    let mid = drop place.count c.held.result.now in
+    let left : c.skip.new.self.bytes ≡ mid = c.skip.ensures.bytes ∙ ap (λ b. drop place.count b) (sym c.held.ensures.bytes) in
     let off : place.at_message ≡ false = search rules in
-    end_told c.args.self.now new Unfinished
-    (λ more.
-    ap (λ (h : Held). behind (inside h.to_come) (h.bytes ++ more)) (sym c.self.view_is)
-    ∙ passed_on c.split_at.result.1.now f.buffer.items f.start f.to_come place.count place.to_come seen c.pass_over-place.ensures.passed more)
-    (open_ends c.split_at.result.1.now f.buffer.items f.start place.count place.to_come seen (open_of (IsAtMessage (drop place.count c.split_at.result.1.now) place.to_come) (IsOpen (drop place.count c.split_at.result.1.now) place.to_come) place.at_message c.pass_over-place.ensures.stands off))
+    let stands = if_false (IsAtMessage mid place.to_come) (IsOpen mid place.to_come) place.at_message c.pass_over-place.ensures.stands off in
+    let same = passed_on c.args.self.now c.self.inside.framer c.self.inside.to_come c.held.result.now place.count place.to_come
+    c.self.view_is c.held.ensures.bytes c.pass_over-place.ensures.passed in
+    open_told c.args.self.now place.to_come c.skip.new.self
+    (subst (λ b. GoesOn c.args.self.now place.to_come b) (sym left) same)
+    (subst (λ b. IsOpen b place.to_come) (sym left) stands)
 
 pub returns-then-not-place-clause-exact : goal.returns-then-not-place-clause-exact
-returns-then-not-place-clause-exact c =
-    let f = c.self.inside in
-    let place = c.pass_over-place.result in
-    let new : Held = record {
-      to_come = place.to_come;
-      bytes = drop (f.start + place.count) f.buffer.items;
-      found = c.reset.new.self.found;
-      ended = f.ended;
-    } in
-    λ text ms tail reads parts. exact_of More text ms tail new (returns-then-not-place-clause-told c text ms reads) parts
+returns-then-not-place-clause-exact c = λ text ms tail reads parts.
+    exact_of More text ms tail (parter_of c.pass_over-place.result.to_come c.skip.new.self) (returns-then-not-place-clause-told c text ms reads) parts
+
+-- ---- a message begins
 
 pub invariant_of-self-2 : goal.invariant_of-self-2
 invariant_of-self-2 c =
-    let f = c.self.inside in
-    let items = f.buffer.items in
     let place = c.pass_over-place.result in
-    let reading = c.read_front-reading.result in
-    let mid = drop (f.start + place.count) items in
-    let seen : c.split_at.result.1.now ≡ drop f.start items =
-    c.split_at.ensures.back ∙ ap (λ t. drop f.start t) c.deref.ensures.value in
-    let next : c.split_at-2.result.1.now ≡ mid =
-    c.split_at-2.ensures.back ∙ ap (λ t. drop (f.start + place.count) t) c.deref-2.ensures.value in
+    let mid = drop place.count c.held.result.now in
+    let left : c.skip.new.self.bytes ≡ mid = c.skip.ensures.bytes ∙ ap (λ b. drop place.count b) (sym c.held.ensures.bytes) in
     let on : place.at_message ≡ true = search rules in
-    let at = message_of (IsAtMessage (drop place.count c.split_at.result.1.now) place.to_come) (IsOpen (drop place.count c.split_at.result.1.now) place.to_come) place.at_message c.pass_over-place.ensures.stands on in
-    let start : IsStart mid = subst IsStart (rest_at c.split_at.result.1.now items f.start place.count seen) at.start in
-    let read = subst (λ b. IsRead b c.read_front-reading.new.framer.found reading.step reading.count) next c.read_front-reading.ensures.read in
-    let passed = subst (λ s. IsPassed s f.to_come place.count place.to_come) seen c.pass_over-place.ensures.passed in
-    let rests = read_rests reading.step mid c.read_front-reading.new.framer.found reading.count place.to_come at.between start read in
-    let within = read_within reading.step mid c.read_front-reading.new.framer.found reading.count read in
+    let stands = if_true (IsAtMessage mid place.to_come) (IsOpen mid place.to_come) place.at_message c.pass_over-place.ensures.stands on in
     record {
-      start_within = omega (arith, within, passed.within, c.self.invariant.start_within, length-drop f.start items, length-drop (f.start + place.count) items);
-      held = c.self.invariant.held;
-      room = c.self.invariant.room;
-      rests = subst (IsEnd (drop (f.start + place.count + reading.count) items) place.to_come) (sym c.cause_of-self-inside.ensures.cause)
-          (subst (λ b. IsEnd b place.to_come (cause_of reading.step)) (rest_at mid items (f.start + place.count) reading.count refl) rests);
+      known = c.is_end-self-inside.ensures.end ∙ ap is_some (sym c.next-step.ensures.ended);
+      rests = rests_of c.next-step.result c.skip.new.self.bytes place.to_come c.next-step.new.self stands.between
+          (subst IsClear (sym left) (start_clear mid stands.start))
+          (c.next-step.ensures.told c.skip.new.self.bytes [] refl) c.next-step.ensures.ended;
     }
 
 pub returns-clause-told : goal.returns-clause-told
 returns-clause-told c =
-    let f = c.self.inside in
-    let items = f.buffer.items in
     let place = c.pass_over-place.result in
-    let reading = c.read_front-reading.result in
-    let mid = drop (f.start + place.count) items in
-    let new : Held = record {
-      to_come = place.to_come;
-      bytes = drop (f.start + place.count + reading.count) items;
-      found = c.read_front-reading.new.framer.found;
-      ended = c.cause_of-self-inside.result;
-    } in
-    let seen : c.split_at.result.1.now ≡ drop f.start items =
-    c.split_at.ensures.back ∙ ap (λ t. drop f.start t) c.deref.ensures.value in
-    let next : c.split_at-2.result.1.now ≡ mid =
-    c.split_at-2.ensures.back ∙ ap (λ t. drop (f.start + place.count) t) c.deref-2.ensures.value in
+    let mid = drop place.count c.held.result.now in
+    let left : c.skip.new.self.bytes ≡ mid = c.skip.ensures.bytes ∙ ap (λ b. drop place.count b) (sym c.held.ensures.bytes) in
     let on : place.at_message ≡ true = search rules in
-    let at = message_of (IsAtMessage (drop place.count c.split_at.result.1.now) place.to_come) (IsOpen (drop place.count c.split_at.result.1.now) place.to_come) place.at_message c.pass_over-place.ensures.stands on in
-    read_told reading.step c.args.self.now new mid reading.count
-    (λ more.
-    ap (λ (h : Held). behind (inside h.to_come) (h.bytes ++ more)) (sym c.self.view_is)
-    ∙ passed_on c.split_at.result.1.now f.buffer.items f.start f.to_come place.count place.to_come seen c.pass_over-place.ensures.passed more
-    ∙ ap (λ n. behind (inside n) (mid ++ more)) at.between)
-    at.between
-    (subst IsStart (rest_at c.split_at.result.1.now items f.start place.count seen) at.start)
-    (sym (rest_at mid items (f.start + place.count) reading.count refl))
-    (subst (λ b. IsRead b c.read_front-reading.new.framer.found reading.step reading.count) next c.read_front-reading.ensures.read)
+    let stands = if_true (IsAtMessage mid place.to_come) (IsOpen mid place.to_come) place.at_message c.pass_over-place.ensures.stands on in
+    let same = passed_on c.args.self.now c.self.inside.framer c.self.inside.to_come c.held.result.now place.count place.to_come
+    c.self.view_is c.held.ensures.bytes c.pass_over-place.ensures.passed in
+    told_of c.args.self.now mid place.to_come c.next-step.result c.next-step.new.self same stands.between (start_clear mid stands.start)
+    (c.next-step.ensures.told mid [] (ap skip_newlines (sym left)))
 
 pub returns-clause-exact : goal.returns-clause-exact
-returns-clause-exact c =
-    let f = c.self.inside in
-    let place = c.pass_over-place.result in
-    let reading = c.read_front-reading.result in
-    let new : Held = record {
-      to_come = place.to_come;
-      bytes = drop (f.start + place.count + reading.count) f.buffer.items;
-      found = c.read_front-reading.new.framer.found;
-      ended = c.cause_of-self-inside.result;
-    } in
-    λ text ms tail reads parts. exact_of reading.step text ms tail new (returns-clause-told c text ms reads) parts
+returns-clause-exact c = λ text ms tail reads parts.
+    exact_of c.next-step.result text ms tail (parter_of c.pass_over-place.result.to_come c.next-step.new.self) (returns-clause-told c text ms reads) parts

@@ -1,3 +1,0 @@
-//! Reading and catching on few datagrams.
-mod catching;
-mod reading;

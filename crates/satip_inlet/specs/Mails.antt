@@ -1,7 +1,0 @@
--- What an inlet over memory keeps.
-use Rattle.std.specs.Prelude.{ℕ, List}
-use Rattle.satip_inlet.specs.declared.memory_inlet.Mail.{Mail}
-
--- the bytes of a datagram that it gave
-abbrev pub bytes_of : Mail → List ℕ
-bytes_of mail = mail.bytes.items

@@ -1,0 +1,5 @@
+pub mod Shelves
+pub mod Kept
+pub mod Reels
+pub mod Lobby
+pub mod Mails

@@ -1,0 +1,7 @@
+-- What an inlet over memory keeps.
+use Rattle.std.specs.Prelude.{ℕ, List}
+use Rattle.satip_memory.specs.declared.inlet.Mail.{Mail}
+
+-- the bytes of a datagram that it gave
+abbrev pub bytes_of : Mail → List ℕ
+bytes_of mail = mail.bytes.items

@@ -1,0 +1,237 @@
+//! A desk over memory.
+
+ghost use Rattle.std.specs.Prelude.{◌≡◌, ◌∷◌, None, Some, length, map, option_map, IfOk, IfSome, OnOk, OnErr};
+ghost use Rattle.std.specs.Option.{option_copied};
+ghost use Rattle.std.specs.List.{find};
+ghost use Rattle.std.specs.Str.{bytes_eq};
+ghost use Rattle.satip_world.specs.Recordings.{IsStarted};
+ghost use Rattle.satip_memory_desk.specs.Cabinets.{text_in};
+ghost use Rattle.satip_memory_desk.specs.Drawers.{row_of, AreNewKits, given_view};
+
+use satip_base::{Failed, Text, Want};
+use satip_config::Config;
+use satip_memory::{
+    MemoryClock, MemoryDoors, MemoryOutlet, MemoryPacer, MemorySource, MemoryStore,
+};
+use satip_serve::Jobs;
+use satip_serving::{Desk, JobsFault};
+use std::alloc::Global;
+use std::marker::Model;
+use std::snapshot::Snapshot;
+
+// A name, the text of its configuration, and which takes of it are to fail.
+#[derive(Drop)]
+struct Drawer {
+    name: Vec<u8>,
+    text: Vec<u8>,
+    failing: Vec<u64>,
+}
+
+/// The kits of jobs over memory.
+pub type MemoryJobs = Jobs<MemoryDoors, MemoryOutlet, MemoryPacer, MemoryStore, MemoryClock>;
+
+// Kits whose doors end after so many connections.
+#[derive(Drop)]
+struct Laid {
+    accepts: u32,
+    jobs: MemoryJobs,
+}
+
+/// A desk of given texts and of given kits.
+#[derive(Drop)]
+pub struct MemoryDesk {
+    alloc: Global,
+    drawers: Vec<Drawer>,
+    laid: Option<Laid>,
+    given: Option<Snapshot<MemoryJobs>>,
+    failing: u64,
+    faults: u64,
+}
+
+impl Model for MemoryDesk {
+    ghost use Rattle.satip_memory_desk.specs.Cabinets.{Cabinet};
+    ghost use Rattle.std.specs.Prelude.{map, option_map};
+    ghost use Rattle.satip_memory_desk.specs.Drawers.{row_of};
+    ghost use Rattle.std.specs.Prelude.{IfSome};
+    ghost use Rattle.satip_memory_desk.specs.Drawers.{AreNewKits, given_kits};
+
+    ghost Value = { Cabinet };
+
+    ghost view = { λ d. record {
+      texts = map row_of d.drawers.items;
+      failing_takes = map (λ drawer. drawer.failing.items) d.drawers.items;
+      laid = option_map (λ laid. laid.accepts) d.laid;
+      given = option_map (λ kits. given_kits kits.value) d.given;
+      failing = d.failing;
+      faults = d.faults;
+    } };
+
+    ghost invariant = { λ d. IfSome d.laid (λ laid. AreNewKits laid.accepts laid.jobs) };
+}
+
+impl MemoryDesk {
+    ghost use Rattle.satip_memory_desk.specs.Cabinets.{empty_cabinet};
+
+    /// A desk without texts. The first `failing` calls fail, and so does each call with a name that
+    /// has no text.
+    pub fn make(alloc: Global, failing: u64) -> MemoryDesk
+        ensures empty { result ≡ empty_cabinet failing }
+    {
+        MemoryDesk {
+            alloc,
+            drawers: Vec::new(alloc),
+            laid: None,
+            given: None,
+            failing,
+            faults: 0,
+        }
+    }
+
+    /// Puts in kits with which nothing was done, whose doors end after `accepts` connections. They
+    /// are given for this number alone, and for a configuration with as many workers and front
+    /// ends.
+    pub fn lay(&mut self, accepts: u32, jobs: MemoryJobs)
+        requires new { AreNewKits accepts jobs }
+        ensures laid { self.new ≡ record self.old { laid = Some accepts } }
+    {
+        self.laid = Some(Laid { accepts, jobs });
+    }
+
+    /// Puts in the text of a name, in place of one that it has. Its takes with a number, from 1, in
+    /// `failing` fail.
+    pub fn add(&mut self, name: &str, text: &[u8], failing: &[u64]) -> Result<(), Want>
+        ensures added { OnOk result (self.new.texts ≡ (name.now, text.now) ∷ self.old.texts) }
+        ensures takes { OnOk result (self.new.failing_takes
+            ≡ failing.now ∷ self.old.failing_takes) }
+        ensures same { OnErr result (self.new ≡ self.old) }
+        ensures laid { self.new.laid ≡ self.old.laid }
+        ensures failing { self.new.failing ≡ self.old.failing }
+        ensures faults { self.new.faults ≡ self.old.faults }
+        ensures given { self.new.given ≡ self.old.given }
+    {
+        let (Ok(name), Ok(text), Ok(failing)) = (
+            Vec::from_slice(self.alloc, name.as_bytes()),
+            Vec::from_slice(self.alloc, text),
+            Vec::from_slice(self.alloc, failing),
+        ) else {
+            return Err(Want);
+        };
+        let drawer = Drawer {
+            name,
+            text,
+            failing,
+        };
+        match self.drawers.insert(0, drawer) {
+            Ok(()) => Ok(()),
+            Err(_) => Err(Want),
+        }
+    }
+}
+
+// The text of a name from its beginning; `None` where there is none, or no memory.
+fn open(alloc: Global, drawers: &[Drawer], name: &[u8]) -> Option<MemorySource>
+    ensures started { IfSome result (λ source. IsStarted (Unit {0}) source
+        (text_in (map row_of drawers.now) name.now)) }
+{
+    let Some(drawer) = find_drawer(drawers, name) else {
+        return None;
+    };
+    match MemorySource::make(alloc, &drawer.text, &[], &drawer.failing) {
+        Ok(source) => Some(source),
+        Err(_) => None,
+    }
+}
+
+fn find_drawer<'d>(drawers: &'d [Drawer], name: &[u8]) -> Option<&'d Drawer>
+    ensures found { option_copied result ≡ find (λ drawer. bytes_eq drawer.name.items name.now)
+        drawers.now }
+{
+    drawers.iter().find(|drawer| drawer.name.as_slice() == name)
+}
+
+// Takes out the kits that were laid, if they are as many and for so many connections.
+fn take_kits(
+    laid: &mut Option<Laid>,
+    accepts: u32,
+    workers: usize,
+    pumps: usize,
+) -> Option<MemoryJobs>
+    requires new { IfSome laid.old (λ l. AreNewKits l.accepts l.jobs) }
+    ensures empty { laid.new ≡ None }
+    ensures workers { IfSome result (λ jobs. length jobs.workers.items ≡ workers) }
+    ensures pumps { IfSome result (λ jobs. length jobs.pumps.items ≡ pumps) }
+    ensures new { IfSome result (AreNewKits accepts) }
+{
+    let Some(kits) = laid.take() else {
+        return None;
+    };
+    if kits.accepts != accepts {
+        return None;
+    }
+    if kits.jobs.workers.len() != workers {
+        return None;
+    }
+    if kits.jobs.pumps.len() != pumps {
+        return None;
+    }
+    Some(kits.jobs)
+}
+
+impl Desk for MemoryDesk {
+    type Config = MemorySource;
+
+    type Doors = MemoryDoors;
+
+    type Outlet = MemoryOutlet;
+
+    type Pacer = MemoryPacer;
+
+    type Store = MemoryStore;
+
+    type Clock = MemoryClock;
+
+    ghost text = { λ d name. text_in d.texts name };
+
+    ghost faults = { λ d. d.faults };
+
+    ghost given = { λ d. option_map given_view d.given };
+
+    #[tactic(auto, using(crate::proofs::DrawerLemmas::kits_seen))]
+    fn jobs(
+        &mut self,
+        _alloc: Global,
+        config: &Config,
+        accepts: u32,
+    ) -> Result<MemoryJobs, JobsFault> {
+        match take_kits(
+            &mut self.laid,
+            accepts,
+            config.workers as usize,
+            config.fronts.len(),
+        ) {
+            Some(jobs) => {
+                self.given = Some(Snapshot::of(&jobs));
+                Ok(jobs)
+            }
+            None => {
+                self.faults = self.faults.saturating_add(1);
+                Err(JobsFault::Failed)
+            }
+        }
+    }
+
+    fn config(&mut self, name: &Text) -> Result<MemorySource, Failed> {
+        if self.failing > 0 {
+            self.failing -= 1;
+            self.faults = self.faults.saturating_add(1);
+            return Err(Failed);
+        }
+        match open(self.alloc, &self.drawers, name.bytes()) {
+            Some(source) => Ok(source),
+            None => {
+                self.faults = self.faults.saturating_add(1);
+                Err(Failed)
+            }
+        }
+    }
+}

@@ -1,0 +1,79 @@
+//! Datagrams that are read, and datagrams that aren't.
+use satip_base::{Address, Out};
+use satip_catch::read_rtp;
+use satip_rtp::Packer;
+use satip_ts::Packet;
+use std::test::Fail;
+
+// Version 2, payload type 33, number 65534, timestamp 90000, source 0x11223344, and 7 packets.
+fn datagram() -> [u8; 1328] {
+    let mut bytes = [0; 1328];
+    bytes[..12].copy_from_slice(b"\x80\x21\xff\xfe\x00\x01\x5f\x90\x11\x22\x33\x44");
+    for number in 0..7usize {
+        bytes[12 + 188 * number] = 0x47;
+    }
+    bytes
+}
+
+#[test]
+fn a_datagram_is_read(rt: HostRuntime) -> Result<(), Fail> {
+    let mut bytes = datagram();
+    let view = read_rtp(&bytes).ok_or("view")?;
+    assert_eq!(rt; view.number, 65534);
+    assert_eq!(rt; view.ssrc, 0x11223344);
+    assert!(rt; view.packets == bytes.split_at(12).1);
+    bytes[1] = 0xa1;
+    assert!(rt; read_rtp(&bytes).is_some());
+    assert!(rt; read_rtp(bytes.split_at(200).0).is_some());
+    Ok(())
+}
+
+#[test]
+fn other_datagrams_are_dropped(rt: HostRuntime) -> Result<(), Fail> {
+    // another version, padding, an extension, a contributing source; another payload type
+    for (at, byte) in [
+        (0, 0x40),
+        (0, 0xa0),
+        (0, 0x90),
+        (0, 0x81),
+        (1, 0x20),
+        (1, 0xe0),
+    ] {
+        let mut bytes = datagram();
+        bytes[at] = byte;
+        assert!(rt; read_rtp(&bytes).is_none());
+    }
+    for number in 0..7usize {
+        let mut bytes = datagram();
+        bytes[12 + 188 * number] = 0x46;
+        assert!(rt; read_rtp(&bytes).is_none());
+    }
+    let bytes = datagram();
+    for cut in [0, 1, 11, 12, 13, 199, 201, 1327] {
+        assert!(rt; read_rtp(&bytes[..cut]).is_none());
+    }
+    let mut eight = [0x47; 12 + 8 * 188];
+    eight[..12].copy_from_slice(&bytes[..12]);
+    assert!(rt; read_rtp(&eight).is_none());
+    Ok(())
+}
+
+#[test]
+fn what_a_packer_sends_is_read(rt: HostRuntime) -> Result<(), Fail> {
+    let to = Address {
+        ip: 0x7f000001,
+        port: 1400,
+    };
+    let packet = Packet::of(&[0x47; 188]).ok_or("packet")?;
+    let mut out = Out::make(rt.alloc())?;
+    let mut packer = Packer::new(0xfedcba98, 513);
+    packer.push(&packet, 1000, to, &mut out);
+    packer.push(&packet, 1000, to, &mut out);
+    packer.flush(1000, to, &mut out);
+    let (_, bytes) = out.datagram(0).ok_or("datagram")?;
+    let view = read_rtp(bytes).ok_or("view")?;
+    assert_eq!(rt; view.number, 513);
+    assert_eq!(rt; view.ssrc, 0xfedcba98);
+    assert!(rt; view.packets == [0x47; 2 * 188].as_slice());
+    Ok(())
+}

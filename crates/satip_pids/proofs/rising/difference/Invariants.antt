@@ -1,9 +1,0 @@
-use Rattle.std.proofs.Common.{◌≡◌, ◌≤◌, length, take}
-use Rattle.satip_pids.specs.Rising.{without}
-use Rattle.satip_pids.proofs.rising.difference.Given as goal
-
-abbrev pub invariant-loop-pid : goal.invariant-loop-pid
-invariant-loop-pid l = record {
-  kept : l.kept ≡ without (take l.pid-index l.pids) l.list;
-  few : length l.kept ≤ l.pid-index;
-}

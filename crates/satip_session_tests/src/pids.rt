@@ -1,0 +1,174 @@
+mod plain;
+mod rising;
+
+ghost use Rattle.std.specs.Prelude.{◌≡◌, ◌<◌, ◌≤◌, [], ◌∷◌, Ok, Err, Some, None};
+ghost use Rattle.satip_pids.specs.Pids.{Pids, Every, Only, AllPids, Unsaid, Listed, set_pids, apply};
+
+use plain::PlainSet;
+use satip_base::Strip;
+use satip_pids::{PidFault, PidList, PidSet};
+
+// The PIDs below a number, and in front of them those that are given.
+fn pids_below(end: u16, front: &[u16]) -> PidList
+    requires below { end ≤ 8192 }
+{
+    let mut list = PidList::new();
+    for pid in front {
+        list.push(*pid % 8192);
+    }
+    for pid in 0..end {
+        list.push(pid);
+    }
+    list
+}
+
+// Numbers go into their places, each once; the first fault counts.
+fn changes_go_in_order()
+    ensures sorted { set_pids (17 ∷ 0 ∷ 16 ∷ 17 ∷ []) ≡ Ok (Only (0 ∷ 16 ∷ 17 ∷ [])) }
+    ensures all_three { apply Every (Listed (16 ∷ 0 ∷ [])) (Some (18 ∷ 17 ∷ []))
+        (Some (0 ∷ 18 ∷ 9 ∷ [])) ≡ Ok (Only (16 ∷ 17 ∷ [])) }
+    ensures all_with_remove { apply (Only (1 ∷ [])) AllPids None (Some (16 ∷ []))
+        ≡ Err PidFault.UnderAll }
+    ensures none_said { apply (Only (1 ∷ [])) Unsaid None None ≡ Ok (Only (1 ∷ [])) }
+    ensures none_listed { apply Every (Listed []) None None ≡ Ok (Only []) }
+{}
+
+#[test]
+fn a_set_has_what_was_listed(rt: HostRuntime) {
+    changes_go_in_order();
+    let mut set = PidSet::new();
+    assert_eq!(rt; set.set(&[17, 0, 16, 17]), Ok(()));
+    assert_eq!(rt; set.add(&[100, 16]), Ok(()));
+    assert_eq!(rt; set.remove(&[0, 101]), Ok(()));
+    assert!(rt; set.has(16) && set.has(17) && set.has(100));
+    assert!(rt; !set.has(0) && !set.has(18) && !set.has(101));
+}
+
+#[test]
+fn a_set_of_all_refuses_to_remove(rt: HostRuntime) {
+    let mut set = PidSet::new();
+    set.set_all();
+    assert_eq!(rt; set.add(&[16]), Ok(()));
+    assert_eq!(rt; set.remove(&[16]), Err(PidFault::UnderAll));
+    assert!(rt; set.has(16) && set.has(8191));
+    assert_eq!(rt; set.set(&[]), Ok(()));
+    assert_eq!(rt; printed(&set).bytes(), b"none".as_slice());
+}
+
+#[test]
+fn a_set_lists_256_pids_and_no_more(rt: HostRuntime) {
+    let mut set = PidSet::new();
+    assert_eq!(rt; set.set(pids_below(256, &[255, 3]).as_slice()), Ok(()));
+    let before = printed(&set);
+    assert_eq!(rt; set.add(&[256]), Err(PidFault::TooMany));
+    assert_eq!(rt;
+        set.set(pids_below(257, &[]).as_slice()),
+        Err(PidFault::TooMany)
+    );
+    assert_eq!(rt; printed(&set).bytes(), before.bytes());
+    assert_eq!(rt; set.add(&[0, 255]), Ok(()));
+    assert_eq!(rt; printed(&set).bytes(), before.bytes());
+}
+
+#[test]
+fn a_list_has_room_for_512(rt: HostRuntime) {
+    let mut list = pids_below(511, &[]);
+    assert!(rt; list.push(8191));
+    assert!(rt; !list.push(7));
+    assert_eq!(rt; list.as_slice().len(), 512);
+    assert_eq!(rt; list.as_slice()[511], 8191);
+}
+
+fn printed(set: &PidSet) -> Strip {
+    let mut strip = Strip::new();
+    set.print(&mut strip);
+    strip
+}
+
+#[test]
+fn a_set_is_printed_in_rising_order(rt: HostRuntime) {
+    let mut set = PidSet::new();
+    assert_eq!(rt; printed(&set).bytes(), b"none".as_slice());
+    assert_eq!(rt; set.set(&[400, 8191, 0]), Ok(()));
+    assert_eq!(rt; printed(&set).bytes(), b"0,400,8191".as_slice());
+    set.set_all();
+    assert_eq!(rt; printed(&set).bytes(), b"all".as_slice());
+}
+
+#[test]
+fn a_copy_stays_as_it_is(rt: HostRuntime) {
+    let mut set = PidSet::new();
+    assert_eq!(rt; set.set(&[63, 64, 8191]), Ok(()));
+    let copy = set.copy();
+    let mut other = PidSet::new();
+    other.copy_from(&set);
+    set.set_all();
+    assert_eq!(rt; printed(&copy).bytes(), b"63,64,8191".as_slice());
+    assert_eq!(rt; printed(&other).bytes(), b"63,64,8191".as_slice());
+}
+
+#[test]
+fn a_word_holds_64_pids(rt: HostRuntime) {
+    let mut set = PidSet::new();
+    assert_eq!(rt; set.set(&[64, 66, 127, 128]), Ok(()));
+    assert_eq!(rt; set.word(0), 0);
+    assert_eq!(rt; set.word(1), 0x8000_0000_0000_0005);
+    assert_eq!(rt; set.word(2), 1);
+    set.set_all();
+    assert_eq!(rt; set.word(127), u64::MAX);
+}
+
+// The next number of a linear congruential generator.
+fn next(state: u64) -> u64 {
+    state
+        .wrapping_mul(6_364_136_223_846_793_005)
+        .wrapping_add(1_442_695_040_888_963_407)
+}
+
+// Up to 63 PIDs that a number makes, one in four times near each other.
+fn made_list(seed: u64) -> PidList {
+    let mut list = PidList::new();
+    let span = if seed >> 62 == 0 { 100 } else { 8192 };
+    let mut state = seed;
+    for _pid in 0..(seed >> 40) % 64 {
+        state = next(state);
+        list.push(((state >> 33) % span % 8192) as u16);
+    }
+    list
+}
+
+// Makes one call of each set, and tells whether both answer alike.
+fn answer_alike(set: &mut PidSet, plain: &mut PlainSet, seed: u64) -> bool {
+    let list = made_list(next(seed));
+    match (seed >> 48) % 16 {
+        0 => {
+            set.set_all();
+            plain.set_all();
+            true
+        }
+        1 | 2 => set.set(list.as_slice()) == plain.set(list.as_slice()),
+        3 | 4 | 5 => set.remove(list.as_slice()) == plain.remove(list.as_slice()),
+        _ => set.add(list.as_slice()) == plain.add(list.as_slice()),
+    }
+}
+
+// Whether both sets select the same PIDs.
+fn are_alike(set: &PidSet, plain: &PlainSet, pid: u16) -> bool
+    requires below { pid < 8192 }
+{
+    let mut text = Strip::new();
+    plain.print(&mut text);
+    printed(set).bytes() == text.bytes() && set.has(pid) == plain.has(pid)
+}
+
+#[test]
+fn bits_and_a_list_are_the_same_set(rt: HostRuntime) {
+    let mut set = PidSet::new();
+    let mut plain = PlainSet::new();
+    let mut state = 25;
+    for _call in 0..10_000 {
+        state = next(state);
+        assert!(rt; answer_alike(&mut set, &mut plain, state));
+        assert!(rt; are_alike(&set, &plain, (state >> 50) as u16 % 8192));
+    }
+}

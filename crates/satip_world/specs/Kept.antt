@@ -1,7 +1,0 @@
--- What the versions over memory keep.
-use Rattle.satip_base.specs.Output.{Datagram}
-use Rattle.satip_world.specs.declared.memory_outlet.Mail.{Mail}
-
--- a datagram that an outlet keeps
-abbrev pub datagram_of : Mail → Datagram
-datagram_of mail = record { to = mail.to; bytes = mail.bytes.items }
