@@ -93,30 +93,65 @@ fn ticked(parts: &mut Parts, out: &mut Out, now: u64) -> usize {
     out.count()
 }
 
+/// Gives a packet with each of these tune numbers, behind which so many datagrams leave.
+fn give_each(rt: &impl Abort, parts: &mut Parts, out: &mut Out, given: &[(u64, usize)]) {
+    let packet = packet(rt);
+    for (tune, datagrams) in given {
+        assert_eq!(rt; sent(parts, out, *tune, &packet), *datagrams);
+    }
+}
+
+/// Ticks at each of these moments, at which so many datagrams leave.
+fn tick_each(rt: &impl Abort, parts: &mut Parts, out: &mut Out, ticks: &[(u64, usize)]) {
+    for (now, datagrams) in ticks {
+        assert_eq!(rt; ticked(parts, out, *now), *datagrams);
+    }
+}
+
+/// Pulls for a session, with each of these answers and so many bytes.
+fn pull_each(
+    rt: &impl Abort,
+    parts: &mut Parts,
+    out: &mut Out,
+    id: SessionId,
+    pulls: &[(Pulled, usize)],
+) {
+    for (pulled, bytes) in pulls {
+        out.clear();
+        assert_eq!(rt; parts.pull(id, out), *pulled);
+        assert_eq!(rt; out.reply().len(), *bytes);
+    }
+}
+
+/// Closes a session, with each of these answers.
+fn close_each(rt: &impl Abort, parts: &mut Parts, out: &mut Out, id: SessionId, closes: &[Closed]) {
+    for closed in closes {
+        out.clear();
+        assert_eq!(rt; parts.close(id, out), *closed);
+    }
+}
+
 #[test]
 fn seven_packets_leave_and_reports_follow(rt: HostRuntime) -> Result<(), Fail> {
-    let mut parts = parts(rt.alloc())?;
     let mut out = Out::make(rt.alloc())?;
-    let packet = packet(&rt);
+    let mut parts = parts(rt.alloc())?;
     let id = tuned(&rt, &mut parts, &mut out, false);
     parts.play(id);
     assert_eq!(rt; parts.work(1), Work::Tune { mux: 1, tune: 1 });
-    for _held in 0..6 {
-        assert_eq!(rt; sent(&mut parts, &mut out, 1, &packet), 0);
-    }
-    assert_eq!(rt; sent(&mut parts, &mut out, 2, &packet), 0);
-    assert_eq!(rt; sent(&mut parts, &mut out, 1, &packet), 1);
-    assert_eq!(rt; sent(&mut parts, &mut out, 1, &packet), 0);
-    assert_eq!(rt; ticked(&mut parts, &mut out, 1200), 2);
-    assert_eq!(rt; ticked(&mut parts, &mut out, 1399), 0);
-    assert_eq!(rt; ticked(&mut parts, &mut out, 1400), 1);
+    give_each(&rt, &mut parts, &mut out, &[(1, 0); 6]);
+    give_each(&rt, &mut parts, &mut out, &[(2, 0), (1, 1), (1, 0)]);
+    tick_each(
+        &rt,
+        &mut parts,
+        &mut out,
+        &[(1200, 2), (1399, 0), (1400, 1)],
+    );
     assert!(rt;
         parts
             .view(1)
             .is_some_and(|view| view.locked && view.playing)
     );
-    assert_eq!(rt; ticked(&mut parts, &mut out, 60999), 1);
-    assert_eq!(rt; ticked(&mut parts, &mut out, 61000), 0);
+    tick_each(&rt, &mut parts, &mut out, &[(60999, 1), (61000, 0)]);
     assert!(rt; parts.view(1).is_none());
     assert_eq!(rt; parts.work(1), Work::Nothing);
     Ok(())
@@ -124,26 +159,17 @@ fn seven_packets_leave_and_reports_follow(rt: HostRuntime) -> Result<(), Fail> {
 
 #[test]
 fn a_queue_is_pulled_and_closed(rt: HostRuntime) -> Result<(), Fail> {
-    let mut parts = parts(rt.alloc())?;
     let mut out = Out::make(rt.alloc())?;
-    let packet = packet(&rt);
+    let mut parts = parts(rt.alloc())?;
     let id = tuned(&rt, &mut parts, &mut out, true);
-    for _queued in 0..3 {
-        assert_eq!(rt; sent(&mut parts, &mut out, 1, &packet), 0);
-    }
-    out.clear();
-    assert_eq!(rt; parts.pull(id, &mut out), Pulled::Bytes(564));
-    assert_eq!(rt; out.reply().len(), 564);
-    out.clear();
-    assert_eq!(rt; parts.pull(id, &mut out), Pulled::Empty);
+    give_each(&rt, &mut parts, &mut out, &[(1, 0); 3]);
+    let pulls = [(Pulled::Bytes(564), 564), (Pulled::Empty, 0)];
+    pull_each(&rt, &mut parts, &mut out, id, &pulls);
     parts.ended(1, 1);
     assert_eq!(rt; parts.work(1), Work::Nothing);
-    out.clear();
-    assert_eq!(rt; parts.close(id, &mut out), Closed::Yes);
-    out.clear();
-    assert_eq!(rt; parts.close(id, &mut out), Closed::Gone);
-    out.clear();
-    assert_eq!(rt; parts.pull(id, &mut out), Pulled::Gone);
+    let closes = [Closed::Yes, Closed::Gone];
+    close_each(&rt, &mut parts, &mut out, id, &closes);
+    pull_each(&rt, &mut parts, &mut out, id, &[(Pulled::Gone, 0)]);
     parts.stop();
     assert_eq!(rt; parts.work(1), Work::Stopping);
     Ok(())
@@ -151,8 +177,8 @@ fn a_queue_is_pulled_and_closed(rt: HostRuntime) -> Result<(), Fail> {
 
 #[test]
 fn a_full_queue_ends_its_session(rt: HostRuntime) -> Result<(), Fail> {
-    let mut parts = parts(rt.alloc())?;
     let mut out = Out::make(rt.alloc())?;
+    let mut parts = parts(rt.alloc())?;
     let packet = packet(&rt);
     let id = tuned(&rt, &mut parts, &mut out, true);
     for _queued in 0..4096 {

@@ -1,6 +1,6 @@
 //! What requests change, of sessions and streams that can be followed by hand.
 
-ghost use Rattle.std.specs.Prelude.{◌≡◌};
+ghost use Rattle.std.specs.Prelude.{◌≡◌, ◌<◌};
 
 use satip_base::{Draw, Out, Peer, Ports, SessionId};
 use satip_pids::PidList;
@@ -93,35 +93,54 @@ fn tuned(parts: &Parts, number: u16) -> Option<(u16, u32)> {
     Some((stream.front?, tuning.freq))
 }
 
-#[test]
-fn a_query_tunes_a_founded_stream(rt: HostRuntime) -> Result<(), Fail> {
-    let mut parts = parts(rt.alloc())?;
-    let mut out = Out::make(rt.alloc())?;
-    let (id, number) = found(&rt, &mut parts, 10);
-    assert_eq!(rt; id, SessionId { count: 1, word: 10 });
-    assert_eq!(rt; number, 1);
-    assert_eq!(rt; tuned(&parts, 1), None);
+/// A query for the first multiplex that adds PID 16.
+fn add_sixteen(parts: &mut Parts, out: &mut Out) {
     let mut pids = PidList::new();
     pids.push(16);
     let asked = Query {
         addpids: Some(pids),
         ..query(FIRST)
     };
-    parts.change_by(1, &asked, &mut out);
-    assert_eq!(rt; out.count(), 0);
-    assert_eq!(rt; tuned(&parts, 1), Some((1, 11361750)));
-    assert!(rt;
-        parts
-            .stream(1)
-            .is_some_and(|stream| stream.pids.has(16) && !stream.pids.has(17))
-    );
+    out.clear();
+    parts.change_by(1, &asked, out);
+}
+
+/// A query for all PIDs without PID 16, which is refused.
+fn refuse_all(parts: &mut Parts, out: &mut Out) {
+    let mut pids = PidList::new();
+    pids.push(16);
     let refused = Query {
         pids: PidsGiven::All,
         delpids: Some(pids),
         ..Query::new()
     };
-    parts.change_by(1, &refused, &mut out);
-    assert!(rt; parts.stream(1).is_some_and(|stream| !stream.pids.has(17)));
+    out.clear();
+    parts.change_by(1, &refused, out);
+}
+
+/// Whether the first stream selects a PID.
+fn has_pid(parts: &Parts, pid: u16) -> bool
+    requires below { pid < 8192 }
+{
+    match parts.stream(1) {
+        Some(stream) => stream.pids.has(pid),
+        None => false,
+    }
+}
+
+#[test]
+fn a_query_tunes_a_founded_stream(rt: HostRuntime) -> Result<(), Fail> {
+    let mut out = Out::make(rt.alloc())?;
+    let mut parts = parts(rt.alloc())?;
+    let found = found(&rt, &mut parts, 10);
+    assert_eq!(rt; found, (SessionId { count: 1, word: 10 }, 1));
+    assert_eq!(rt; tuned(&parts, 1), None);
+    add_sixteen(&mut parts, &mut out);
+    assert_eq!(rt; out.count(), 0);
+    assert_eq!(rt; tuned(&parts, 1), Some((1, 11361750)));
+    assert!(rt; has_pid(&parts, 16) && !has_pid(&parts, 17));
+    refuse_all(&mut parts, &mut out);
+    assert!(rt; !has_pid(&parts, 17));
     Ok(())
 }
 
@@ -142,41 +161,71 @@ fn a_session_plays_to_where_it_moved(rt: HostRuntime) -> Result<(), Fail> {
     Ok(())
 }
 
-#[test]
-fn streams_of_one_multiplex_come_to_share_a_front_end(rt: HostRuntime) -> Result<(), Fail> {
-    let mut parts = parts(rt.alloc())?;
-    let mut out = Out::make(rt.alloc())?;
-    found(&rt, &mut parts, 10);
-    found(&rt, &mut parts, 11);
-    parts.change_by(1, &query(FIRST), &mut out);
-    parts.change_by(2, &query(SECOND), &mut out);
-    assert_eq!(rt; tuned(&parts, 2), Some((2, 12402000)));
+/// Asks for a multiplex on a stream, which then has this front end and this frequency.
+fn retune(
+    rt: &impl Abort,
+    parts: &mut Parts,
+    out: &mut Out,
+    number: u16,
+    mux: Mux,
+    wanted: (u16, u32),
+) {
     out.clear();
-    parts.change_by(2, &query(FIRST), &mut out);
-    assert_eq!(rt; tuned(&parts, 1), Some((1, 11361750)));
-    assert_eq!(rt; tuned(&parts, 2), Some((1, 11361750)));
-    Ok(())
+    parts.change_by(number, &query(mux), out);
+    assert_eq!(rt; tuned(parts, number), Some(wanted));
 }
 
 #[test]
-fn sessions_are_made_until_64_live(rt: HostRuntime) -> Result<(), Fail> {
+fn streams_of_one_multiplex_come_to_share_a_front_end(rt: HostRuntime) -> Result<(), Fail> {
+    let mut out = Out::make(rt.alloc())?;
     let mut parts = parts(rt.alloc())?;
-    let peer = Peer { ip: 7 };
-    assert_eq!(rt; parts.join(peer, draw(9), PORTS, 1), None);
-    let (id, number) = parts.found(true, peer, draw(10), PORTS).expect(&rt, "room");
+    found(&rt, &mut parts, 10);
+    found(&rt, &mut parts, 11);
+    retune(&rt, &mut parts, &mut out, 1, FIRST, (1, 11361750));
+    retune(&rt, &mut parts, &mut out, 2, SECOND, (2, 12402000));
+    retune(&rt, &mut parts, &mut out, 2, FIRST, (1, 11361750));
+    assert_eq!(rt; tuned(&parts, 1), Some((1, 11361750)));
+    Ok(())
+}
+
+/// Joins the first stream, which gives this session.
+fn joins(rt: &impl Abort, parts: &mut Parts, word: u32, wanted: Option<SessionId>) {
+    assert_eq!(rt; parts.join(Peer { ip: 7 }, draw(word), PORTS, 1), wanted);
+}
+
+/// An HTTP session founds the first stream, and plays.
+fn founds_first(rt: &impl Abort, parts: &mut Parts) {
+    let (id, number) = parts
+        .found(true, Peer { ip: 7 }, draw(10), PORTS)
+        .expect(rt, "room");
     assert_eq!(rt; number, 1);
     assert!(rt;
         parts
             .http_session(id)
             .is_some_and(|session| session.playing)
     );
-    let joined = parts.join(peer, draw(11), PORTS, 1);
-    assert_eq!(rt; joined, Some(SessionId { count: 2, word: 11 }));
+}
+
+/// Compares that there is room for no session.
+fn takes_no_more(rt: &impl Abort, parts: &mut Parts) {
+    assert!(rt; parts.is_full());
+    assert!(rt;
+        parts
+            .found(false, Peer { ip: 7 }, draw(13), PORTS)
+            .is_none()
+    );
+    joins(rt, parts, 13, None);
+}
+
+#[test]
+fn sessions_are_made_until_64_live(rt: HostRuntime) -> Result<(), Fail> {
+    let mut parts = parts(rt.alloc())?;
+    joins(&rt, &mut parts, 9, None);
+    founds_first(&rt, &mut parts);
+    joins(&rt, &mut parts, 11, Some(SessionId { count: 2, word: 11 }));
     for _made in 0..62 {
         found(&rt, &mut parts, 12);
     }
-    assert!(rt; parts.is_full());
-    assert!(rt; parts.found(false, peer, draw(13), PORTS).is_none());
-    assert_eq!(rt; parts.join(peer, draw(13), PORTS, 1), None);
+    takes_no_more(&rt, &mut parts);
     Ok(())
 }
