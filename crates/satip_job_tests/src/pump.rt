@@ -7,9 +7,7 @@ ghost use Rattle.satip_pump.specs.PumpRuns.{last_from};
 ghost use Rattle.satip_pump.specs.Pauses.{idle_in, one_if_unmade, packets_in};
 ghost use Rattle.satip_pump.specs.Readings.{held};
 
-mod plain;
 mod script;
-mod sides;
 
 use satip_base::{Out, Want};
 use satip_memory::{MemoryClock, MemoryOutlet, MemoryPacer, MemoryStore};

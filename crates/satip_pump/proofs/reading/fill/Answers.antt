@@ -7,7 +7,7 @@ loop-init g c = (
   tt,
   tt,
   λ first early reel stands.
-  kept_goes _ _ first _ early reel c.args.reading.now c.renew.new.self stands (rw c.renew.ensures.renewed refl) (rw c.renew.ensures.renewed refl),
+      kept_goes _ _ first _ early reel c.args.reading.now c.renew.new.self stands (rw c.renew.ensures.renewed refl) (rw c.renew.ensures.renewed refl),
   refl,
   refl,
   rw (c.renew.ensures.renewed, c.requires.empty) refl,

@@ -1,0 +1,60 @@
+-- Lines of entries: what is written is read again.
+use Rattle.std.proofs.Common.{◌≡◌, ℕ, zero, suc, ◌+◌, ◌-◌, ◌<◌, ◌≤◌, ◌^◌, Bool, true, false, List, [], ◌∷◌, ◌++◌, length, take, Some, None, refl, sym, ap, ◌∙◌, arith}
+use Rattle.std.specs.Prelude.{slice_index, MatchOption, IfSome}
+use Rattle.std.proofs.lemmas.List.Elements.{All-head, All-tail}
+use Rattle.hex.specs.Hex.{IsBytes, encode_lower}
+use Rattle.satip_base.specs.declared.limits.TheConstants.{REPLY_BYTES, EVENT_BYTES, EVENT_DATAGRAMS}
+use Rattle.satip_base.specs.Output.{IsWithinRoom, Output}
+use Rattle.satip_plain.specs.declared.answers.Answer.{Answer}
+use Rattle.satip_plain.specs.declared.events.Event.{Event}
+use Rattle.satip_plain.specs.Values.{AreBytes}
+use Rattle.satip_records.specs.Lines.{entry_line}
+use Rattle.satip_records.specs.Records.{record_text}
+use Rattle.satip_records.proofs.Bounds.{record_bound}
+use Rattle.satip_record_reader.specs.ReadingEntries.{Entry, IsEntry, entry_text}
+use Rattle.satip_audit.specs.Cuts.{words_line}
+use Rattle.satip_audit.specs.Journals.{IsPlaced, Placed, placed, placed_line}
+use Rattle.satip_audit.specs.Verdicts.{output_of}
+
+-- a line by its words
+pub as_words : (p : Placed) → placed_line p ≡ words_line p.place p.caller (encode_lower (entry_text p.entry))
+unfolding entry_line
+as_words p = refl
+
+-- each byte is less than 256, and so is what stands for a byte behind the end
+pub are_bytes : (xs : List ℕ) → AreBytes xs → IsBytes xs
+are_bytes [] h i = omega arith
+are_bytes (x ∷ xs) h zero = All-head (λ byte. byte < 2 ^ 8) x xs h
+are_bytes (x ∷ xs) h (suc i) = are_bytes xs (All-tail (λ byte. byte < 2 ^ 8) x xs h) i
+
+within : (e : Entry) → IsEntry e → IsWithinRoom (output_of e.reply e.datagrams)
+within e h =
+    let reply = h.reply in
+    let bytes = h.bytes in
+    let count = h.count in
+    record { reply = omega (arith, reply); bytes = omega (arith, bytes); count = omega (arith, count) }
+
+-- a record fits the room
+pub record_short : (e : Entry) → IsEntry e → length (entry_text e) ≤ 400000
+record_short e h =
+    let bound = record_bound e.event e.answer (output_of e.reply e.datagrams) h.event (within e h) in
+    omega (arith, bound)
+
+-- a line depends on its numbers and its record alone
+pub same_line : (q p : Placed) → q.place ≡ p.place → q.caller ≡ p.caller → entry_text q.entry ≡ entry_text p.entry → placed_line q ≡ placed_line p
+same_line q p place caller text =
+    as_words q ∙ ap (λ (n : ℕ). words_line n q.caller (encode_lower (entry_text q.entry))) place
+    ∙ ap (λ (n : ℕ). words_line p.place n (encode_lower (entry_text q.entry))) caller
+    ∙ ap (λ (t : List ℕ). words_line p.place p.caller (encode_lower t)) text ∙ sym (as_words p)
+
+some_is : (a b : ℕ) → Some a ≡ Some b → a ≡ b
+some_is a b e = cc e
+
+-- the bytes that were decoded
+pub front_is : (room bytes : List ℕ) (count most : ℕ) → most ≡ count → Some count ≡ Some (length bytes) → take (length bytes) room ≡ bytes
+    → take most room ≡ bytes
+front_is room bytes count most same is front =
+    ap (λ (n : ℕ). take n room) (same ∙ some_is count (length bytes) is) ∙ front
+
+pub none_is : (n : ℕ) → None ≡ Some n → ⊥
+none_is n e = cc e

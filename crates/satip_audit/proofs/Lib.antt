@@ -1,0 +1,6 @@
+pub mod CheckLemmas
+pub mod CutLemmas
+pub mod EachLemmas
+pub mod EntryLemmas
+pub mod LineLemmas
+pub mod PlaceLemmas

@@ -1,0 +1,7 @@
+pub mod Cuts
+pub mod Places
+pub mod Spots
+pub mod Journals
+pub mod Checks
+pub mod Verdicts
+pub mod Rows

@@ -1,0 +1,128 @@
+//! What a line of journals says. A line is read as it may be meant, written again, and compared: so
+//! zeros in front, upper case and CR are wrong.
+
+ghost use Rattle.std.specs.Prelude.{◌≡◌, ◌<◌, ◌^◌, ◌++◌, ◌∷◌, ℕ, List, length, decimal, false, Some, IfSome, IsNone, IsSomeAnd};
+ghost use Rattle.std.specs.List.{list_any};
+ghost use Rattle.satip_records.specs.Lines.{start_line};
+ghost use Rattle.satip_audit.specs.Cuts.{is_byte, words_line};
+ghost use Rattle.satip_audit.specs.Journals.{IsPlaced, Placed as PlacedEntry, placed, placed_line};
+
+use crate::cutting::{cut, decode, same_bytes};
+use crate::known::known_entry;
+use satip_base::{Out, read_number};
+use satip_plain::{Answer, Event, known_bytes};
+use satip_record_reader::read_record;
+use satip_records::{LineRoom, write_entry, write_start};
+
+/// What an entry's line names, but for the reply and the datagrams.
+#[derive(Drop)]
+pub(crate) struct Found {
+    pub(crate) place: u64,
+    pub(crate) caller: u64,
+    pub(crate) event: Event,
+    pub(crate) answer: Answer,
+}
+
+// A number with a space behind it, and what stands behind that.
+fn number_word(text: &[u8]) -> Option<(u64, &[u8])>
+    ensures finds { (number : ℕ) (rest : List ℕ) → number < 2 ^ 64
+        → text.now ≡ decimal number ++ 32 ∷ rest
+        → IsSomeAnd result (λ r. (r.0 ≡ number) × (r.1.now ≡ rest)) }
+{
+    let Some((digits, rest)) = cut(text, b' ') else {
+        return None;
+    };
+    let Some(number) = read_number(digits, u64::MAX) else {
+        return None;
+    };
+    Some((number, rest))
+}
+
+// The number that stands between a space and the end of a line.
+fn start_word(line: &[u8]) -> Option<u64>
+    ensures finds { (now : ℕ) → now < 2 ^ 64 → line.now ≡ start_line now → result ≡ Some now }
+{
+    let Some((_kind, rest)) = cut(line, b' ') else {
+        return None;
+    };
+    let Some((digits, _end)) = cut(rest, b'\n') else {
+        return None;
+    };
+    read_number(digits, u64::MAX)
+}
+
+// Two numbers behind a word, and what stands between them and the end of a line.
+fn entry_words(line: &[u8]) -> Option<(u64, u64, &[u8])>
+    ensures finds { (place caller : ℕ) (digits : List ℕ) → place < 2 ^ 64 → caller < 2 ^ 64
+        → list_any (is_byte 10) digits ≡ false → line.now ≡ words_line place caller digits
+        → IsSomeAnd result (λ r. (r.0 ≡ place) × (r.1 ≡ caller) × (r.2.now ≡ digits)) }
+{
+    let Some((_kind, behind_kind)) = cut(line, b' ') else {
+        return None;
+    };
+    let Some((place, behind_place)) = number_word(behind_kind) else {
+        return None;
+    };
+    let Some((caller, behind_caller)) = number_word(behind_place) else {
+        return None;
+    };
+    let Some((digits, _end)) = cut(behind_caller, b'\n') else {
+        return None;
+    };
+    Some((place, caller, digits))
+}
+
+/// The moment that a start line names; None where it is none.
+pub(crate) fn read_start(line: &[u8], room: &mut LineRoom) -> Option<u64>
+    ensures right { IfSome result (λ now. line.now ≡ start_line now) }
+    ensures within { IfSome result (λ now. now < 2 ^ 64) }
+    ensures none { IsNone result → (now : ℕ) → now < 2 ^ 64 → line.now ≡ start_line now → ⊥ }
+{
+    let Some(now) = start_word(line) else {
+        return None;
+    };
+    write_start(now, room);
+    if !same_bytes(room.bytes(), line) {
+        return None;
+    }
+    Some(now)
+}
+
+/// What an entry's line names, and into `out` its reply and its datagrams; None where it is none.
+/// The record is decoded into some room.
+pub(crate) fn read_entry(
+    line: &[u8],
+    out: &mut Out,
+    room: &mut LineRoom,
+    record_room: &mut [u8],
+) -> Option<Found>
+    requires room { length record_room.old ≡ 400000 }
+    ensures right { IfSome result (λ f. line.now ≡ placed_line
+        (placed f.place f.caller f.event f.answer out.new)) }
+    ensures within { IfSome result (λ f. IsPlaced
+        (placed f.place f.caller f.event f.answer out.new)) }
+    ensures none { IsNone result → (p : PlacedEntry) → IsPlaced p → line.now ≡ placed_line p → ⊥ }
+{
+    let Some((place, caller, digits)) = entry_words(line) else {
+        return None;
+    };
+    let Some(count) = decode(digits, record_room) else {
+        return None;
+    };
+    let bytes = &record_room[..count];
+    let Some((event, answer)) = read_record(bytes, out) else {
+        return None;
+    };
+    write_entry(place, caller, &event, &answer, out, room);
+    if !same_bytes(room.bytes(), line) {
+        return None;
+    }
+    known_bytes(bytes);
+    known_entry(&event, &answer, out);
+    Some(Found {
+        place,
+        caller,
+        event,
+        answer,
+    })
+}

@@ -1,0 +1,4 @@
+pub mod Channels
+pub mod Requests
+pub mod Rows
+pub mod Turned

@@ -1,0 +1,62 @@
+-- Replies in which the transport is told in channels in place of UDP ports.
+use Rattle.std.specs.Prelude.{◌≡◌, ℕ, ◌-◌, ◌<◌, List, [], ◌∷◌, ◌++◌, length, drop, take, codes, decimal, Option, Some, None, option_and_then, nat_eq, Bool, if◌then◌else◌}
+use Rattle.std.specs.List.{after_first, before_first, ends_with, join_with_byte, slice_split}
+use Rattle.std.specs.Option.{option_map_or}
+use Rattle.std.specs.Str.{bytes_eq}
+use Rattle.satip_base.specs.declared.network.Ports.{Ports}
+use Rattle.satip_tune.specs.Pieces.{is_byte}
+use Rattle.satip_rtsp.specs.Targets.{begins_with}
+use Rattle.satip_rtsp.specs.Transports.{both_ports, port_up_to}
+
+-- how a line begins that tells UDP ports
+abbrev pub ports_name : List ℕ
+ports_name = codes "Transport: RTP/AVP;unicast;client_port="
+
+-- the ports p and q of `p-q`, neither of them 0
+abbrev pub ports_between : List ℕ → Option Ports
+ports_between text = both_ports (port_up_to 65535 (before_first (is_byte 45) text)) (port_up_to 65535 (after_first (is_byte 45) text))
+
+-- what stands before the carriage return that ends a line
+abbrev pub without_return : List ℕ → Option (List ℕ)
+without_return line = if ends_with nat_eq line (13 ∷ []) then Some (take (length line - 1) line) else None
+
+-- what stands behind the beginning of a line that tells UDP ports
+abbrev pub behind_name : List ℕ → Option (List ℕ)
+behind_name line = if begins_with ports_name line then Some (drop 39 line) else None
+
+-- the UDP ports that a line tells, which ends with its carriage return
+unfoldable pub ports_told : List ℕ → Option Ports
+ports_told line = option_and_then ports_between (option_and_then without_return (behind_name line))
+
+-- the line that tells channels, without its line feed
+unfoldable pub channel_line : Ports → List ℕ
+channel_line ports =
+    codes "Transport: RTP/AVP/TCP;unicast;interleaved=" ++ decimal (ports.rtp - 1) ++ codes "-" ++ decimal (ports.rtcp - 1) ++ 13 ∷ []
+
+-- a line that tells ports, told in channels; any other as it is
+abbrev pub turned_line : List ℕ → List ℕ
+turned_line line = option_map_or channel_line (ports_told line) line
+
+-- the line that ends a head, without its line feed
+abbrev pub is_empty_line : List ℕ → Bool
+is_empty_line line = bytes_eq line (13 ∷ [])
+
+-- the lines of a head are turned, what stands behind its empty line isn't; the last of the pieces between line feeds is no line
+abbrev pub turned_lines : List (List ℕ) → List (List ℕ)
+turned_lines [] = []
+turned_lines (last ∷ []) = last ∷ []
+turned_lines (line ∷ next ∷ others) = if is_empty_line line then line ∷ next ∷ others else turned_line line ∷ turned_lines (next ∷ others)
+
+-- a reply with the transport told in channels
+unfoldable pub turned : List ℕ → List ℕ
+turned reply = join_with_byte 10 (turned_lines (slice_split (is_byte 10) reply))
+
+-- the first line of a text without its line feed, and what stands behind it
+pub record IsFirstLine (text line rest : List ℕ) : Type 0 where
+  pub pieces : slice_split (is_byte 10) text ≡ line ∷ slice_split (is_byte 10) rest
+  pub shorter : length rest < length text
+
+-- a text without a line feed is one piece
+pub record HasNoLine (text : List ℕ) : Type 0 where
+  pub piece : List ℕ
+  pub pieces : slice_split (is_byte 10) text ≡ piece ∷ []

@@ -1,0 +1,19 @@
+//! RTSP over a connection that carries the packets too (RFC 2326, section 10.12): the channels that
+//! a client asks for, and the replies that tell them.
+//!
+//! Channels 0 to 255 stand in place of the UDP ports 1 to 256, so that requests, the server and its
+//! replies are those of UDP.
+#![tactic(auto)]
+
+mod replies;
+mod requests;
+mod rows;
+#[cfg(test)]
+mod tests;
+mod texts;
+mod transports;
+
+pub use replies::ChannelReply;
+pub use requests::{read_request, request};
+pub use rows::{worked_replies, worked_transports};
+pub use transports::interleaved;

@@ -1,0 +1,50 @@
+//! Transports and replies worked out by hand, as contracts of functions with empty bodies.
+ghost use Rattle.std.specs.Prelude.{◌≡◌, ◌++◌, None, Some, codes};
+ghost use Rattle.satip_channels.specs.Channels.{interleaved as channels};
+ghost use Rattle.satip_channels.specs.Rows.{body_of, setup_with};
+ghost use Rattle.satip_channels.specs.Turned.{turned};
+ghost use Rattle.satip_rtsp.specs.Replies.{line_end};
+
+/// Which transports are acceptable, and what channels they give.
+#[tactic(auto, unfolding(crate::specs::Channels::interleaved, crate::specs::Channels::channels_of, crate::specs::Channels::channels_in, crate::specs::Channels::gives_channels, crate::specs::Channels::is_tcp, satip_base::specs::Numbers::number_of, satip_rtsp::specs::Blanks::trimmed))]
+pub fn worked_transports()
+    ensures both { channels (codes "RTP/AVP/TCP;interleaved=0-1")
+        ≡ Some (record { rtp = 1; rtcp = 2 }) }
+    ensures one { channels (codes "RTP/AVP/TCP;unicast;interleaved=4")
+        ≡ Some (record { rtp = 5; rtcp = 6 }) }
+    ensures last_one { channels (codes "RTP/AVP/TCP;interleaved=254")
+        ≡ Some (record { rtp = 255; rtcp = 256 }) }
+    ensures without_next { channels (codes "RTP/AVP/TCP;interleaved=255") ≡ None }
+    ensures falling { channels (codes "RTP/AVP/TCP;interleaved=255-0")
+        ≡ Some (record { rtp = 256; rtcp = 1 }) }
+    ensures equal { channels (codes "RTP/AVP/TCP;interleaved=7-7") ≡ None }
+    ensures too_large { channels (codes "RTP/AVP/TCP;interleaved=0-256") ≡ None }
+    ensures in_any_case { channels (codes " rtp/avp/tcp ; Interleaved=00-1 ")
+        ≡ Some (record { rtp = 1; rtcp = 2 }) }
+    ensures first_counts { channels (codes "RTP/AVP/TCP;interleaved=x;interleaved=0-1") ≡ None }
+    ensures without { channels (codes "RTP/AVP/TCP;unicast") ≡ None }
+    ensures over_udp { channels (codes "RTP/AVP;unicast;client_port=1400-1401") ≡ None }
+    ensures udp_interleaved { channels (codes "RTP/AVP/UDP;interleaved=0-1") ≡ None }
+    ensures second { channels
+        (codes "RTP/AVP/UDP;unicast;client_port=1400-1401,RTP/AVP/TCP;interleaved=2-3")
+        ≡ Some (record { rtp = 3; rtcp = 4 }) }
+{}
+
+/// How replies are turned: the transport of a SETUP, and nothing else.
+#[tactic(auto, unfolding(crate::specs::Turned::turned, crate::specs::Turned::ports_told, crate::specs::Turned::channel_line, satip_base::specs::Numbers::number_of))]
+pub fn worked_replies()
+    ensures setup { turned (setup_with (codes "Transport: RTP/AVP;unicast;client_port=1-2"))
+        ≡ setup_with (codes "Transport: RTP/AVP/TCP;unicast;interleaved=0-1") }
+    ensures greatest { turned (setup_with (codes "Transport: RTP/AVP;unicast;client_port=256-10"))
+        ≡ setup_with (codes "Transport: RTP/AVP/TCP;unicast;interleaved=255-9") }
+    ensures no_ports { turned (setup_with (codes "Transport: RTP/AVP;unicast;client_port=a-b"))
+        ≡ setup_with (codes "Transport: RTP/AVP;unicast;client_port=a-b") }
+    ensures other_line { turned (setup_with (codes "Transport: RTP/AVP;unicast"))
+        ≡ setup_with (codes "Transport: RTP/AVP;unicast") }
+    ensures body { turned (body_of (codes "Transport: RTP/AVP;unicast;client_port=1-2"))
+        ≡ body_of (codes "Transport: RTP/AVP;unicast;client_port=1-2") }
+    ensures piece { turned (codes "Transport: RTP/AVP;unicast;client_port=1-2")
+        ≡ codes "Transport: RTP/AVP;unicast;client_port=1-2" }
+    ensures line { turned (codes "Transport: RTP/AVP;unicast;client_port=1-2" ++ line_end)
+        ≡ codes "Transport: RTP/AVP/TCP;unicast;interleaved=0-1" ++ line_end }
+{}

@@ -1,0 +1,94 @@
+//! Requests and replies of a connection that carries the packets too, on the code.
+
+use crate::{ChannelReply, interleaved, read_request, request, worked_replies, worked_transports};
+use satip_base::Ports;
+use satip_base::limits::REPLY_BYTES;
+use satip_frame::{Break, Framer, Step};
+use satip_rtsp::Request;
+use std::alloc::Global;
+use std::test::Fail;
+
+// The ports that a text asks for, which is one message.
+fn ports_of(alloc: Global, text: &[u8]) -> Result<Option<Ports>, Fail> {
+    let mut framer = Framer::make(alloc)?;
+    framer.feed(text);
+    match framer.next() {
+        Step::Message => Ok(request(&framer.message().ok_or("message")?).ports),
+        _ => Err(Fail::from("no message")),
+    }
+}
+
+// The same, read over an older request.
+fn ports_over(alloc: Global, text: &[u8]) -> Result<Option<Ports>, Fail> {
+    let mut framer = Framer::make(alloc)?;
+    framer.feed(text);
+    match framer.next() {
+        Step::Message => {
+            let mut into = Request::broken(Break::Bad);
+            read_request(&framer.message().ok_or("message")?, &mut into);
+            Ok(into.ports)
+        }
+        _ => Err(Fail::from("no message")),
+    }
+}
+
+// Whether a reply is turned into this text.
+fn turns(told: &mut ChannelReply, reply: &[u8], want: &[u8]) -> bool {
+    if reply.len() > REPLY_BYTES {
+        return false;
+    }
+    told.turn(reply);
+    told.bytes() == want
+}
+
+#[test]
+fn setup_asks_for_channels(rt: HostRuntime) -> Result<(), Fail> {
+    worked_transports();
+    let text =
+        b"SETUP rtsp://h/?src=1 RTSP/1.0\r\nCSeq: 1\r\nTransport: RTP/AVP/TCP;unicast;interleaved=0-1\r\n\r\n";
+    assert_eq!(rt;
+        ports_of(rt.alloc(), text)?,
+        Some(Ports { rtp: 1, rtcp: 2 })
+    );
+    assert_eq!(rt;
+        ports_over(rt.alloc(), text)?,
+        Some(Ports { rtp: 1, rtcp: 2 })
+    );
+    let text =
+        b"SETUP rtsp://h/?src=1 RTSP/1.0\r\nCSeq: 1\r\nTransport: RTP/AVP;unicast;client_port=1400-1401\r\n\r\n";
+    assert_eq!(rt; ports_of(rt.alloc(), text)?, None);
+    let text =
+        b"PLAY rtsp://h/ RTSP/1.0\r\nCSeq: 1\r\nTransport: RTP/AVP/TCP;interleaved=0-1\r\n\r\n";
+    assert_eq!(rt; ports_of(rt.alloc(), text)?, None);
+    let text = b"SETUP rtsp://h/ RTSP/1.0\r\nTransport: RTP/AVP/TCP;interleaved=0-1\r\n\r\n";
+    assert_eq!(rt; ports_over(rt.alloc(), text)?, None);
+    assert_eq!(rt;
+        interleaved(b"RTP/AVP/TCP;interleaved=8-3"),
+        Some(Ports { rtp: 9, rtcp: 4 })
+    );
+    Ok(())
+}
+
+#[test]
+fn reply_to_setup_tells_channels(rt: HostRuntime) -> Result<(), Fail> {
+    worked_replies();
+    let mut told = ChannelReply::make(rt.alloc())?;
+    let reply: &[u8] =
+        b"RTSP/1.0 200 OK\r\nCSeq: 1\r\nSession: 000000010000000a;timeout=60\r\nTransport: RTP/AVP;unicast;client_port=1-256\r\ncom.ses.streamID: 1\r\n\r\n";
+    let want: &[u8] =
+        b"RTSP/1.0 200 OK\r\nCSeq: 1\r\nSession: 000000010000000a;timeout=60\r\nTransport: RTP/AVP/TCP;unicast;interleaved=0-255\r\ncom.ses.streamID: 1\r\n\r\n";
+    assert!(rt; turns(&mut told, reply, want));
+    Ok(())
+}
+
+#[test]
+fn other_replies_stay(rt: HostRuntime) -> Result<(), Fail> {
+    let mut told = ChannelReply::make(rt.alloc())?;
+    let play: &[u8] =
+        b"RTSP/1.0 200 OK\r\nCSeq: 2\r\nSession: 000000010000000a\r\nRTP-Info: url=rtsp://192.168.1.10/stream=1;seq=65535\r\n\r\n";
+    assert!(rt; turns(&mut told, play, play));
+    let body: &[u8] = b"RTSP/1.0 200 OK\r\n\r\nTransport: RTP/AVP;unicast;client_port=1-2\r\n\r\n";
+    assert!(rt; turns(&mut told, body, body));
+    assert!(rt; turns(&mut told, b"", b""));
+    Ok(())
+}

@@ -1,0 +1,181 @@
+-- A client that keeps its session alive, receives datagrams, puts them in order and writes their packets, turn by turn.
+use Rattle.std.specs.Prelude.{◌≡◌, ℕ, ◌<◌, ◌⊎◌, true, length, List, [], ◌∷◌, ◌++◌, take, Result, Ok, Err}
+use Rattle.satip_base.specs.Streams.{Drain, PutAll, FailedToPut}
+use Rattle.satip_base.specs.declared.streams.Put.{Put}
+use Rattle.satip_base.specs.declared.streams.Put.TheVariants.{Whole, Failed}
+use Rattle.satip_world.specs.Counts.{Rises}
+use Rattle.satip_world.specs.Dials.{Dial}
+use Rattle.satip_world.specs.Lines.{Line, Grew}
+use Rattle.satip_inlet.specs.Inboxes.{Inbox}
+use Rattle.satip_catch.specs.Caught.{Datagram}
+use Rattle.satip_catch.specs.Catching.{Catch, Rests}
+use Rattle.satip_catch.specs.Runs.{handed_up, after_all}
+use Rattle.satip_catch.specs.declared.item.Item.{Item}
+use Rattle.satip_client.specs.Leases.{Terms}
+use Rattle.satip_client.specs.Pulses.{after_reading, sent_at}
+use Rattle.satip_client.specs.Waits.{SameFaults}
+use Rattle.satip_client.specs.declared.pulse.Pulse.{Pulse}
+use Rattle.satip_client.specs.declared.ending.RecordEnd.{RecordEnd}
+use Rattle.satip_client.specs.declared.ending.RecordEnd.TheVariants.{Done, OutputFault, Refused, BadReply, Silent, PeerFault, Closed, OutOfMemory}
+use Rattle.satip_recorder.specs.Tapes.{Taped, Tells, gap_lines, packets_in}
+use Rattle.satip_recorder.specs.Arrivals.{AreRead, TookTurns}
+use Rattle.satip_recorder.specs.declared.tape.Tape.{Tape}
+
+-- what the requests go by: the connection, the clock, the mark and the next number
+pub record Talk : Type 0 where
+  pub wire : Line
+  pub clock : Dial
+  pub pulse : Pulse
+
+-- what the datagrams go through: the catcher, and the sinks with what is to be written yet
+pub record Reel : Type 0 where
+  pub catcher : Catch
+  pub tape : Tape
+  pub output : Drain
+  pub errors : Drain
+
+abbrev pub talk : Line → Dial → Pulse → Talk
+talk wire clock pulse = record { wire = wire; clock = clock; pulse = pulse }
+
+abbrev pub reel : Catch → Tape → Drain → Drain → Reel
+reel catcher tape output errors = record { catcher = catcher; tape = tape; output = output; errors = errors }
+
+-- these moments were read one after another
+pub record ReadsAll (o n : Dial) (moments : List ℕ) : Type 0 where
+  pub told : n.told ≡ true → o.told ≡ true
+  pub readings : n.told ≡ true → n.readings ≡ o.readings ++ moments
+
+-- the mark and the next number after these readings
+abbrev pub after_readings : (timeout : ℕ) → Pulse → List ℕ → Pulse
+after_readings timeout pulse [] = pulse
+after_readings timeout pulse (moment ∷ moments) = after_readings timeout (after_reading timeout pulse moment) moments
+
+-- the requests that keep the session alive, sent after these readings
+abbrev pub options_sent : (address : List ℕ) → Terms → Pulse → List ℕ → List ℕ
+options_sent address terms pulse [] = []
+options_sent address terms pulse (moment ∷ moments) =
+    sent_at address terms pulse moment ++ options_sent address terms (after_reading terms.timeout pulse moment) moments
+
+-- after each of these readings what was due was sent
+pub record Beaten (tells : Type 0) (o n : Talk) (address : List ℕ) (terms : Terms) (moments : List ℕ) : Type 0 where
+  pub clock : ReadsAll o.clock n.clock moments
+  pub pulse : n.pulse ≡ after_readings terms.timeout o.pulse moments
+  pub asked : Grew tells o.wire n.wire [] (options_sent address terms o.pulse moments)
+  pub faults : SameFaults o.wire n.wire
+
+-- a beginning of that was sent
+pub record BeatenUntil (tells : Type 0) (o n : Talk) (address : List ℕ) (terms : Terms) : Type 0 where
+  pub moments : List ℕ
+  pub clock : ReadsAll o.clock n.clock moments
+  pub part : List ℕ
+  pub rest : List ℕ
+  pub whole : options_sent address terms o.pulse moments ≡ part ++ rest
+  pub asked : Grew tells o.wire n.wire [] part
+
+-- what the catcher hands up of these datagrams was written and told
+pub record Wound (tells_output tells_errors : Type 0) (o n : Reel) (datagrams : List (List ℕ)) : Type 0 where
+  pub arrivals : List Datagram
+  pub read : AreRead datagrams arrivals
+  pub taped : Taped tells_output tells_errors o.output n.output o.errors n.errors o.tape n.tape (handed_up o.catcher arrivals)
+  pub caught : 0 < n.tape.left → n.catcher ≡ after_all o.catcher arrivals
+
+-- in so many turns these datagrams came
+pub record Caught (tells tells_output tells_errors : Type 0) (i j : Inbox) (o n : Reel) (turns : ℕ) : Type 0 where
+  pub datagrams : List (List ℕ)
+  pub given : tells → j.given ≡ i.given ++ datagrams
+  pub faults : j.faults ≡ i.faults
+  pub took : TookTurns turns i j
+  pub wound : Wound tells_output tells_errors o n datagrams
+
+-- the output fails with this end, and with no other
+abbrev pub IsWritten : RecordEnd → (tells : Type 0) (o n : Drain) (bytes : List ℕ) → Type 0
+IsWritten Done tells o n bytes = PutAll tells o n bytes
+IsWritten OutputFault tells o n bytes = FailedToPut tells o n bytes
+IsWritten (Refused code) tells o n bytes = PutAll tells o n bytes
+IsWritten BadReply tells o n bytes = PutAll tells o n bytes
+IsWritten Silent tells o n bytes = PutAll tells o n bytes
+IsWritten PeerFault tells o n bytes = PutAll tells o n bytes
+IsWritten Closed tells o n bytes = PutAll tells o n bytes
+IsWritten OutOfMemory tells o n bytes = PutAll tells o n bytes
+
+-- a beginning of what the catcher hands up of these datagrams was written and told
+pub record WoundUntil (tells_output tells_errors : Type 0) (o n : Reel) (end : RecordEnd) (datagrams : List (List ℕ)) : Type 0 where
+  pub arrivals : List Datagram
+  pub read : AreRead datagrams arrivals
+  pub handed : List Item
+  pub left_out : List Item
+  pub whole : handed_up o.catcher arrivals ≡ handed ++ left_out
+  pub written : IsWritten end tells_output o.output n.output (take o.tape.left (packets_in handed))
+  pub told : Tells tells_errors o.errors n.errors (gap_lines o.tape.left handed) o.tape.muted n.tape.muted
+
+-- these datagrams came, and then no more
+pub record CaughtUntil (tells tells_output tells_errors : Type 0) (i j : Inbox) (o n : Reel) (end : RecordEnd) : Type 0 where
+  pub datagrams : List (List ℕ)
+  pub given : tells → j.given ≡ i.given ++ datagrams
+  pub wound : WoundUntil tells_output tells_errors o n end datagrams
+
+-- one datagram
+abbrev pub Winds : (tells_output tells_errors : Type 0) (o n : Reel) (bytes : List ℕ) → Put → Type 0
+Winds tells_output tells_errors o n bytes Whole = Wound tells_output tells_errors o n (bytes ∷ [])
+Winds tells_output tells_errors o n bytes Failed = WoundUntil tells_output tells_errors o n OutputFault (bytes ∷ [])
+
+-- why one turn of the inlet ends the recording
+abbrev pub CatchCause : (i j : Inbox) → RecordEnd → Type 0
+CatchCause i j Done = ⊥
+CatchCause i j OutputFault = Unit {0}
+CatchCause i j (Refused code) = ⊥
+CatchCause i j BadReply = ⊥
+CatchCause i j Silent = ⊥
+CatchCause i j PeerFault = Rises i.faults j.faults
+CatchCause i j Closed = ⊥
+CatchCause i j OutOfMemory = ⊥
+
+-- one turn of the inlet
+abbrev pub Catches : (tells tells_output tells_errors : Type 0) (i j : Inbox) (o n : Reel) → Result (Unit {0}) RecordEnd → Type 0
+Catches tells tells_output tells_errors i j o n (Ok done) = Caught tells tells_output tells_errors i j o n 1
+Catches tells tells_output tells_errors i j o n (Err end) = CaughtUntil tells tells_output tells_errors i j o n end × CatchCause i j end
+
+-- why receiving ends before all is written
+abbrev pub Cause : (limit : ℕ) (a b : Line) (i j : Inbox) → RecordEnd → Type 0
+Cause limit a b i j Done = ⊥
+Cause limit a b i j OutputFault = Unit {0}
+Cause limit a b i j (Refused code) = ⊥
+Cause limit a b i j BadReply = ⊥
+Cause limit a b i j Silent = TookTurns limit i j
+Cause limit a b i j PeerFault = Rises a.send_faults b.send_faults ⊎ Rises i.faults j.faults
+Cause limit a b i j Closed = ⊥
+Cause limit a b i j OutOfMemory = Unit {0}
+
+-- turns of receiving
+pub record Course (tells tells_inlet tells_output tells_errors : Type 0) (a b : Talk) (i j : Inbox) (o n : Reel)
+    (address : List ℕ) (terms : Terms) : Type 0 where
+  pub moments : List ℕ
+  pub talks : Beaten tells a b address terms moments
+  pub reels : Caught tells_inlet tells_output tells_errors i j o n (length moments)
+
+-- receiving ended before all was written
+pub record Stopped (tells tells_inlet tells_output tells_errors : Type 0) (a b : Talk) (i j : Inbox) (o n : Reel)
+    (address : List ℕ) (terms : Terms) (limit : ℕ) (end : RecordEnd) : Type 0 where
+  pub talks : BeatenUntil tells a b address terms
+  pub reels : CaughtUntil tells_inlet tells_output tells_errors i j o n end
+  pub cause : Cause limit a.wire b.wire i j end
+
+abbrev pub Turns : (tells tells_inlet tells_output tells_errors : Type 0) (a b : Talk) (i j : Inbox) (o n : Reel)
+    (address : List ℕ) (terms : Terms) (limit : ℕ) → Result (Unit {0}) RecordEnd → Type 0
+Turns tells tells_inlet tells_output tells_errors a b i j o n address terms limit (Ok done) =
+    Course tells tells_inlet tells_output tells_errors a b i j o n address terms
+Turns tells tells_inlet tells_output tells_errors a b i j o n address terms limit (Err end) =
+    Stopped tells tells_inlet tells_output tells_errors a b i j o n address terms limit end
+
+-- one turn
+abbrev pub TakesTurn : (tells tells_inlet tells_output tells_errors : Type 0) (a b : Talk) (i j : Inbox) (o n : Reel)
+    (address : List ℕ) (terms : Terms) (limit : ℕ) → Result (Unit {0}) RecordEnd → Type 0
+TakesTurn tells tells_inlet tells_output tells_errors a b i j o n address terms limit (Ok done) =
+    (course : Course tells tells_inlet tells_output tells_errors a b i j o n address terms) × (length course.moments ≡ 1)
+TakesTurn tells tells_inlet tells_output tells_errors a b i j o n address terms limit (Err end) =
+    Stopped tells tells_inlet tells_output tells_errors a b i j o n address terms limit end
+
+-- a catcher that can take a datagram
+pub record IsReady (c : Catch) : Type 0 where
+  pub rests : Rests c
+  pub number : c.next < 65536

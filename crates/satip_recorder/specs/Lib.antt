@@ -1,0 +1,5 @@
+pub mod Tapes
+pub mod Arrivals
+pub mod Courses
+pub mod Openings
+pub mod Recordings

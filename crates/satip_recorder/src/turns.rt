@@ -1,0 +1,141 @@
+//! Receiving, turn by turn, until enough is written.
+
+ghost use Rattle.std.specs.Prelude.{◌≡◌, ◌+◌, ◌<◌, ◌≤◌, IfOk, false, length};
+ghost use Rattle.satip_catch.specs.Catching.{catching};
+ghost use Rattle.satip_recorder.specs.Courses.{Catches, IsReady, TakesTurn, Turns, Winds, reel, talk};
+
+use crate::recorder::Recorder;
+use crate::tape::{Tape, put_items};
+use satip_base::{Put, Sink};
+use satip_catch::{Catcher, read_rtp};
+use satip_client::{Lease, RecordEnd, keep_alive};
+use satip_inlet::Inlet;
+use satip_world::{Clock, Conn, Received};
+
+/// Bytes of the longest datagram that is read whole.
+const ROOM: usize = 2048;
+
+/// Takes turns until enough is written, or as many as the recorder has left.
+pub(crate) fn receive<W: Conn, I: Inlet, M: Clock, O: Sink, E: Sink>(
+    wire: &mut W,
+    inlet: &mut I,
+    moment: &mut M,
+    address: &[u8],
+    lease: &Lease,
+    recorder: &mut Recorder,
+    output: &mut O,
+    errors: &mut E,
+) -> Result<(), RecordEnd>
+    requires few { recorder.old.pulse.cseq + recorder.old.turns < 4294967295 }
+    requires some { 0 < recorder.old.tape.left }
+    requires fresh { recorder.old.catcher ≡ catching }
+    ensures turns { Turns W.tells I.tells O.tells E.tells
+        (talk (W.line wire.old) (M.dial moment.old) recorder.old.pulse)
+        (talk (W.line wire.new) (M.dial moment.new) recorder.new.pulse)
+        (I.inbox inlet.old) (I.inbox inlet.new)
+        (reel recorder.old.catcher recorder.old.tape (O.drain output.old) (E.drain errors.old))
+        (reel recorder.new.catcher recorder.new.tape (O.drain output.new) (E.drain errors.new))
+        address.now lease.now recorder.old.turns result }
+    ensures whole { IfOk result (λ _. recorder.new.tape.left ≡ 0) }
+    ensures few { recorder.new.pulse.cseq < 4294967295 }
+{
+    'turns: while recorder.turns > 0 {
+        take_turn(
+            wire, inlet, moment, address, lease, recorder, output, errors,
+        )?;
+        if recorder.tape.left == 0 {
+            return Ok(());
+        }
+        recorder.turns -= 1;
+    }
+    Err(RecordEnd::Silent)
+}
+
+// Keeps the session alive, and receives once.
+fn take_turn<W: Conn, I: Inlet, M: Clock, O: Sink, E: Sink>(
+    wire: &mut W,
+    inlet: &mut I,
+    moment: &mut M,
+    address: &[u8],
+    lease: &Lease,
+    recorder: &mut Recorder,
+    output: &mut O,
+    errors: &mut E,
+) -> Result<(), RecordEnd>
+    requires few { recorder.old.pulse.cseq < 4294967295 }
+    requires ready { IsReady recorder.old.catcher }
+    ensures turns { TakesTurn W.tells I.tells O.tells E.tells
+        (talk (W.line wire.old) (M.dial moment.old) recorder.old.pulse)
+        (talk (W.line wire.new) (M.dial moment.new) recorder.new.pulse)
+        (I.inbox inlet.old) (I.inbox inlet.new)
+        (reel recorder.old.catcher recorder.old.tape (O.drain output.old) (E.drain errors.old))
+        (reel recorder.new.catcher recorder.new.tape (O.drain output.new) (E.drain errors.new))
+        address.now lease.now recorder.old.turns result }
+    ensures ready { IfOk result (λ _. 0 < recorder.new.tape.left
+        → IsReady recorder.new.catcher) }
+    ensures counted { recorder.new.pulse.cseq ≤ recorder.old.pulse.cseq + 1 }
+    ensures same { recorder.new.turns ≡ recorder.old.turns }
+{
+    keep_alive(
+        wire,
+        moment,
+        address,
+        lease,
+        &mut recorder.pulse,
+        &mut recorder.page,
+    )?;
+    take_in(
+        inlet,
+        &mut recorder.catcher,
+        &mut recorder.tape,
+        output,
+        errors,
+    )
+}
+
+// Receives once, and writes what can be handed up then.
+fn take_in<I: Inlet, O: Sink, E: Sink>(
+    inlet: &mut I,
+    catcher: &mut Catcher,
+    tape: &mut Tape,
+    output: &mut O,
+    errors: &mut E,
+) -> Result<(), RecordEnd>
+    requires ready { IsReady catcher.old }
+    ensures catches { Catches I.tells O.tells E.tells (I.inbox inlet.old) (I.inbox inlet.new)
+        (reel catcher.old tape.old (O.drain output.old) (E.drain errors.old))
+        (reel catcher.new tape.new (O.drain output.new) (E.drain errors.new)) result }
+    ensures ready { IfOk result (λ _. 0 < tape.new.left → IsReady catcher.new) }
+{
+    let mut buf = [0; ROOM];
+    match inlet.receive(&mut buf) {
+        Received::Got(size) => match wind(&buf[..size], catcher, tape, output, errors) {
+            Put::Whole => Ok(()),
+            Put::Failed => Err(RecordEnd::OutputFault),
+        },
+        Received::Idle => Ok(()),
+        Received::End => unreachable!(),
+        Received::Failed => Err(RecordEnd::PeerFault),
+    }
+}
+
+// Takes one datagram, and writes what can be handed up then.
+fn wind<O: Sink, E: Sink>(
+    bytes: &[u8],
+    catcher: &mut Catcher,
+    tape: &mut Tape,
+    output: &mut O,
+    errors: &mut E,
+) -> Put
+    requires ready { IsReady catcher.old }
+    ensures winds { Winds O.tells E.tells
+        (reel catcher.old tape.old (O.drain output.old) (E.drain errors.old))
+        (reel catcher.new tape.new (O.drain output.new) (E.drain errors.new)) bytes.now result }
+    ensures ready { result ≡ Put.Whole → 0 < tape.new.left → IsReady catcher.new }
+{
+    let Some(view) = read_rtp(bytes) else {
+        return Put::Whole;
+    };
+    catcher.take(&view);
+    put_items(catcher, tape, output, errors)
+}

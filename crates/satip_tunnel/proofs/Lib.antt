@@ -1,0 +1,4 @@
+pub mod WritingLemmas
+pub mod SendingLemmas
+pub mod HistoryLemmas
+pub mod LawLemmas

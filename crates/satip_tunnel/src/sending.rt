@@ -1,0 +1,29 @@
+//! Datagrams that go to lanes.
+
+ghost use Rattle.std.specs.Prelude.{◌≡◌, ◌<◌, length, IsSomeAnd, slice_get};
+ghost use Rattle.satip_lanes.specs.Lanes.{put_to};
+ghost use Rattle.satip_tunnel.specs.Tunnels.{put_all};
+
+use satip_base::Out;
+use satip_lanes::Lanes;
+
+/// Brings each datagram to its lane, in order.
+pub fn bring_all(out: &Out, lanes: &mut Lanes)
+    ensures brought { lanes.new ≡ put_all out.now.datagrams lanes.old }
+{
+    for place in 0..out.count() {
+        bring_one(out, place, lanes);
+    }
+}
+
+// Brings the datagram at a place to its lane.
+fn bring_one(out: &Out, place: usize, lanes: &mut Lanes)
+    requires within { place < length out.now.datagrams }
+    ensures brought { IsSomeAnd (slice_get out.now.datagrams place)
+        (λ datagram. lanes.new ≡ put_to datagram.to datagram.bytes lanes.old) }
+{
+    match out.datagram(place) {
+        Some((to, bytes)) => lanes.put(to, bytes),
+        None => unreachable!(),
+    }
+}
