@@ -164,23 +164,27 @@ fn set_up_and_play(rt: &impl Abort, server: &mut Server, out: &mut Out) -> Resul
 }
 
 /// Gives seven packets, behind the last of which a datagram leaves, and one of another tune number.
-fn give_seven(rt: &impl Abort, server: &mut Server, out: &mut Out) -> Result<(), Fail> {
-    let packet = packet(16)?;
-    give_each(rt, server, out, &packet, 1, &[0, 0, 0, 0, 0, 0, 1]);
-    give_each(rt, server, out, &packet, 2, &[0]);
-    Ok(())
+fn give_seven(rt: &impl Abort, server: &mut Server, out: &mut Out, packet: &Packet) {
+    give_each(rt, server, out, packet, 1, &[0, 0, 0, 0, 0, 0, 1]);
+    give_each(rt, server, out, packet, 2, &[0]);
+}
+
+/// The recording ends, then the session by its TEARDOWN, after which none has its id.
+fn end_all(rt: &impl Abort, server: &mut Server, out: &mut Out) {
+    assert_eq!(rt; server.ended(1, 1, out), Work::Nothing);
+    tear_down(rt, server, out);
+    ask(rt, server, out, &request(Method::Options), 454);
 }
 
 #[test]
 fn seven_packets_are_a_datagram(rt: HostRuntime) -> Result<(), Fail> {
+    let packet = packet(16)?;
     let mut out = Out::make(rt.alloc())?;
     let mut server = server(rt.alloc())?;
-    set_up_and_play(&rt, &mut server, &mut out)?;
-    give_seven(&rt, &mut server, &mut out)?;
-    assert_eq!(rt; server.ended(1, 1, &mut out), Work::Nothing);
-    tear_down(&rt, &mut server, &mut out);
-    ask(&rt, &mut server, &mut out, &request(Method::Options), 454);
-    Ok(())
+    let played = set_up_and_play(&rt, &mut server, &mut out);
+    give_seven(&rt, &mut server, &mut out, &packet);
+    end_all(&rt, &mut server, &mut out);
+    played
 }
 
 #[test]
