@@ -154,23 +154,37 @@ const SETUP_REPLY: &[u8] =
 const PLAY_REPLY: &[u8] =
     b"RTSP/1.0 200 OK\r\nCSeq: 2\r\nSession: 000000010000000a\r\nRTP-Info: url=rtsp://192.168.1.10/stream=1;seq=65535\r\n\r\n";
 
+/// Founds the first stream, whose front end's pump is told to tune, and plays it.
+fn set_up_and_play(rt: &impl Abort, server: &mut Server, out: &mut Out) -> Result<(), Fail> {
+    let setup = setup(query(FIRST_QUERY)?);
+    ask_well(rt, server, out, &setup, SETUP_REPLY);
+    assert_eq!(rt; server.ask(1, out), Work::Tune { mux: 1, tune: 1 });
+    ask_well(rt, server, out, &request(Method::Play), PLAY_REPLY);
+    Ok(())
+}
+
+/// Gives seven packets, behind the last of which a datagram leaves, and one of another tune number.
+fn give_seven(rt: &impl Abort, server: &mut Server, out: &mut Out, packet: &Packet) {
+    give_each(rt, server, out, packet, 1, &[0, 0, 0, 0, 0, 0, 1]);
+    give_each(rt, server, out, packet, 2, &[0]);
+}
+
+/// The recording ends, then the session by its TEARDOWN, after which none has its id.
+fn end_all(rt: &impl Abort, server: &mut Server, out: &mut Out) {
+    assert_eq!(rt; server.ended(1, 1, out), Work::Nothing);
+    tear_down(rt, server, out);
+    ask(rt, server, out, &request(Method::Options), 454);
+}
+
 #[test]
 fn seven_packets_are_a_datagram(rt: HostRuntime) -> Result<(), Fail> {
-    let query = query(FIRST_QUERY)?;
     let packet = packet(16)?;
     let mut out = Out::make(rt.alloc())?;
     let mut server = server(rt.alloc())?;
-    ask_well(&rt, &mut server, &mut out, &setup(query), SETUP_REPLY);
-    assert_eq!(rt; server.ask(1, &mut out), Work::Tune { mux: 1, tune: 1 });
-    let play = request(Method::Play);
-    ask_well(&rt, &mut server, &mut out, &play, PLAY_REPLY);
-    let seven = [0, 0, 0, 0, 0, 0, 1];
-    give_each(&rt, &mut server, &mut out, &packet, 1, &seven);
-    give_each(&rt, &mut server, &mut out, &packet, 2, &[0]);
-    assert_eq!(rt; server.ended(1, 1, &mut out), Work::Nothing);
-    tear_down(&rt, &mut server, &mut out);
-    ask(&rt, &mut server, &mut out, &request(Method::Options), 454);
-    Ok(())
+    let played = set_up_and_play(&rt, &mut server, &mut out);
+    give_seven(&rt, &mut server, &mut out, &packet);
+    end_all(&rt, &mut server, &mut out);
+    played
 }
 
 #[test]

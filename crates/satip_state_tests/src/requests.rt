@@ -161,41 +161,71 @@ fn a_session_plays_to_where_it_moved(rt: HostRuntime) -> Result<(), Fail> {
     Ok(())
 }
 
+/// Asks for a multiplex on a stream, which then has this front end and this frequency.
+fn retune(
+    rt: &impl Abort,
+    parts: &mut Parts,
+    out: &mut Out,
+    number: u16,
+    mux: Mux,
+    wanted: (u16, u32),
+) {
+    out.clear();
+    parts.change_by(number, &query(mux), out);
+    assert_eq!(rt; tuned(parts, number), Some(wanted));
+}
+
 #[test]
 fn streams_of_one_multiplex_come_to_share_a_front_end(rt: HostRuntime) -> Result<(), Fail> {
     let mut out = Out::make(rt.alloc())?;
     let mut parts = parts(rt.alloc())?;
     found(&rt, &mut parts, 10);
     found(&rt, &mut parts, 11);
-    parts.change_by(1, &query(FIRST), &mut out);
-    parts.change_by(2, &query(SECOND), &mut out);
-    assert_eq!(rt; tuned(&parts, 2), Some((2, 12402000)));
-    out.clear();
-    parts.change_by(2, &query(FIRST), &mut out);
+    retune(&rt, &mut parts, &mut out, 1, FIRST, (1, 11361750));
+    retune(&rt, &mut parts, &mut out, 2, SECOND, (2, 12402000));
+    retune(&rt, &mut parts, &mut out, 2, FIRST, (1, 11361750));
     assert_eq!(rt; tuned(&parts, 1), Some((1, 11361750)));
-    assert_eq!(rt; tuned(&parts, 2), Some((1, 11361750)));
     Ok(())
 }
 
-#[test]
-fn sessions_are_made_until_64_live(rt: HostRuntime) -> Result<(), Fail> {
-    let mut parts = parts(rt.alloc())?;
-    let peer = Peer { ip: 7 };
-    assert_eq!(rt; parts.join(peer, draw(9), PORTS, 1), None);
-    let (id, number) = parts.found(true, peer, draw(10), PORTS).expect(&rt, "room");
+/// Joins the first stream, which gives this session.
+fn joins(rt: &impl Abort, parts: &mut Parts, word: u32, wanted: Option<SessionId>) {
+    assert_eq!(rt; parts.join(Peer { ip: 7 }, draw(word), PORTS, 1), wanted);
+}
+
+/// An HTTP session founds the first stream, and plays.
+fn founds_first(rt: &impl Abort, parts: &mut Parts) {
+    let (id, number) = parts
+        .found(true, Peer { ip: 7 }, draw(10), PORTS)
+        .expect(rt, "room");
     assert_eq!(rt; number, 1);
     assert!(rt;
         parts
             .http_session(id)
             .is_some_and(|session| session.playing)
     );
-    let joined = parts.join(peer, draw(11), PORTS, 1);
-    assert_eq!(rt; joined, Some(SessionId { count: 2, word: 11 }));
+}
+
+/// Compares that there is room for no session.
+fn takes_no_more(rt: &impl Abort, parts: &mut Parts) {
+    assert!(rt; parts.is_full());
+    assert!(rt;
+        parts
+            .found(false, Peer { ip: 7 }, draw(13), PORTS)
+            .is_none()
+    );
+    joins(rt, parts, 13, None);
+}
+
+#[test]
+fn sessions_are_made_until_64_live(rt: HostRuntime) -> Result<(), Fail> {
+    let mut parts = parts(rt.alloc())?;
+    joins(&rt, &mut parts, 9, None);
+    founds_first(&rt, &mut parts);
+    joins(&rt, &mut parts, 11, Some(SessionId { count: 2, word: 11 }));
     for _made in 0..62 {
         found(&rt, &mut parts, 12);
     }
-    assert!(rt; parts.is_full());
-    assert!(rt; parts.found(false, peer, draw(13), PORTS).is_none());
-    assert_eq!(rt; parts.join(peer, draw(13), PORTS, 1), None);
+    takes_no_more(&rt, &mut parts);
     Ok(())
 }
