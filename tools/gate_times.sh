@@ -1,7 +1,8 @@
 #!/usr/bin/env bash
 # Tells what the gate costs, in processor seconds and seconds that passed: each crate's check, the check of its tests, and its
 # must-fail edits, the dearest first. It needs nothing but the kit and procps.
-#   tools/gate_times.sh record LOG [NAME..]   runs `rt ci --anew [NAME..]` at the top, alone on the machine, and writes LOG as it goes
+#   tools/gate_times.sh record LOG [NAME..]   runs `rt ci` at the top, from nothing and alone on the machine, and writes LOG when it ends;
+#                                             names of crates only where the kit's rt ci takes them
 #   tools/gate_times.sh LOG                   prints the table of a log
 # A line of LOG is one check: its kind (library, tests, seed or edit), its crate, its edit or -, and both times.
 set -euo pipefail
@@ -10,8 +11,15 @@ export LC_ALL=C
 top=$(cd "$(dirname "$0")/.." && pwd)
 
 usage() {
-  sed -n '2,6s/^# //p' "$0" >&2
+  sed -n '2,7s/^# //p' "$0" >&2
   exit 2
+}
+
+# Where a kit numbers no edits, a crate's checks come in the order of its edits, and last one of the crate as it is.
+next_of() {
+  local count=${tried[$1]:-0}
+  tried[$1]=$((count + 1))
+  printf -v "$2" '%s' "$count"
 }
 
 # Names the check that a process makes, from its words; nothing for any other process.
@@ -21,18 +29,22 @@ name_of() {
   local kind= crate= number= at
   [[ ${words[0]-} == */rattle ]] || return 0
   # A check over nothing that was proved before is an edit's, that of a crate with a single one.
-  case ${words[1]-} in build) kind=library ;; check) kind=edit number=0 ;; *) return 0 ;; esac
+  case ${words[1]-} in build) kind=library ;; check) kind=edit ;; *) return 0 ;; esac
   for at in "${!words[@]}"; do
     case ${words[at]} in
       --crate-name) crate=${words[at + 1]} ;;
-      --test) kind=tests number= ;;
+      --test) kind=tests ;;
       */rt-edits-*/[0-9]*) number=${words[at]##*/} ;;
       */rt-edits-*/seed) kind=seed number= ;;
       */rt-proved-*/checked) kind=library number= ;;
     esac
   done
   [[ -n $crate ]] || return 0
-  printf '%s %s %s' "$kind" "$crate" "$(edit_of "$crate" "$number")"
+  if [[ $kind == edit && -z $number ]]; then next_of "$crate" number; fi
+  [[ $kind == edit ]] || number=
+  name="$kind $crate $(edit_of "$crate" "$number")"
+  # The last check of a crate's edits is of none of them.
+  if [[ $name == *' unknown' ]]; then name="seed $crate -"; fi
 }
 
 # The name of a crate's edit, by its place in the order of names.
@@ -50,9 +62,9 @@ stat_of() {
 
 # Once a second, what each check has used so far, with the processes that it started.
 watch_checks() {
-  local hz pid root key text ticks
+  local hz pid root key text ticks name
   local -a stat
-  local -A now
+  local -A now tried
   hz=$(getconf CLK_TCK)
   while sleep 1; do
     now=()
@@ -67,7 +79,11 @@ watch_checks() {
         read -r -a stat <<<"$text"
       fi
       key=$root:${stat[19]}
-      [[ -n ${check[$key]-} ]] || check[$key]=$(name_of "$root")
+      if [[ -z ${check[$key]-} ]]; then
+        name=
+        name_of "$root"
+        check[$key]=$name
+      fi
       now[$key]=$((${now[$key]-0} + ticks))
       first[$key]=${first[$key]-$SECONDS}
       last[$key]=$SECONDS
@@ -89,9 +105,11 @@ write_log() {
 
 record() {
   declare -A check used first last
-  local log=$1
+  local log=$1 anew=
   shift
-  (cd "$top" && rt ci --anew "$@") >"$log.out" 2>&1 &
+  # Some kits keep what an earlier run proved unless told not to.
+  if rt help 2>&1 | grep -q 'rt ci.*--anew'; then anew=--anew; fi
+  (cd "$top" && rt ci $anew "$@") >"$log.out" 2>&1 &
   local gate=$!
   # The subshell's end writes the log, however it ends.
   (
