@@ -11,8 +11,6 @@ mod outcomes;
 mod streams;
 mod strip;
 mod tally;
-#[cfg(test)]
-mod tests;
 mod words;
 
 pub use adapters::{ReadSource, WriteSink};

@@ -8,8 +8,6 @@
 mod replies;
 mod requests;
 mod rows;
-#[cfg(test)]
-mod tests;
 mod texts;
 mod transports;
 

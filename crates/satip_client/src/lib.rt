@@ -8,8 +8,6 @@ mod heard;
 mod lease;
 mod opening;
 mod pulse;
-#[cfg(test)]
-mod tests;
 
 pub use ending::RecordEnd;
 pub use heard::Heard;

@@ -11,8 +11,6 @@ mod inlet;
 mod outlet;
 mod store;
 mod streams;
-#[cfg(test)]
-mod tests;
 
 pub use clock::{MemoryClock, MemoryPacer};
 pub use conn::MemoryConn;

@@ -1,10 +1,18 @@
-//! Messages, requests, replies, reports and descriptions by example. It has nothing but tests.
+//! Messages, requests, replies, reports and descriptions by example, those of a client too. It has nothing but tests.
 #![tactic(auto)]
 
+#[cfg(test)]
+mod channels;
+#[cfg(test)]
+mod client_requests;
 #[cfg(test)]
 mod frame;
 #[cfg(test)]
 mod http;
+#[cfg(test)]
+mod parts;
+#[cfg(test)]
+mod replies;
 #[cfg(test)]
 mod rtcp;
 #[cfg(test)]

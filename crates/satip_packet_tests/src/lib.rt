@@ -12,3 +12,5 @@ mod lanes;
 mod reading;
 #[cfg(test)]
 mod rtp;
+#[cfg(test)]
+mod transport;

@@ -5,8 +5,6 @@
 mod laws;
 mod parting;
 mod passing;
-#[cfg(test)]
-mod tests;
 
 pub use laws::{
     first_is_first, frames_count_nowhere, has_reading, kept_by_more_bytes, one_reading, parts_law,

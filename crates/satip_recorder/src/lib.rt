@@ -6,8 +6,6 @@ mod opening;
 mod record;
 mod recorder;
 mod tape;
-#[cfg(test)]
-mod tests;
 mod turns;
 mod wish;
 

@@ -6,8 +6,6 @@ mod fields;
 mod heads;
 mod reply;
 mod rows;
-#[cfg(test)]
-mod tests;
 
 pub use reply::{ReplyRead, ReplyView, read_reply};
 pub use rows::worked_rows;

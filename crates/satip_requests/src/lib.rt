@@ -6,8 +6,6 @@ mod grants;
 mod page;
 mod requests;
 mod rows;
-#[cfg(test)]
-mod tests;
 
 pub use grants::{Grant, ReplyFault, accept, grant_of};
 pub use page::Page;

@@ -4,8 +4,6 @@
 mod cutter;
 mod laws;
 mod packet;
-#[cfg(test)]
-mod tests;
 
 pub use cutter::Cutter;
 pub use laws::{hands_out_first, misses_nothing};

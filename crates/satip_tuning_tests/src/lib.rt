@@ -1,6 +1,8 @@
-//! Tunings, queries and configurations by example. It has nothing but tests.
+//! Numbers, texts, tunings, queries and configurations by example. It has nothing but tests.
 #![tactic(auto)]
 
+#[cfg(test)]
+mod base;
 #[cfg(test)]
 mod config;
 #[cfg(test)]

@@ -2,7 +2,7 @@
 ghost use Rattle.std.specs.Prelude.{◌≡◌, [], ◌∷◌, ◌++◌, replicate};
 ghost use Rattle.satip_ts.specs.Recording.{cut_packets};
 
-use crate::{Cutter, Packet};
+use satip_ts::{Cutter, Packet};
 use std::test::Fail;
 
 // A packet of this PID, filled with the byte 0x47.

@@ -1,6 +1,6 @@
 //! Exchanges over memory.
-use crate::{Heard, Lease, Pulse, RecordEnd, keep_alive, set_up, start};
 use satip_base::{Strip, Want};
+use satip_client::{Heard, Lease, Pulse, RecordEnd, keep_alive, set_up, start};
 use satip_memory::{MemoryClock, MemoryConn};
 use satip_requests::Page;
 use std::alloc::Global;

@@ -1,8 +1,8 @@
 //! Sources, sinks and inlets over memory.
 
-use crate::{MemoryInlet, MemorySink, MemorySource};
 use satip_base::{Put, Sink, Source, Taken};
 use satip_inlet::Inlet;
+use satip_memory::{MemoryInlet, MemorySink, MemorySource};
 use satip_world::Received;
 use std::test::Fail;
 

@@ -1,8 +1,8 @@
 //! Whole recordings over memory.
-use crate::{Recorded, Wish, record_by};
 use satip_base::Want;
 use satip_client::RecordEnd;
 use satip_memory::{MemoryClock, MemoryConn, MemoryInlet, MemorySink};
+use satip_recorder::{Recorded, Wish, record_by};
 use std::alloc::Global;
 use std::test::Fail;
 

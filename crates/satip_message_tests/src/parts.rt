@@ -2,8 +2,8 @@
 ghost use Rattle.std.specs.Prelude.{◌≡◌, [], ◌∷◌, ◌++◌, codes, replicate};
 ghost use Rattle.satip_parts.specs.Frames.{Between, frame, behind};
 
-use crate::Parter;
 use satip_frame::Step;
+use satip_parts::Parter;
 use std::test::Fail;
 
 const OPTIONS: &[u8] = b"OPTIONS * RTSP/1.0\r\nCSeq: 1\r\n\r\n";

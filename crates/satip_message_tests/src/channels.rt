@@ -1,8 +1,10 @@
 //! Requests and replies of a connection that carries the packets too, on the code.
 
-use crate::{ChannelReply, interleaved, read_request, request, worked_replies, worked_transports};
 use satip_base::Ports;
 use satip_base::limits::REPLY_BYTES;
+use satip_channels::{
+    ChannelReply, interleaved, read_request, request, worked_replies, worked_transports,
+};
 use satip_frame::{Break, Framer, Step};
 use satip_rtsp::Request;
 use std::alloc::Global;

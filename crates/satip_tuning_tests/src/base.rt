@@ -1,6 +1,9 @@
-//! Each public function once, on values from outside.
+//! Numbers, addresses, texts, and what the server writes to, each public function once.
 
-use crate::*;
+use satip_base::{
+    Address, Out, Put, ReadSource, SessionId, Sink, Source, Strip, Taken, Text, WriteSink, read_ip,
+    read_number,
+};
 use std::test::Fail;
 
 #[test]
@@ -41,7 +44,7 @@ fn session_ids_are_sixteen_lower_case_digits(rt: HostRuntime) {
 }
 
 #[test]
-#[tactic(auto, using(crate::proofs::NumberLemmas::digit_bounds, crate::proofs::TextLemmas::text_bounds))]
+#[tactic(auto, using(satip_base::proofs::NumberLemmas::digit_bounds, satip_base::proofs::TextLemmas::text_bounds))]
 fn an_out_keeps_a_reply_and_datagrams(rt: HostRuntime) -> Result<(), Fail> {
     let mut out = Out::make(rt.alloc())?;
     let to = Address {
@@ -81,7 +84,7 @@ fn an_out_keeps_a_reply_and_datagrams(rt: HostRuntime) -> Result<(), Fail> {
 }
 
 #[test]
-#[tactic(auto, using(crate::proofs::NumberLemmas::digit_bounds, crate::proofs::TextLemmas::text_bounds))]
+#[tactic(auto, using(satip_base::proofs::NumberLemmas::digit_bounds, satip_base::proofs::TextLemmas::text_bounds))]
 fn a_strip_keeps_what_is_printed(rt: HostRuntime) {
     let mut strip = Strip::new();
     strip.write(b"src=");

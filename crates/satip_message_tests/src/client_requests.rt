@@ -1,6 +1,6 @@
 //! Requests as texts, and replies to them.
-use crate::{Grant, Page, ReplyFault, accept, grant_of};
 use satip_reply::{ReplyRead, read_reply};
+use satip_requests::{Grant, Page, ReplyFault, accept, grant_of};
 use std::test::Fail;
 
 const ADDRESS: &[u8; 15] = b"127.0.0.1:18554";
