@@ -1,0 +1,97 @@
+-- A journal goes on: what holds from one moment to a second, and from there to a third, holds from the first to the third.
+use Rattle.std.proofs.Common.{◌≡◌, ◌∙◌, ℕ, ◌+◌, Bool, true, false, ◌==◌, List, [], ◌∷◌, ◌++◌, length, refl, sym, ap, subst, arith, append_assoc, append-nil, length-append}
+use Rattle.std.proofs.lemmas.Grind.{flat_map-append}
+use Rattle.satip_base.specs.Streams.{Drain, Rose, FailedToPut}
+use Rattle.satip_history.specs.History.{kept_if}
+use Rattle.satip_plain.specs.Histories.{Item}
+use Rattle.satip_shared.specs.Calling.{same_caller, same_caller_then}
+use Rattle.satip_journal.specs.Places.{Placed, placed, own_at, line_of, lines_of}
+use Rattle.satip_journal.specs.Logs.{Logs}
+use Rattle.satip_journal.specs.Keeping.{Kept, SameJournal}
+
+kept_if-append : {T : Type 0} (b : Bool) (x : T) (xs ys : List T) → kept_if b x (xs ++ ys) ≡ kept_if b x xs ++ ys
+kept_if-append true x xs ys = refl
+kept_if-append false x xs ys = refl
+
+pub own_at-append : (place n : ℕ) (h k : List Item) → own_at place n (h ++ k) ≡ own_at place n h ++ own_at (place + length h) n k
+own_at-append place n [] k = let none : place ≡ place + 0 = omega arith in ap (λ p. own_at p n k) none
+own_at-append place n (e ∷ es) k =
+    let later : (place + 1) + length es ≡ place + length (e ∷ es) = omega arith in
+    ap (λ ps. kept_if (e.caller == n) (placed place e) ps) (own_at-append (place + 1) n es k)
+    ∙ kept_if-append (e.caller == n) (placed place e) (own_at (place + 1) n es) (own_at ((place + 1) + length es) n k)
+    ∙ ap (λ p. own_at place n (e ∷ es) ++ own_at p n k) later
+
+-- the lines of entries and of those behind them
+pub lines_then : (job later_job place later_place n later_n : ℕ) (h k : List Item) → later_job ≡ job → later_place ≡ place + length h → later_n ≡ n
+    → lines_of job (own_at place n h) ++ lines_of later_job (own_at later_place later_n k) ≡ lines_of job (own_at place n (h ++ k))
+lines_then job later_job place later_place n later_n h k same_job behind same_n =
+    let moved : lines_of later_job (own_at later_place later_n k) ≡ lines_of job (own_at (place + length h) n k) = λ i. lines_of (same_job i) (own_at (behind i) (same_n i) k) in
+    ap (λ (t : List ℕ). lines_of job (own_at place n h) ++ t) moved
+    ∙ sym (ap (λ (ps : List Placed). lines_of job ps) (own_at-append place n h k) ∙ flat_map-append (line_of job) (own_at place n h) (own_at (place + length h) n k))
+
+-- nothing was to be sent
+pub logs_none : (tells : Type 0) (o : Drain) (failed : Bool) → Logs tells o o failed failed []
+logs_none tells o false = record { faults = refl; content = λ told. sym (append-nil o.sent) }
+logs_none tells o true = refl
+
+-- a text and one behind it
+pub logs_then : (tells : Type 0) (o m n : Drain) (a b c : Bool) (s t : List ℕ) → Logs tells o m a b s → Logs tells m n b c t → Logs tells o n a c (s ++ t)
+logs_then tells o m n false false false s t x y = record {
+  faults = y.faults ∙ x.faults;
+  content = λ told. y.content told ∙ ap (λ (u : List ℕ). u ++ t) (x.content told) ∙ append_assoc o.sent s t;
+}
+logs_then tells o m n false false true s t x y =
+    let R : ℕ → Type 0 = λ f. Rose f n.faults in
+    record {
+      faults = subst R x.faults y.faults;
+      content = λ told.
+          let began = y.content told in
+          record {
+            part = s ++ began.part;
+            rest = began.rest;
+            whole = ap (λ (u : List ℕ). s ++ u) began.whole ∙ sym (append_assoc s began.part began.rest);
+            sent = began.sent ∙ ap (λ (u : List ℕ). u ++ began.part) (x.content told) ∙ append_assoc o.sent s began.part;
+          };
+    }
+logs_then tells o m n false true true s t x y =
+    let P : Drain → Type 0 = λ d. FailedToPut tells o d (s ++ t) in
+    subst P (sym y) (record {
+      faults = x.faults;
+      content = λ told.
+          let began = x.content told in
+          record {
+            part = began.part;
+            rest = began.rest ++ t;
+            whole = ap (λ (u : List ℕ). u ++ t) began.whole ∙ append_assoc began.part began.rest t;
+            sent = began.sent;
+          };
+    })
+logs_then tells o m n true true true s t x y = y ∙ x
+logs_then tells o m n false true false s t x y = absurd y
+logs_then tells o m n true true false s t x y = absurd y
+logs_then tells o m n true false c s t x y = absurd x
+
+pub same_journal : (tells : Type 0) (k : Kept) → SameJournal tells k k
+same_journal tells k = record {
+  caller = same_caller k.server k.pass;
+  number = refl;
+  more = [];
+  seen = sym (append-nil k.pass.seen);
+  logs = logs_none tells k.drain k.failed;
+}
+
+pub same_journal_then : (tells : Type 0) (k l m : Kept) → SameJournal tells k l → SameJournal tells l m → SameJournal tells k m
+same_journal_then tells k l m a b =
+    let P : List ℕ → Type 0 = λ text. Logs tells k.drain m.drain k.failed m.failed text in
+    let first = lines_of k.number (own_at (length k.pass.seen) k.pass.number a.more) in
+    let second = lines_of l.number (own_at (length l.pass.seen) l.pass.number b.more) in
+    let behind : length l.pass.seen ≡ length k.pass.seen + length a.more = ap length a.seen ∙ length-append k.pass.seen a.more in
+    record {
+      caller = same_caller_then k.server k.pass l.server l.pass m.server m.pass a.caller b.caller;
+      number = b.number ∙ a.number;
+      more = a.more ++ b.more;
+      seen = b.seen ∙ ap (λ (h : List Item). h ++ b.more) a.seen ∙ append_assoc k.pass.seen a.more b.more;
+      logs = subst P
+          (lines_then k.number l.number (length k.pass.seen) (length l.pass.seen) k.pass.number l.pass.number a.more b.more a.number behind a.caller.pass.number)
+          (logs_then tells k.drain l.drain m.drain k.failed l.failed m.failed first second a.logs b.logs);
+    }

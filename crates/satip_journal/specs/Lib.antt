@@ -1,0 +1,6 @@
+pub mod Places
+pub mod Logs
+pub mod Owning
+pub mod Keeping
+pub mod Continuing
+pub mod Rows

@@ -1,0 +1,8 @@
+//! A caller of the shared server that writes a line of each of its entries, and so keeps a journal.
+#![tactic(auto)]
+
+mod journal;
+mod rows;
+
+pub use journal::Journal;
+pub use rows::worked_journal;
