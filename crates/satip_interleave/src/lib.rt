@@ -1,0 +1,11 @@
+//! The tunnel that threads share, and one caller of it as a service. All calls stand in one history
+//! of the tunnel, whose entries of the server are a history of the plain server.
+#![tactic(auto)]
+
+mod caller;
+mod copying;
+mod feeding;
+mod tunnel;
+
+pub use caller::TunnelCaller;
+pub use tunnel::{SharedTunnel, TunnelPass, make};
