@@ -1,0 +1,4 @@
+pub mod Entries
+pub mod Calling
+pub mod Takings
+pub mod Crossing

@@ -1,0 +1,43 @@
+-- Each event of the lot is an entry of the caller's own, and one of the server.
+use Rattle.std.proofs.Common.{false, Ok, Err, rules}
+use Rattle.satip_service.specs.declared.fault.ServiceFault.TheVariants.{Spent}
+use Rattle.satip_service.specs.Calls.{Bursts}
+use Rattle.satip_interleave.specs.Calling.{known_by}
+use Rattle.satip_interleave.proofs.Calling.{at_last, bursts_by, ends_well, ends_spent, same_burst}
+use Rattle.satip_interleave.proofs.caller.TunnelCallerService.burst.Goals as goal
+
+pub returns-then-burst-clause-same : goal.returns-then-burst-clause-same
+returns-then-burst-clause-same g c =
+    let call = c.burst-burst.ensures in
+    same_burst c.args.self.now.server.now c.args.self.now.pass c.burst-burst.new.pass c.burst-burst.result.made _
+    (g.L.Lot.has_taken c.args.lot.now c.burst-burst.new.feed.lot.now) call.keeps call.history
+
+pub returns-then-burst-clause-bursts : goal.returns-then-burst-clause-bursts
+returns-then-burst-clause-bursts g c =
+    let call = c.burst-burst.ensures in
+    let p = c.args.self.now.pass in
+    let q = c.burst-burst.new.pass in
+    let lot = c.burst-burst.new.feed.lot.now in
+    let made = c.burst-burst.result.made in
+    let name = call.history.has.0 in
+    at_last (λ l. Bursts false (known_by p) (known_by q) (g.L.Lot.ended l) (g.L.Lot.given l) (g.L.Lot.has_taken c.args.lot.now l) (Err Spent)) _ lot (search rules)
+    (bursts_by c.args.self.now.server.now.setting p q made (g.L.Lot.ended lot) (g.L.Lot.given lot) _ (g.L.Lot.has_taken c.args.lot.now lot) (Err Spent) call.knows.lawful call.most call.history
+    (ends_spent q made (g.L.Lot.ended lot) c.burst-burst.result.spent (g.L.Lot.given lot) c.if-burst.true call.spent call.full))
+
+pub returns-clause-same : goal.returns-clause-same
+returns-clause-same g c =
+    let call = c.burst-burst.ensures in
+    same_burst c.args.self.now.server.now c.args.self.now.pass c.burst-burst.new.pass c.burst-burst.result.made _
+    (g.L.Lot.has_taken c.args.lot.now c.burst-burst.new.feed.lot.now) call.keeps call.history
+
+pub returns-clause-bursts : goal.returns-clause-bursts
+returns-clause-bursts g c =
+    let call = c.burst-burst.ensures in
+    let p = c.args.self.now.pass in
+    let q = c.burst-burst.new.pass in
+    let lot = c.burst-burst.new.feed.lot.now in
+    let made = c.burst-burst.result.made in
+    let name = call.history.has.0 in
+    at_last (λ l. Bursts false (known_by p) (known_by q) (g.L.Lot.ended l) (g.L.Lot.given l) (g.L.Lot.has_taken c.args.lot.now l) (Ok tt)) _ lot (search rules)
+    (bursts_by c.args.self.now.server.now.setting p q made (g.L.Lot.ended lot) (g.L.Lot.given lot) _ (g.L.Lot.has_taken c.args.lot.now lot) (Ok tt) call.knows.lawful call.most call.history
+    (ends_well q made (g.L.Lot.ended lot) c.burst-burst.result.spent (g.L.Lot.given lot) c.if-burst.false call.most call.few call.spent))

@@ -1,0 +1,3 @@
+pub mod Single
+pub mod Taking
+pub mod Calling

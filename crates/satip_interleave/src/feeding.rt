@@ -1,0 +1,42 @@
+//! The events of a lot, as a burst of the shared tunnel is fed with them.
+ghost use Rattle.std.specs.Prelude.{◌≡◌, option_map, refl};
+ghost use Rattle.satip_history.specs.Lists.{Each};
+ghost use Rattle.satip_tunnel.specs.declared.events.TunnelEvent.TheVariants.{Inner};
+ghost use Rattle.satip_interleave.specs.Taking.{IsInnerEvent, AreAnswered, inners_taken};
+
+use crate::copying::server_answer;
+use satip_base::Out;
+use satip_service::Lot;
+use satip_tunnel::{Tunnel, TunnelAnswer, TunnelEvent};
+use satip_turn::Feed;
+
+/// A lot that feeds a burst.
+#[derive(Drop)]
+pub(crate) struct Feeding<'a, L: Lot> {
+    pub lot: &'a mut L,
+}
+
+impl<'a, L: Lot> Feed<Tunnel> for Feeding<'a, L> {
+    ghost given = { λ f. option_map Inner (L.given f.lot.now) };
+
+    ghost ended = { λ f. L.ended f.lot.now };
+
+    // it still has the same lot, all events are of the server, and the lot has taken them where the
+    // server answered each
+    ghost has_taken = { λ f g ts. (g.lot.ghost_name ≡ f.lot.ghost_name)
+        × Each (λ t. IsInnerEvent t.event) ts
+        × (AreAnswered ts → L.has_taken f.lot.now g.lot.now (inners_taken ts)) };
+
+    ghost none_taken = { λ f. (refl, tt, λ _. L.none_taken f.lot.now) };
+
+    fn next(&mut self) -> Option<TunnelEvent> {
+        match self.lot.next() {
+            None => None,
+            Some(event) => Some(TunnelEvent::Inner(event)),
+        }
+    }
+
+    fn took(&mut self, answer: &TunnelAnswer, out: &Out) {
+        self.lot.took(&server_answer(*answer), out);
+    }
+}

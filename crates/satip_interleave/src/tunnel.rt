@@ -1,0 +1,35 @@
+//! The shared tunnel.
+ghost use Rattle.std.specs.Prelude.{◌≡◌, ◌≤◌, length, IfOk};
+ghost use Rattle.satip_fronts.specs.FrontEnds.{IsNumbered};
+ghost use Rattle.satip_tunnel.specs.Histories.{TunnelLegal};
+ghost use Rattle.satip_turn.specs.Shown.{IsOf, Knows, first_pass};
+
+use satip_base::Want;
+use satip_config::Config;
+use satip_tunnel::Tunnel;
+use satip_turn::{Pass, TurnCell};
+use std::alloc::Global;
+
+/// The tunnel behind a turn cell. Many threads call it through a `&`, one at a time, and all their
+/// calls stand in one history, which is legal in the setting of the tunnel's server.
+pub type SharedTunnel = TurnCell<Tunnel>;
+
+/// The right to call the shared tunnel as one caller, and what that caller knows of the history.
+pub type TunnelPass = Pass<Tunnel>;
+
+/// The shared tunnel before its first event, and the pass of caller 0. The clock stands at this
+/// moment, in milliseconds of Unix time. `Want` where memory was refused.
+pub fn make(alloc: Global, config: Config, start: u64) -> Result<(SharedTunnel, TunnelPass), Want>
+    requires few { length config.fronts ≤ 16 }
+    requires numbered { IsNumbered 1 config.fronts }
+    requires received { length config.muxes ≤ 256 }
+    ensures setting { IfOk result (λ made. made.0.setting
+        ≡ record { config = config; start = start }) }
+    ensures pass { IfOk result (λ made. made.1 ≡ first_pass made.0) }
+    ensures of { IfOk result (λ made. IsOf made.1 made.0) }
+    ensures knows { IfOk result (λ made. Knows (TunnelLegal made.0.setting) made.1) }
+{
+    let tunnel = Tunnel::make(alloc, config, start)?;
+    let (cell, pass) = TurnCell::make(alloc, tunnel)?;
+    Ok((cell, pass))
+}
