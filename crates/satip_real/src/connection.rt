@@ -73,10 +73,10 @@ impl Socket {
 
 /// A TCP connection to one client, or to a server that was dialed.
 ///
-/// A receive from a client waits 50 ms for bytes, and is idle where none came. It fails where the client was
-/// silent for longer than it may: over RTSP for longer than the seconds that the doors were given,
-/// over HTTP so before anything was sent to it, and 2 s where nothing ever came of it and others
-/// wait at the doors.
+/// A receive from a client waits 50 ms for bytes, and is idle where none came. It fails where the
+/// client was silent for longer than it may: over RTSP for longer than the seconds that the doors
+/// were given, over HTTP so before anything was sent to it, and 2 s where nothing ever came of it
+/// and others wait at the doors.
 ///
 /// A receive from a server waits 1 ms for bytes, and no silence makes it fail.
 ///

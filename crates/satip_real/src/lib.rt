@@ -1,7 +1,7 @@
 //! The network, the clock and the keys of the system: TCP connections by two listeners or dialed,
-//! UDP sockets by which datagrams leave or come in, a clock that no step of the system's time moves,
-//! and random bytes. No contract can say what they give or take, so they tell nothing of content,
-//! and keep the counts.
+//! UDP sockets by which datagrams leave or come in, a clock that no step of the system's time
+//! moves, and random bytes. No contract can say what they give or take, so they tell nothing of
+//! content, and keep the counts.
 #![tactic(auto)]
 
 mod addresses;
