@@ -1,4 +1,3 @@
-pub mod CheckLemmas
 pub mod CutLemmas
 pub mod EachLemmas
 pub mod EntryLemmas

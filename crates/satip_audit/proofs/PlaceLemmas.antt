@@ -29,10 +29,10 @@ times_step xs x q = step_by xs x q (x == q) refl (sum_by-cons (λ (p : ℕ). con
 pub times_same : (xs : List ℕ) (x q : ℕ) → x ≡ q → times (x ∷ xs) q ≡ 1 + times xs q
 times_same xs x q e = ⊎_elim (λ (s : Same xs x q). s.1) (λ (o : Other xs x q). absurd (o.0 e)) (times_step xs x q)
 
-times_other : (xs : List ℕ) (x q : ℕ) → (x ≡ q → ⊥) → times (x ∷ xs) q ≡ times xs q
+pub times_other : (xs : List ℕ) (x q : ℕ) → (x ≡ q → ⊥) → times (x ∷ xs) q ≡ times xs q
 times_other xs x q n = ⊎_elim (λ (s : Same xs x q). absurd (n s.0)) (λ (o : Other xs x q). o.1) (times_step xs x q)
 
-times_more : (xs : List ℕ) (x q : ℕ) → times xs q ≤ times (x ∷ xs) q
+pub times_more : (xs : List ℕ) (x q : ℕ) → times xs q ≤ times (x ∷ xs) q
 times_more xs x q =
     ⊎_elim (λ (s : Same xs x q). let e = s.1 in omega (arith, e)) (λ (o : Other xs x q). let e = o.1 in omega (arith, e)) (times_step xs x q)
 

@@ -2,6 +2,5 @@ pub mod Cuts
 pub mod Places
 pub mod Spots
 pub mod Journals
-pub mod Checks
 pub mod Verdicts
 pub mod Rows

@@ -9,7 +9,7 @@ ghost use Rattle.satip_audit.specs.Cuts.{IsCut, is_byte};
 use memchr::memchr;
 
 /// Whether two texts are the same, byte for byte.
-pub(crate) fn same_bytes(a: &[u8], b: &[u8]) -> bool
+pub fn same_bytes(a: &[u8], b: &[u8]) -> bool
     ensures same { MatchBool result (a.now ≡ b.now) (a.now ≢ b.now) }
 {
     a == b
@@ -37,7 +37,7 @@ pub(crate) fn cut(text: &[u8], at: u8) -> Option<(&[u8], &[u8])>
 }
 
 /// The first line with the LF that ends it, and the text behind it; None where there is no LF.
-pub(crate) fn cut_line(text: &[u8]) -> Option<(&[u8], &[u8])>
+pub fn cut_line(text: &[u8]) -> Option<(&[u8], &[u8])>
     ensures whole { IfSome result (λ r. text.now ≡ r.0.now ++ r.1.now) }
     ensures shorter { IfSome result (λ r. length r.1.now < length text.now) }
     ensures finds { (body rest : List ℕ) → list_any (is_byte 10) body ≡ false

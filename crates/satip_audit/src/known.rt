@@ -11,7 +11,7 @@ use satip_plain::{Answer, Event, GetAnswer, Pulled, Replied, Work, known_event};
 
 /// Hands to a caller's proof that an entry's numbers are within their types, and that its reply and
 /// its datagrams fit the room of one event.
-pub(crate) fn known_entry(event: &Event, answer: &Answer, out: &Out)
+pub fn known_entry(event: &Event, answer: &Answer, out: &Out)
     ensures entry { IsEntry (record {
       event = event.now;
       answer = answer.now;

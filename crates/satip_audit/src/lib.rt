@@ -2,7 +2,6 @@
 //! they aren't.
 #![tactic(auto)]
 
-mod checking;
 mod cutting;
 mod index;
 mod known;
@@ -10,7 +9,9 @@ mod lines;
 mod rows;
 mod verdict;
 
-pub use checking::first_wrong_line;
+pub use cutting::{cut_line, same_bytes};
 pub use index::{Spot, first_missing, first_repeated, sort_spots};
+pub use known::known_entry;
+pub use lines::{Found, read_entry, read_start};
 pub use rows::worked_verdicts;
 pub use verdict::Verdict;

@@ -16,11 +16,11 @@ use satip_records::{LineRoom, write_entry, write_start};
 
 /// What an entry's line names, but for the reply and the datagrams.
 #[derive(Drop)]
-pub(crate) struct Found {
-    pub(crate) place: u64,
-    pub(crate) caller: u64,
-    pub(crate) event: Event,
-    pub(crate) answer: Answer,
+pub struct Found {
+    pub place: u64,
+    pub caller: u64,
+    pub event: Event,
+    pub answer: Answer,
 }
 
 // A number with a space behind it, and what stands behind that.
@@ -73,7 +73,7 @@ fn entry_words(line: &[u8]) -> Option<(u64, u64, &[u8])>
 }
 
 /// The moment that a start line names; None where it is none.
-pub(crate) fn read_start(line: &[u8], room: &mut LineRoom) -> Option<u64>
+pub fn read_start(line: &[u8], room: &mut LineRoom) -> Option<u64>
     ensures right { IfSome result (λ now. line.now ≡ start_line now) }
     ensures within { IfSome result (λ now. now < 2 ^ 64) }
     ensures none { IsNone result → (now : ℕ) → now < 2 ^ 64 → line.now ≡ start_line now → ⊥ }
@@ -90,7 +90,7 @@ pub(crate) fn read_start(line: &[u8], room: &mut LineRoom) -> Option<u64>
 
 /// What an entry's line names, and into `out` its reply and its datagrams; None where it is none.
 /// The record is decoded into some room.
-pub(crate) fn read_entry(
+pub fn read_entry(
     line: &[u8],
     out: &mut Out,
     room: &mut LineRoom,

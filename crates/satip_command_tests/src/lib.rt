@@ -1,9 +1,7 @@
-//! The commands' parts by example: scripts, the lines of journals and replays. It has nothing but
+//! The commands' parts by example: scripts, the lines of entries and replays. It has nothing but
 //! tests.
 #![tactic(auto)]
 
-#[cfg(test)]
-mod journals;
 #[cfg(test)]
 mod records;
 #[cfg(test)]

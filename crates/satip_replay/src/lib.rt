@@ -7,4 +7,5 @@ mod replaying;
 mod running;
 
 pub use ends::ReplayEnd;
+pub use reading::{ReadFault, read_whole};
 pub use replaying::{read_configuration, replay};

@@ -9,7 +9,7 @@ use std::alloc::Global;
 
 /// Why a source isn't read.
 #[derive(Clone, Copy, Debug, PartialEq, Eq)]
-pub(crate) enum ReadFault {
+pub enum ReadFault {
     /// It has more bytes than it may have.
     TooLong,
     /// It failed.
@@ -22,7 +22,7 @@ const PIECE: usize = 65536;
 
 /// Reads a source to its end, as long as it has at most `limit` bytes. At most one byte more is
 /// taken.
-pub(crate) fn read_whole<S: Source>(
+pub fn read_whole<S: Source>(
     alloc: Global,
     source: &mut S,
     limit: usize,

@@ -1,6 +1,5 @@
 -- Lines behind each other, of which the first wrong one is looked for.
-use Rattle.std.proofs.Common.{◌≡◌, ℕ, ◌+◌, ◌<◌, ◌≤◌, ◌^◌, Bool, true, false, ◌||◌, List, [], ◌∷◌, ◌++◌, length, length-append, append_assoc, append-nil, flat_map, decimal, codes, Option, None, Some, refl, sym, ap, ◌∙◌, subst, arith}
-use Rattle.std.specs.Prelude.{IsNone}
+use Rattle.std.proofs.Common.{◌≡◌, ℕ, ◌+◌, ◌<◌, ◌≤◌, ◌^◌, Bool, true, false, ◌||◌, List, [], ◌∷◌, ◌++◌, length, length-append, append_assoc, append-nil, flat_map, decimal, codes, refl, sym, ap, ◌∙◌, arith}
 use Rattle.std.specs.List.{list_any}
 use Rattle.std.proofs.lemmas.List.Concat.{flat_map-append}
 use Rattle.hex.specs.Hex.{encode_lower}
@@ -9,8 +8,8 @@ use Rattle.satip_history.proofs.Elements.{Each-append}
 use Rattle.satip_records.specs.Lines.{entry_line, start_line}
 use Rattle.satip_record_reader.specs.ReadingEntries.{entry_text}
 use Rattle.satip_audit.specs.Cuts.{is_byte}
-use Rattle.satip_audit.specs.Checks.{AreRight, IsRight, IsWrong}
-use Rattle.satip_audit.specs.Journals.{BeginsWithNone, Entered, HasWrongLine, IsNote, IsPlaced, Note, Placed, Start, note_text, placed_line}
+use Rattle.satip_verdict.specs.Checks.{IsWrong}
+use Rattle.satip_audit.specs.Journals.{BeginsWithNone, Entered, HasWrongLine, IsNote, IsPlaced, IsText, Note, Placed, Start, note_text, placed_line}
 use Rattle.satip_audit.proofs.EntryLemmas.{are_bytes}
 use Rattle.satip_audit.proofs.LineLemmas.{digits_without_end, no_end}
 
@@ -68,24 +67,24 @@ pub record Midway (text rest : List ℕ) (number : ℕ) : Type 0 where
   pub number_is : number ≡ length before + 1
   pub short : number + length rest ≤ length text + 1
 
-pub midway_from : (text : List ℕ) → Midway text text 1
+abbrev pub midway_from : (text : List ℕ) → Midway text text 1
 midway_from text = record { before = []; right = tt; whole = refl; number_is = refl; short = omega arith }
 
-pub midway_more : (text rest line behind : List ℕ) (number : ℕ) → Midway text rest number → rest ≡ line ++ behind → length behind < length rest → IsRight line
-    → Midway text behind (number + 1)
-midway_more text rest line behind number m cut shorter r =
+abbrev pub midway_more : (text rest line behind : List ℕ) (number : ℕ) → Midway text rest number → rest ≡ line ++ behind → length behind < length rest
+    → (note : Note) → IsNote note → line ≡ note_text note → Midway text behind (number + 1)
+midway_more text rest line behind number m cut shorter note within is =
     let count = m.number_is in
     let short = m.short in
     record {
-      before = m.before ++ r.note ∷ [];
-      right = Each-append IsNote m.before (r.note ∷ []) m.right (r.within, tt);
+      before = m.before ++ note ∷ [];
+      right = Each-append IsNote m.before (note ∷ []) m.right (within, tt);
       whole =
           m.whole ∙ ap (λ (t : List ℕ). flat_map note_text m.before ++ t) cut
           ∙ sym (append_assoc (flat_map note_text m.before) line behind)
           ∙ ap (λ (t : List ℕ). t ++ behind)
-          (sym (flat_map-append note_text m.before (r.note ∷ [])
-          ∙ ap (λ (t : List ℕ). flat_map note_text m.before ++ t) (append-nil (note_text r.note) ∙ sym r.is)));
-      number_is = omega (arith, count, length-append m.before (r.note ∷ []));
+          (sym (flat_map-append note_text m.before (note ∷ [])
+          ∙ ap (λ (t : List ℕ). flat_map note_text m.before ++ t) (append-nil (note_text note) ∙ sym is)));
+      number_is = omega (arith, count, length-append m.before (note ∷ []));
       short = omega (arith, short, shorter);
     }
 
@@ -116,10 +115,10 @@ wrong_line text rest line left number m more finds wrong = wrong_at text rest nu
     let found = finds l.body behind l.lacks (e ∙ ap (λ (t : List ℕ). t ++ behind) l.is) in
     wrong note within (found.0 ∙ sym l.is))
 
-pub all_right : (text rest : List ℕ) (number : ℕ) → Midway text rest number → rest ≡ [] → AreRight text
+pub all_right : (text rest : List ℕ) (number : ℕ) (m : Midway text rest number) → rest ≡ [] → IsText text m.before
 all_right text rest number m none = record {
-  notes = m.before;
-  journal = record { right = m.right; whole = m.whole ∙ ap (λ (t : List ℕ). flat_map note_text m.before ++ t) none ∙ append-nil (flat_map note_text m.before) };
+  right = m.right;
+  whole = m.whole ∙ ap (λ (t : List ℕ). flat_map note_text m.before ++ t) none ∙ append-nil (flat_map note_text m.before);
 }
 
 -- a line that is neither a start nor an entry is wrong

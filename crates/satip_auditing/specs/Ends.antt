@@ -1,0 +1,86 @@
+-- How an audit ends.
+use Rattle.std.specs.Prelude.{◌≡◌, ℕ, ◌<◌, ◌≤◌, List, length, Ok, Err}
+use Rattle.satip_base.specs.Streams.{Feed, Drain, Rose, PutAll, FailedToPut}
+use Rattle.satip_config.specs.Configuration.{Configuration}
+use Rattle.satip_config.specs.Config.{config}
+use Rattle.satip_audit.specs.declared.verdict.Verdict.{Verdict}
+use Rattle.satip_audit.specs.Journals.{IsJournal, Note}
+use Rattle.satip_replay.specs.declared.ends.ReplayEnd.{ReplayEnd}
+use Rattle.satip_replay.specs.declared.ends.ReplayEnd.TheVariants as replay_ends
+use Rattle.satip_replay.specs.Reading.{EndsTooLong}
+use Rattle.satip_replay.specs.Replays.{Configured, script_limit}
+use Rattle.satip_replay.specs.Ends.{IsConfiguration}
+use Rattle.satip_auditing.specs.declared.ends.AuditEnd.{AuditEnd}
+use Rattle.satip_auditing.specs.declared.ends.AuditEnd.TheVariants.{Done, Configuration as OfConfiguration, Journal, InputFault, OutputFault, TooLong, OutOfMemory}
+use Rattle.satip_auditing.specs.Printed.{verdict_text}
+use Rattle.satip_auditing.specs.Audits.{Heard, Judged}
+
+-- the same end of another command
+abbrev pub IsSameEnd : ReplayEnd → AuditEnd → Type 0
+IsSameEnd replay_ends.Done end = end ≡ Done
+IsSameEnd (replay_ends.Configuration fault) end = end ≡ OfConfiguration fault
+IsSameEnd (replay_ends.Script number) end = end ≡ Journal number
+IsSameEnd replay_ends.InputFault end = end ≡ InputFault
+IsSameEnd replay_ends.OutputFault end = end ≡ OutputFault
+IsSameEnd replay_ends.TooLong end = end ≡ TooLong
+IsSameEnd replay_ends.OutOfMemory end = end ≡ OutOfMemory
+
+-- the first wrong line of the whole input has this number; nothing was written
+pub record EndsByJournal (config_tells in_tells : Type 0) (a b i j : Feed) (o n : Drain) (number : ℕ) : Type 0 where
+  pub configuration : Configuration
+  pub configured : Configured config_tells a b configuration
+  pub heard : Heard in_tells i j (Err number)
+  pub output : n ≡ o
+
+-- the output failed behind a beginning of the verdict
+pub record EndsByOutput (config_tells in_tells out_tells : Type 0) (a b i j : Feed) (o n : Drain) : Type 0 where
+  pub verdict : Verdict
+  pub judged : Judged config_tells in_tells a b i j verdict
+  pub failed : FailedToPut out_tells o n (verdict_text verdict)
+
+-- memory was refused; nothing was written
+pub record EndsByWant (a b i j : Feed) (o n : Drain) : Type 0 where
+  pub config_faults : b.faults ≡ a.faults
+  pub in_faults : j.faults ≡ i.faults
+  pub output : n ≡ o
+
+-- the input isn't read
+abbrev pub InputEnds : (tells : Type 0) (i j : Feed) → AuditEnd → Type 0
+InputEnds tells i j Done = ⊥
+InputEnds tells i j (OfConfiguration fault) = ⊥
+InputEnds tells i j (Journal number) = ⊥
+InputEnds tells i j InputFault = Rose i.faults j.faults
+InputEnds tells i j OutputFault = ⊥
+InputEnds tells i j TooLong = EndsTooLong tells i j script_limit
+InputEnds tells i j OutOfMemory = j.faults ≡ i.faults
+
+-- how the writing of a verdict ends
+abbrev pub WriteEnds : (tells : Type 0) (o n : Drain) (text : List ℕ) → AuditEnd → Type 0
+WriteEnds tells o n text Done = PutAll tells o n text
+WriteEnds tells o n text (OfConfiguration fault) = ⊥
+WriteEnds tells o n text (Journal number) = ⊥
+WriteEnds tells o n text InputFault = ⊥
+WriteEnds tells o n text OutputFault = FailedToPut tells o n text
+WriteEnds tells o n text TooLong = ⊥
+WriteEnds tells o n text OutOfMemory = ⊥
+
+-- the text is journals without a wrong line, within the limit
+pub record IsRight (text : List ℕ) : Type 0 where
+  pub notes : List Note
+  pub journal : IsJournal text (Ok notes)
+  pub short : length text ≤ script_limit
+
+-- the text has its first wrong line here, and is within the limit
+pub record IsWrong (text : List ℕ) (number : ℕ) : Type 0 where
+  pub journal : IsJournal text (Err number)
+  pub short : length text ≤ script_limit
+
+-- what the texts of the configuration and of the journals say of the end, where no source fails
+abbrev pub IsEndOf : (config_text text : List ℕ) → AuditEnd → Type 0
+IsEndOf config_text text Done = IsConfiguration config_text × IsRight text
+IsEndOf config_text text (OfConfiguration fault) = config config_text ≡ Err fault
+IsEndOf config_text text (Journal number) = IsConfiguration config_text × IsWrong text number
+IsEndOf config_text text InputFault = ⊥
+IsEndOf config_text text OutputFault = IsConfiguration config_text × IsRight text
+IsEndOf config_text text TooLong = IsConfiguration config_text × (script_limit < length text)
+IsEndOf config_text text OutOfMemory = Unit {0}
