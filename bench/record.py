@@ -7,8 +7,8 @@ A server of this script plays a recording of 100 Mbit/s, which FFmpeg makes, eve
 seven packets every 105 microseconds, those that are due sent once a millisecond. Each client is run
 once; PACKETS are 1000000 without the word, 15 seconds of the stream. For each it prints CPU seconds
 of the process (wait4) and its most memory (VmHWM), and how many packets were lost: seven for each
-datagram that a line `gap FROM COUNT` or FFmpeg's `RTP: missed COUNT packets` tells. What the clients
-write goes to a file.
+datagram that a line `gap FROM COUNT` or FFmpeg's `RTP: missed COUNT packets` tells. What they write
+goes to a file.
 
 PROGRAM is crates/satip/out/satip without the word; `cd crates/satip && rt run -- --version` builds
 it. Needs python3 and ffmpeg (Debian: apt-get install ffmpeg). Without ffmpeg the recording is
@@ -178,7 +178,8 @@ class Measured:
 
     def show(self, name, lost):
         packets = self.sent * PACKETS_A_DATAGRAM
-        print(f"{name}: {self.cpu:.2f} s of CPU ({1e6 * self.cpu / packets:.2f} s a million packets), "
+        each = 1e6 * self.cpu / packets
+        print(f"{name}: {self.cpu:.2f} s of CPU ({each:.2f} s a million packets), "
               f"{self.memory:.1f} MB; {packets} packets sent, {lost} lost; "
               f"{self.bytes} bytes written; status {self.status}", flush=True)
 
