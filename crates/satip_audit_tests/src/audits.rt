@@ -1,0 +1,210 @@
+//! Audits over memory: what is written of journals, and each end.
+
+use satip_auditing::{AuditEnd, audit};
+use satip_base::{ReadSource, Source};
+use satip_config::{ConfigFault, ConfigKey, ConfigName};
+use satip_memory::{MemorySink, MemorySource};
+use std::alloc::Global;
+use std::io::{Read, repeat};
+use std::test::Fail;
+
+const CONFIG: &[u8] = b"address = \"192.168.1.10\"
+[[frontend]]
+sources = [1]
+systems = [\"dvbs\", \"dvbs2\"]
+[[frontend]]
+sources = [1]
+systems = [\"dvbs\", \"dvbs2\"]
+[[mux]]
+src = 1
+freq = \"11361.75\"
+pol = \"h\"
+msys = \"dvbs2\"
+sr = 22000
+file = \"a.ts\"
+[[mux]]
+src = 1
+freq = \"12402\"
+pol = \"v\"
+msys = \"dvbs\"
+sr = 27500
+file = \"b.ts\"
+";
+
+// The stop, answered `Stopping`, by caller 0 at place 0.
+const STOP: &[u8] = b"start 0\nentry 0 0 080201000000000000\n";
+
+// What an audit came to.
+#[derive(Drop)]
+struct Report {
+    end: AuditEnd,
+    output: MemorySink,
+}
+
+fn run(alloc: Global, config: &[u8], text: &[u8], failing_puts: &[u64]) -> Result<Report, Fail> {
+    let mut config = MemorySource::make(alloc, config, &[], &[])?;
+    let input = MemorySource::make(alloc, text, &[], &[])?;
+    run_over(alloc, &mut config, input, failing_puts)
+}
+
+// An audit over any sources; a put that fails passes five bytes.
+fn run_over<C: Source, I: Source + Drop>(
+    alloc: Global,
+    config: &mut C,
+    mut input: I,
+    failing_puts: &[u64],
+) -> Result<Report, Fail> {
+    let mut output = MemorySink::make(alloc, failing_puts, 5)?;
+    let end = audit(alloc, config, &mut input, &mut output);
+    Ok(Report { end, output })
+}
+
+// Whether an audit of the text ends well, and writes this.
+fn is_judged(alloc: Global, text: &[u8], line: &[u8]) -> Result<bool, Fail> {
+    let report = run(alloc, CONFIG, text, &[])?;
+    Ok(report.end == AuditEnd::Done && report.output.sent() == line)
+}
+
+// Whether this line of the text is its first wrong one, and nothing is written.
+fn is_wrong(alloc: Global, text: &[u8], number: u64) -> Result<bool, Fail> {
+    let report = run(alloc, CONFIG, text, &[])?;
+    Ok(report.end == AuditEnd::Journal(number) && report.output.sent().is_empty())
+}
+
+#[test]
+fn verdicts_are_written(rt: HostRuntime) -> Result<(), Fail> {
+    let alloc = rt.alloc();
+    assert!(rt; is_judged(alloc, STOP, b"yes 1\n")?);
+    let going = b"start 0\nentry 0 0 080200000000000000\n";
+    assert!(rt; is_judged(alloc, going, b"no differs 0\n")?);
+    let gap = b"start 0\nentry 0 0 080201000000000000\nentry 2 1 080201000000000000\n";
+    assert!(rt; is_judged(alloc, gap, b"no missing 1\n")?);
+    let twice = b"start 0\nentry 0 0 080201000000000000\nentry 0 0 080201000000000000\n";
+    assert!(rt; is_judged(alloc, twice, b"no repeated 0\n")?);
+    let unbegun = b"entry 0 0 080201000000000000\n";
+    assert!(rt; is_judged(alloc, unbegun, b"no start\n")?);
+    let tick = b"start 0\nentry 0 0 02000000000000000a0200000000000000\n";
+    assert!(rt; is_judged(alloc, tick, b"yes 1\n")?);
+    Ok(())
+}
+
+#[test]
+fn one_start_line_stands_anywhere(rt: HostRuntime) -> Result<(), Fail> {
+    let alloc = rt.alloc();
+    assert!(rt; is_judged(alloc, b"", b"no start\n")?);
+    assert!(rt; is_judged(alloc, b"start 5\n", b"yes 0\n")?);
+    assert!(rt; is_judged(alloc, b"start 5\nstart 5\n", b"no start\n")?);
+    let behind = b"entry 0 0 080201000000000000\nstart 0\n";
+    assert!(rt; is_judged(alloc, behind, b"yes 1\n")?);
+    Ok(())
+}
+
+// After the stop each front end's pump is told to stop, before it to do nothing.
+#[test]
+fn entries_are_made_again_in_the_order_of_their_places(rt: HostRuntime) -> Result<(), Fail> {
+    let alloc = rt.alloc();
+    let stop_first = b"entry 1 2 0500010302000000000000\nstart 0\nentry 0 0 080201000000000000\n";
+    assert!(rt; is_judged(alloc, stop_first, b"yes 2\n")?);
+    let ask_first = b"entry 1 0 080201000000000000\nstart 0\nentry 0 2 0500010301000000000000\n";
+    assert!(rt; is_judged(alloc, ask_first, b"yes 2\n")?);
+    let not_stopped = b"start 0\nentry 0 0 080201000000000000\nentry 1 2 0500010301000000000000\n";
+    assert!(rt; is_judged(alloc, not_stopped, b"no differs 1\n")?);
+    Ok(())
+}
+
+#[test]
+fn the_reply_and_the_datagrams_are_compared(rt: HostRuntime) -> Result<(), Fail> {
+    let alloc = rt.alloc();
+    let reply = b"start 0\nentry 0 0 08020100000001410000\n";
+    assert!(rt; is_judged(alloc, reply, b"no differs 0\n")?);
+    let datagram = b"start 0\nentry 0 0 0802010000000000010a00000105780000000141\n";
+    assert!(rt; is_judged(alloc, datagram, b"no differs 0\n")?);
+    Ok(())
+}
+
+#[test]
+fn the_first_verdict_that_applies_is_told(rt: HostRuntime) -> Result<(), Fail> {
+    let alloc = rt.alloc();
+    let all = b"entry 3 0 080200000000000000\nentry 3 0 080200000000000000\n";
+    assert!(rt; is_judged(alloc, all, b"no start\n")?);
+    let repeated = b"start 0\nentry 3 0 080200000000000000\nentry 3 0 080200000000000000\n";
+    assert!(rt; is_judged(alloc, repeated, b"no repeated 3\n")?);
+    let missing = b"start 0\nentry 3 0 080200000000000000\n";
+    assert!(rt; is_judged(alloc, missing, b"no missing 0\n")?);
+    Ok(())
+}
+
+#[test]
+fn each_line_ends_with_lf(rt: HostRuntime) -> Result<(), Fail> {
+    let alloc = rt.alloc();
+    assert!(rt; is_wrong(alloc, b"start 0\nstart 0", 2)?);
+    assert!(rt; is_wrong(alloc, b"start 0\r\n", 1)?);
+    assert!(rt; is_wrong(alloc, b"start 0\n\n", 2)?);
+    Ok(())
+}
+
+#[test]
+fn digits_are_lower_case_and_numbers_have_no_zeros_in_front(rt: HostRuntime) -> Result<(), Fail> {
+    let alloc = rt.alloc();
+    let upper = b"start 0\nentry 0 0 02000000000000000A0200000000000000\n";
+    assert!(rt; is_wrong(alloc, upper, 2)?);
+    assert!(rt; is_wrong(alloc, b"start 00\n", 1)?);
+    assert!(rt; is_wrong(alloc, b"start 0\nentry 01 0 080201000000000000\n", 2)?);
+    assert!(rt; is_wrong(alloc, b"start 18446744073709551616\n", 1)?);
+    Ok(())
+}
+
+#[test]
+fn other_lines_are_wrong(rt: HostRuntime) -> Result<(), Fail> {
+    let alloc = rt.alloc();
+    assert!(rt; is_wrong(alloc, b"# a comment\n", 1)?);
+    assert!(rt; is_wrong(alloc, b"start 0\nentry 0 0 08020100000000000000\n", 2)?);
+    Ok(())
+}
+
+#[test]
+fn a_wrong_configuration_is_told(rt: HostRuntime) -> Result<(), Fail> {
+    let alloc = rt.alloc();
+    let mut config = Vec::new(alloc);
+    config.extend_from_slice(b"timeout = 5\n")?;
+    config.extend_from_slice(CONFIG)?;
+    let report = run(alloc, &config, b"wrong\n", &[])?;
+    let fault = ConfigFault::Value(ConfigKey::top(ConfigName::Timeout));
+    assert!(rt; report.end == AuditEnd::Configuration(fault));
+    assert_eq!(rt; report.output.sent(), b"".as_slice());
+    Ok(())
+}
+
+#[test]
+fn a_fault_of_either_source_is_an_input_fault(rt: HostRuntime) -> Result<(), Fail> {
+    let alloc = rt.alloc();
+    let mut failing = MemorySource::make(alloc, CONFIG, &[20], &[2])?;
+    let input = MemorySource::make(alloc, STOP, &[], &[])?;
+    let report = run_over(alloc, &mut failing, input, &[])?;
+    assert!(rt; report.end == AuditEnd::InputFault);
+    let mut config = MemorySource::make(alloc, CONFIG, &[7, 1], &[])?;
+    let input = MemorySource::make(alloc, STOP, &[3], &[2])?;
+    let report = run_over(alloc, &mut config, input, &[])?;
+    assert!(rt; report.end == AuditEnd::InputFault);
+    assert_eq!(rt; report.output.sent(), b"".as_slice());
+    Ok(())
+}
+
+#[test]
+fn a_fault_of_the_output_leaves_a_beginning(rt: HostRuntime) -> Result<(), Fail> {
+    let report = run(rt.alloc(), CONFIG, STOP, &[1])?;
+    assert!(rt; report.end == AuditEnd::OutputFault);
+    assert_eq!(rt; report.output.sent(), b"yes 1".as_slice());
+    Ok(())
+}
+
+#[test]
+fn an_input_of_one_byte_too_many_is_too_long(rt: HostRuntime) -> Result<(), Fail> {
+    let alloc = rt.alloc();
+    let mut config = MemorySource::make(alloc, CONFIG, &[], &[])?;
+    let input = ReadSource::new(repeat(b'\n').take(67108865));
+    let report = run_over(alloc, &mut config, input, &[])?;
+    assert!(rt; report.end == AuditEnd::TooLong);
+    assert_eq!(rt; report.output.sent(), b"".as_slice());
+    Ok(())
+}

@@ -1,0 +1,26 @@
+//! The places that the entries of journals name.
+
+use satip_audit::{Spot, first_missing, first_repeated, sort_spots};
+use std::test::Fail;
+
+fn spot(place: u64) -> Spot {
+    Spot {
+        place,
+        at: 0,
+        len: 0,
+    }
+}
+
+#[test]
+fn the_least_place_is_told(rt: HostRuntime) -> Result<(), Fail> {
+    let mut twice = vec![in rt.alloc(); spot(2), spot(0), spot(2), spot(0)]?;
+    sort_spots(&mut twice);
+    assert_eq!(rt; first_repeated(&twice), Some(0));
+    let mut apart = vec![in rt.alloc(); spot(4), spot(0), spot(2)]?;
+    sort_spots(&mut apart);
+    match first_repeated(&apart) {
+        Some(_place) => assert!(rt; false),
+        None => assert_eq!(rt; first_missing(&apart), Some(1)),
+    }
+    Ok(())
+}
