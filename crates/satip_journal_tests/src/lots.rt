@@ -1,0 +1,96 @@
+//! Bursts of a journal.
+ghost use Rattle.std.specs.Prelude.{◌≡◌, Some, None, refl, if◌then◌else◌};
+ghost use Rattle.satip_plain.specs.declared.events.Event.TheVariants.{Ask};
+ghost use Rattle.satip_plain.specs.Histories.{Legal};
+ghost use Rattle.satip_turn.specs.Shown.{IsOf, Knows};
+
+use crate::server::shared;
+use satip_base::Out;
+use satip_journal::Journal;
+use satip_memory::MemorySink;
+use satip_plain::{Answer, Event};
+use satip_records::LineRoom;
+use satip_service::{Lot, Service};
+use satip_shared::{Caller, SharedPass, SharedServer};
+use std::sync::Wait;
+use std::test::Fail;
+
+// A lot of questions for front end 1.
+#[derive(Drop)]
+struct Questions {
+    left: u32,
+    given: bool,
+    ended: bool,
+}
+
+impl Lot for Questions {
+    ghost given = { λ lot. if lot.given then Some (Ask 1) else None };
+
+    ghost ended = { λ lot. lot.ended };
+
+    ghost has_taken = { λ _ _ ts. ts ≡ ts };
+
+    ghost none_taken = { λ _. refl };
+
+    fn next(&mut self) -> Option<Event> {
+        if self.left == 0 {
+            self.ended = true;
+            return None;
+        }
+        self.left -= 1;
+        self.given = true;
+        Some(Event::Ask { front: 1 })
+    }
+
+    fn took(&mut self, _answer: &Answer, _out: &Out) {
+        self.given = false;
+    }
+}
+
+// The journal of job 3 makes a burst of so many questions.
+fn ask_often<R: Wait + Sync>(
+    rt: &R,
+    server: &SharedServer,
+    pass: SharedPass,
+    sink: MemorySink,
+    line: LineRoom,
+    out: &mut Out,
+    left: u32,
+) -> Option<(MemorySink, u32)>
+    requires of { IsOf pass server.now }
+    requires knows { Knows (Legal server.now.setting) pass }
+{
+    let mut journal = Journal::new(Caller { rt, server, pass }, 3, sink, line);
+    let mut lot = Questions {
+        left,
+        given: false,
+        ended: false,
+    };
+    journal.burst(&mut lot, out).ok()?;
+    Some((journal.sink, lot.left))
+}
+
+#[test]
+fn each_event_of_a_burst_has_a_line(rt: HostRuntime) -> Result<(), Fail> {
+    let mut out = Out::make(rt.alloc())?;
+    let sink = MemorySink::make(rt.alloc(), &[], 0)?;
+    let line = LineRoom::make(rt.alloc())?;
+    let (server, pass) = shared(rt.alloc())?;
+    let (sink, left) = ask_often(&rt, &server, pass, sink, line, &mut out, 2).ok_or("spent")?;
+    assert_eq!(rt; left, 0);
+    let lines = b"entry 0 3 0500010301000000000000\nentry 1 3 0500010301000000000000\n";
+    assert_eq!(rt; sink.sent(), lines.as_slice());
+    Ok(())
+}
+
+#[test]
+fn a_burst_has_64_events_at_most(rt: HostRuntime) -> Result<(), Fail> {
+    let mut out = Out::make(rt.alloc())?;
+    let sink = MemorySink::make(rt.alloc(), &[], 0)?;
+    let line = LineRoom::make(rt.alloc())?;
+    let (server, pass) = shared(rt.alloc())?;
+    let (sink, left) = ask_often(&rt, &server, pass, sink, line, &mut out, 70).ok_or("spent")?;
+    assert_eq!(rt; left, 6);
+    assert_eq!(rt; sink.sent().len(), 10 * 33 + 54 * 34);
+    Ok(())
+}

@@ -1,0 +1,127 @@
+//! A shared server with one front end, and journals of its callers.
+ghost use Rattle.std.specs.Prelude.{◌≡◌, IfOk};
+ghost use Rattle.satip_plain.specs.Histories.{Legal};
+ghost use Rattle.satip_turn.specs.Shown.{IsOf, Knows};
+
+use satip_base::Out;
+use satip_config::Config;
+use satip_journal::{Journal, worked_journal};
+use satip_memory::MemorySink;
+use satip_plain::{Answer, Beat, Event, Work};
+use satip_records::LineRoom;
+use satip_service::Service;
+use satip_shared::{Caller, SharedPass, SharedServer, make};
+use satip_tune::Front;
+use std::alloc::Global;
+use std::sync::Wait;
+use std::test::Fail;
+
+// A front end that reaches position 1 and receives both systems.
+fn front(number: u16) -> Front
+    ensures number { result.number ≡ number }
+{
+    let mut sources = [false; 256];
+    sources[1] = true;
+    Front {
+        number,
+        sources,
+        systems: [true, true],
+    }
+}
+
+// A server at 1000 milliseconds, with one front end and no multiplex.
+pub(crate) fn shared(alloc: Global) -> Result<(SharedServer, SharedPass), Fail>
+    ensures of { IfOk result (λ made. IsOf made.1 made.0) }
+    ensures knows { IfOk result (λ made. Knows (Legal made.0.setting) made.1) }
+{
+    let mut fronts = Vec::new(alloc);
+    fronts.push(front(1))?;
+    let config = Config {
+        address: 3232235786,
+        rtsp_port: 554,
+        http_port: 8875,
+        timeout: 60,
+        workers: 8,
+        fronts,
+        muxes: Vec::new(alloc),
+        files: Vec::new(alloc),
+    };
+    Ok(make(alloc, config, 1000)?)
+}
+
+// The journal of job 7 asks before and after another caller's stop.
+fn ask_stop_ask<R: Wait + Sync>(
+    rt: &R,
+    server: &SharedServer,
+    first: SharedPass,
+    sink: MemorySink,
+    line: LineRoom,
+    out: &mut Out,
+) -> Option<(MemorySink, Answer, Answer)>
+    requires of { IsOf first server.now }
+    requires knows { Knows (Legal server.now.setting) first }
+{
+    let mut first = first;
+    let second = server.split(&mut first);
+    let mut other = Caller {
+        rt,
+        server,
+        pass: first,
+    };
+    let caller = Caller {
+        rt,
+        server,
+        pass: second,
+    };
+    let mut journal = Journal::new(caller, 7, sink, line);
+    let before = journal.call(&Event::Ask { front: 1 }, out).ok()?;
+    let _stop = other.call(&Event::Stop, out).ok()?;
+    let after = journal.call(&Event::Ask { front: 1 }, out).ok()?;
+    Some((journal.sink, before, after))
+}
+
+#[test]
+fn a_journal_has_the_places_of_its_own_entries(rt: HostRuntime) -> Result<(), Fail> {
+    worked_journal();
+    let mut out = Out::make(rt.alloc())?;
+    let sink = MemorySink::make(rt.alloc(), &[], 0)?;
+    let line = LineRoom::make(rt.alloc())?;
+    let (server, first) = shared(rt.alloc())?;
+    let (sink, before, after) = ask_stop_ask(&rt, &server, first, sink, line, &mut out).ok_or(
+        "spent",
+    )?;
+    assert_eq!(rt; before, Answer::Work(Work::Nothing));
+    assert_eq!(rt; after, Answer::Work(Work::Stopping));
+    let lines = b"entry 0 7 0500010301000000000000\nentry 2 7 0500010302000000000000\n";
+    assert_eq!(rt; sink.sent(), lines.as_slice());
+    Ok(())
+}
+
+// The first caller stops the server, as job 0.
+fn stop_first<R: Wait + Sync>(
+    rt: &R,
+    server: &SharedServer,
+    pass: SharedPass,
+    sink: MemorySink,
+    line: LineRoom,
+    out: &mut Out,
+) -> Option<(MemorySink, Answer)>
+    requires of { IsOf pass server.now }
+    requires knows { Knows (Legal server.now.setting) pass }
+{
+    let mut journal = Journal::new(Caller { rt, server, pass }, 0, sink, line);
+    let answer = journal.call(&Event::Stop, out).ok()?;
+    Some((journal.sink, answer))
+}
+
+#[test]
+fn a_stop_is_one_line(rt: HostRuntime) -> Result<(), Fail> {
+    let mut out = Out::make(rt.alloc())?;
+    let sink = MemorySink::make(rt.alloc(), &[], 0)?;
+    let line = LineRoom::make(rt.alloc())?;
+    let (server, pass) = shared(rt.alloc())?;
+    let (sink, answer) = stop_first(&rt, &server, pass, sink, line, &mut out).ok_or("spent")?;
+    assert_eq!(rt; answer, Answer::Beat(Beat::Stopping));
+    assert_eq!(rt; sink.sent(), b"entry 0 0 080201000000000000\n".as_slice());
+    Ok(())
+}
