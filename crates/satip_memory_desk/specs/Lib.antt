@@ -1,2 +1,3 @@
 pub mod Cabinets
 pub mod Drawers
+pub mod Moments

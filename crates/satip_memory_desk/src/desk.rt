@@ -1,17 +1,21 @@
 //! A desk over memory.
 
-ghost use Rattle.std.specs.Prelude.{◌≡◌, ◌∷◌, None, Some, length, map, option_map, IfOk, IfSome, OnOk, OnErr};
+ghost use Rattle.std.specs.Prelude.{◌≡◌, ◌∷◌, [], None, Some, length, map, option_map, IfOk, IfSome, OnOk, OnErr};
 ghost use Rattle.std.specs.Option.{option_copied};
 ghost use Rattle.std.specs.List.{find};
 ghost use Rattle.std.specs.Str.{bytes_eq};
+ghost use Rattle.satip_inlet.specs.Inboxes.{fresh_inbox};
+ghost use Rattle.satip_world.specs.Lines.{fresh_line};
 ghost use Rattle.satip_world.specs.Recordings.{IsStarted};
 ghost use Rattle.satip_memory_desk.specs.Cabinets.{text_in};
 ghost use Rattle.satip_memory_desk.specs.Drawers.{row_of, AreNewKits, given_view};
 
-use satip_base::{Failed, Text, Want};
+use crate::moment::MemoryMoment;
+use satip_base::{Address, Failed, Text, Want};
 use satip_config::Config;
 use satip_memory::{
-    MemoryClock, MemoryDoors, MemoryOutlet, MemoryPacer, MemorySource, MemoryStore,
+    MemoryClock, MemoryConn, MemoryDoors, MemoryInlet, MemoryOutlet, MemoryPacer, MemorySource,
+    MemoryStore,
 };
 use satip_serve::Jobs;
 use satip_serving::{Desk, JobsFault};
@@ -37,13 +41,25 @@ struct Laid {
     jobs: MemoryJobs,
 }
 
-/// A desk of given texts and of given kits.
+// What was given to a client.
+#[derive(Clone, Copy)]
+struct Lent {
+    wire: Option<Address>,
+    inlet: bool,
+    moment: bool,
+}
+
+/// A desk of given texts, of given kits, and of what is given to a client.
 #[derive(Drop)]
 pub struct MemoryDesk {
     alloc: Global,
     drawers: Vec<Drawer>,
     laid: Option<Laid>,
     given: Option<Snapshot<MemoryJobs>>,
+    wire: Option<MemoryConn>,
+    inlet: Option<MemoryInlet>,
+    clock: Option<MemoryClock>,
+    lent: Lent,
     failing: u64,
     faults: u64,
 }
@@ -52,7 +68,9 @@ impl Model for MemoryDesk {
     ghost use Rattle.satip_memory_desk.specs.Cabinets.{Cabinet};
     ghost use Rattle.std.specs.Prelude.{map, option_map};
     ghost use Rattle.satip_memory_desk.specs.Drawers.{row_of};
-    ghost use Rattle.std.specs.Prelude.{IfSome};
+    ghost use Rattle.std.specs.Prelude.{◌≡◌, [], IfSome};
+    ghost use Rattle.satip_inlet.specs.Inboxes.{fresh_inbox};
+    ghost use Rattle.satip_world.specs.Lines.{fresh_line};
     ghost use Rattle.satip_memory_desk.specs.Drawers.{AreNewKits, given_kits};
 
     ghost Value = { Cabinet };
@@ -62,15 +80,23 @@ impl Model for MemoryDesk {
       failing_takes = map (λ drawer. drawer.failing.items) d.drawers.items;
       laid = option_map (λ laid. laid.accepts) d.laid;
       given = option_map (λ kits. given_kits kits.value) d.given;
+      wire = d.wire;
+      inlet = d.inlet;
+      clock = d.clock;
+      handed = record { wire = d.lent.wire; inlet = d.lent.inlet; moment = d.lent.moment };
       failing = d.failing;
       faults = d.faults;
     } };
 
-    ghost invariant = { λ d. IfSome d.laid (λ laid. AreNewKits laid.accepts laid.jobs) };
+    ghost invariant = { λ d. IfSome d.laid (λ laid. AreNewKits laid.accepts laid.jobs)
+        × IfSome d.wire (λ line. line ≡ fresh_line)
+        × IfSome d.inlet (λ inbox. inbox ≡ fresh_inbox inbox.port)
+        × IfSome d.clock (λ dial. dial.readings ≡ []) };
 }
 
 impl MemoryDesk {
     ghost use Rattle.satip_memory_desk.specs.Cabinets.{empty_cabinet};
+    ghost use Rattle.satip_serving.specs.Handed.{nothing_handed};
 
     /// A desk without texts. The first `failing` calls fail, and so does each call with a name that
     /// has no text.
@@ -82,9 +108,36 @@ impl MemoryDesk {
             drawers: Vec::new(alloc),
             laid: None,
             given: None,
+            wire: None,
+            inlet: None,
+            clock: None,
+            lent: Lent {
+                wire: None,
+                inlet: false,
+                moment: false,
+            },
             failing,
             faults: 0,
         }
+    }
+
+    /// Puts in what is given to a client. A desk without a connection or an inlet fails where it is
+    /// to give it; one without a clock gives one that shows 0.
+    pub fn lend(
+        &mut self,
+        wire: Option<MemoryConn>,
+        inlet: Option<MemoryInlet>,
+        clock: Option<MemoryClock>,
+    )
+        requires wire { IfSome wire (λ line. line ≡ fresh_line) }
+        requires inlet { IfSome inlet (λ inbox. inbox ≡ fresh_inbox inbox.port) }
+        requires clock { IfSome clock (λ dial. dial.readings ≡ []) }
+        ensures lent { self.new
+            ≡ record self.old { wire = wire; inlet = inlet; clock = clock } }
+    {
+        self.wire = wire;
+        self.inlet = inlet;
+        self.clock = clock;
     }
 
     /// Puts in kits with which nothing was done, whose doors end after `accepts` connections. They
@@ -95,6 +148,17 @@ impl MemoryDesk {
         ensures laid { self.new ≡ record self.old { laid = Some accepts } }
     {
         self.laid = Some(Laid { accepts, jobs });
+    }
+
+    /// Begins anew with its client: nothing counts as given.
+    pub fn renew(&mut self)
+        ensures renewed { self.new ≡ record self.old { handed = nothing_handed } }
+    {
+        self.lent = Lent {
+            wire: None,
+            inlet: false,
+            moment: false,
+        };
     }
 
     /// Puts in the text of a name, in place of one that it has. Its takes with a number, from 1, in
@@ -108,6 +172,10 @@ impl MemoryDesk {
         ensures failing { self.new.failing ≡ self.old.failing }
         ensures faults { self.new.faults ≡ self.old.faults }
         ensures given { self.new.given ≡ self.old.given }
+        ensures wire { self.new.wire ≡ self.old.wire }
+        ensures inlet { self.new.inlet ≡ self.old.inlet }
+        ensures clock { self.new.clock ≡ self.old.clock }
+        ensures handed { self.new.handed ≡ self.old.handed }
     {
         let (Ok(name), Ok(text), Ok(failing)) = (
             Vec::from_slice(self.alloc, name.as_bytes()),
@@ -190,11 +258,19 @@ impl Desk for MemoryDesk {
 
     type Clock = MemoryClock;
 
+    type Wire = MemoryConn;
+
+    type Inlet = MemoryInlet;
+
+    type Moment = MemoryMoment;
+
     ghost text = { λ d name. text_in d.texts name };
 
     ghost faults = { λ d. d.faults };
 
     ghost given = { λ d. option_map given_view d.given };
+
+    ghost handed = { λ d. d.handed };
 
     #[tactic(auto, using(crate::proofs::DrawerLemmas::kits_seen))]
     fn jobs(
@@ -233,5 +309,36 @@ impl Desk for MemoryDesk {
                 Err(Failed)
             }
         }
+    }
+
+    fn dial(&mut self, to: Address) -> Result<MemoryConn, Failed> {
+        match self.wire.take() {
+            Some(wire) => {
+                self.lent.wire = Some(to);
+                Ok(wire)
+            }
+            None => {
+                self.faults = self.faults.saturating_add(1);
+                Err(Failed)
+            }
+        }
+    }
+
+    fn inlet(&mut self) -> Result<MemoryInlet, Failed> {
+        match self.inlet.take() {
+            Some(inlet) => {
+                self.lent.inlet = true;
+                Ok(inlet)
+            }
+            None => {
+                self.faults = self.faults.saturating_add(1);
+                Err(Failed)
+            }
+        }
+    }
+
+    fn moment(&mut self) -> MemoryMoment {
+        self.lent.moment = true;
+        MemoryMoment::new(self.clock.take())
     }
 }

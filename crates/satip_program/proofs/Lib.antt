@@ -8,3 +8,4 @@ pub mod AcceptsLemmas
 pub mod ServingLemmas
 mod StatusLemmas
 mod ReplayLemmas
+mod RecordingLemmas

@@ -4,6 +4,7 @@ use Rattle.std.specs.Str.{bytes_eq}
 use Rattle.satip_base.specs.Numbers.{number_of}
 use Rattle.satip_config.specs.declared.fault.ConfigFault.{ConfigFault}
 use Rattle.satip_config.specs.FaultText.{fault_text}
+use Rattle.satip_record_command.specs.Words.{Wanted, wanted_of}
 use Rattle.satip_program.specs.declared.commands.Command.{Command}
 use Rattle.satip_program.specs.declared.commands.Serve.{Serve}
 use Rattle.satip_program.specs.declared.commands.Command.TheVariants as commands
@@ -78,6 +79,16 @@ serve_of (word ∷ name ∷ accepts ∷ another ∷ others) = None
 abbrev pub serving_of : Serve → Serving
 serving_of serve = record { name = serve.name.now; accepts = serve.accepts }
 
+-- what the words want recorded, if they ask for a recording: an address, a query and a count
+unfoldable pub recording_of : List (List ℕ) → Option Wanted
+recording_of [] = None
+recording_of (word ∷ []) = None
+recording_of (word ∷ address ∷ []) = None
+recording_of (word ∷ address ∷ query ∷ []) = None
+recording_of (word ∷ address ∷ query ∷ count ∷ []) =
+    if bytes_eq word (codes "record") then wanted_of address query count else None
+recording_of (word ∷ address ∷ query ∷ count ∷ another ∷ others) = None
+
 -- the name of the configuration that the words name, if they name one
 abbrev pub config_named : Option Form → Option (List ℕ)
 config_named (Some (Replay name)) = Some name
@@ -97,7 +108,7 @@ HasCount commands.Version = Unit {0}
 
 -- the forms of the words
 abbrev pub usage : List ℕ
-usage = codes "usage: satip talk | replay CONFIG | serve CONFIG ACCEPTS | stress SEED COUNT\n"
+usage = codes "usage: satip talk | replay CONFIG | serve CONFIG ACCEPTS | stress SEED COUNT | record ADDRESS QUERY COUNT\n"
 
 -- what --help writes: the forms, a line for each command that is built with an example of it, and where more stands
 abbrev pub help : List ℕ
@@ -111,6 +122,8 @@ help = usage
     ++ codes "    satip talk < requests\n"
     ++ codes "stress: COUNT events that a generator makes of SEED, run and counted\n"
     ++ codes "    satip stress 7 100000\n"
+    ++ codes "record: COUNT packets of the stream of QUERY, from the server at ADDRESS, to standard output\n"
+    ++ codes "    satip record 127.0.0.1:554 'src=1&freq=11494&pol=h&msys=dvbs&sr=22000&pids=all' 1000 > stream.ts\n"
     ++ codes "manual: man satip, or docs/satip.1; statuses: docs/PROTOCOL.md; configuration: examples/satip.toml\n"
 
 -- what --version writes

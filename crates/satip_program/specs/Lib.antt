@@ -7,3 +7,4 @@ pub mod Outcomes
 pub mod Replaying
 pub mod Serving
 pub mod Ends
+pub mod Recording

@@ -1,11 +1,13 @@
 //! The words of the command line.
 
-ghost use Rattle.std.specs.Prelude.{◌≡◌, ◌∷◌, [], None, false, codes, option_map, IfSome};
+ghost use Rattle.std.specs.Prelude.{◌≡◌, ◌≤◌, ◌∷◌, [], None, false, codes, option_map, IfSome};
 ghost use Rattle.std.specs.Str.{bytes_eq};
 ghost use Rattle.satip_base.specs.Numbers.{number_of};
-ghost use Rattle.satip_program.specs.Commands.{form_of, command_of, command_named, replay_named, stress_named, stress_by, serving_of, serve_of, serve_named, HasCount};
+ghost use Rattle.satip_record_command.specs.Words.{wanted, wanted_of};
+ghost use Rattle.satip_program.specs.Commands.{recording_of, form_of, command_of, command_named, replay_named, stress_named, stress_by, serving_of, serve_of, serve_named, HasCount};
 
 use satip_base::{Text, read_number};
+use satip_record_command::Recording;
 use satip_stress::MOST_EVENTS;
 
 /// What the words ask for.
@@ -33,10 +35,11 @@ pub(crate) struct Serve<'w> {
 
 /// The `serve` that the words ask for; `None` where they ask for none. No other command has such
 /// words.
-#[tactic(auto, unfolding(crate::specs::Commands::serve_of, crate::specs::Commands::command_of))]
+#[tactic(auto, unfolding(crate::specs::Commands::serve_of, crate::specs::Commands::command_of, crate::specs::Commands::recording_of))]
 pub(crate) fn read_serve(words: &[Text]) -> Option<Serve<'_>>
     ensures serve { option_map serving_of result ≡ serve_of words.now }
     ensures alone { IfSome result (λ _. command_of words.now ≡ None) }
+    ensures other { IfSome result (λ _. recording_of words.now ≡ None) }
 {
     match words {
         [] => None,
@@ -77,6 +80,31 @@ fn read_accepts<'w>(name: &'w Text, accepts: &[u8]) -> Option<Serve<'w>>
             accepts: number as u32,
         }),
         None => None,
+    }
+}
+
+/// The recording that the words ask for; `None` where they ask for none. No other command has such
+/// words.
+#[tactic(auto, unfolding(crate::specs::Commands::recording_of, crate::specs::Commands::command_of))]
+pub(crate) fn read_recording(words: &[Text]) -> Option<Recording<'_>>
+    ensures recording { option_map wanted result ≡ recording_of words.now }
+    ensures some { IfSome result (λ recording. 1 ≤ recording.count) }
+    ensures few { IfSome result (λ recording. recording.count ≤ 1000000) }
+    ensures alone { IfSome result (λ _. command_of words.now ≡ None) }
+{
+    match words {
+        [] => None,
+        [_] => None,
+        [_, _] => None,
+        [_, _, _] => None,
+        [word, address, query, count] => {
+            if is_text(word.bytes(), b"record") {
+                Recording::read(address.bytes(), query.bytes(), count.bytes())
+            } else {
+                None
+            }
+        }
+        [_, _, _, _, _, ..] => None,
     }
 }
 

@@ -71,7 +71,8 @@ impl Outcome {
         match self {
             Outcome::Done => {}
             Outcome::Usage => line.write(
-                b"usage: satip talk | replay CONFIG | serve CONFIG ACCEPTS | stress SEED COUNT\n",
+                b"usage: satip talk | replay CONFIG | serve CONFIG ACCEPTS | stress SEED COUNT \
+                | record ADDRESS QUERY COUNT\n",
             ),
             Outcome::Configuration(fault) => {
                 line.write(b"configuration: ");

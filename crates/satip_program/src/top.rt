@@ -4,17 +4,22 @@
 ghost use Rattle.std.specs.Prelude.{◌≡◌, ◌↔◌, ◌⊎◌, ℕ, ◌+◌, ◌-◌, ◌<◌, ◌≤◌, List, Some, None, option_map, IsSome, IsNone, IfSome, IsSomeAnd};
 ghost use Rattle.satip_base.specs.Streams.{Feed, Rose};
 ghost use Rattle.satip_serving.specs.Given.{jobs_view};
-ghost use Rattle.satip_program.specs.Commands.{serve_of, Talk, Replay, Stress, Help, Version, command_of, config_named, help, version, line_of};
+ghost use Rattle.satip_record_command.specs.Ends.{RecordEnds, left_of};
+ghost use Rattle.satip_record_command.specs.Words.{wanted};
+ghost use Rattle.satip_serving.specs.Handed.{nothing_handed};
+ghost use Rattle.satip_program.specs.Recording.{IsApart};
+ghost use Rattle.satip_program.specs.Commands.{serve_of, recording_of, Talk, Replay, Stress, Help, Version, command_of, config_named, help, version, line_of};
 ghost use Rattle.satip_program.specs.Ends.{TalkEnds, ReplayEnds, StressEnds, ServeEnds};
 ghost use Rattle.satip_program.specs.Outcomes.{input_limit, NothingDone, PrintEnds, StressRuns, Shows, Says};
 ghost use Rattle.satip_program.specs.Replaying.{RunEnds, ReplayRuns};
 
-use crate::commands::{Command, Serve, read_serve, read_words};
+use crate::commands::{Command, Serve, read_recording, read_serve, read_words};
 use crate::outcomes::Outcome;
 use crate::serving::{status_of_serving, tell_serving};
 use crate::talk::talk;
 use crate::telling::tell;
 use satip_base::{Failed, Put, Sink, Source, Text};
+use satip_record_command::{Recorded, Recording, record};
 use satip_replay::replay;
 use satip_serve::{Jobs, Last};
 use satip_serving::{Desk, Served, serve_by};
@@ -23,8 +28,8 @@ use std::alloc::Global;
 use std::sync::Wait;
 use std::thread::Threads;
 
-const HELP: &[u8] =
-    b"usage: satip talk | replay CONFIG | serve CONFIG ACCEPTS | stress SEED COUNT\n\
+const HELP: &[u8] = b"usage: satip talk | replay CONFIG | serve CONFIG ACCEPTS | stress SEED COUNT \
+    | record ADDRESS QUERY COUNT\n\
     serve: clients, by the configuration in the file CONFIG; each worker ends after ACCEPTS \
     connections, and never where it is 0\n\
     \x20   satip serve satip.toml 0\n\
@@ -37,6 +42,9 @@ const HELP: &[u8] =
     \x20   satip talk < requests\n\
     stress: COUNT events that a generator makes of SEED, run and counted\n\
     \x20   satip stress 7 100000\n\
+    record: COUNT packets of the stream of QUERY, from the server at ADDRESS, to standard output\n\
+    \x20   satip record 127.0.0.1:554 'src=1&freq=11494&pol=h&msys=dvbs&sr=22000&pids=all' 1000 > \
+    stream.ts\n\
     manual: man satip, or docs/satip.1; statuses: docs/PROTOCOL.md; configuration: \
     examples/satip.toml\n";
 
@@ -47,7 +55,8 @@ pub struct Ended<K: Desk> {
     /// 0 where all went well; 2 where the words are in no form; 3 where the configuration has a
     /// fault, 4 where the script has a wrong line; 5, 6 where the input, the output failed; 7 where
     /// the doors of a worker or the desk failed; 8 where the input is too long; 9 where the history
-    /// is full; 70 where there was no memory.
+    /// is full; 10 to 14 where a recording was refused, got a bad reply, met silence, a fault of the
+    /// peer, or an end before a reply; 70 where there was no memory.
     pub status: u8,
     /// The configuration that the desk gave, as far as it was read.
     pub config: Option<K::Config>,
@@ -55,6 +64,12 @@ pub struct Ended<K: Desk> {
     pub last: Option<Last<K::Doors, K::Outlet, K::Pacer, K::Store, K::Clock>>,
     /// The kits that the desk gave, if no job began.
     pub unused: Option<Jobs<K::Doors, K::Outlet, K::Pacer, K::Store, K::Clock>>,
+    /// The connection that the desk gave to a recording, if it gave one.
+    pub wire: Option<K::Wire>,
+    /// The inlet that the desk gave to a recording, if it gave one.
+    pub inlet: Option<K::Inlet>,
+    /// The clock that the desk gave to a recording, if there was one.
+    pub moment: Option<K::Moment>,
 }
 
 impl<K: Desk> Drop for Ended<K> {
@@ -64,6 +79,9 @@ impl<K: Desk> Drop for Ended<K> {
             config: _,
             last: _,
             unused: _,
+            wire: _,
+            inlet: _,
+            moment: _,
         } = self;
     }
 }
@@ -85,11 +103,12 @@ pub fn satip<R: Threads + Wait + Sync, K: Desk, I: Source, O: Sink, E: Sink>(
     desk: &mut K,
 ) -> Ended<K>
     requires new { K.given desk.old ≡ None }
+    requires client { K.handed desk.old ≡ nothing_handed }
 
     // Which words there are, and what they do.
-    ensures usage { (result.status ≡ 2)
-        ↔ ((command_of words.now ≡ None) × (serve_of words.now ≡ None)) }
-    ensures unused { command_of words.now ≡ None → NothingDone
+    ensures usage { (result.status ≡ 2) ↔ ((command_of words.now ≡ None)
+        × (recording_of words.now ≡ None) × (serve_of words.now ≡ None)) }
+    ensures unused { command_of words.now ≡ None → recording_of words.now ≡ None → NothingDone
         (I.feed input.old)
         (I.feed input.new)
         (O.drain output.old) (O.drain output.new) }
@@ -130,11 +149,26 @@ pub fn satip<R: Threads + Wait + Sync, K: Desk, I: Source, O: Sink, E: Sink>(
         (O.drain output.old) (O.drain output.new)
         result.status }
 
-    // Only what names a configuration opens one, or asks anything of the desk.
+    // A recording: the first packets of what is caught of the stream, or a beginning of them.
+    ensures recording { IfSome (recording_of words.now) (λ wanted.
+        RecordEnds K.Wire.tells K.Inlet.tells O.tells E.tells
+        wanted (K.handed desk.new) (K.faults desk.old) (K.faults desk.new)
+        (left_of K.Wire.line K.Moment.dial K.Inlet.inbox result.wire result.moment result.inlet)
+        (I.feed input.old)
+        (I.feed input.new)
+        (O.drain output.old) (O.drain output.new)
+        (E.drain errors.old) (E.drain errors.new)
+        result.status) }
+    ensures handed { recording_of words.now ≡ None → K.handed desk.new ≡ nothing_handed }
+    ensures no_client { recording_of words.now ≡ None
+        → (result.wire ≡ None) × (result.inlet ≡ None) × (result.moment ≡ None) }
+
+    // Only what names a configuration opens one, and that and a recording alone ask anything of the
+    // desk.
     ensures no_config { serve_of words.now ≡ None → config_named (command_of words.now) ≡ None
         → IsNone result.config }
-    ensures desk { serve_of words.now ≡ None → config_named (command_of words.now) ≡ None
-        → desk.new ≡ desk.old }
+    ensures desk { serve_of words.now ≡ None → recording_of words.now ≡ None
+        → config_named (command_of words.now) ≡ None → desk.new ≡ desk.old }
     ensures texts { K.text desk.new ≡ K.text desk.old }
 
     // When each status comes.
@@ -167,7 +201,8 @@ pub fn satip<R: Threads + Wait + Sync, K: Desk, I: Source, O: Sink, E: Sink>(
         → (result.status ≡ 7 → ⊥) × (result.status ≡ 9 → ⊥) }
 
     // What is told of it.
-    ensures errors { (result.status ≡ 3 → ⊥) → (result.status ≡ 4 → ⊥) → Says E.tells
+    ensures errors { recording_of words.now ≡ None
+        → (result.status ≡ 3 → ⊥) → (result.status ≡ 4 → ⊥) → Says E.tells
         (E.drain errors.old) (E.drain errors.new)
         (line_of result.status) }
 {
@@ -195,6 +230,8 @@ fn run_serve<R: Threads + Wait + Sync, K: Desk, E: Sink>(
         (K.given desk.new) result.last result.unused
         (E.drain errors.old) (E.drain errors.new)
         result.status }
+    ensures handed { K.handed desk.new ≡ K.handed desk.old }
+    ensures no_client { (result.wire ≡ None) × (result.inlet ≡ None) × (result.moment ≡ None) }
     ensures errors { (result.status ≡ 3 → ⊥) → Says E.tells
         (E.drain errors.old) (E.drain errors.new)
         (line_of result.status) }
@@ -211,11 +248,14 @@ fn run_serve<R: Threads + Wait + Sync, K: Desk, E: Sink>(
         config,
         last,
         unused,
+        wire: None,
+        inlet: None,
+        moment: None,
     }
 }
 
-/// The commands that wait for nobody: `talk`, `replay`, `stress`, `--help` and `--version`. It
-/// always returns.
+/// The commands that wait for nobody: `talk`, `replay`, `stress`, `record`, `--help` and
+/// `--version`. It always returns.
 pub fn offline<K: Desk, I: Source, O: Sink, E: Sink>(
     alloc: Global,
     words: &[Text],
@@ -224,9 +264,12 @@ pub fn offline<K: Desk, I: Source, O: Sink, E: Sink>(
     errors: &mut E,
     desk: &mut K,
 ) -> Ended<K>
+    requires client { K.handed desk.old ≡ nothing_handed }
+
     // Which words there are, and what they do.
-    ensures usage { (result.status ≡ 2) ↔ (command_of words.now ≡ None) }
-    ensures unused { command_of words.now ≡ None → NothingDone
+    ensures usage { (result.status ≡ 2)
+        ↔ ((command_of words.now ≡ None) × (recording_of words.now ≡ None)) }
+    ensures unused { command_of words.now ≡ None → recording_of words.now ≡ None → NothingDone
         (I.feed input.old)
         (I.feed input.new)
         (O.drain output.old) (O.drain output.new) }
@@ -267,9 +310,25 @@ pub fn offline<K: Desk, I: Source, O: Sink, E: Sink>(
         (O.drain output.old) (O.drain output.new)
         result.status }
 
-    // Only what names a configuration opens one, or asks anything of the desk.
+    // A recording: the first packets of what is caught of the stream, or a beginning of them.
+    ensures recording { IfSome (recording_of words.now) (λ wanted.
+        RecordEnds K.Wire.tells K.Inlet.tells O.tells E.tells
+        wanted (K.handed desk.new) (K.faults desk.old) (K.faults desk.new)
+        (left_of K.Wire.line K.Moment.dial K.Inlet.inbox result.wire result.moment result.inlet)
+        (I.feed input.old)
+        (I.feed input.new)
+        (O.drain output.old) (O.drain output.new)
+        (E.drain errors.old) (E.drain errors.new)
+        result.status) }
+    ensures handed { recording_of words.now ≡ None → K.handed desk.new ≡ nothing_handed }
+    ensures no_client { recording_of words.now ≡ None
+        → (result.wire ≡ None) × (result.inlet ≡ None) × (result.moment ≡ None) }
+
+    // Only what names a configuration opens one, and that and a recording alone ask anything of the
+    // desk.
     ensures no_config { config_named (command_of words.now) ≡ None → IsNone result.config }
-    ensures desk { config_named (command_of words.now) ≡ None → desk.new ≡ desk.old }
+    ensures desk { recording_of words.now ≡ None → config_named (command_of words.now) ≡ None
+        → desk.new ≡ desk.old }
     ensures texts { K.text desk.new ≡ K.text desk.old }
 
     // No kits are asked of the desk.
@@ -291,17 +350,68 @@ pub fn offline<K: Desk, I: Source, O: Sink, E: Sink>(
     ensures limit { (I.feed input.new).taken ≤ (I.feed input.old).taken + input_limit + 1 }
 
     // What is told of it.
-    ensures errors { (result.status ≡ 3 → ⊥) → (result.status ≡ 4 → ⊥) → Says E.tells
+    ensures errors { recording_of words.now ≡ None
+        → (result.status ≡ 3 → ⊥) → (result.status ≡ 4 → ⊥) → Says E.tells
         (E.drain errors.old) (E.drain errors.new)
         (line_of result.status) }
 {
-    let Ending { outcome, config } = run(alloc, words, input, output, desk);
-    tell(outcome, errors);
+    match read_recording(words) {
+        Some(recording) => run_record(alloc, &recording, output, errors, desk),
+        None => {
+            let Ending { outcome, config } = run(alloc, words, input, output, desk);
+            tell(outcome, errors);
+            Ended {
+                status: outcome.status(),
+                config,
+                last: None,
+                unused: None,
+                wire: None,
+                inlet: None,
+                moment: None,
+            }
+        }
+    }
+}
+
+// Records, and tells how it ended.
+fn run_record<K: Desk, O: Sink, E: Sink>(
+    alloc: Global,
+    recording: &Recording,
+    output: &mut O,
+    errors: &mut E,
+    desk: &mut K,
+) -> Ended<K>
+    requires some { 1 ≤ recording.now.count }
+    requires few { recording.now.count ≤ 1000000 }
+    requires client { K.handed desk.old ≡ nothing_handed }
+    ensures texts { K.text desk.new ≡ K.text desk.old }
+    ensures kits { K.given desk.new ≡ K.given desk.old }
+    ensures ends { (i : Feed) → RecordEnds K.Wire.tells K.Inlet.tells O.tells E.tells
+        (wanted recording.now) (K.handed desk.new) (K.faults desk.old) (K.faults desk.new)
+        (left_of K.Wire.line K.Moment.dial K.Inlet.inbox result.wire result.moment result.inlet)
+        i i (O.drain output.old) (O.drain output.new) (E.drain errors.old) (E.drain errors.new)
+        result.status }
+    ensures apart { IsApart result.status }
+    ensures rose { result.status ≡ 6
+        → Rose (O.drain output.old).faults (O.drain output.new).faults }
+    ensures no_config { result.config ≡ None }
+    ensures no_last { result.last ≡ None }
+    ensures no_unused { result.unused ≡ None }
+{
+    let Recorded {
+        end,
+        wire,
+        inlet,
+        moment,
+    } = record(alloc, recording, output, errors, desk);
     Ended {
-        status: outcome.status(),
-        config,
+        status: end.status(),
+        config: None,
         last: None,
         unused: None,
+        wire,
+        inlet,
+        moment,
     }
 }
 
@@ -325,6 +435,7 @@ fn run<K: Desk, I: Source, O: Sink>(
     ensures desk { config_named (command_of words.now) ≡ None → desk.new ≡ desk.old }
     ensures texts { K.text desk.new ≡ K.text desk.old }
     ensures kits { K.given desk.new ≡ K.given desk.old }
+    ensures handed { K.handed desk.new ≡ K.handed desk.old }
 {
     match read_words(words) {
         None => alone(Outcome::Usage),
@@ -365,6 +476,7 @@ fn replay_by<K: Desk, I: Source, O: Sink>(
         result.outcome }
     ensures texts { K.text desk.new ≡ K.text desk.old }
     ensures kits { K.given desk.new ≡ K.given desk.old }
+    ensures handed { K.handed desk.new ≡ K.handed desk.old }
 {
     match desk.config(name) {
         Ok(mut config) => {

@@ -73,6 +73,7 @@ pub fn run(
     }
     let mut output = MemorySink::make(alloc, failing, 0)?;
     let mut errors = MemorySink::make(alloc, &[], 0)?;
+    desk.renew();
     let ended = offline(alloc, &texts, &mut input, &mut output, &mut errors, desk);
     Ok(Ran {
         status: ended.status,

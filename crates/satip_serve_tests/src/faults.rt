@@ -2,6 +2,7 @@
 
 ghost use Rattle.std.specs.Prelude.{◌≡◌, None, IfOk};
 ghost use Rattle.satip_memory_desk.specs.Drawers.{AreNewKits};
+ghost use Rattle.satip_serving.specs.Handed.{nothing_handed};
 
 use crate::shared::{Ran, run, words};
 use satip_memory::{
@@ -50,6 +51,7 @@ fn kits(alloc: Global, accepts: u32) -> Result<MemoryJobs, Fail>
 // A desk with the configuration.
 fn desk(alloc: Global) -> Result<MemoryDesk, Fail>
     ensures given { IfOk result (λ desk. desk.given ≡ None) }
+    ensures handed { IfOk result (λ desk. desk.handed ≡ nothing_handed) }
 {
     let mut desk = MemoryDesk::make(alloc, 0);
     desk.add("c1.toml", CONFIGURATION, &[])?;
@@ -63,6 +65,7 @@ fn serve<R: Threads + Wait + Sync>(
     desk: &mut MemoryDesk,
 ) -> Result<Ran<MemoryDesk>, Fail>
     requires new { desk.old.given ≡ None }
+    requires client { desk.old.handed ≡ nothing_handed }
 {
     let mut input = MemorySource::make(alloc, b"", &[], &[])?;
     run(rt, alloc, &words(alloc)?, &mut input, desk)

@@ -4,11 +4,13 @@ ghost use Rattle.std.specs.Prelude.{◌≡◌, length, IfOk};
 ghost use Rattle.satip_memory_desk.specs.Drawers.{AreNewKits};
 
 use crate::shared::{has_served, words, worker};
-use satip_base::{Failed, Text, Want};
+use satip_base::{Address, Failed, Text, Want};
 use satip_config::Config;
 use satip_memory::{
-    MemoryClock, MemoryDoors, MemoryOutlet, MemoryPacer, MemorySink, MemorySource, MemoryStore,
+    MemoryClock, MemoryConn, MemoryDoors, MemoryInlet, MemoryOutlet, MemoryPacer, MemorySink,
+    MemorySource, MemoryStore,
 };
+use satip_memory_desk::MemoryMoment;
 use satip_program::{Desk, Jobs, JobsFault, satip};
 use satip_pump::{PumpKit, TickKit};
 use satip_world::Pacer;
@@ -128,11 +130,12 @@ struct MeetingDesk<'a> {
     alloc: Global,
     meeting: &'a Meeting,
     given: Option<Snapshot<MeetingJobs<'a>>>,
+    timed: bool,
     faults: u64,
 }
 
 impl<'a> Desk for MeetingDesk<'a> {
-    ghost use Rattle.std.specs.Prelude.{None, option_map};
+    ghost use Rattle.std.specs.Prelude.{None, false, option_map};
     ghost use Rattle.satip_memory_desk.specs.Drawers.{memory_view};
 
     type Config = MemorySource;
@@ -147,11 +150,19 @@ impl<'a> Desk for MeetingDesk<'a> {
 
     type Clock = MemoryClock;
 
+    type Wire = MemoryConn;
+
+    type Inlet = MemoryInlet;
+
+    type Moment = MemoryMoment;
+
     ghost text = { λ _ _. None };
 
     ghost faults = { λ d. d.faults };
 
     ghost given = { λ d. option_map (λ kits. memory_view kits.value) d.given };
+
+    ghost handed = { λ d. record { wire = None; inlet = false; moment = d.timed } };
 
     fn jobs(
         &mut self,
@@ -181,6 +192,21 @@ impl<'a> Desk for MeetingDesk<'a> {
             }
         }
     }
+
+    fn dial(&mut self, _to: Address) -> Result<MemoryConn, Failed> {
+        self.faults = self.faults.saturating_add(1);
+        Err(Failed)
+    }
+
+    fn inlet(&mut self) -> Result<MemoryInlet, Failed> {
+        self.faults = self.faults.saturating_add(1);
+        Err(Failed)
+    }
+
+    fn moment(&mut self) -> MemoryMoment {
+        self.timed = true;
+        MemoryMoment::new(None)
+    }
 }
 
 // Jobs that ran one after another would never come together.
@@ -192,6 +218,7 @@ fn all_jobs_of_a_serve_meet(rt: HostRuntime) -> Result<(), Fail> {
         alloc,
         meeting: &meeting,
         given: None,
+        timed: false,
         faults: 0,
     };
     let mut input = MemorySource::make(alloc, b"", &[], &[])?;

@@ -2,6 +2,7 @@
 //! worker.
 
 ghost use Rattle.std.specs.Prelude.{◌≡◌, true, None, IfOk};
+ghost use Rattle.satip_serving.specs.Handed.{nothing_handed};
 ghost use Rattle.satip_world.specs.Halls.{fresh_hall};
 ghost use Rattle.satip_world.specs.Outboxes.{fresh_outbox};
 
@@ -62,6 +63,7 @@ pub fn run<R: Threads + Wait + Sync, K: Desk>(
     desk: &mut K,
 ) -> Result<Ran<K>, Fail>
     requires new { K.given desk.old ≡ None }
+    requires client { K.handed desk.old ≡ nothing_handed }
 {
     let mut output = MemorySink::make(alloc, &[], 0)?;
     let mut errors = MemorySink::make(alloc, &[], 0)?;

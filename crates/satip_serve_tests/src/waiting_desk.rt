@@ -11,9 +11,10 @@ use crate::counting::{CountingOutlet, LookingPacer, StillClock};
 use crate::deeds::{Deeds, Gate, OPEN, Place};
 use crate::reel::ReelStore;
 use crate::waiting::{Piece, WaitingDoors};
-use satip_base::{Failed, Text, Want};
+use satip_base::{Address, Failed, Text, Want};
 use satip_config::Config;
-use satip_memory::MemorySource;
+use satip_memory::{MemoryConn, MemoryInlet, MemorySource};
+use satip_memory_desk::MemoryMoment;
 use satip_program::{Desk, Jobs, JobsFault};
 use satip_pump::{PumpKit, TickKit};
 use satip_worker::WorkerKit;
@@ -146,27 +147,30 @@ pub struct WaitingDesk<'a> {
     deeds: &'a Deeds,
     plan: Plan,
     given: Option<Snapshot<WaitingJobs<'a>>>,
+    timed: bool,
     faults: u64,
 }
 
 impl<'a> WaitingDesk<'a> {
-    ghost use Rattle.std.specs.Prelude.{None};
+    ghost use Rattle.std.specs.Prelude.{None, false};
 
     pub fn new(alloc: Global, deeds: &'a Deeds, plan: Plan) -> WaitingDesk<'a>
         ensures given { result.given ≡ None }
+        ensures timed { result.timed ≡ false }
     {
         WaitingDesk {
             alloc,
             deeds,
             plan,
             given: None,
+            timed: false,
             faults: 0,
         }
     }
 }
 
 impl<'a> Desk for WaitingDesk<'a> {
-    ghost use Rattle.std.specs.Prelude.{None, option_map};
+    ghost use Rattle.std.specs.Prelude.{None, false, option_map};
     ghost use Rattle.satip_memory_desk.specs.Drawers.{memory_view};
 
     type Config = MemorySource;
@@ -181,11 +185,19 @@ impl<'a> Desk for WaitingDesk<'a> {
 
     type Clock = StillClock<'a>;
 
+    type Wire = MemoryConn;
+
+    type Inlet = MemoryInlet;
+
+    type Moment = MemoryMoment;
+
     ghost text = { λ _ _. None };
 
     ghost faults = { λ d. d.faults };
 
     ghost given = { λ d. option_map (λ kits. memory_view kits.value) d.given };
+
+    ghost handed = { λ d. record { wire = None; inlet = false; moment = d.timed } };
 
     fn jobs(
         &mut self,
@@ -214,5 +226,20 @@ impl<'a> Desk for WaitingDesk<'a> {
                 Err(Failed)
             }
         }
+    }
+
+    fn dial(&mut self, _to: Address) -> Result<MemoryConn, Failed> {
+        self.faults = self.faults.saturating_add(1);
+        Err(Failed)
+    }
+
+    fn inlet(&mut self) -> Result<MemoryInlet, Failed> {
+        self.faults = self.faults.saturating_add(1);
+        Err(Failed)
+    }
+
+    fn moment(&mut self) -> MemoryMoment {
+        self.timed = true;
+        MemoryMoment::new(None)
     }
 }

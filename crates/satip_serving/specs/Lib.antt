@@ -2,3 +2,4 @@ pub mod Desks
 pub mod Laws
 pub mod Servings
 pub mod Given
+pub mod Handed

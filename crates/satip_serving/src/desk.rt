@@ -1,16 +1,20 @@
 //! What opens the files that the words name, and makes the kits of a server's jobs.
 
-ghost use Rattle.std.specs.Prelude.{◌≡◌, ℕ, List, Option, Some, None, length, map, IfOk, IfErr, OnOk, OnErr};
+ghost use Rattle.std.specs.Prelude.{◌≡◌, ℕ, List, [], Option, Some, None, true, false, length, map, IfOk, IfErr, OnOk, OnErr};
 ghost use Rattle.satip_world.specs.Counts.{Rises};
 ghost use Rattle.satip_serve.specs.Views.{worker_view, pump_view, tick_view};
 ghost use Rattle.satip_serve.specs.Fresh.{AreFresh};
 ghost use Rattle.satip_serving.specs.Desks.{FailsFor};
+ghost use Rattle.satip_inlet.specs.Inboxes.{fresh_inbox};
+ghost use Rattle.satip_world.specs.Lines.{fresh_line};
 ghost use Rattle.satip_serving.specs.Given.{JobsView, jobs_view};
+ghost use Rattle.satip_serving.specs.Handed.{Handed};
 
-use satip_base::{Failed, Source, Text};
+use satip_base::{Address, Failed, Source, Text};
 use satip_config::Config;
+use satip_inlet::Inlet;
 use satip_serve::Jobs;
-use satip_world::{Clock, Doors, MuxStore, Outlet, Pacer};
+use satip_world::{Clock, Conn, Doors, MuxStore, Outlet, Pacer};
 use std::alloc::Global;
 
 /// Why a desk gives no kits.
@@ -22,7 +26,8 @@ pub enum JobsFault {
     Want,
 }
 
-/// Opens configurations by their names, and makes the kits of a server's jobs, once.
+/// Opens configurations by their names, and makes the kits of a server's jobs, once. It gives a
+/// client a connection, an inlet and a clock, each once.
 pub trait Desk {
     ghost use Rattle.satip_world.specs.Recordings.{IsStarted};
 
@@ -44,6 +49,15 @@ pub trait Desk {
     /// What tells the time.
     type Clock: Clock + Drop + Send;
 
+    /// A client's connection to a server.
+    type Wire: Conn + Drop;
+
+    /// Where datagrams come in to a client.
+    type Inlet: Inlet + Drop;
+
+    /// What tells a client the time.
+    type Moment: Clock + Drop;
+
     // The text of the configuration of each name, where the desk tells it.
     ghost text: { Self → List ℕ → Option (List ℕ) };
 
@@ -53,10 +67,14 @@ pub trait Desk {
     // The kits that the desk gave, if it gave them, as they were then.
     ghost given: { Self → Option JobsView };
 
+    // What the desk gave a client.
+    ghost handed: { Self → Handed };
+
     /// Opens the configuration of a name, from its beginning.
     fn config(&mut self, name: &Text) -> Result<Self::Config, Failed>
         ensures texts { text self.new ≡ text self.old }
         ensures kits { given self.new ≡ given self.old }
+        ensures handed { handed self.new ≡ handed self.old }
         ensures started { IfOk result (λ source. IsStarted Self.Config.tells
             (Self.Config.feed source)
             (text self.old name.now)) }
@@ -74,6 +92,7 @@ pub trait Desk {
     ) -> Result<Jobs<Self::Doors, Self::Outlet, Self::Pacer, Self::Store, Self::Clock>, JobsFault>
         requires { given self.old ≡ None }
         ensures texts { text self.new ≡ text self.old }
+        ensures handed { handed self.new ≡ handed self.old }
         ensures kits { IfOk result (λ jobs. given self.new
             ≡ Some (jobs_view Self.Doors.hall Self.Outlet.outbox
             Self.Store.shelf Self.Clock.dial jobs)) }
@@ -86,4 +105,38 @@ pub trait Desk {
             (tick_view Self.Clock.dial Self.Outlet.outbox jobs.tick)) }
         ensures no_fault { IfOk result (λ _. faults self.new ≡ faults self.old) }
         ensures failed { IfErr result (FailsFor (faults self.old) (faults self.new)) };
+
+    /// A connection to a server, on which nothing was received or sent.
+    fn dial(&mut self, to: Address) -> Result<Self::Wire, Failed>
+        requires { (handed self.old).wire ≡ None }
+        ensures texts { text self.new ≡ text self.old }
+        ensures kits { given self.new ≡ given self.old }
+        ensures wire { IfOk result (λ wire. Self.Wire.line wire ≡ fresh_line) }
+        ensures handed { OnOk result (handed self.new
+            ≡ record (handed self.old) { wire = Some to }) }
+        ensures kept { OnErr result (handed self.new ≡ handed self.old) }
+        ensures no_fault { OnOk result (faults self.new ≡ faults self.old) }
+        ensures failed { OnErr result (Rises (faults self.old) (faults self.new)) };
+
+    /// An inlet by which nothing came.
+    fn inlet(&mut self) -> Result<Self::Inlet, Failed>
+        requires { (handed self.old).inlet ≡ false }
+        ensures texts { text self.new ≡ text self.old }
+        ensures kits { given self.new ≡ given self.old }
+        ensures inlet { IfOk result (λ inlet. Self.Inlet.inbox inlet
+            ≡ fresh_inbox (Self.Inlet.inbox inlet).port) }
+        ensures handed { OnOk result (handed self.new
+            ≡ record (handed self.old) { inlet = true }) }
+        ensures kept { OnErr result (handed self.new ≡ handed self.old) }
+        ensures no_fault { OnOk result (faults self.new ≡ faults self.old) }
+        ensures failed { OnErr result (Rises (faults self.old) (faults self.new)) };
+
+    /// A clock that wasn't read.
+    fn moment(&mut self) -> Self::Moment
+        requires { (handed self.old).moment ≡ false }
+        ensures texts { text self.new ≡ text self.old }
+        ensures kits { given self.new ≡ given self.old }
+        ensures unread { (Self.Moment.dial result).readings ≡ [] }
+        ensures handed { handed self.new ≡ record (handed self.old) { moment = true } }
+        ensures no_fault { faults self.new ≡ faults self.old };
 }

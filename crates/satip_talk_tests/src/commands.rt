@@ -49,6 +49,7 @@ fn run_words(
     }
     let mut output = MemorySink::make(alloc, failing_put, 9)?;
     let mut errors = MemorySink::make(alloc, &[], 0)?;
+    desk.renew();
     let ended = offline(alloc, &words, &mut input, &mut output, &mut errors, desk);
     Ok(Report {
         status: ended.status,
@@ -287,7 +288,8 @@ fn an_input_has_at_most_67108864_bytes(rt: HostRuntime) -> Result<(), Fail> {
 #[test]
 fn other_words_are_a_faulty_command_line(rt: HostRuntime) -> Result<(), Fail> {
     let alloc = rt.alloc();
-    let usage = b"usage: satip talk | replay CONFIG | serve CONFIG ACCEPTS | stress SEED COUNT\n";
+    let usage = b"usage: satip talk | replay CONFIG | serve CONFIG ACCEPTS | stress SEED COUNT \
+        | record ADDRESS QUERY COUNT\n";
     let mut input = MemorySource::make(alloc, OPTIONS, &[], &[])?;
     let mut output = MemorySink::make(alloc, &[], 0)?;
     let mut errors = MemorySink::make(alloc, &[], 0)?;

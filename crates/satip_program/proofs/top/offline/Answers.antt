@@ -5,27 +5,30 @@ use Rattle.satip_program.proofs.StatusLemmas.{run_talks, run_stresses}
 use Rattle.satip_program.proofs.ServingLemmas.{never_doors, never_full}
 use Rattle.satip_program.proofs.top.offline.Goals as goal
 
-pub returns-clause-talk : goal.returns-clause-talk
-returns-clause-talk g c = λ talk. run_talks _ _ _ _ _ _ _ _ _ _ _ _ _ _ c.run-outcome.ensures.ends c.status.ensures.status talk
+pub returns-in-None-clause-talk : goal.returns-in-None-clause-talk
+returns-in-None-clause-talk g c = λ talk. run_talks _ _ _ _ _ _ _ _ _ _ _ _ _ _ c.run-outcome.ensures.ends c.status.ensures.status talk
 
-pub returns-clause-replay : goal.returns-clause-replay
-returns-clause-replay g c = λ name is.
+pub returns-in-None-clause-replay : goal.returns-in-None-clause-replay
+returns-in-None-clause-replay g c = λ name is.
     run_replays _ _ _ _ _ _ _ g.K.Config.Source.feed c.run-outcome.result.config
     _ _ _ _ _ _ _ _ _ c.run-outcome.ensures.ends c.tell.ensures.says c.status.ensures.status name is
 
-pub returns-clause-stress : goal.returns-clause-stress
-returns-clause-stress g c = λ seed count is. run_stresses _ _ _ _ _ _ _ _ _ _ _ _ _ _ c.run-outcome.ensures.ends c.status.ensures.status seed count is
+pub returns-in-None-clause-stress : goal.returns-in-None-clause-stress
+returns-in-None-clause-stress g c = λ seed count is. run_stresses _ _ _ _ _ _ _ _ _ _ _ _ _ _ c.run-outcome.ensures.ends c.status.ensures.status seed count is
 
-pub returns-clause-configuration : goal.returns-clause-configuration
-returns-clause-configuration g c = λ is.
+pub returns-in-None-clause-configuration : goal.returns-in-None-clause-configuration
+returns-in-None-clause-configuration g c = λ is.
     run_named _ _ _ _ _ _ _ _ _ _ _ _ _ _ c.run-outcome.ensures.ends (omega arith) (omega arith) (sym c.status.ensures.status ∙ is)
 
-pub returns-clause-script : goal.returns-clause-script
-returns-clause-script g c = λ is.
+pub returns-in-None-clause-script : goal.returns-in-None-clause-script
+returns-in-None-clause-script g c = λ is.
     run_named _ _ _ _ _ _ _ _ _ _ _ _ _ _ c.run-outcome.ensures.ends (omega arith) (omega arith) (sym c.status.ensures.status ∙ is)
 
-pub returns-clause-no_serving : goal.returns-clause-no_serving
-returns-clause-no_serving g c = (
+pub returns-in-None-clause-no_serving : goal.returns-in-None-clause-no_serving
+returns-in-None-clause-no_serving g c = (
   (λ is. never_doors c.run-outcome.result.outcome (sym c.status.ensures.status ∙ is)),
   λ is. never_full c.run-outcome.result.outcome (sym c.status.ensures.status ∙ is),
 )
+
+pub returns-in-Some-clause-recording : goal.returns-in-Some-clause-recording
+returns-in-Some-clause-recording g c = rw (sym c.in-Some.ensures.recording) (c.run_record.ensures.ends _)

@@ -1,0 +1,83 @@
+-- What a recording comes to, by its status.
+use Rattle.std.specs.Prelude.{◌≡◌, ℕ, ◌⊎◌, Bool, true, List, [], ◌∷◌, Option, Some, None, option_map, is_some, IsSome, IsNone, IfSome, IsSomeAnd, MatchOption}
+use Rattle.satip_base.specs.Streams.{Feed, Drain, Rose}
+use Rattle.satip_history.specs.Lists.{Has}
+use Rattle.satip_world.specs.Counts.{Rises}
+use Rattle.satip_world.specs.Dials.{Dial, fresh_dial}
+use Rattle.satip_world.specs.Lines.{Line, fresh_line}
+use Rattle.satip_inlet.specs.Inboxes.{Inbox, fresh_inbox}
+use Rattle.satip_client.specs.Ends.{line_for}
+use Rattle.satip_client.specs.declared.ending.RecordEnd.{RecordEnd}
+use Rattle.satip_client.specs.declared.ending.RecordEnd.TheVariants.{Done, OutputFault, Refused, BadReply, Silent, PeerFault, Closed, OutOfMemory}
+use Rattle.satip_recorder.specs.Recordings.{Outside, outside, Records, Said, Ends}
+use Rattle.satip_serving.specs.Handed.{Handed}
+use Rattle.satip_record_command.specs.Words.{Wanted}
+
+-- the statuses of a recording
+abbrev pub record_statuses : List ℕ
+record_statuses = 0 ∷ 6 ∷ 10 ∷ 11 ∷ 12 ∷ 13 ∷ 14 ∷ 70 ∷ []
+
+-- what a recording leaves of what the desk gave: the connection, the clock and the inlet
+pub record Left : Type 0 where
+  pub wire : Option Line
+  pub clock : Option Dial
+  pub inlet : Option Inbox
+
+abbrev pub left_of : {W M I : Type 0} → (W → Line) → (M → Dial) → (I → Inbox) → Option W → Option M → Option I → Left
+left_of line dial inbox wire moment inlet =
+    record { wire = option_map line wire; clock = option_map dial moment; inlet = option_map inbox inlet }
+
+-- the three with the output, where all three are there
+abbrev pub outside_of : Option Line → Option Dial → Option Inbox → Drain → Option Outside
+outside_of (Some wire) (Some clock) (Some inlet) output = Some (outside wire clock inlet output)
+outside_of (Some wire) (Some clock) None output = None
+outside_of (Some wire) None inlet output = None
+outside_of None clock inlet output = None
+
+abbrev pub outside_left : Left → Drain → Option Outside
+outside_left left output = outside_of left.wire left.clock left.inlet output
+
+-- a connection, a clock and an inlet with which nothing was done, the output, and what is said of them
+pub record FromNew (output : Drain) (Says : Outside → Type 0) : Type 0 where
+  pub told : Bool
+  pub port : ℕ
+  pub said : Says (outside fresh_line (fresh_dial told) (fresh_inbox port) output)
+
+-- with what the desk gave the recording ended so
+abbrev pub Ran : (wire_tells inlet_tells out_tells error_tells : Type 0) → Wanted → Option Outside → (o e m : Drain) → RecordEnd → Type 0
+Ran wire_tells inlet_tells out_tells error_tells w left o e m end = IsSomeAnd left (λ b. FromNew o (λ a.
+    Ends error_tells e m end (λ lines. Records wire_tells inlet_tells out_tells a b w.address w.query w.count lines end)))
+
+-- the desk failed to give the connection or the inlet, and nothing was done
+pub record NotGiven (error_tells : Type 0) (before now : ℕ) (left : Left) (o n e m : Drain) (status : ℕ) : Type 0 where
+  pub rises : Rises before now
+  pub status_is : status ≡ 13
+  pub wire : IfSome left.wire (λ line. line ≡ fresh_line)
+  pub clock : IsSomeAnd left.clock (λ dial. dial.readings ≡ [])
+  pub output : n ≡ o
+  pub said : Said error_tells e m (line_for PeerFault)
+
+-- a recording: what is wanted, what the desk gave in the end, its count of faults before and behind it, what is left of
+-- that, the input, the output and the errors before and behind it, and its status
+pub record RecordEnds (wire_tells inlet_tells out_tells error_tells : Type 0) (w : Wanted) (handed : Handed) (before now : ℕ) (left : Left)
+    (i j : Feed) (o n e m : Drain) (status : ℕ) : Type 0 where
+  pub status_is : Has status record_statuses
+  -- nothing is taken of the input
+  pub input : j ≡ i
+  -- the connection to the wanted address, the clock and the inlet come back exactly where the desk gave them
+  pub wire_given : handed.wire ≡ option_map (λ _. w.to) left.wire
+  pub clock_given : (handed.moment ≡ true) × IsSome left.clock
+  pub inlet_given : handed.inlet ≡ is_some left.inlet
+  -- the desk gave the inlet, and never failed, or it failed, and nothing was done
+  pub desk : MatchOption left.inlet (NotGiven error_tells before now left o n e m status) (λ _. now ≡ before)
+  -- with 0 SETUP, PLAY, each OPTIONS that was due and TEARDOWN were sent, and the first packets of what was caught were
+  -- written; with the others a beginning of that, each with its cause; each gap is told, and then the line of the end
+  pub recorded : status ≡ 0 → Ran wire_tells inlet_tells out_tells error_tells w (outside_left left n) o e m Done
+  pub output_rose : status ≡ 6 → Rose o.faults n.faults
+  pub output_fault : status ≡ 6 → Ran wire_tells inlet_tells out_tells error_tells w (outside_left left n) o e m OutputFault
+  pub refused : status ≡ 10 → (code : ℕ) × Ran wire_tells inlet_tells out_tells error_tells w (outside_left left n) o e m (Refused code)
+  pub bad_reply : status ≡ 11 → Ran wire_tells inlet_tells out_tells error_tells w (outside_left left n) o e m BadReply
+  pub silent : status ≡ 12 → Ran wire_tells inlet_tells out_tells error_tells w (outside_left left n) o e m Silent
+  pub peer_fault : status ≡ 13 → IsNone left.inlet ⊎ Ran wire_tells inlet_tells out_tells error_tells w (outside_left left n) o e m PeerFault
+  pub closed : status ≡ 14 → Ran wire_tells inlet_tells out_tells error_tells w (outside_left left n) o e m Closed
+  pub wants : status ≡ 70 → Ran wire_tells inlet_tells out_tells error_tells w (outside_left left n) o e m OutOfMemory

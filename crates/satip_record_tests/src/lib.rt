@@ -1,0 +1,7 @@
+//! Recordings by the top call over memory. It has nothing but tests.
+#![tactic(auto)]
+
+#[cfg(test)]
+mod recordings;
+#[cfg(test)]
+mod words;
