@@ -76,7 +76,8 @@ def wait_for(address, port, process):
 
 
 class Server:
-    """Serves recordings of so many seconds whose packets have the PID 256, at one address."""
+    """Serves recordings of so many seconds whose packets have the PID 256, at one address, or this
+    recording."""
 
     def __init__(
         self,
@@ -89,12 +90,14 @@ class Server:
         ports=(18554, 18875),
         accepts=0,
         files=("a.ts",),
+        recording=None,
     ):
         self.folder = tempfile.TemporaryDirectory()
         self.address, self.ports = address, ports
+        plain = (b"\x47\x01\x00\x10" + bytes(184)) * PACKETS_A_SECOND * seconds
         for name in files:
             with open(self.path(name), "wb") as file:
-                file.write((b"\x47\x01\x00\x10" + bytes(184)) * PACKETS_A_SECOND * seconds)
+                file.write(recording or plain)
         with open(self.path("try.toml"), "w") as file:
             file.write(configuration(address, *ports, workers, timeout, fronts, files))
         self.errors = open(self.path("errors"), "w+")
@@ -238,11 +241,12 @@ class Checks:
     """Facts that are to hold; the end of a try tells whether all did."""
 
     def __init__(self):
-        self.failed = 0
+        self.failed = self.held = 0
 
     def check(self, holds, text):
         print(("yes: " if holds else "NO:  ") + text, flush=True)
         self.failed += not holds
+        self.held += bool(holds)
 
     def end(self):
         sys.exit(1 if self.failed else 0)

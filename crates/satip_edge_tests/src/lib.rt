@@ -3,6 +3,8 @@
 #![tactic(auto)]
 
 #[cfg(test)]
+mod dialed;
+#[cfg(test)]
 mod kits;
 #[cfg(test)]
 mod network;

@@ -13,7 +13,7 @@ use std::test::Fail;
 use std::time::Duration;
 use std::{io, thread, time};
 
-const LOCALHOST: u32 = 0x7f00_0001;
+pub(crate) const LOCALHOST: u32 = 0x7f00_0001;
 
 // Turns of the doors until one is another than Idle.
 fn next_come<D: Doors>(doors: &mut D) -> Door<D::Conn> {
@@ -26,7 +26,7 @@ fn next_come<D: Doors>(doors: &mut D) -> Door<D::Conn> {
     Door::Idle
 }
 
-fn receive<C: Conn>(conn: &mut C, buf: &mut [u8; 16]) -> Received {
+pub(crate) fn receive<C: Conn>(conn: &mut C, buf: &mut [u8; 16]) -> Received {
     for _ in 0..100 {
         match conn.receive(buf) {
             Received::Idle => (),
@@ -45,7 +45,7 @@ fn post<O: Outlet>(outlet: &mut O, port: u16, bytes: &[u8]) -> Put {
     put
 }
 
-fn local(port: u16) -> Address {
+pub(crate) fn local(port: u16) -> Address {
     Address {
         ip: LOCALHOST,
         port,
@@ -249,7 +249,7 @@ fn listen(rt: &HostRuntime, rtsp_port: u16, http_port: u16) -> Result<Listeners,
 }
 
 // A socket of a client, at any port.
-fn client(rt: &HostRuntime) -> Result<(UdpSocket, u16), Fail> {
+pub(crate) fn client(rt: &HostRuntime) -> Result<(UdpSocket, u16), Fail> {
     let socket = UdpSocket::bind(rt, SocketAddr::from((Ipv4Addr::LOCALHOST, 0)))?;
     socket.set_read_timeout(Some(Duration::from_secs(5)))?;
     let port = socket.local_addr()?.port();

@@ -98,6 +98,13 @@ impl Model for RealClock {
 impl RealClock {
     ghost use Rattle.satip_world.specs.Dials.{fresh_dial};
 
+    /// A clock that counts from now and wasn't read yet.
+    pub fn begin(rt: HostRuntime) -> RealClock
+        ensures fresh { result ≡ fresh_dial false }
+    {
+        RealClock::new(rt, ClockStart::read(&rt))
+    }
+
     /// A clock that counts from this start and wasn't read yet.
     pub fn new(rt: HostRuntime, start: ClockStart) -> RealClock
         ensures fresh { result ≡ fresh_dial false }

@@ -1,24 +1,28 @@
-//! A TCP connection to one client.
+//! A TCP connection to one client, or to a server that was dialed.
 
-ghost use Rattle.std.specs.Prelude.{◌≡◌, false};
+ghost use Rattle.std.specs.Prelude.{◌≡◌, false, IfOk};
 ghost use Rattle.std.specs.Io.{ReadsAtMost};
 
+use crate::dialing::connect;
 use crate::errors::is_passing;
 use crate::options::prepare;
 use crate::readiness::has_input;
 use crate::sending::send_all;
-use crate::silence::Silence;
+use crate::silence::{Patience, Silence};
 use crate::stopwatch::Stopwatch;
 use mio::net::TcpStream;
-use satip_base::Put;
+use satip_base::{Address, Put};
 use satip_world::{Conn, ConnEnd, Received};
 use std::io;
 use std::io::{ErrorKind, Read};
 use std::marker::Model;
 use std::net::Shutdown;
 
-// How long one wait for the client is, in milliseconds.
-const WAIT_MS: i32 = 50;
+// How long one wait for a client is, in milliseconds.
+const CLIENT_WAIT_MS: i32 = 50;
+
+// How long one wait for a server that was dialed is, in milliseconds.
+const SERVER_WAIT_MS: i32 = 1;
 
 // How long a closing connection waits for the client's end, in milliseconds.
 const LAST_WAIT_MS: u64 = 500;
@@ -26,26 +30,27 @@ const LAST_WAIT_MS: u64 = 500;
 // How many pieces of input a closing connection drops at most.
 const LAST_READS: u32 = 65536;
 
-// A stream whose calls don't wait.
+// A stream whose calls don't wait, and how long one wait for input is, in milliseconds.
 #[derive(Drop)]
 struct Socket {
     stream: TcpStream,
+    wait_ms: i32,
 }
 
 impl Socket {
-    // Waits up to 50 ms for input, and reads it.
+    // Waits for input, and reads it.
     fn read(&mut self, buf: &mut [u8]) -> io::Result<usize>
         ensures within { ReadsAtMost result buf.new }
     {
-        if !has_input(&self.stream, WAIT_MS) {
+        if !has_input(&self.stream, self.wait_ms) {
             return Err(io::Error::from(ErrorKind::WouldBlock));
         }
         self.stream.read(buf)
     }
 
-    // Ends the output, and drops what comes in until the client ends its own, up to 500 ms: a
-    // stream that is closed while its client sends is reset, and the client may lose the last
-    // reply.
+    // Ends the output, and drops what comes in until the other end ends its own, up to 500 ms:
+    // a stream that is closed while the other end sends is reset, and what was sent last may be
+    // lost.
     fn finish(&mut self, watch: &Stopwatch) {
         if self.stream.shutdown(Shutdown::Write).is_err() {
             return;
@@ -66,19 +71,21 @@ impl Socket {
     }
 }
 
-/// A TCP connection to one client.
+/// A TCP connection to one client, or to a server that was dialed.
 ///
-/// A receive waits 50 ms for bytes, and is idle where none came. It fails where the client was
-/// silent for longer than it may: over RTSP for longer than the seconds that the doors were given,
-/// over HTTP so before anything was sent to it, and 2 s where nothing ever came of it and others
-/// wait at the doors.
+/// A receive from a client waits 50 ms for bytes, and is idle where none came. It fails where the
+/// client was silent for longer than it may: over RTSP for longer than the seconds that the doors
+/// were given, over HTTP so before anything was sent to it, and 2 s where nothing ever came of it
+/// and others wait at the doors.
 ///
-/// A send waits until the client takes all bytes, and fails after 200 waits of 50 ms in which it
+/// A receive from a server waits 1 ms for bytes, and no silence makes it fail.
+///
+/// A send waits until the other end takes all bytes, and fails after 200 waits of 50 ms in which it
 /// took nothing.
 #[derive(Drop)]
 pub struct RealConn {
     socket: Socket,
-    silence: Silence,
+    patience: Patience,
     ended: bool,
     idles: u64,
     receive_faults: u64,
@@ -108,10 +115,25 @@ impl RealConn {
     pub(crate) fn open(stream: TcpStream, silence: Silence) -> RealConn
         ensures fresh { result ≡ fresh_line }
     {
+        RealConn::over(stream, CLIENT_WAIT_MS, Patience::Limited(silence))
+    }
+
+    /// Dials a server, and waits up to 10 s until it takes the connection. What refuses it or fails
+    /// is the error (connect(2)).
+    pub fn dial(rt: HostRuntime, to: Address) -> io::Result<RealConn>
+        ensures fresh { IfOk result (λ conn. conn ≡ fresh_line) }
+    {
+        let stream = connect(rt, to)?;
+        Ok(RealConn::over(stream, SERVER_WAIT_MS, Patience::Endless))
+    }
+
+    fn over(stream: TcpStream, wait_ms: i32, patience: Patience) -> RealConn
+        ensures fresh { result ≡ fresh_line }
+    {
         prepare(&stream);
         RealConn {
-            socket: Socket { stream },
-            silence,
+            socket: Socket { stream, wait_ms },
+            patience,
             ended: false,
             idles: 0,
             receive_faults: 0,
@@ -119,17 +141,17 @@ impl RealConn {
         }
     }
 
-    // Reads what came, or tells that the client was silent for too long.
+    // Reads what came, or tells that the other end was silent for too long.
     fn hear(&mut self, buf: &mut [u8]) -> io::Result<usize>
         ensures within { ReadsAtMost result buf.new }
         ensures same { self.new ≡ self.old }
     {
         match self.socket.read(buf) {
             Ok(count) => {
-                self.silence.hear();
+                self.patience.hear();
                 Ok(count)
             }
-            Err(error) if is_passing(&error) && self.silence.is_over() => {
+            Err(error) if is_passing(&error) && self.patience.is_over() => {
                 Err(io::Error::from(ErrorKind::TimedOut))
             }
             Err(error) => Err(error),
@@ -137,8 +159,8 @@ impl RealConn {
     }
 
     /// Closes the connection. A client that was served to the end has up to 500 ms to take the last
-    /// reply and end its own side.
-    pub(crate) fn close(self, rt: HostRuntime, end: ConnEnd) {
+    /// reply and end its own side, and so has a server to answer the last request.
+    pub fn close(self, rt: HostRuntime, end: ConnEnd) {
         let mut conn = self;
         if end == ConnEnd::Done {
             conn.socket.finish(&Stopwatch::start(rt));
@@ -173,7 +195,7 @@ impl Conn for RealConn {
     }
 
     fn send(&mut self, bytes: &[u8]) -> Put {
-        self.silence.answer();
+        self.patience.answer();
         if send_all(&mut self.socket.stream, bytes).is_ok() {
             return Put::Whole;
         }

@@ -7,6 +7,24 @@ const ENFILE: i32 = 23;
 
 const ENOBUFS: i32 = 105;
 
+const ENONET: i32 = 64;
+
+const EPROTO: i32 = 71;
+
+const EMSGSIZE: i32 = 90;
+
+const ENOPROTOOPT: i32 = 92;
+
+const EOPNOTSUPP: i32 = 95;
+
+const ENETDOWN: i32 = 100;
+
+const ENETUNREACH: i32 = 101;
+
+const EHOSTDOWN: i32 = 112;
+
+const EHOSTUNREACH: i32 = 113;
+
 /// Whether a call on a connection is to be made again later: it would have waited, a signal cut it
 /// short, or the system had no memory for it (recv(2), send(2)).
 pub(crate) fn is_passing(error: &io::Error) -> bool {
@@ -17,6 +35,36 @@ pub(crate) fn is_passing(error: &io::Error) -> bool {
         error.raw_os_error(),
         Some(libc::EAGAIN | libc::EINTR | libc::ENOMEM | ENOBUFS)
     )
+}
+
+/// Whether a receive of a datagram is to be made again later: nothing was there, a signal cut it
+/// short, the system had no memory for it, or the network told of a datagram that was sent before
+/// (recv(2), udp(7); the errors of the network are those of accept(2) and ECONNREFUSED).
+pub(crate) fn comes_later(error: &io::Error) -> bool {
+    is_passing(error) || is_of_the_network(error)
+}
+
+fn is_of_the_network(error: &io::Error) -> bool {
+    matches!(
+        error.raw_os_error(),
+        Some(
+            libc::ECONNREFUSED
+                | ENETDOWN
+                | ENETUNREACH
+                | EHOSTDOWN
+                | EHOSTUNREACH
+                | ENONET
+                | EPROTO
+                | EMSGSIZE
+                | ENOPROTOOPT
+                | EOPNOTSUPP
+        )
+    )
+}
+
+/// Whether a port can't be bound since it is in use or allowed to others only (bind(2)).
+pub(crate) fn is_taken(error: &io::Error) -> bool {
+    matches!(error.raw_os_error(), Some(libc::EADDRINUSE | libc::EACCES))
 }
 
 /// Whether an error of accept(2) is the listener's own, so that no later call gives a connection.

@@ -30,6 +30,11 @@ pub(crate) fn widen(socket: &UdpSocket) {
     set(socket.as_raw_fd(), c::SOL_SOCKET, c::SO_SNDBUF, i32::MAX);
 }
 
+/// Asks for the largest receive buffer that the system gives without privilege.
+pub(crate) fn widen_input(socket: &UdpSocket) {
+    set(socket.as_raw_fd(), c::SOL_SOCKET, c::SO_RCVBUF, i32::MAX);
+}
+
 /// Has replies leave at once, and has the connection fail 30 s after its peer vanished (tcp(7)).
 pub(crate) fn prepare(stream: &TcpStream) {
     let fd = stream.as_raw_fd();

@@ -37,20 +37,20 @@ impl Silence {
         }
     }
 
-    /// Bytes came in.
-    pub(crate) fn hear(&mut self) {
+    // Bytes came in.
+    fn hear(&mut self) {
         self.was_heard = true;
         self.watch.restart();
     }
 
-    /// Bytes were sent.
-    pub(crate) fn answer(&mut self) {
+    // Bytes were sent.
+    fn answer(&mut self) {
         self.was_answered = true;
     }
 
-    /// Whether the client is given up: it was silent for longer than it may, or it sent nothing in
+    // Whether the client is given up: it was silent for longer than it may, or it sent nothing in
     /// 2 s and others wait at the doors. Who reads a stream over HTTP has nothing to say.
-    pub(crate) fn is_over(&self) -> bool {
+    fn is_over(&self) -> bool {
         if self.kind == DoorKind::Http && self.was_answered {
             return false;
         }
@@ -59,5 +59,40 @@ impl Silence {
             return true;
         }
         !self.was_heard && silent_ms > FIRST_BYTE_MS && self.listeners.somebody_waits()
+    }
+}
+
+/// How long the other end of a connection may be silent.
+#[derive(Drop)]
+pub(crate) enum Patience {
+    /// As long as a client may.
+    Limited(Silence),
+    /// For ever: whoever dialed counts the idles itself.
+    Endless,
+}
+
+impl Patience {
+    /// Bytes came in.
+    pub(crate) fn hear(&mut self) {
+        match self {
+            Patience::Limited(silence) => silence.hear(),
+            Patience::Endless => {}
+        }
+    }
+
+    /// Bytes were sent.
+    pub(crate) fn answer(&mut self) {
+        match self {
+            Patience::Limited(silence) => silence.answer(),
+            Patience::Endless => {}
+        }
+    }
+
+    /// Whether the other end is given up.
+    pub(crate) fn is_over(&self) -> bool {
+        match self {
+            Patience::Limited(silence) => silence.is_over(),
+            Patience::Endless => false,
+        }
     }
 }

@@ -1,0 +1,73 @@
+//! Connecting to a server.
+
+ghost use Rattle.std.specs.Prelude.{◌≤◌, IfSome};
+
+use crate::addresses::socket_addr;
+use crate::errors::is_passing;
+use crate::readiness::takes_output;
+use crate::stopwatch::Stopwatch;
+use mio::net::TcpStream;
+use satip_base::Address;
+use std::io::ErrorKind;
+use std::time::Duration;
+use std::{io, thread};
+
+// How long a server has to take a connection, in milliseconds.
+const LIMIT_MS: u64 = 10000;
+
+// How long one wait is at most, in milliseconds.
+const WAIT_MS: u64 = 50;
+
+// How many waits there are at most; a signal may cut each of them short.
+const WAITS: u32 = 65536;
+
+// How long the next wait may be, in milliseconds; `None` where the time is over.
+fn next_wait(watch: &Stopwatch) -> Option<u64>
+    ensures short { IfSome result (λ wait_ms. wait_ms ≤ 50) }
+{
+    let left_ms = LIMIT_MS.saturating_sub(watch.elapsed_ms());
+    if left_ms == 0 {
+        return None;
+    }
+    Some(left_ms.min(WAIT_MS))
+}
+
+// Begins to connect. Where a signal cuts that short, or the system has no room for it now, it is
+// begun again; every other error says that this server can't be reached (connect(2)).
+fn begin(rt: HostRuntime, to: Address, watch: &Stopwatch) -> io::Result<TcpStream> {
+    for _ in 0..WAITS {
+        let Some(wait_ms) = next_wait(watch) else {
+            break;
+        };
+        match TcpStream::connect(&rt, socket_addr(to)) {
+            Err(error) if is_passing(&error) => thread::sleep(&rt, Duration::from_millis(wait_ms)),
+            begun => return begun,
+        }
+    }
+    Err(io::Error::from(ErrorKind::TimedOut))
+}
+
+// Waits until a stream is connected. How that ended is told once the stream takes output, by the
+// socket's pending error (connect(2), EINPROGRESS).
+fn settle(stream: &TcpStream, watch: &Stopwatch) -> io::Result<()> {
+    for _ in 0..WAITS {
+        let Some(wait_ms) = next_wait(watch) else {
+            break;
+        };
+        if takes_output(stream, wait_ms as i32) {
+            return match stream.take_error()? {
+                Some(error) => Err(error),
+                None => Ok(()),
+            };
+        }
+    }
+    Err(io::Error::from(ErrorKind::TimedOut))
+}
+
+/// A connection to a server, which has 10 s to take it.
+pub(crate) fn connect(rt: HostRuntime, to: Address) -> io::Result<TcpStream> {
+    let watch = Stopwatch::start(rt);
+    let stream = begin(rt, to, &watch)?;
+    settle(&stream, &watch)?;
+    Ok(stream)
+}
