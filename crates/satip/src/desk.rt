@@ -1,22 +1,22 @@
 //! The desk over the system: its files, sockets, clock and random bytes. It tells nothing of them.
 
-ghost use Rattle.std.specs.Prelude.{◌≡◌, [], None, length, IfOk, IfSome};
+ghost use Rattle.std.specs.Prelude.{◌≡◌, [], None, false, length, IfOk, IfSome};
 ghost use Rattle.satip_base.specs.Streams.{fresh_feed};
 ghost use Rattle.satip.specs.Standings.{AreFreshKits};
 
-use satip_base::{Failed, ReadSource, Sink, Source, Taken, Text, WriteSink};
+use satip_base::{Address, Failed, ReadSource, Sink, Source, Taken, Text, WriteSink};
 use satip_config::Config;
 use satip_kits::{KitsFault, real_kits};
 use satip_program::{Desk, Jobs, JobsFault};
-use satip_real::{RealClock, RealDoors, RealOutlet};
+use satip_real::{RealClock, RealConn, RealDoors, RealInlet, RealOutlet};
 use satip_recordings::{RealPacer, RealStore};
 use std::alloc::Global;
-use std::fs;
 use std::fs::File;
 use std::marker::Model;
 use std::rt::Files;
 use std::snapshot::Snapshot;
 use std::sync::Wait;
+use std::{fs, io};
 
 /// The file of a configuration.
 #[derive(Drop)]
@@ -47,25 +47,35 @@ impl Source for ConfigFile {
 /// The kits of jobs over the system.
 pub type RealJobs<R> = Jobs<RealDoors, RealOutlet<R>, RealPacer, RealStore, RealClock>;
 
-/// Opens each configuration as the file of its name, and makes kits over the system.
+/// Opens each configuration as the file of its name, and makes kits and a client's devices over
+/// the system.
 #[derive(Drop)]
 pub struct RealDesk<R: Wait + Copy + Drop + Send> {
     host: HostRuntime,
     rt: R,
     given: Option<Snapshot<RealJobs<R>>>,
+    dialed: Option<Address>,
+    bound: bool,
+    timed: bool,
     faults: u64,
 }
 
 impl<R: Wait + Copy + Drop + Send> RealDesk<R> {
-    /// A desk that never failed and gave no kits.
+    /// A desk that never failed and gave nothing.
     pub fn new(host: HostRuntime, rt: R) -> RealDesk<R>
         ensures given { result.given ≡ None }
+        ensures dialed { result.dialed ≡ None }
+        ensures bound { result.bound ≡ false }
+        ensures timed { result.timed ≡ false }
         ensures faults { result.faults ≡ 0 }
     {
         RealDesk {
             host,
             rt,
             given: None,
+            dialed: None,
+            bound: false,
+            timed: false,
             faults: 0,
         }
     }
@@ -74,6 +84,14 @@ impl<R: Wait + Copy + Drop + Send> RealDesk<R> {
 // Says why there are no kits.
 fn tell_fault(rt: HostRuntime, fault: &KitsFault) {
     let Ok(line) = format!(in rt.alloc(); "{fault}\n") else {
+        return;
+    };
+    WriteSink::new(rt.stderr()).put(line.as_bytes());
+}
+
+// Says why a client has no connection or no inlet.
+fn tell_error(rt: HostRuntime, device: &str, error: &io::Error) {
+    let Ok(line) = format!(in rt.alloc(); "{device}: {error}\n") else {
         return;
     };
     WriteSink::new(rt.stderr()).put(line.as_bytes());
@@ -127,11 +145,19 @@ impl<R: Wait + Copy + Drop + Send> Desk for RealDesk<R> {
 
     type Clock = RealClock;
 
+    type Wire = RealConn;
+
+    type Inlet = RealInlet;
+
+    type Moment = RealClock;
+
     ghost text = { λ _ _. None };
 
     ghost faults = { λ d. d.faults };
 
     ghost given = { λ d. option_map (λ kits. real_view kits.value) d.given };
+
+    ghost handed = { λ d. record { wire = d.dialed; inlet = d.bound; moment = d.timed } };
 
     fn jobs(
         &mut self,
@@ -161,5 +187,38 @@ impl<R: Wait + Copy + Drop + Send> Desk for RealDesk<R> {
                 Err(Failed)
             }
         }
+    }
+
+    fn dial(&mut self, to: Address) -> Result<RealConn, Failed> {
+        match RealConn::dial(self.host, to) {
+            Ok(wire) => {
+                self.dialed = Some(to);
+                Ok(wire)
+            }
+            Err(error) => {
+                tell_error(self.host, "connection", &error);
+                self.faults = self.faults.saturating_add(1);
+                Err(Failed)
+            }
+        }
+    }
+
+    fn inlet(&mut self) -> Result<RealInlet, Failed> {
+        match RealInlet::bind(self.host, 0) {
+            Ok(inlet) => {
+                self.bound = true;
+                Ok(inlet)
+            }
+            Err(error) => {
+                tell_error(self.host, "inlet", &error);
+                self.faults = self.faults.saturating_add(1);
+                Err(Failed)
+            }
+        }
+    }
+
+    fn moment(&mut self) -> RealClock {
+        self.timed = true;
+        RealClock::begin(self.host)
     }
 }
