@@ -8,6 +8,7 @@ mod tests;
 
 use desk::RealDesk;
 use satip_base::{ReadSource, Sink, Text, Want, WriteSink};
+use satip_world::ConnEnd;
 use std::alloc::Global;
 use std::env::{Env, FillError};
 use std::process::ExitCode;
@@ -28,7 +29,7 @@ fn main(rt: HostRuntime) -> ExitCode {
     let mut input = ReadSource::new(rt.stdin());
     let mut output = WriteSink::new(rt.stdout());
     let mut desk = RealDesk::new(rt, rt);
-    let ended = satip_program::satip(
+    let mut ended = satip_program::satip(
         &rt,
         rt.alloc(),
         &words,
@@ -37,6 +38,10 @@ fn main(rt: HostRuntime) -> ExitCode {
         &mut errors,
         &mut desk,
     );
+    if let Some(wire) = ended.wire.take() {
+        // A server takes the last request before the connection goes.
+        wire.close(rt, ConnEnd::Done);
+    }
     ExitCode::from(ended.status)
 }
 
