@@ -20,9 +20,9 @@ use satip_verdict::{JournalFault, verdict};
 use std::alloc::Global;
 
 /// Reads a configuration and then the whole input as journals, judges them, and writes the verdict
-/// in one line. Of the configuration at most 1048577 bytes are taken, of the input at most 67108865.
-/// It always returns. The formats stand in docs/PROTOCOL.md under Configuration and Journals and
-/// verdicts.
+/// in one line. Of the configuration at most 1048577 bytes are taken, of the input at most
+/// 67108865. It always returns. The formats stand in docs/PROTOCOL.md under Configuration and
+/// Journals and verdicts.
 pub fn audit<C: Source, I: Source, O: Sink>(
     alloc: Global,
     config: &mut C,

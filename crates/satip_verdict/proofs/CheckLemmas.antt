@@ -55,7 +55,7 @@ entry_lined p h =
           ∙ ap (λ (t : List ℕ). decimal p.place ++ (codes " " ++ t)) (append_assoc (decimal p.caller) third (10 ∷ []))));
     }
 
-lined : (note : Note) → IsNote note → Lined (note_text note)
+pub lined : (note : Note) → IsNote note → Lined (note_text note)
 lined (Start now) h = start_lined now h
 lined (Entered p) h = entry_lined p h
 

@@ -33,7 +33,8 @@ named (x ∷ xs) p has =
     has
 
 none_by : (x : Placed) (xs : List Placed) (q : ℕ) (b : Bool) → (x.place == q) ≡ b → times (places_in (x ∷ xs)) q ≡ 0
-    → (times (places_in xs) q ≡ 0 → at_place q xs ≡ []) → map item (cond b (x ∷ filter (λ (p : Placed). p.place == q) xs) (filter (λ (p : Placed). p.place == q) xs)) ≡ []
+    → (times (places_in xs) q ≡ 0 → at_place q xs ≡ [])
+    → map item (cond b (x ∷ filter (λ (p : Placed). p.place == q) xs) (filter (λ (p : Placed). p.place == q) xs)) ≡ []
 none_by x xs q true is none rest = let e = times_same (places_in xs) x.place q (eqb-true x.place q is) in absurd (omega (arith, none, e))
 none_by x xs q false is none rest = let e = times_other (places_in xs) x.place q (eqb-false x.place q is) in rest (sym e ∙ none)
 

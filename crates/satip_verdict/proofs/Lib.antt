@@ -4,3 +4,4 @@ pub mod LineAgain
 pub mod ReplayLemmas
 pub mod HistoryLemmas
 pub mod VerdictLemmas
+pub mod OneReading

@@ -35,7 +35,7 @@ or_false false b h = (refl, h)
 head_lacks : (at c : ℕ) (b : List ℕ) → list_any (is_byte at) (c ∷ b) ≡ false → (c ≡ at → ⊥) × (list_any (is_byte at) b ≡ false)
 head_lacks at c b h = let both = or_false (is_byte at c) (list_any (is_byte at) b) h in (eqb-false c at both.0, both.1)
 
-cut_same : (at : ℕ) (a b x y : List ℕ) → list_any (is_byte at) a ≡ false → list_any (is_byte at) b ≡ false → a ++ at ∷ x ≡ b ++ at ∷ y → x ≡ y
+pub cut_same : (at : ℕ) (a b x y : List ℕ) → list_any (is_byte at) a ≡ false → list_any (is_byte at) b ≡ false → a ++ at ∷ x ≡ b ++ at ∷ y → x ≡ y
 cut_same at [] [] x y no_a no_b e = cc e
 cut_same at [] (c ∷ b) x y no_a no_b e = let first : c ≡ at = cc e in absurd ((head_lacks at c b no_b).0 first)
 cut_same at (c ∷ a) [] x y no_a no_b e = let first : c ≡ at = cc e in absurd ((head_lacks at c a no_a).0 first)

@@ -24,7 +24,8 @@ after_next : (c : Config) (st : State) (h : List Item) (e : Item) → after_from
 after_next c st [] e = refl
 after_next c st (x ∷ h) e = after_next c (step c st x.event).state h e
 
-legal_next : (c : Config) (st : State) (h : List Item) (e : Item) → LegalFrom c st h → Fits (step c (after_from c st h) e.event) e → LegalFrom c st (h ++ e ∷ [])
+legal_next : (c : Config) (st : State) (h : List Item) (e : Item) → LegalFrom c st h → Fits (step c (after_from c st h) e.event) e
+    → LegalFrom c st (h ++ e ∷ [])
 legal_next c st [] e legal fits = (fits, tt)
 legal_next c st (x ∷ h) e legal fits = (legal.0, legal_next c (step c st x.event).state h e legal.1 fits)
 

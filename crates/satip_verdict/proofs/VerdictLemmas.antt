@@ -167,7 +167,8 @@ module _ (config : Config) (text : List ℕ) (s : Starts) (start : ℕ) (one : s
       };
     }
 
-    pub judged_differs : (place : ℕ) → ((h : List Item) → AreLed text h spots → Finds (setting config start) h (Some place)) → IsJudged config text (Differs place)
+    pub judged_differs : (place : ℕ) → ((h : List Item) → AreLed text h spots → Finds (setting config start) h (Some place))
+        → IsJudged config text (Differs place)
     judged_differs place finds = record {
       notes = i.notes;
       journal = i.journal;

@@ -1,3 +1,4 @@
 pub mod Checks
 pub mod Indexes
 pub mod Replaying
+pub mod OneThing

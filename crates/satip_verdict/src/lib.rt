@@ -5,7 +5,9 @@
 mod index;
 mod indexing;
 mod judging;
+mod laws;
 
 pub use index::{Index, JournalFault, Starts};
 pub use indexing::index_journals;
 pub use judging::verdict;
+pub use laws::journals_say_one_thing;
