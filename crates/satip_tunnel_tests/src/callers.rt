@@ -1,0 +1,125 @@
+//! Callers of a shared tunnel.
+ghost use Rattle.std.specs.Prelude.{◌≡◌, ◌+◌, ◌<◌, [], ◌∷◌, length, IfSome};
+ghost use Rattle.satip_base.specs.Output.{empty};
+ghost use Rattle.satip_history.specs.History.{entry, taken};
+ghost use Rattle.satip_plain.specs.declared.answers.Answer.TheVariants.{Beat as BeatTold};
+ghost use Rattle.satip_plain.specs.declared.answers.Beat.TheVariants.{Stopping};
+ghost use Rattle.satip_plain.specs.declared.events.Event.TheVariants.{Stop};
+ghost use Rattle.satip_tunnel.specs.declared.events.TunnelEvent.TheVariants.{Inner, Enter};
+ghost use Rattle.satip_tunnel.specs.declared.events.TunnelAnswer.TheVariants.{Inner as Told, Lane, Full};
+ghost use Rattle.satip_tunnel.specs.Histories.{TunnelLegal, inners};
+ghost use Rattle.satip_turn.specs.Shown.{IsOf, Knows, first_pass, met_once, newborn};
+ghost use Rattle.satip_interleave.specs.Calling.{SameCaller, known_by, outers};
+ghost use Rattle.satip_interleave.specs.Taking.{inners_taken};
+
+mod asks;
+mod threads;
+
+use crate::steps::shared;
+use asks::Asks;
+use satip_base::Out;
+use satip_interleave::{SharedTunnel, TunnelCaller, TunnelPass};
+use satip_plain::{Answer, Event, Work};
+use satip_service::Service;
+use satip_tunnel::{TunnelAnswer, TunnelEvent};
+use std::sync::Wait;
+use std::test::Fail;
+
+// Which entries are the server's, and which are the lanes'.
+fn entry_rows()
+    ensures inner { inners (entry 1 (Inner Stop) (Told (BeatTold Stopping)) empty
+        ∷ entry 2 Enter (Lane 1) empty ∷ []) ≡ entry 1 Stop (BeatTold Stopping) empty ∷ [] }
+    ensures outer { outers (entry 1 (Inner Stop) (Told (BeatTold Stopping)) empty
+        ∷ entry 2 Enter (Lane 1) empty ∷ []) ≡ entry 2 Enter (Lane 1) empty ∷ [] }
+    ensures taken { inners_taken (taken Enter Full empty
+        ∷ taken (Inner Stop) (Told (BeatTold Stopping)) empty ∷ [])
+        ≡ taken Stop (BeatTold Stopping) empty ∷ [] }
+{}
+
+// The first pass knows nothing; a caller that met a taken turn is the same, one of another number
+// or with an entry of the lanes isn't.
+fn caller_rows(tunnel: &SharedTunnel, number: u64)
+    ensures nothing { known_by (first_pass tunnel.now)
+        ≡ record { seen = []; own = []; length = 0 } }
+    ensures lanes { known_by (record (first_pass tunnel.now)
+        { seen = entry 2 Enter (Lane 1) empty ∷ [] }) ≡ record { seen = []; own = []; length = 1 } }
+    ensures same { SameCaller tunnel.now (first_pass tunnel.now) tunnel.now
+        (met_once (first_pass tunnel.now)) }
+    ensures other { 0 < number → ¬ (SameCaller tunnel.now (first_pass tunnel.now) tunnel.now
+        (newborn (first_pass tunnel.now) number)) }
+    ensures entered { ¬ (SameCaller tunnel.now (first_pass tunnel.now) tunnel.now
+        (record (first_pass tunnel.now) { own = entry 0 Enter (Lane 1) empty ∷ [] })) }
+{
+    let _tunnel = tunnel;
+    let _ = number;
+}
+
+// The first caller asks, the second enters, and the first asks again.
+fn ask_enter_ask<R: Wait + Sync>(
+    rt: &R,
+    server: &SharedTunnel,
+    first: TunnelPass,
+    out: &mut Out,
+) -> Option<(TunnelPass, Answer, TunnelAnswer, Answer)>
+    requires of { IsOf first server.now }
+    requires knows { Knows (TunnelLegal server.now.setting) first }
+    ensures own { IfSome result (λ done. length (inners done.0.own)
+        ≡ length (inners first.own) + 2) }
+{
+    let mut first = first;
+    let mut second = server.split(&mut first);
+    let mut one = TunnelCaller {
+        rt,
+        server,
+        pass: first,
+    };
+    let before = one.call(&Event::Ask { front: 1 }, out).ok()?;
+    let entered = server.call(rt, &mut second, &TunnelEvent::Enter, out).ok()?;
+    let after = one.call(&Event::Ask { front: 1 }, out).ok()?;
+    Some((one.pass, before, entered, after))
+}
+
+#[test]
+fn a_caller_counts_entries_of_lanes(rt: HostRuntime) -> Result<(), Fail> {
+    let mut out = Out::make(rt.alloc())?;
+    let (server, first) = shared(rt.alloc())?;
+    entry_rows();
+    caller_rows(&server, 1);
+    let (pass, before, entered, after) = ask_enter_ask(&rt, &server, first, &mut out).ok_or(
+        "spent",
+    )?;
+    assert_eq!(rt; before, Answer::Work(Work::Nothing));
+    assert_eq!(rt; entered, TunnelAnswer::Lane(1));
+    assert_eq!(rt; after, Answer::Work(Work::Nothing));
+    assert_eq!(rt; pass.place(), 3);
+    Ok(())
+}
+
+// A lot of seventy events in two bursts.
+fn burst_twice<R: Wait + Sync>(
+    rt: &R,
+    server: &SharedTunnel,
+    pass: TunnelPass,
+    out: &mut Out,
+) -> Option<(u64, u64, u32)>
+    requires of { IsOf pass server.now }
+    requires knows { Knows (TunnelLegal server.now.setting) pass }
+{
+    let mut caller = TunnelCaller { rt, server, pass };
+    let mut asks = Asks::new(70);
+    caller.burst(&mut asks, out).ok()?;
+    let first = caller.pass.place();
+    if asks.ended || asks.given {
+        return None;
+    }
+    caller.burst(&mut asks, out).ok()?;
+    Some((first, caller.pass.place(), asks.left))
+}
+
+#[test]
+fn a_burst_makes_up_to_64(rt: HostRuntime) -> Result<(), Fail> {
+    let mut out = Out::make(rt.alloc())?;
+    let (server, first) = shared(rt.alloc())?;
+    assert!(rt; burst_twice(&rt, &server, first, &mut out) == Some((64, 70, 0)));
+    Ok(())
+}

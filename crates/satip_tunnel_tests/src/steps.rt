@@ -1,0 +1,179 @@
+//! A small tunnel, and one event of it at a time.
+
+ghost use Rattle.std.specs.Prelude.{◌≡◌, ◌≤◌, length, IfOk};
+ghost use Rattle.satip_fronts.specs.FrontEnds.{IsNumbered};
+ghost use Rattle.satip_tunnel.specs.Histories.{TunnelLegal};
+ghost use Rattle.satip_turn.specs.Shown.{IsOf, Knows};
+
+use satip_base::{Draw, Out, Peer};
+use satip_channels::request;
+use satip_config::Config;
+use satip_frame::Step;
+use satip_interleave::{SharedTunnel, TunnelPass, make};
+use satip_parts::Parter;
+use satip_plain::{Answer, Beat, Event, Replied};
+use satip_rtsp::Request;
+use satip_ts::Packet;
+use satip_tune::{Front, Mux, Pol, System};
+use satip_tunnel::{Tunnel, TunnelAnswer, TunnelEvent};
+use std::alloc::Global;
+use std::process::Abort;
+use std::test::Fail;
+
+const DRAW: Draw = Draw {
+    word: 10,
+    ssrc: 287454020,
+    first: 65535,
+};
+
+/// A front end that reaches position 1 and receives both systems.
+fn front(number: u16) -> Front
+    ensures number { result.number ≡ number }
+{
+    let mut sources = [false; 256];
+    sources[1] = true;
+    Front {
+        number,
+        sources,
+        systems: [true, true],
+    }
+}
+
+/// Two front ends and two multiplexes.
+fn config(alloc: Global) -> Result<Config, Fail>
+    ensures few { IfOk result (λ config. length config.fronts ≤ 16) }
+    ensures numbered { IfOk result (λ config. IsNumbered 1 config.fronts) }
+    ensures received { IfOk result (λ config. length config.muxes ≤ 256) }
+{
+    let mut fronts = Vec::new(alloc);
+    fronts.push(front(1))?;
+    fronts.push(front(2))?;
+    let mut muxes = Vec::new(alloc);
+    muxes.push(Mux {
+        src: 1,
+        freq: 11361750,
+        pol: Pol::H,
+        msys: System::Dvbs2,
+        sr: 22000,
+    })?;
+    muxes.push(Mux {
+        src: 1,
+        freq: 12402000,
+        pol: Pol::V,
+        msys: System::Dvbs,
+        sr: 27500,
+    })?;
+    Ok(Config {
+        address: 3232235786,
+        rtsp_port: 554,
+        http_port: 8875,
+        timeout: 60,
+        workers: 8,
+        fronts,
+        muxes,
+        files: Vec::new(alloc),
+    })
+}
+
+/// A tunnel over a server of this configuration, at 0 milliseconds.
+pub fn tunnel(alloc: Global) -> Result<Tunnel, Fail> {
+    let config = config(alloc)?;
+    Ok(Tunnel::make(alloc, config, 0)?)
+}
+
+/// The same, shared.
+pub fn shared(alloc: Global) -> Result<(SharedTunnel, TunnelPass), Fail>
+    ensures of { IfOk result (λ made. IsOf made.1 made.0) }
+    ensures knows { IfOk result (λ made. Knows (TunnelLegal made.0.setting) made.1) }
+{
+    let config = config(alloc)?;
+    Ok(make(alloc, config, 0)?)
+}
+
+/// What a text asks for that comes behind a report of a client.
+fn asked(alloc: Global, text: &[u8]) -> Result<Request, Fail> {
+    let mut parter = Parter::make(alloc)?;
+    parter.feed(b"$\x01\x00\x04\x00\x00\x00\x00");
+    parter.feed(text);
+    match parter.next() {
+        Step::Message => Ok(request(&parter.message().ok_or("message")?)),
+        _ => Err(Fail::from("no message")),
+    }
+}
+
+/// A packet of a PID below 256.
+pub fn packet(pid: u8) -> Result<Packet, Fail> {
+    let mut bytes = [0u8; 188];
+    bytes[0] = 0x47;
+    bytes[2] = pid;
+    Ok(Packet::of(&bytes).ok_or("packet")?)
+}
+
+/// Makes an event, which is answered so.
+pub fn makes(
+    rt: &impl Abort,
+    tunnel: &mut Tunnel,
+    out: &mut Out,
+    event: &TunnelEvent,
+    answer: TunnelAnswer,
+) {
+    assert_eq!(rt; tunnel.event(event, out), answer);
+}
+
+/// A connection enters, and is answered so.
+pub fn enter(rt: &impl Abort, tunnel: &mut Tunnel, out: &mut Out, answer: TunnelAnswer) {
+    makes(rt, tunnel, out, &TunnelEvent::Enter, answer);
+}
+
+/// A lane is drained, which is answered so.
+pub fn drain(rt: &impl Abort, tunnel: &mut Tunnel, out: &mut Out, lane: u32, answer: TunnelAnswer) {
+    makes(rt, tunnel, out, &TunnelEvent::Drain { lane }, answer);
+}
+
+/// A lane is given up, which is answered so.
+pub fn leave(rt: &impl Abort, tunnel: &mut Tunnel, out: &mut Out, lane: u32, answer: TunnelAnswer) {
+    makes(rt, tunnel, out, &TunnelEvent::Leave { lane }, answer);
+}
+
+/// The connection of a lane asks with this text, and is answered with this status.
+pub fn ask(
+    rt: &impl Abort,
+    alloc: Global,
+    tunnel: &mut Tunnel,
+    out: &mut Out,
+    lane: u32,
+    text: &[u8],
+    status: u16,
+) -> Result<(), Fail> {
+    let event = TunnelEvent::Inner(Event::Request {
+        peer: Peer { ip: lane },
+        draw: DRAW,
+        request: asked(alloc, text)?,
+    });
+    let replied = Replied {
+        status,
+        closing: false,
+    };
+    let answer = TunnelAnswer::Inner(Answer::Replied(replied));
+    makes(rt, tunnel, out, &event, answer);
+    Ok(())
+}
+
+/// The clock ticks.
+pub fn tick(rt: &impl Abort, tunnel: &mut Tunnel, out: &mut Out, now: u64) {
+    let event = TunnelEvent::Inner(Event::Tick { now });
+    let going = TunnelAnswer::Inner(Answer::Beat(Beat::Going));
+    makes(rt, tunnel, out, &event, going);
+}
+
+/// A packet comes again and again for the first tuning of the first front end.
+pub fn give(tunnel: &mut Tunnel, out: &mut Out, packet: &Packet, count: usize) {
+    for _given in 0..count {
+        let event = TunnelEvent::Inner(Event::Packet {
+            front: 1,
+            tune: 1,
+            packet: *packet,
+        });
+        let _answer = tunnel.event(&event, out);
+    }
+}
