@@ -232,16 +232,17 @@ def try_link(checks, recording, count):
         link.close()
 
 
-def ended_well(recorded, status, line, shortest, longest):
-    """Whether it ended with this status and line, and no output, in so many seconds."""
-    said = recorded.errors == line + "\n" and recorded.output == b""
+def ended_well(recorded, status, lines, shortest, longest):
+    """Whether it ended with this status and these lines, and no output, in so many seconds."""
+    said = bool(re.fullmatch(lines + "\n", recorded.errors)) and recorded.output == b""
     return recorded.status == status and said and shortest <= recorded.seconds <= longest
 
 
 def try_absent(checks):
     port, _ = free_ports("127.0.0.1")
     recorded = Recorded(f"127.0.0.1:{port}", 1)
-    checks.check(ended_well(recorded, 13, "peer fault", 0, 2), f"no server: {recorded.ended()}")
+    well = ended_well(recorded, 13, "connection: .*refused.*\npeer fault", 0, 2)
+    checks.check(well, f"no server: {recorded.ended()}")
 
     with socket.socket() as listener:
         listener.bind(("127.0.0.1", 0))
@@ -250,7 +251,7 @@ def try_absent(checks):
         # this one waits in the queue, so the next gets no answer to its SYN
         with socket.create_connection(("127.0.0.1", port)):
             recorded = Recorded(f"127.0.0.1:{port}", 1)
-        well = ended_well(recorded, 13, "peer fault", 9.5, 12)
+        well = ended_well(recorded, 13, "connection: .*timed out.*\npeer fault", 9.5, 12)
         checks.check(well, f"a server that takes no connection: {recorded.ended()}")
 
     with socket.socket() as listener:
