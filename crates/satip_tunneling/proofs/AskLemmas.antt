@@ -1,5 +1,6 @@
 -- A request with the drains behind it.
 use Rattle.std.proofs.Common.{◌≡◌, ◌∙◌, ℕ, Bool, List, [], ◌∷◌, ◌++◌, append-nil, length, arith, refl, sym, ap, subst, inl, inr}
+use Rattle.rand_chacha.specs.ChaCha.{ChaCha}
 use Rattle.satip_base.specs.Output.{Output}
 use Rattle.satip_base.specs.declared.identity.Draw.{Draw}
 use Rattle.satip_channels.specs.Turned.{turned}
@@ -17,11 +18,13 @@ use Rattle.satip_tunnel.specs.Histories.{TunnelItem, inners}
 use Rattle.satip_world.specs.Lines.{Line, SentAll, SendFailed}
 use Rattle.satip_worker.specs.Progress.{Carries}
 use Rattle.satip_worker.proofs.ProgressLemmas.{carries_nothing, rises_from}
-use Rattle.satip_tunneling.specs.Walk.{Stance, Free, Draining, lane_peer}
+use Rattle.satip_tunneling.specs.declared.ends.Way.{Way}
+use Rattle.satip_tunneling.specs.declared.ends.Way.TheVariants.{On, Broken, Lost, Spent}
+use Rattle.satip_tunneling.specs.Walk.{Stance, Free, Draining, Over, lane_peer}
 use Rattle.satip_tunneling.specs.Wire.{wire}
 use Rattle.satip_tunneling.specs.Seats.{Seat}
 use Rattle.satip_tunneling.specs.Events.{MadeEvent, UnmadeEvent}
-use Rattle.satip_tunneling.specs.Exchanges.{Drains, DrainsInPart, DrainsToStop, Answers, AnswersInPart, AnswersToStop, StopsUnasked}
+use Rattle.satip_tunneling.specs.Exchanges.{Drains, DrainsInPart, DrainsToStop, DrainsAll, Answers, AnswersInPart, AnswersToStop, StopsUnasked, ExchangesTo, Exchanges}
 use Rattle.satip_tunneling.proofs.SuitLemmas.{replied_so}
 use Rattle.satip_tunneling.proofs.WalkLemmas.{in_part_behind}
 use Rattle.satip_tunneling.proofs.ExchangeLemmas.{carries_all, carries_part, inners_before, talks_then, talks_whole}
@@ -117,3 +120,26 @@ module _ (tells : Type 0) (lane : ℕ) (o p n : Seat) (l k m : Line) (event : Ev
 
   pub answers_then_stop : DrainsToStop tells lane p n k m Draining → AnswersToStop tells lane o n l m event over
   answers_then_stop next = record { to = next.to; going = next.going; answers = answers_then next.to next.drains; full = next.full }
+
+-- whatever draining came to
+pub answers_then_all : (tells : Type 0) (lane : ℕ) (o p n : Seat) (l k m : Line) (event : Event) (over : Bool) (way : Way)
+    → Answers tells lane o p l k event over Draining → DrainsAll tells lane p n k m Draining way
+    → ExchangesTo tells lane o n l m event over way
+answers_then_all tells lane o p n l k m event over On before next = answers_then tells lane o p n l k m event over before Free next
+answers_then_all tells lane o p n l k m event over Broken before next = answers_then tells lane o p n l k m event over before Over next
+answers_then_all tells lane o p n l k m event over Lost before next = answers_then_lost tells lane o p n l k m event over before next
+answers_then_all tells lane o p n l k m event over Spent before next = inr (answers_then_stop tells lane o p n l k m event over before next)
+
+-- the input goes on as before
+comes_input : (tells : Type 0) (lane : ℕ) (o n : Seat) (l m : Line) (event : Event) (over : Bool) (way : Way)
+    → ExchangesTo tells lane o n l m event over way → m.ended ≡ l.ended
+comes_input tells lane o n l m event over On a = a.talks.input
+comes_input tells lane o n l m event over Broken a = a.talks.input
+comes_input tells lane o n l m event over Lost a = a.talks.input
+comes_input tells lane o n l m event over Spent (inl a) = a.talks.input
+comes_input tells lane o n l m event over Spent (inr a) = a.answers.talks.input
+
+pub exchange_input : (tells : Type 0) (lane : ℕ) (before after : ChaCha) (o n : Seat) (l m : Line) (request : Request) (way : Way)
+    → Exchanges tells lane before after o n l m request way → m.ended ≡ l.ended
+exchange_input tells lane before after o n l m request way e =
+    comes_input tells lane o n l m (Asks (lane_peer lane) e.draw request) (closes request.refusal) way e.comes

@@ -60,3 +60,11 @@ drawn_over peer (d ∷ draws) draw (r ∷ made) as_many =
 -- there is one more
 pub length_push : {A : Type 0} (xs : List A) (x : A) → length (xs ++ x ∷ []) ≡ length xs + 1
 length_push xs x = omega (arith, length-append xs (x ∷ []))
+
+-- one draw was taken
+pub takes_one : (before after : ChaCha) (draw : Draw)
+    → ((key : List ℕ) (stream number : ℕ) → before ≡ before_draw key stream number → draw ≡ draw_at key stream number)
+    → ((key : List ℕ) (stream number : ℕ) → before ≡ before_draw key stream number → after ≡ before_draw key stream (number + 1))
+    → TakesDraws before (draw ∷ []) after
+takes_one before after draw drawn next = λ key stream number are.
+    (ap (λ (d : Draw). d ∷ []) (drawn key stream number are), next key stream number are)

@@ -1,19 +1,14 @@
 -- Drains of a lane, and a request with the drains behind it, event by event.
 use Rattle.std.proofs.Common.{◌≡◌, ◌∙◌, ℕ, Bool, List, [], ◌∷◌, ◌++◌, append-nil, length, arith, refl, sym, ap, subst, inl, inr}
-use Rattle.satip_base.specs.Output.{Output}
-use Rattle.satip_history.specs.History.{entry}
 use Rattle.satip_plain.specs.Histories.{Item}
 use Rattle.satip_interleave.proofs.Entries.{inners-append}
-use Rattle.satip_tunnel.specs.declared.events.TunnelEvent.TheVariants.{Drain as Drained}
-use Rattle.satip_tunnel.specs.declared.events.TunnelAnswer.TheVariants.{Frames, Empty, Broken, Gone}
 use Rattle.satip_tunnel.specs.Histories.{TunnelItem, inners}
 use Rattle.satip_world.specs.Lines.{Line, SentAll, SendFailed}
 use Rattle.satip_worker.specs.Progress.{Carries}
 use Rattle.satip_worker.proofs.ProgressLemmas.{carries_nothing, carries_sent, rises_from}
-use Rattle.satip_tunneling.specs.Walk.{Stance, Free, Draining, Over, MayDrain}
+use Rattle.satip_tunneling.specs.Walk.{Stance, Draining}
 use Rattle.satip_tunneling.specs.Wire.{wire}
 use Rattle.satip_tunneling.specs.Seats.{Seat}
-use Rattle.satip_tunneling.specs.Events.{MadeEvent, UnmadeEvent}
 use Rattle.satip_tunneling.specs.Exchanges.{Talks, Drains, DrainsInPart, DrainsToStop}
 use Rattle.satip_tunneling.proofs.SeatLemmas.{grows_none, grows_then}
 use Rattle.satip_tunneling.proofs.WalkLemmas.{walk_then, wire-append, in_part_behind}
@@ -92,80 +87,3 @@ module _ (tells : Type 0) (lane : ℕ) (o p n : Seat) (l k m : Line) (from mid :
 
   pub drains_then_stop : DrainsToStop tells lane p n k m mid → DrainsToStop tells lane o n l m from
   drains_then_stop next = record { to = next.to; going = next.going; drains = drains_then next.to next.drains; full = next.full }
-
-module _ (tells : Type 0) (lane : ℕ) (o n : Seat) (l m : Line) (from : Stance) (out : Output) (may : MayDrain from) where
-  -- the frames were sent
-  pub frames_sent : (count : ℕ) → MadeEvent o n (Drained lane) (Frames count) out → SentAll tells l m out.reply → Drains tells lane o n l m from Draining
-  frames_sent count made sent =
-      let P : List ℕ → Type 0 = λ s. Carries tells l m [] s in
-      record {
-        entries = entry o.pass.number (Drained lane) (Frames count) out ∷ [];
-        none_asked = refl;
-        talks = record {
-          walk = (Draining, (refl, may, refl), refl);
-          grows = made.grows;
-          carries = subst P (sym (append-nil out.reply)) (carries_all tells l m out.reply sent);
-          input = sent.ended;
-        };
-      }
-
-  -- a beginning of them
-  pub frames_lost : (count : ℕ) → MadeEvent o n (Drained lane) (Frames count) out → SendFailed tells l m out.reply → DrainsInPart tells lane o n l m from
-  frames_lost count made failed = record {
-    entries = entry o.pass.number (Drained lane) (Frames count) out ∷ [];
-    none_asked = refl;
-    sent = failed.part;
-    in_part = record {
-      before = [];
-      last = entry o.pass.number (Drained lane) (Frames count) out;
-      entries_are = refl;
-      part = failed.part;
-      rest = failed.rest;
-      bytes = failed.whole;
-      sent_is = refl;
-    };
-    talks = record {
-      walk = (Draining, (refl, may, refl), refl);
-      grows = made.grows;
-      carries = carries_part tells l m out.reply failed;
-      input = failed.ended;
-    };
-    faults = failed.send_faults;
-  }
-
-module _ (tells : Type 0) (lane : ℕ) (o n : Seat) (l : Line) (from : Stance) (out : Output) (may : MayDrain from) where
-  -- no frame waited
-  pub found_empty : MadeEvent o n (Drained lane) Empty out → Drains tells lane o n l l from Free
-  found_empty made = record {
-    entries = entry o.pass.number (Drained lane) Empty out ∷ [];
-    none_asked = refl;
-    talks = record { walk = (Free, (refl, may, refl), refl); grows = made.grows; carries = carries_nothing tells l; input = refl };
-  }
-
-  pub found_gone : MadeEvent o n (Drained lane) Gone out → Drains tells lane o n l l from Free
-  found_gone made = record {
-    entries = entry o.pass.number (Drained lane) Gone out ∷ [];
-    none_asked = refl;
-    talks = record { walk = (Free, (refl, may, refl), refl); grows = made.grows; carries = carries_nothing tells l; input = refl };
-  }
-
-  -- the lane is broken
-  pub found_broken : MadeEvent o n (Drained lane) Broken out → Drains tells lane o n l l from Over
-  found_broken made = record {
-    entries = entry o.pass.number (Drained lane) Broken out ∷ [];
-    none_asked = refl;
-    talks = record { walk = (Over, (refl, may, refl), refl); grows = made.grows; carries = carries_nothing tells l; input = refl };
-  }
-
-  -- the history was full
-  pub found_full : UnmadeEvent o n → DrainsToStop tells lane o n l l from
-  found_full unmade = record {
-    to = from;
-    going = may;
-    drains = record {
-      entries = [];
-      none_asked = refl;
-      talks = record { walk = refl; grows = unmade.grows; carries = carries_nothing tells l; input = refl };
-    };
-    full = unmade.full;
-  }

@@ -449,3 +449,11 @@ stopped_stays tells course n m c received text more stopped = record {
   first = first_stays tells course n m c received text more end_spent tt stopped.first;
   full = stopped.full;
 }
+
+-- none of a piece was heard
+pub heard_none : (tells : Type 0) (course : Course) (n : Seat) (m : Line) (c : ChaCha) (received text piece : List ℕ) (parter : Held)
+    → Listens tells course n m c received text parter
+    → (heard : List ℕ) × (piece ≡ heard ++ piece) × Listens tells course n m c received (text ++ heard) parter
+heard_none tells course n m c received text piece parter listens =
+    let P : List ℕ → Type 0 = λ t. Listens tells course n m c received t parter in
+    ([], refl, subst P (sym (append-nil text)) listens)

@@ -8,3 +8,4 @@ pub mod HearingLemmas
 pub mod RunLemmas
 pub mod EndLemmas
 pub mod CauseLemmas
+pub mod TurnLemmas

@@ -1,5 +1,5 @@
 //! One RTSP connection of a tunnel.
-ghost use Rattle.std.specs.Prelude.{◌≡◌, ◌≢◌, ◌↔◌, length};
+ghost use Rattle.std.specs.Prelude.{◌≡◌, ◌≢◌, ◌↔◌, ◌⊎◌, length};
 ghost use Rattle.satip_history.specs.Lists.{Begins};
 ghost use Rattle.satip_parts.specs.Held.{new_parter};
 ghost use Rattle.satip_tunnel.specs.declared.events.TunnelAnswer.{TunnelAnswer};
@@ -9,7 +9,7 @@ ghost use Rattle.satip_world.specs.Counts.{Rises};
 ghost use Rattle.satip_worker.specs.Answers.{ends_with_last};
 ghost use Rattle.satip_worker.specs.Ends.{IsOver};
 ghost use Rattle.satip_tunneling.specs.Ends.{unleft_end};
-ghost use Rattle.satip_tunneling.specs.Hearing.{Talked, Finishes};
+ghost use Rattle.satip_tunneling.specs.Hearing.{Talked, Left, Unleft, Finishes};
 ghost use Rattle.satip_tunneling.specs.Seats.{seated, made_since, IsAnsweredBy};
 ghost use Rattle.satip_tunneling.specs.Served.{ServesTunnel};
 
@@ -81,6 +81,24 @@ fn unleft(end: TunnelEnd) -> TunnelEnd
     }
 }
 
+// Gives the lane up.
+fn give_up<R: Wait + Sync>(
+    caller: &mut TunnelCaller<R>,
+    lane: u32,
+    end: TunnelEnd,
+    out: &mut Out,
+) -> TunnelEnd
+    ensures leaves { Left lane (seated caller.old.server.now caller.old.pass)
+        (seated caller.new.server.now caller.new.pass) end result
+        ⊎ Unleft (seated caller.old.server.now caller.old.pass)
+        (seated caller.new.server.now caller.new.pass) end result }
+{
+    match leave(caller, lane, out) {
+        Ok(()) => end,
+        Err(Spent) => unleft(end),
+    }
+}
+
 // Gives the lane up, but where the history was full.
 fn finish<R: Wait + Sync>(
     caller: &mut TunnelCaller<R>,
@@ -91,12 +109,13 @@ fn finish<R: Wait + Sync>(
     ensures finishes { Finishes lane (seated caller.old.server.now caller.old.pass)
         (seated caller.new.server.now caller.new.pass) end result }
 {
-    if let TunnelEnd::Spent = end {
-        return TunnelEnd::Spent;
-    }
-    match leave(caller, lane, out) {
-        Ok(()) => end,
-        Err(Spent) => unleft(end),
+    match end {
+        TunnelEnd::Full => give_up(caller, lane, TunnelEnd::Full, out),
+        TunnelEnd::Broken => give_up(caller, lane, TunnelEnd::Broken, out),
+        TunnelEnd::Done => give_up(caller, lane, TunnelEnd::Done, out),
+        TunnelEnd::ReadFault => give_up(caller, lane, TunnelEnd::ReadFault, out),
+        TunnelEnd::WriteFault => give_up(caller, lane, TunnelEnd::WriteFault, out),
+        TunnelEnd::Spent => TunnelEnd::Spent,
     }
 }
 
