@@ -1,3 +1,5 @@
+use Rattle.std.specs.Fmt.{digits}
+use Rattle.satip_base.specs.Numbers.{number_of}
 use Rattle.std.proofs.Common.{◌≡◌, ◌∙◌, ℕ, List, [], ◌∷◌, ◌++◌, arith, refl, ap, subst, inl, inr}
 use Rattle.satip_base.specs.declared.network.Peer.{Peer}
 use Rattle.satip_channels.specs.Turned.{turned, ports_told, channel_line}
@@ -217,3 +219,7 @@ returns-clause-spent c = (refl, record {
 
 pub returns-clause-not_spent : goal.returns-clause-not_spent
 returns-clause-not_spent c = λ run. let e : 1 ≡ 18446744073709551615 = run.1.leaves.1 in absurd (omega (arith, e))
+
+pub returns-clause-wired : goal.returns-clause-wired
+unfolding turned ports_told channel_line number_of digits
+returns-clause-wired c = refl
