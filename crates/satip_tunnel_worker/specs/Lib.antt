@@ -1,0 +1,2 @@
+pub mod ConnRun
+pub mod WorkerRun
