@@ -1,6 +1,5 @@
 //! An outlet that sends nothing.
-ghost use Rattle.std.specs.Prelude.{◌≡◌};
-ghost use Rattle.satip_world.specs.Outboxes.{fresh_outbox};
+ghost use Rattle.std.specs.Prelude.{◌≡◌, false};
 
 use satip_base::{Address, Put};
 use satip_world::Outlet;
@@ -17,7 +16,7 @@ impl<O> Silenced<O> {
     /// An outlet that sends nothing, in the place of this one.
     pub fn over(outlet: O) -> Silenced<O>
         ensures kept { result.outlet ≡ outlet }
-        ensures fresh { Outlet.outbox result ≡ fresh_outbox }
+        ensures free { result.held ≡ false }
     {
         Silenced {
             outlet,
