@@ -1,2 +1,3 @@
 pub mod ConnRun
 pub mod WorkerRun
+pub mod Rows
