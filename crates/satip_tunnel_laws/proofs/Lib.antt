@@ -1,0 +1,4 @@
+pub mod Holding
+pub mod Turning
+pub mod Moving
+pub mod Taking

@@ -1,0 +1,2 @@
+pub mod LaneFrames
+pub mod Rows
