@@ -5,5 +5,5 @@
 mod laws;
 mod rows;
 
-pub use laws::frames_are_lanes;
-pub use rows::worked_frames;
+pub use laws::{connections_drain_own, connections_take_first, frames_are_lanes, lanes_are_own};
+pub use rows::{worked_frames, worked_owners};
