@@ -40,7 +40,7 @@ rising_behind [] b low rises = rises
 rising_behind (t ∷ ts) b low rises = rising_behind ts b low (rising_later low t.answer (numbers_in (ts ++ b)) rises)
 
 -- no number is given in two parts
-given_apart : (x : ℕ) (a b : List TunnelItem) (low : ℕ) (d e : TunnelItem) → IsRising low (numbers_in (a ++ b)) → Has d a → enters x d.event d.answer ≡ true
+pub given_apart : (x : ℕ) (a b : List TunnelItem) (low : ℕ) (d e : TunnelItem) → IsRising low (numbers_in (a ++ b)) → Has d a → enters x d.event d.answer ≡ true
     → Has e b → enters x e.event e.answer ≡ true → ⊥
 given_apart x [] b low d e rises in_a is_d in_b is_e = in_a
 given_apart x (t ∷ ts) b low d e rises (inl same) is_d in_b is_e =
