@@ -92,7 +92,8 @@ other_frame x port d is other = by (d.to.ip == x) refl (is_channel_port d.to.por
     apart : (n : ℕ) → 1 ≤ n → 1 ≤ port → n ≢ port → ((n - 1) == (port - 1)) ≡ false
     apart n low_n low never = differs (n - 1) (port - 1) (λ e. never (omega (arith, low_n, low, e)))
 
-    by : (a : Bool) → (d.to.ip == x) ≡ a → (b : Bool) → is_channel_port d.to.port ≡ b → inside (port - 1) (if a && b then frame (d.to.port - 1) d.bytes ∷ [] else []) ≡ []
+    by : (a : Bool) → (d.to.ip == x) ≡ a → (b : Bool) → is_channel_port d.to.port ≡ b
+        → inside (port - 1) (if a && b then frame (d.to.port - 1) d.bytes ∷ [] else []) ≡ []
     by true e true f =
         ap (λ b. (if b then d.bytes ∷ [] else []) ++ [])
         (apart d.to.port (channel_low d.to.port f) (channel_low port is) (other (eqb-true d.to.ip x e)))
@@ -106,10 +107,12 @@ record Channelled (us : List SetUp) (s : SessionId) (x : ℕ) (ports : Ports) : 
   channel : is_channel_port ports.rtp ≡ true
   two : ports.rtcp ≢ ports.rtp
 
-its_at : (us : List SetUp) (s : SessionId) (x : ℕ) (ports : Ports) → Channelled us s x ports → (u : SetUp) → Has u us → same_id u.session s ≡ true → (u.peer.ip ≡ x) × (u.ports ≡ ports)
+its_at : (us : List SetUp) (s : SessionId) (x : ℕ) (ports : Ports) → Channelled us s x ports → (u : SetUp) → Has u us → same_id u.session s ≡ true
+    → (u.peer.ip ≡ x) × (u.ports ≡ ports)
 its_at us s x ports has u in_us = each_at (λ (v : SetUp). same_id v.session s ≡ true → (v.peer.ip ≡ x) × (v.ports ≡ ports)) us u has.its_own in_us
 
-others_at : (us : List SetUp) (s : SessionId) (x : ℕ) (ports : Ports) → Channelled us s x ports → (u : SetUp) → Has u us → same_id u.session s ≡ false → LeavesPort x ports.rtp u
+others_at : (us : List SetUp) (s : SessionId) (x : ℕ) (ports : Ports) → Channelled us s x ports → (u : SetUp) → Has u us → same_id u.session s ≡ false
+    → LeavesPort x ports.rtp u
 others_at us s x ports has u in_us = each_at (λ (v : SetUp). same_id v.session s ≡ false → LeavesPort x ports.rtp v) us u has.others in_us
 
 one_marked : (us : List SetUp) (s : SessionId) (x : ℕ) (ports : Ports) → Channelled us s x ports → (d : Sent) → GoesToOne us d
@@ -154,8 +157,10 @@ all_marked us s x ports has (d ∷ sent) goes =
 -- entries
 
 one_entry : (us : List SetUp) (s : SessionId) (x : ℕ) (ports : Ports) → Channelled us s x ports
-    → (c : Config) (st : State) (lanes : PlainLanes) (n : ℕ) (event : TunnelEvent) (answer : TunnelAnswer) (out : Output) (rest : List (List ℕ)) (tail : List Item)
-    → IsAnswered lanes event answer out → LegalFrom c st (inner_by n event answer out ++ tail) → Each (GoesToOne us) (sent_from c st (inner_by n event answer out ++ tail))
+    → (c : Config) (st : State) (lanes : PlainLanes) (n : ℕ) (event : TunnelEvent) (answer : TunnelAnswer) (out : Output) (rest : List (List ℕ))
+    (tail : List Item)
+    → IsAnswered lanes event answer out → LegalFrom c st (inner_by n event answer out ++ tail)
+    → Each (GoesToOne us) (sent_from c st (inner_by n event answer out ++ tail))
     → ((next : State) → LegalFrom c next tail → Each (GoesToOne us) (sent_from c next tail) → Begins rest (bytes_from (is_rtp_of s) c next tail))
     → Begins (inside (ports.rtp - 1) (frames_by x event out.datagrams) ++ rest) (bytes_from (is_rtp_of s) c st (inner_by n event answer out ++ tail))
 one_entry us s x ports has c st lanes n (Inner event) (InnerAnswer answer) out rest tail answered legal goes then_rest =
@@ -179,7 +184,8 @@ one_entry us s x ports has c st lanes n Enter answer out rest tail answered lega
 one_entry us s x ports has c st lanes n (Drain number) answer out rest tail answered legal goes then_rest = then_rest st legal goes
 one_entry us s x ports has c st lanes n (Leave number) answer out rest tail answered legal goes then_rest = then_rest st legal goes
 
-until_begins : (us : List SetUp) (s : SessionId) (x : ℕ) (ports : Ports) → Channelled us s x ports → (c : Config) (ts : List TunnelItem) (st : State) (lanes : PlainLanes)
+until_begins : (us : List SetUp) (s : SessionId) (x : ℕ) (ports : Ports) → Channelled us s x ports
+    → (c : Config) (ts : List TunnelItem) (st : State) (lanes : PlainLanes)
     → LanesFrom lanes ts → LegalFrom c st (inners ts) → Each (GoesToOne us) (sent_from c st (inners ts))
     → Begins (inside (ports.rtp - 1) (frames_until ts x)) (bytes_from (is_rtp_of s) c st (inners ts))
 until_begins us s x ports has c [] st lanes all legal goes = record { rest = []; whole = refl }
@@ -188,8 +194,10 @@ until_begins us s x ports has c (t ∷ ts) st lanes all legal goes =
     (one_entry us s x ports has c st lanes t.caller t.event t.answer t.out (inside (ports.rtp - 1) (frames_until ts x)) (inners ts) all.0 legal goes
     (λ next more sent. until_begins us s x ports has c ts next (moved lanes t) all.1 more sent))
   where
-    by : (b : Bool) → Begins (inside (ports.rtp - 1) (frames_by x t.event t.out.datagrams) ++ inside (ports.rtp - 1) (frames_until ts x)) (bytes_from (is_rtp_of s) c st (inners (t ∷ ts)))
-        → Begins (inside (ports.rtp - 1) (if b then [] else frames_by x t.event t.out.datagrams ++ frames_until ts x)) (bytes_from (is_rtp_of s) c st (inners (t ∷ ts)))
+    by : (b : Bool) → Begins (inside (ports.rtp - 1) (frames_by x t.event t.out.datagrams) ++ inside (ports.rtp - 1) (frames_until ts x))
+        (bytes_from (is_rtp_of s) c st (inners (t ∷ ts)))
+        → Begins (inside (ports.rtp - 1) (if b then [] else frames_by x t.event t.out.datagrams ++ frames_until ts x))
+        (bytes_from (is_rtp_of s) c st (inners (t ∷ ts)))
     by true rest = record { rest = bytes_from (is_rtp_of s) c st (inners (t ∷ ts)); whole = refl }
     by false rest =
         subst (λ (front : List (List ℕ)). Begins front (bytes_from (is_rtp_of s) c st (inners (t ∷ ts))))
@@ -217,7 +225,8 @@ sent_from-append c st (e ∷ es) k =
     ap (λ rest. (step c st e.event).sent ++ rest) (sent_from-append c (step c st e.event).state es k)
     ∙ sym (append_assoc (step c st e.event).sent (sent_from c (step c st e.event).state es) (sent_from c (after_from c (step c st e.event).state es) k))
 
-bytes_from-append : (p : Sent → Bool) (c : Config) (st : State) (h k : List Item) → bytes_from p c st (h ++ k) ≡ bytes_from p c st h ++ bytes_from p c (after_from c st h) k
+bytes_from-append : (p : Sent → Bool) (c : Config) (st : State) (h k : List Item)
+    → bytes_from p c st (h ++ k) ≡ bytes_from p c st h ++ bytes_from p c (after_from c st h) k
 bytes_from-append p c st [] k = refl
 bytes_from-append p c st (e ∷ es) k =
     let now = bytes_marked p (step c st e.event).sent e.out.datagrams in
@@ -241,12 +250,14 @@ none_from p c [] st none = refl
 none_from p c (e ∷ es) st none =
     let sent = (step c st e.event).sent in
     let later = sent_from c (step c st e.event).state es in
-    ap (λ front. front ++ bytes_from p c (step c st e.event).state es) (none_marked p sent e.out.datagrams (Each-append_left (λ (d : Sent). p d ≡ false) sent later none))
+    ap (λ front. front ++ bytes_from p c (step c st e.event).state es)
+    (none_marked p sent e.out.datagrams (Each-append_left (λ (d : Sent). p d ≡ false) sent later none))
     ∙ none_from p c es (step c st e.event).state (Each-append_right (λ (d : Sent). p d ≡ false) sent later none)
 
 -- the lane's entry
 
-lane_from : (x : ℕ) (before later : List TunnelItem) (t : TunnelItem) → Each (λ (u : TunnelItem). enters x u.event u.answer ≡ false) before → enters x t.event t.answer ≡ true
+lane_from : (x : ℕ) (before later : List TunnelItem) (t : TunnelItem) → Each (λ (u : TunnelItem). enters x u.event u.answer ≡ false) before
+    → enters x t.event t.answer ≡ true
     → lane (before ++ t ∷ later) x ≡ frames_until later x
 lane_from x [] later t none gives = ap (λ b. if b then frames_until later x else lane later x) gives
 lane_from x (u ∷ us) later t none gives =
@@ -281,10 +292,12 @@ lane_begins goes rise c before later t s x ports legal gives none has =
     inners-append before (t ∷ later) ∙ ap (λ mid. inners before ++ (mid ++ inners later)) (no_inner x t.caller t.event t.answer t.out gives) in
     let whole : Legal c (inners before ++ inners later) = subst (Legal c) split legal.inner in
     let all_sent : Each (GoesToOne us) (sent_from c.config start (inners before) ++ sent_from c.config now (inners later)) =
-    subst (Each (GoesToOne us)) (ap (sent_from c.config start) split ∙ sent_from-append c.config start (inners before) (inners later)) (goes c (inners (before ++ t ∷ later)) legal.inner) in
+    subst (Each (GoesToOne us)) (ap (sent_from c.config start) split ∙ sent_from-append c.config start (inners before) (inners later))
+    (goes c (inners (before ++ t ∷ later)) legal.inner) in
     let none_yet : bytes_from (is_rtp_of s) c.config start (inners before) ≡ [] =
     none_from (is_rtp_of s) c.config (inners before) start
-    (each_follows (GoesToOne (set_ups c (inners before))) (λ (d : Sent). is_rtp_of s d ≡ false) (no_rtp (set_ups c (inners before)) s none) (sent_from c.config start (inners before))
+    (each_follows (GoesToOne (set_ups c (inners before))) (λ (d : Sent). is_rtp_of s d ≡ false) (no_rtp (set_ups c (inners before)) s none)
+    (sent_from c.config start (inners before))
     (goes c (inners before) (legal_before c (inners before) (inners later) whole))) in
     let bytes : bytes_for c (inners (before ++ t ∷ later)) s ≡ bytes_from (is_rtp_of s) c.config now (inners later) =
     ap (bytes_from (is_rtp_of s) c.config start) split
@@ -299,7 +312,8 @@ lane_begins goes rise c before later t s x ports legal gives none has =
     (legal_behind c.config start (inners before) (inners later) whole.entries)
     (Each-append_right (GoesToOne us) (sent_from c.config start (inners before)) (sent_from c.config now (inners later)) all_sent)))
 
-channel_begins : DatagramsGoToOne → LaneNumbersRise → (c : Setting) (h : List TunnelItem) (s : SessionId) (x : ℕ) (ports : Ports) → TunnelLegal c h → HasChannels c h s x ports
+channel_begins : DatagramsGoToOne → LaneNumbersRise → (c : Setting) (h : List TunnelItem) (s : SessionId) (x : ℕ) (ports : Ports) → TunnelLegal c h
+    → HasChannels c h s x ports
     → Begins (inside (ports.rtp - 1) (lane h x)) (bytes_for c (inners h) s)
 channel_begins goes rise c h s x ports legal has =
     let here : Channelled (set_ups c (inners h)) s x ports = record { its_own = has.its_own; others = has.others; channel = has.channel; two = has.two } in

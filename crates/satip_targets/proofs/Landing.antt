@@ -32,7 +32,8 @@ pub record Lands (us : List SetUp) (m : Move) : Type 0 where
 pub lands_still : (us : List SetUp) (st : State) → Grounded us st → Lands us (settle st)
 lands_still us st grounded = record { state = grounded; sent = tt }
 
-pub lands_then : (us : List SetUp) (m : Move) (next : State → Move) → Lands us m → ((st : State) → Grounded us st → Lands us (next st)) → Lands us (then_move m next)
+pub lands_then : (us : List SetUp) (m : Move) (next : State → Move) → Lands us m → ((st : State) → Grounded us st → Lands us (next st))
+    → Lands us (then_move m next)
 lands_then us m next first second =
     let n = second m.state first.state in
     record { state = n.state; sent = Each-append (GoesToLast us) m.sent (next m.state).sent first.sent n.sent }
@@ -47,26 +48,31 @@ pub record TurnLands (us : List SetUp) (t : Turn) : Type 0 where
   pub sends : Each (GoesToLast us) t.sends
   pub after : StaysGrounded us t.after
 
-cons_grounded : (us : List SetUp) (o : Option Session) (xs : List Session) → StaysGrounded us o → Each (IsGrounded us) xs → Each (IsGrounded us) (cons_option o xs)
+cons_grounded : (us : List SetUp) (o : Option Session) (xs : List Session) → StaysGrounded us o → Each (IsGrounded us) xs
+    → Each (IsGrounded us) (cons_option o xs)
 cons_grounded us None xs one rest = rest
 cons_grounded us (Some x) xs one rest = (one, rest)
 
-round_after : (us : List SetUp) (turn : Session → Turn) → ((x : Session) → IsGrounded us x → TurnLands us (turn x)) → (xs : List Session) → Each (IsGrounded us) xs
+round_after : (us : List SetUp) (turn : Session → Turn) → ((x : Session) → IsGrounded us x → TurnLands us (turn x)) → (xs : List Session)
+    → Each (IsGrounded us) xs
     → Each (IsGrounded us) (filter_map (λ s. (turn s).after) xs)
 round_after us turn lands [] grounded = tt
 round_after us turn lands (x ∷ xs) grounded =
     cons_grounded us (turn x).after (filter_map (λ s. (turn s).after) xs) (lands x grounded.0).after (round_after us turn lands xs grounded.1)
 
-round_sends : (us : List SetUp) (turn : Session → Turn) → ((x : Session) → IsGrounded us x → TurnLands us (turn x)) → (xs : List Session) → Each (IsGrounded us) xs
+round_sends : (us : List SetUp) (turn : Session → Turn) → ((x : Session) → IsGrounded us x → TurnLands us (turn x)) → (xs : List Session)
+    → Each (IsGrounded us) xs
     → Each (GoesToLast us) (flat_map (λ s. (turn s).sends) xs)
 round_sends us turn lands [] grounded = tt
 round_sends us turn lands (x ∷ xs) grounded =
     Each-append (GoesToLast us) (turn x).sends (flat_map (λ s. (turn s).sends) xs) (lands x grounded.0).sends (round_sends us turn lands xs grounded.1)
 
-pub lands_each : (us : List SetUp) (turn : Session → Turn) (st : State) → ((x : Session) → IsGrounded us x → TurnLands us (turn x)) → Grounded us st → Lands us (each turn st)
+pub lands_each : (us : List SetUp) (turn : Session → Turn) (st : State) → ((x : Session) → IsGrounded us x → TurnLands us (turn x)) → Grounded us st
+    → Lands us (each turn st)
 lands_each us turn st lands grounded = record { state = round_after us turn lands st.sessions grounded; sent = round_sends us turn lands st.sessions grounded }
 
-pub lands_some : (us : List SetUp) (p : Session → Bool) (turn : Session → Turn) (st : State) → ((x : Session) → p x ≡ true → IsGrounded us x → TurnLands us (turn x))
+pub lands_some : (us : List SetUp) (p : Session → Bool) (turn : Session → Turn) (st : State)
+    → ((x : Session) → p x ≡ true → IsGrounded us x → TurnLands us (turn x))
     → Grounded us st → Lands us (each_of p turn st)
 lands_some us p turn st lands grounded = lands_each us (λ x. if p x then turn x else record { sends = []; after = Some x }) st by grounded
   where
@@ -78,7 +84,8 @@ lands_some us p turn st lands grounded = lands_each us (λ x. if p x then turn x
         at false e = record { sends = tt; after = is }
 
 -- what is held of an RTSP session goes to its address
-rtp_goes : (us : List SetUp) (clock : ℕ) (x : Session) (count : ℕ) (groups : List (List (List ℕ))) → last_of x.id us ≡ Some (as_set_up x) → Each (GoesToLast us) (as_rtp clock x count groups)
+rtp_goes : (us : List SetUp) (clock : ℕ) (x : Session) (count : ℕ) (groups : List (List (List ℕ))) → last_of x.id us ≡ Some (as_set_up x)
+    → Each (GoesToLast us) (as_rtp clock x count groups)
 rtp_goes us clock x count [] is = tt
 rtp_goes us clock x count (packets ∷ more) is = (ap (option_map rtp_address) is, rtp_goes us clock x (count + 1) more is)
 
@@ -133,7 +140,8 @@ lands_end us st p grounded =
     let gone = lands_some us p (part st.clock) st (λ x e is. part_lands us st.clock x is) grounded in
     record { state = gone.state; sent = gone.sent }
 
-retuned_grounded : (us : List SetUp) (c : Config) (number : ℕ) (tuning : Tuning) (st : State) → Grounded us st → (o : Option Place) → Grounded us (option_map_or (put_at c number tuning st) o st)
+retuned_grounded : (us : List SetUp) (c : Config) (number : ℕ) (tuning : Tuning) (st : State) → Grounded us st → (o : Option Place)
+    → Grounded us (option_map_or (put_at c number tuning st) o st)
 retuned_grounded us c number tuning st grounded None = grounded
 retuned_grounded us c number tuning st grounded (Some place) = grounded
 
@@ -146,7 +154,8 @@ lands_retune us c number st tuning grounded =
     (λ now g. lands_still us (option_map_or (put_at c number tuning now) (choose (outlook_of c now number) (mux_of c.muxes tuning) tuning) now)
     (retuned_grounded us c number tuning now g (choose (outlook_of c now number) (mux_of c.muxes tuning) tuning)))
 
-retune_if : (us : List SetUp) (c : Config) (number : ℕ) (st : State) → Grounded us st → (o : Option Tuning) → Lands us (option_map_or (retune c number st) o (settle st))
+retune_if : (us : List SetUp) (c : Config) (number : ℕ) (st : State) → Grounded us st → (o : Option Tuning)
+    → Lands us (option_map_or (retune c number st) o (settle st))
 retune_if us c number st grounded None = lands_still us st grounded
 retune_if us c number st grounded (Some tuning) = lands_retune us c number st tuning grounded
 
@@ -159,7 +168,8 @@ lands_change_by us c number query st grounded =
     (λ now g. lands_still us (change_stream number (λ t. record t { pids = new_pids t.pids query }) now) g)
 
 -- sessions of which some are moved by one more SETUP
-pub grounded_moved : (before us : List SetUp) (p : Session → Bool) (f : Session → Session) (xs : List Session) → ((x : Session) → p x ≡ true → IsGrounded us (f x))
+pub grounded_moved : (before us : List SetUp) (p : Session → Bool) (f : Session → Session) (xs : List Session)
+    → ((x : Session) → p x ≡ true → IsGrounded us (f x))
     → ((x : Session) → p x ≡ false → IsGrounded before x → IsGrounded us x) → Each (IsGrounded before) xs → Each (IsGrounded us) (change_where p f xs)
 grounded_moved before us p f [] on off grounded = tt
 grounded_moved before us p f (x ∷ xs) on off grounded = (at (p x) refl, grounded_moved before us p f xs on off grounded.1)
@@ -169,7 +179,8 @@ grounded_moved before us p f (x ∷ xs) on off grounded = (at (p x) refl, ground
     at false e = off x e grounded.0
 
 -- sessions that are changed, but for where they are
-pub grounded_change : (us : List SetUp) (p : Session → Bool) (f : Session → Session) (xs : List Session) → ((x : Session) → IsGrounded us x → IsGrounded us (f x))
+pub grounded_change : (us : List SetUp) (p : Session → Bool) (f : Session → Session) (xs : List Session)
+    → ((x : Session) → IsGrounded us x → IsGrounded us (f x))
     → Each (IsGrounded us) xs → Each (IsGrounded us) (change_where p f xs)
 grounded_change us p f [] keeps grounded = tt
 grounded_change us p f (x ∷ xs) keeps grounded = (at (p x), grounded_change us p f xs keeps grounded.1)
@@ -184,7 +195,8 @@ lands_tick us c now st grounded =
     lands_then us (each_of (λ s. not s.http) (let_go true clock) (record st { clock = clock }))
     (λ flushed. then_move (end_where (is_expired c flushed.clock) flushed) (λ left. send_reports c left))
     (lands_some us (λ s. not s.http) (let_go true clock) (record st { clock = clock }) (λ x e is. let_go_lands us true clock x (not_true x.http e) is) grounded)
-    (λ flushed g. lands_then us (end_where (is_expired c flushed.clock) flushed) (λ left. send_reports c left) (lands_end us flushed (is_expired c flushed.clock) g)
+    (λ flushed g. lands_then us (end_where (is_expired c flushed.clock) flushed) (λ left. send_reports c left)
+    (lands_end us flushed (is_expired c flushed.clock) g)
     (λ left k. lands_some us (is_due left.clock) (λ s. record { sends = report_of c left s; after = Some (record s { reported = Some left.clock }) }) left
     (λ x e is. record { sends = report_goes us c left x (is (due_rtsp left.clock x _ e)) (stream_of left x.stream); after = is }) k))
 

@@ -114,7 +114,8 @@ next_other st draw x few = by (same_id (next_id st draw) x.id) refl
     by true e = let same : st.made + 1 ≡ x.id.count = ap (λ i. i.count) (id_is (next_id st draw) x.id e) in absurd (omega (arith, same, few))
     by false e = refl
 
-still_grounded : (us : List SetUp) (u : SetUp) (st : State) (draw : Draw) → u.session ≡ next_id st draw → (xs : List Session) → Below st.made xs → Each (IsGrounded us) xs
+still_grounded : (us : List SetUp) (u : SetUp) (st : State) (draw : Draw) → u.session ≡ next_id st draw → (xs : List Session) → Below st.made xs
+    → Each (IsGrounded us) xs
     → Each (IsGrounded (us ++ u ∷ [])) xs
 still_grounded us u st draw is [] below grounded = tt
 still_grounded us u st draw is (x ∷ xs) below grounded = (
@@ -123,8 +124,10 @@ still_grounded us u st draw is (x ∷ xs) below grounded = (
 )
 
 -- a SETUP that names no session makes one
-made_grounded : (us : List SetUp) (u : SetUp) (peer : Peer) (draw : Draw) (ports : Ports) (r : Request) (st : State) → Below st.made st.sessions → Grounded us st
-    → session_named st r.session ≡ None → u ≡ record { session = next_id st draw; peer = peer; ports = ports } → Grounded (us ++ u ∷ []) (set_up peer draw ports r st)
+made_grounded : (us : List SetUp) (u : SetUp) (peer : Peer) (draw : Draw) (ports : Ports) (r : Request) (st : State) → Below st.made st.sessions
+    → Grounded us st
+    → session_named st r.session ≡ None → u ≡ record { session = next_id st draw; peer = peer; ports = ports } → Grounded (us ++ u ∷ [])
+    (set_up peer draw ports r st)
 made_grounded us u peer draw ports r st below grounded none is =
     subst (λ o. Grounded (us ++ u ∷ []) (option_map_or (λ s. change_session s.id (λ x. record x { peer = peer; ports = ports }) st) o
     (option_map_or (λ number. join false peer draw ports number st) r.stream (found false peer draw ports st)))) (sym none) (by r.stream)
@@ -135,7 +138,8 @@ made_grounded us u peer draw ports r st below grounded none is =
     new : (number : ℕ) → Each (IsGrounded (us ++ u ∷ [])) (st.sessions ++ new_session st false peer draw ports number ∷ [])
     new number =
         Each-append (IsGrounded (us ++ u ∷ [])) st.sessions (new_session st false peer draw ports number ∷ [])
-        (still_grounded us u st draw session st.sessions below grounded) ((λ rtsp. last_this (next_id st draw) us u session ∙ ap (λ (v : SetUp). Some v) is), tt)
+        (still_grounded us u st draw session st.sessions below grounded)
+        ((λ rtsp. last_this (next_id st draw) us u session ∙ ap (λ (v : SetUp). Some v) is), tt)
 
     by : (o : Option ℕ) → Grounded (us ++ u ∷ []) (option_map_or (λ number. join false peer draw ports number st) o (found false peer draw ports st))
     by None = new (least_free st.streams)
@@ -170,9 +174,11 @@ pub record StepLands (us : List SetUp) (o : Outcome) : Type 0 where
 moves : (us : List SetUp) (m : Move) (answer : Answer) (reply : List ℕ) → Lands us m → StepLands us (Steps.outcome m answer reply)
 moves us m answer reply lands = record { state = lands.state; sent = lands.sent }
 
-setup_lands : (us : List SetUp) (c : Config) (peer : Peer) (draw : Draw) (r : Request) (st : State) (g : Readings) → Below st.made st.sessions → st.made ≡ length g.made
+setup_lands : (us : List SetUp) (c : Config) (peer : Peer) (draw : Draw) (r : Request) (st : State) (g : Readings) → Below st.made st.sessions
+    → st.made ≡ length g.made
     → Grounded us st → session_missing st r ≡ false → needs_session r.method ≡ false
-    → StepLands (us ++ record { session = session_of g draw r.session; peer = peer; ports = unwrap_or r.ports no_ports } ∷ []) (Steps.setup c peer draw r (heard_by r st))
+    → StepLands (us ++ record { session = session_of g draw r.session; peer = peer; ports = unwrap_or r.ports no_ports } ∷ [])
+    (Steps.setup c peer draw r (heard_by r st))
 setup_lands us c peer draw r st g below count grounded missing needs = at (session_named st r.session) refl
   where
     ports : Ports
@@ -189,7 +195,8 @@ setup_lands us c peer draw r st g below count grounded missing needs = at (sessi
     with_session : SessionId → SetUp
     with_session i = record { session = i; peer = peer; ports = ports }
 
-    no_name : (b : Bool) → names_none r.session ≡ b → session_named st r.session ≡ None → (if b then needs_session r.method else is_none (session_named st r.session)) ≡ false → names_none r.session ≡ true
+    no_name : (b : Bool) → names_none r.session ≡ b → session_named st r.session ≡ None
+        → (if b then needs_session r.method else is_none (session_named st r.session)) ≡ false → names_none r.session ≡ true
     no_name true e none f = e
     no_name false e none f = absurd (true≢false (sym (ap is_none none) ∙ f))
 
@@ -218,11 +225,14 @@ abbrev setup_if : Bool → SetUp → List SetUp
 setup_if b u = if b then u ∷ [] else []
 
 stays : (us : List SetUp) (st : State) (answer : Answer) (reply : List ℕ) → Grounded us st → StepLands (us ++ []) (Steps.outcome (settle st) answer reply)
-stays us st answer reply grounded = subst (λ (vs : List SetUp). StepLands vs (Steps.outcome (settle st) answer reply)) (sym (append-nil us)) (record { state = grounded; sent = tt })
+stays us st answer reply grounded = subst (λ (vs : List SetUp). StepLands vs (Steps.outcome (settle st) answer reply)) (sym (append-nil us))
+    (record { state = grounded; sent = tt })
 
-done_lands : (m : Method) (us : List SetUp) (c : Config) (peer : Peer) (draw : Draw) (r : Request) (st : State) (g : Readings) → Below st.made st.sessions → st.made ≡ length g.made
+done_lands : (m : Method) (us : List SetUp) (c : Config) (peer : Peer) (draw : Draw) (r : Request) (st : State) (g : Readings) → Below st.made st.sessions
+    → st.made ≡ length g.made
     → Grounded us st → session_missing st r ≡ false → r.method ≡ m
-    → StepLands (us ++ setup_if (is_setup m) (record { session = session_of g draw r.session; peer = peer; ports = unwrap_or r.ports no_ports })) (done_by m c peer draw r (heard_by r st))
+    → StepLands (us ++ setup_if (is_setup m) (record { session = session_of g draw r.session; peer = peer; ports = unwrap_or r.ports no_ports }))
+    (done_by m c peer draw r (heard_by r st))
 done_lands Options us c peer draw r st g below count grounded missing is = stays us (heard_by r st) _ _ (heard_grounded us r st grounded)
 done_lands Describe us c peer draw r st g below count grounded missing is = stays us (heard_by r st) _ _ (heard_grounded us r st grounded)
 done_lands Setup us c peer draw r st g below count grounded missing is = setup_lands us c peer draw r st g below count grounded missing (ap needs_session is)
@@ -233,7 +243,8 @@ done_lands Play us c peer draw r st g below count grounded missing is =
     at None = record { state = heard_grounded us r st grounded; sent = tt }
     at (Some x) = play_lands us c r (heard_by r st) x (heard_grounded us r st grounded)
 done_lands Teardown us c peer draw r st g below count grounded missing is =
-    subst (λ (vs : List SetUp). StepLands vs (done_by Teardown c peer draw r (heard_by r st))) (sym (append-nil us)) (at (session_named (heard_by r st) r.session))
+    subst (λ (vs : List SetUp). StepLands vs (done_by Teardown c peer draw r (heard_by r st))) (sym (append-nil us))
+    (at (session_named (heard_by r st) r.session))
   where
     at : (o : Option Session) → StepLands us (option_map_or (teardown_of r (heard_by r st)) o (Steps.accepted (settle (heard_by r st)) []))
     at None = record { state = heard_grounded us r st grounded; sent = tt }
@@ -242,14 +253,16 @@ done_lands Teardown us c peer draw r st g below count grounded missing is =
         record { state = lands.state; sent = lands.sent }
 
 -- an accepted request is answered as such
-done_accepted : (m : Method) (c : Config) (peer : Peer) (draw : Draw) (r : Request) (st : State) → is_setup m ≡ true → is_accepted (done_by m c peer draw r st).answer ≡ true
+done_accepted : (m : Method) (c : Config) (peer : Peer) (draw : Draw) (r : Request) (st : State) → is_setup m ≡ true
+    → is_accepted (done_by m c peer draw r st).answer ≡ true
 done_accepted Setup c peer draw r st e = refl
 done_accepted Options c peer draw r st e = cc
 done_accepted Describe c peer draw r st e = cc
 done_accepted Play c peer draw r st e = cc
 done_accepted Teardown c peer draw r st e = cc
 
-request_lands : (us : List SetUp) (c : Config) (peer : Peer) (draw : Draw) (r : Request) (answer : Answer) (st : State) (g : Readings) → Below st.made st.sessions → st.made ≡ length g.made
+request_lands : (us : List SetUp) (c : Config) (peer : Peer) (draw : Draw) (r : Request) (answer : Answer) (st : State) (g : Readings)
+    → Below st.made st.sessions → st.made ≡ length g.made
     → Grounded us st → answer ≡ (step c st (Asked peer draw r)).answer
     → StepLands (us ++ (if is_accepted answer then set_up_by g (Asked peer draw r) else [])) (step c st (Asked peer draw r))
 request_lands us c peer draw r answer st g below count grounded told = at (decide c st r) refl told
@@ -263,8 +276,10 @@ request_lands us c peer draw r answer st g below count grounded told = at (decid
     accepted false true e is lands = absurd (true≢false (sym (is refl)))
     accepted false false e is lands = lands
 
-    at : (o : Option Refused) → decide c st r ≡ o → answer ≡ (option_map_or (Steps.refuse r (heard_by r st)) o (done_by r.method c peer draw r (heard_by r st))).answer
-        → StepLands (us ++ (if is_accepted answer then set_up_by g (Asked peer draw r) else [])) (option_map_or (Steps.refuse r (heard_by r st)) o (done_by r.method c peer draw r (heard_by r st)))
+    at : (o : Option Refused) → decide c st r ≡ o
+        → answer ≡ (option_map_or (Steps.refuse r (heard_by r st)) o (done_by r.method c peer draw r (heard_by r st))).answer
+        → StepLands (us ++ (if is_accepted answer then set_up_by g (Asked peer draw r) else []))
+        (option_map_or (Steps.refuse r (heard_by r st)) o (done_by r.method c peer draw r (heard_by r st)))
     at None e f =
         accepted (is_accepted answer) (is_setup r.method) refl (λ is. ap is_accepted f ∙ done_accepted r.method c peer draw r (heard_by r st) is)
         (done_lands r.method us c peer draw r st g below count grounded (not_missing c st r e) refl)
@@ -285,10 +300,13 @@ get_lands us c peer draw r st grounded = at (decide_get c st r)
     now : State
     now = found true peer draw no_ports st
 
-    at : (o : Option Refused) → StepLands us (option_map_or (λ refused. Steps.outcome (settle st) (Get (GetRefused refused.status)) (http_refusal refused.status refused.body)) o (start c peer draw r st))
+    at : (o : Option Refused)
+        → StepLands us (option_map_or (λ refused. Steps.outcome (settle st) (Get (GetRefused refused.status))
+        (http_refusal refused.status refused.body)) o (start c peer draw r st))
     at None =
         let lands = lands_change_by us c number r.query now
-        (Each-append (IsGrounded us) st.sessions (new_session st true peer draw no_ports number ∷ []) grounded (http_grounded us (new_session st true peer draw no_ports number) refl, tt)) in
+        (Each-append (IsGrounded us) st.sessions (new_session st true peer draw no_ports number ∷ []) grounded
+        (http_grounded us (new_session st true peer draw no_ports number) refl, tt)) in
         record { state = lands.state; sent = lands.sent }
     at (Some x) = record { state = grounded; sent = tt }
 
@@ -298,7 +316,8 @@ pull_lands us id st grounded = at (http_session st id)
     some : (x : Session) (packets : List (List ℕ)) → StepLands us (pull_some st x packets)
     some x [] = record { state = grounded_change us (is_session x.id) (λ s. record s { heard = st.clock }) st.sessions (λ y is. is) grounded; sent = tt }
     some x (p ∷ ps) = record {
-      state = grounded_change us (is_session x.id) (λ y. record y { heard = st.clock; sizes = y.sizes ++ length (take Steps.most_pulled (p ∷ ps)) ∷ [] }) st.sessions (λ y is. is) grounded;
+      state = grounded_change us (is_session x.id)
+          (λ y. record y { heard = st.clock; sizes = y.sizes ++ length (take Steps.most_pulled (p ∷ ps)) ∷ [] }) st.sessions (λ y is. is) grounded;
       sent = tt;
     }
 
@@ -309,7 +328,8 @@ pull_lands us id st grounded = at (http_session st id)
 close_lands : (us : List SetUp) (id : SessionId) (st : State) → Grounded us st → StepLands us (on_close id st)
 close_lands us id st grounded = at (http_session st id)
   where
-    at : (o : Option Session) → StepLands us (option_map_or (λ s. Steps.outcome (end_where (is_session id) st) (Closed Yes) []) o (Steps.outcome (settle st) (Closed ClosedGone) []))
+    at : (o : Option Session)
+        → StepLands us (option_map_or (λ s. Steps.outcome (end_where (is_session id) st) (Closed Yes) []) o (Steps.outcome (settle st) (Closed ClosedGone) []))
     at None = record { state = grounded; sent = tt }
     at (Some x) = let lands = lands_end us st (is_session id) grounded in record { state = lands.state; sent = lands.sent }
 
@@ -324,13 +344,15 @@ none_more : (us : List SetUp) (b : Bool) (o : Outcome) → StepLands us o → St
 none_more us true o lands = subst (λ (vs : List SetUp). StepLands vs o) (sym (append-nil us)) lands
 none_more us false o lands = subst (λ (vs : List SetUp). StepLands vs o) (sym (append-nil us)) lands
 
-pub step_lands : (us : List SetUp) (c : Config) (st : State) (g : Readings) (e : Event) (answer : Answer) → Below st.made st.sessions → st.made ≡ length g.made → Grounded us st
+pub step_lands : (us : List SetUp) (c : Config) (st : State) (g : Readings) (e : Event) (answer : Answer) → Below st.made st.sessions
+    → st.made ≡ length g.made → Grounded us st
     → answer ≡ (step c st e).answer → StepLands (us ++ (if is_accepted answer then set_up_by g e else [])) (step c st e)
 step_lands us c st g (Asked peer draw r) answer below count grounded told = request_lands us c peer draw r answer st g below count grounded told
 step_lands us c st g (Got peer draw r) answer below count grounded told = none_more us (is_accepted answer) _ (get_lands us c peer draw r st grounded)
 step_lands us c st g (Tick now) answer below count grounded told =
     none_more us (is_accepted answer) _ (let lands = lands_tick us c now st grounded in record { state = lands.state; sent = lands.sent })
-step_lands us c st g (Packet front tune packet) answer below count grounded told = none_more us (is_accepted answer) _ (packet_lands us front tune packet st grounded)
+step_lands us c st g (Packet front tune packet) answer below count grounded told = none_more us (is_accepted answer) _
+    (packet_lands us front tune packet st grounded)
 step_lands us c st g (Ended front tune) answer below count grounded told = none_more us (is_accepted answer) _ (record { state = grounded; sent = tt })
 step_lands us c st g (Ask front) answer below count grounded told = none_more us (is_accepted answer) _ (record { state = grounded; sent = tt })
 step_lands us c st g (Pull id) answer below count grounded told = none_more us (is_accepted answer) _ (pull_lands us id st grounded)
@@ -358,7 +380,8 @@ record StandStep (us : List SetUp) (c : Config) (st : State) (g : Readings) (e :
   next : Stand (us ++ set_up_in g e) c (step c st e.event).state (read_one c g e)
   sent : Each (GoesToLast (us ++ set_up_in g e)) (step c st e.event).sent
 
-stand_step : (us : List SetUp) (c : Config) (st : State) (g : Readings) (e : Item) (es : List Item) → Stand us c st g → IsEvent e.event → LegalFrom c st (e ∷ es) → StandStep us c st g e
+stand_step : (us : List SetUp) (c : Config) (st : State) (g : Readings) (e : Item) (es : List Item) → Stand us c st g → IsEvent e.event
+    → LegalFrom c st (e ∷ es) → StandStep us c st g e
 stand_step us c st g e es stand is legal =
     let lands = step_lands us c st g e.event e.answer stand.sound.below stand.agrees.loosely.made stand.grounded legal.0.answer in
     record {
@@ -370,10 +393,12 @@ stand_step us c st g e es stand is legal =
       sent = lands.sent;
     }
 
-last_goes : (us : List SetUp) (c : Config) (st : State) (g : Readings) (h : List Item) (e : Item) → Stand us c st g → Each (λ (x : Item). IsEvent x.event) (h ++ e ∷ []) → LegalFrom c st (h ++ e ∷ [])
+last_goes : (us : List SetUp) (c : Config) (st : State) (g : Readings) (h : List Item) (e : Item) → Stand us c st g
+    → Each (λ (x : Item). IsEvent x.event) (h ++ e ∷ []) → LegalFrom c st (h ++ e ∷ [])
     → Each (GoesToLast (us ++ set_ups_from c g (h ++ e ∷ []))) (step c (after_from c st h) e.event).sent
 last_goes us c st g [] e stand is legal =
-    subst (λ (vs : List SetUp). Each (GoesToLast (us ++ vs)) (step c st e.event).sent) (sym (append-nil (set_up_in g e))) (stand_step us c st g e [] stand is.0 legal).sent
+    subst (λ (vs : List SetUp). Each (GoesToLast (us ++ vs)) (step c st e.event).sent) (sym (append-nil (set_up_in g e)))
+    (stand_step us c st g e [] stand is.0 legal).sent
 last_goes us c st g (x ∷ h) e stand is legal =
     subst (λ (vs : List SetUp). Each (GoesToLast vs) (step c (after_from c (step c st x.event).state h) e.event).sent)
     (append_assoc us (set_up_in g x) (set_ups_from c (read_one c g x) (h ++ e ∷ [])))
@@ -400,7 +425,8 @@ last_is s (v ∷ vs) u e = by (last_of s vs) refl (same_id v.session s) refl e (
         record { has = inl (sym same); session = ap (λ (w : SetUp). w.session) (sym same) ∙ id_is v.session s g }
     by None f false g h rest = cc
 
-goes_where : (us : List SetUp) (s : SessionId) (to : Address) (address : SetUp → Address) → option_map address (last_of s us) ≡ Some to → GoesWhere us s to address
+goes_where : (us : List SetUp) (s : SessionId) (to : Address) (address : SetUp → Address) → option_map address (last_of s us) ≡ Some to
+    → GoesWhere us s to address
 goes_where us s to address e = by (last_of s us) refl e
   where
     some_is : (a b : Address) → Some a ≡ Some b → b ≡ a
@@ -423,7 +449,8 @@ more_setups : (us vs : List SetUp) (d : Sent) → GoesToOne us d → GoesToOne (
 more_setups us vs (Rtp id to number clock ssrc packets) goes = more_where us vs id to rtp_address goes
 more_setups us vs (Report id view sender) goes = more_where us vs id sender.to rtcp_address goes
 
-all_go : (us : List SetUp) (c : Config) (st : State) (g : Readings) (h : List Item) → Stand us c st g → Each (λ (x : Item). IsEvent x.event) h → LegalFrom c st h
+all_go : (us : List SetUp) (c : Config) (st : State) (g : Readings) (h : List Item) → Stand us c st g → Each (λ (x : Item). IsEvent x.event) h
+    → LegalFrom c st h
     → Each (GoesToOne (us ++ set_ups_from c g h)) (sent_from c st h)
 all_go us c st g [] stand is legal = tt
 all_go us c st g (e ∷ es) stand is legal =
