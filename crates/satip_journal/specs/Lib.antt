@@ -1,4 +1,6 @@
 pub mod Places
+pub mod Typed
+pub mod Journals
 pub mod Logs
 pub mod Owning
 pub mod Keeping

@@ -3,6 +3,7 @@ ghost use Rattle.std.specs.Prelude.{◌≡◌, false};
 ghost use Rattle.satip_journal.specs.Owning.{KnowsOwn, knows_own_prop};
 ghost use Rattle.satip_journal.specs.Logs.{Logs};
 
+use crate::typed::known_item;
 use satip_base::{Out, Put, Sink, Spent};
 use satip_plain::{Answer, Event};
 use satip_records::{LineRoom, write_entry};
@@ -113,6 +114,7 @@ impl<'a, R: Wait + Sync, K: Sink> Service for Journal<'a, R, K> {
         let caller = &mut self.caller;
         match caller.server.call(caller.rt, &mut caller.pass, event, out) {
             Ok(answer) => {
+                known_item(event, &answer, out);
                 let place = caller.pass.place() - 1;
                 if self.failed {
                     return Ok(answer);

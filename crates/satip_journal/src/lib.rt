@@ -3,6 +3,7 @@
 
 mod journal;
 mod rows;
+mod typed;
 
 pub use journal::Journal;
 pub use rows::worked_journal;
