@@ -4,5 +4,6 @@ pub mod Journals
 pub mod Logs
 pub mod Owning
 pub mod Keeping
+pub mod Gears
 pub mod Continuing
 pub mod Rows

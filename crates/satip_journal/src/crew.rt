@@ -1,0 +1,100 @@
+//! Journals of callers that are split off from one and joined into it again.
+ghost use Rattle.std.specs.Prelude.{◌≡◌};
+ghost use Rattle.satip_plain.specs.declared.events.Event.TheVariants.{Stop};
+ghost use Rattle.satip_plain.specs.Histories.{Legal};
+ghost use Rattle.satip_journal.specs.Gears.{gear_of};
+ghost use Rattle.satip_journal.specs.Keeping.{kept, SameJournal};
+
+use crate::journal::Journal;
+use satip_base::{Out, Sink};
+use satip_crew::{Crew, ServeEnd};
+use satip_plain::{Answer, Event};
+use satip_records::LineRoom;
+use satip_service::Service;
+use satip_shared::Caller;
+use std::sync::Wait;
+
+/// What a job's journal has beside its caller: the job's number, the sink and the room of its lines,
+/// and whether a put failed.
+#[derive(Drop)]
+pub struct JournalGear<K> {
+    pub number: u64,
+    pub sink: K,
+    pub line: LineRoom,
+    pub failed: bool,
+}
+
+impl<'a, R: Wait + Sync, K: Sink + Send + Drop> Crew for Journal<'a, R, K> {
+    type Asks = Event;
+
+    type Answers = Answer;
+
+    type Gear = JournalGear<K>;
+
+    ghost cell = { λ s. s.caller.server.now };
+
+    ghost pass = { λ s. s.caller.pass };
+
+    ghost gear = { λ s. gear_of s.number s.sink s.line s.failed };
+
+    ghost legal = { λ c h. Legal c h };
+
+    ghost is_stop = { λ e. e.event ≡ Stop };
+
+    ghost goes_on = { λ s t. SameJournal K.tells
+        (kept s.caller.server.now s.caller.pass s.number (K.drain s.sink) s.failed)
+        (kept t.caller.server.now t.caller.pass t.number (K.drain t.sink) t.failed) };
+
+    fn split(&mut self, given: JournalGear<K>) -> Self {
+        let JournalGear {
+            number,
+            sink,
+            line,
+            failed,
+        } = given;
+        let caller = &mut self.caller;
+        let pass = caller.server.split(&mut caller.pass);
+        Journal {
+            caller: Caller {
+                rt: caller.rt,
+                server: caller.server,
+                pass,
+            },
+            number,
+            sink,
+            line,
+            failed,
+        }
+    }
+
+    fn join(&mut self, other: Self) -> JournalGear<K> {
+        let Journal {
+            caller: joined,
+            number,
+            sink,
+            line,
+            failed,
+        } = other;
+        let Caller {
+            rt: _,
+            server: _,
+            pass,
+        } = joined;
+        let caller = &mut self.caller;
+        caller.server.join(&mut caller.pass, pass);
+        JournalGear {
+            number,
+            sink,
+            line,
+            failed,
+        }
+    }
+
+    /// Makes the event `Stop`, and puts its line. It waits.
+    fn stop(&mut self, out: &mut Out) -> ServeEnd {
+        match self.call(&Event::Stop, out) {
+            Ok(_answer) => ServeEnd::Served,
+            Err(_fault) => ServeEnd::HistoryFull,
+        }
+    }
+}
