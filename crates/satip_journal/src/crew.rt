@@ -1,15 +1,18 @@
 //! Journals of callers that are split off from one and joined into it again.
-ghost use Rattle.std.specs.Prelude.{◌≡◌};
+ghost use Rattle.std.specs.Prelude.{◌≡◌, false};
 ghost use Rattle.satip_plain.specs.declared.events.Event.TheVariants.{Stop};
 ghost use Rattle.satip_plain.specs.Histories.{Legal};
+ghost use Rattle.satip_records.specs.Lines.{start_line};
 ghost use Rattle.satip_journal.specs.Gears.{gear_of};
 ghost use Rattle.satip_journal.specs.Keeping.{kept, SameJournal};
+ghost use Rattle.satip_journal.specs.Logs.{Logs};
+ghost use Rattle.satip_journal.specs.Owning.{KnowsOwn};
 
-use crate::journal::Journal;
+use crate::journal::{Journal, fails_to_put};
 use satip_base::{Out, Sink};
 use satip_crew::{Crew, ServeEnd};
 use satip_plain::{Answer, Event};
-use satip_records::LineRoom;
+use satip_records::{LineRoom, write_start};
 use satip_service::Service;
 use satip_shared::Caller;
 use std::sync::Wait;
@@ -22,6 +25,57 @@ pub struct JournalGear<K> {
     pub sink: K,
     pub line: LineRoom,
     pub failed: bool,
+}
+
+impl<K: Sink> JournalGear<K> {
+    /// The journal of the job of this number, of whose lines none was put yet.
+    pub fn new(number: u64, sink: K, line: LineRoom) -> JournalGear<K>
+        ensures number { result.number ≡ number }
+        ensures sink { result.sink ≡ sink }
+        ensures open { result.failed ≡ false }
+    {
+        JournalGear {
+            number,
+            sink,
+            line,
+            failed: false,
+        }
+    }
+
+    /// Puts the line of the moment at which the history starts, in milliseconds.
+    pub fn start(&mut self, now: u64)
+        requires open { self.old.failed ≡ false }
+        ensures number { self.new.number ≡ self.old.number }
+        ensures logs { Logs K.tells (K.drain self.old.sink) (K.drain self.new.sink) false
+            self.new.failed (start_line now) }
+    {
+        write_start(now, &mut self.line);
+        self.failed = fails_to_put(&mut self.sink, self.line.bytes());
+    }
+}
+
+impl<'a, R: Wait + Sync, K: Sink> Journal<'a, R, K> {
+    /// The journal of a caller that goes on with this gear.
+    pub fn with_gear(caller: Caller<'a, R>, gear: JournalGear<K>) -> Journal<'a, R, K>
+        requires own { KnowsOwn caller.pass }
+        ensures server { result.caller.server.now ≡ caller.entry.server.now }
+        ensures pass { result.caller.pass ≡ caller.entry.pass }
+        ensures gear { gear_of result.number result.sink result.line result.failed ≡ gear }
+    {
+        let JournalGear {
+            number,
+            sink,
+            line,
+            failed,
+        } = gear;
+        Journal {
+            caller,
+            number,
+            sink,
+            line,
+            failed,
+        }
+    }
 }
 
 impl<'a, R: Wait + Sync, K: Sink + Send + Drop> Crew for Journal<'a, R, K> {

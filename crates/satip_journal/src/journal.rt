@@ -45,7 +45,7 @@ impl<'a, R: Wait + Sync, K: Sink> Journal<'a, R, K> {
 }
 
 // Puts a line, and says whether that failed.
-fn fails_to_put<K: Sink>(sink: &mut K, line: &[u8]) -> bool
+pub(crate) fn fails_to_put<K: Sink>(sink: &mut K, line: &[u8]) -> bool
     ensures logs { Logs K.tells (K.drain sink.old) (K.drain sink.new) false result line.now }
 {
     match sink.put(line) {

@@ -19,7 +19,8 @@ use Rattle.satip_verdict.proofs.IndexLemmas.{starts-append}
 use Rattle.satip_journal.specs.Places.{Placed as Own, own_at}
 use Rattle.satip_journal.specs.Typed.{IsTyped}
 use Rattle.satip_journal.proofs.PlaceLemmas.{own_at_behind}
-use Rattle.satip_journal_laws.specs.Laws.{AreCallersOf, JournalsAreOneHistory, OwnAreBehind}
+use Rattle.satip_journal.specs.Journals.{AreCallersOf}
+use Rattle.satip_journal_laws.specs.Laws.{JournalsAreOneHistory, OwnAreBehind}
 use Rattle.satip_journal_laws.proofs.Shuffled.{shuffled}
 use Rattle.satip_journal_laws.proofs.Notes.{all_notes, all_right, joined, joined_right, noted, notes_from, notes_of, text_joined, text_of, texts_are}
 use Rattle.satip_journal_laws.proofs.Counting.{all_at, all_count, all_counted, all_starts, all_times, count_in, joined_count, joined_starts, joined_times, named_all, owned_all, places, starts_in, times_in}

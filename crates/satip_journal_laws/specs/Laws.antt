@@ -1,30 +1,22 @@
 -- The journals of a run are one legal history, and there is one verdict on a text.
-use Rattle.std.specs.Prelude.{◌≡◌, ℕ, ◌≤◌, ◌<◌, ◌^◌, List, [], ◌∷◌, ◌++◌, length, flat_map}
+use Rattle.std.specs.Prelude.{◌≡◌, ℕ, List, [], ◌∷◌, ◌++◌, length, flat_map}
 use Rattle.std.specs.List.Sorted.{IsPermutation}
-use Rattle.satip_history.specs.Lists.{Each, Has}
+use Rattle.satip_history.specs.Lists.{Each}
 use Rattle.satip_history.specs.History.{own_of}
 use Rattle.satip_plain.specs.declared.setting.Setting.{Setting}
 use Rattle.satip_plain.specs.Types.{Config}
 use Rattle.satip_plain.specs.Histories.{Item, Legal}
-use Rattle.satip_turn.specs.Faithful.{AreApart}
 use Rattle.satip_audit.specs.declared.verdict.Verdict.{Verdict}
 use Rattle.satip_audit.specs.declared.verdict.Verdict.TheVariants.{Yes}
 use Rattle.satip_verdict.specs.Replaying.{IsJudged}
 use Rattle.satip_journal.specs.Places.{own_at}
 use Rattle.satip_journal.specs.Typed.{IsTyped}
-use Rattle.satip_journal.specs.Journals.{journals}
+use Rattle.satip_journal.specs.Journals.{AreCallersOf, journals}
 
 -- the entries of a caller that has none before some moment have the places behind that moment
 abbrev pub OwnAreBehind : Type 0
 OwnAreBehind = (caller : ℕ) (seen more : List Item) → own_of caller seen ≡ []
     → own_at 0 caller (seen ++ more) ≡ own_at (length seen) caller more
-
--- each entry of a history is of one of these callers, whose numbers differ, and numbers and places fit their types
-pub record AreCallersOf (callers : List ℕ) (h : List Item) : Type 0 where
-  pub apart : AreApart callers
-  pub all : Each (λ e. Has e.caller callers) h
-  pub few : length callers ≤ 2 ^ 64
-  pub short : length h < 2 ^ 64
 
 -- put together in any order, the journals of a legal history are judged `yes`, with its length
 abbrev pub JournalsAreOneHistory : Type 0

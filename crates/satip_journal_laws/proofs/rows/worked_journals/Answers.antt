@@ -17,7 +17,7 @@ use Rattle.satip_records.specs.Records.{record_text, event_text, answer_text}
 use Rattle.satip_records.specs.Lines.{entry_line, start_line}
 use Rattle.satip_journal.specs.Journals.{journals}
 use Rattle.satip_journal.specs.Typed.{IsTyped}
-use Rattle.satip_journal_laws.specs.Laws.{AreCallersOf}
+use Rattle.satip_journal.specs.Journals.{AreCallersOf}
 use Rattle.satip_journal_laws.specs.Rows.{first_journal, second_journal, two_stops}
 use Rattle.satip_journal_laws.proofs.OneHistory.{one_history}
 use Rattle.satip_journal_laws.proofs.rows.worked_journals.Goals as goal

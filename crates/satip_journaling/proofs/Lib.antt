@@ -1,0 +1,4 @@
+pub mod OwnAtLast
+pub mod Written
+pub mod Jobs
+pub mod Runs
