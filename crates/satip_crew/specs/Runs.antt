@@ -4,6 +4,8 @@ use Rattle.satip_history.specs.Lists.{Each, Has}
 use Rattle.satip_history.specs.History.{own_of}
 use Rattle.satip_plain.specs.declared.setting.Setting.{Setting}
 use Rattle.satip_turn.specs.Views.{numbers_of}
+use Rattle.satip_crew.specs.declared.end.ServeEnd.{ServeEnd}
+use Rattle.satip_crew.specs.declared.end.ServeEnd.TheVariants.{Served, DoorsFault, HistoryFull}
 use Rattle.satip_crew.specs.Passes.{ItemOf, CallerOf, IsFull}
 
 -- P holds of each two at one place, and of the place's number, counted from this one; the lists are as long
@@ -52,3 +54,14 @@ pub record Run {E A W P T : Type 0} (c : Setting) (legal : Setting → List (Ite
   pub stopped : StopsOnce IsStop seen of_workers ⊎ HasNoStop seen
   -- nobody else made an entry
   pub covered : Each (λ e. Has e.caller (0 ∷ numbers_of kept)) seen
+
+-- a fact for each end
+abbrev pub MatchEnd : ServeEnd → (served fault full : Type 0) → Type 0
+MatchEnd Served served fault full = served
+MatchEnd DoorsFault served fault full = fault
+MatchEnd HistoryFull served fault full = full
+
+-- P holds of one of these
+abbrev pub HasOne : {T : Type 0} → (T → Type 0) → List T → Type 0
+HasOne P [] = ⊥
+HasOne P (x ∷ xs) = P x ⊎ HasOne P xs
