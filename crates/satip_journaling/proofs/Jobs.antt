@@ -33,15 +33,15 @@ module _ {X K : Type 0} (tells : Type 0) (drain : K → Drain) (cell : X → Cel
   pub jobs_logged : (job : ℕ) (xs ys : List X) → Both Same xs ys → AreOpen job (map gear xs) → Each (λ x. (pass x).own ≡ []) xs
       → Each (λ y. Begins (pass y).seen h) ys → Each (λ y. own_of (pass y).number h ≡ (pass y).own) ys
       → AreLogged tells drain (map (λ x. drain (gear x).sink) xs) (map gear ys) (journals_from job (map (λ y. (pass y).number) ys) h)
-  jobs_logged job [] [] both open new begins all = tt
-  jobs_logged job [] (y ∷ ys) both open new begins all = absurd both
-  jobs_logged job (x ∷ xs) [] both open new begins all = absurd both
-  jobs_logged job (x ∷ xs) (y ∷ ys) both open new begins all =
+  jobs_logged job [] [] both unfailed new begins all = tt
+  jobs_logged job [] (y ∷ ys) both unfailed new begins all = absurd both
+  jobs_logged job (x ∷ xs) [] both unfailed new begins all = absurd both
+  jobs_logged job (x ∷ xs) (y ∷ ys) both unfailed new begins all =
       let one = at_last tells (kept_of drain cell pass gear x) (kept_of drain cell pass gear y) h both.0 (own x) (own y) new.0 begins.0 all.0 in
       let P : ℕ → Bool → Type 0 =
       λ number failed. Logs tells (drain (gear x).sink) (drain (gear y).sink) failed (gear y).failed (journal_of number (pass y).number h) in
-      let numbered : P job (gear x).failed = subst (λ (n : ℕ). P n (gear x).failed) open.0 one.0 in
-      (subst (λ (b : Bool). P job b) open.1 numbered, jobs_logged (job + 1) xs ys both.1 open.2 new.1 begins.1 all.1)
+      let numbered : P job (gear x).failed = subst (λ (n : ℕ). P n (gear x).failed) unfailed.0 one.0 in
+      (subst (λ (b : Bool). P job b) unfailed.1 numbered, jobs_logged (job + 1) xs ys both.1 unfailed.2 new.1 begins.1 all.1)
 
   pub jobs_typed : (xs ys : List X) → Both Same xs ys → Each (λ x. (pass x).own ≡ []) xs
       → Each (λ y. Begins (pass y).seen h) ys → Each (λ y. own_of (pass y).number h ≡ (pass y).own) ys

@@ -1,6 +1,6 @@
 -- What the sinks of a run were sent.
-use Rattle.std.proofs.Common.{◌≡◌, ◌∙◌, ℕ, ◌+◌, ◌≤◌, ◌<◌, ◌^◌, Bool, false, List, [], ◌∷◌, ◌++◌, map, length, refl, sym, ap, subst, arith, length-append}
-use Rattle.std.proofs.lemmas.List.{map-append}
+use Rattle.std.proofs.Common.{◌≡◌, ◌∙◌, ℕ, ◌+◌, ◌≤◌, ◌<◌, ◌^◌, List, [], ◌∷◌, ◌++◌, map, length, refl, sym, ap, subst, arith, append_assoc, false}
+use Rattle.std.proofs.lemmas.List.{length-map, map-append}
 use Rattle.satip_base.specs.Streams.{Drain}
 use Rattle.satip_history.specs.History.{own_of}
 use Rattle.satip_history.specs.Lists.{Begins, Each, Has}
@@ -20,6 +20,7 @@ use Rattle.satip_crew.specs.declared.seat.Seat.{Seat}
 use Rattle.satip_crew.specs.Crewed.{RunDid}
 use Rattle.satip_crew.specs.Passes.{CallerOf, callers_of}
 use Rattle.satip_crew.specs.Works.{IsSameSeat}
+use Rattle.satip_crew.proofs.Beside.{both_length}
 use Rattle.satip_crew.proofs.WholeRuns.{from_joined, from_stop, pumps_begin, run_over, ticker_begins, workers_begin}
 use Rattle.satip_shared.specs.Calling.{ServerPass}
 use Rattle.satip_serve.specs.Services.{IsFirst}
@@ -71,12 +72,21 @@ module _ {X K W L P M T N : Type 0} (tells : Type 0) (drain : K → Drain) (cell
   abbrev Same : X → X → Type 0
   Same x y = SameJournal tells (kept_of drain cell pass gear x) (kept_of drain cell pass gear y)
 
+  -- the same journal at its seat
+  abbrev Still : {KK MM : Type 0} → Seat X KK MM → Seat X KK MM → Type 0
+  Still s t = Same s.caller t.caller × (t.number ≡ s.number)
+
+  seat_is : {KK MM : Type 0} (s t : Seat X KK MM) → Still s t → IsSameSeat cell pass s t
+  seat_is s t still = record { cell_is = still.0.caller.server; keeps = still.0.caller.pass; number = still.1 }
+
   -- callers before their jobs and after
   module _ (o : X) (before : Posts W P T (JournalGear K)) (n : X) (after : Posts W P T (JournalGear K)) (end : ServeEnd)
       (run : RunDid cell pass gear legal is_stop goes_on worked pumped ticked o before n after end)
-      (went_on : (x y : X) → goes_on x y → Same x y) (works : (s t : Seat X W L) → worked s t → Same s.caller t.caller)
-      (pumps : (s t : Seat X P M) → pumped s t → Same s.caller t.caller) (ticks : (s t : Seat X T N) → ticked s t → Same s.caller t.caller)
-      (knows : Knows (legal (cell o).setting) (pass n)) (first : IsFirst (pass o)) where
+      (went_on : (x y : X) → goes_on x y → Same x y) (works : (s t : Seat X W L) → worked s t → Still s t)
+      (pumps : (s t : Seat X P M) → pumped s t → Still s t) (ticks : (s t : Seat X T N) → ticked s t → Still s t)
+      (knows : Knows (legal (cell o).setting) (pass n)) (first : IsFirst (pass o))
+      (worker_count : length before.workers.items ≡ (cell o).setting.config.workers)
+      (pump_count : length before.pumps.items ≡ length (cell o).setting.config.fronts) where
     abbrev h : List Item
     h = (pass n).seen
 
@@ -95,9 +105,10 @@ module _ {X K W L P M T N : Type 0} (tells : Type 0) (drain : K → Drain) (cell
     same_jobs : Both Same began ended
     same_jobs =
         both_append Same (callers_at run.first) (callers_at run.second ++ run.third.caller ∷ []) (callers_at run.front.ended)
-        (callers_at run.second_ended ++ run.third_ended.caller ∷ []) (both_at Same worked works run.first run.front.ended run.front.done)
+        (callers_at run.second_ended ++ run.third_ended.caller ∷ []) (both_at Same worked (λ s t did. (works s t did).0) run.first run.front.ended run.front.done)
         (both_append Same (callers_at run.second) (run.third.caller ∷ []) (callers_at run.second_ended) (run.third_ended.caller ∷ [])
-        (both_at Same pumped pumps run.second run.second_ended run.second_done) (ticks run.third run.third_ended run.third_done, tt))
+        (both_at Same pumped (λ s t did. (pumps s t did).0) run.second run.second_ended run.second_done)
+        ((ticks run.third run.third_ended run.third_done).0, tt))
 
     -- what f gives of three lists of callers
     parts : {V : Type 0} (f : X → V) (xs ys zs : List X) (us vs ws : List V) → map f xs ≡ us → map f ys ≡ vs → map f zs ≡ ws
@@ -198,17 +209,46 @@ module _ {X K W L P M T N : Type 0} (tells : Type 0) (drain : K → Drain) (cell
         subst (λ (i : ℕ). Q (gear o) (gear n) i) stopped_is last_gear
 
     -- ---- all together
+    any_of : {S : Type 0} (xs : List S) → Each (λ x. Unit {0}) xs
+    any_of [] = tt
+    any_of (x ∷ xs) = (tt, any_of xs)
+
     covered : Each (λ e. Has e.caller (0 ∷ numbers_of (pass n).kept)) h
     covered =
-        let still_worker : (s t : Seat X W L) → worked s t → IsSameSeat cell pass s t = ? in
-        ?
+        let whole = run_over cell pass gear legal is_stop goes_on worked pumped ticked o before n after end run
+        {W' = Unit {0}} {P' = Unit {0}} {T' = Unit {0}} (λ s. tt) (λ s. tt) (λ s. tt) (λ s. Unit {0}) (λ s. Unit {0}) (λ s. Unit {0})
+        (λ i v r. Unit {0}) (λ i v r. Unit {0}) (λ v r. Unit {0}) (λ s t did fresh none full. tt) (λ s t did fresh none full. tt)
+        (λ s t did fresh none full. tt) (λ s t did. seat_is s t (works s t did)) (λ s t did. seat_is s t (pumps s t did))
+        (λ s t did. seat_is s t (ticks s t did)) first.number first.own first.kept first.made knows (any_of run.first) (any_of run.second) tt
+        worker_count pump_count in
+        whole.covered
+
+    pub all_are_typed : Each IsTyped h
+    all_are_typed =
+        let jobs = jobs_typed tells drain cell pass gear own h began ended same_jobs new_jobs all_begin all_own in
+        all_typed (0 ∷ numbers_of (pass n).kept) h
+        (root.1, subst (λ (ms : List ℕ). Each (λ (m : ℕ). Each IsTyped (own_of m h)) ms) numbers jobs) covered
+
+    pub callers_are : 1 + length given ≤ 2 ^ 64 → AreCallersOf (0 ∷ numbers_of (pass n).kept) h
+    callers_are few =
+        let as_many = both_length Same began ended same_jobs in
+        let a = length-map began gear in
+        let b : length (map gear began) ≡ length given = ap (λ (gs : List (JournalGear K)). length gs) given_is in
+        let c = length-map ended (λ (y : X). (pass y).number) in
+        let d : length (map (λ (y : X). (pass y).number) ended) ≡ length (numbers_of (pass n).kept) = ap (λ (ms : List ℕ). length ms) numbers in
+        record {
+          apart = subst (λ (i : ℕ). AreApart (i ∷ numbers_of (pass n).kept)) zero_is knows.apart;
+          all = covered;
+          few = omega (arith, few, as_many, a, b, c, d);
+          short = knows.short;
+        }
 
     pub all_logged : (start : ℕ) (bare : Drain) → AreOpen 1 given → (gear o).number ≡ 0
         → Logs tells bare (drain (gear o).sink) false (gear o).failed (start_line start)
         → AreLogged tells drain (bare ∷ map (λ (g : JournalGear K). drain g.sink) given) (gear n ∷ came_back) (journals start 0 (numbers_of (pass n).kept) h)
-    all_logged start bare open number begun =
+    all_logged start bare unfailed number begun =
         let jobs = jobs_logged tells drain cell pass gear own h 1 began ended same_jobs
-        (subst (λ (gs : List (JournalGear K)). AreOpen 1 gs) (sym given_is) open) new_jobs all_begin all_own in
+        (subst (λ (gs : List (JournalGear K)). AreOpen 1 gs) (sym given_is) unfailed) new_jobs all_begin all_own in
         let drains_are : map (λ x. drain (gear x).sink) began ≡ map (λ (g : JournalGear K). drain g.sink) given =
         map_map began ∙ ap (λ (gs : List (JournalGear K)). map (λ (g : JournalGear K). drain g.sink) gs) given_is in
         let Q : List Drain → List (JournalGear K) → List ℕ → Type 0 = λ os gs ms. AreLogged tells drain os gs (journals_from 1 ms h) in

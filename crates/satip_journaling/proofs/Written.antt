@@ -28,7 +28,7 @@ one_sent tells o n false text logs = inl logs
 one_sent tells o n true text logs = inr logs
 
 one_whole : (tells : Type 0) (o n : Drain) (failed : Bool) (text : List ℕ) → failed ≡ false → Logs tells o n false failed text → PutAll tells o n text
-one_whole tells o n failed text open logs = subst (λ (b : Bool). Logs tells o n false b text) open logs
+one_whole tells o n failed text unfailed logs = subst (λ (b : Bool). Logs tells o n false b text) unfailed logs
 
 one_risen : (tells : Type 0) (o n : Drain) (failed : Bool) (text : List ℕ) → failed ≡ true → Logs tells o n false failed text → Rose o.faults n.faults
 one_risen tells o n failed text is logs =
@@ -48,13 +48,13 @@ module _ {K : Type 0} (tells : Type 0) (drain : K → Drain) where
   sent (o ∷ os) (g ∷ gs) (t ∷ ts) h = (one_sent tells o (drain g.sink) g.failed t h.0, sent os gs ts h.1)
 
   whole : (os : List Drain) (gs : List (JournalGear K)) (ts : List (List ℕ)) → has_failed gs ≡ false → AreLogged tells drain os gs ts → AreWhole tells os (drains gs) ts
-  whole [] [] [] open h = tt
-  whole [] [] (t ∷ ts) open h = absurd h
-  whole [] (g ∷ gs) ts open h = absurd h
-  whole (o ∷ os) [] ts open h = absurd h
-  whole (o ∷ os) (g ∷ gs) [] open h = absurd h
-  whole (o ∷ os) (g ∷ gs) (t ∷ ts) open h =
-      let both = neither g.failed (has_failed gs) open in
+  whole [] [] [] unfailed h = tt
+  whole [] [] (t ∷ ts) unfailed h = absurd h
+  whole [] (g ∷ gs) ts unfailed h = absurd h
+  whole (o ∷ os) [] ts unfailed h = absurd h
+  whole (o ∷ os) (g ∷ gs) [] unfailed h = absurd h
+  whole (o ∷ os) (g ∷ gs) (t ∷ ts) unfailed h =
+      let both = neither g.failed (has_failed gs) unfailed in
       (one_whole tells o (drain g.sink) g.failed t both.0 h.0, whole os gs ts both.1 h.1)
 
   risen : (os : List Drain) (gs : List (JournalGear K)) (ts : List (List ℕ)) → has_failed gs ≡ true → AreLogged tells drain os gs ts → HasRisen os (drains gs)

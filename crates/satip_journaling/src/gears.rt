@@ -68,7 +68,7 @@ pub(crate) fn next_gears<K: Sink>(
     ensures lines { vec_len lines.old ≡ vec_len lines.new + count }
 {
     let mut number = first;
-    while gears.len() < count {
+    'jobs: while gears.len() < count {
         let gear = next_gear(sinks, lines, number);
         put_last(gears, gear);
         number += 1;
@@ -84,7 +84,7 @@ pub(crate) fn give_back<K: Sink + Drop>(gears: &mut Vec<JournalGear<K>>, sinks: 
     ensures failed { result ≡ has_failed gears.old.items }
 {
     let mut failed = false;
-    while !gears.is_empty() {
+    'gears: while !gears.is_empty() {
         let gear = take_first(gears);
         let one = give_one(gear, sinks);
         failed = either(failed, one);
