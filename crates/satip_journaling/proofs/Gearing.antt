@@ -2,10 +2,7 @@
 use Rattle.std.proofs.Common.{◌≡◌, ◌∙◌, ℕ, ◌+◌, Bool, true, false, ◌||◌, List, [], ◌∷◌, ◌++◌, map, length, refl, sym, ap, subst, arith, append_assoc}
 use Rattle.std.proofs.lemmas.List.{map-append}
 use Rattle.satip_journal.specs.declared.crew.JournalGear.{JournalGear}
-use Rattle.satip_journaling.specs.Gears.{AreOpen, has_failed}
-
-abbrev pub sinks_of : {K : Type 0} → List (JournalGear K) → List K
-sinks_of gs = map (λ g. g.sink) gs
+use Rattle.satip_journaling.specs.Gears.{AreOpen, has_failed, sinks_of}
 
 -- the next sink has a journal too
 pub next_sink : {K : Type 0} (whole left after : List K) (gs more : List (JournalGear K)) (g : JournalGear K) → whole ≡ sinks_of gs ++ left

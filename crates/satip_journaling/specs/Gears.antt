@@ -1,6 +1,10 @@
 -- The journals of jobs.
-use Rattle.std.specs.Prelude.{◌≡◌, ℕ, ◌+◌, ◌||◌, Bool, false, List, [], ◌∷◌}
+use Rattle.std.specs.Prelude.{◌≡◌, ℕ, ◌+◌, ◌||◌, Bool, false, List, [], ◌∷◌, ◌++◌, map}
+use Rattle.satip_base.specs.Streams.{Drain}
+use Rattle.satip_records.specs.Lines.{start_line}
+use Rattle.satip_journal.specs.Logs.{Logs}
 use Rattle.satip_journal.specs.declared.crew.JournalGear.{JournalGear}
+use Rattle.satip_journaling.specs.declared.gears.Gears.{Gears}
 
 -- jobs are numbered from this number on, and no put failed
 abbrev pub AreOpen : {K : Type 0} → ℕ → List (JournalGear K) → Type 0
@@ -11,3 +15,18 @@ AreOpen number (g ∷ gs) = (g.number ≡ number) × (g.failed ≡ false) × Are
 abbrev pub has_failed : {K : Type 0} → List (JournalGear K) → Bool
 has_failed [] = false
 has_failed (g ∷ gs) = g.failed || has_failed gs
+
+abbrev pub sinks_of : {K : Type 0} → List (JournalGear K) → List K
+sinks_of gs = map (λ g. g.sink) gs
+
+-- those of workers, pumps and the ticker, in the order of jobs
+abbrev pub others_of : {K : Type 0} → Gears K → List (JournalGear K)
+others_of gears = gears.workers.items ++ (gears.pumps.items ++ gears.ticker ∷ [])
+
+-- the journals have these sinks, in order, and the first one's was sent the start line
+pub record HasBegun {K : Type 0} (tells : Type 0) (drain : K → Drain) (start : ℕ) (sinks : List K) (root : JournalGear K) (others : List (JournalGear K)) : Type 0 where
+  pub bare : K
+  pub sinks_are : sinks ≡ bare ∷ sinks_of others
+  pub number : root.number ≡ 0
+  pub started : Logs tells (drain bare) (drain root.sink) false root.failed (start_line start)
+  pub are_open : AreOpen 1 others

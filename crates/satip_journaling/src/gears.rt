@@ -1,14 +1,24 @@
 //! The journals of jobs before they begin, and when they have ended.
 
-ghost use Rattle.std.specs.Prelude.{◌≡◌, ◌+◌, ◌^◌, ◌<◌, ◌≤◌, ◌++◌, ◌||◌, [], ◌∷◌, false, map, vec_len, vec_capacity};
-ghost use Rattle.satip_journaling.specs.Gears.{AreOpen, has_failed};
+ghost use Rattle.std.specs.Prelude.{◌≡◌, ◌+◌, ◌^◌, ◌<◌, ◌≤◌, ◌++◌, ◌||◌, [], ◌∷◌, false, vec_len, vec_capacity};
+ghost use Rattle.satip_journaling.specs.Gears.{AreOpen, HasBegun, has_failed, others_of, sinks_of};
 
 use satip_base::Sink;
 use satip_journal::JournalGear;
 use satip_records::LineRoom;
 
+/// What the journals of all jobs have beside their callers: of job 0, which makes the stop, of the
+/// workers, of the pumps and of the ticker.
+#[derive(Drop)]
+pub(crate) struct Gears<K> {
+    pub root: JournalGear<K>,
+    pub workers: Vec<JournalGear<K>>,
+    pub pumps: Vec<JournalGear<K>>,
+    pub ticker: JournalGear<K>,
+}
+
 // Takes out the first of a list.
-pub(crate) fn take_first<T>(items: &mut Vec<T>) -> T
+fn take_first<T>(items: &mut Vec<T>) -> T
     requires some { 0 < vec_len items.old }
     ensures first { items.old.items ≡ result ∷ items.new.items }
     ensures count { vec_len items.old ≡ vec_len items.new + 1 }
@@ -18,7 +28,7 @@ pub(crate) fn take_first<T>(items: &mut Vec<T>) -> T
 }
 
 // Puts one behind a list that has the memory for it.
-pub(crate) fn put_last<T>(items: &mut Vec<T>, item: T)
+fn put_last<T>(items: &mut Vec<T>, item: T)
     requires space { vec_len items.old < vec_capacity items.old }
     ensures last { items.new.items ≡ items.old.items ++ item ∷ [] }
     ensures count { vec_len items.new ≡ vec_len items.old + 1 }
@@ -28,7 +38,7 @@ pub(crate) fn put_last<T>(items: &mut Vec<T>, item: T)
 }
 
 // The journal of the job of this number, with the next sink.
-pub(crate) fn next_gear<K: Sink>(
+fn next_gear<K: Sink>(
     sinks: &mut Vec<K>,
     lines: &mut Vec<LineRoom>,
     number: u64,
@@ -48,7 +58,7 @@ pub(crate) fn next_gear<K: Sink>(
 }
 
 // Journals of so many jobs, numbered from this number on, with the next sinks.
-pub(crate) fn next_gears<K: Sink>(
+fn next_gears<K: Sink>(
     sinks: &mut Vec<K>,
     lines: &mut Vec<LineRoom>,
     gears: &mut Vec<JournalGear<K>>,
@@ -60,7 +70,7 @@ pub(crate) fn next_gears<K: Sink>(
     requires lines { count ≤ vec_len lines.old }
     requires space { count ≤ vec_capacity gears.old }
     requires small { first + count < 2 ^ 64 }
-    ensures sinks { sinks.old.items ≡ map (λ g. g.sink) gears.new.items ++ sinks.new.items }
+    ensures sinks { sinks.old.items ≡ sinks_of gears.new.items ++ sinks.new.items }
     ensures open { AreOpen first gears.new.items }
     ensures count { vec_len gears.new ≡ count }
     ensures left { vec_len sinks.old ≡ vec_len sinks.new + count }
@@ -76,9 +86,9 @@ pub(crate) fn next_gears<K: Sink>(
 }
 
 // Puts the sinks of journals behind others, and tells whether a put on one of them failed.
-pub(crate) fn give_back<K: Sink + Drop>(gears: &mut Vec<JournalGear<K>>, sinks: &mut Vec<K>) -> bool
+fn give_back<K: Sink + Drop>(gears: &mut Vec<JournalGear<K>>, sinks: &mut Vec<K>) -> bool
     requires space { vec_len sinks.old + vec_len gears.old ≤ vec_capacity sinks.old }
-    ensures sinks { sinks.new.items ≡ sinks.old.items ++ map (λ g. g.sink) gears.old.items }
+    ensures sinks { sinks.new.items ≡ sinks.old.items ++ sinks_of gears.old.items }
     ensures count { vec_len sinks.new ≡ vec_len sinks.old + vec_len gears.old }
     ensures capacity { vec_capacity sinks.new ≡ vec_capacity sinks.old }
     ensures failed { result ≡ has_failed gears.old.items }
@@ -93,7 +103,7 @@ pub(crate) fn give_back<K: Sink + Drop>(gears: &mut Vec<JournalGear<K>>, sinks: 
 }
 
 // Puts the sink of a journal behind others, and tells whether a put on it failed.
-pub(crate) fn give_one<K: Sink + Drop>(gear: JournalGear<K>, sinks: &mut Vec<K>) -> bool
+fn give_one<K: Sink + Drop>(gear: JournalGear<K>, sinks: &mut Vec<K>) -> bool
     requires space { vec_len sinks.old < vec_capacity sinks.old }
     ensures sinks { sinks.new.items ≡ sinks.old.items ++ gear.sink ∷ [] }
     ensures count { vec_len sinks.new ≡ vec_len sinks.old + 1 }
@@ -114,4 +124,55 @@ fn either(first: bool, second: bool) -> bool
     ensures either { result ≡ (first || second) }
 {
     first || second
+}
+
+// The journals of all jobs, in order, each with its sink; that of job 0 has the start line.
+pub(crate) fn begin_journals<K: Sink>(
+    sinks: &mut Vec<K>,
+    lines: &mut Vec<LineRoom>,
+    mut worker_gears: Vec<JournalGear<K>>,
+    mut pump_gears: Vec<JournalGear<K>>,
+    workers: usize,
+    pumps: usize,
+    start: u64,
+) -> Gears<K>
+    requires no_workers { worker_gears.items ≡ [] }
+    requires no_pumps { pump_gears.items ≡ [] }
+    requires worker_space { workers ≤ vec_capacity worker_gears }
+    requires pump_space { pumps ≤ vec_capacity pump_gears }
+    requires sinks { vec_len sinks.old ≡ workers + pumps + 2 }
+    requires lines { vec_len lines.old ≡ workers + pumps + 2 }
+    requires few_workers { workers < 2 ^ 32 }
+    requires few_pumps { pumps < 2 ^ 32 }
+    ensures begun { HasBegun K.tells K.drain start sinks.old.items result.root (others_of result) }
+    ensures none { sinks.new.items ≡ [] }
+    ensures workers { vec_len result.workers ≡ workers }
+    ensures pumps { vec_len result.pumps ≡ pumps }
+    ensures capacity { vec_capacity sinks.new ≡ vec_capacity sinks.old }
+{
+    let mut root = next_gear(sinks, lines, 0);
+    root.start(start);
+    next_gears(sinks, lines, &mut worker_gears, 1, workers);
+    next_gears(sinks, lines, &mut pump_gears, 1 + workers as u64, pumps);
+    let ticker = next_gear(sinks, lines, 1 + workers as u64 + pumps as u64);
+    Gears {
+        root,
+        workers: worker_gears,
+        pumps: pump_gears,
+        ticker,
+    }
+}
+
+// Gives all sinks back, in the order of jobs, and tells whether a put on one of them failed.
+pub(crate) fn end_journals<K: Sink + Drop>(mut gears: Gears<K>, sinks: &mut Vec<K>) -> bool
+    requires none { sinks.old.items ≡ [] }
+    requires space { vec_len gears.workers + vec_len gears.pumps + 2 ≤ vec_capacity sinks.old }
+    ensures sinks { sinks.new.items ≡ sinks_of (gears.root ∷ others_of gears) }
+    ensures failed { result ≡ has_failed (gears.root ∷ others_of gears) }
+{
+    let first = give_one(gears.root, sinks);
+    let second = give_back(&mut gears.workers, sinks);
+    let third = give_back(&mut gears.pumps, sinks);
+    let last = give_one(gears.ticker, sinks);
+    either(first, either(second, either(third, last)))
 }

@@ -1,6 +1,7 @@
 //! The memory that jobs with journals take.
 
-ghost use Rattle.std.specs.Prelude.{◌≡◌, ◌≤◌, [], length, vec_capacity, IfOk};
+ghost use Rattle.std.specs.Prelude.{◌≡◌, ◌≤◌, ◌<◌, ◌^◌, [], length, vec_capacity, IfOk};
+ghost use Rattle.satip_journaling.specs.Memories.{IsMemory};
 
 use satip_base::{Sink, Want};
 use satip_journal::{Journal, JournalGear};
@@ -40,28 +41,24 @@ fn make_lines(alloc: Global, count: usize) -> Result<Vec<LineRoom>, Want>
     Ok(lines)
 }
 
-// All memory that so many workers and pumps take, and a ticker and caller 0 with them.
+// All memory that so many workers and pumps take, and the ticker and caller 0 with them.
 pub(crate) fn take_memory<'a, R: Wait + Sync, D: Drop, O: Drop, P: Drop, M: Drop, K: Sink + Drop>(
     alloc: Global,
     workers: usize,
     pumps: usize,
-    jobs: usize,
 ) -> Result<Memory<'a, R, D, O, P, M, K>, Want>
-    ensures worker_rooms { IfOk result (λ memory. length memory.space.worker_rooms.items ≡ workers) }
-    ensures workers { IfOk result (λ memory. memory.space.workers.items ≡ []) }
-    ensures worker_space { IfOk result (λ memory. workers ≤ vec_capacity memory.space.workers) }
-    ensures pump_rooms { IfOk result (λ memory. length memory.space.pump_rooms.items ≡ pumps) }
-    ensures pumps { IfOk result (λ memory. memory.space.pumps.items ≡ []) }
-    ensures pump_space { IfOk result (λ memory. pumps ≤ vec_capacity memory.space.pumps) }
-    ensures lines { IfOk result (λ memory. length memory.lines.items ≡ jobs) }
-    ensures worker_gears { IfOk result (λ memory. memory.worker_gears.items ≡ []) }
-    ensures worker_gear_space { IfOk result (λ memory. workers ≤ vec_capacity memory.worker_gears) }
-    ensures pump_gears { IfOk result (λ memory. memory.pump_gears.items ≡ []) }
-    ensures pump_gear_space { IfOk result (λ memory. pumps ≤ vec_capacity memory.pump_gears) }
+    requires few_workers { workers < 2 ^ 32 }
+    requires few_pumps { pumps < 2 ^ 32 }
+    ensures memory { IfOk result (λ memory. IsMemory workers pumps
+        memory.space.worker_rooms.items memory.space.workers.items
+        (vec_capacity memory.space.workers) memory.space.pump_rooms.items
+        memory.space.pumps.items (vec_capacity memory.space.pumps) memory.lines.items
+        memory.worker_gears.items (vec_capacity memory.worker_gears) memory.pump_gears.items
+        (vec_capacity memory.pump_gears)) }
 {
     Ok(Memory {
         space: take_space(alloc, workers, pumps)?,
-        lines: make_lines(alloc, jobs)?,
+        lines: make_lines(alloc, workers + pumps + 2)?,
         worker_gears: with_room(alloc, workers)?,
         pump_gears: with_room(alloc, pumps)?,
     })

@@ -1,7 +1,6 @@
 -- The sinks so far came back, and there is memory for the others.
 use Rattle.std.proofs.Common.{◌≡◌, ◌+◌, ◌++◌, ◌||◌, vec_len, vec_capacity}
-use Rattle.satip_journaling.specs.Gears.{has_failed}
-use Rattle.satip_journaling.proofs.Gearing.{sinks_of}
+use Rattle.satip_journaling.specs.Gears.{has_failed, sinks_of}
 use Rattle.satip_journaling.proofs.gears.give_back.Given as goal
 
 abbrev pub invariant-gears : goal.invariant-gears

@@ -1,7 +1,6 @@
 -- The sinks so far have journals, and there are sinks, rooms and memory for the others.
 use Rattle.std.proofs.Common.{◌≡◌, ◌+◌, ◌-◌, ◌≤◌, ◌++◌, length, vec_len, vec_capacity}
-use Rattle.satip_journaling.specs.Gears.{AreOpen}
-use Rattle.satip_journaling.proofs.Gearing.{sinks_of}
+use Rattle.satip_journaling.specs.Gears.{AreOpen, sinks_of}
 use Rattle.satip_journaling.proofs.gears.next_gears.Given as goal
 
 abbrev pub invariant-jobs : goal.invariant-jobs
