@@ -44,3 +44,34 @@ none_left failed all left are none = sym (or_false failed) ∙ ap (λ b. failed 
 pub failed_append : {K : Type 0} (gs hs : List (JournalGear K)) → has_failed (gs ++ hs) ≡ (has_failed gs || has_failed hs)
 failed_append [] hs = refl
 failed_append (g ∷ gs) hs = ap (λ b. g.failed || b) (failed_append gs hs) ∙ sym (or_assoc g.failed (has_failed gs) (has_failed hs))
+
+pub all_failed : {K : Type 0} (root ticker : JournalGear K) (ws ps : List (JournalGear K)) (first second third last one two all : Bool)
+    → one ≡ (third || last) → two ≡ (second || one) → all ≡ (first || two) → first ≡ root.failed → second ≡ has_failed ws → third ≡ has_failed ps
+    → last ≡ ticker.failed → all ≡ (root.failed || has_failed (ws ++ (ps ++ ticker ∷ [])))
+all_failed root ticker ws ps first second third last one two all one_is two_is all_is a b c d =
+    let inner : one ≡ has_failed (ps ++ ticker ∷ []) =
+    one_is ∙ (λ i. c i || d i) ∙ ap (λ f. has_failed ps || f) (sym (or_false ticker.failed)) ∙ sym (failed_append ps (ticker ∷ [])) in
+    let outer : two ≡ has_failed (ws ++ (ps ++ ticker ∷ [])) = two_is ∙ (λ i. b i || inner i) ∙ sym (failed_append ws (ps ++ ticker ∷ [])) in
+    all_is ∙ (λ i. a i || outer i)
+
+pub sinks_append : {K : Type 0} (gs hs : List (JournalGear K)) → sinks_of (gs ++ hs) ≡ sinks_of gs ++ sinks_of hs
+sinks_append gs hs = map-append (λ g. g.sink) gs hs
+
+pub all_sinks : {K : Type 0} (whole behind rest last none : List K) (bare : K) (ws ps : List (JournalGear K)) (ticker : JournalGear K) → whole ≡ bare ∷ behind
+    → behind ≡ sinks_of ws ++ rest → rest ≡ sinks_of ps ++ last → last ≡ ticker.sink ∷ none → none ≡ []
+    → whole ≡ bare ∷ sinks_of (ws ++ (ps ++ ticker ∷ []))
+all_sinks {K} whole behind rest last none bare ws ps ticker a b c d e =
+    let inner : rest ≡ sinks_of (ps ++ ticker ∷ []) =
+    c ∙ (λ i. sinks_of ps ++ d i) ∙ (λ i. sinks_of ps ++ ticker.sink ∷ e i) ∙ sym (sinks_append ps (ticker ∷ [])) in
+    let outer : behind ≡ sinks_of (ws ++ (ps ++ ticker ∷ [])) = b ∙ (λ i. sinks_of ws ++ inner i) ∙ sym (sinks_append ws (ps ++ ticker ∷ [])) in
+    a ∙ ap (λ (l : List K). bare ∷ l) outer
+
+pub all_back : {K : Type 0} (old one two three four : List K) (root ticker : JournalGear K) (ws ps : List (JournalGear K)) → old ≡ [] → one ≡ old ++ root.sink ∷ []
+    → two ≡ one ++ sinks_of ws → three ≡ two ++ sinks_of ps → four ≡ three ++ ticker.sink ∷ []
+    → four ≡ sinks_of (root ∷ (ws ++ (ps ++ ticker ∷ [])))
+all_back {K} old one two three four root ticker ws ps none a b c d =
+    let first : one ≡ root.sink ∷ [] = a ∙ ap (λ (l : List K). l ++ root.sink ∷ []) none in
+    let joined : sinks_of (ws ++ (ps ++ ticker ∷ [])) ≡ sinks_of ws ++ (sinks_of ps ++ ticker.sink ∷ []) =
+    sinks_append ws (ps ++ ticker ∷ []) ∙ ap (λ (l : List K). sinks_of ws ++ l) (sinks_append ps (ticker ∷ [])) in
+    d ∙ ap (λ (l : List K). l ++ ticker.sink ∷ []) (c ∙ ap (λ (l : List K). l ++ sinks_of ps) (b ∙ ap (λ (l : List K). l ++ sinks_of ws) first))
+    ∙ ap (λ (l : List K). root.sink ∷ l) (append_assoc (sinks_of ws) (sinks_of ps) (ticker.sink ∷ []) ∙ sym joined)

@@ -17,9 +17,8 @@ use Rattle.satip_journal.specs.Keeping.{Kept, SameJournal, kept}
 use Rattle.satip_journal.specs.Logs.{Logs}
 use Rattle.satip_journal.specs.Owning.{KnowsOwn}
 use Rattle.satip_journal.specs.Typed.{IsTyped}
-use Rattle.satip_journaling.specs.Gears.{AreOpen}
+use Rattle.satip_journaling.specs.Gears.{AreOpen, AreLogged}
 use Rattle.satip_journaling.proofs.OwnAtLast.{at_last}
-use Rattle.satip_journaling.proofs.Written.{AreLogged}
 
 -- a journal by its cell, its pass and what it has beside
 abbrev pub kept_of : {X K : Type 0} → (K → Drain) → (X → Cell Setting) → (X → ServerPass) → (X → JournalGear K) → X → Kept

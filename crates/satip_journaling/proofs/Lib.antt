@@ -1,5 +1,5 @@
 pub mod OwnAtLast
-pub mod Written
+pub mod Logging
 pub mod Jobs
 pub mod Runs
 pub mod Gearing

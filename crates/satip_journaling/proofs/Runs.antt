@@ -31,10 +31,9 @@ use Rattle.satip_journal.specs.Keeping.{SameJournal}
 use Rattle.satip_journal.specs.Logs.{Logs}
 use Rattle.satip_journal.specs.Owning.{KnowsOwn}
 use Rattle.satip_journal.specs.Typed.{IsTyped}
-use Rattle.satip_journaling.specs.Gears.{AreOpen}
+use Rattle.satip_journaling.specs.Gears.{AreOpen, AreLogged, WentOn}
 use Rattle.satip_journaling.proofs.Jobs.{all_typed, jobs_logged, jobs_typed, kept_of}
 use Rattle.satip_journaling.proofs.OwnAtLast.{at_last}
-use Rattle.satip_journaling.proofs.Written.{AreLogged}
 
 -- ---- callers at their seats
 
@@ -66,9 +65,11 @@ each_of : {S T : Type 0} (P : T → Type 0) (f : S → T) (xs : List S) → Each
 each_of P f [] each = tt
 each_of P f (x ∷ xs) each = (each.0, each_of P f xs each.1)
 
-module _ {X K W L P M T N : Type 0} (tells : Type 0) (drain : K → Drain) (cell : X → Cell Setting) (pass : X → ServerPass) (gear : X → JournalGear K)
-    (own : (x : X) → KnowsOwn (pass x)) (legal : Setting → List Item → Type 0) (is_stop : Item → Type 0) (goes_on : X → X → Type 0)
-    (worked : Seat X W L → Seat X W L → Type 0) (pumped : Seat X P M → Seat X P M → Type 0) (ticked : Seat X T N → Seat X T N → Type 0) where
+module _ {X K W L P M T N : Type 0} {cell : X → Cell Setting} {pass : X → ServerPass} {gear : X → JournalGear K} {legal : Setting → List Item → Type 0}
+    {is_stop : Item → Type 0} {goes_on : X → X → Type 0} {worked : Seat X W L → Seat X W L → Type 0} {pumped : Seat X P M → Seat X P M → Type 0}
+    {ticked : Seat X T N → Seat X T N → Type 0} {o : X} {before : Posts W P T (JournalGear K)} {n : X} {after : Posts W P T (JournalGear K)} {end : ServeEnd}
+    (run : RunDid cell pass gear legal is_stop goes_on worked pumped ticked o before n after end) (tells : Type 0) (drain : K → Drain)
+    (own : (x : X) → KnowsOwn (pass x)) where
   abbrev Same : X → X → Type 0
   Same x y = SameJournal tells (kept_of drain cell pass gear x) (kept_of drain cell pass gear y)
 
@@ -80,9 +81,7 @@ module _ {X K W L P M T N : Type 0} (tells : Type 0) (drain : K → Drain) (cell
   seat_is s t still = record { cell_is = still.0.caller.server; keeps = still.0.caller.pass; number = still.1 }
 
   -- callers before their jobs and after
-  module _ (o : X) (before : Posts W P T (JournalGear K)) (n : X) (after : Posts W P T (JournalGear K)) (end : ServeEnd)
-      (run : RunDid cell pass gear legal is_stop goes_on worked pumped ticked o before n after end)
-      (went_on : (x y : X) → goes_on x y → Same x y) (works : (s t : Seat X W L) → worked s t → Still s t)
+  module _ (went_on : (x y : X) → goes_on x y → Same x y) (works : (s t : Seat X W L) → worked s t → Still s t)
       (pumps : (s t : Seat X P M) → pumped s t → Still s t) (ticks : (s t : Seat X T N) → ticked s t → Still s t)
       (knows : Knows (legal (cell o).setting) (pass n)) (first : IsFirst (pass o))
       (worker_count : length before.workers.items ≡ (cell o).setting.config.workers)
@@ -223,6 +222,18 @@ module _ {X K W L P M T N : Type 0} (tells : Type 0) (drain : K → Drain) (cell
         worker_count pump_count in
         whole.covered
 
+    pub worker_gears : length after.worker_gears.items ≡ length before.worker_gears.items
+    worker_gears =
+        ap (λ (gs : List (JournalGear K)). length gs) run.front.gears_are ∙ length-map run.front.ended (λ (s : Seat X W L). gear s.caller)
+        ∙ both_length worked run.first run.front.ended run.front.done ∙ sym (length-map run.first (λ (s : Seat X W L). gear s.caller))
+        ∙ ap (λ (gs : List (JournalGear K)). length gs) run.first_begun.gears_are
+
+    pub pump_gears : length after.pump_gears.items ≡ length before.pump_gears.items
+    pump_gears =
+        ap (λ (gs : List (JournalGear K)). length gs) run.pump_gears_are ∙ length-map run.second_ended (λ (s : Seat X P M). gear s.caller)
+        ∙ both_length pumped run.second run.second_ended run.second_done ∙ sym (length-map run.second (λ (s : Seat X P M). gear s.caller))
+        ∙ ap (λ (gs : List (JournalGear K)). length gs) run.second_begun.gears_are
+
     pub all_are_typed : Each IsTyped h
     all_are_typed =
         let jobs = jobs_typed tells drain cell pass gear own h began ended same_jobs new_jobs all_begin all_own in
@@ -243,9 +254,7 @@ module _ {X K W L P M T N : Type 0} (tells : Type 0) (drain : K → Drain) (cell
           short = knows.short;
         }
 
-    pub all_logged : (start : ℕ) (bare : Drain) → AreOpen 1 given → (gear o).number ≡ 0
-        → Logs tells bare (drain (gear o).sink) false (gear o).failed (start_line start)
-        → AreLogged tells drain (bare ∷ map (λ (g : JournalGear K). drain g.sink) given) (gear n ∷ came_back) (journals start 0 (numbers_of (pass n).kept) h)
+    pub all_logged : WentOn tells drain (gear o) given (gear n) came_back (numbers_of (pass n).kept) h
     all_logged start bare unfailed number begun =
         let jobs = jobs_logged tells drain cell pass gear own h 1 began ended same_jobs
         (subst (λ (gs : List (JournalGear K)). AreOpen 1 gs) (sym given_is) unfailed) new_jobs all_begin all_own in

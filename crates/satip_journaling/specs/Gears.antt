@@ -2,6 +2,8 @@
 use Rattle.std.specs.Prelude.{◌≡◌, ℕ, ◌+◌, ◌||◌, Bool, false, List, [], ◌∷◌, ◌++◌, map}
 use Rattle.satip_base.specs.Streams.{Drain}
 use Rattle.satip_records.specs.Lines.{start_line}
+use Rattle.satip_plain.specs.Histories.{Item}
+use Rattle.satip_journal.specs.Journals.{journals}
 use Rattle.satip_journal.specs.Logs.{Logs}
 use Rattle.satip_journal.specs.declared.crew.JournalGear.{JournalGear}
 use Rattle.satip_journaling.specs.declared.gears.Gears.{Gears}
@@ -30,3 +32,18 @@ pub record HasBegun {K : Type 0} (tells : Type 0) (drain : K → Drain) (start :
   pub number : root.number ≡ 0
   pub started : Logs tells (drain bare) (drain root.sink) false root.failed (start_line start)
   pub are_open : AreOpen 1 others
+
+-- each sink was sent its text until a put failed
+abbrev pub AreLogged : {K : Type 0} → (tells : Type 0) → (K → Drain) → List Drain → List (JournalGear K) → List (List ℕ) → Type 0
+AreLogged tells drain [] [] [] = Unit {0}
+AreLogged tells drain [] [] (t ∷ ts) = ⊥
+AreLogged tells drain [] (g ∷ gs) ts = ⊥
+AreLogged tells drain (o ∷ os) [] ts = ⊥
+AreLogged tells drain (o ∷ os) (g ∷ gs) [] = ⊥
+AreLogged tells drain (o ∷ os) (g ∷ gs) (t ∷ ts) = Logs tells o (drain g.sink) false g.failed t × AreLogged tells drain os gs ts
+
+-- from journals that have begun to those that have ended: each sink has its job's journal, until a put failed
+abbrev pub WentOn : {K : Type 0} → (tells : Type 0) → (K → Drain) → JournalGear K → List (JournalGear K) → JournalGear K → List (JournalGear K) → List ℕ → List Item → Type 0
+WentOn tells drain o os n ns callers h = (start : ℕ) (bare : Drain) → AreOpen 1 os → o.number ≡ 0
+    → Logs tells bare (drain o.sink) false o.failed (start_line start)
+    → AreLogged tells drain (bare ∷ map (λ g. drain g.sink) os) (n ∷ ns) (journals start 0 callers h)

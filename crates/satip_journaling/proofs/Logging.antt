@@ -1,19 +1,12 @@
 -- What sinks were sent, from what each was sent by whether a put on it failed.
-use Rattle.std.proofs.Common.{◌≡◌, ℕ, Bool, true, false, ◌||◌, ◌⊎◌, inl, inr, ⊎_elim, List, [], ◌∷◌, map, refl, sym, subst}
+use Rattle.std.proofs.Common.{◌≡◌, ◌∙◌, ℕ, Bool, true, false, ◌||◌, ◌⊎◌, inl, inr, ⊎_elim, List, [], ◌∷◌, map, refl, sym, ap, subst}
+use Rattle.satip_plain.specs.Histories.{Item}
 use Rattle.satip_base.specs.Streams.{Drain, FailedToPut, PutAll, Rose}
 use Rattle.satip_journal.specs.declared.crew.JournalGear.{JournalGear}
+use Rattle.satip_journal.specs.Journals.{journals}
 use Rattle.satip_journal.specs.Logs.{Logs}
-use Rattle.satip_journaling.specs.Gears.{has_failed}
+use Rattle.satip_journaling.specs.Gears.{AreLogged, HasBegun, WentOn, has_failed, sinks_of}
 use Rattle.satip_journaling.specs.Sent.{AreSent, AreWhole, AreWritten, HasRisen}
-
--- each sink was sent its text until a put failed
-abbrev pub AreLogged : {K : Type 0} → (tells : Type 0) → (K → Drain) → List Drain → List (JournalGear K) → List (List ℕ) → Type 0
-AreLogged tells drain [] [] [] = Unit {0}
-AreLogged tells drain [] [] (t ∷ ts) = ⊥
-AreLogged tells drain [] (g ∷ gs) ts = ⊥
-AreLogged tells drain (o ∷ os) [] ts = ⊥
-AreLogged tells drain (o ∷ os) (g ∷ gs) [] = ⊥
-AreLogged tells drain (o ∷ os) (g ∷ gs) (t ∷ ts) = Logs tells o (drain g.sink) false g.failed t × AreLogged tells drain os gs ts
 
 neither : (a b : Bool) → (a || b) ≡ false → (a ≡ false) × (b ≡ false)
 neither true b e = absurd (cc e)
@@ -73,3 +66,30 @@ module _ {K : Type 0} (tells : Type 0) (drain : K → Drain) where
 
   pub written : (os : List Drain) (gs : List (JournalGear K)) (ts : List (List ℕ)) → AreLogged tells drain os gs ts → AreWritten tells (has_failed gs) os (drains gs) ts
   written os gs ts h = by_test os gs ts (has_failed gs) refl h
+
+drains_of : {K : Type 0} (drain : K → Drain) (gs : List (JournalGear K)) → map drain (sinks_of gs) ≡ map (λ g. drain g.sink) gs
+drains_of drain [] = refl
+drains_of {K} drain (g ∷ gs) = ap (λ (ds : List Drain). drain g.sink ∷ ds) (drains_of drain gs)
+
+-- from sinks before their jobs to the same sinks after them
+pub journals_written : {K : Type 0} (tells : Type 0) (drain : K → Drain) (start begin : ℕ) (sinks back : List K) (o n : JournalGear K)
+    (os ns : List (JournalGear K)) (callers : List ℕ) (h : List Item) (failed : Bool) → HasBegun tells drain start sinks o os
+    → WentOn tells drain o os n ns callers h → back ≡ sinks_of (n ∷ ns) → failed ≡ has_failed (n ∷ ns) → begin ≡ start
+    → AreWritten tells failed (map drain sinks) (map drain back) (journals begin 0 callers h)
+journals_written {K} tells drain start begin sinks back o n os ns callers h failed begun went came failed_is same =
+    let texts = journals start 0 callers h in
+    let before : List Drain = drain begun.bare ∷ map (λ (g : JournalGear K). drain g.sink) os in
+    let logged = went start (drain begun.bare) begun.are_open begun.number begun.started in
+    let all : AreWritten tells (has_failed (n ∷ ns)) before (map (λ (g : JournalGear K). drain g.sink) (n ∷ ns)) texts =
+    written tells drain before (n ∷ ns) texts logged in
+    let first : before ≡ map drain sinks =
+    ap (λ (ds : List Drain). drain begun.bare ∷ ds) (sym (drains_of drain os)) ∙ ap (λ (l : List K). map drain l) (sym begun.sinks_are) in
+    let last : map (λ (g : JournalGear K). drain g.sink) (n ∷ ns) ≡ map drain back =
+    sym (drains_of drain (n ∷ ns)) ∙ ap (λ (l : List K). map drain l) (sym came) in
+    let P : Bool → List Drain → List Drain → ℕ → Type 0 = λ b ds es i. AreWritten tells b ds es (journals i 0 callers h) in
+    let one : P failed before (map (λ (g : JournalGear K). drain g.sink) (n ∷ ns)) start =
+    subst (λ (b : Bool). P b before (map (λ (g : JournalGear K). drain g.sink) (n ∷ ns)) start) (sym failed_is) all in
+    let two : P failed (map drain sinks) (map (λ (g : JournalGear K). drain g.sink) (n ∷ ns)) start =
+    subst (λ (ds : List Drain). P failed ds (map (λ (g : JournalGear K). drain g.sink) (n ∷ ns)) start) first one in
+    let three : P failed (map drain sinks) (map drain back) start = subst (λ (es : List Drain). P failed (map drain sinks) es start) last two in
+    subst (λ (i : ℕ). P failed (map drain sinks) (map drain back) i) (sym same) three
