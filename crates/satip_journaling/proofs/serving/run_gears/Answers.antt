@@ -1,12 +1,12 @@
 -- The journals may go to other threads, and each sink was sent its job's lines.
 use Rattle.std.proofs.Common.{◌+◌, ◌≤◌, ◌^◌, List, [], ◌∷◌, ◌++◌, length, length-append, arith}
 use Rattle.satip_journal.specs.declared.crew.JournalGear.{JournalGear}
-use Rattle.satip_journal.proofs.Crossing.{journaling}
+use Rattle.satip_journal.proofs.Crossing.{crossing}
 use Rattle.satip_journaling.proofs.Runs.{all_are_typed, all_logged, callers_are, pump_gears, worker_gears}
 use Rattle.satip_journaling.proofs.serving.run_gears.Goals as goal
 
 pub run_services-journal-requires-send-X : goal.run_services-journal-requires-send-X
-run_services-journal-requires-send-X g c κs within = search journaling depth 16
+run_services-journal-requires-send-X g c κs within = search crossing depth 16
 
 pub returns-clause-went_on : goal.returns-clause-went_on
 returns-clause-went_on g c =
