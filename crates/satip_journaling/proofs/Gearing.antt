@@ -1,5 +1,5 @@
 -- Journals that are made of sinks one after another, and sinks that come back.
-use Rattle.std.proofs.Common.{◌≡◌, ◌∙◌, ℕ, ◌+◌, Bool, true, false, ◌||◌, List, [], ◌∷◌, ◌++◌, map, length, refl, sym, ap, subst, arith, append_assoc}
+use Rattle.std.proofs.Common.{◌≡◌, ◌∙◌, ℕ, ◌+◌, Bool, true, false, ◌||◌, List, [], ◌∷◌, ◌++◌, length, refl, sym, ap, subst, arith, append_assoc}
 use Rattle.std.proofs.lemmas.List.{map-append}
 use Rattle.satip_journal.specs.declared.crew.JournalGear.{JournalGear}
 use Rattle.satip_journaling.specs.Gears.{AreOpen, has_failed, sinks_of}

@@ -1,5 +1,5 @@
 -- What the sinks of all jobs were sent, of callers side by side: before their jobs and after.
-use Rattle.std.proofs.Common.{◌≡◌, ◌∙◌, ℕ, ◌+◌, Bool, true, false, List, [], ◌∷◌, map, sym, ap, subst, inl, inr, ⊎_elim}
+use Rattle.std.proofs.Common.{◌≡◌, ℕ, ◌+◌, Bool, true, false, List, [], ◌∷◌, map, sym, ap, subst, inl, inr, ⊎_elim}
 use Rattle.std.specs.Prelude.{◌==◌}
 use Rattle.satip_base.specs.Streams.{Drain}
 use Rattle.satip_history.specs.History.{kept_if, own_of}

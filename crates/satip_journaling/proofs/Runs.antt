@@ -1,5 +1,5 @@
 -- What the sinks of a run were sent.
-use Rattle.std.proofs.Common.{◌≡◌, ◌∙◌, ℕ, ◌+◌, ◌≤◌, ◌<◌, ◌^◌, List, [], ◌∷◌, ◌++◌, map, length, refl, sym, ap, subst, arith, append_assoc, false}
+use Rattle.std.proofs.Common.{◌≡◌, ◌∙◌, ℕ, ◌+◌, ◌≤◌, ◌^◌, List, [], ◌∷◌, ◌++◌, map, length, refl, sym, ap, subst, arith, append_assoc, false}
 use Rattle.std.proofs.lemmas.List.{length-map, map-append}
 use Rattle.satip_base.specs.Streams.{Drain}
 use Rattle.satip_history.specs.History.{own_of}
@@ -21,12 +21,12 @@ use Rattle.satip_crew.specs.Crewed.{RunDid}
 use Rattle.satip_crew.specs.Passes.{CallerOf, callers_of}
 use Rattle.satip_crew.specs.Works.{IsSameSeat}
 use Rattle.satip_crew.proofs.Beside.{both_length}
-use Rattle.satip_crew.proofs.WholeRuns.{from_joined, from_stop, pumps_begin, run_over, ticker_begins, workers_begin}
+use Rattle.satip_crew.proofs.WholeRuns.{from_stop, pumps_begin, run_over, ticker_begins, workers_begin}
 use Rattle.satip_shared.specs.Calling.{ServerPass}
 use Rattle.satip_serve.specs.Services.{IsFirst}
 use Rattle.satip_journal.specs.declared.crew.JournalGear.{JournalGear}
 use Rattle.satip_journal.specs.Continuing.{logs_then}
-use Rattle.satip_journal.specs.Journals.{AreCallersOf, journal_of, journals, journals_from}
+use Rattle.satip_journal.specs.Journals.{AreCallersOf, journal_of, journals_from}
 use Rattle.satip_journal.specs.Keeping.{SameJournal}
 use Rattle.satip_journal.specs.Logs.{Logs}
 use Rattle.satip_journal.specs.Owning.{KnowsOwn}

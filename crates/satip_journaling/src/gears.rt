@@ -38,11 +38,7 @@ fn put_last<T>(items: &mut Vec<T>, item: T)
 }
 
 // The journal of the job of this number, with the next sink.
-fn next_gear<K: Sink>(
-    sinks: &mut Vec<K>,
-    lines: &mut Vec<LineRoom>,
-    number: u64,
-) -> JournalGear<K>
+fn next_gear<K: Sink>(sinks: &mut Vec<K>, lines: &mut Vec<LineRoom>, number: u64) -> JournalGear<K>
     requires sinks { 0 < vec_len sinks.old }
     requires lines { 0 < vec_len lines.old }
     ensures first { sinks.old.items ≡ result.sink ∷ sinks.new.items }

@@ -251,10 +251,7 @@ fn serve_all<
     start: u64,
     jobs: Jobs<D, O, P, M, C>,
     sinks: Vec<K>,
-) -> Result<
-    (SharedPass, Jobs<D, O, P, M, C>, Written<K>, ServeEnd),
-    (Jobs<D, O, P, M, C>, Vec<K>),
->
+) -> Result<(SharedPass, Jobs<D, O, P, M, C>, Written<K>, ServeEnd), (Jobs<D, O, P, M, C>, Vec<K>)>
     requires of { IsOf pass server.now }
     requires knows { Knows (Legal server.now.setting) pass }
     requires first { IsFirst pass }
@@ -297,9 +294,7 @@ fn serve_all<
     ensures unused_sinks { IfErr result (λ back. back.1.items ≡ sinks.items) }
 {
     match take_memory(alloc, jobs.workers.len(), jobs.pumps.len()) {
-        Ok(memory) => Ok(run_journaled(
-            rt, server, pass, start, jobs, sinks, memory,
-        )),
+        Ok(memory) => Ok(run_journaled(rt, server, pass, start, jobs, sinks, memory)),
         Err(Want) => Err((jobs, sinks)),
     }
 }
@@ -326,10 +321,7 @@ pub fn serve_journaled<
     config: Config,
     mut jobs: Jobs<D, O, P, M, C>,
     sinks: Vec<K>,
-) -> Result<
-    (Last<D, O, P, M, C>, Written<K>, ServeEnd),
-    (Jobs<D, O, P, M, C>, Vec<K>),
->
+) -> Result<(Last<D, O, P, M, C>, Written<K>, ServeEnd), (Jobs<D, O, P, M, C>, Vec<K>)>
     requires few { length config.fronts ≤ 16 }
     requires numbered { IsNumbered 1 config.fronts }
     requires received { length config.muxes ≤ 256 }

@@ -2,7 +2,6 @@
 use Rattle.std.proofs.Common.{◌≡◌, ◌∙◌, ◌+◌, List, [], ◌∷◌, ◌++◌, length, arith}
 use Rattle.std.proofs.lemmas.List.{nil_from_length}
 use Rattle.satip_journal.specs.declared.crew.JournalGear.{JournalGear}
-use Rattle.satip_journaling.specs.Gears.{AreOpen}
 use Rattle.satip_journaling.proofs.Gearing.{all_sinks, are_append}
 use Rattle.satip_journaling.proofs.gears.begin_journals.Goals as goal
 

@@ -1,5 +1,5 @@
 -- One sink more has a journal.
-use Rattle.std.proofs.Common.{◌≡◌, ◌∙◌, ◌+◌, List, [], ◌∷◌, ◌++◌, length, sym, ap, subst, arith, length-append}
+use Rattle.std.proofs.Common.{◌≡◌, ◌∙◌, ◌+◌, List, [], ◌∷◌, length, sym, ap, subst, arith, length-append}
 use Rattle.satip_journal.specs.declared.crew.JournalGear.{JournalGear}
 use Rattle.satip_journaling.specs.Gears.{AreOpen}
 use Rattle.satip_journaling.proofs.Gearing.{are_append, next_sink}
