@@ -1,4 +1,4 @@
--- How long the lines are that the program writes of itself.
+-- How long the line of a fault of a configuration is.
 use Rattle.std.proofs.Common.{ℕ, ◌<◌, ◌≤◌, List, length, decimal, length-append, arith, lit≤}
 use Rattle.satip_config.specs.declared.key.ConfigTable.{ConfigTable}
 use Rattle.satip_config.specs.declared.key.ConfigTable.TheVariants as tables
@@ -6,7 +6,7 @@ use Rattle.satip_config.specs.declared.key.ConfigName.{ConfigName}
 use Rattle.satip_config.specs.declared.key.ConfigName.TheVariants as names
 use Rattle.satip_config.specs.declared.key.ConfigKey.{ConfigKey}
 use Rattle.satip_config.specs.Keys.{name_text, text_in, key_text}
-use Rattle.satip_base.proofs.NumberLemmas.{length-decimal_u16, length-decimal_u64}
+use Rattle.satip_base.proofs.NumberLemmas.{length-decimal_u16}
 
 -- how long a name is
 name_length : (name : ConfigName) → length (name_text name) ≤ 9
@@ -40,6 +40,3 @@ pub key_length : (key : ConfigKey) → key.number < 65536 → length (key_text k
 key_length key small = text_length key.table key.number (name_text key.name) small (name_length key.name)
 
 pub ruleset key_room = (key_length)
-
--- the room that a printed number takes
-pub ruleset line_room = (length-decimal_u64)
