@@ -1,5 +1,5 @@
 -- No piece begins another, so that bytes split in one way into pieces.
-use Rattle.std.proofs.Common.{◌≡◌, ◌∙◌, ℕ, ◌/◌, ◌%◌, ◌<◌, ◌≤◌, ◌==◌, not, Bool, true, false, List, [], ◌∷◌, ◌++◌, length, append_assoc, arith, refl, sym, ap, subst, inl, inr}
+use Rattle.std.proofs.Common.{◌≡◌, ◌∙◌, ℕ, ◌/◌, ◌%◌, ◌<◌, ◌==◌, not, Bool, true, false, List, [], ◌∷◌, ◌++◌, length, append_assoc, arith, refl, sym, ap, subst, inl, inr}
 use Rattle.std.specs.Prelude.{codes}
 use Rattle.std.specs.List.{list_all, flat_map}
 use Rattle.std.proofs.lemmas.Bool.{true≢false, and_parts}
@@ -95,10 +95,12 @@ same_reply : (a b more others : List ℕ) → IsReply a → IsReply b → a ++ m
 same_reply a b more others is_a is_b e =
     let ls = (codes "RTSP/1.0 " ++ is_a.status) ∷ is_a.lines in
     let ks = (codes "RTSP/1.0 " ++ is_b.status) ∷ is_b.lines in
-    let same = same_head ls ks (is_a.body ++ more) (is_b.body ++ others) (first_line is_a.status is_a.plain, is_a.each) (first_line is_b.status is_b.plain, is_b.each)
+    let same = same_head ls ks (is_a.body ++ more) (is_b.body ++ others) (first_line is_a.status is_a.plain, is_a.each)
+    (first_line is_b.status is_b.plain, is_b.each)
     (sym (head_first a more is_a) ∙ e ∙ head_first b others is_b) in
     let sizes : length is_a.body ≡ length is_b.body =
-    is_a.size ∙ ap told_size (line_rest (codes "RTSP/1.0 " ++ is_a.status) (codes "RTSP/1.0 " ++ is_b.status) is_a.lines is_b.lines same.lines) ∙ sym is_b.size in
+    is_a.size ∙ ap told_size (line_rest (codes "RTSP/1.0 " ++ is_a.status) (codes "RTSP/1.0 " ++ is_b.status) is_a.lines is_b.lines same.lines)
+    ∙ sym is_b.size in
     is_a.text_is
     ∙ ap (λ (xs : List (List ℕ)). lined xs ++ 13 ∷ 10 ∷ is_a.body) same.lines
     ∙ ap (λ body. lined ks ++ 13 ∷ 10 ∷ body) (same_front is_a.body is_b.body more others sizes same.rest)
@@ -106,22 +108,22 @@ same_reply a b more others is_a is_b e =
 
 -- two frames
 
-same_length : (n m : ℕ) → n ≤ 65535 → m ≤ 65535 → n / 256 ≡ m / 256 → n % 256 ≡ m % 256 → n ≡ m
-same_length n m small_n small_m high low = omega (arith, high, low)
+same_length : (n m : ℕ) → n / 256 ≡ m / 256 → n % 256 ≡ m % 256 → n ≡ m
+same_length n m high low = omega (arith, high, low)
 
-frame_is : (c d : ℕ) (xs bs more others : List ℕ) → length xs ≤ 65535 → length bs ≤ 65535 → frame c xs ++ more ≡ frame d bs ++ others → frame c xs ≡ frame d bs
-frame_is c d xs bs more others short_a short_b e =
+frame_is : (c d : ℕ) (xs bs more others : List ℕ) → frame c xs ++ more ≡ frame d bs ++ others → frame c xs ≡ frame d bs
+frame_is c d xs bs more others e =
     let channels = cons_is c d _ _ (cons_is 36 36 _ _ e).1 in
     let highs = cons_is (length xs / 256) (length bs / 256) _ _ channels.1 in
     let lows = cons_is (length xs % 256) (length bs % 256) _ _ highs.1 in
-    let size : length xs ≡ length bs = same_length (length xs) (length bs) short_a short_b highs.0 lows.0 in
+    let size : length xs ≡ length bs = same_length (length xs) (length bs) highs.0 lows.0 in
     let content : xs ≡ bs = same_front xs bs more others size lows.1 in
     ap (λ ch. frame ch xs) channels.0 ∙ ap (frame d) content
 
 same_frame : (a b more others : List ℕ) → IsFrame a → IsFrame b → a ++ more ≡ b ++ others → a ≡ b
 same_frame a b more others is_a is_b e =
     is_a.text_is
-    ∙ frame_is is_a.channel is_b.channel is_a.bytes is_b.bytes more others is_a.short is_b.short
+    ∙ frame_is is_a.channel is_b.channel is_a.bytes is_b.bytes more others
     (ap (λ t. t ++ more) (sym is_a.text_is) ∙ e ∙ ap (λ t. t ++ others) is_b.text_is)
     ∙ sym is_b.text_is
 

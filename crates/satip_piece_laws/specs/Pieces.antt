@@ -1,5 +1,5 @@
 -- How replies and frames that are sent one behind another are told apart (RFC 2326, 4 and 10.12).
-use Rattle.std.specs.Prelude.{◌≡◌, ◌⊎◌, ℕ, ◌<◌, ◌≤◌, ◌==◌, ◌&&◌, not, Bool, true, List, [], ◌∷◌, ◌++◌, codes, drop, length, if◌then◌else◌}
+use Rattle.std.specs.Prelude.{◌≡◌, ◌⊎◌, ℕ, ◌<◌, ◌==◌, ◌&&◌, not, Bool, true, List, [], ◌∷◌, ◌++◌, codes, drop, length, if◌then◌else◌}
 use Rattle.std.specs.List.{list_all, flat_map}
 use Rattle.std.specs.Str.Parse.{digits_value}
 use Rattle.satip_history.specs.Lists.{Each}
@@ -42,7 +42,6 @@ pub record IsFrame (text : List ℕ) : Type 0 where
   pub channel : ℕ
   pub bytes : List ℕ
   pub text_is : text ≡ frame channel bytes
-  pub short : length bytes ≤ 65535
 
 abbrev pub IsPiece : List ℕ → Type 0
 IsPiece text = IsReply text ⊎ IsFrame text

@@ -2,5 +2,7 @@
 #![tactic(auto)]
 
 mod laws;
+mod rows;
 
-pub use laws::split_one_way;
+pub use laws::{replies_are_replies, split_one_way};
+pub use rows::worked_rows;

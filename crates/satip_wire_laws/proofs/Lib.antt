@@ -1,1 +1,3 @@
 pub mod Wiring
+pub mod Framing
+pub mod Parting

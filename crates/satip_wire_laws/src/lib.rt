@@ -4,5 +4,5 @@
 mod laws;
 mod rows;
 
-pub use laws::{runs_drain_own, wires_have_lanes};
+pub use laws::{runs_drain_own, wires_have_lanes, wires_split_one_way};
 pub use rows::worked_rows;
