@@ -1,5 +1,5 @@
 -- Whole journals are judged `yes`.
-use Rattle.std.proofs.Common.{◌≡◌, ◌∙◌, ℕ, Bool, false, List, [], ◌∷◌, ◌++◌, map, refl, sym, ap, subst}
+use Rattle.std.proofs.Common.{◌≡◌, ◌∙◌, ℕ, Bool, false, List, [], ◌∷◌, ◌++◌, map, refl, ap, subst}
 use Rattle.std.specs.List.Sorted.{IsPermutation}
 use Rattle.satip_base.specs.Streams.{Drain}
 use Rattle.satip_history.specs.Lists.{Each}
