@@ -1,7 +1,7 @@
 //! The top call: what the program does with its words, its input, its output, its errors and its
 //! desk.
 
-ghost use Rattle.std.specs.Prelude.{◌≡◌, ◌↔◌, ◌⊎◌, ℕ, ◌+◌, ◌-◌, ◌<◌, ◌≤◌, List, Some, None, option_map, IsSome, IsNone, IfSome, IsSomeAnd};
+ghost use Rattle.std.specs.Prelude.{◌≡◌, ◌↔◌, ◌⊎◌, ℕ, ◌+◌, ◌-◌, ◌<◌, ◌≤◌, List, [], Some, None, option_map, IsSome, IsNone, IfSome, IsSomeAnd};
 ghost use Rattle.satip_base.specs.Streams.{Feed, Rose};
 ghost use Rattle.satip_serving.specs.Given.{jobs_view};
 ghost use Rattle.satip_record_command.specs.Ends.{RecordEnds, left_of};
@@ -76,6 +76,8 @@ pub struct Ended<K: Desk> {
     pub inlet: Option<K::Inlet>,
     /// The clock that the desk gave to a recording, if there was one.
     pub moment: Option<K::Moment>,
+    /// The journals that the desk gave to jobs, in their order.
+    pub journals: Vec<K::Journal>,
 }
 
 impl<K: Desk> Drop for Ended<K> {
@@ -88,6 +90,7 @@ impl<K: Desk> Drop for Ended<K> {
             wire: _,
             inlet: _,
             moment: _,
+            journals: _,
         } = self;
     }
 }
@@ -191,6 +194,10 @@ pub fn satip<R: Threads + Wait + Sync, K: Desk, I: Source, O: Sink, E: Sink>(
         → desk.new ≡ desk.old }
     ensures texts { K.text desk.new ≡ K.text desk.old }
 
+    // No journals are asked of the desk.
+    ensures journaled { K.journaled desk.new ≡ K.journaled desk.old }
+    ensures no_journals { result.journals.items ≡ [] }
+
     // When each status comes.
     ensures configuration { serve_of words.now ≡ None → result.status ≡ 3
         → IsSome (config_named (command_of words.now)) ⊎ IsSome (audit_of words.now) }
@@ -252,7 +259,9 @@ fn run_serve<R: Threads + Wait + Sync, K: Desk, E: Sink>(
         (E.drain errors.old) (E.drain errors.new)
         result.status }
     ensures handed { K.handed desk.new ≡ K.handed desk.old }
+    ensures journaled { K.journaled desk.new ≡ K.journaled desk.old }
     ensures no_client { (result.wire ≡ None) × (result.inlet ≡ None) × (result.moment ≡ None) }
+    ensures no_journals { result.journals.items ≡ [] }
     ensures errors { (result.status ≡ 3 → ⊥) → Says E.tells
         (E.drain errors.old) (E.drain errors.new)
         (line_of result.status) }
@@ -272,6 +281,7 @@ fn run_serve<R: Threads + Wait + Sync, K: Desk, E: Sink>(
         wire: None,
         inlet: None,
         moment: None,
+        journals: Vec::new(alloc),
     }
 }
 
@@ -365,6 +375,10 @@ pub fn offline<K: Desk, I: Source, O: Sink, E: Sink>(
         → config_named (command_of words.now) ≡ None → desk.new ≡ desk.old }
     ensures texts { K.text desk.new ≡ K.text desk.old }
 
+    // No journals are asked of the desk.
+    ensures journaled { K.journaled desk.new ≡ K.journaled desk.old }
+    ensures no_journals { result.journals.items ≡ [] }
+
     // No kits are asked of the desk.
     ensures kits { K.given desk.new ≡ K.given desk.old }
     ensures no_last { result.last ≡ None }
@@ -398,19 +412,20 @@ pub fn offline<K: Desk, I: Source, O: Sink, E: Sink>(
             None => {
                 let Ending { outcome, config } = run(alloc, words, input, output, desk);
                 tell(outcome, errors);
-                without_jobs(outcome.status(), config)
+                without_jobs(alloc, outcome.status(), config)
             }
         },
     }
 }
 
 // The end of a run that has no jobs and no client.
-fn without_jobs<K: Desk>(status: u8, config: Option<K::Config>) -> Ended<K>
+fn without_jobs<K: Desk>(alloc: Global, status: u8, config: Option<K::Config>) -> Ended<K>
     ensures status { result.status ≡ status }
     ensures config { result.config ≡ config }
     ensures no_last { result.last ≡ None }
     ensures no_unused { result.unused ≡ None }
     ensures no_client { (result.wire ≡ None) × (result.inlet ≡ None) × (result.moment ≡ None) }
+    ensures no_journals { result.journals.items ≡ [] }
 {
     Ended {
         status,
@@ -420,6 +435,7 @@ fn without_jobs<K: Desk>(status: u8, config: Option<K::Config>) -> Ended<K>
         wire: None,
         inlet: None,
         moment: None,
+        journals: Vec::new(alloc),
     }
 }
 
@@ -435,6 +451,7 @@ fn run_audit<K: Desk, I: Source, O: Sink, E: Sink>(
     ensures texts { K.text desk.new ≡ K.text desk.old }
     ensures kits { K.given desk.new ≡ K.given desk.old }
     ensures handed { K.handed desk.new ≡ K.handed desk.old }
+    ensures journaled { K.journaled desk.new ≡ K.journaled desk.old }
     ensures ends { AuditEnds K.Config.tells I.tells O.tells E.tells
         (K.text desk.old name.now) (K.faults desk.old) (K.faults desk.new)
         K.Config.feed result.config
@@ -447,6 +464,7 @@ fn run_audit<K: Desk, I: Source, O: Sink, E: Sink>(
     ensures no_last { result.last ≡ None }
     ensures no_unused { result.unused ≡ None }
     ensures no_client { (result.wire ≡ None) × (result.inlet ≡ None) × (result.moment ≡ None) }
+    ensures no_journals { result.journals.items ≡ [] }
     ensures input_fault { result.status ≡ 5 → Rose (K.faults desk.old) (K.faults desk.new)
         ⊎ IsSomeAnd result.config (λ source. Rose 0 (K.Config.feed source).faults)
         ⊎ Rose (I.feed input.old).faults (I.feed input.new).faults }
@@ -460,7 +478,7 @@ fn run_audit<K: Desk, I: Source, O: Sink, E: Sink>(
         (line_of result.status) }
 {
     let Audited { end, config } = audit_by(alloc, name, input, output, errors, desk);
-    without_jobs(status_of(end), config)
+    without_jobs(alloc, status_of(end), config)
 }
 
 // Records, and tells how it ended.
@@ -476,6 +494,7 @@ fn run_record<K: Desk, O: Sink, E: Sink>(
     requires client { K.handed desk.old ≡ nothing_handed }
     ensures texts { K.text desk.new ≡ K.text desk.old }
     ensures kits { K.given desk.new ≡ K.given desk.old }
+    ensures journaled { K.journaled desk.new ≡ K.journaled desk.old }
     ensures ends { (i : Feed) → RecordEnds K.Wire.tells K.Inlet.tells O.tells E.tells
         (wanted recording.now) (K.handed desk.new) (K.faults desk.old) (K.faults desk.new)
         (left_of K.Wire.line K.Moment.dial K.Inlet.inbox result.wire result.moment result.inlet)
@@ -487,6 +506,7 @@ fn run_record<K: Desk, O: Sink, E: Sink>(
     ensures no_config { result.config ≡ None }
     ensures no_last { result.last ≡ None }
     ensures no_unused { result.unused ≡ None }
+    ensures no_journals { result.journals.items ≡ [] }
 {
     let Recorded {
         end,
@@ -502,6 +522,7 @@ fn run_record<K: Desk, O: Sink, E: Sink>(
         wire,
         inlet,
         moment,
+        journals: Vec::new(alloc),
     }
 }
 
@@ -526,6 +547,7 @@ fn run<K: Desk, I: Source, O: Sink>(
     ensures texts { K.text desk.new ≡ K.text desk.old }
     ensures kits { K.given desk.new ≡ K.given desk.old }
     ensures handed { K.handed desk.new ≡ K.handed desk.old }
+    ensures journaled { K.journaled desk.new ≡ K.journaled desk.old }
 {
     match read_words(words) {
         None => alone(Outcome::Usage),
@@ -567,6 +589,7 @@ fn replay_by<K: Desk, I: Source, O: Sink>(
     ensures texts { K.text desk.new ≡ K.text desk.old }
     ensures kits { K.given desk.new ≡ K.given desk.old }
     ensures handed { K.handed desk.new ≡ K.handed desk.old }
+    ensures journaled { K.journaled desk.new ≡ K.journaled desk.old }
 {
     match desk.config(name) {
         Ok(mut config) => {
