@@ -1,5 +1,5 @@
 -- What an audit comes to, by its status.
-use Rattle.std.proofs.Common.{◌≡◌, ℕ, ◌+◌, ◌≤◌, ◌⊎◌, inl, inr, List, Option, Some, None, IsSomeAnd, refl, subst, ⊎_elim, arith}
+use Rattle.std.proofs.Common.{◌≡◌, ℕ, ◌+◌, ◌≤◌, ◌⊎◌, inl, inr, List, Option, Some, None, refl, subst, ⊎_elim, arith}
 use Rattle.satip_base.specs.Streams.{Feed, Drain, Rose}
 use Rattle.satip_world.specs.Counts.{Rises}
 use Rattle.satip_world.specs.Recordings.{IsStarted}

@@ -59,7 +59,7 @@ impl<'a, R: Wait + Sync, K: Sink> Service for Journal<'a, R, K> {
     ghost use Rattle.satip_plain.specs.Histories.{Legal};
     ghost use Rattle.satip_service.specs.Calls.{Called, Bursts};
     ghost use Rattle.satip_shared.specs.Calling.{known_by, same_caller_setting};
-    ghost use Rattle.satip_turn.specs.Shown.{Turned, Looked};
+    ghost use Rattle.satip_turn.specs.Shown.{Knows, Turned, Looked};
     ghost use Rattle.satip_journal.specs.Keeping.{kept, SameJournal};
     ghost use Rattle.satip_journal.specs.Continuing.{same_journal, same_journal_then};
 
@@ -108,6 +108,7 @@ impl<'a, R: Wait + Sync, K: Sink> Service for Journal<'a, R, K> {
             (λ answer. Turned self.old.caller.pass self.new.caller.pass
             (entry self.old.caller.pass.number event.now answer out.new ∷ []))
             (λ _. Looked self.old.caller.pass self.new.caller.pass) }
+        ensures knows { Knows (Legal self.old.caller.server.now.setting) self.new.caller.pass }
     {
         // lent whole, since the caller's facts hold of it as a whole
         let caller = &mut self.caller;

@@ -1,5 +1,5 @@
 -- The statuses of an audit, and its lines.
-use Rattle.std.proofs.Common.{◌≡◌, ℕ, List, refl, sym, ◌∙◌, ap, subst, arith}
+use Rattle.std.proofs.Common.{◌≡◌, ℕ, List, refl, sym, ◌∙◌, subst, arith}
 use Rattle.satip_auditing.specs.declared.ends.AuditEnd.{AuditEnd}
 use Rattle.satip_auditing.specs.declared.ends.AuditEnd.TheVariants.{Done, Configuration, Journal, InputFault, OutputFault, TooLong, OutOfMemory}
 use Rattle.satip_audit_command.specs.Ends.{audit_status, audit_line}
@@ -72,10 +72,10 @@ ends_long OutOfMemory is = absurd (omega (arith, is))
 -- the line of each status but 3 and 4
 pub line_told : (Line : List ℕ → Type 0) (end : AuditEnd) (status : ℕ) → status ≡ audit_status end → Line (audit_line end)
     → (status ≡ 3 → ⊥) → (status ≡ 4 → ⊥) → Line (line_of status)
-line_told Line Done status of line fault number = let L : ℕ → Type 0 = λ n. Line (line_of n) in subst L (sym of) line
-line_told Line (Configuration fault) status of line fault number = absurd (fault of)
-line_told Line (Journal number) status of line fault number = absurd (number of)
-line_told Line InputFault status of line fault number = let L : ℕ → Type 0 = λ n. Line (line_of n) in subst L (sym of) line
-line_told Line OutputFault status of line fault number = let L : ℕ → Type 0 = λ n. Line (line_of n) in subst L (sym of) line
-line_told Line TooLong status of line fault number = let L : ℕ → Type 0 = λ n. Line (line_of n) in subst L (sym of) line
-line_told Line OutOfMemory status of line fault number = let L : ℕ → Type 0 = λ n. Line (line_of n) in subst L (sym of) line
+line_told Line Done status of line no_fault no_number = let L : ℕ → Type 0 = λ n. Line (line_of n) in subst L (sym of) line
+line_told Line (Configuration fault) status of line no_fault no_number = absurd (no_fault of)
+line_told Line (Journal number) status of line no_fault no_number = absurd (no_number of)
+line_told Line InputFault status of line no_fault no_number = let L : ℕ → Type 0 = λ n. Line (line_of n) in subst L (sym of) line
+line_told Line OutputFault status of line no_fault no_number = let L : ℕ → Type 0 = λ n. Line (line_of n) in subst L (sym of) line
+line_told Line TooLong status of line no_fault no_number = let L : ℕ → Type 0 = λ n. Line (line_of n) in subst L (sym of) line
+line_told Line OutOfMemory status of line no_fault no_number = let L : ℕ → Type 0 = λ n. Line (line_of n) in subst L (sym of) line

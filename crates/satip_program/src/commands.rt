@@ -35,11 +35,12 @@ pub(crate) struct Serve<'w> {
 
 /// The `serve` that the words ask for; `None` where they ask for none. No other command has such
 /// words.
-#[tactic(auto, unfolding(crate::specs::Commands::serve_of, crate::specs::Commands::command_of, crate::specs::Commands::recording_of))]
+#[tactic(auto, unfolding(crate::specs::Commands::serve_of, crate::specs::Commands::command_of, crate::specs::Commands::recording_of, crate::specs::Commands::audit_of))]
 pub(crate) fn read_serve(words: &[Text]) -> Option<Serve<'_>>
     ensures serve { option_map serving_of result ≡ serve_of words.now }
     ensures alone { IfSome result (λ _. command_of words.now ≡ None) }
     ensures other { IfSome result (λ _. recording_of words.now ≡ None) }
+    ensures audit { IfSome result (λ _. audit_of words.now ≡ None) }
 {
     match words {
         [] => None,
@@ -85,12 +86,13 @@ fn read_accepts<'w>(name: &'w Text, accepts: &[u8]) -> Option<Serve<'w>>
 
 /// The recording that the words ask for; `None` where they ask for none. No other command has such
 /// words.
-#[tactic(auto, unfolding(crate::specs::Commands::recording_of, crate::specs::Commands::command_of))]
+#[tactic(auto, unfolding(crate::specs::Commands::recording_of, crate::specs::Commands::command_of, crate::specs::Commands::audit_of))]
 pub(crate) fn read_recording(words: &[Text]) -> Option<Recording<'_>>
     ensures recording { option_map wanted result ≡ recording_of words.now }
     ensures some { IfSome result (λ recording. 1 ≤ recording.count) }
     ensures few { IfSome result (λ recording. recording.count ≤ 1000000) }
     ensures alone { IfSome result (λ _. command_of words.now ≡ None) }
+    ensures audit { IfSome result (λ _. audit_of words.now ≡ None) }
 {
     match words {
         [] => None,
@@ -110,12 +112,11 @@ pub(crate) fn read_recording(words: &[Text]) -> Option<Recording<'_>>
 
 /// The name of the configuration of the `audit` that the words ask for; `None` where they ask for
 /// none. No other command has such words.
-#[tactic(auto, unfolding(crate::specs::Commands::audit_of, crate::specs::Commands::command_of, crate::specs::Commands::recording_of, crate::specs::Commands::serve_of))]
+#[tactic(auto, unfolding(crate::specs::Commands::audit_of, crate::specs::Commands::command_of, crate::specs::Commands::recording_of))]
 pub(crate) fn read_audit(words: &[Text]) -> Option<&Text>
     ensures audit { option_map (λ name. name.now) result ≡ audit_of words.now }
     ensures alone { IfSome result (λ _. command_of words.now ≡ None) }
     ensures other { IfSome result (λ _. recording_of words.now ≡ None) }
-    ensures offline { IfSome result (λ _. serve_of words.now ≡ None) }
 {
     match words {
         [] => None,
@@ -132,7 +133,13 @@ fn read_audit_name<'w>(word: &[u8], name: &'w Text) -> Option<&'w Text>
 {
     match name.bytes() {
         [] => None,
-        [_, ..] => { if is_text(word, b"audit") { Some(name) } else { None } }
+        [_, ..] => {
+            if is_text(word, b"audit") {
+                Some(name)
+            } else {
+                None
+            }
+        }
     }
 }
 

@@ -1,22 +1,15 @@
 -- A run of the server with all its jobs.
-use Rattle.std.specs.Prelude.{◌≡◌, ◌≢◌, ℕ, ◌+◌, ◌⊎◌, true, List, [], ◌∷◌, ◌++◌, length}
+use Rattle.std.specs.Prelude.{◌≡◌, ◌≢◌, ℕ, ◌⊎◌, true, List, [], ◌∷◌, ◌++◌, length}
 use Rattle.satip_history.specs.Lists.{Each, Has}
 use Rattle.satip_history.specs.History.{own_of}
 use Rattle.satip_plain.specs.declared.events.Event.TheVariants.{Stop}
 use Rattle.satip_plain.specs.declared.setting.Setting.{Setting}
 use Rattle.satip_plain.specs.Histories.{Item, Legal}
 use Rattle.satip_turn.specs.Views.{numbers_of}
-use Rattle.satip_serve.specs.declared.end.ServeEnd.{ServeEnd}
-use Rattle.satip_serve.specs.declared.end.ServeEnd.TheVariants.{Served, DoorsFault, HistoryFull}
+use Rattle.satip_crew.specs.declared.end.ServeEnd.{ServeEnd}
+pub use Rattle.satip_crew.specs.Runs.{Along, MatchEnd}
 use Rattle.satip_serve.specs.Views.{WorkerView, PumpView, TickView}
 use Rattle.satip_serve.specs.Done.{Caller, IsFull, WorkerDone, PumpDone, TickerDone}
-
--- P holds of each two at one place, and of the place's number, counted from this one; the lists are as long
-abbrev pub Along : {S T : Type 0} → (ℕ → S → T → Type 0) → ℕ → List S → List T → Type 0
-Along P n [] [] = Unit {0}
-Along P n [] (y ∷ ys) = ⊥
-Along P n (x ∷ xs) [] = ⊥
-Along P n (x ∷ xs) (y ∷ ys) = P n x y × Along P (n + 1) xs ys
 
 -- caller 0 has one entry, a stop, and none of these callers has one after it
 pub record StopsOnce (h : List Item) (callers : List Caller) : Type 0 where
@@ -56,12 +49,6 @@ pub record ServeRun (conn_tells outlet_tells : Type 0) (c : Setting) (accepts : 
   pub stopped : StopsOnce seen of_workers ⊎ HasNoStop seen
   -- nobody else made an entry
   pub covered : Each (λ e. Has e.caller (0 ∷ numbers_of kept)) seen
-
--- a fact for each end
-abbrev pub MatchEnd : ServeEnd → (served fault full : Type 0) → Type 0
-MatchEnd Served served fault full = served
-MatchEnd DoorsFault served fault full = fault
-MatchEnd HistoryFull served fault full = full
 
 -- the doors of one of the workers failed
 abbrev pub HasFault : List WorkerView → Type 0

@@ -1,4 +1,3 @@
-use Rattle.std.proofs.Common.{inl}
 use Rattle.satip_audit_command.proofs.EndLemmas.{opened_ends, unopened_ends, fault_of, output_fault_of}
 use Rattle.satip_audit_command.proofs.command.audit_by.Goals as goal
 

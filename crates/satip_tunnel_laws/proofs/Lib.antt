@@ -1,0 +1,6 @@
+pub mod Holding
+pub mod Turning
+pub mod Moving
+pub mod Taking
+pub mod Owning
+pub mod Connecting

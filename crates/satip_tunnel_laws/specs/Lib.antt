@@ -1,0 +1,3 @@
+pub mod LaneFrames
+pub mod Owners
+pub mod Rows
