@@ -188,7 +188,11 @@ impl MemoryDesk {
         if job >= self.journals.jobs {
             return None;
         }
-        let failing = if job == self.journals.failing_job { self.journals.failing_put } else { 0 };
+        let failing = if job == self.journals.failing_job {
+            self.journals.failing_put
+        } else {
+            0
+        };
         let Ok(sink) = MemorySink::make(self.alloc, &[failing], 5) else {
             return None;
         };
