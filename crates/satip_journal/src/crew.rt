@@ -1,20 +1,24 @@
-//! Journals that are split off from one and joined into it again.
+//! Journals of callers that are split off from one and joined into it again.
 ghost use Rattle.std.specs.Prelude.{◌≡◌, false};
 ghost use Rattle.satip_plain.specs.declared.events.Event.TheVariants.{Stop};
 ghost use Rattle.satip_plain.specs.Histories.{Legal};
+ghost use Rattle.satip_records.specs.Lines.{start_line};
+ghost use Rattle.satip_journal.specs.Gears.{gear_of};
 ghost use Rattle.satip_journal.specs.Keeping.{kept, SameJournal};
+ghost use Rattle.satip_journal.specs.Logs.{Logs};
+ghost use Rattle.satip_journal.specs.Owning.{KnowsOwn};
 
-use crate::journal::Journal;
+use crate::journal::{Journal, fails_to_put};
 use satip_base::{Out, Sink};
 use satip_crew::{Crew, ServeEnd};
 use satip_plain::{Answer, Event};
-use satip_records::LineRoom;
-use satip_service::{Service, ServiceFault};
+use satip_records::{LineRoom, write_start};
+use satip_service::Service;
 use satip_shared::Caller;
 use std::sync::Wait;
 
-/// What a journal has beside its caller: its job's number, its sink, the room of its line, and
-/// whether a put failed.
+/// What a job's journal has beside its caller: the job's number, the sink and the room of its lines,
+/// and whether a put failed.
 #[derive(Drop)]
 pub struct JournalGear<K> {
     pub number: u64,
@@ -24,10 +28,10 @@ pub struct JournalGear<K> {
 }
 
 impl<K: Sink> JournalGear<K> {
-    /// The gear of the job of this number, of whose lines none was put yet.
+    /// The journal of the job of this number, of whose lines none was put yet.
     pub fn new(number: u64, sink: K, line: LineRoom) -> JournalGear<K>
         ensures number { result.number ≡ number }
-        ensures sink { K.drain result.sink ≡ K.drain sink }
+        ensures sink { result.sink ≡ sink }
         ensures open { result.failed ≡ false }
     {
         JournalGear {
@@ -35,6 +39,41 @@ impl<K: Sink> JournalGear<K> {
             sink,
             line,
             failed: false,
+        }
+    }
+
+    /// Puts the line of the moment at which the history starts, in milliseconds.
+    pub fn start(&mut self, now: u64)
+        requires open { self.old.failed ≡ false }
+        ensures number { self.new.number ≡ self.old.number }
+        ensures logs { Logs K.tells (K.drain self.old.sink) (K.drain self.new.sink) false
+            self.new.failed (start_line now) }
+    {
+        write_start(now, &mut self.line);
+        self.failed = fails_to_put(&mut self.sink, self.line.bytes());
+    }
+}
+
+impl<'a, R: Wait + Sync, K: Sink> Journal<'a, R, K> {
+    /// The journal of a caller that goes on with this gear.
+    pub fn with_gear(caller: Caller<'a, R>, gear: JournalGear<K>) -> Journal<'a, R, K>
+        requires own { KnowsOwn caller.pass }
+        ensures server { result.caller.server.now ≡ caller.entry.server.now }
+        ensures pass { result.caller.pass ≡ caller.entry.pass }
+        ensures gear { gear_of result.number result.sink result.line result.failed ≡ gear }
+    {
+        let JournalGear {
+            number,
+            sink,
+            line,
+            failed,
+        } = gear;
+        Journal {
+            caller,
+            number,
+            sink,
+            line,
+            failed,
         }
     }
 }
@@ -50,7 +89,7 @@ impl<'a, R: Wait + Sync, K: Sink + Send + Drop> Crew for Journal<'a, R, K> {
 
     ghost pass = { λ s. s.caller.pass };
 
-    ghost gear = { λ s. record { number = s.number; sink = s.sink; line = s.line; failed = s.failed } };
+    ghost gear = { λ s. gear_of s.number s.sink s.line s.failed };
 
     ghost legal = { λ c h. Legal c h };
 
@@ -61,22 +100,20 @@ impl<'a, R: Wait + Sync, K: Sink + Send + Drop> Crew for Journal<'a, R, K> {
         (kept t.caller.server.now t.caller.pass t.number (K.drain t.sink) t.failed) };
 
     fn split(&mut self, given: JournalGear<K>) -> Self {
-        // lent whole, since the caller's facts hold of it as a whole
-        let parent = &mut self.caller;
-        let pass = parent.server.split(&mut parent.pass);
-        let caller = Caller {
-            rt: parent.rt,
-            server: parent.server,
-            pass,
-        };
         let JournalGear {
             number,
             sink,
             line,
             failed,
         } = given;
+        let caller = &mut self.caller;
+        let pass = caller.server.split(&mut caller.pass);
         Journal {
-            caller,
+            caller: Caller {
+                rt: caller.rt,
+                server: caller.server,
+                pass,
+            },
             number,
             sink,
             line,
@@ -86,7 +123,7 @@ impl<'a, R: Wait + Sync, K: Sink + Send + Drop> Crew for Journal<'a, R, K> {
 
     fn join(&mut self, other: Self) -> JournalGear<K> {
         let Journal {
-            caller,
+            caller: joined,
             number,
             sink,
             line,
@@ -96,9 +133,9 @@ impl<'a, R: Wait + Sync, K: Sink + Send + Drop> Crew for Journal<'a, R, K> {
             rt: _,
             server: _,
             pass,
-        } = caller;
-        let parent = &mut self.caller;
-        parent.server.join(&mut parent.pass, pass);
+        } = joined;
+        let caller = &mut self.caller;
+        caller.server.join(&mut caller.pass, pass);
         JournalGear {
             number,
             sink,
@@ -107,12 +144,11 @@ impl<'a, R: Wait + Sync, K: Sink + Send + Drop> Crew for Journal<'a, R, K> {
         }
     }
 
-    /// Makes the event `Stop`, and puts its line as that of any event. It waits.
+    /// Makes the event `Stop`, and puts its line. It waits.
     fn stop(&mut self, out: &mut Out) -> ServeEnd {
         match self.call(&Event::Stop, out) {
-            Ok(_) => ServeEnd::Served,
-            Err(ServiceFault::Spent) => ServeEnd::HistoryFull,
-            Err(ServiceFault::Want) => ServeEnd::HistoryFull,
+            Ok(_answer) => ServeEnd::Served,
+            Err(_fault) => ServeEnd::HistoryFull,
         }
     }
 }

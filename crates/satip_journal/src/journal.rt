@@ -3,6 +3,7 @@ ghost use Rattle.std.specs.Prelude.{◌≡◌, false};
 ghost use Rattle.satip_journal.specs.Owning.{KnowsOwn, knows_own_prop};
 ghost use Rattle.satip_journal.specs.Logs.{Logs};
 
+use crate::typed::known_item;
 use satip_base::{Out, Put, Sink, Spent};
 use satip_plain::{Answer, Event};
 use satip_records::{LineRoom, write_entry};
@@ -44,7 +45,7 @@ impl<'a, R: Wait + Sync, K: Sink> Journal<'a, R, K> {
 }
 
 // Puts a line, and says whether that failed.
-fn fails_to_put<K: Sink>(sink: &mut K, line: &[u8]) -> bool
+pub(crate) fn fails_to_put<K: Sink>(sink: &mut K, line: &[u8]) -> bool
     ensures logs { Logs K.tells (K.drain sink.old) (K.drain sink.new) false result line.now }
 {
     match sink.put(line) {
@@ -114,6 +115,7 @@ impl<'a, R: Wait + Sync, K: Sink> Service for Journal<'a, R, K> {
         let caller = &mut self.caller;
         match caller.server.call(caller.rt, &mut caller.pass, event, out) {
             Ok(answer) => {
+                known_item(event, &answer, out);
                 let place = caller.pass.place() - 1;
                 if self.failed {
                     return Ok(answer);

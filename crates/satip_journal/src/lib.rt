@@ -4,6 +4,7 @@
 mod crew;
 mod journal;
 mod rows;
+mod typed;
 
 pub use crew::JournalGear;
 pub use journal::Journal;

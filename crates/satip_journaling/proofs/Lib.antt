@@ -1,0 +1,5 @@
+pub mod OwnAtLast
+pub mod Logging
+pub mod Jobs
+pub mod Runs
+pub mod Gearing
