@@ -5,6 +5,7 @@
 
 mod caller;
 mod copying;
+mod crew;
 mod feeding;
 mod room;
 mod tunnel;

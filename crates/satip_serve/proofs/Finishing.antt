@@ -24,7 +24,7 @@ use Rattle.satip_worker.specs.declared.worker.WorkerEnd.TheVariants.{Closed, Doo
 use Rattle.satip_worker.specs.Drawing.{draw_at}
 use Rattle.satip_worker.specs.Ends.{is_unmade}
 use Rattle.satip_worker.specs.WorkerRun.{ServesAll, WorkerEnds}
-use Rattle.satip_serve.specs.declared.end.ServeEnd.{ServeEnd}
+use Rattle.satip_crew.specs.declared.end.ServeEnd.{ServeEnd}
 use Rattle.satip_serve.specs.Views.{WorkerView, PumpView, TickView}
 use Rattle.satip_serve.specs.Deeds.{WorkerDid, PumpDid, TickerDid}
 use Rattle.satip_serve.specs.Done.{EndsInTime, WorkerDone, PumpDone, TicksStop, TickerDone}

@@ -5,7 +5,7 @@ use Rattle.satip_service.specs.Known.{Known}
 use Rattle.satip_world.specs.Deliveries.{Delivers}
 use Rattle.satip_world.specs.Outboxes.{Outbox, unlocked}
 use Rattle.satip_world.proofs.DeliveryLemmas.{delivers_unlocked}
-use Rattle.satip_serve.specs.declared.end.ServeEnd.{ServeEnd}
+use Rattle.satip_crew.specs.declared.end.ServeEnd.{ServeEnd}
 use Rattle.satip_serve.specs.Deeds.{WorkerDid, PumpDid, TickerDid}
 use Rattle.satip_serve.specs.Views.{WorkerView, PumpView, TickView}
 

@@ -15,7 +15,7 @@ use Rattle.satip_world.specs.Outboxes.{Outbox}
 use Rattle.satip_worker.specs.declared.kits.WorkerKit.{WorkerKit}
 use Rattle.satip_worker.specs.declared.worker.WorkerEnd.{WorkerEnd}
 use Rattle.satip_worker.specs.WorkerRun.{ServesDoors}
-use Rattle.satip_serve.specs.declared.end.ServeEnd.{ServeEnd}
+use Rattle.satip_crew.specs.declared.end.ServeEnd.{ServeEnd}
 use Rattle.satip_serve.specs.Ends.{end_of_worker, end_of_job}
 use Rattle.satip_serve.specs.Views.{WorkerView, PumpView, TickView, worker_view, pump_view, tick_view}
 

@@ -1,10 +1,10 @@
--- How jobs end, and what is told of all of them.
+-- How jobs end.
 use Rattle.satip_pump.specs.declared.ends.JobEnd.{JobEnd}
 use Rattle.satip_pump.specs.declared.ends.JobEnd.TheVariants.{Stopped, Spent as JobSpent, Want as JobWant}
 use Rattle.satip_worker.specs.declared.worker.WorkerEnd.{WorkerEnd}
 use Rattle.satip_worker.specs.declared.worker.WorkerEnd.TheVariants.{Closed, DoorsFault as WorkerDoorsFault, Spent as WorkerSpent, Want as WorkerWant}
-use Rattle.satip_serve.specs.declared.end.ServeEnd.{ServeEnd}
-use Rattle.satip_serve.specs.declared.end.ServeEnd.TheVariants.{Served, DoorsFault, HistoryFull}
+use Rattle.satip_crew.specs.declared.end.ServeEnd.{ServeEnd}
+use Rattle.satip_crew.specs.declared.end.ServeEnd.TheVariants.{Served, DoorsFault, HistoryFull}
 
 -- of a worker whose service always has memory
 abbrev pub end_of_worker : WorkerEnd → ServeEnd
@@ -18,10 +18,3 @@ abbrev pub end_of_job : JobEnd → ServeEnd
 end_of_job Stopped = Served
 end_of_job JobSpent = HistoryFull
 end_of_job JobWant = HistoryFull
-
--- of two ends the one that is told: a full history first, then a fault of doors
-abbrev pub worse : ServeEnd → ServeEnd → ServeEnd
-worse Served other = other
-worse DoorsFault HistoryFull = HistoryFull
-worse DoorsFault _ = DoorsFault
-worse HistoryFull other = HistoryFull

@@ -47,3 +47,9 @@ pub record Unused {W M O P C : Type 0} (dial : C → Dial) (workers workers' : L
   pub read : Reads (dial tick.clock) (dial tick'.clock) moment
   pub outlet : tick'.outlet ≡ tick.outlet
   pub pacer : tick'.pacer ≡ tick.pacer
+
+-- all kits are fresh, but that the clock was read once, for the start
+pub record FreshJobs (accepts start : ℕ) (workers : List WorkerView) (pumps : List PumpView) (ticker : TickView) : Type 0 where
+  pub workers_are : Each (FreshWorker accepts) workers
+  pub pumps_are : Each FreshPump pumps
+  pub ticker_is : ReadOnce start ticker

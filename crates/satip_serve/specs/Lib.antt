@@ -3,6 +3,6 @@ pub mod Views
 pub mod Deeds
 pub mod Done
 pub mod ServeRuns
-pub mod Callers
-pub mod Seats
+pub mod Services
 pub mod Fresh
+pub mod Spaces

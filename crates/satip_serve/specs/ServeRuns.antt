@@ -6,17 +6,11 @@ use Rattle.satip_plain.specs.declared.events.Event.TheVariants.{Stop}
 use Rattle.satip_plain.specs.declared.setting.Setting.{Setting}
 use Rattle.satip_plain.specs.Histories.{Item, Legal}
 use Rattle.satip_turn.specs.Views.{numbers_of}
-use Rattle.satip_serve.specs.declared.end.ServeEnd.{ServeEnd}
-use Rattle.satip_serve.specs.declared.end.ServeEnd.TheVariants.{Served, DoorsFault, HistoryFull}
+use Rattle.satip_crew.specs.declared.end.ServeEnd.{ServeEnd}
+use Rattle.satip_crew.specs.declared.end.ServeEnd.TheVariants.{Served, DoorsFault, HistoryFull}
+pub use Rattle.satip_crew.specs.Runs.{Along}
 use Rattle.satip_serve.specs.Views.{WorkerView, PumpView, TickView}
 use Rattle.satip_serve.specs.Done.{Caller, IsFull, WorkerDone, PumpDone, TickerDone}
-
--- P holds of each two at one place, and of the place's number, counted from this one; the lists are as long
-abbrev pub Along : {S T : Type 0} → (ℕ → S → T → Type 0) → ℕ → List S → List T → Type 0
-Along P n [] [] = Unit {0}
-Along P n [] (y ∷ ys) = ⊥
-Along P n (x ∷ xs) [] = ⊥
-Along P n (x ∷ xs) (y ∷ ys) = P n x y × Along P (n + 1) xs ys
 
 -- caller 0 has one entry, a stop, and none of these callers has one after it
 pub record StopsOnce (h : List Item) (callers : List Caller) : Type 0 where

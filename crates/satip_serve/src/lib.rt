@@ -2,14 +2,17 @@
 //! history.
 #![tactic(auto)]
 
-mod callers;
 mod end;
 mod kits;
 mod run;
 mod seat;
 mod serving;
+mod space;
 mod work;
 
-pub use end::ServeEnd;
 pub use kits::Jobs;
+pub use run::run_services;
+pub use satip_crew::ServeEnd;
+pub use seat::{PumpRoom, pump_seat, tick_seat, work_seat};
 pub use serving::{Last, serve};
+pub use space::{ServeSpace, take_space};

@@ -1,24 +1,22 @@
 //! The server with all its jobs, from the first reading of the clock to the last join.
 
-ghost use Rattle.std.specs.Prelude.{◌≡◌, ◌≤◌, [], map, length, vec_len, vec_capacity, IfOk, IfErr};
+ghost use Rattle.std.specs.Prelude.{◌≡◌, ◌≤◌, map, length, vec_capacity, IfOk, IfErr};
 ghost use Rattle.satip_fronts.specs.FrontEnds.{IsNumbered};
 ghost use Rattle.satip_plain.specs.Histories.{Legal};
 ghost use Rattle.satip_turn.specs.Shown.{IsOf, Knows};
-ghost use Rattle.satip_serve.specs.Callers.{RunDid};
-ghost use Rattle.satip_serve.specs.Deeds.{worker_deed, pump_deed, ticker_deed};
-ghost use Rattle.satip_serve.specs.Fresh.{AreFresh, Unused};
+ghost use Rattle.satip_serve.specs.Fresh.{AreFresh, FreshJobs, Unused};
 ghost use Rattle.satip_serve.specs.ServeRuns.{ServeRun, EndTells};
+ghost use Rattle.satip_serve.specs.Services.{IsFirst};
+ghost use Rattle.satip_serve.specs.Spaces.{IsSpaceFor};
 ghost use Rattle.satip_serve.specs.Views.{worker_view, pump_view, tick_view};
 
-use crate::end::ServeEnd;
 use crate::kits::Jobs;
-use crate::run::{Space, run_jobs};
-use crate::seat::PumpRoom;
-use satip_base::{Out, Want};
+use crate::run::run_services;
+use crate::space::{ServeSpace, take_space, with_room};
+use satip_base::Want;
 use satip_config::Config;
-use satip_pump::Batch;
-use satip_shared::{SharedPass, SharedServer, make};
-use satip_worker::Room;
+use satip_crew::{Posts, ServeEnd};
+use satip_shared::{Caller, SharedPass, SharedServer, make};
 use satip_world::{Clock, Doors, MuxStore, Outlet, Pacer};
 use std::alloc::Global;
 use std::sync::Wait;
@@ -33,59 +31,41 @@ pub struct Last<D, O, P, M, C> {
     pub jobs: Jobs<D, O, P, M, C>,
 }
 
-// A list with memory for so many.
-fn with_room<T: Drop>(alloc: Global, count: usize) -> Result<Vec<T>, Want>
-    ensures empty { IfOk result (λ items. items.items ≡ []) }
-    ensures room { IfOk result (λ items. count ≤ vec_capacity items) }
+// What the callers of so many jobs have beside the right to call, which is nothing.
+fn make_gears(alloc: Global, count: usize) -> Result<Vec<()>, Want>
+    ensures count { IfOk result (λ gears. length gears.items ≡ count) }
 {
-    match Vec::with_capacity(alloc, count) {
-        Ok(items) => Ok(items),
-        Err(_) => Err(Want),
+    let mut gears = with_room(alloc, count)?;
+    while gears.len() < count {
+        gears.push_reserved(());
     }
+    Ok(gears)
 }
 
-fn make_rooms(alloc: Global, count: usize) -> Result<Vec<Room>, Want>
-    ensures count { IfOk result (λ rooms. length rooms.items ≡ count) }
-{
-    let mut rooms = with_room(alloc, count)?;
-    while rooms.len() < count {
-        rooms.push_reserved(Room::make(alloc)?);
-    }
-    Ok(rooms)
+// All memory that the jobs take.
+#[derive(Drop)]
+struct Memory<'a, R: Wait + Sync, D, O, P, M> {
+    pub space: ServeSpace<Caller<'a, R>, D, O, P, M>,
+    pub worker_gears: Vec<()>,
+    pub pump_gears: Vec<()>,
 }
 
-fn make_pump_rooms(alloc: Global, count: usize) -> Result<Vec<PumpRoom>, Want>
-    ensures count { IfOk result (λ rooms. length rooms.items ≡ count) }
-{
-    let mut rooms = with_room(alloc, count)?;
-    while rooms.len() < count {
-        let out = Out::make(alloc)?;
-        let batch = Batch::make(alloc)?;
-        rooms.push_reserved(PumpRoom { out, batch });
-    }
-    Ok(rooms)
-}
-
-// All memory that so many workers and pumps take.
-fn take_space<'a, R: Wait + Sync, D: Drop, O: Drop, P: Drop, M: Drop>(
+fn take_memory<'a, R: Wait + Sync, D: Drop, O: Drop, P: Drop, M: Drop>(
     alloc: Global,
     workers: usize,
     pumps: usize,
-) -> Result<Space<'a, R, D, O, P, M>, Want>
-    ensures worker_rooms { IfOk result (λ space. length space.worker_rooms.items ≡ workers) }
-    ensures workers { IfOk result (λ space. space.workers.items ≡ []) }
-    ensures worker_space { IfOk result (λ space. workers ≤ vec_capacity space.workers) }
-    ensures pump_rooms { IfOk result (λ space. length space.pump_rooms.items ≡ pumps) }
-    ensures pumps { IfOk result (λ space. space.pumps.items ≡ []) }
-    ensures pump_space { IfOk result (λ space. pumps ≤ vec_capacity space.pumps) }
+) -> Result<Memory<'a, R, D, O, P, M>, Want>
+    ensures workers { IfOk result (λ memory. IsSpaceFor workers memory.worker_gears.items
+        memory.space.worker_rooms.items memory.space.workers.items
+        (vec_capacity memory.space.workers)) }
+    ensures pumps { IfOk result (λ memory. IsSpaceFor pumps memory.pump_gears.items
+        memory.space.pump_rooms.items memory.space.pumps.items
+        (vec_capacity memory.space.pumps)) }
 {
-    Ok(Space {
-        worker_rooms: make_rooms(alloc, workers)?,
-        workers: with_room(alloc, workers)?,
-        pump_rooms: make_pump_rooms(alloc, pumps)?,
-        pumps: with_room(alloc, pumps)?,
-        tick_out: Out::make(alloc)?,
-        stop_out: Out::make(alloc)?,
+    Ok(Memory {
+        space: take_space(alloc, workers, pumps)?,
+        worker_gears: make_gears(alloc, workers)?,
+        pump_gears: make_gears(alloc, pumps)?,
     })
 }
 
@@ -106,19 +86,64 @@ fn serve_all<
 ) -> Result<(SharedPass, Jobs<D, O, P, M, C>, ServeEnd), Jobs<D, O, P, M, C>>
     requires of { IsOf pass server.now }
     requires knows { Knows (Legal server.now.setting) pass }
+    requires first { IsFirst pass }
     requires workers { length jobs.workers.items ≡ server.now.setting.config.workers }
     requires pumps { length jobs.pumps.items ≡ length server.now.setting.config.fronts }
     requires few { length jobs.pumps.items ≤ 16 }
     ensures of { IfOk result (λ served. IsOf served.0 server.now) }
     ensures knows { IfOk result (λ served. Knows (Legal server.now.setting) served.0) }
-    ensures did { IfOk result (λ served. RunDid (worker_deed D.Conn.tells O.tells D.hall O.outbox)
-        (pump_deed O.tells M.shelf O.outbox)
-        (ticker_deed O.tells C.dial O.outbox) server.now pass jobs.workers.items jobs.pumps.items jobs.tick
-        served.0 served.1.workers.items served.1.pumps.items served.1.tick served.2) }
+    ensures keys { IfOk result (λ served. map (λ kit. kit.key) served.1.workers.items
+        ≡ map (λ kit. kit.key) jobs.workers.items) }
+    ensures recordings { IfOk result (λ served. map (λ kit. (M.shelf kit.store).recording)
+        served.1.pumps.items
+        ≡ map (λ kit. (M.shelf kit.store).recording) jobs.pumps.items) }
+    ensures run { IfOk result (λ served. (accepts : _)
+        → FreshJobs accepts server.now.setting.start
+        (map (worker_view D.hall O.outbox) jobs.workers.items)
+        (map (pump_view M.shelf O.outbox) jobs.pumps.items)
+        (tick_view C.dial O.outbox jobs.tick)
+        → ServeRun D.Conn.tells O.tells server.now.setting accepts served.0.seen served.0.kept
+        (map (worker_view D.hall O.outbox) served.1.workers.items)
+        (map (pump_view M.shelf O.outbox) served.1.pumps.items)
+        (tick_view C.dial O.outbox served.1.tick)) }
+    ensures ended { IfOk result (λ served. (accepts : _)
+        → FreshJobs accepts server.now.setting.start
+        (map (worker_view D.hall O.outbox) jobs.workers.items)
+        (map (pump_view M.shelf O.outbox) jobs.pumps.items)
+        (tick_view C.dial O.outbox jobs.tick)
+        → EndTells served.2 served.0.seen
+        (map (worker_view D.hall O.outbox) served.1.workers.items)) }
     ensures unused { IfErr result (λ back. back ≡ jobs) }
 {
-    match take_space(alloc, jobs.workers.len(), jobs.pumps.len()) {
-        Ok(space) => Ok(run_jobs(rt, server, pass, jobs, space)),
+    match take_memory(alloc, jobs.workers.len(), jobs.pumps.len()) {
+        Ok(memory) => {
+            let Memory {
+                space,
+                worker_gears,
+                pump_gears,
+            } = memory;
+            let posts = Posts {
+                workers: jobs.workers,
+                worker_gears,
+                pumps: jobs.pumps,
+                pump_gears,
+                ticker: jobs.tick,
+                ticker_gear: (),
+            };
+            let root = Caller { rt, server, pass };
+            let (root, posts, end) = run_services(rt, root, posts, space);
+            let Caller {
+                rt: _,
+                server: _,
+                pass,
+            } = root;
+            let jobs = Jobs {
+                workers: posts.workers,
+                pumps: posts.pumps,
+                tick: posts.ticker,
+            };
+            Ok((pass, jobs, end))
+        }
         Err(Want) => Err(jobs),
     }
 }

@@ -4,8 +4,9 @@ ghost use Rattle.std.specs.Prelude.{◌≡◌, false};
 ghost use Rattle.satip_serve.specs.Views.{worker_view, pump_view, tick_view};
 ghost use Rattle.satip_serve.specs.Deeds.{WorkerDid, PumpDid, TickerDid};
 
-use crate::end::ServeEnd;
+use crate::end::{tell_job, tell_worker};
 use satip_base::Out;
+use satip_crew::ServeEnd;
 use satip_pump::{Batch, PumpKit, TickKit, run_pump, run_ticker};
 use satip_service::Service;
 use satip_worker::{Room, WorkerKit, run_worker};
@@ -28,7 +29,7 @@ pub(crate) fn work<R: Wait + Sync, S: Service, D: Doors, O: Outlet, P: Pacer>(
         (worker_view D.hall O.outbox kit.new) (S.known service.new) result }
 {
     let end = run_worker(rt, service, kit, number as u64, room);
-    ServeEnd::of_worker(end)
+    tell_worker(end)
 }
 
 // The work of the pump of a front end, by its number.
@@ -47,7 +48,7 @@ pub(crate) fn pump<R: Wait + Sync, S: Service, M: MuxStore, O: Outlet, P: Pacer>
         (pump_view M.shelf O.outbox kit.new) (S.known service.new) result }
 {
     let end = run_pump(rt, service, number, kit, out, batch);
-    ServeEnd::of_job(end)
+    tell_job(end)
 }
 
 // The work of the ticker.
@@ -64,5 +65,5 @@ pub(crate) fn tick<R: Wait + Sync, S: Service, C: Clock, O: Outlet, P: Pacer>(
         (tick_view C.dial O.outbox kit.new) (S.known service.new) result }
 {
     let end = run_ticker(rt, service, kit, out);
-    ServeEnd::of_job(end)
+    tell_job(end)
 }

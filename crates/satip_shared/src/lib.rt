@@ -2,6 +2,7 @@
 #![tactic(auto)]
 
 mod caller;
+mod crew;
 mod feeding;
 mod server;
 

@@ -1,0 +1,5 @@
+pub mod Seating
+pub mod Beside
+pub mod WholeRuns
+pub mod Following
+pub mod Ended

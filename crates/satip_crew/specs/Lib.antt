@@ -1,0 +1,6 @@
+pub mod Ends
+pub mod Passes
+pub mod Crews
+pub mod Works
+pub mod Crewed
+pub mod Runs

@@ -1,0 +1,77 @@
+//! The memory that all jobs take.
+
+ghost use Rattle.std.specs.Prelude.{◌≡◌, ◌≤◌, [], length, vec_capacity, IfOk};
+
+use crate::seat::PumpRoom;
+use satip_base::{Out, Want};
+use satip_crew::Space;
+use satip_pump::{Batch, PumpKit};
+use satip_worker::{Room, WorkerKit};
+use std::alloc::Global;
+
+/// The memory of workers, pumps and the ticker.
+pub type ServeSpace<X, D, O, P, M> = Space<
+    X,
+    WorkerKit<D, O, P>,
+    Room,
+    PumpKit<M, O, P>,
+    PumpRoom,
+    Out,
+>;
+
+// A list with memory for so many.
+pub(crate) fn with_room<T: Drop>(alloc: Global, count: usize) -> Result<Vec<T>, Want>
+    ensures empty { IfOk result (λ items. items.items ≡ []) }
+    ensures room { IfOk result (λ items. count ≤ vec_capacity items) }
+{
+    match Vec::with_capacity(alloc, count) {
+        Ok(items) => Ok(items),
+        Err(_) => Err(Want),
+    }
+}
+
+fn make_rooms(alloc: Global, count: usize) -> Result<Vec<Room>, Want>
+    ensures count { IfOk result (λ rooms. length rooms.items ≡ count) }
+{
+    let mut rooms = with_room(alloc, count)?;
+    while rooms.len() < count {
+        rooms.push_reserved(Room::make(alloc)?);
+    }
+    Ok(rooms)
+}
+
+fn make_pump_rooms(alloc: Global, count: usize) -> Result<Vec<PumpRoom>, Want>
+    ensures count { IfOk result (λ rooms. length rooms.items ≡ count) }
+{
+    let mut rooms = with_room(alloc, count)?;
+    while rooms.len() < count {
+        let out = Out::make(alloc)?;
+        let batch = Batch::make(alloc)?;
+        rooms.push_reserved(PumpRoom { out, batch });
+    }
+    Ok(rooms)
+}
+
+/// All memory that so many workers and pumps take, beside their kits and what their callers have.
+/// `Want` where it was refused.
+pub fn take_space<X: Drop, D: Drop, O: Drop, P: Drop, M: Drop>(
+    alloc: Global,
+    workers: usize,
+    pumps: usize,
+) -> Result<ServeSpace<X, D, O, P, M>, Want>
+    ensures worker_rooms { IfOk result (λ space. length space.worker_rooms.items ≡ workers) }
+    ensures workers { IfOk result (λ space. space.workers.items ≡ []) }
+    ensures worker_space { IfOk result (λ space. workers ≤ vec_capacity space.workers) }
+    ensures pump_rooms { IfOk result (λ space. length space.pump_rooms.items ≡ pumps) }
+    ensures pumps { IfOk result (λ space. space.pumps.items ≡ []) }
+    ensures pump_space { IfOk result (λ space. pumps ≤ vec_capacity space.pumps) }
+{
+    Ok(Space {
+        worker_rooms: make_rooms(alloc, workers)?,
+        workers: with_room(alloc, workers)?,
+        pump_rooms: make_pump_rooms(alloc, pumps)?,
+        pumps: with_room(alloc, pumps)?,
+        ticker_room: Out::make(alloc)?,
+        stop_out: Out::make(alloc)?,
+    })
+}
