@@ -1,0 +1,11 @@
+pub mod SeatLemmas
+pub mod SuitLemmas
+pub mod WalkLemmas
+pub mod DrawLemmas
+pub mod ExchangeLemmas
+pub mod AskLemmas
+pub mod HearingLemmas
+pub mod RunLemmas
+pub mod EndLemmas
+pub mod CauseLemmas
+pub mod TurnLemmas

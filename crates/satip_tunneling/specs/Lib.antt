@@ -1,0 +1,11 @@
+pub mod Walk
+pub mod Wire
+pub mod Requests
+pub mod Seats
+pub mod Ends
+pub mod TunnelRun
+pub mod Served
+pub mod Events
+pub mod Exchanges
+pub mod Hearing
+pub mod Rows

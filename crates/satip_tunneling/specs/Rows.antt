@@ -1,0 +1,2 @@
+-- Entries for the worked rows.
+use Rattle.std.specs.Prelude.{ℕ, List, [], ◌∷◌}
