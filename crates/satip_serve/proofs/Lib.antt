@@ -1,2 +1,4 @@
 pub mod Finishing
 pub mod Unlocking
+pub mod WholeRuns
+pub mod Ended

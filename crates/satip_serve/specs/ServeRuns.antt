@@ -7,8 +7,7 @@ use Rattle.satip_plain.specs.declared.setting.Setting.{Setting}
 use Rattle.satip_plain.specs.Histories.{Item, Legal}
 use Rattle.satip_turn.specs.Views.{numbers_of}
 use Rattle.satip_crew.specs.declared.end.ServeEnd.{ServeEnd}
-use Rattle.satip_crew.specs.declared.end.ServeEnd.TheVariants.{Served, DoorsFault, HistoryFull}
-pub use Rattle.satip_crew.specs.Runs.{Along}
+pub use Rattle.satip_crew.specs.Runs.{Along, MatchEnd}
 use Rattle.satip_serve.specs.Views.{WorkerView, PumpView, TickView}
 use Rattle.satip_serve.specs.Done.{Caller, IsFull, WorkerDone, PumpDone, TickerDone}
 
@@ -50,12 +49,6 @@ pub record ServeRun (conn_tells outlet_tells : Type 0) (c : Setting) (accepts : 
   pub stopped : StopsOnce seen of_workers ⊎ HasNoStop seen
   -- nobody else made an entry
   pub covered : Each (λ e. Has e.caller (0 ∷ numbers_of kept)) seen
-
--- a fact for each end
-abbrev pub MatchEnd : ServeEnd → (served fault full : Type 0) → Type 0
-MatchEnd Served served fault full = served
-MatchEnd DoorsFault served fault full = fault
-MatchEnd HistoryFull served fault full = full
 
 -- the doors of one of the workers failed
 abbrev pub HasFault : List WorkerView → Type 0

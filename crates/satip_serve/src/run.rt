@@ -59,7 +59,8 @@ pub fn run_services<
     ensures knows { Knows (X.Crew.legal (X.cell root).setting) (X.pass result.0) }
 
     // what each job did, and what came back of callers and gears
-    ensures did { RunDid {L = Room} {M = PumpRoom} {N = Output} X.cell X.pass X.gear X.Crew.legal X.is_stop X.goes_on
+    ensures did { RunDid X.cell X.pass X.gear X.Crew.legal X.is_stop X.goes_on
+        {L = Room} {M = PumpRoom} {N = Output}
         (SeatDid X.same X.known (worker_deed D.Conn.tells O.tells D.hall O.outbox))
         (SeatDid X.same X.known (pump_deed O.tells M.shelf O.outbox))
         (SeatDid X.same X.known (ticker_deed O.tells C.dial O.outbox))
