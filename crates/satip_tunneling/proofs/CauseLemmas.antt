@@ -319,7 +319,7 @@ module _ (draws : List Draw) (received sent : List ℕ) (seen : ℕ) (end : Tunn
   entered_broken Gone entries run = absurd run
   entered_broken Left entries run = absurd run
 
-  run_broken : (entries : List TunnelItem) → TunnelRun draws received sent seen end entries → (end ≡ Broken) ↔ IsAnsweredBy lane_broken entries
+  pub run_broken : (entries : List TunnelItem) → TunnelRun draws received sent seen end entries → (end ≡ Broken) ↔ IsAnsweredBy lane_broken entries
   run_broken [] run = (λ e. absurd (let is = run.1.end_is in cc (e, is)), λ has. absurd has)
   run_broken (t ∷ ts) run = entered_broken t.answer ts run.1
 

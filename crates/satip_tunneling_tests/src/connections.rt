@@ -1,0 +1,172 @@
+//! Connections over memory: what they are sent, how they end, and how many entries they make.
+ghost use Rattle.satip_tunnel.specs.Histories.{TunnelLegal};
+ghost use Rattle.satip_turn.specs.Shown.{IsOf, Knows};
+
+use crate::setting::shared;
+use satip_interleave::{SharedTunnel, TunnelCaller, TunnelPass, TunnelRoom};
+use satip_memory::{MemoryConn, MemoryPacer};
+use satip_tunnel::TunnelEvent;
+use satip_tunneling::{TunnelEnd, serve_tunnel};
+use satip_worker::Draws;
+use std::alloc::Global;
+use std::process::Abort;
+use std::sync::Wait;
+use std::test::Fail;
+
+/// A report of a client on channel 1 (RFC 2326, section 10.12), and an OPTIONS behind it.
+const REPORT_AND_OPTIONS: &[u8] = b"$\x01\x00\x04\x00\x00\x00\x00OPTIONS * RTSP/1.0\r\nCSeq: 1\r\n\r\n";
+
+const OPTIONS: &[u8] = b"OPTIONS * RTSP/1.0\r\nCSeq: 1\r\n\r\n";
+
+const OPTIONS_REPLY: &[u8] =
+    b"RTSP/1.0 200 OK\r\nCSeq: 1\r\nPublic: OPTIONS, DESCRIBE, SETUP, PLAY, TEARDOWN\r\n\r\n";
+
+const SETUP: &[u8] =
+    b"SETUP rtsp://192.168.1.10/?src=1&freq=11361.75&pol=h&ro=0.35&msys=dvbs2&mtype=8psk&plts=on&sr=22000&fec=23&pids=0,16,17&x_pmt=100 RTSP/1.0\r\nCSeq: 1\r\nTransport: RTP/AVP/TCP;interleaved=0-1\r\n\r\n";
+
+/// The reply to the SETUP: its session was made by the key's first draw, and its transport is told
+/// in channels.
+const SETUP_REPLY: &[u8] =
+    b"RTSP/1.0 200 OK\r\nCSeq: 1\r\nSession: 00000001ade0b876;timeout=60\r\nTransport: RTP/AVP/TCP;unicast;interleaved=0-1\r\ncom.ses.streamID: 1\r\n\r\n";
+
+const SETUP_UDP: &[u8] =
+    b"SETUP rtsp://192.168.1.10/?src=1&freq=11361.75&pol=h&ro=0.35&msys=dvbs2&mtype=8psk&plts=on&sr=22000&fec=23&pids=0,16,17&x_pmt=100 RTSP/1.0\r\nCSeq: 1\r\nTransport: RTP/AVP;unicast;client_port=1400-1401\r\n\r\n";
+
+const REFUSED: &[u8] = b"RTSP/1.0 461 Unsupported Transport\r\nCSeq: 1\r\n\r\n";
+
+/// What closes a connection on which no message came.
+const CLOSING: &[u8] = b"RTSP/1.0 400 Bad Request\r\nConnection: close\r\n\r\n";
+
+/// The key of what is drawn. Its first draw has the word ade0b876 (the first word of the ChaCha20
+/// stream of this key).
+const KEY: [u8; 32] = [0; 32];
+
+/// A connection: the pieces that come in, which receives and sends fail, how it ends, what it is
+/// sent, and how many entries it makes.
+struct Row<'a> {
+    pieces: &'a [&'a [u8]],
+    failing_receives: &'a [u64],
+    failing_sends: &'a [u64],
+    end: TunnelEnd,
+    sent: &'a [u8],
+    entries: u64,
+}
+
+// Serves a connection; a send that fails passes ten bytes.
+fn serve<R: Wait + Sync + Abort>(
+    rt: &R,
+    alloc: Global,
+    caller: &mut TunnelCaller<R>,
+    room: &mut TunnelRoom,
+    row: &Row<'_>,
+) -> Result<(), Fail> {
+    let mut conn = MemoryConn::make(
+        alloc,
+        row.pieces,
+        row.failing_receives,
+        row.failing_sends,
+        10,
+    )?;
+    let mut pacer = MemoryPacer::new();
+    let mut draws = Draws::make(&KEY, 0);
+    let before = caller.pass.place();
+    let end = serve_tunnel(caller, &mut conn, &mut pacer, &mut draws, room);
+    assert_eq!(rt; end, row.end);
+    assert_eq!(rt; conn.sent(), row.sent);
+    assert_eq!(rt; caller.pass.place().saturating_sub(before), row.entries);
+    Ok(())
+}
+
+// Each ends at the end of its input unless it says so.
+fn rows<'a>(pieces: &'a [&'a [u8]], sent: &'a [u8], entries: u64) -> Row<'a> {
+    Row {
+        pieces,
+        failing_receives: &[],
+        failing_sends: &[],
+        end: TunnelEnd::Done,
+        sent,
+        entries,
+    }
+}
+
+// The text of the report and the OPTIONS, cut at every byte.
+fn serve_cut<R: Wait + Sync + Abort>(
+    rt: &R,
+    alloc: Global,
+    caller: &mut TunnelCaller<R>,
+    room: &mut TunnelRoom,
+) -> Result<(), Fail> {
+    for cut in 1..REPORT_AND_OPTIONS.len() {
+        let (front, back) = REPORT_AND_OPTIONS.split_at(cut);
+        serve(rt, alloc, caller, room, &rows(&[front, back], OPTIONS_REPLY, 4))?;
+    }
+    Ok(())
+}
+
+// Connections that end well, and such whose receive or send fails.
+fn serve_rows<R: Wait + Sync + Abort>(
+    rt: &R,
+    alloc: Global,
+    caller: &mut TunnelCaller<R>,
+    room: &mut TunnelRoom,
+) -> Result<(), Fail> {
+    serve(rt, alloc, caller, room, &rows(&[SETUP_UDP], REFUSED, 4))?;
+    serve(rt, alloc, caller, room, &rows(&[SETUP], SETUP_REPLY, 4))?;
+    serve(rt, alloc, caller, room, &rows(&[b"", OPTIONS], OPTIONS_REPLY, 5))?;
+    serve(rt, alloc, caller, room, &rows(&[b"OPTIONS * RTSP"], b"", 2))?;
+    serve(rt, alloc, caller, room, &rows(&[b"a\r\n\r\n", OPTIONS], CLOSING, 4))?;
+    let lost = Row {
+        failing_sends: &[1],
+        end: TunnelEnd::WriteFault,
+        ..rows(&[OPTIONS], b"RTSP/1.0 2", 3)
+    };
+    serve(rt, alloc, caller, room, &lost)?;
+    let unread = Row {
+        failing_receives: &[2],
+        end: TunnelEnd::ReadFault,
+        ..rows(&[OPTIONS, OPTIONS], OPTIONS_REPLY, 4)
+    };
+    serve(rt, alloc, caller, room, &unread)
+}
+
+// Takes all lanes, and serves one connection more.
+fn serve_full<R: Wait + Sync + Abort>(
+    rt: &R,
+    alloc: Global,
+    caller: &mut TunnelCaller<R>,
+    room: &mut TunnelRoom,
+) -> Result<(), Fail> {
+    for _lane in 0..64 {
+        let _entered = caller
+            .server
+            .call(rt, &mut caller.pass, &TunnelEvent::Enter, &mut room.out);
+    }
+    let full = Row {
+        end: TunnelEnd::Full,
+        ..rows(&[OPTIONS], b"", 1)
+    };
+    serve(rt, alloc, caller, room, &full)
+}
+
+// All of them, one after another.
+fn serve_all<R: Wait + Sync + Abort>(
+    rt: &R,
+    alloc: Global,
+    server: &SharedTunnel,
+    pass: TunnelPass,
+) -> Result<(), Fail>
+    requires of { IsOf pass server.now }
+    requires knows { Knows (TunnelLegal server.now.setting) pass }
+{
+    let mut room = TunnelRoom::make(alloc)?;
+    let mut caller = TunnelCaller { rt, server, pass };
+    serve_cut(rt, alloc, &mut caller, &mut room)?;
+    serve_rows(rt, alloc, &mut caller, &mut room)?;
+    serve_full(rt, alloc, &mut caller, &mut room)
+}
+
+#[test]
+fn connections_are_served(rt: HostRuntime) -> Result<(), Fail> {
+    let (server, pass) = shared(rt.alloc())?;
+    serve_all(&rt, rt.alloc(), &server, pass)
+}

@@ -1,0 +1,7 @@
+//! Connections of a tunnel over memory. It has nothing but tests.
+#![tactic(auto)]
+
+#[cfg(test)]
+mod connections;
+#[cfg(test)]
+mod setting;
