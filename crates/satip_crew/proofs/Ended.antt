@@ -1,5 +1,5 @@
 -- Why a run ended so.
-use Rattle.std.proofs.Common.{◌≡◌, ℕ, ◌⊎◌, inl, inr, List, [], ◌∷◌, map, length, sym, subst, ⊎_elim}
+use Rattle.std.proofs.Common.{◌≡◌, ◌⊎◌, inl, inr, List, [], ◌∷◌, map, length, sym, subst, ⊎_elim}
 use Rattle.satip_history.specs.Lists.{Each, Begins}
 use Rattle.satip_plain.specs.declared.setting.Setting.{Setting}
 use Rattle.satip_turn.specs.Shown.{Cell, Knows}

@@ -7,7 +7,7 @@ use Rattle.satip_crew.specs.declared.end.ServeEnd.{ServeEnd}
 use Rattle.satip_crew.specs.declared.posts.Posts.{Posts}
 use Rattle.satip_crew.specs.declared.seat.Seat.{Seat}
 use Rattle.satip_crew.specs.Ends.{worse, worst}
-use Rattle.satip_crew.specs.Passes.{ItemOf, PassOf, IsNew, Stops}
+use Rattle.satip_crew.specs.Passes.{ItemOf, PassOf, Stops}
 use Rattle.satip_crew.specs.Crews.{Begun, Joins, pass_numbers}
 
 module _ {X E A G : Type 0} (cell : X → Cell Setting) (pass : X → PassOf E A) (gear : X → G) (legal : Setting → List (ItemOf E A) → Type 0)

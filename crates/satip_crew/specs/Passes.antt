@@ -1,5 +1,5 @@
 -- Passes of a cell that is called by jobs.
-use Rattle.std.specs.Prelude.{◌≡◌, ℕ, ◌+◌, List, [], ◌∷◌, ◌++◌, map, length}
+use Rattle.std.specs.Prelude.{◌≡◌, List, [], ◌∷◌, ◌++◌, map, length}
 use Rattle.satip_base.specs.declared.limits.TheConstants.{LONGEST_HISTORY}
 use Rattle.satip_base.specs.Output.{Output}
 use Rattle.satip_history.specs.declared.entry.Entry.{Entry}

@@ -100,7 +100,10 @@ pub(crate) fn seat_all<X: Crew, K, M>(
 }
 
 // Takes the pass of a caller in, and gives back its kit, its gear, and how its job ended.
-pub(crate) fn join_one<X: Crew, K, M: Drop>(root: &mut X, seat: Seat<X, K, M>) -> (K, X::Gear, ServeEnd)
+pub(crate) fn join_one<X: Crew, K, M: Drop>(
+    root: &mut X,
+    seat: Seat<X, K, M>,
+) -> (K, X::Gear, ServeEnd)
     requires cell { X.cell seat.caller ≡ X.cell root.old }
     ensures cell { X.cell root.new ≡ X.cell root.old }
     ensures root_gear { X.gear root.new ≡ X.gear root.old }

@@ -73,7 +73,7 @@ module _ {X G W L P M T N : Type 0} (known : X → Known) (may_want : X → Bool
     (conn_tells outlet_tells : Type 0) (worker_of : W → WorkerView) (pump_of : P → PumpView) (tick_of : T → TickView) (o : X) (before : Posts W P T G) (n : X)
     (after : Posts W P T G) (end : ServeEnd)
     (run : RunDid cell pass gear legal is_stop goes_on {L = L} {M = M} {N = N} (SeatDid same known (works conn_tells outlet_tells worker_of))
-        (SeatDid same known (pumps_so outlet_tells pump_of)) (SeatDid same known (ticks outlet_tells tick_of)) o before n after end) where
+    (SeatDid same known (pumps_so outlet_tells pump_of)) (SeatDid same known (ticks outlet_tells tick_of)) o before n after end) where
   pub end_tells : (accepts : ℕ) → Knows (legal (cell o).setting) (pass n) → Each (FreshWorker accepts) (map worker_of before.workers.items)
       → EndTells end (pass n).seen (map worker_of after.workers.items)
   end_tells accepts knows fresh =

@@ -107,7 +107,7 @@ module _ {X G W L P M T N : Type 0} (known : X → Known) (may_want : X → Bool
     (conn_tells outlet_tells : Type 0) (worker_of : W → WorkerView) (pump_of : P → PumpView) (tick_of : T → TickView) (o : X) (before : Posts W P T G) (n : X)
     (after : Posts W P T G) (end : ServeEnd)
     (run : RunDid cell pass gear legal is_stop goes_on {L = L} {M = M} {N = N} (SeatDid same known (works conn_tells outlet_tells worker_of))
-        (SeatDid same known (pumps_so outlet_tells pump_of)) (SeatDid same known (ticks outlet_tells tick_of)) o before n after end) where
+    (SeatDid same known (pumps_so outlet_tells pump_of)) (SeatDid same known (ticks outlet_tells tick_of)) o before n after end) where
   pub workers_fresh : (accepts : ℕ) → Each (FreshWorker accepts) (map worker_of before.workers.items) → Each (λ s. FreshWorker accepts (worker_of s.kit)) run.first
   workers_fresh accepts fresh =
       each_map (λ (w : W). FreshWorker accepts (worker_of w)) (λ (s : Seat X W L). s.kit) run.first

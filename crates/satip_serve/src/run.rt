@@ -44,7 +44,11 @@ pub fn run_services<
     root: X,
     posts: Posts<WorkerKit<D, O, P>, PumpKit<M, O, P>, TickKit<C, O, P>, X::Gear>,
     space: ServeSpace<X, D, O, P, M>,
-) -> (X, Posts<WorkerKit<D, O, P>, PumpKit<M, O, P>, TickKit<C, O, P>, X::Gear>, ServeEnd)
+) -> (
+    X,
+    Posts<WorkerKit<D, O, P>, PumpKit<M, O, P>, TickKit<C, O, P>, X::Gear>,
+    ServeEnd,
+)
     requires serves { Serves X.known X.may_want X.same X.cell X.pass X.Crew.legal X.is_stop }
     requires first { IsFirst (X.pass root) }
     requires workers { IsSpace posts.workers.items posts.worker_gears.items

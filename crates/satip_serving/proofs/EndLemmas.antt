@@ -12,8 +12,8 @@ use Rattle.satip_serve.specs.Fresh.{AreFresh, FreshWorker, FreshPump, Unused}
 use Rattle.satip_serve.specs.Views.{WorkerView, PumpView, worker_view, pump_view, tick_view}
 use Rattle.satip_serve.specs.declared.kits.Jobs.{Jobs}
 use Rattle.satip_serving.specs.Given.{jobs_view, ComeBack, ComeUnused}
-use Rattle.satip_serve.specs.declared.end.ServeEnd.{ServeEnd}
-use Rattle.satip_serve.specs.declared.end.ServeEnd.TheVariants as serves
+use Rattle.satip_crew.specs.declared.end.ServeEnd.{ServeEnd}
+use Rattle.satip_crew.specs.declared.end.ServeEnd.TheVariants as serves
 use Rattle.satip_plain.specs.Histories.{Item}
 use Rattle.satip_serve.specs.Done.{IsFull}
 use Rattle.satip_serve.specs.ServeRuns.{EndTells, HasFault}

@@ -6,8 +6,8 @@ use Rattle.satip_config.specs.Config.{config}
 use Rattle.satip_replay.specs.Ends.{IsConfiguration}
 use Rattle.satip_replay.specs.declared.ends.ReplayEnd.{ReplayEnd}
 use Rattle.satip_replay.specs.declared.ends.ReplayEnd.TheVariants as replays
-use Rattle.satip_serve.specs.declared.end.ServeEnd.{ServeEnd}
-use Rattle.satip_serve.specs.declared.end.ServeEnd.TheVariants as serves
+use Rattle.satip_crew.specs.declared.end.ServeEnd.{ServeEnd}
+use Rattle.satip_crew.specs.declared.end.ServeEnd.TheVariants as serves
 use Rattle.satip_history.specs.Lists.{Each}
 use Rattle.satip_serve.specs.Fresh.{FreshWorker, FreshPump, ReadOnce}
 use Rattle.satip_serve.specs.Views.{WorkerView, PumpView, TickView}

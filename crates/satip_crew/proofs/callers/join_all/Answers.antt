@@ -1,5 +1,5 @@
 -- One pass more is joined.
-use Rattle.std.proofs.Common.{◌≡◌, List, [], ◌∷◌, ◌++◌, arith, sym, ap, ◌∙◌, subst}
+use Rattle.std.proofs.Common.{List, [], ◌∷◌, ◌++◌, arith, ap, ◌∙◌, subst}
 use Rattle.satip_plain.specs.declared.setting.Setting.{Setting}
 use Rattle.satip_turn.specs.Shown.{Cell, Knows}
 use Rattle.satip_crew.specs.declared.end.ServeEnd.{ServeEnd}

@@ -1,5 +1,5 @@
 -- One kit more has a caller.
-use Rattle.std.proofs.Common.{◌≡◌, ◌+◌, List, [], ◌∷◌, ◌++◌, length, arith, sym, ap, ◌∙◌, subst, length-append}
+use Rattle.std.proofs.Common.{◌≡◌, ◌+◌, List, [], ◌∷◌, length, arith, sym, ap, ◌∙◌, subst, length-append}
 use Rattle.satip_crew.specs.declared.seat.Seat.{Seat}
 use Rattle.satip_crew.proofs.Seating.{Seated, seated_more}
 use Rattle.satip_crew.proofs.callers.seat_all.Goals as goal

@@ -1,9 +1,9 @@
 -- The callers are split off, run and joined again.
-use Rattle.std.proofs.Common.{◌≡◌, ℕ, List, [], ◌∷◌, ◌++◌, map, arith, refl, sym, ap, ◌∙◌, subst}
+use Rattle.std.proofs.Common.{ℕ, List, [], ◌∷◌, ◌++◌, map, arith, sym, ap, ◌∙◌, subst}
 use Rattle.satip_plain.specs.declared.setting.Setting.{Setting}
 use Rattle.satip_turn.specs.Shown.{Cell}
 use Rattle.satip_crew.specs.declared.end.ServeEnd.{ServeEnd}
-use Rattle.satip_crew.specs.Crews.{AreAlone, AreNew, Begun, pass_numbers}
+use Rattle.satip_crew.specs.Crews.{AreAlone, Begun, pass_numbers}
 use Rattle.satip_crew.specs.Ends.{worse, worst as worst_of}
 use Rattle.satip_crew.specs.Passes.{PassOf, IsAlone}
 use Rattle.satip_crew.proofs.Beside.{alone_after, both_length, same_seat, still_alone}
