@@ -1,5 +1,5 @@
 -- A request with the drains behind it.
-use Rattle.std.proofs.Common.{◌≡◌, ◌∙◌, ℕ, Bool, List, [], ◌∷◌, ◌++◌, append-nil, length, arith, refl, sym, ap, subst, inl, inr}
+use Rattle.std.proofs.Common.{◌≡◌, ℕ, Bool, List, [], ◌∷◌, ◌++◌, append-nil, refl, sym, subst, inl, inr}
 use Rattle.rand_chacha.specs.ChaCha.{ChaCha}
 use Rattle.satip_base.specs.Output.{Output}
 use Rattle.satip_base.specs.declared.identity.Draw.{Draw}
@@ -8,13 +8,12 @@ use Rattle.satip_history.specs.History.{entry}
 use Rattle.satip_plain.specs.declared.answers.Answer.TheVariants.{Replied as AnswerReplied}
 use Rattle.satip_plain.specs.declared.events.Event.{Event}
 use Rattle.satip_plain.specs.declared.events.Event.TheVariants.{Request as Asks}
-use Rattle.satip_plain.specs.Histories.{Item}
 use Rattle.satip_rtsp.specs.declared.requests.Request.{Request}
 use Rattle.satip_service.specs.Suits.{closes}
 use Rattle.satip_tunnel.specs.declared.events.TunnelEvent.TheVariants.{Inner}
 use Rattle.satip_tunnel.specs.declared.events.TunnelAnswer.{TunnelAnswer}
 use Rattle.satip_tunnel.specs.declared.events.TunnelAnswer.TheVariants.{Inner as InnerAnswer}
-use Rattle.satip_tunnel.specs.Histories.{TunnelItem, inners}
+use Rattle.satip_tunnel.specs.Histories.{TunnelItem}
 use Rattle.satip_world.specs.Lines.{Line, SentAll, SendFailed}
 use Rattle.satip_worker.specs.Progress.{Carries}
 use Rattle.satip_worker.proofs.ProgressLemmas.{carries_nothing, rises_from}

@@ -1,13 +1,12 @@
 -- The causes of a connection's ends.
-use Rattle.std.proofs.Common.{◌≡◌, ◌≢◌, ◌∙◌, ℕ, Bool, true, false, List, [], ◌∷◌, ◌++◌, length, map, drop, refl, sym, ap, subst, inl, inr, ⊎_elim}
+use Rattle.std.proofs.Common.{◌≡◌, ◌≢◌, ◌∙◌, ℕ, Bool, List, [], ◌∷◌, ◌++◌, length, map, drop, refl, sym, ap, subst, inl, inr, ⊎_elim}
 use Rattle.std.specs.Prelude.{◌⊎◌, ◌↔◌}
 use Rattle.std.proofs.Math.Seq.{drop-append_seam}
 use Rattle.std.proofs.lemmas.List.{map-append}
 use Rattle.rand_chacha.specs.ChaCha.{ChaCha}
 use Rattle.satip_base.specs.declared.identity.Draw.{Draw}
-use Rattle.satip_history.specs.Lists.{Begins, Has}
+use Rattle.satip_history.specs.Lists.{Has}
 use Rattle.satip_history.proofs.Elements.{Has-append_left}
-use Rattle.satip_plain.specs.declared.answers.Answer.{Answer}
 use Rattle.satip_plain.specs.declared.events.Event.{Event}
 use Rattle.satip_plain.specs.declared.events.Event.TheVariants.{Request as Asks, Get, Tick, Packet, Ended, Ask, Pull, Close, Stop}
 use Rattle.satip_tunnel.specs.declared.events.TunnelEvent.{TunnelEvent}
@@ -21,10 +20,10 @@ use Rattle.satip_worker.specs.Answers.{ends_with_last}
 use Rattle.satip_worker.specs.Ends.{IsOver, ReadFailed}
 use Rattle.satip_tunneling.specs.declared.ends.TunnelEnd.{TunnelEnd}
 use Rattle.satip_tunneling.specs.declared.ends.TunnelEnd.TheVariants.{Full, Broken, Done, ReadFault, WriteFault, Spent}
-use Rattle.satip_tunneling.specs.Walk.{Stance, Free, Draining, Over, Walk, Follows, FollowsAsked, MayDrain, DrainsTo, IsReplied}
+use Rattle.satip_tunneling.specs.Walk.{Stance, Free, Draining, Over, Walk, Follows, FollowsAsked, DrainsTo, IsReplied}
 use Rattle.satip_tunneling.specs.Seats.{Seat, made_since, IsAnsweredBy}
 use Rattle.satip_tunneling.specs.Ends.{StopsAt, IsLeave, IsGivenUp, IsUnleft, Leaves, LineEnds}
-use Rattle.satip_tunneling.specs.TunnelRun.{LaneRun, TunnelRun, EnteredRun, HadNone}
+use Rattle.satip_tunneling.specs.TunnelRun.{LaneRun, TunnelRun, EnteredRun}
 use Rattle.satip_tunneling.specs.Served.{ServesTunnel}
 
 -- ---- what is answered on a walk
@@ -267,7 +266,7 @@ module _ (lane : ℕ) (draws : List Draw) (received sent : List ℕ) (seen : ℕ
       let split = has_split lane_broken (answers run.body) (answers run.last) (subst (λ (xs : List TunnelAnswer). Has lane_broken xs) told has) in
       let P : Stance → Type 0 = λ s. StopsAt end s in
       ⊎_elim (λ (h : Has lane_broken (answers run.body)).
-          over_is_broken end (subst P (walk_to_over lane Free run.stance run.body run.walk h) run.stops))
+      over_is_broken end (subst P (walk_to_over lane Free run.stance run.body run.walk h) run.stops))
       (λ (h : Has lane_broken (answers run.last)). absurd (plain.1 h)) split
 
   lane_has_broken : end ≡ Broken → Has lane_broken (answers entries)

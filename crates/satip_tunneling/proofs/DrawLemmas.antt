@@ -1,5 +1,5 @@
 -- Draws one after another, and the events that take them.
-use Rattle.std.proofs.Common.{◌≡◌, ◌≢◌, ◌∙◌, ℕ, zero, suc, ◌+◌, List, [], ◌∷◌, ◌++◌, length, length-append, append_assoc, append-nil, arith, refl, sym, ap, subst}
+use Rattle.std.proofs.Common.{◌≡◌, ◌∙◌, ℕ, zero, suc, ◌+◌, List, [], ◌∷◌, ◌++◌, length, length-append, arith, refl, sym, ap}
 use Rattle.rand_chacha.specs.ChaCha.{ChaCha}
 use Rattle.satip_base.specs.declared.network.Peer.{Peer}
 use Rattle.satip_base.specs.declared.identity.Draw.{Draw}
@@ -35,7 +35,7 @@ takes_then a b c xs ys first second = λ key stream number are.
     let long : length (xs ++ ys) ≡ length xs + length ys = length-append xs ys in
     let far : (number + length xs) + length ys ≡ number + length (xs ++ ys) = omega (arith, long) in (
       ap (λ (ds : List Draw). ds ++ ys) x.0 ∙ ap (λ (ds : List Draw). draws_from d number (length xs) ++ ds) y.0
-      ∙ sym (draws_from-append d number (length xs) (length ys)) ∙ ap (λ (n : ℕ). draws_from d number n) (sym long),
+          ∙ sym (draws_from-append d number (length xs) (length ys)) ∙ ap (λ (n : ℕ). draws_from d number n) (sym long),
       y.1 ∙ ap (λ (n : ℕ). before_draw key stream n) far,
     )
 

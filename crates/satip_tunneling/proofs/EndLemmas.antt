@@ -1,34 +1,27 @@
 -- The whole run of a connection of a tunnel, and the causes of its ends.
-use Rattle.std.proofs.Common.{◌≡◌, ◌≢◌, ◌∙◌, ℕ, Bool, true, false, List, [], ◌∷◌, ◌++◌, append_assoc, append-nil, length, map, drop, arith, refl, sym, ap, subst, inl, inr, ⊎_elim}
-use Rattle.std.specs.Prelude.{◌⊎◌, ◌↔◌}
+use Rattle.std.proofs.Common.{◌≡◌, ◌∙◌, ℕ, List, [], ◌∷◌, ◌++◌, append-nil, length, refl, sym, ap, subst, inl, inr}
 use Rattle.rand_chacha.specs.ChaCha.{ChaCha}
 use Rattle.satip_base.specs.declared.identity.Draw.{Draw}
-use Rattle.satip_history.specs.Lists.{Begins, Has}
-use Rattle.satip_interleave.specs.Calling.{ShownPass}
 use Rattle.satip_interleave.proofs.Entries.{inners-append}
 use Rattle.satip_plain.specs.Histories.{Item}
-use Rattle.satip_plain.specs.declared.events.Event.{Event}
-use Rattle.satip_rtsp.specs.declared.requests.Request.{Request}
 use Rattle.satip_tunnel.specs.declared.events.TunnelEvent.{TunnelEvent}
-use Rattle.satip_tunnel.specs.declared.events.TunnelEvent.TheVariants.{Inner, Enter, Drain, Leave}
+use Rattle.satip_tunnel.specs.declared.events.TunnelEvent.TheVariants.{Enter, Leave}
 use Rattle.satip_tunnel.specs.declared.events.TunnelAnswer.{TunnelAnswer}
 use Rattle.satip_tunnel.specs.declared.events.TunnelAnswer.TheVariants.{Lane, Full as no_lane}
 use Rattle.satip_tunnel.specs.Histories.{TunnelItem, inners, inner_by}
-use Rattle.satip_world.specs.Counts.{Rises}
 use Rattle.satip_world.specs.Lines.{Line}
 use Rattle.satip_worker.specs.Answers.{ends_with_last}
 use Rattle.satip_worker.specs.Progress.{Carries}
 use Rattle.satip_worker.proofs.ProgressLemmas.{carries_nothing}
 use Rattle.satip_tunneling.specs.declared.ends.TunnelEnd.{TunnelEnd}
 use Rattle.satip_tunneling.specs.declared.ends.TunnelEnd.TheVariants.{Full, Broken, Done, ReadFault, WriteFault, Spent}
-use Rattle.satip_tunneling.specs.Walk.{Stance, Free, Draining, Over, Walk, Follows, MayDrain, DrainsTo, IsReplied}
-use Rattle.satip_tunneling.specs.Wire.{wire}
-use Rattle.satip_tunneling.specs.Requests.{AsksInParts, TakesDraws}
-use Rattle.satip_tunneling.specs.Seats.{Seat, Grows, made_since, IsAnsweredBy}
-use Rattle.satip_tunneling.specs.Ends.{StopsAt, IsLeave, IsUnleft, Leaves, LeftOver, DrawsTaken, WireSent, LineEnds, unleft_end}
+use Rattle.satip_tunneling.specs.Walk.{Stance, Free, MayDrain}
+use Rattle.satip_tunneling.specs.Requests.{TakesDraws}
+use Rattle.satip_tunneling.specs.Seats.{Seat, Grows}
+use Rattle.satip_tunneling.specs.Ends.{StopsAt, IsLeave, Leaves, LeftOver, DrawsTaken, WireSent, LineEnds}
 use Rattle.satip_tunneling.specs.Events.{MadeOne, UnmadeEvent}
-use Rattle.satip_tunneling.specs.Hearing.{Course, MadeFirst, Talked, Left, Unleft, Finishes, IsFullAt}
-use Rattle.satip_tunneling.specs.TunnelRun.{LaneRun, TunnelRun, EnteredRun, HadNone}
+use Rattle.satip_tunneling.specs.Hearing.{Course, Talked, Left, Unleft, Finishes}
+use Rattle.satip_tunneling.specs.TunnelRun.{LaneRun, EnteredRun}
 use Rattle.satip_tunneling.specs.Served.{ServesTunnel}
 use Rattle.satip_tunneling.proofs.SeatLemmas.{grows_none, grows_then}
 use Rattle.satip_tunneling.proofs.DrawLemmas.{takes_none}

@@ -1,5 +1,5 @@
 -- Drains of a lane, and a request with the drains behind it, event by event.
-use Rattle.std.proofs.Common.{◌≡◌, ◌∙◌, ℕ, Bool, List, [], ◌∷◌, ◌++◌, append-nil, length, arith, refl, sym, ap, subst, inl, inr}
+use Rattle.std.proofs.Common.{◌≡◌, ◌∙◌, ℕ, List, [], ◌++◌, append-nil, arith, refl, sym, ap, subst}
 use Rattle.satip_plain.specs.Histories.{Item}
 use Rattle.satip_interleave.proofs.Entries.{inners-append}
 use Rattle.satip_tunnel.specs.Histories.{TunnelItem, inners}

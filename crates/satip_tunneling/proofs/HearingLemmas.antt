@@ -1,13 +1,13 @@
 -- A connection of a tunnel goes on with one message more.
-use Rattle.std.proofs.Common.{◌≡◌, ◌≢◌, ◌∙◌, ℕ, ◌+◌, ◌/◌, ◌%◌, ◌*◌, ◌<◌, ◌≤◌, Bool, true, false, List, [], ◌∷◌, ◌++◌, append_assoc, append-nil, length, length-append, map, arith, refl, sym, ap, subst, Option, Some, None, IsSomeAnd, inl, inr}
-use Rattle.std.proofs.lemmas.List.{map-append, map_push, length-map}
+use Rattle.std.proofs.Common.{◌≡◌, ◌≢◌, ◌∙◌, ℕ, ◌+◌, Bool, true, false, List, [], ◌∷◌, ◌++◌, append_assoc, append-nil, length, length-append, map, arith, refl, sym, ap, subst, inl, inr}
+use Rattle.std.proofs.lemmas.List.{map-append, map_push}
 use Rattle.rand_chacha.specs.ChaCha.{ChaCha}
 use Rattle.satip_base.specs.declared.identity.Draw.{Draw}
 use Rattle.satip_channels.specs.Requests.{asked_by_tunnel}
 use Rattle.satip_frame.specs.declared.framing.Break.{Break}
 use Rattle.satip_frame.specs.Said.{Said}
 use Rattle.satip_frame.specs.Stream.{Tail, Unfinished, Broken as broken_tail}
-use Rattle.satip_parts.specs.Parts.{Parts, Leads}
+use Rattle.satip_parts.specs.Parts.{Parts}
 use Rattle.satip_parts.specs.Frames.{inside}
 use Rattle.satip_parts.specs.Held.{Held, IsReadUpTo}
 use Rattle.satip_parts.proofs.PartLemmas.{parts_of, list_grows, broken_stays, leads_first}
@@ -20,7 +20,6 @@ use Rattle.satip_interleave.proofs.Entries.{inners-append}
 use Rattle.satip_tunnel.specs.Histories.{TunnelItem, inners}
 use Rattle.satip_world.specs.Lines.{Line}
 use Rattle.satip_worker.specs.Answers.{events_of, ends_with, ends_with_last}
-use Rattle.satip_worker.specs.Progress.{Carries}
 use Rattle.satip_worker.specs.Requests.{asked_by_tail}
 use Rattle.satip_worker.proofs.EventLemmas.{ends_with_last_push}
 use Rattle.satip_worker.proofs.ProgressLemmas.{carries_sent, rises_from}
@@ -31,7 +30,7 @@ use Rattle.satip_tunneling.specs.Walk.{Stance, Free, Draining, Over, lane_peer}
 use Rattle.satip_tunneling.specs.Wire.{wire}
 use Rattle.satip_tunneling.specs.Requests.{AsksInParts, TakesDraws, asked_events, drawn_events}
 use Rattle.satip_tunneling.specs.Seats.{Seat}
-use Rattle.satip_tunneling.specs.Exchanges.{Talks, Drains, DrainsInPart, DrainsToStop, Answers, AnswersInPart, AnswersToStop, StopsUnasked}
+use Rattle.satip_tunneling.specs.Exchanges.{Talks, Answers, AnswersInPart, AnswersToStop, StopsUnasked}
 use Rattle.satip_tunneling.specs.Hearing.{Course, SoFar, Stands, Listens, HasClosed, MadeFirst, HasLost, HasStopped}
 use Rattle.satip_tunneling.proofs.SeatLemmas.{grows_then}
 use Rattle.satip_tunneling.proofs.WalkLemmas.{walk_then, wire-append, in_part_behind}

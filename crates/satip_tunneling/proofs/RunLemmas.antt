@@ -1,28 +1,22 @@
 -- A connection of a tunnel from its Enter to its end.
-use Rattle.std.proofs.Common.{◌≡◌, ◌∙◌, ℕ, ◌+◌, Bool, true, false, List, [], ◌∷◌, ◌++◌, append_assoc, append-nil, length, map, take, arith, refl, sym, ap, subst, inl, inr, lit<}
-use Rattle.std.specs.Prelude.{◌⊎◌}
+use Rattle.std.proofs.Common.{◌≡◌, ◌∙◌, ℕ, false, List, [], ◌∷◌, ◌++◌, append-nil, map, take, arith, refl, sym, subst, inl, inr}
 use Rattle.rand_chacha.specs.ChaCha.{ChaCha}
-use Rattle.satip_base.specs.declared.identity.Draw.{Draw}
 use Rattle.satip_channels.specs.Requests.{asked_by_tunnel}
-use Rattle.satip_frame.specs.Said.{Said}
 use Rattle.satip_frame.specs.Stream.{Unfinished, Broken as broken_tail}
 use Rattle.satip_parts.specs.Held.{Held, new_parter}
 use Rattle.satip_parts.proofs.PartLemmas.{empty_ends}
 use Rattle.satip_rtsp.specs.declared.requests.Request.{Request}
 use Rattle.satip_rtsp.specs.Asked.{broken}
-use Rattle.satip_tunnel.specs.Histories.{TunnelItem, inners}
 use Rattle.satip_world.specs.Lines.{Line, GotBytes, WasIdle, InputEnded, ReceiveFailed}
-use Rattle.satip_worker.specs.Answers.{ends_with_last}
 use Rattle.satip_worker.specs.Progress.{Carries}
-use Rattle.satip_worker.proofs.ProgressLemmas.{carries_nothing, carries_received, carries_on, carries_then, rises_from}
-use Rattle.satip_tunneling.specs.declared.ends.TunnelEnd.{TunnelEnd}
-use Rattle.satip_tunneling.specs.declared.ends.TunnelEnd.TheVariants.{Full, Broken, Done, ReadFault, WriteFault, Spent}
-use Rattle.satip_tunneling.specs.Walk.{Stance, Free, Draining, Over}
+use Rattle.satip_worker.proofs.ProgressLemmas.{carries_nothing, carries_received, carries_on, rises_from}
+use Rattle.satip_tunneling.specs.declared.ends.TunnelEnd.TheVariants.{Broken, Done, ReadFault, WriteFault, Spent}
+use Rattle.satip_tunneling.specs.Walk.{Free, Draining, Over}
 use Rattle.satip_tunneling.specs.Wire.{wire}
-use Rattle.satip_tunneling.specs.Requests.{AsksInParts, TakesDraws}
+use Rattle.satip_tunneling.specs.Requests.{AsksInParts}
 use Rattle.satip_tunneling.specs.Seats.{Seat}
-use Rattle.satip_tunneling.specs.Exchanges.{Talks, Drains, DrainsInPart, DrainsToStop}
-use Rattle.satip_tunneling.specs.Hearing.{Course, SoFar, Stands, Listens, HasClosed, MadeFirst, HasLost, HasStopped, Talked}
+use Rattle.satip_tunneling.specs.Exchanges.{Drains, DrainsInPart, DrainsToStop}
+use Rattle.satip_tunneling.specs.Hearing.{Course, SoFar, Listens, HasClosed, MadeFirst, HasLost, HasStopped, Talked}
 use Rattle.satip_tunneling.proofs.SeatLemmas.{grows_none}
 use Rattle.satip_tunneling.proofs.DrawLemmas.{takes_none}
 use Rattle.satip_tunneling.proofs.WalkLemmas.{wire-append, in_part_behind}

@@ -18,14 +18,13 @@ use Rattle.satip_lanes.specs.Lanes.{PlainLanes, no_lanes, entered_number, drain_
 use Rattle.satip_plain.specs.declared.answers.Answer.{Answer}
 use Rattle.satip_plain.specs.declared.answers.Answer.TheVariants.{Replied as AnswerReplied, Get, Beat, Work, Pulled, Closed}
 use Rattle.satip_plain.specs.declared.answers.Replied.{Replied}
-use Rattle.satip_plain.specs.declared.events.Event.{Event}
 use Rattle.satip_plain.specs.declared.events.Event.TheVariants.{Request as Asks}
 use Rattle.satip_plain.specs.declared.setting.Setting.{Setting}
 use Rattle.satip_rtsp.specs.declared.requests.Request.{Request}
 use Rattle.satip_service.specs.Suits.{Suits, closes}
 use Rattle.satip_turn.specs.Shown.{Turned}
 use Rattle.satip_interleave.specs.Calling.{ShownPass}
-use Rattle.satip_interleave.proofs.Calling.{answered_by, made_by}
+use Rattle.satip_interleave.proofs.Calling.{made_by}
 use Rattle.satip_tunnel.specs.declared.events.TunnelEvent.{TunnelEvent}
 use Rattle.satip_tunnel.specs.declared.events.TunnelEvent.TheVariants.{Inner, Enter, Drain, Leave}
 use Rattle.satip_tunnel.specs.declared.events.TunnelAnswer.{TunnelAnswer}

@@ -1,6 +1,5 @@
 -- What one request comes to on the course of a connection.
-use Rattle.std.proofs.Common.{◌≡◌, ◌≢◌, ◌∙◌, ℕ, ◌+◌, ◌*◌, ◌/◌, ◌%◌, ◌<◌, ◌≤◌, Bool, true, false, List, [], ◌∷◌, ◌++◌, append-nil, length, map, arith, refl, sym, ap, subst, inl, inr, Option, Some, None, IsSomeAnd}
-use Rattle.std.specs.Prelude.{◌⊎◌}
+use Rattle.std.proofs.Common.{◌≡◌, ◌≢◌, ◌∙◌, ℕ, ◌+◌, ◌*◌, ◌/◌, ◌%◌, ◌<◌, ◌≤◌, Bool, true, false, List, [], ◌∷◌, ◌++◌, append-nil, length, map, arith, sym, ap, subst, inl, inr, IsSomeAnd}
 use Rattle.std.proofs.lemmas.List.{map_push}
 use Rattle.rand_chacha.specs.ChaCha.{ChaCha}
 use Rattle.satip_channels.specs.Requests.{asked_by_tunnel}

@@ -1,5 +1,5 @@
 -- Walks and wires of entries one after another.
-use Rattle.std.proofs.Common.{◌≡◌, ◌∙◌, ℕ, List, [], ◌∷◌, ◌++◌, append_assoc, refl, sym, ap, subst}
+use Rattle.std.proofs.Common.{◌≡◌, ◌∙◌, ℕ, List, [], ◌∷◌, ◌++◌, append_assoc, sym, ap, subst}
 use Rattle.std.proofs.lemmas.List.Concat.{flat_map-append}
 use Rattle.satip_tunnel.specs.Histories.{TunnelItem}
 use Rattle.satip_tunneling.specs.Walk.{Stance, Walk}

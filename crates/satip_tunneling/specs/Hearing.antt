@@ -21,8 +21,8 @@ use Rattle.satip_tunneling.specs.declared.ends.Heard.TheVariants.{All, Closed, B
 use Rattle.satip_tunneling.specs.declared.ends.TunnelEnd.{TunnelEnd}
 use Rattle.satip_tunneling.specs.declared.ends.TunnelEnd.TheVariants.{Full as end_full, Broken as end_broken, Done as end_done, ReadFault as end_unread, WriteFault as end_lost, Spent as end_spent}
 use Rattle.satip_tunneling.specs.Ends.{StopsAt, LeftOver, DrawsTaken, WireSent, LineEnds, IsLeave, unleft_end}
-use Rattle.satip_tunneling.specs.Walk.{Stance, Free, Draining, Over, MayDrain, Walk, lane_peer}
-use Rattle.satip_tunneling.specs.Wire.{wire, SentInPart}
+use Rattle.satip_tunneling.specs.Walk.{Stance, Free, Walk, lane_peer}
+use Rattle.satip_tunneling.specs.Wire.{wire}
 use Rattle.satip_tunneling.specs.Requests.{AsksInParts, TakesDraws, asked_events, drawn_events}
 use Rattle.satip_tunneling.specs.Seats.{Seat, Grows}
 

@@ -1,5 +1,5 @@
 -- Entries for the worked rows.
-use Rattle.std.specs.Prelude.{ℕ, false, List, []}
+use Rattle.std.specs.Prelude.{ℕ, false, List}
 use Rattle.satip_base.specs.Output.{Output, empty}
 use Rattle.satip_history.specs.History.{entry}
 use Rattle.satip_plain.specs.declared.answers.Answer.TheVariants.{Replied}

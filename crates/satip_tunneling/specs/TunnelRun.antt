@@ -19,23 +19,19 @@ pub record LaneRun (lane : ℕ) (draws : List Draw) (received sent : List ℕ) (
   pub body : List TunnelItem
   pub last : List TunnelItem
   pub entries_are : entries ≡ body ++ last
-
   -- behind each request, and else at times, the lane is drained until that isn't answered with frames
   pub stance : Stance
   pub walk : Walk lane Free body stance
   pub stops : StopsAt end stance
   pub leaves : Leaves lane seen end last
-
   -- what was made and what is left are all requests of what was received
   pub made : List Request
   pub left : List Request
   pub asks : AsksInParts received (made ++ left)
   pub left_over : LeftOver end left
-
   -- each request has the lane as its peer, and takes the next draw
   pub events : asked_events body ≡ drawn_events (lane_peer lane) draws made
   pub drawn : DrawsTaken end (length draws) (length made) left
-
   -- the turned replies and the frames were sent
   pub sent_is : WireSent end body sent
 

@@ -17,8 +17,8 @@ use crate::ends::{Entered, Heard, TunnelEnd, Way};
 use crate::events::{enter, leave};
 use crate::exchanges::drain_all;
 use crate::hearing::hear;
-use satip_base::{Out, Spent};
 use satip_base::limits::{LONGEST_HISTORY, PIECE};
+use satip_base::{Out, Spent};
 use satip_interleave::{TunnelCaller, TunnelRoom};
 use satip_worker::Draws;
 use satip_world::{Conn, Pacer, Received};
@@ -35,10 +35,10 @@ fn talk<R: Wait + Sync, C: Conn, P: Pacer>(
 ) -> TunnelEnd
     requires new { room.old.parter ≡ new_parter }
     ensures talked { Talked C.tells (record {
-        lane = lane;
-        draws = draws.old;
-        seat = seated caller.old.server.now caller.old.pass;
-        line = C.line conn.old;
+      lane = lane;
+      draws = draws.old;
+      seat = seated caller.old.server.now caller.old.pass;
+      line = C.line conn.old;
     }) (seated caller.new.server.now caller.new.pass) (C.line conn.new) draws.new result }
 {
     let rt = caller.rt;

@@ -17,10 +17,7 @@ pub(crate) fn make<R: Wait + Sync>(
     ensures makes { MakesEvent (seated caller.old.server.now caller.old.pass)
         (seated caller.new.server.now caller.new.pass) event.now out.new result }
 {
-    match caller
-        .server
-        .call(caller.rt, &mut caller.pass, event, out)
-    {
+    match caller.server.call(caller.rt, &mut caller.pass, event, out) {
         Ok(answer) => Ok(answer),
         Err(Spent) => Err(Spent),
     }

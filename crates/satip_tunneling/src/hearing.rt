@@ -93,7 +93,15 @@ fn answer<R: Wait + Sync, C: Conn>(
         match room.parter.next() {
             Step::Message => {
                 let request = found_request(&room.parter);
-                match exchange(caller, lane, draws, request, &mut room.out, &mut room.reply, conn) {
+                match exchange(
+                    caller,
+                    lane,
+                    draws,
+                    request,
+                    &mut room.out,
+                    &mut room.reply,
+                    conn,
+                ) {
                     Way::On => {}
                     Way::Broken => return Heard::Broken,
                     Way::Lost => return Heard::Lost,

@@ -9,7 +9,6 @@ mod exchanges;
 mod hearing;
 mod rows;
 
-
 pub use connection::serve_tunnel;
 pub use ends::TunnelEnd;
 pub use rows::worked_rows;

@@ -43,6 +43,7 @@ const KEY: [u8; 32] = [0; 32];
 
 /// A connection: the pieces that come in, which receives and sends fail, how it ends, what it is
 /// sent, and how many entries it makes.
+#[derive(Clone, Copy)]
 struct Row<'a> {
     pieces: &'a [&'a [u8]],
     failing_receives: &'a [u64],

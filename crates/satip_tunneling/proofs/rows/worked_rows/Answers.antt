@@ -105,40 +105,46 @@ pub returns-clause-not_in_part : goal.returns-clause-not_in_part
 returns-clause-not_in_part c = λ part. some_behind part.before part.last part.entries_are
 
 pub returns-clause-silent : goal.returns-clause-silent
-returns-clause-silent c = (refl, record {
-  body = [];
-  last = leaves 3 ∷ [];
-  entries_are = refl;
-  stance = Free;
-  walk = refl;
-  stops = refl;
-  leaves = (refl, tt);
-  made = [];
-  left = [];
-  asks = nothing_asked;
-  left_over = refl;
-  events = refl;
-  drawn = refl;
-  sent_is = refl;
-})
+returns-clause-silent c = (
+  refl,
+  record {
+    body = [];
+    last = leaves 3 ∷ [];
+    entries_are = refl;
+    stance = Free;
+    walk = refl;
+    stops = refl;
+    leaves = (refl, tt);
+    made = [];
+    left = [];
+    asks = nothing_asked;
+    left_over = refl;
+    events = refl;
+    drawn = refl;
+    sent_is = refl;
+  },
+)
 
 pub returns-clause-unread : goal.returns-clause-unread
-returns-clause-unread c = (refl, record {
-  body = [];
-  last = leaves 3 ∷ [];
-  entries_are = refl;
-  stance = Free;
-  walk = refl;
-  stops = refl;
-  leaves = (refl, tt);
-  made = [];
-  left = [];
-  asks = nothing_asked;
-  left_over = refl;
-  events = refl;
-  drawn = refl;
-  sent_is = refl;
-})
+returns-clause-unread c = (
+  refl,
+  record {
+    body = [];
+    last = leaves 3 ∷ [];
+    entries_are = refl;
+    stance = Free;
+    walk = refl;
+    stops = refl;
+    leaves = (refl, tt);
+    made = [];
+    left = [];
+    asks = nothing_asked;
+    left_over = refl;
+    events = refl;
+    drawn = refl;
+    sent_is = refl;
+  },
+)
 
 pub returns-clause-left_out : goal.returns-clause-left_out
 returns-clause-left_out c = λ run. none_left 3 run.1.body run.1.last run.1.entries_are run.1.leaves
@@ -147,30 +153,33 @@ pub returns-clause-other_left : goal.returns-clause-other_left
 returns-clause-other_left c = λ run. other_lane run.1.body run.1.last run.1.entries_are run.1.leaves
 
 pub returns-clause-lost : goal.returns-clause-lost
-returns-clause-lost c = (refl, record {
-  body = drains 3 (Frames 5) frame_bytes ∷ [];
-  last = leaves 3 ∷ [];
-  entries_are = refl;
-  stance = Draining;
-  walk = (Draining, (refl, tt, refl), refl);
-  stops = refl;
-  leaves = inl (refl, tt);
-  made = [];
-  left = [];
-  asks = nothing_asked;
-  left_over = tt;
-  events = refl;
-  drawn = refl;
-  sent_is = record {
-    before = [];
-    last = drains 3 (Frames 5) frame_bytes;
+returns-clause-lost c = (
+  refl,
+  record {
+    body = drains 3 (Frames 5) frame_bytes ∷ [];
+    last = leaves 3 ∷ [];
     entries_are = refl;
-    part = 36 ∷ [];
-    rest = 0 ∷ 0 ∷ 1 ∷ 71 ∷ [];
-    bytes = refl;
-    sent_is = refl;
-  };
-})
+    stance = Draining;
+    walk = (Draining, (refl, tt, refl), refl);
+    stops = refl;
+    leaves = inl (refl, tt);
+    made = [];
+    left = [];
+    asks = nothing_asked;
+    left_over = tt;
+    events = refl;
+    drawn = refl;
+    sent_is = record {
+      before = [];
+      last = drains 3 (Frames 5) frame_bytes;
+      entries_are = refl;
+      part = 36 ∷ [];
+      rest = 0 ∷ 0 ∷ 1 ∷ 71 ∷ [];
+      bytes = refl;
+      sent_is = refl;
+    };
+  },
+)
 
 pub returns-clause-turned_away : goal.returns-clause-turned_away
 returns-clause-turned_away c = (refl, (record { undrawn = refl; unheard = refl; unsent = refl }, record { end_is = refl; none = refl }))
@@ -179,43 +188,49 @@ pub returns-clause-entry_behind : goal.returns-clause-entry_behind
 returns-clause-entry_behind c = λ run. let e = run.1.1.none in cc e
 
 pub returns-clause-broke : goal.returns-clause-broke
-returns-clause-broke c = (refl, record {
-  body = drains 3 LaneBroken [] ∷ [];
-  last = leaves 3 ∷ [];
-  entries_are = refl;
-  stance = Over;
-  walk = (Over, (refl, tt, refl), refl);
-  stops = refl;
-  leaves = inl (refl, tt);
-  made = [];
-  left = [];
-  asks = nothing_asked;
-  left_over = tt;
-  events = refl;
-  drawn = refl;
-  sent_is = refl;
-})
+returns-clause-broke c = (
+  refl,
+  record {
+    body = drains 3 LaneBroken [] ∷ [];
+    last = leaves 3 ∷ [];
+    entries_are = refl;
+    stance = Over;
+    walk = (Over, (refl, tt, refl), refl);
+    stops = refl;
+    leaves = inl (refl, tt);
+    made = [];
+    left = [];
+    asks = nothing_asked;
+    left_over = tt;
+    events = refl;
+    drawn = refl;
+    sent_is = refl;
+  },
+)
 
 pub returns-clause-not_done : goal.returns-clause-not_done
 returns-clause-not_done c = λ run. absurd (not_broken run)
 
 pub returns-clause-spent : goal.returns-clause-spent
-returns-clause-spent c = (refl, record {
-  body = [];
-  last = [];
-  entries_are = refl;
-  stance = Free;
-  walk = refl;
-  stops = tt;
-  leaves = (refl, refl);
-  made = [];
-  left = [];
-  asks = nothing_asked;
-  left_over = tt;
-  events = refl;
-  drawn = inl refl;
-  sent_is = refl;
-})
+returns-clause-spent c = (
+  refl,
+  record {
+    body = [];
+    last = [];
+    entries_are = refl;
+    stance = Free;
+    walk = refl;
+    stops = tt;
+    leaves = (refl, refl);
+    made = [];
+    left = [];
+    asks = nothing_asked;
+    left_over = tt;
+    events = refl;
+    drawn = inl refl;
+    sent_is = refl;
+  },
+)
 
 pub returns-clause-not_spent : goal.returns-clause-not_spent
 returns-clause-not_spent c = λ run. let e : 1 ≡ 18446744073709551615 = run.1.leaves.1 in absurd (omega (arith, e))
