@@ -3,10 +3,16 @@ use Rattle.std.specs.Prelude.{false, List, [], ◌∷◌}
 use Rattle.satip_pump.specs.declared.kits.PumpKit.{PumpKit}
 use Rattle.satip_pump.specs.declared.kits.TickKit.{TickKit}
 use Rattle.satip_worker.specs.declared.kits.WorkerKit.{WorkerKit}
+use Rattle.satip_world.specs.Outboxes.{Outbox}
+use Rattle.satip_silent.specs.Silences.{silence}
 use Rattle.satip_silent.specs.declared.silent.Silent.{Silent}
 
 abbrev pub silent : Silent
 silent = record { held = false }
+
+-- what an outlet shows that sends nothing
+abbrev pub silent_outbox : Silent → Outbox
+silent_outbox s = silence s.held
 
 -- the kit with this outlet
 abbrev pub worker_with : {D O Q P : Type 0} → WorkerKit D Q P → O → WorkerKit D O P

@@ -8,7 +8,7 @@ use Rattle.satip_pump.specs.declared.kits.PumpKit.{PumpKit}
 use Rattle.satip_pump.specs.declared.kits.TickKit.{TickKit}
 use Rattle.satip_worker.specs.declared.kits.WorkerKit.{WorkerKit}
 use Rattle.satip_worker.specs.declared.worker.WorkerEnd.{WorkerEnd}
-use Rattle.satip_turn.specs.Shown.{Cell}
+use Rattle.satip_turn.specs.Shown.{Cell, Keeps}
 use Rattle.satip_interleave.specs.Calling.{ShownPass, known_by, outers}
 use Rattle.satip_tunneling.specs.Seats.{seated, Seat as CallerSeat}
 use Rattle.satip_crew.specs.declared.end.ServeEnd.{ServeEnd}
@@ -17,7 +17,7 @@ use Rattle.satip_crew.specs.Works.{IsSameSeat}
 use Rattle.satip_serve.specs.Deeds.{PumpDid, TickerDid}
 use Rattle.satip_serve.specs.Ends.{end_of_worker}
 use Rattle.satip_serve.specs.Views.{WorkerView, PumpView, TickView}
-use Rattle.satip_tunnel_serve.specs.Doors.{ServesTunnelDoors}
+use Rattle.satip_tunnel_worker.specs.WorkerRun.{ServesDoors}
 use Rattle.satip_tunnel_serve.specs.Views.{worker_seen, pump_seen, ticker_seen}
 
 -- a worker served the connections that came by its doors, with this stream of its key
@@ -25,7 +25,15 @@ pub record TunnelWorkerDid (conn_tells : Type 0) (number : ℕ) (o : WorkerView)
   pub ended : WorkerEnd
   pub end_is : end ≡ end_of_worker ended
   pub key : n.key ≡ o.key
-  pub serves : ServesTunnelDoors conn_tells o.key number s t o.hall n.hall ended
+  pub serves : ServesDoors conn_tells o.key number s t o.hall n.hall ended
+
+-- and it is at its seat still: its caller has the same tunnel, and its pass the same number, kept rows and numbers of passes
+-- made, and the job has its number
+pub record WorkedAtSeat (conn_tells : Type 0) (before after : ℕ) (o : WorkerView) (s : CallerSeat) (n : WorkerView) (t : CallerSeat) (end : ServeEnd) : Type 0 where
+  pub number : after ≡ before
+  pub cell_is : t.cell ≡ s.cell
+  pub keeps : Keeps s.pass t.pass
+  pub did : TunnelWorkerDid conn_tells before o s n t end
 
 -- a pump asked and fed as one of the server does, and made no entry of the lanes
 pub record TunnelPumpDid (number : ℕ) (o : PumpView) (s : CallerSeat) (n : PumpView) (t : CallerSeat) (end : ServeEnd) : Type 0 where

@@ -1,5 +1,6 @@
 -- What each job of a tunnel has done when all have ended.
 use Rattle.std.specs.Prelude.{◌≡◌, ◌≢◌, ℕ, ◌⊎◌, true, List, [], map}
+use Rattle.satip_base.specs.declared.limits.TheConstants.{LONGEST_HISTORY}
 use Rattle.satip_base.specs.Output.{Output}
 use Rattle.satip_history.specs.Lists.{Each}
 use Rattle.satip_turn.specs.declared.view.Row.{Row}
@@ -13,7 +14,7 @@ use Rattle.satip_worker.specs.Drawing.{draw_at}
 use Rattle.satip_worker.specs.WorkerRun.{arrival_of}
 use Rattle.satip_serve.specs.Done.{Caller, EndsInTime, PumpDone, TickerDone}
 use Rattle.satip_serve.specs.Views.{WorkerView, PumpView, TickView}
-use Rattle.satip_tunnel_serve.specs.Doors.{ServesTunnels}
+use Rattle.satip_tunnel_worker.specs.WorkerRun.{ServesAll}
 
 -- a caller of the tunnel: its number and its entries
 abbrev pub TunnelRow : Type 0
@@ -32,7 +33,11 @@ pub record TunnelWorkerDone (conn_tells full : Type 0) (accepts number : ℕ) (w
   pub draws : ℕ
   pub came : worker.hall.told ≡ true → worker.hall.given ≡ map arrival_of connections
   pub handed_back : worker.hall.told ≡ true → worker.hall.returned ≡ connections
-  pub served : ServesTunnels conn_tells (draw_at worker.key number) 0 draws connections caller.own
+  -- the history had so many entries at first, and so many at last
+  pub first : ℕ
+  pub last : ℕ
+  pub served : ServesAll conn_tells (draw_at worker.key number) 0 draws first last connections caller.own
+  pub filled : last ≡ LONGEST_HISTORY → full
   pub in_time : Each (EndsInTime full) connections
 
 -- the pump of a front end: it has done what one of the server has, and has no entry of the lanes. Nothing is said of its outlet

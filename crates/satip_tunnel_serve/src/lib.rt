@@ -8,7 +8,6 @@ mod run;
 mod seat;
 mod serving;
 mod space;
-mod work;
 
 pub use run::run_in_tunnel;
 pub use serving::{TunnelLast, serve_through_tunnel};

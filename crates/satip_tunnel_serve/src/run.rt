@@ -5,16 +5,16 @@ ghost use Rattle.std.specs.Thread.{IsSync};
 ghost use Rattle.satip_turn.specs.Shown.{Knows};
 ghost use Rattle.satip_crew.specs.Crews.{IsSpace};
 ghost use Rattle.satip_serve.specs.Fresh.{FreshJobs};
-ghost use Rattle.satip_tunnel_serve.specs.Deeds.{SeatDid, pump_deed, ticker_deed, worker_deed};
-ghost use Rattle.satip_tunnel_serve.specs.Services.{IsFirst, ServesInTunnel, WorksSo};
+ghost use Rattle.satip_serve.specs.Services.{NeverWants};
+ghost use Rattle.satip_tunnel_serve.specs.Deeds.{worker_deed};
+ghost use Rattle.satip_tunnel_serve.specs.Services.{IsFirst, PumpedAtSeat, ServesInTunnel, TickedAtSeat, WorksSo};
 ghost use Rattle.satip_tunnel_serve.specs.TunnelRuns.{TunnelEndTells, TunnelServeRun};
 ghost use Rattle.satip_tunnel_serve.specs.Views.{worker_seen, pump_seen, ticker_seen};
 
-use crate::seat::{pump_at_seat, tick_at_seat};
 use satip_base::Out;
 use satip_crew::{Crew, Posts, Seat, ServeEnd, Space, run_jobs};
 use satip_pump::{PumpKit, TickKit};
-use satip_serve::PumpRoom;
+use satip_serve::{PumpRoom, pump_seat, tick_seat};
 use satip_service::Service;
 use satip_silent::Silent;
 use satip_tunnel::{TunnelAnswer, TunnelEvent};
@@ -106,14 +106,12 @@ pub fn run_in_tunnel<
         space,
         work,
         &|seat: &mut Seat<X, PumpKit<M, Silent, P>, PumpRoom>|
-            requires { IsSync R.row
-                × ServesInTunnel X.known X.may_want X.same X.cell X.pass X.Crew.legal X.is_stop }
-            ensures { SeatDid X.cell X.pass (pump_deed M.shelf) seat.old seat.new }
-        { pump_at_seat(rt, seat) },
+            requires { IsSync R.row × NeverWants X.may_want }
+            ensures { PumpedAtSeat X.same X.known M.shelf seat.old seat.new }
+        { pump_seat(rt, seat) },
         &|seat: &mut Seat<X, TickKit<C, Silent, P>, Out>|
-            requires { IsSync R.row
-                × ServesInTunnel X.known X.may_want X.same X.cell X.pass X.Crew.legal X.is_stop }
-            ensures { SeatDid X.cell X.pass (ticker_deed C.dial) seat.old seat.new }
-        { tick_at_seat(rt, seat) },
+            requires { IsSync R.row × NeverWants X.may_want }
+            ensures { TickedAtSeat X.same X.known C.dial seat.old seat.new }
+        { tick_seat(rt, seat) },
     )
 }

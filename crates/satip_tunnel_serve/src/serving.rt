@@ -9,7 +9,7 @@ ghost use Rattle.satip_serve.specs.Spaces.{IsSpaceFor};
 ghost use Rattle.satip_serve.specs.Views.{worker_view, pump_view, tick_view};
 ghost use Rattle.satip_tunnel.specs.Histories.{TunnelLegal};
 ghost use Rattle.satip_tunneling.specs.Seats.{seated};
-ghost use Rattle.satip_tunnel_serve.specs.Deeds.{TunnelWorkerDid};
+ghost use Rattle.satip_tunnel_serve.specs.Deeds.{WorkedAtSeat};
 ghost use Rattle.satip_tunnel_serve.specs.Services.{IsFirst};
 ghost use Rattle.satip_tunnel_serve.specs.TunnelRuns.{TunnelEndTells, TunnelServeRun};
 ghost use Rattle.satip_tunnel_serve.specs.Views.{worker_seen, pump_seen, ticker_seen};
@@ -18,13 +18,13 @@ use crate::aside::{put_aside, take_back};
 use crate::run::{TunnelSpace, run_in_tunnel};
 use crate::seat::work_at_seat;
 use crate::space::{Memory, take_memory};
-use crate::work::TunnelWorkerRoom;
 use satip_base::Want;
 use satip_config::Config;
 use satip_crew::{Posts, Seat, ServeEnd};
 use satip_interleave::{SharedTunnel, TunnelCaller, TunnelPass, make};
 use satip_serve::Jobs;
 use satip_silent::Silent;
+use satip_tunnel_worker::WorkerRoom;
 use satip_worker::WorkerKit;
 use satip_world::{Clock, Doors, MuxStore, Outlet, Pacer};
 use std::alloc::Global;
@@ -61,7 +61,7 @@ fn run_silent<
     pass: TunnelPass,
     jobs: Jobs<D, Silent, P, M, C>,
     gears: Gears,
-    space: TunnelSpace<TunnelCaller<'a, R>, D, TunnelWorkerRoom, P, M>,
+    space: TunnelSpace<TunnelCaller<'a, R>, D, WorkerRoom, P, M>,
 ) -> (TunnelPass, Jobs<D, Silent, P, M, C>, ServeEnd)
     requires of { IsOf pass server.now }
     requires knows { Knows (TunnelLegal server.now.setting) pass }
@@ -75,6 +75,8 @@ fn run_silent<
     requires few { length jobs.pumps.items ≤ 16 }
     ensures of { IsOf result.0 server.now }
     ensures knows { Knows (TunnelLegal server.now.setting) result.0 }
+    ensures worker_count { length result.1.workers.items ≡ length jobs.workers.items }
+    ensures pump_count { length result.1.pumps.items ≡ length jobs.pumps.items }
     ensures keys { map (λ kit. kit.key) result.1.workers.items
         ≡ map (λ kit. kit.key) jobs.workers.items }
     ensures recordings { map (λ kit. (M.shelf kit.store).recording) result.1.pumps.items
@@ -107,15 +109,14 @@ fn run_silent<
         root,
         posts,
         space,
-        &|seat: &mut Seat<TunnelCaller<R>, WorkerKit<D, Silent, P>, TunnelWorkerRoom>|
+        &|seat: &mut Seat<TunnelCaller<R>, WorkerKit<D, Silent, P>, WorkerRoom>|
             requires { IsSync R.row }
-            ensures {
-                (seat.new.number ≡ seat.old.number)
-                × TunnelWorkerDid D.Conn.tells seat.old.number (worker_seen D.hall seat.old.kit)
+            ensures { WorkedAtSeat D.Conn.tells seat.old.number seat.new.number
+                (worker_seen D.hall seat.old.kit)
                 (seated seat.old.caller.server.now seat.old.caller.pass)
                 (worker_seen D.hall seat.new.kit)
                 (seated seat.new.caller.server.now seat.new.caller.pass) seat.new.end }
-        { work_at_seat(rt, seat) },
+        { work_at_seat(seat) },
     );
     let TunnelCaller {
         rt: _,

@@ -6,17 +6,17 @@ ghost use Rattle.satip_tunnel_serve.specs.Asides.{IsSpareFor};
 
 use crate::aside::Spare;
 use crate::run::TunnelSpace;
-use crate::work::TunnelWorkerRoom;
 use satip_base::{Out, Want};
 use satip_crew::Space;
 use satip_pump::Batch;
 use satip_serve::PumpRoom;
+use satip_tunnel_worker::WorkerRoom;
 use std::alloc::Global;
 
 /// All memory that the jobs take, beside their kits.
 #[derive(Drop)]
 pub(crate) struct Memory<X, D, O, P, M> {
-    pub space: TunnelSpace<X, D, TunnelWorkerRoom, P, M>,
+    pub space: TunnelSpace<X, D, WorkerRoom, P, M>,
     pub worker_gears: Vec<()>,
     pub pump_gears: Vec<()>,
     pub spare: Spare<D, O, P, M>,
@@ -33,12 +33,12 @@ fn with_room<T: Drop>(alloc: Global, count: usize) -> Result<Vec<T>, Want>
     }
 }
 
-fn make_rooms(alloc: Global, count: usize) -> Result<Vec<TunnelWorkerRoom>, Want>
+fn make_rooms(alloc: Global, count: usize) -> Result<Vec<WorkerRoom>, Want>
     ensures count { IfOk result (λ rooms. length rooms.items ≡ count) }
 {
     let mut rooms = with_room(alloc, count)?;
     while rooms.len() < count {
-        rooms.push_reserved(TunnelWorkerRoom::make(alloc)?);
+        rooms.push_reserved(WorkerRoom::make(alloc)?);
     }
     Ok(rooms)
 }
@@ -90,7 +90,7 @@ fn take_space<X: Drop, D: Drop, P: Drop, M: Drop>(
     alloc: Global,
     workers: usize,
     pumps: usize,
-) -> Result<TunnelSpace<X, D, TunnelWorkerRoom, P, M>, Want>
+) -> Result<TunnelSpace<X, D, WorkerRoom, P, M>, Want>
     ensures worker_rooms { IfOk result (λ space. length space.worker_rooms.items ≡ workers) }
     ensures workers { IfOk result (λ space. space.workers.items ≡ []) }
     ensures worker_space { IfOk result (λ space. workers ≤ vec_capacity space.workers) }
