@@ -1,6 +1,9 @@
 -- Kits whose outlets are put aside, and kits that have them again: what is seen of them without outlets is the same.
 use Rattle.std.proofs.Common.{◌≡◌, ℕ, suc, List, [], ◌∷◌, map, length, arith, refl, sym, ap, ◌∙◌, subst}
+use Rattle.std.proofs.lemmas.List.{length-map}
 use Rattle.satip_history.specs.Lists.{Each}
+use Rattle.satip_plain.specs.declared.setting.Setting.{Setting}
+use Rattle.satip_tunnel.specs.Histories.{TunnelItem}
 use Rattle.satip_world.specs.Dials.{Dial}
 use Rattle.satip_world.specs.Halls.{Hall}
 use Rattle.satip_world.specs.Outboxes.{Outbox}
@@ -12,6 +15,8 @@ use Rattle.satip_silent.specs.Kits.{each_two, pump_with, silent, silent_pump, si
 use Rattle.satip_silent.specs.declared.silent.Silent.{Silent}
 use Rattle.satip_serve.specs.Fresh.{FreshWorker, FreshPump, FreshJobs, ReadOnce}
 use Rattle.satip_serve.specs.Views.{WorkerView, PumpView, TickView, worker_view, pump_view, tick_view}
+use Rattle.satip_tunnel_serve.specs.Done.{TunnelRow}
+use Rattle.satip_tunnel_serve.specs.TunnelRuns.{TunnelServeRun}
 use Rattle.satip_tunnel_serve.specs.Views.{worker_seen, pump_seen, ticker_seen}
 
 -- what is the same of each is the same of all
@@ -42,6 +47,44 @@ second_of_two f part same [] (y ∷ ys) is = nothing_as_long y ys is
 second_of_two f part same (x ∷ xs) [] is = nothing_as_long x xs (sym is)
 second_of_two {T = T} f part same (x ∷ xs) (y ∷ ys) is =
     ap (λ (v : T). v ∷ map part (each_two f xs ys)) (same x y) ∙ ap (λ (vs : List T). y ∷ vs) (second_of_two f part same xs ys (rest_as_long x xs y ys is))
+
+still_as_many : {K Q O : Type 0} (silence : K → Q) (outlet : K → O) (kits : List K) (quiet back : List Q) (outlets : List O)
+    → quiet ≡ map silence kits → outlets ≡ map outlet kits → length back ≡ length quiet → length outlets ≡ length back
+still_as_many {K} {Q} {O} silence outlet kits quiet back outlets are outlets_are count =
+    ap (λ (os : List O). length os) outlets_are ∙ length-map kits outlet ∙ sym (length-map kits silence) ∙ sym (ap (λ (qs : List Q). length qs) are) ∙ sym count
+
+-- kits that come back with their outlets: a part that isn't the outlet's is as the jobs left it
+pub part_is_seen : {K Q O V : Type 0} (with_outlet : Q → O → K) (silence : K → Q) (outlet : K → O) (part : K → V) (part' : Q → V) → ((q : Q) (o : O) → part (with_outlet q o) ≡ part' q)
+    → (kits : List K) (quiet back : List Q) (outlets : List O) (last : List K) → quiet ≡ map silence kits → outlets ≡ map outlet kits → length back ≡ length quiet
+    → last ≡ each_two with_outlet back outlets → map part last ≡ map part' back
+part_is_seen {K} {Q} {O} {V} with_outlet silence outlet part part' same kits quiet back outlets last are outlets_are count last_is =
+    ap (λ (ks : List K). map part ks) last_is
+    ∙ first_of_two with_outlet part part' same back outlets (still_as_many silence outlet kits quiet back outlets are outlets_are count)
+
+-- where the jobs left it as it was, it is as it was
+pub part_comes_back : {K Q O V : Type 0} (with_outlet : Q → O → K) (silence : K → Q) (outlet : K → O) (part : K → V) (part' : Q → V) → ((q : Q) (o : O) → part (with_outlet q o) ≡ part' q)
+    → ((k : K) → part' (silence k) ≡ part k) → (kits : List K) (quiet back : List Q) (outlets : List O) (last : List K) → quiet ≡ map silence kits → outlets ≡ map outlet kits
+    → length back ≡ length quiet → last ≡ each_two with_outlet back outlets → map part' back ≡ map part' quiet → map part last ≡ map part kits
+part_comes_back {K} {Q} {O} {V} with_outlet silence outlet part part' same same' kits quiet back outlets last are outlets_are count last_is kept =
+    part_is_seen with_outlet silence outlet part part' same kits quiet back outlets last are outlets_are count last_is
+    ∙ kept ∙ ap (λ (qs : List Q). map part' qs) are ∙ map_same silence part' part same' kits
+
+-- and the outlets are those that were put aside
+pub outlets_come_back : {K Q O : Type 0} (with_outlet : Q → O → K) (silence : K → Q) (outlet : K → O) → ((q : Q) (o : O) → outlet (with_outlet q o) ≡ o)
+    → (kits : List K) (quiet back : List Q) (outlets : List O) (last : List K) → quiet ≡ map silence kits → outlets ≡ map outlet kits → length back ≡ length quiet
+    → last ≡ each_two with_outlet back outlets → map outlet last ≡ map outlet kits
+outlets_come_back {K} {Q} {O} with_outlet silence outlet same kits quiet back outlets last are outlets_are count last_is =
+    ap (λ (ks : List K). map outlet ks) last_is
+    ∙ second_of_two with_outlet outlet same back outlets (still_as_many silence outlet kits quiet back outlets are outlets_are count)
+    ∙ outlets_are
+
+-- of kits of which the same is seen the same holds
+pub run_seen : (conn_tells : Type 0) (c : Setting) (accepts : ℕ) (seen : List TunnelItem) (kept : List TunnelRow) (ws ws' : List WorkerView) (ps ps' : List PumpView) (t t' : TickView)
+    → ws' ≡ ws → ps' ≡ ps → t' ≡ t → TunnelServeRun conn_tells c accepts seen kept ws ps t → TunnelServeRun conn_tells c accepts seen kept ws' ps' t'
+run_seen conn_tells c accepts seen kept ws ws' ps ps' t t' is_ws is_ps is_t run =
+    subst (λ (x : TickView). TunnelServeRun conn_tells c accepts seen kept ws' ps' x) (sym is_t)
+    (subst (λ (x : List PumpView). TunnelServeRun conn_tells c accepts seen kept ws' x t) (sym is_ps)
+    (subst (λ (x : List WorkerView). TunnelServeRun conn_tells c accepts seen kept x ps t) (sym is_ws) run))
 
 -- fresh kits are fresh without their outlets
 workers_fresh : {D O P : Type 0} (accepts : ℕ) (hall : D → Hall) (outbox : O → Outbox) (kits : List (WorkerKit D O P))

@@ -13,7 +13,7 @@ run_in_tunnel-root-requires-send-X g c κs within = search crossing depth 14
 
 pub run_in_tunnel-root-requires-clause-work : goal.run_in_tunnel-root-requires-clause-work
 run_in_tunnel-root-requires-clause-work g c κs within = record {
-  takes = λ argument. grind serving;
+  takes = λ argument. grind serving steps 40000000;
   does = λ before after call. record {
     still = record { cell_is = call.cell_is; keeps = call.keeps; number = call.number };
     deed = call.did;
