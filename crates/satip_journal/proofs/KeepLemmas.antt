@@ -3,7 +3,8 @@ use Rattle.std.proofs.Common.{◌≡◌, ◌∙◌, ℕ, ◌+◌, ◌-◌, List,
 use Rattle.satip_base.specs.Output.{Output}
 use Rattle.satip_history.specs.declared.entry.Taken.{Taken}
 use Rattle.satip_history.specs.History.{entry, entries, own_of}
-use Rattle.satip_history.proofs.Owned.{own_of-cons_same}
+use Rattle.satip_history.specs.Lists.{Each}
+use Rattle.satip_history.proofs.Owned.{own_of-append, own_of-cons_same}
 use Rattle.satip_plain.specs.declared.answers.Answer.{Answer}
 use Rattle.satip_plain.specs.declared.events.Event.{Event}
 use Rattle.satip_plain.specs.Histories.{Item}
@@ -14,6 +15,7 @@ use Rattle.satip_service.proofs.Growing.{adds_then, adds_no_more}
 use Rattle.satip_turn.specs.Shown.{Turned, Looked}
 use Rattle.satip_shared.specs.Calling.{ServerPass, SameCaller, known_by}
 use Rattle.satip_journal.specs.Places.{placed, own_at, line_of, lines_of}
+use Rattle.satip_journal.specs.Typed.{IsTyped}
 use Rattle.satip_journal.specs.Logs.{Logs}
 use Rattle.satip_journal.specs.Owning.{KnowsOwn}
 use Rattle.satip_journal.specs.Keeping.{Kept, SameJournal}
@@ -33,11 +35,18 @@ looked_between p q before after looked =
     between_others n p.seen looked.between [] p.own before
     (ap (λ (h : List Item). own_of n h) (append-nil (p.seen ++ looked.between) ∙ sym seen) ∙ after ∙ looked.own ∙ sym (append-nil p.own)) refl
 
+typed_one : (n : ℕ) (others : List Item) (e : Item) → e.caller ≡ n → own_of n others ≡ [] → IsTyped e → Each IsTyped (own_of n (others ++ e ∷ []))
+typed_one n others e is none typed =
+    let one : own_of n (others ++ e ∷ []) ≡ e ∷ [] =
+    own_of-append n others (e ∷ []) ∙ ap (λ (es : List Item). es ++ own_of n (e ∷ [])) none ∙ own_of-cons_same n e [] is in
+    subst (λ (es : List Item). Each IsTyped es) (sym one) (typed, tt)
+
 -- an own entry was made, and its line was put unless a put had failed
 pub entered : (tells : Type 0) (k l : Kept) (place : ℕ) (event : Event) (answer : Answer) (out : Output) → SameCaller k.server k.pass l.server l.pass → l.number ≡ k.number
     → KnowsOwn k.pass → KnowsOwn l.pass → Turned k.pass l.pass (entry k.pass.number event answer out ∷ []) → place ≡ length l.pass.seen - 1
-    → Logs tells k.drain l.drain k.failed l.failed (entry_line place k.number event answer out.reply out.datagrams) → SameJournal tells k l
-entered tells k l place event answer out same same_number before after turned at logs =
+    → Logs tells k.drain l.drain k.failed l.failed (entry_line place k.number event answer out.reply out.datagrams)
+    → IsTyped (entry k.pass.number event answer out) → SameJournal tells k l
+entered tells k l place event answer out same same_number before after turned at logs typed =
     let p = k.pass in let q = l.pass in
     let e : Item = entry p.number event answer out in
     let now : own_of p.number q.seen ≡ q.own = ap (λ (n : ℕ). own_of n q.seen) (sym same.pass.number) ∙ after in
@@ -55,6 +64,7 @@ entered tells k l place event answer out same same_number before after turned at
       more = turned.between ++ e ∷ [];
       seen = seen ∙ append_assoc p.seen turned.between (e ∷ []);
       logs = subst P line logs;
+      typed = typed_one p.number turned.between e refl others typed;
     }
 
 -- no own entry was made, and nothing was put
@@ -71,6 +81,7 @@ not_entered tells k l same same_number before after looked logs =
       more = looked.between;
       seen = looked.seen ∙ looked.looked;
       logs = subst P (sym (ap (λ ps. lines_of k.number ps) none)) logs;
+      typed = subst (λ (es : List Item). Each IsTyped es) (sym (looked_between p q before now looked)) tt;
     }
 
 -- what the caller knows grew by its entry

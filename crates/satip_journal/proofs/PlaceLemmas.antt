@@ -1,5 +1,5 @@
 -- Lemmas on the lines of one caller's entries.
-use Rattle.std.proofs.Common.{◌≡◌, ◌∙◌, ℕ, ◌+◌, Bool, true, false, ◌==◌, List, [], ◌∷◌, ◌++◌, length, refl, sym, ap, arith, length-append, append-nil}
+use Rattle.std.proofs.Common.{◌≡◌, ◌∙◌, ℕ, ◌+◌, Bool, true, false, ◌==◌, List, [], ◌∷◌, ◌++◌, length, refl, sym, ap, arith, length-append, append-nil, zero-add}
 use Rattle.std.proofs.lemmas.List.{nil_from_length}
 use Rattle.std.proofs.lemmas.Bool.Decides.{eqb_tells}
 use Rattle.std.proofs.Common.{⊎_elim}
@@ -47,3 +47,9 @@ between_others n seen between new own before after all =
     let d : length (own_of n seen) ≡ length own = ap length before in
     let f : length (own_of n new) ≡ length new = ap length all in
     nil_from_length (own_of n between) (omega (arith, lengths, a, b, c, d, f))
+
+-- the entries of a caller that has none before some moment have the places behind it
+pub own_at_behind : (n : ℕ) (seen more : List Item) → own_of n seen ≡ [] → own_at 0 n (seen ++ more) ≡ own_at (length seen) n more
+own_at_behind n seen more none =
+    own_at-append 0 n seen more ∙ ap (λ (ps : List Placed). ps ++ own_at (0 + length seen) n more) (own_at_none 0 n seen none)
+    ∙ ap (λ (place : ℕ). own_at place n more) (zero-add (length seen))

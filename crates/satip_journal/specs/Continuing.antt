@@ -2,10 +2,14 @@
 use Rattle.std.proofs.Common.{◌≡◌, ◌∙◌, ℕ, ◌+◌, Bool, true, false, ◌==◌, List, [], ◌∷◌, ◌++◌, length, refl, sym, ap, subst, arith, append_assoc, append-nil, length-append}
 use Rattle.std.proofs.lemmas.Grind.{flat_map-append}
 use Rattle.satip_base.specs.Streams.{Drain, Rose, FailedToPut}
-use Rattle.satip_history.specs.History.{kept_if}
+use Rattle.satip_history.specs.History.{kept_if, own_of}
+use Rattle.satip_history.specs.Lists.{Each}
+use Rattle.satip_history.proofs.Elements.{Each-append}
+use Rattle.satip_history.proofs.Owned.{own_of-append}
 use Rattle.satip_plain.specs.Histories.{Item}
 use Rattle.satip_shared.specs.Calling.{same_caller, same_caller_then}
 use Rattle.satip_journal.specs.Places.{Placed, placed, own_at, line_of, lines_of}
+use Rattle.satip_journal.specs.Typed.{IsTyped}
 use Rattle.satip_journal.specs.Logs.{Logs}
 use Rattle.satip_journal.specs.Keeping.{Kept, SameJournal}
 
@@ -71,6 +75,11 @@ logs_then tells o m n false true false s t x y = absurd y
 logs_then tells o m n true true false s t x y = absurd y
 logs_then tells o m n true false c s t x y = absurd x
 
+typed_then : (n later_n : ℕ) (h k : List Item) → later_n ≡ n → Each IsTyped (own_of n h) → Each IsTyped (own_of later_n k) → Each IsTyped (own_of n (h ++ k))
+typed_then n later_n h k same x y =
+    let later : Each IsTyped (own_of n k) = subst (λ (m : ℕ). Each IsTyped (own_of m k)) same y in
+    subst (λ (es : List Item). Each IsTyped es) (sym (own_of-append n h k)) (Each-append IsTyped (own_of n h) (own_of n k) x later)
+
 pub same_journal : (tells : Type 0) (k : Kept) → SameJournal tells k k
 same_journal tells k = record {
   caller = same_caller k.server k.pass;
@@ -78,6 +87,7 @@ same_journal tells k = record {
   more = [];
   seen = sym (append-nil k.pass.seen);
   logs = logs_none tells k.drain k.failed;
+  typed = tt;
 }
 
 pub same_journal_then : (tells : Type 0) (k l m : Kept) → SameJournal tells k l → SameJournal tells l m → SameJournal tells k m
@@ -94,4 +104,5 @@ same_journal_then tells k l m a b =
       logs = subst P
           (lines_then k.number l.number (length k.pass.seen) (length l.pass.seen) k.pass.number l.pass.number a.more b.more a.number behind a.caller.pass.number)
           (logs_then tells k.drain l.drain m.drain k.failed l.failed m.failed first second a.logs b.logs);
+      typed = typed_then k.pass.number l.pass.number a.more b.more a.caller.pass.number a.typed b.typed;
     }

@@ -1,11 +1,14 @@
 -- What a journal keeps to, call by call.
 use Rattle.std.specs.Prelude.{◌≡◌, ℕ, Bool, List, ◌++◌, length}
 use Rattle.satip_base.specs.Streams.{Drain}
+use Rattle.satip_history.specs.Lists.{Each}
+use Rattle.satip_history.specs.History.{own_of}
 use Rattle.satip_plain.specs.declared.setting.Setting.{Setting}
 use Rattle.satip_plain.specs.Histories.{Item}
 use Rattle.satip_turn.specs.Shown.{Cell}
 use Rattle.satip_shared.specs.Calling.{ServerPass, SameCaller}
 use Rattle.satip_journal.specs.Places.{own_at, lines_of}
+use Rattle.satip_journal.specs.Typed.{IsTyped}
 use Rattle.satip_journal.specs.Logs.{Logs}
 
 -- a journal at one moment: its server, its caller's pass, its job's number, what its sink was sent, and whether a put failed
@@ -20,10 +23,11 @@ abbrev pub kept : Cell Setting → ServerPass → ℕ → Drain → Bool → Kep
 kept server pass number drain failed = record { server = server; pass = pass; number = number; drain = drain; failed = failed }
 
 -- it is the same caller's journal of the same job, and of what was seen meanwhile the lines of its own entries were put, with
--- their places and the job's number, until a put failed
+-- their places and the job's number, until a put failed; the values of these entries are of their types
 pub record SameJournal (tells : Type 0) (k l : Kept) : Type 0 where
   pub caller : SameCaller k.server k.pass l.server l.pass
   pub number : l.number ≡ k.number
   pub more : List Item
   pub seen : l.pass.seen ≡ k.pass.seen ++ more
   pub logs : Logs tells k.drain l.drain k.failed l.failed (lines_of k.number (own_at (length k.pass.seen) k.pass.number more))
+  pub typed : Each IsTyped (own_of k.pass.number more)

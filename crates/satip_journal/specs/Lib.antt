@@ -1,6 +1,9 @@
 pub mod Places
+pub mod Typed
+pub mod Journals
 pub mod Logs
 pub mod Owning
 pub mod Keeping
+pub mod Gears
 pub mod Continuing
 pub mod Rows

@@ -3,6 +3,7 @@ ghost use Rattle.std.specs.Prelude.{◌≡◌, false};
 ghost use Rattle.satip_journal.specs.Owning.{KnowsOwn, knows_own_prop};
 ghost use Rattle.satip_journal.specs.Logs.{Logs};
 
+use crate::typed::known_item;
 use satip_base::{Out, Put, Sink, Spent};
 use satip_plain::{Answer, Event};
 use satip_records::{LineRoom, write_entry};
@@ -44,7 +45,7 @@ impl<'a, R: Wait + Sync, K: Sink> Journal<'a, R, K> {
 }
 
 // Puts a line, and says whether that failed.
-fn fails_to_put<K: Sink>(sink: &mut K, line: &[u8]) -> bool
+pub(crate) fn fails_to_put<K: Sink>(sink: &mut K, line: &[u8]) -> bool
     ensures logs { Logs K.tells (K.drain sink.old) (K.drain sink.new) false result line.now }
 {
     match sink.put(line) {
@@ -59,7 +60,7 @@ impl<'a, R: Wait + Sync, K: Sink> Service for Journal<'a, R, K> {
     ghost use Rattle.satip_plain.specs.Histories.{Legal};
     ghost use Rattle.satip_service.specs.Calls.{Called, Bursts};
     ghost use Rattle.satip_shared.specs.Calling.{known_by, same_caller_setting};
-    ghost use Rattle.satip_turn.specs.Shown.{Turned, Looked};
+    ghost use Rattle.satip_turn.specs.Shown.{Knows, Turned, Looked};
     ghost use Rattle.satip_journal.specs.Keeping.{kept, SameJournal};
     ghost use Rattle.satip_journal.specs.Continuing.{same_journal, same_journal_then};
 
@@ -108,11 +109,13 @@ impl<'a, R: Wait + Sync, K: Sink> Service for Journal<'a, R, K> {
             (λ answer. Turned self.old.caller.pass self.new.caller.pass
             (entry self.old.caller.pass.number event.now answer out.new ∷ []))
             (λ _. Looked self.old.caller.pass self.new.caller.pass) }
+        ensures knows { Knows (Legal self.old.caller.server.now.setting) self.new.caller.pass }
     {
         // lent whole, since the caller's facts hold of it as a whole
         let caller = &mut self.caller;
         match caller.server.call(caller.rt, &mut caller.pass, event, out) {
             Ok(answer) => {
+                known_item(event, &answer, out);
                 let place = caller.pass.place() - 1;
                 if self.failed {
                     return Ok(answer);

@@ -14,4 +14,10 @@ serve_is_other word is =
     let same : word ≡ codes "serve" = (bytes_eq-Decides word (codes "serve")).0 is in
     subst (λ (w : List ℕ). bytes_eq w (codes "stress") ≡ false) (sym same) refl
 
-pub ruleset words_differ = (serve_is_other)
+-- the word of an audit is another than that of a replay
+pub audit_is_other : (word : List ℕ) → bytes_eq word (codes "audit") ≡ true → bytes_eq word (codes "replay") ≡ false
+audit_is_other word is =
+    let same : word ≡ codes "audit" = (bytes_eq-Decides word (codes "audit")).0 is in
+    subst (λ (w : List ℕ). bytes_eq w (codes "replay") ≡ false) (sym same) refl
+
+pub ruleset words_differ = (serve_is_other, audit_is_other)

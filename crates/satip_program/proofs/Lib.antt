@@ -2,10 +2,10 @@ pub mod GatherLemmas
 pub mod TalkLemmas
 pub mod TalkerLemmas
 pub mod TurnLemmas
-pub mod LineLemmas
 pub mod OutcomeLemmas
 pub mod AcceptsLemmas
 pub mod ServingLemmas
 mod StatusLemmas
 mod ReplayLemmas
 mod RecordingLemmas
+mod AuditLemmas

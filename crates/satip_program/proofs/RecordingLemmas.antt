@@ -1,5 +1,5 @@
 -- The statuses of a recording.
-use Rattle.std.proofs.Common.{◌≡◌, ℕ, ◌≤◌, inl, inr, arith}
+use Rattle.std.proofs.Common.{ℕ, ◌≤◌, inl, inr, arith}
 use Rattle.satip_history.specs.Lists.{Has}
 use Rattle.satip_record_command.specs.Ends.{record_statuses}
 use Rattle.satip_program.specs.Recording.{IsApart}

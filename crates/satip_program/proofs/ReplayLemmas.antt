@@ -9,7 +9,8 @@ use Rattle.satip_replay.specs.declared.ends.ReplayEnd.{ReplayEnd}
 use Rattle.satip_replay.specs.declared.ends.ReplayEnd.TheVariants as ends
 use Rattle.satip_program.specs.Commands.{Form, Replay}
 use Rattle.satip_program.specs.declared.outcomes.Outcome.{Outcome}
-use Rattle.satip_program.specs.Outcomes.{status_of, line_for, outcome_of, Says}
+use Rattle.satip_telling.specs.Lines.{Says}
+use Rattle.satip_program.specs.Outcomes.{status_of, line_for, outcome_of}
 use Rattle.satip_program.specs.Replaying.{ReplayRuns, RunEnds, IsSettled}
 use Rattle.satip_program.specs.Ends.{ReplayEnds}
 use Rattle.satip_program.proofs.StatusLemmas.{has_end}

@@ -8,7 +8,8 @@ use Rattle.satip_serving.specs.Servings.{IsServingOf, IsEndOfRun}
 use Rattle.satip_config.specs.declared.fault.ConfigFault.{ConfigFault}
 use Rattle.satip_serving.specs.declared.serving.ServingEnd.{ServingEnd}
 use Rattle.satip_serving.specs.declared.serving.ServingEnd.TheVariants as serving
-use Rattle.satip_program.specs.Commands.{line_of, configuration_line}
+use Rattle.satip_telling.specs.Lines.{configuration_line}
+use Rattle.satip_program.specs.Commands.{line_of}
 use Rattle.satip_program.specs.Outcomes.{status_of}
 use Rattle.satip_program.specs.Serving.{serving_status, serving_line, IsServeSettled}
 use Rattle.satip_program.specs.declared.outcomes.Outcome.{Outcome}

@@ -2,8 +2,6 @@
 use Rattle.std.specs.Prelude.{ℕ, ◌≤◌, ◌==◌, List, [], ◌∷◌, ◌++◌, codes, decimal, Option, Some, None, option_map, if◌then◌else◌}
 use Rattle.std.specs.Str.{bytes_eq}
 use Rattle.satip_base.specs.Numbers.{number_of}
-use Rattle.satip_config.specs.declared.fault.ConfigFault.{ConfigFault}
-use Rattle.satip_config.specs.FaultText.{fault_text}
 use Rattle.satip_record_command.specs.Words.{Wanted, wanted_of}
 use Rattle.satip_program.specs.declared.commands.Command.{Command}
 use Rattle.satip_program.specs.declared.commands.Serve.{Serve}
@@ -79,6 +77,18 @@ serve_of (word ∷ name ∷ accepts ∷ another ∷ others) = None
 abbrev pub serving_of : Serve → Serving
 serving_of serve = record { name = serve.name.now; accepts = serve.accepts }
 
+-- the name of the configuration of an audit; no configuration has the empty name
+abbrev pub audit_named : List ℕ → List ℕ → Option (List ℕ)
+audit_named word [] = None
+audit_named word (byte ∷ bytes) = if bytes_eq word (codes "audit") then Some (byte ∷ bytes) else None
+
+-- the name of its configuration, if the words ask for an `audit`
+unfoldable pub audit_of : List (List ℕ) → Option (List ℕ)
+audit_of [] = None
+audit_of (word ∷ []) = None
+audit_of (word ∷ name ∷ []) = audit_named word name
+audit_of (word ∷ name ∷ another ∷ others) = None
+
 -- what the words want recorded, if they ask for a recording: an address, a query and a count
 unfoldable pub recording_of : List (List ℕ) → Option Wanted
 recording_of [] = None
@@ -108,7 +118,7 @@ HasCount commands.Version = Unit {0}
 
 -- the forms of the words
 abbrev pub usage : List ℕ
-usage = codes "usage: satip talk | replay CONFIG | serve CONFIG ACCEPTS | stress SEED COUNT | record ADDRESS QUERY COUNT\n"
+usage = codes "usage: satip talk | replay CONFIG | serve CONFIG ACCEPTS | stress SEED COUNT | audit CONFIG | record ADDRESS QUERY COUNT\n"
 
 -- what --help writes: the forms, a line for each command that is built with an example of it, and where more stands
 abbrev pub help : List ℕ
@@ -122,6 +132,8 @@ help = usage
     ++ codes "    satip talk < requests\n"
     ++ codes "stress: COUNT events that a generator makes of SEED, run and counted\n"
     ++ codes "    satip stress 7 100000\n"
+    ++ codes "audit: the verdict on the journals on standard input, by the configuration in the file CONFIG\n"
+    ++ codes "    cat journal.* | satip audit satip.toml\n"
     ++ codes "record: COUNT packets of the stream of QUERY, from the server at ADDRESS, to standard output\n"
     ++ codes "    satip record 127.0.0.1:554 'src=1&freq=11494&pol=h&msys=dvbs&sr=22000&pids=all' 1000 > stream.ts\n"
     ++ codes "manual: man satip, or docs/satip.1; statuses: docs/PROTOCOL.md; configuration: examples/satip.toml\n"
@@ -141,10 +153,6 @@ line_of status =
     else if status == 9 then codes "history full\n"
     else if status == 70 then codes "out of memory\n"
     else []
-
--- the line for status 3: the configuration's first fault
-abbrev pub configuration_line : ConfigFault → List ℕ
-configuration_line fault = codes "configuration: " ++ fault_text fault ++ codes "\n"
 
 -- the line for status 4: the number of the script's first wrong line
 abbrev pub script_line : ℕ → List ℕ

@@ -15,9 +15,10 @@ use Rattle.satip_serving.specs.Servings.{GivenFrom, AreUnused, IsOneOf, IsNeithe
 use Rattle.satip_replay.specs.Replays.{configuration_limit, Configured, Replayed}
 use Rattle.satip_replay.specs.Ends.{EndsByConfiguration, EndsByScript, EndsByInput, EndsByOutput, EndsByLength, EndsByWant, Refused}
 use Rattle.satip_stress.specs.Ends.{stressed}
-use Rattle.satip_program.specs.Commands.{configuration_line, script_line}
+use Rattle.satip_telling.specs.Lines.{Says, configuration_line}
+use Rattle.satip_program.specs.Commands.{script_line}
 use Rattle.satip_program.specs.Talk.{Answered}
-use Rattle.satip_program.specs.Outcomes.{input_limit, IsBroken, EndsEarly, ReadsInTime, NothingDone, Says}
+use Rattle.satip_program.specs.Outcomes.{input_limit, IsBroken, EndsEarly, ReadsInTime, NothingDone}
 use Rattle.satip_program.specs.Replaying.{Given, IsSettled}
 use Rattle.satip_program.specs.Serving.{IsServeSettled}
 

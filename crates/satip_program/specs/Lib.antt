@@ -8,3 +8,4 @@ pub mod Replaying
 pub mod Serving
 pub mod Ends
 pub mod Recording
+pub mod Auditing

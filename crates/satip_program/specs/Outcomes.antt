@@ -9,7 +9,8 @@ use Rattle.satip_replay.specs.Reading.{Read}
 use Rattle.satip_replay.specs.declared.ends.ReplayEnd.{ReplayEnd}
 use Rattle.satip_replay.specs.declared.ends.ReplayEnd.TheVariants as ends
 use Rattle.satip_stress.specs.Ends.{stressed}
-use Rattle.satip_program.specs.Commands.{line_of, configuration_line, script_line}
+use Rattle.satip_telling.specs.Lines.{configuration_line}
+use Rattle.satip_program.specs.Commands.{line_of, script_line}
 use Rattle.satip_program.specs.declared.outcomes.Outcome.{Outcome}
 use Rattle.satip_program.specs.declared.outcomes.Outcome.TheVariants.{Done, Usage, Configuration, Script, InputFault, OutputFault, TooLong, OutOfMemory}
 
@@ -164,7 +165,3 @@ pub record ReadsInTime (tells : Type 0) (i j : Feed) : Type 0 where
 abbrev pub Shows : (tells : Type 0) (i j : Feed) (o n : Drain) (text : List ℕ) (status : ℕ) → Type 0
 Shows tells i j o n text status =
     (j ≡ i) × (((status ≡ 0) × PutAll tells o n text) ⊎ ((status ≡ 6) × FailedToPut tells o n text))
-
--- a line was sent, or a beginning of it where the sink failed; an empty one isn't sent
-abbrev pub Says : (tells : Type 0) (o n : Drain) (line : List ℕ) → Type 0
-Says tells o n line = PutAll tells o n line ⊎ FailedToPut tells o n line

@@ -3,7 +3,8 @@ use Rattle.std.specs.Prelude.{◌≡◌, ℕ, List}
 use Rattle.satip_serving.specs.declared.serving.ServingEnd.{ServingEnd}
 use Rattle.satip_serving.specs.declared.serving.ServingEnd.TheVariants.{Served, Configuration, InputFault, DoorsFault, HistoryFull, OutOfMemory}
 use Rattle.satip_serving.specs.Servings.{IsServingOf}
-use Rattle.satip_program.specs.Commands.{line_of, configuration_line}
+use Rattle.satip_telling.specs.Lines.{configuration_line}
+use Rattle.satip_program.specs.Commands.{line_of}
 
 -- the status where serving ends so
 abbrev pub serving_status : ServingEnd → ℕ

@@ -4,7 +4,7 @@ ghost use Rattle.std.specs.Prelude.{◌≡◌, ◌≤◌, ◌∷◌, [], None, f
 ghost use Rattle.std.specs.Str.{bytes_eq};
 ghost use Rattle.satip_base.specs.Numbers.{number_of};
 ghost use Rattle.satip_record_command.specs.Words.{wanted, wanted_of};
-ghost use Rattle.satip_program.specs.Commands.{recording_of, form_of, command_of, command_named, replay_named, stress_named, stress_by, serving_of, serve_of, serve_named, HasCount};
+ghost use Rattle.satip_program.specs.Commands.{recording_of, form_of, command_of, command_named, replay_named, stress_named, stress_by, serving_of, serve_of, serve_named, audit_of, audit_named, HasCount};
 
 use satip_base::{Text, read_number};
 use satip_record_command::Recording;
@@ -35,11 +35,12 @@ pub(crate) struct Serve<'w> {
 
 /// The `serve` that the words ask for; `None` where they ask for none. No other command has such
 /// words.
-#[tactic(auto, unfolding(crate::specs::Commands::serve_of, crate::specs::Commands::command_of, crate::specs::Commands::recording_of))]
+#[tactic(auto, unfolding(crate::specs::Commands::serve_of, crate::specs::Commands::command_of, crate::specs::Commands::recording_of, crate::specs::Commands::audit_of))]
 pub(crate) fn read_serve(words: &[Text]) -> Option<Serve<'_>>
     ensures serve { option_map serving_of result ≡ serve_of words.now }
     ensures alone { IfSome result (λ _. command_of words.now ≡ None) }
     ensures other { IfSome result (λ _. recording_of words.now ≡ None) }
+    ensures audit { IfSome result (λ _. audit_of words.now ≡ None) }
 {
     match words {
         [] => None,
@@ -85,12 +86,13 @@ fn read_accepts<'w>(name: &'w Text, accepts: &[u8]) -> Option<Serve<'w>>
 
 /// The recording that the words ask for; `None` where they ask for none. No other command has such
 /// words.
-#[tactic(auto, unfolding(crate::specs::Commands::recording_of, crate::specs::Commands::command_of))]
+#[tactic(auto, unfolding(crate::specs::Commands::recording_of, crate::specs::Commands::command_of, crate::specs::Commands::audit_of))]
 pub(crate) fn read_recording(words: &[Text]) -> Option<Recording<'_>>
     ensures recording { option_map wanted result ≡ recording_of words.now }
     ensures some { IfSome result (λ recording. 1 ≤ recording.count) }
     ensures few { IfSome result (λ recording. recording.count ≤ 1000000) }
     ensures alone { IfSome result (λ _. command_of words.now ≡ None) }
+    ensures audit { IfSome result (λ _. audit_of words.now ≡ None) }
 {
     match words {
         [] => None,
@@ -105,6 +107,39 @@ pub(crate) fn read_recording(words: &[Text]) -> Option<Recording<'_>>
             }
         }
         [_, _, _, _, _, ..] => None,
+    }
+}
+
+/// The name of the configuration of the `audit` that the words ask for; `None` where they ask for
+/// none. No other command has such words.
+#[tactic(auto, unfolding(crate::specs::Commands::audit_of, crate::specs::Commands::command_of, crate::specs::Commands::recording_of))]
+pub(crate) fn read_audit(words: &[Text]) -> Option<&Text>
+    ensures audit { option_map (λ name. name.now) result ≡ audit_of words.now }
+    ensures alone { IfSome result (λ _. command_of words.now ≡ None) }
+    ensures other { IfSome result (λ _. recording_of words.now ≡ None) }
+{
+    match words {
+        [] => None,
+        [_] => None,
+        [word, name] => read_audit_name(word.bytes(), name),
+        [_, _, _, ..] => None,
+    }
+}
+
+#[tactic(auto, using(crate::proofs::AcceptsLemmas::words_differ))]
+fn read_audit_name<'w>(word: &[u8], name: &'w Text) -> Option<&'w Text>
+    ensures audit { option_map (λ name. name.now) result ≡ audit_named word.now name.now }
+    ensures other { IfSome result (λ _. replay_named word.now name.now ≡ None) }
+{
+    match name.bytes() {
+        [] => None,
+        [_, ..] => {
+            if is_text(word, b"audit") {
+                Some(name)
+            } else {
+                None
+            }
+        }
     }
 }
 

@@ -1,13 +1,12 @@
 //! How a run ends: the status, and its line on the errors sink.
 
-ghost use Rattle.std.specs.Prelude.{◌≡◌, ◌≤◌, [], length};
-ghost use Rattle.satip_config.specs.Keys.{key_text};
-ghost use Rattle.satip_config.specs.FaultText.{fault_text};
+ghost use Rattle.std.specs.Prelude.{◌≡◌, []};
 ghost use Rattle.satip_program.specs.Outcomes.{status_of, line_for, outcome_of};
 
 use satip_base::Strip;
-use satip_config::{ConfigFault, ConfigKey};
+use satip_config::ConfigFault;
 use satip_replay::ReplayEnd;
+use satip_telling::print_fault;
 
 /// How a run ends.
 #[derive(Clone, Copy, Debug, PartialEq, Eq)]
@@ -63,7 +62,7 @@ impl Outcome {
     }
 
     /// Prints the line on the errors sink; nothing where all went well.
-    #[tactic(auto, using(crate::proofs::LineLemmas::line_room))]
+    #[tactic(auto, using(satip_base::proofs::NumberLemmas::digit_bounds))]
     pub(crate) fn print(self, line: &mut Strip)
         requires empty { line.old ≡ [] }
         ensures printed { line.new ≡ line_for self }
@@ -72,14 +71,9 @@ impl Outcome {
             Outcome::Done => {}
             Outcome::Usage => line.write(
                 b"usage: satip talk | replay CONFIG | serve CONFIG ACCEPTS | stress SEED COUNT \
-                | record ADDRESS QUERY COUNT\n",
+                | audit CONFIG | record ADDRESS QUERY COUNT\n",
             ),
-            Outcome::Configuration(fault) => {
-                line.write(b"configuration: ");
-                fault_is_short(fault);
-                fault.print(line);
-                line.write(b"\n");
-            }
+            Outcome::Configuration(fault) => print_fault(fault, line),
             Outcome::Script(number) => {
                 line.write(b"script: line ");
                 line.write_number(number);
@@ -91,24 +85,4 @@ impl Outcome {
             Outcome::OutOfMemory => line.write(b"out of memory\n"),
         }
     }
-}
-
-// The text of a fault of a configuration has at most 33 bytes.
-fn fault_is_short(fault: ConfigFault)
-    ensures short { length (fault_text fault) ≤ 33 }
-{
-    match fault {
-        ConfigFault::Long => {}
-        ConfigFault::NotToml => {}
-        ConfigFault::Shape(key) => key_is_short(key),
-        ConfigFault::Value(key) => key_is_short(key),
-        ConfigFault::Want => {}
-    }
-}
-
-#[tactic(auto, using(crate::proofs::LineLemmas::key_room))]
-fn key_is_short(key: ConfigKey)
-    ensures short { length (key_text key) ≤ 24 }
-{
-    let _number = key.number;
 }

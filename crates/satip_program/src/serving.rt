@@ -1,13 +1,14 @@
 //! How the command `serve` is told.
 
 ghost use Rattle.std.specs.Prelude.{◌≡◌};
-ghost use Rattle.satip_program.specs.Outcomes.{Says};
+ghost use Rattle.satip_telling.specs.Lines.{Says};
 ghost use Rattle.satip_program.specs.Serving.{serving_status, serving_line};
 
 use crate::outcomes::Outcome;
-use crate::telling::{say, tell};
+use crate::telling::tell;
 use satip_base::Sink;
 use satip_serving::ServingEnd;
+use satip_telling::say;
 
 /// The program's exit status where serving ended so.
 pub(crate) fn status_of_serving(end: ServingEnd) -> u8

@@ -1,9 +1,11 @@
 //! What is told of a run.
 
-ghost use Rattle.satip_program.specs.Outcomes.{line_for, Says};
+ghost use Rattle.satip_program.specs.Outcomes.{line_for};
+ghost use Rattle.satip_telling.specs.Lines.{Says};
 
 use crate::outcomes::Outcome;
 use satip_base::{Sink, Strip};
+use satip_telling::say;
 
 /// Tells how a run ended.
 pub(crate) fn tell<E: Sink>(outcome: Outcome, errors: &mut E)
@@ -14,15 +16,4 @@ pub(crate) fn tell<E: Sink>(outcome: Outcome, errors: &mut E)
     let mut line = Strip::new();
     outcome.print(&mut line);
     say(line.bytes(), errors);
-}
-
-/// Sends a line; a fault changes nothing.
-pub(crate) fn say<E: Sink>(line: &[u8], errors: &mut E)
-    ensures says { Says E.tells
-        (E.drain errors.old) (E.drain errors.new)
-        line.now }
-{
-    if !line.is_empty() {
-        errors.put(line);
-    }
 }

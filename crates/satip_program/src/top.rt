@@ -8,16 +8,20 @@ ghost use Rattle.satip_record_command.specs.Ends.{RecordEnds, left_of};
 ghost use Rattle.satip_record_command.specs.Words.{wanted};
 ghost use Rattle.satip_serving.specs.Handed.{nothing_handed};
 ghost use Rattle.satip_program.specs.Recording.{IsApart};
-ghost use Rattle.satip_program.specs.Commands.{serve_of, recording_of, Talk, Replay, Stress, Help, Version, command_of, config_named, help, version, line_of};
+ghost use Rattle.satip_program.specs.Auditing.{IsOfAudit};
+ghost use Rattle.satip_audit_command.specs.Ends.{AuditEnds};
+ghost use Rattle.satip_telling.specs.Lines.{Says};
+ghost use Rattle.satip_program.specs.Commands.{serve_of, recording_of, audit_of, Talk, Replay, Stress, Help, Version, command_of, config_named, help, version, line_of};
 ghost use Rattle.satip_program.specs.Ends.{TalkEnds, ReplayEnds, StressEnds, ServeEnds};
-ghost use Rattle.satip_program.specs.Outcomes.{input_limit, NothingDone, PrintEnds, StressRuns, Shows, Says};
+ghost use Rattle.satip_program.specs.Outcomes.{input_limit, NothingDone, PrintEnds, StressRuns, Shows};
 ghost use Rattle.satip_program.specs.Replaying.{RunEnds, ReplayRuns};
 
-use crate::commands::{Command, Serve, read_recording, read_serve, read_words};
+use crate::commands::{Command, Serve, read_audit, read_recording, read_serve, read_words};
 use crate::outcomes::Outcome;
 use crate::serving::{status_of_serving, tell_serving};
 use crate::talk::talk;
 use crate::telling::tell;
+use satip_audit_command::{Audited, audit_by, status_of};
 use satip_base::{Failed, Put, Sink, Source, Text};
 use satip_record_command::{Recorded, Recording, record};
 use satip_replay::replay;
@@ -29,7 +33,7 @@ use std::sync::Wait;
 use std::thread::Threads;
 
 const HELP: &[u8] = b"usage: satip talk | replay CONFIG | serve CONFIG ACCEPTS | stress SEED COUNT \
-    | record ADDRESS QUERY COUNT\n\
+    | audit CONFIG | record ADDRESS QUERY COUNT\n\
     serve: clients, by the configuration in the file CONFIG; each worker ends after ACCEPTS \
     connections, and never where it is 0\n\
     \x20   satip serve satip.toml 0\n\
@@ -42,6 +46,8 @@ const HELP: &[u8] = b"usage: satip talk | replay CONFIG | serve CONFIG ACCEPTS |
     \x20   satip talk < requests\n\
     stress: COUNT events that a generator makes of SEED, run and counted\n\
     \x20   satip stress 7 100000\n\
+    audit: the verdict on the journals on standard input, by the configuration in the file CONFIG\n\
+    \x20   cat journal.* | satip audit satip.toml\n\
     record: COUNT packets of the stream of QUERY, from the server at ADDRESS, to standard output\n\
     \x20   satip record 127.0.0.1:554 'src=1&freq=11494&pol=h&msys=dvbs&sr=22000&pids=all' 1000 > \
     stream.ts\n\
@@ -53,7 +59,7 @@ const VERSION: &[u8] = b"satip 0.1.0\n";
 /// How a run ended.
 pub struct Ended<K: Desk> {
     /// 0 where all went well; 2 where the words are in no form; 3 where the configuration has a
-    /// fault, 4 where the script has a wrong line; 5, 6 where the input, the output failed; 7 where
+    /// fault, 4 where the script or the journals have a wrong line; 5, 6 where the input, the output failed; 7 where
     /// the doors of a worker or the desk failed; 8 where the input is too long; 9 where the history
     /// is full; 10 to 14 where a recording was refused, got a bad reply, met silence, a fault of the
     /// peer, or an end before a reply; 70 where there was no memory.
@@ -107,8 +113,10 @@ pub fn satip<R: Threads + Wait + Sync, K: Desk, I: Source, O: Sink, E: Sink>(
 
     // Which words there are, and what they do.
     ensures usage { (result.status ≡ 2) ↔ ((command_of words.now ≡ None)
-        × (recording_of words.now ≡ None) × (serve_of words.now ≡ None)) }
-    ensures unused { command_of words.now ≡ None → recording_of words.now ≡ None → NothingDone
+        × (recording_of words.now ≡ None) × (audit_of words.now ≡ None)
+        × (serve_of words.now ≡ None)) }
+    ensures unused { command_of words.now ≡ None → recording_of words.now ≡ None
+        → audit_of words.now ≡ None → NothingDone
         (I.feed input.old)
         (I.feed input.new)
         (O.drain output.old) (O.drain output.new) }
@@ -149,6 +157,17 @@ pub fn satip<R: Threads + Wait + Sync, K: Desk, I: Source, O: Sink, E: Sink>(
         (O.drain output.old) (O.drain output.new)
         result.status }
 
+    // An audit: the verdict on the journals by the configuration that the desk gave.
+    ensures audit { IfSome (audit_of words.now) (λ name.
+        AuditEnds K.Config.tells I.tells O.tells E.tells
+        (K.text desk.old name) (K.faults desk.old) (K.faults desk.new)
+        K.Config.feed result.config
+        (I.feed input.old)
+        (I.feed input.new)
+        (O.drain output.old) (O.drain output.new)
+        (E.drain errors.old) (E.drain errors.new)
+        result.status) }
+
     // A recording: the first packets of what is caught of the stream, or a beginning of them.
     ensures recording { IfSome (recording_of words.now) (λ wanted.
         RecordEnds K.Wire.tells K.Inlet.tells O.tells E.tells
@@ -165,16 +184,18 @@ pub fn satip<R: Threads + Wait + Sync, K: Desk, I: Source, O: Sink, E: Sink>(
 
     // Only what names a configuration opens one, and that and a recording alone ask anything of the
     // desk.
-    ensures no_config { serve_of words.now ≡ None → config_named (command_of words.now) ≡ None
-        → IsNone result.config }
+    ensures no_config { serve_of words.now ≡ None → audit_of words.now ≡ None
+        → config_named (command_of words.now) ≡ None → IsNone result.config }
     ensures desk { serve_of words.now ≡ None → recording_of words.now ≡ None
-        → config_named (command_of words.now) ≡ None → desk.new ≡ desk.old }
+        → audit_of words.now ≡ None → config_named (command_of words.now) ≡ None
+        → desk.new ≡ desk.old }
     ensures texts { K.text desk.new ≡ K.text desk.old }
 
     // When each status comes.
     ensures configuration { serve_of words.now ≡ None → result.status ≡ 3
-        → IsSome (config_named (command_of words.now)) }
-    ensures script { result.status ≡ 4 → IsSome (config_named (command_of words.now)) }
+        → IsSome (config_named (command_of words.now)) ⊎ IsSome (audit_of words.now) }
+    ensures script { result.status ≡ 4
+        → IsSome (config_named (command_of words.now)) ⊎ IsSome (audit_of words.now) }
     ensures input_fault { result.status ≡ 5 → Rose (K.faults desk.old) (K.faults desk.new)
         ⊎ IsSomeAnd result.config (λ source. Rose 0 (K.Config.feed source).faults)
         ⊎ Rose (I.feed input.old).faults (I.feed input.new).faults }
@@ -254,7 +275,7 @@ fn run_serve<R: Threads + Wait + Sync, K: Desk, E: Sink>(
     }
 }
 
-/// The commands that wait for nobody: `talk`, `replay`, `stress`, `record`, `--help` and
+/// The commands that wait for nobody: `talk`, `replay`, `stress`, `audit`, `record`, `--help` and
 /// `--version`. It always returns.
 pub fn offline<K: Desk, I: Source, O: Sink, E: Sink>(
     alloc: Global,
@@ -267,9 +288,10 @@ pub fn offline<K: Desk, I: Source, O: Sink, E: Sink>(
     requires client { K.handed desk.old ≡ nothing_handed }
 
     // Which words there are, and what they do.
-    ensures usage { (result.status ≡ 2)
-        ↔ ((command_of words.now ≡ None) × (recording_of words.now ≡ None)) }
-    ensures unused { command_of words.now ≡ None → recording_of words.now ≡ None → NothingDone
+    ensures usage { (result.status ≡ 2) ↔ ((command_of words.now ≡ None)
+        × (recording_of words.now ≡ None) × (audit_of words.now ≡ None)) }
+    ensures unused { command_of words.now ≡ None → recording_of words.now ≡ None
+        → audit_of words.now ≡ None → NothingDone
         (I.feed input.old)
         (I.feed input.new)
         (O.drain output.old) (O.drain output.new) }
@@ -310,6 +332,17 @@ pub fn offline<K: Desk, I: Source, O: Sink, E: Sink>(
         (O.drain output.old) (O.drain output.new)
         result.status }
 
+    // An audit: the verdict on the journals by the configuration that the desk gave.
+    ensures audit { IfSome (audit_of words.now) (λ name.
+        AuditEnds K.Config.tells I.tells O.tells E.tells
+        (K.text desk.old name) (K.faults desk.old) (K.faults desk.new)
+        K.Config.feed result.config
+        (I.feed input.old)
+        (I.feed input.new)
+        (O.drain output.old) (O.drain output.new)
+        (E.drain errors.old) (E.drain errors.new)
+        result.status) }
+
     // A recording: the first packets of what is caught of the stream, or a beginning of them.
     ensures recording { IfSome (recording_of words.now) (λ wanted.
         RecordEnds K.Wire.tells K.Inlet.tells O.tells E.tells
@@ -326,9 +359,10 @@ pub fn offline<K: Desk, I: Source, O: Sink, E: Sink>(
 
     // Only what names a configuration opens one, and that and a recording alone ask anything of the
     // desk.
-    ensures no_config { config_named (command_of words.now) ≡ None → IsNone result.config }
-    ensures desk { recording_of words.now ≡ None → config_named (command_of words.now) ≡ None
-        → desk.new ≡ desk.old }
+    ensures no_config { audit_of words.now ≡ None → config_named (command_of words.now) ≡ None
+        → IsNone result.config }
+    ensures desk { recording_of words.now ≡ None → audit_of words.now ≡ None
+        → config_named (command_of words.now) ≡ None → desk.new ≡ desk.old }
     ensures texts { K.text desk.new ≡ K.text desk.old }
 
     // No kits are asked of the desk.
@@ -338,8 +372,10 @@ pub fn offline<K: Desk, I: Source, O: Sink, E: Sink>(
     ensures no_serving { (result.status ≡ 7 → ⊥) × (result.status ≡ 9 → ⊥) }
 
     // When each status comes.
-    ensures configuration { result.status ≡ 3 → IsSome (config_named (command_of words.now)) }
-    ensures script { result.status ≡ 4 → IsSome (config_named (command_of words.now)) }
+    ensures configuration { result.status ≡ 3
+        → IsSome (config_named (command_of words.now)) ⊎ IsSome (audit_of words.now) }
+    ensures script { result.status ≡ 4
+        → IsSome (config_named (command_of words.now)) ⊎ IsSome (audit_of words.now) }
     ensures input_fault { result.status ≡ 5 → Rose (K.faults desk.old) (K.faults desk.new)
         ⊎ IsSomeAnd result.config (λ source. Rose 0 (K.Config.feed source).faults)
         ⊎ Rose (I.feed input.old).faults (I.feed input.new).faults }
@@ -357,20 +393,74 @@ pub fn offline<K: Desk, I: Source, O: Sink, E: Sink>(
 {
     match read_recording(words) {
         Some(recording) => run_record(alloc, &recording, output, errors, desk),
-        None => {
-            let Ending { outcome, config } = run(alloc, words, input, output, desk);
-            tell(outcome, errors);
-            Ended {
-                status: outcome.status(),
-                config,
-                last: None,
-                unused: None,
-                wire: None,
-                inlet: None,
-                moment: None,
+        None => match read_audit(words) {
+            Some(name) => run_audit(alloc, name, input, output, errors, desk),
+            None => {
+                let Ending { outcome, config } = run(alloc, words, input, output, desk);
+                tell(outcome, errors);
+                without_jobs(outcome.status(), config)
             }
-        }
+        },
     }
+}
+
+// The end of a run that has no jobs and no client.
+fn without_jobs<K: Desk>(status: u8, config: Option<K::Config>) -> Ended<K>
+    ensures status { result.status ≡ status }
+    ensures config { result.config ≡ config }
+    ensures no_last { result.last ≡ None }
+    ensures no_unused { result.unused ≡ None }
+    ensures no_client { (result.wire ≡ None) × (result.inlet ≡ None) × (result.moment ≡ None) }
+{
+    Ended {
+        status,
+        config,
+        last: None,
+        unused: None,
+        wire: None,
+        inlet: None,
+        moment: None,
+    }
+}
+
+// Audits, and tells how it ended.
+fn run_audit<K: Desk, I: Source, O: Sink, E: Sink>(
+    alloc: Global,
+    name: &Text,
+    input: &mut I,
+    output: &mut O,
+    errors: &mut E,
+    desk: &mut K,
+) -> Ended<K>
+    ensures texts { K.text desk.new ≡ K.text desk.old }
+    ensures kits { K.given desk.new ≡ K.given desk.old }
+    ensures handed { K.handed desk.new ≡ K.handed desk.old }
+    ensures ends { AuditEnds K.Config.tells I.tells O.tells E.tells
+        (K.text desk.old name.now) (K.faults desk.old) (K.faults desk.new)
+        K.Config.feed result.config
+        (I.feed input.old)
+        (I.feed input.new)
+        (O.drain output.old) (O.drain output.new)
+        (E.drain errors.old) (E.drain errors.new)
+        result.status }
+    ensures of_audit { IsOfAudit result.status }
+    ensures no_last { result.last ≡ None }
+    ensures no_unused { result.unused ≡ None }
+    ensures no_client { (result.wire ≡ None) × (result.inlet ≡ None) × (result.moment ≡ None) }
+    ensures input_fault { result.status ≡ 5 → Rose (K.faults desk.old) (K.faults desk.new)
+        ⊎ IsSomeAnd result.config (λ source. Rose 0 (K.Config.feed source).faults)
+        ⊎ Rose (I.feed input.old).faults (I.feed input.new).faults }
+    ensures output_fault { result.status ≡ 6
+        → Rose (O.drain output.old).faults (O.drain output.new).faults }
+    ensures too_long { (result.status ≡ 8) ↔ (input_limit
+        < (I.feed input.new).taken - (I.feed input.old).taken) }
+    ensures limit { (I.feed input.new).taken ≤ (I.feed input.old).taken + input_limit + 1 }
+    ensures errors { (result.status ≡ 3 → ⊥) → (result.status ≡ 4 → ⊥) → Says E.tells
+        (E.drain errors.old) (E.drain errors.new)
+        (line_of result.status) }
+{
+    let Audited { end, config } = audit_by(alloc, name, input, output, errors, desk);
+    without_jobs(status_of(end), config)
 }
 
 // Records, and tells how it ended.

@@ -1,15 +1,11 @@
 -- What all jobs did over a service of the server is a serve run.
 use Rattle.std.proofs.Common.{◌≡◌, ℕ, ◌⊎◌, inl, inr, Bool, List, [], ◌∷◌, map, refl, sym, ap, ◌∙◌, subst, length}
-use Rattle.satip_base.specs.declared.limits.TheConstants.{LONGEST_HISTORY}
 use Rattle.satip_history.specs.Lists.{Each}
-use Rattle.satip_plain.specs.declared.answers.Answer.{Answer}
-use Rattle.satip_plain.specs.declared.events.Event.{Event}
 use Rattle.satip_plain.specs.declared.events.Event.TheVariants.{Stop}
 use Rattle.satip_plain.specs.declared.setting.Setting.{Setting}
 use Rattle.satip_plain.specs.Histories.{Item, Legal}
 use Rattle.satip_service.specs.Known.{Known}
 use Rattle.satip_turn.specs.Shown.{Cell, Knows}
-use Rattle.satip_turn.specs.Views.{row}
 use Rattle.satip_world.specs.Dials.{Dial, Reads}
 use Rattle.satip_shared.specs.Calling.{ServerPass, known_by}
 use Rattle.satip_crew.specs.declared.end.ServeEnd.{ServeEnd}

@@ -1,5 +1,5 @@
 -- What one job did to its kit and to what it knows of the history, over a service that always has memory.
-use Rattle.std.specs.Prelude.{◌≡◌, ℕ, ◌+◌, ◌≤◌, max, false, List, Option}
+use Rattle.std.specs.Prelude.{◌≡◌, ℕ, ◌+◌, ◌≤◌, max, false}
 use Rattle.satip_world.specs.Recordings.{StoreView}
 use Rattle.satip_base.specs.declared.limits.TheConstants.{LONGEST_HISTORY}
 use Rattle.satip_service.specs.Known.{Known}

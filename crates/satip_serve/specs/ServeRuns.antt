@@ -1,5 +1,5 @@
 -- A run of the server with all its jobs.
-use Rattle.std.specs.Prelude.{◌≡◌, ◌≢◌, ℕ, ◌+◌, ◌⊎◌, true, List, [], ◌∷◌, ◌++◌, length}
+use Rattle.std.specs.Prelude.{◌≡◌, ◌≢◌, ℕ, ◌⊎◌, true, List, [], ◌∷◌, ◌++◌, length}
 use Rattle.satip_history.specs.Lists.{Each, Has}
 use Rattle.satip_history.specs.History.{own_of}
 use Rattle.satip_plain.specs.declared.events.Event.TheVariants.{Stop}

@@ -17,7 +17,8 @@ use Rattle.satip_tunnel_laws.proofs.Owning.{among_own, given_once, not_touched, 
 
 -- the numbers given to one caller rise as well
 
-rising_push : (low : ℕ) (answer : TunnelAnswer) (xs ys : List ℕ) → ((high : ℕ) → IsRising high xs → IsRising high ys) → IsRising low (number_in answer ++ xs) → IsRising low (number_in answer ++ ys)
+rising_push : (low : ℕ) (answer : TunnelAnswer) (xs ys : List ℕ) → ((high : ℕ) → IsRising high xs → IsRising high ys) → IsRising low (number_in answer ++ xs)
+    → IsRising low (number_in answer ++ ys)
 rising_push low (InnerAnswer answer) xs ys then_ys rises = then_ys low rises
 rising_push low (Lane number) xs ys then_ys rises = (rises.0, then_ys number rises.1)
 rising_push low Full xs ys then_ys rises = then_ys low rises
@@ -31,7 +32,8 @@ rising_own : (n : ℕ) (h : List TunnelItem) (low : ℕ) → IsRising low (numbe
 rising_own n [] low rises = tt
 rising_own n (t ∷ ts) low rises = each (t.caller == n) (λ (high : ℕ) (rest : IsRising high (numbers_in ts)). rising_own n ts high rest)
   where
-    each : (b : Bool) → ((high : ℕ) → IsRising high (numbers_in ts) → IsRising high (numbers_in (own_of n ts))) → IsRising low (numbers_in (kept_if b t (own_of n ts)))
+    each : (b : Bool) → ((high : ℕ) → IsRising high (numbers_in ts) → IsRising high (numbers_in (own_of n ts)))
+        → IsRising low (numbers_in (kept_if b t (own_of n ts)))
     each true rest = rising_push low t.answer (numbers_in ts) (numbers_in (own_of n ts)) rest rises
     each false rest = rest low (rising_later low t.answer (numbers_in ts) rises)
 
@@ -40,7 +42,7 @@ rising_behind [] b low rises = rises
 rising_behind (t ∷ ts) b low rises = rising_behind ts b low (rising_later low t.answer (numbers_in (ts ++ b)) rises)
 
 -- no number is given in two parts
-given_apart : (x : ℕ) (a b : List TunnelItem) (low : ℕ) (d e : TunnelItem) → IsRising low (numbers_in (a ++ b)) → Has d a → enters x d.event d.answer ≡ true
+pub given_apart : (x : ℕ) (a b : List TunnelItem) (low : ℕ) (d e : TunnelItem) → IsRising low (numbers_in (a ++ b)) → Has d a → enters x d.event d.answer ≡ true
     → Has e b → enters x e.event e.answer ≡ true → ⊥
 given_apart x [] b low d e rises in_a is_d in_b is_e = in_a
 given_apart x (t ∷ ts) b low d e rises (inl same) is_d in_b is_e =
@@ -190,7 +192,8 @@ pub parts_drain_own : PartsDrainOwn
 parts_drain_own [] own = tt
 parts_drain_own (es ∷ more) own = drains_both es (flat_map (λ (part : List TunnelItem). part) more) [] own.0 (parts_drain_own more own.1)
 
-drains_each : (ts : List TunnelItem) (given more : List ℕ) → ((n : ℕ) → Has n given → Has n more) → Each (λ (u : TunnelItem). IsOfGiven given u.event) ts → DrainsGiven more ts
+drains_each : (ts : List TunnelItem) (given more : List ℕ) → ((n : ℕ) → Has n given → Has n more) → Each (λ (u : TunnelItem). IsOfGiven given u.event) ts
+    → DrainsGiven more ts
 drains_each [] given more within own = tt
 drains_each (t ∷ ts) given more within own = (
   of_more given more within t.event own.0,

@@ -89,7 +89,8 @@ both_numbers : (x n : ℕ) (l : Lane) → has_number x l ≡ true → has_number
 both_numbers x n l a b = grind (arith, nat_tests)
 
 -- another lane is changed, or left
-pub stands_other : (x n : ℕ) (change : Lane → Lane) → Keeps change → (n == x) ≡ false → (l : Lane) (ls : List Lane) → Stands x l ls → Stands x l (change_lane n change ls)
+pub stands_other : (x n : ℕ) (change : Lane → Lane) → Keeps change → (n == x) ≡ false → (l : Lane) (ls : List Lane) → Stands x l ls
+    → Stands x l (change_lane n change ls)
 stands_other x n change keeps other l [] stands = absurd stands
 stands_other x n change keeps other l (m ∷ ms) (inl is) = each (has_number n m) refl
   where

@@ -51,7 +51,8 @@ lacks_put_all x [] lanes lacks = lacks
 lacks_put_all x (d ∷ ds) lanes lacks =
     lacks_put_all x ds (put_to d.to d.bytes lanes) (lacks_change x d.to.ip (put_in d.to.port d.bytes) (put_keeps d.to.port d.bytes) lanes.held lacks)
 
-held_put_all : (x : ℕ) (sent : List Datagram) (lanes : PlainLanes) (l : Lane) → IsHeldAs x l lanes → IsHeldAs x (lane_after l (comings x sent)) (put_all sent lanes)
+held_put_all : (x : ℕ) (sent : List Datagram) (lanes : PlainLanes) (l : Lane) → IsHeldAs x l lanes
+    → IsHeldAs x (lane_after l (comings x sent)) (put_all sent lanes)
 held_put_all x [] lanes l is = is
 held_put_all x (d ∷ ds) lanes l is =
     each (d.to.ip == x) refl (λ (next : PlainLanes) (m : Lane) (held : IsHeldAs x m next). held_put_all x ds next m held)
@@ -67,7 +68,8 @@ held_put_all x (d ∷ ds) lanes l is =
     each : (b : Bool) → (d.to.ip == x) ≡ b
         → ((next : PlainLanes) (m : Lane) → IsHeldAs x m next → IsHeldAs x (lane_after m (comings x ds)) (put_all ds next))
         → IsHeldAs x (lane_after l (cond b (Comes d.to.port d.bytes ∷ comings x ds) (comings x ds))) (put_all ds (put_to d.to d.bytes lanes))
-    each true e rest = rest (put_to d.to d.bytes lanes) (put_in d.to.port d.bytes l) (record { stands = changed d.to.ip (eqb-true d.to.ip x e); given = is.given })
+    each true e rest = rest (put_to d.to d.bytes lanes) (put_in d.to.port d.bytes l)
+        (record { stands = changed d.to.ip (eqb-true d.to.ip x e); given = is.given })
     each false e rest = rest (put_to d.to d.bytes lanes) l (record {
       stands = stands_other x d.to.ip (put_in d.to.port d.bytes) (put_keeps d.to.port d.bytes) e l lanes.held is.stands;
       given = is.given;
@@ -100,7 +102,8 @@ pub now_held : (x : ℕ) (lanes : PlainLanes) (answer : TunnelAnswer) → IsAhea
     → IsHeldAs x (fresh_lane x) (entered lanes)
 now_held x lanes answer is told gives = each (is_full lanes) told
   where
-    next : (n : ℕ) → n ≡ x → n ≤ lanes.given + 1 → lanes.given + 1 ≤ n → IsHeldAs x (fresh_lane x) (record { given = lanes.given + 1; held = lanes.held ++ fresh_lane n ∷ [] })
+    next : (n : ℕ) → n ≡ x → n ≤ lanes.given + 1 → lanes.given + 1 ≤ n
+        → IsHeldAs x (fresh_lane x) (record { given = lanes.given + 1; held = lanes.held ++ fresh_lane n ∷ [] })
     next n e low high =
         subst (λ m. IsHeldAs x (fresh_lane x) (record { given = lanes.given + 1; held = lanes.held ++ fresh_lane m ∷ [] })) (sym e)
         (record { stands = lacks_stands x (fresh_lane x) lanes.held (eq_same x) is.lacks; given = omega (arith, e, low) })
@@ -132,7 +135,8 @@ still_ahead x lanes answer is told other = each (is_full lanes) told
 
 -- any entry
 
-pub ahead_moved : (x : ℕ) (lanes : PlainLanes) (event : TunnelEvent) (answer : TunnelAnswer) (out : Output) → IsAhead x lanes → IsAnswered lanes event answer out
+pub ahead_moved : (x : ℕ) (lanes : PlainLanes) (event : TunnelEvent) (answer : TunnelAnswer) (out : Output) → IsAhead x lanes
+    → IsAnswered lanes event answer out
     → enters x event answer ≡ false → IsAhead x (moved_by event out.datagrams lanes)
 ahead_moved x lanes (Inner event) answer out is answered other =
     record { lacks = lacks_put_all x out.datagrams lanes is.lacks; ahead = omega (arith, is.ahead, given_put_all out.datagrams lanes) }
@@ -156,7 +160,8 @@ held_drained x n lanes l is true e =
 held_drained x n lanes l is false e = stands_other x n drained_lane (λ l. refl) e l lanes.held is.stands
 
 -- the lane of a number that is held is left exactly where it is answered so
-held_left : (x n : ℕ) (lanes : PlainLanes) (l : Lane) (answer : TunnelAnswer) → IsHeldAs x l lanes → answer ≡ left_told (is_held n lanes) → (n == x) ≡ true → answer ≡ Left
+held_left : (x n : ℕ) (lanes : PlainLanes) (l : Lane) (answer : TunnelAnswer) → IsHeldAs x l lanes → answer ≡ left_told (is_held n lanes) → (n == x) ≡ true
+    → answer ≡ Left
 held_left x n lanes l answer is told same =
     told ∙ ap (λ m. left_told (is_held m lanes)) (eqb-true n x same) ∙ ap (λ (o : Option Lane). left_told (some o)) (stands_found x l lanes.held is.stands)
   where
@@ -164,7 +169,8 @@ held_left x n lanes l answer is told same =
     some None = false
     some (Some l) = true
 
-pub held_moved : (x : ℕ) (lanes : PlainLanes) (l : Lane) (event : TunnelEvent) (answer : TunnelAnswer) (out : Output) → IsHeldAs x l lanes → IsAnswered lanes event answer out
+pub held_moved : (x : ℕ) (lanes : PlainLanes) (l : Lane) (event : TunnelEvent) (answer : TunnelAnswer) (out : Output) → IsHeldAs x l lanes
+    → IsAnswered lanes event answer out
     → leaves x event answer ≡ false → IsHeldAs x (lane_after l (turns_by x event out.datagrams)) (moved_by event out.datagrams lanes)
 held_moved x lanes l (Inner event) answer out is answered stays = held_put_all x out.datagrams lanes l is
 held_moved x lanes l Enter answer out is answered stays = held_entered x lanes l is
@@ -182,7 +188,8 @@ pub record IsLeft (x : ℕ) (e : TunnelEvent) (lanes : PlainLanes) : Type 0 wher
   pub gone : (sent : List Datagram) → IsGone x (moved_by e sent lanes)
   pub none : (answer : TunnelAnswer) (reply : List ℕ) → drained_by x e answer reply ≡ []
 
-pub left_by : (x : ℕ) (lanes : PlainLanes) (l : Lane) (event : TunnelEvent) (answer : TunnelAnswer) → IsHeldAs x l lanes → leaves x event answer ≡ true → IsLeft x event lanes
+pub left_by : (x : ℕ) (lanes : PlainLanes) (l : Lane) (event : TunnelEvent) (answer : TunnelAnswer) → IsHeldAs x l lanes → leaves x event answer ≡ true
+    → IsLeft x event lanes
 left_by x lanes l (Inner event) answer is left = absurd (true≢false (sym left))
 left_by x lanes l Enter answer is left = absurd (true≢false (sym left))
 left_by x lanes l (Drain number) answer is left = absurd (true≢false (sym left))
@@ -229,7 +236,8 @@ drained_held x n lanes l answer out is answered true e =
     ∙ told_frames x n l.frames l.broken e
 drained_held x n lanes l answer out is answered false e = drained_other x n answer out.reply e
 
-pub went_by : (x : ℕ) (lanes : PlainLanes) (l : Lane) (event : TunnelEvent) (answer : TunnelAnswer) (out : Output) → IsHeldAs x l lanes → IsAnswered lanes event answer out
+pub went_by : (x : ℕ) (lanes : PlainLanes) (l : Lane) (event : TunnelEvent) (answer : TunnelAnswer) (out : Output) → IsHeldAs x l lanes
+    → IsAnswered lanes event answer out
     → drained_by x event answer out.reply ≡ concat (all_leaving l (turns_by x event out.datagrams))
 went_by x lanes l (Inner event) answer out is answered = ap concat (sym (none_leave x out.datagrams l))
 went_by x lanes l Enter answer out is answered = refl
@@ -237,11 +245,13 @@ went_by x lanes l (Drain number) answer out is answered = drained_held x number 
 went_by x lanes l (Leave number) answer out is answered = refl
 
 -- a drain of a lane that isn't held
-lacking_told : (x n : ℕ) (lanes : PlainLanes) (answer : TunnelAnswer) (out : Output) → Lacks x lanes.held → IsAnswered lanes (Drain n) answer out → (n == x) ≡ true → answer ≡ Gone
+lacking_told : (x n : ℕ) (lanes : PlainLanes) (answer : TunnelAnswer) (out : Output) → Lacks x lanes.held → IsAnswered lanes (Drain n) answer out
+    → (n == x) ≡ true → answer ≡ Gone
 lacking_told x n lanes answer out lacks answered e =
     answered.told ∙ ap (λ o. drain_told (drain_answer o)) (ap (λ m. lane_of m lanes.held) (eqb-true n x e) ∙ lacks_none x lanes.held lacks)
 
-pub none_went : (x : ℕ) (lanes : PlainLanes) (event : TunnelEvent) (answer : TunnelAnswer) (out : Output) → Lacks x lanes.held → IsAnswered lanes event answer out
+pub none_went : (x : ℕ) (lanes : PlainLanes) (event : TunnelEvent) (answer : TunnelAnswer) (out : Output) → Lacks x lanes.held
+    → IsAnswered lanes event answer out
     → drained_by x event answer out.reply ≡ []
 none_went x lanes (Inner event) answer out lacks answered = refl
 none_went x lanes Enter answer out lacks answered = refl
@@ -252,11 +262,13 @@ none_went x lanes (Drain number) answer out lacks answered = each (number == x) 
     each false e = drained_other x number answer out.reply e
 none_went x lanes (Leave number) answer out lacks answered = refl
 
-pub none_empty : (x : ℕ) (lanes : PlainLanes) (event : TunnelEvent) (answer : TunnelAnswer) (out : Output) → Lacks x lanes.held → IsAnswered lanes event answer out
+pub none_empty : (x : ℕ) (lanes : PlainLanes) (event : TunnelEvent) (answer : TunnelAnswer) (out : Output) → Lacks x lanes.held
+    → IsAnswered lanes event answer out
     → drains x event ≡ true → answer ≡ Empty → ⊥
 none_empty x lanes (Inner event) answer out lacks answered drained empty = true≢false (sym drained)
 none_empty x lanes Enter answer out lacks answered drained empty = true≢false (sym drained)
-none_empty x lanes (Drain number) answer out lacks answered drained empty = absurd (cc (sym empty ∙ lacking_told x number lanes answer out lacks answered drained))
+none_empty x lanes (Drain number) answer out lacks answered drained empty = absurd
+    (cc (sym empty ∙ lacking_told x number lanes answer out lacks answered drained))
 none_empty x lanes (Leave number) answer out lacks answered drained empty = true≢false (sym drained)
 
 -- a drain of a held lane that is answered that no frame waits
@@ -271,7 +283,8 @@ empty_told [] true e = absurd (cc e)
 empty_told [] false e = (refl, refl)
 empty_told (f ∷ fs) broken e = absurd (cc e)
 
-pub held_empty : (x : ℕ) (lanes : PlainLanes) (l : Lane) (event : TunnelEvent) (answer : TunnelAnswer) (out : Output) → IsHeldAs x l lanes → IsAnswered lanes event answer out
+pub held_empty : (x : ℕ) (lanes : PlainLanes) (l : Lane) (event : TunnelEvent) (answer : TunnelAnswer) (out : Output) → IsHeldAs x l lanes
+    → IsAnswered lanes event answer out
     → drains x event ≡ true → answer ≡ Empty → IsEmptied x l event
 held_empty x lanes l (Inner event) answer out is answered drained empty = absurd (true≢false (sym drained))
 held_empty x lanes l Enter answer out is answered drained empty = absurd (true≢false (sym drained))

@@ -59,7 +59,8 @@ touched_given x Enter given own touched = absurd (true≢false (sym touched))
 touched_given x (Drain number) given own touched = subst (λ n. Has n given) (eqb-true number x touched) own
 touched_given x (Leave number) given own touched = subst (λ n. Has n given) (eqb-true number x touched) own
 
-now_given : (x : ℕ) (event : TunnelEvent) (answer : TunnelAnswer) (given : List ℕ) → Has x (given_by event answer ++ given) → (enters x event answer ≡ true) ⊎ Has x given
+now_given : (x : ℕ) (event : TunnelEvent) (answer : TunnelAnswer) (given : List ℕ) → Has x (given_by event answer ++ given)
+    → (enters x event answer ≡ true) ⊎ Has x given
 now_given x (Inner event) answer given has = inr has
 now_given x Enter (InnerAnswer answer) given has = inr has
 now_given x Enter (Lane number) given (inl same) = inl (same_numbers number x (sym same))
@@ -80,7 +81,8 @@ was_given x P (e ∷ es) given own before here t (inl same) touched =
     before (touched_given x e.event given own.0 (ap (λ (u : TunnelItem). touches x u.event) (sym same) ∙ touched))
 was_given x P (e ∷ es) given own before here t (inr has) touched =
     was_given x P es (given_by e.event e.answer ++ given) own.1
-    (λ (now : Has x (given_by e.event e.answer ++ given)). ⊎_elim (λ (is : enters x e.event e.answer ≡ true). here e (inl refl) is) before (now_given x e.event e.answer given now))
+    (λ (now : Has x (given_by e.event e.answer ++ given)). ⊎_elim (λ (is : enters x e.event e.answer ≡ true). here e (inl refl) is) before
+    (now_given x e.event e.answer given now))
     (λ (u : TunnelItem) (among : Has u es) (is : enters x u.event u.answer ≡ true). here u (inr among) is)
     t has touched
 
@@ -121,7 +123,8 @@ given_above x (t ∷ ts) low e rises (inl same) is =
 given_above x (t ∷ ts) low e rises (inr has) is = given_above x ts low e (rising_later low t.answer (numbers_in ts) rises) has is
 
 -- the entry behind which no other gives the number
-pub given_once : (x : ℕ) (t : TunnelItem) (ts : List TunnelItem) (low : ℕ) (e : TunnelItem) → IsRising low (number_in t.answer ++ numbers_in ts) → enters x t.event t.answer ≡ true
+pub given_once : (x : ℕ) (t : TunnelItem) (ts : List TunnelItem) (low : ℕ) (e : TunnelItem) → IsRising low (number_in t.answer ++ numbers_in ts)
+    → enters x t.event t.answer ≡ true
     → Has e ts → enters x e.event e.answer ≡ true → ⊥
 given_once x t ts low e rises at has is =
     let rest = (subst (λ ns. IsRising low (ns ++ numbers_in ts)) (enters_number x t.event t.answer at) rises).1 in
@@ -143,7 +146,8 @@ same_giver x (t ∷ ts) low d e rises (inr a) (inr b) is_d is_e =
 abbrev pub AllAreOf : ℕ → ℕ → List TunnelItem → Type 0
 AllAreOf caller x h = Each (λ (t : TunnelItem). touches x t.event ≡ true → t.caller ≡ caller) h
 
-pub only_of : (x caller : ℕ) (h : List TunnelItem) (numbers : List ℕ) → IsRising 0 (numbers_in h) → CallersDrainOwn numbers h → IsGivenTo caller x h → AllAreOf caller x h
+pub only_of : (x caller : ℕ) (h : List TunnelItem) (numbers : List ℕ) → IsRising 0 (numbers_in h) → CallersDrainOwn numbers h → IsGivenTo caller x h
+    → AllAreOf caller x h
 only_of x caller h numbers rises callers given = each_has (λ (t : TunnelItem). touches x t.event ≡ true → t.caller ≡ caller) h by
   where
     by : (t : TunnelItem) → Has t h → touches x t.event ≡ true → t.caller ≡ caller

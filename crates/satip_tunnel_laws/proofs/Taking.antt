@@ -45,7 +45,8 @@ now_enters : (x : ℕ) (lanes : PlainLanes) (t : TunnelItem) → IsAhead x lanes
     → IsHeldAs x (fresh_lane x) (moved lanes t)
 now_enters x lanes t is answered gives = each t.event answered gives
   where
-    each : (event : TunnelEvent) → IsAnswered lanes event t.answer t.out → enters x event t.answer ≡ true → IsHeldAs x (fresh_lane x) (moved_by event t.out.datagrams lanes)
+    each : (event : TunnelEvent) → IsAnswered lanes event t.answer t.out → enters x event t.answer ≡ true
+        → IsHeldAs x (fresh_lane x) (moved_by event t.out.datagrams lanes)
     each (Inner event) answered gives = absurd (cc gives)
     each Enter answered gives = now_held x lanes t.answer is answered.told gives
     each (Drain number) answered gives = absurd (cc gives)
@@ -75,7 +76,8 @@ never_empty x [] later t lanes is all drained empty = none_empty x lanes t.event
 never_empty x (u ∷ us) later t lanes is all drained empty =
     never_empty x us later t (moved lanes u) (gone_moved x lanes u.event u.out.datagrams is) all.1 drained empty
 
-out_until : (x : ℕ) (before later : List TunnelItem) (t : TunnelItem) (lanes : PlainLanes) (l : Lane) → IsHeldAs x l lanes → LanesFrom lanes (before ++ t ∷ later)
+out_until : (x : ℕ) (before later : List TunnelItem) (t : TunnelItem) (lanes : PlainLanes) (l : Lane) → IsHeldAs x l lanes
+    → LanesFrom lanes (before ++ t ∷ later)
     → drains x t.event ≡ true → t.answer ≡ Empty → Each (λ (u : TunnelItem). drains x u.event ≡ false) later
     → IsOut l (turns (before ++ t ∷ later) x) (turns before x)
 out_until x [] later t lanes l is all drained empty none =
@@ -88,7 +90,8 @@ out_until x [] later t lanes l is all drained empty none =
       unbroken = at.whole;
     }
 out_until x (u ∷ us) later t lanes l is all drained empty none =
-    each (leaves x u.event u.answer) refl (λ (m : Lane) (held : IsHeldAs x m (moved lanes u)). out_until x us later t (moved lanes u) m held all.1 drained empty none)
+    each (leaves x u.event u.answer) refl (λ (m : Lane) (held : IsHeldAs x m (moved lanes u)). out_until x us later t
+    (moved lanes u) m held all.1 drained empty none)
   where
     each : (b : Bool) → leaves x u.event u.answer ≡ b → ((m : Lane) → IsHeldAs x m (moved lanes u) → IsOut m (turns (us ++ t ∷ later) x) (turns us x))
         → IsOut l (cond b [] (turns_by x u.event u.out.datagrams ++ turns (us ++ t ∷ later) x)) (cond b [] (turns_by x u.event u.out.datagrams ++ turns us x))
@@ -100,7 +103,8 @@ out_until x (u ∷ us) later t lanes l is all drained empty none =
         let r = rest next (held_moved x lanes l u.event u.answer u.out is all.0 e) in
         let same : lane_after l (now ++ turns us x) ≡ lane_after next (turns us x) = lane_after-append l now (turns us x) in
         record {
-          out = all_leaving-append l now (turns (us ++ t ∷ later) x) ∙ ap (λ back. all_leaving l now ++ back) r.out ∙ sym (all_leaving-append l now (turns us x));
+          out = all_leaving-append l now (turns (us ++ t ∷ later) x) ∙ ap (λ back. all_leaving l now ++ back) r.out ∙ sym
+              (all_leaving-append l now (turns us x));
           frames = ap (λ (m : Lane). m.frames) same ∙ r.frames;
           unbroken = ap (λ (m : Lane). m.broken) same ∙ r.unbroken;
         }

@@ -30,6 +30,10 @@ send datagrams = entry 9 (Inner (Tick 1040)) (InnerAnswer (Beat Going)) (record 
 abbrev pub byte_to : ℕ → ℕ → ℕ → Datagram
 byte_to x port byte = record { to = record { ip = x; port = port }; bytes = byte ∷ [] }
 
+-- the frame of one byte on a channel
+abbrev pub framed : ℕ → ℕ → List ℕ
+framed channel byte = 36 ∷ channel ∷ 0 ∷ 1 ∷ byte ∷ []
+
 -- bytes to lane 1 before it is given, while it is held, and once it is given up; and bytes to lane 2 and to port 300
 abbrev pub visit : List TunnelItem
 visit =

@@ -6,16 +6,14 @@ ghost use Rattle.satip_lanes.specs.Lanes.{no_lanes};
 ghost use Rattle.satip_tunnel.specs.Histories.{LanesFrom};
 ghost use Rattle.satip_tunnel_laws.specs.LaneFrames.{drained, lane};
 ghost use Rattle.satip_tunnel_laws.specs.Owners.{CallersDrainOwn, DrainsOwn};
-ghost use Rattle.satip_tunnel_laws.specs.Rows.{drain_none, enter, leave, visit};
+ghost use Rattle.satip_tunnel_laws.specs.Rows.{drain_none, enter, framed, leave, visit};
 
 /// A lane has the frames of what comes to its channels while it is held: one byte to channel 0,
 /// one to channel 1, and one more behind a drain that took the first two.
 pub fn worked_frames()
     ensures answered { LanesFrom no_lanes visit }
-    ensures frames { lane visit 1
-        ≡ (36 ∷ 0 ∷ 0 ∷ 1 ∷ 11 ∷ []) ∷ (36 ∷ 1 ∷ 0 ∷ 1 ∷ 13 ∷ []) ∷ (36 ∷ 0 ∷ 0 ∷ 1 ∷ 15 ∷ []) ∷ [] }
-    ensures before_drain { lane (take 4 visit) 1
-        ≡ (36 ∷ 0 ∷ 0 ∷ 1 ∷ 11 ∷ []) ∷ (36 ∷ 1 ∷ 0 ∷ 1 ∷ 13 ∷ []) ∷ [] }
+    ensures frames { lane visit 1 ≡ framed 0 11 ∷ framed 1 13 ∷ framed 0 15 ∷ [] }
+    ensures before_drain { lane (take 4 visit) 1 ≡ framed 0 11 ∷ framed 1 13 ∷ [] }
     ensures before_entering { lane (take 1 visit) 1 ≡ [] }
     ensures other_lane { lane visit 2 ≡ [] }
     ensures drained { drained visit 1 ≡ 36 ∷ 0 ∷ 0 ∷ 1 ∷ 11 ∷ 36 ∷ 1 ∷ 0 ∷ 1 ∷ 13 ∷ [] }

@@ -1,5 +1,5 @@
 -- One connection of either kind, by what serving it ensures.
-use Rattle.std.proofs.Common.{◌≡◌, ◌∙◌, ℕ, ◌+◌, Bool, false, true, List, [], ◌∷◌, ◌++◌, length, refl, sym, ap, subst}
+use Rattle.std.proofs.Common.{◌≡◌, ◌∙◌, ℕ, ◌+◌, false, List, [], length, refl, sym, ap, subst}
 use Rattle.rand_chacha.specs.ChaCha.{ChaCha}
 use Rattle.satip_base.specs.declared.network.Peer.{Peer}
 use Rattle.satip_base.specs.declared.identity.Draw.{Draw}
@@ -10,16 +10,15 @@ use Rattle.satip_interleave.specs.Calling.{SameCaller, ShownPass, known_by, oute
 use Rattle.satip_interleave.proofs.Entries.{inners-append, outers-append}
 use Rattle.satip_tunnel.specs.Histories.{TunnelItem, inners}
 use Rattle.satip_tunneling.specs.declared.ends.TunnelEnd.{TunnelEnd}
-use Rattle.satip_tunneling.specs.Seats.{Seat, seated, Grows}
+use Rattle.satip_tunneling.specs.Seats.{Seat, seated}
 use Rattle.satip_tunneling.specs.Served.{ServesTunnel}
 use Rattle.satip_worker.specs.Drawing.{draw_at, before_draw}
 use Rattle.satip_worker.specs.Answers.{ends_with_last}
 use Rattle.satip_worker.specs.Ends.{LineEnds}
 use Rattle.satip_worker.specs.HttpRun.{HttpRun}
-use Rattle.satip_worker.specs.Progress.{Stage}
 use Rattle.satip_worker.specs.Served.{ServesConn as ServesAny}
 use Rattle.satip_world.specs.declared.doors.ConnEnd.{ConnEnd}
-use Rattle.satip_world.specs.declared.doors.ConnEnd.TheVariants.{Done, ReadFault, WriteFault, Spent, Want}
+use Rattle.satip_world.specs.declared.doors.ConnEnd.TheVariants.{Spent, Want}
 use Rattle.satip_world.specs.declared.doors.DoorKind.TheVariants.{Rtsp, Http}
 use Rattle.satip_world.specs.Lines.{Line}
 use Rattle.satip_world.specs.Outboxes.{Outbox}

@@ -1,5 +1,5 @@
 -- Lists that begin alike.
-use Rattle.std.proofs.Common.{◌≡◌, ◌∙◌, ℕ, ◌≤◌, List, [], ◌∷◌, ◌++◌, length, length-append, append-nil, arith, drop, refl, sym, ap}
+use Rattle.std.proofs.Common.{◌≡◌, ◌∙◌, ◌≤◌, List, [], ◌++◌, length, length-append, append-nil, arith, drop, sym, ap}
 use Rattle.std.proofs.Math.Seq.{drop-append_seam}
 use Rattle.satip_history.specs.Lists.{Begins}
 

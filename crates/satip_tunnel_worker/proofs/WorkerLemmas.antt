@@ -1,16 +1,15 @@
 -- Connections of a tunnel's worker, one after another.
-use Rattle.std.proofs.Common.{◌≡◌, ◌≢◌, ◌∙◌, ℕ, ◌≤◌, Bool, true, false, List, [], ◌∷◌, ◌++◌, length, map, append_assoc, append-nil, arith, refl, sym, ap, subst}
+use Rattle.std.proofs.Common.{◌≡◌, ◌∙◌, ℕ, ◌≤◌, false, List, [], ◌∷◌, ◌++◌, length, map, append_assoc, append-nil, arith, refl, sym, ap, subst}
 use Rattle.std.proofs.lemmas.List.{map_push}
 use Rattle.rand_chacha.specs.ChaCha.{ChaCha}
 use Rattle.satip_base.specs.declared.network.Peer.{Peer}
 use Rattle.satip_base.specs.declared.identity.Draw.{Draw}
-use Rattle.satip_interleave.specs.Calling.{known_by}
 use Rattle.satip_tunnel.specs.Histories.{TunnelItem}
 use Rattle.satip_tunneling.specs.Seats.{Seat, Grows}
 use Rattle.satip_tunneling.proofs.SeatLemmas.{grows_none, grows_then}
 use Rattle.satip_worker.specs.Drawing.{draw_at, before_draw}
 use Rattle.satip_worker.specs.Ends.{is_unmade}
-use Rattle.satip_worker.specs.WorkerRun.{AreMade, LastUnmade, arrival_of}
+use Rattle.satip_worker.specs.WorkerRun.{AreMade, arrival_of}
 use Rattle.satip_worker.specs.declared.worker.WorkerEnd.TheVariants.{Closed, DoorsFault, Spent}
 use Rattle.satip_world.specs.declared.doors.ConnEnd.{ConnEnd}
 use Rattle.satip_world.specs.declared.doors.ConnEnd.TheVariants.{Spent as conn_spent}

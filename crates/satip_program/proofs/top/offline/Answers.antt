@@ -1,33 +1,34 @@
-use Rattle.std.proofs.Common.{◌∙◌, sym, arith}
+use Rattle.std.proofs.Common.{◌∙◌, inl, sym, arith}
 use Rattle.satip_program.proofs.OutcomeLemmas.{run_named}
 use Rattle.satip_program.proofs.ReplayLemmas.{run_replays}
 use Rattle.satip_program.proofs.StatusLemmas.{run_talks, run_stresses}
 use Rattle.satip_program.proofs.ServingLemmas.{never_doors, never_full}
 use Rattle.satip_program.proofs.top.offline.Goals as goal
 
-pub returns-in-None-clause-talk : goal.returns-in-None-clause-talk
-returns-in-None-clause-talk g c = λ talk. run_talks _ _ _ _ _ _ _ _ _ _ _ _ _ _ c.run-outcome.ensures.ends c.status.ensures.status talk
+pub returns-in-None-read_audit-clause-talk : goal.returns-in-None-read_audit-clause-talk
+returns-in-None-read_audit-clause-talk g c = λ talk. run_talks _ _ _ _ _ _ _ _ _ _ _ _ _ _ c.run-outcome.ensures.ends (c.without_jobs.ensures.status ∙ c.status.ensures.status) talk
 
-pub returns-in-None-clause-replay : goal.returns-in-None-clause-replay
-returns-in-None-clause-replay g c = λ name is.
-    run_replays _ _ _ _ _ _ _ g.K.Config.Source.feed c.run-outcome.result.config
-    _ _ _ _ _ _ _ _ _ c.run-outcome.ensures.ends c.tell.ensures.says c.status.ensures.status name is
+pub returns-in-None-read_audit-clause-replay : goal.returns-in-None-read_audit-clause-replay
+returns-in-None-read_audit-clause-replay g c = λ name is.
+    rw c.without_jobs.ensures.config
+    (run_replays _ _ _ _ _ _ _ g.K.Config.Source.feed c.run-outcome.result.config
+    _ _ _ _ _ _ _ _ _ c.run-outcome.ensures.ends c.tell.ensures.says (c.without_jobs.ensures.status ∙ c.status.ensures.status) name is)
 
-pub returns-in-None-clause-stress : goal.returns-in-None-clause-stress
-returns-in-None-clause-stress g c = λ seed count is. run_stresses _ _ _ _ _ _ _ _ _ _ _ _ _ _ c.run-outcome.ensures.ends c.status.ensures.status seed count is
+pub returns-in-None-read_audit-clause-stress : goal.returns-in-None-read_audit-clause-stress
+returns-in-None-read_audit-clause-stress g c = λ seed count is. run_stresses _ _ _ _ _ _ _ _ _ _ _ _ _ _ c.run-outcome.ensures.ends (c.without_jobs.ensures.status ∙ c.status.ensures.status) seed count is
 
-pub returns-in-None-clause-configuration : goal.returns-in-None-clause-configuration
-returns-in-None-clause-configuration g c = λ is.
-    run_named _ _ _ _ _ _ _ _ _ _ _ _ _ _ c.run-outcome.ensures.ends (omega arith) (omega arith) (sym c.status.ensures.status ∙ is)
+pub returns-in-None-read_audit-clause-configuration : goal.returns-in-None-read_audit-clause-configuration
+returns-in-None-read_audit-clause-configuration g c = λ is.
+    inl (run_named _ _ _ _ _ _ _ _ _ _ _ _ _ _ c.run-outcome.ensures.ends (omega arith) (omega arith) (sym (c.without_jobs.ensures.status ∙ c.status.ensures.status) ∙ is))
 
-pub returns-in-None-clause-script : goal.returns-in-None-clause-script
-returns-in-None-clause-script g c = λ is.
-    run_named _ _ _ _ _ _ _ _ _ _ _ _ _ _ c.run-outcome.ensures.ends (omega arith) (omega arith) (sym c.status.ensures.status ∙ is)
+pub returns-in-None-read_audit-clause-script : goal.returns-in-None-read_audit-clause-script
+returns-in-None-read_audit-clause-script g c = λ is.
+    inl (run_named _ _ _ _ _ _ _ _ _ _ _ _ _ _ c.run-outcome.ensures.ends (omega arith) (omega arith) (sym (c.without_jobs.ensures.status ∙ c.status.ensures.status) ∙ is))
 
-pub returns-in-None-clause-no_serving : goal.returns-in-None-clause-no_serving
-returns-in-None-clause-no_serving g c = (
-  (λ is. never_doors c.run-outcome.result.outcome (sym c.status.ensures.status ∙ is)),
-  λ is. never_full c.run-outcome.result.outcome (sym c.status.ensures.status ∙ is),
+pub returns-in-None-read_audit-clause-no_serving : goal.returns-in-None-read_audit-clause-no_serving
+returns-in-None-read_audit-clause-no_serving g c = (
+  (λ is. never_doors c.run-outcome.result.outcome (sym (c.without_jobs.ensures.status ∙ c.status.ensures.status) ∙ is)),
+  λ is. never_full c.run-outcome.result.outcome (sym (c.without_jobs.ensures.status ∙ c.status.ensures.status) ∙ is),
 )
 
 pub returns-in-Some-clause-recording : goal.returns-in-Some-clause-recording

@@ -1,7 +1,7 @@
 use Rattle.std.proofs.Common.{sym, ap, ◌∙◌, IsSomeAnd}
 use Rattle.satip_replay.specs.Ends.{Refused}
 use Rattle.satip_serving.specs.Servings.{GivenFrom}
-use Rattle.satip_program.specs.Outcomes.{Says}
+use Rattle.satip_telling.specs.Lines.{Says}
 use Rattle.satip_program.specs.Serving.{serving_status}
 use Rattle.satip_program.proofs.ServingLemmas.{ends_by_serving, ends_by_doors, ends_by_full, begun_told, unused_told, configuration_told, input_told, config_told, settled_told, line_told, serve_has}
 use Rattle.satip_program.proofs.top.run_serve.Goals as goal

@@ -1,15 +1,9 @@
 -- The jobs work over the service, and what they did is a serve run.
 use denote.Param.Send.{sendable}
-use Rattle.satip_base.specs.Output.{Output}
 use Rattle.satip_pump.specs.declared.kits.PumpKit.{PumpKit}
-use Rattle.satip_pump.specs.declared.kits.TickKit.{TickKit}
 use Rattle.satip_worker.specs.declared.kits.WorkerKit.{WorkerKit}
-use Rattle.satip_worker.specs.declared.room.Room.{Room}
-use Rattle.satip_crew.specs.declared.seat.Seat.{Seat}
-use Rattle.satip_crew.specs.Crewed.{RunDid}
 use Rattle.satip_crew.proofs.Beside.{worked_as}
 use Rattle.satip_crew.proofs.Following.{pumps_keep, run_as, workers_keep}
-use Rattle.satip_serve.specs.declared.seat.PumpRoom.{PumpRoom}
 use Rattle.satip_serve.specs.Deeds.{worker_deed, pump_deed, ticker_deed}
 use Rattle.satip_serve.specs.Services.{SeatDid}
 use Rattle.satip_serve.specs.Views.{worker_view, pump_view, tick_view}

@@ -1,4 +1,3 @@
-use Rattle.std.proofs.Common.{refl}
 use Rattle.satip_tunnel_worker.proofs.ConnLemmas.{http_served}
 use Rattle.satip_tunnel_worker.proofs.connection.serve_http.Goals as goal
 

@@ -1,5 +1,5 @@
 use Rattle.std.proofs.Common.{refl, ◌∙◌}
-use Rattle.satip_tunnel_worker.proofs.WorkerLemmas.{serves_from, serves_idle, serves_to_end, serves_to_fault, serves_next, serves_to_spent, handed_goes_on, handed_calm, rises_from}
+use Rattle.satip_tunnel_worker.proofs.WorkerLemmas.{serves_from, serves_idle, serves_to_end, serves_to_fault, serves_next, serves_to_spent, handed_goes_on, handed_calm}
 use Rattle.satip_worker.proofs.WorkerLemmas.{spent_goes_on}
 use Rattle.satip_tunnel_worker.proofs.worker.run_tunnel_worker.Goals as goal
 

@@ -1,0 +1,150 @@
+//! Each status once, with what is written and what is told.
+
+use satip_base::{ReadSource, Source, Text};
+use satip_memory::{MemorySink, MemorySource};
+use satip_memory_desk::MemoryDesk;
+use satip_program::offline;
+use std::alloc::Global;
+use std::io::{Read, repeat};
+use std::test::Fail;
+
+const CONFIG: &[u8] =
+    b"address = \"192.168.1.10\"\n[[frontend]]\nsources = [1]\nsystems = [\"dvbs\"]\n";
+
+const WRONG_CONFIG: &[u8] =
+    b"timeout = 5\naddress = \"192.168.1.10\"\n[[frontend]]\nsources = [1]\nsystems = [\"dvbs\"]\n";
+
+const WORDS: [&str; 2] = ["audit", "c1.toml"];
+
+// The stop, answered `Stopping`, by caller 0 at place 0.
+const STOP: &[u8] = b"start 0\nentry 0 0 080201000000000000\n";
+
+// What a run came to, and whether a configuration was given back.
+#[derive(Drop)]
+struct Report {
+    status: u8,
+    configured: bool,
+    output: MemorySink,
+    errors: MemorySink,
+}
+
+impl Report {
+    fn is(&self, status: u8, output: &[u8], errors: &[u8]) -> bool {
+        self.status == status && self.output.sent() == output && self.errors.sent() == errors
+    }
+}
+
+// A run over a desk with one configuration; a put that fails passes five bytes.
+fn run<I: Source + Drop>(
+    alloc: Global,
+    names: &[&str],
+    config: &[u8],
+    mut input: I,
+    failing_puts: &[u64],
+) -> Result<Report, Fail> {
+    let mut words = Vec::new(alloc);
+    for name in names {
+        words.push(Text::of(alloc, name)?)?;
+    }
+    let mut desk = MemoryDesk::make(alloc, 0);
+    desk.add("c1.toml", config, &[])?;
+    let mut output = MemorySink::make(alloc, failing_puts, 5)?;
+    let mut errors = MemorySink::make(alloc, &[], 0)?;
+    let ended = offline(
+        alloc,
+        &words,
+        &mut input,
+        &mut output,
+        &mut errors,
+        &mut desk,
+    );
+    Ok(Report {
+        status: ended.status,
+        configured: ended.config.is_some(),
+        output,
+        errors,
+    })
+}
+
+fn audit(alloc: Global, config: &[u8], text: &[u8]) -> Result<Report, Fail> {
+    let input = MemorySource::make(alloc, text, &[], &[])?;
+    run(alloc, &WORDS, config, input, &[])
+}
+
+#[test]
+fn verdicts_are_written(rt: HostRuntime) -> Result<(), Fail> {
+    let rows: [(&[u8], &[u8]); 6] = [
+        (STOP, b"yes 1\n"),
+        (
+            b"start 0\nentry 0 0 080200000000000000\n",
+            b"no differs 0\n",
+        ),
+        (
+            b"start 0\nentry 0 0 080201000000000000\nentry 2 1 080201000000000000\n",
+            b"no missing 1\n",
+        ),
+        (
+            b"start 0\nentry 0 0 080201000000000000\nentry 0 0 080201000000000000\n",
+            b"no repeated 0\n",
+        ),
+        (b"entry 0 0 080201000000000000\n", b"no start\n"),
+        (
+            b"start 0\nentry 0 0 02000000000000000a0200000000000000\n",
+            b"yes 1\n",
+        ),
+    ];
+    for (text, verdict) in rows {
+        let report = audit(rt.alloc(), CONFIG, text)?;
+        assert!(rt; report.is(0, verdict, b""));
+        assert!(rt; report.configured);
+    }
+    Ok(())
+}
+
+#[test]
+fn faults_of_the_texts_are_told(rt: HostRuntime) -> Result<(), Fail> {
+    let upper = b"start 0\nentry 0 0 02000000000000000A0200000000000000\n";
+    let report = audit(rt.alloc(), CONFIG, upper)?;
+    assert!(rt; report.is(4, b"", b"journal: line 2\n"));
+    let report = audit(rt.alloc(), WRONG_CONFIG, upper)?;
+    assert!(rt; report.is(3, b"", b"configuration: value of timeout\n"));
+    assert!(rt; report.configured);
+    Ok(())
+}
+
+#[test]
+fn faults_of_the_devices_are_told(rt: HostRuntime) -> Result<(), Fail> {
+    let alloc = rt.alloc();
+    let input = MemorySource::make(alloc, STOP, &[3], &[2])?;
+    let report = run(alloc, &WORDS, CONFIG, input, &[])?;
+    assert!(rt; report.is(5, b"", b"input fault\n"));
+    let input = MemorySource::make(alloc, STOP, &[], &[])?;
+    let report = run(alloc, &["audit", "c2.toml"], CONFIG, input, &[])?;
+    assert!(rt; report.is(5, b"", b"input fault\n"));
+    assert!(rt; !report.configured);
+    let input = MemorySource::make(alloc, STOP, &[], &[])?;
+    let report = run(alloc, &WORDS, CONFIG, input, &[1])?;
+    assert!(rt; report.is(6, b"yes 1", b"output fault\n"));
+    let input = ReadSource::new(repeat(b'\n').take(67108865));
+    let report = run(alloc, &WORDS, CONFIG, input, &[])?;
+    assert!(rt; report.is(8, b"", b"input too long\n"));
+    Ok(())
+}
+
+#[test]
+fn other_words_are_a_faulty_command_line(rt: HostRuntime) -> Result<(), Fail> {
+    let wrong: [&[&str]; 4] = [
+        &["audit"],
+        &["audit", ""],
+        &["audit", "c1.toml", "c1.toml"],
+        &["Audit", "c1.toml"],
+    ];
+    for words in wrong {
+        let input = MemorySource::make(rt.alloc(), STOP, &[], &[])?;
+        let report = run(rt.alloc(), words, CONFIG, input, &[])?;
+        assert_eq!(rt; report.status, 2);
+        assert_eq!(rt; report.output.sent(), b"".as_slice());
+        assert!(rt; !report.configured);
+    }
+    Ok(())
+}

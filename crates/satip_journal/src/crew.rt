@@ -1,0 +1,154 @@
+//! Journals of callers that are split off from one and joined into it again.
+ghost use Rattle.std.specs.Prelude.{◌≡◌, false};
+ghost use Rattle.satip_plain.specs.declared.events.Event.TheVariants.{Stop};
+ghost use Rattle.satip_plain.specs.Histories.{Legal};
+ghost use Rattle.satip_records.specs.Lines.{start_line};
+ghost use Rattle.satip_journal.specs.Gears.{gear_of};
+ghost use Rattle.satip_journal.specs.Keeping.{kept, SameJournal};
+ghost use Rattle.satip_journal.specs.Logs.{Logs};
+ghost use Rattle.satip_journal.specs.Owning.{KnowsOwn};
+
+use crate::journal::{Journal, fails_to_put};
+use satip_base::{Out, Sink};
+use satip_crew::{Crew, ServeEnd};
+use satip_plain::{Answer, Event};
+use satip_records::{LineRoom, write_start};
+use satip_service::Service;
+use satip_shared::Caller;
+use std::sync::Wait;
+
+/// What a job's journal has beside its caller: the job's number, the sink and the room of its lines,
+/// and whether a put failed.
+#[derive(Drop)]
+pub struct JournalGear<K> {
+    pub number: u64,
+    pub sink: K,
+    pub line: LineRoom,
+    pub failed: bool,
+}
+
+impl<K: Sink> JournalGear<K> {
+    /// The journal of the job of this number, of whose lines none was put yet.
+    pub fn new(number: u64, sink: K, line: LineRoom) -> JournalGear<K>
+        ensures number { result.number ≡ number }
+        ensures sink { result.sink ≡ sink }
+        ensures open { result.failed ≡ false }
+    {
+        JournalGear {
+            number,
+            sink,
+            line,
+            failed: false,
+        }
+    }
+
+    /// Puts the line of the moment at which the history starts, in milliseconds.
+    pub fn start(&mut self, now: u64)
+        requires open { self.old.failed ≡ false }
+        ensures number { self.new.number ≡ self.old.number }
+        ensures logs { Logs K.tells (K.drain self.old.sink) (K.drain self.new.sink) false
+            self.new.failed (start_line now) }
+    {
+        write_start(now, &mut self.line);
+        self.failed = fails_to_put(&mut self.sink, self.line.bytes());
+    }
+}
+
+impl<'a, R: Wait + Sync, K: Sink> Journal<'a, R, K> {
+    /// The journal of a caller that goes on with this gear.
+    pub fn with_gear(caller: Caller<'a, R>, gear: JournalGear<K>) -> Journal<'a, R, K>
+        requires own { KnowsOwn caller.pass }
+        ensures server { result.caller.server.now ≡ caller.entry.server.now }
+        ensures pass { result.caller.pass ≡ caller.entry.pass }
+        ensures gear { gear_of result.number result.sink result.line result.failed ≡ gear }
+    {
+        let JournalGear {
+            number,
+            sink,
+            line,
+            failed,
+        } = gear;
+        Journal {
+            caller,
+            number,
+            sink,
+            line,
+            failed,
+        }
+    }
+}
+
+impl<'a, R: Wait + Sync, K: Sink + Send + Drop> Crew for Journal<'a, R, K> {
+    type Asks = Event;
+
+    type Answers = Answer;
+
+    type Gear = JournalGear<K>;
+
+    ghost cell = { λ s. s.caller.server.now };
+
+    ghost pass = { λ s. s.caller.pass };
+
+    ghost gear = { λ s. gear_of s.number s.sink s.line s.failed };
+
+    ghost legal = { λ c h. Legal c h };
+
+    ghost is_stop = { λ e. e.event ≡ Stop };
+
+    ghost goes_on = { λ s t. SameJournal K.tells
+        (kept s.caller.server.now s.caller.pass s.number (K.drain s.sink) s.failed)
+        (kept t.caller.server.now t.caller.pass t.number (K.drain t.sink) t.failed) };
+
+    fn split(&mut self, given: JournalGear<K>) -> Self {
+        let JournalGear {
+            number,
+            sink,
+            line,
+            failed,
+        } = given;
+        let caller = &mut self.caller;
+        let pass = caller.server.split(&mut caller.pass);
+        Journal {
+            caller: Caller {
+                rt: caller.rt,
+                server: caller.server,
+                pass,
+            },
+            number,
+            sink,
+            line,
+            failed,
+        }
+    }
+
+    fn join(&mut self, other: Self) -> JournalGear<K> {
+        let Journal {
+            caller: joined,
+            number,
+            sink,
+            line,
+            failed,
+        } = other;
+        let Caller {
+            rt: _,
+            server: _,
+            pass,
+        } = joined;
+        let caller = &mut self.caller;
+        caller.server.join(&mut caller.pass, pass);
+        JournalGear {
+            number,
+            sink,
+            line,
+            failed,
+        }
+    }
+
+    /// Makes the event `Stop`, and puts its line. It waits.
+    fn stop(&mut self, out: &mut Out) -> ServeEnd {
+        match self.call(&Event::Stop, out) {
+            Ok(_answer) => ServeEnd::Served,
+            Err(_fault) => ServeEnd::HistoryFull,
+        }
+    }
+}

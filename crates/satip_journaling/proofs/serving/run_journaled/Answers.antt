@@ -1,0 +1,36 @@
+-- Each sink came back with its job's journal.
+use Rattle.std.proofs.Common.{arith}
+use Rattle.satip_journaling.specs.Gears.{others_of}
+use Rattle.satip_journaling.proofs.Logging.{journals_written}
+use Rattle.satip_journaling.proofs.serving.run_journaled.Goals as goal
+
+pub end_journals-failed-requires-clause-space : goal.end_journals-failed-requires-clause-space
+end_journals-failed-requires-clause-space g c =
+    let ran = c.run_gears-pass.ensures in
+    let gears = c.begin_journals-gears in
+    let after = c.run_gears-pass.result.2 in
+    omega (
+      arith,
+      ran.worker_gears,
+      ran.pump_gears,
+      gears.ensures.workers,
+      gears.ensures.pumps,
+      gears.ensures.capacity,
+      gears.result.workers.ok.0,
+      gears.result.pumps.ok.0,
+      after.workers.ok.0,
+      after.pumps.ok.0,
+      c.args.sinks.ok.0,
+      c.args.sinks.ok.1,
+      c.requires.sinks,
+      c.len-workers.ensures,
+      c.len-pumps.ensures,
+    )
+
+pub returns-clause-journals : goal.returns-clause-journals
+returns-clause-journals g c =
+    let before = c.begin_journals-gears.result in
+    let after = c.run_gears-pass.result.2 in
+    journals_written g.K.Sink.tells g.K.Sink.drain c.args.start _ c.args.sinks.items _ before.root after.root (others_of before) (others_of after) _ _ _
+    c.begin_journals-gears.ensures.begun c.run_gears-pass.ensures.went_on c.end_journals-failed.ensures.sinks c.end_journals-failed.ensures.failed
+    c.requires.start

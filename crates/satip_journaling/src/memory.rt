@@ -1,0 +1,65 @@
+//! The memory that jobs with journals take.
+
+ghost use Rattle.std.specs.Prelude.{◌≡◌, ◌≤◌, ◌<◌, ◌^◌, [], length, vec_capacity, IfOk};
+ghost use Rattle.satip_journaling.specs.Memories.{IsMemory};
+
+use satip_base::{Sink, Want};
+use satip_journal::{Journal, JournalGear};
+use satip_records::LineRoom;
+use satip_serve::{ServeSpace, take_space};
+use std::alloc::Global;
+use std::sync::Wait;
+
+/// What all jobs work with beside their kits, the room for a line of each, and lists with memory for
+/// what the journals have beside their callers.
+#[derive(Drop)]
+pub(crate) struct Memory<'a, R: Wait + Sync, D, O, P, M, K: Sink> {
+    pub space: ServeSpace<Journal<'a, R, K>, D, O, P, M>,
+    pub lines: Vec<LineRoom>,
+    pub worker_gears: Vec<JournalGear<K>>,
+    pub pump_gears: Vec<JournalGear<K>>,
+}
+
+// A list with memory for so many.
+fn with_room<T: Drop>(alloc: Global, count: usize) -> Result<Vec<T>, Want>
+    ensures empty { IfOk result (λ items. items.items ≡ []) }
+    ensures room { IfOk result (λ items. count ≤ vec_capacity items) }
+{
+    match Vec::with_capacity(alloc, count) {
+        Ok(items) => Ok(items),
+        Err(_) => Err(Want),
+    }
+}
+
+fn make_lines(alloc: Global, count: usize) -> Result<Vec<LineRoom>, Want>
+    ensures count { IfOk result (λ lines. length lines.items ≡ count) }
+{
+    let mut lines = with_room(alloc, count)?;
+    while lines.len() < count {
+        lines.push_reserved(LineRoom::make(alloc)?);
+    }
+    Ok(lines)
+}
+
+// All memory that so many workers and pumps take, and the ticker and caller 0 with them.
+pub(crate) fn take_memory<'a, R: Wait + Sync, D: Drop, O: Drop, P: Drop, M: Drop, K: Sink + Drop>(
+    alloc: Global,
+    workers: usize,
+    pumps: usize,
+) -> Result<Memory<'a, R, D, O, P, M, K>, Want>
+    requires few_workers { workers < 2 ^ 32 }
+    requires few_pumps { pumps < 2 ^ 32 }
+    ensures memory { IfOk result (λ memory. IsMemory workers pumps
+        memory.space.worker_rooms.items memory.space.workers.items
+        (vec_capacity memory.space.workers) memory.space.pump_rooms.items
+        memory.space.pumps.items (vec_capacity memory.space.pumps) memory.lines.items
+        memory.worker_gears.items (vec_capacity memory.worker_gears) memory.pump_gears.items
+        (vec_capacity memory.pump_gears)) }
+{
+    Ok(Memory {
+        space: take_space(alloc, workers, pumps)?,
+        lines: make_lines(alloc, workers + pumps + 2)?,
+        worker_gears: with_room(alloc, workers)?,
+        pump_gears: with_room(alloc, pumps)?,
+    })
+}

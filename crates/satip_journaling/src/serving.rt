@@ -1,0 +1,388 @@
+//! The server with all its jobs, each with a journal, from the first reading of the clock to the
+//! last join.
+
+ghost use Rattle.std.specs.Prelude.{◌≡◌, ◌+◌, ◌≤◌, ◌<◌, ◌^◌, ◌∷◌, false, map, length, vec_capacity, IfOk, IfErr};
+ghost use Rattle.satip_fronts.specs.FrontEnds.{IsNumbered};
+ghost use Rattle.satip_history.specs.Lists.{Each};
+ghost use Rattle.satip_plain.specs.Histories.{Legal};
+ghost use Rattle.satip_turn.specs.Shown.{IsOf, Knows};
+ghost use Rattle.satip_turn.specs.Views.{numbers_of};
+ghost use Rattle.satip_serve.specs.Fresh.{AreFresh, FreshJobs, Unused};
+ghost use Rattle.satip_serve.specs.ServeRuns.{ServeRun, EndTells};
+ghost use Rattle.satip_serve.specs.Services.{IsFirst};
+ghost use Rattle.satip_serve.specs.Views.{worker_view, pump_view, tick_view};
+ghost use Rattle.satip_journal.specs.Journals.{AreCallersOf, journals};
+ghost use Rattle.satip_journal.specs.Typed.{IsTyped};
+ghost use Rattle.satip_crew.specs.Crews.{IsSpace};
+ghost use Rattle.satip_journaling.specs.Gears.{WentOn, others_of};
+ghost use Rattle.satip_journaling.specs.Judged.{AreOneHistory};
+ghost use Rattle.satip_journaling.specs.Memories.{IsMemory};
+ghost use Rattle.satip_journaling.specs.Sent.{AreWritten};
+
+use crate::gears::{Gears, begin_journals, end_journals};
+use crate::memory::{Memory, take_memory};
+use satip_base::{Sink, Want};
+use satip_config::Config;
+use satip_crew::{Posts, ServeEnd};
+use satip_journal::{Journal, JournalGear};
+use satip_serve::{Jobs, Last, ServeSpace, run_services};
+use satip_shared::{Caller, SharedPass, SharedServer, make};
+use satip_world::{Clock, Doors, MuxStore, Outlet, Pacer};
+use std::alloc::Global;
+use std::sync::Wait;
+use std::thread::Threads;
+
+/// The journals that were written: their sinks in the order of jobs, and whether a put on one of
+/// them failed.
+#[derive(Drop)]
+pub struct Written<K> {
+    pub sinks: Vec<K>,
+    pub failed: bool,
+}
+
+// Runs the jobs over journals that have begun.
+fn run_gears<
+    R: Threads + Wait + Sync,
+    D: Doors + Send + Drop,
+    O: Outlet + Send + Drop,
+    P: Pacer + Send + Drop,
+    M: MuxStore + Send + Drop,
+    C: Clock + Send + Drop,
+    K: Sink + Send + Drop,
+>(
+    rt: &R,
+    server: &SharedServer,
+    pass: SharedPass,
+    jobs: Jobs<D, O, P, M, C>,
+    gears: Gears<K>,
+    space: ServeSpace<Journal<'_, R, K>, D, O, P, M>,
+) -> (SharedPass, Jobs<D, O, P, M, C>, Gears<K>, ServeEnd)
+    requires of { IsOf pass server.now }
+    requires knows { Knows (Legal server.now.setting) pass }
+    requires first { IsFirst pass }
+    requires worker_space { IsSpace jobs.workers.items gears.workers.items
+        space.worker_rooms.items space.workers.items (vec_capacity space.workers) }
+    requires pump_space { IsSpace jobs.pumps.items gears.pumps.items
+        space.pump_rooms.items space.pumps.items (vec_capacity space.pumps) }
+    requires workers { length jobs.workers.items ≡ server.now.setting.config.workers }
+    requires pumps { length jobs.pumps.items ≡ length server.now.setting.config.fronts }
+    ensures of { IsOf result.0 server.now }
+    ensures knows { Knows (Legal server.now.setting) result.0 }
+    ensures keys { map (λ kit. kit.key) result.1.workers.items
+        ≡ map (λ kit. kit.key) jobs.workers.items }
+    ensures recordings { map (λ kit. (M.shelf kit.store).recording) result.1.pumps.items
+        ≡ map (λ kit. (M.shelf kit.store).recording) jobs.pumps.items }
+    ensures run { (accepts : _)
+        → FreshJobs accepts server.now.setting.start
+        (map (worker_view D.hall O.outbox) jobs.workers.items)
+        (map (pump_view M.shelf O.outbox) jobs.pumps.items)
+        (tick_view C.dial O.outbox jobs.tick)
+        → ServeRun D.Conn.tells O.tells server.now.setting accepts result.0.seen result.0.kept
+        (map (worker_view D.hall O.outbox) result.1.workers.items)
+        (map (pump_view M.shelf O.outbox) result.1.pumps.items)
+        (tick_view C.dial O.outbox result.1.tick) }
+    ensures ended { (accepts : _)
+        → FreshJobs accepts server.now.setting.start
+        (map (worker_view D.hall O.outbox) jobs.workers.items)
+        (map (pump_view M.shelf O.outbox) jobs.pumps.items)
+        (tick_view C.dial O.outbox jobs.tick)
+        → EndTells result.3 result.0.seen (map (worker_view D.hall O.outbox) result.1.workers.items) }
+    ensures went_on { WentOn K.tells K.drain gears.root (others_of gears) result.2.root
+        (others_of result.2) (numbers_of result.0.kept) result.0.seen }
+    ensures worker_gears { length result.2.workers.items ≡ length gears.workers.items }
+    ensures pump_gears { length result.2.pumps.items ≡ length gears.pumps.items }
+    ensures callers { AreCallersOf (0 ∷ numbers_of result.0.kept) result.0.seen }
+    ensures typed { Each IsTyped result.0.seen }
+{
+    let Gears {
+        root,
+        workers: worker_gears,
+        pumps: pump_gears,
+        ticker: ticker_gear,
+    } = gears;
+    let JournalGear {
+        number,
+        sink,
+        line,
+        failed,
+    } = root;
+    let journal = Journal {
+        caller: Caller { rt, server, pass },
+        number,
+        sink,
+        line,
+        failed,
+    };
+    let posts = Posts {
+        workers: jobs.workers,
+        worker_gears,
+        pumps: jobs.pumps,
+        pump_gears,
+        ticker: jobs.tick,
+        ticker_gear,
+    };
+    let (journal, posts, end) = run_services(rt, journal, posts, space);
+    let Journal {
+        caller,
+        number,
+        sink,
+        line,
+        failed,
+    } = journal;
+    let Caller {
+        rt: _,
+        server: _,
+        pass,
+    } = caller;
+    let gears = Gears {
+        root: JournalGear {
+            number,
+            sink,
+            line,
+            failed,
+        },
+        workers: posts.worker_gears,
+        pumps: posts.pump_gears,
+        ticker: posts.ticker_gear,
+    };
+    let jobs = Jobs {
+        workers: posts.workers,
+        pumps: posts.pumps,
+        tick: posts.ticker,
+    };
+    (pass, jobs, gears, end)
+}
+
+// Begins the journals, runs the jobs, and ends the journals.
+fn run_journaled<
+    R: Threads + Wait + Sync,
+    D: Doors + Send + Drop,
+    O: Outlet + Send + Drop,
+    P: Pacer + Send + Drop,
+    M: MuxStore + Send + Drop,
+    C: Clock + Send + Drop,
+    K: Sink + Send + Drop,
+>(
+    rt: &R,
+    server: &SharedServer,
+    pass: SharedPass,
+    start: u64,
+    jobs: Jobs<D, O, P, M, C>,
+    mut sinks: Vec<K>,
+    memory: Memory<'_, R, D, O, P, M, K>,
+) -> (SharedPass, Jobs<D, O, P, M, C>, Written<K>, ServeEnd)
+    requires of { IsOf pass server.now }
+    requires knows { Knows (Legal server.now.setting) pass }
+    requires first { IsFirst pass }
+    requires start { server.now.setting.start ≡ start }
+    requires workers { length jobs.workers.items ≡ server.now.setting.config.workers }
+    requires few_workers { length jobs.workers.items < 2 ^ 16 }
+    requires pumps { length jobs.pumps.items ≡ length server.now.setting.config.fronts }
+    requires few { length jobs.pumps.items ≤ 16 }
+    requires sinks { length sinks.items ≡ length jobs.workers.items + length jobs.pumps.items + 2 }
+    requires memory { IsMemory (length jobs.workers.items) (length jobs.pumps.items)
+        memory.space.worker_rooms.items memory.space.workers.items
+        (vec_capacity memory.space.workers) memory.space.pump_rooms.items
+        memory.space.pumps.items (vec_capacity memory.space.pumps) memory.lines.items
+        memory.worker_gears.items (vec_capacity memory.worker_gears) memory.pump_gears.items
+        (vec_capacity memory.pump_gears) }
+    ensures of { IsOf result.0 server.now }
+    ensures knows { Knows (Legal server.now.setting) result.0 }
+    ensures keys { map (λ kit. kit.key) result.1.workers.items
+        ≡ map (λ kit. kit.key) jobs.workers.items }
+    ensures recordings { map (λ kit. (M.shelf kit.store).recording) result.1.pumps.items
+        ≡ map (λ kit. (M.shelf kit.store).recording) jobs.pumps.items }
+    ensures run { (accepts : _)
+        → FreshJobs accepts server.now.setting.start
+        (map (worker_view D.hall O.outbox) jobs.workers.items)
+        (map (pump_view M.shelf O.outbox) jobs.pumps.items)
+        (tick_view C.dial O.outbox jobs.tick)
+        → ServeRun D.Conn.tells O.tells server.now.setting accepts result.0.seen result.0.kept
+        (map (worker_view D.hall O.outbox) result.1.workers.items)
+        (map (pump_view M.shelf O.outbox) result.1.pumps.items)
+        (tick_view C.dial O.outbox result.1.tick) }
+    ensures ended { (accepts : _)
+        → FreshJobs accepts server.now.setting.start
+        (map (worker_view D.hall O.outbox) jobs.workers.items)
+        (map (pump_view M.shelf O.outbox) jobs.pumps.items)
+        (tick_view C.dial O.outbox jobs.tick)
+        → EndTells result.3 result.0.seen (map (worker_view D.hall O.outbox) result.1.workers.items) }
+    ensures journals { AreWritten K.tells result.2.failed (map K.drain sinks.items)
+        (map K.drain result.2.sinks.items)
+        (journals server.now.setting.start 0 (numbers_of result.0.kept) result.0.seen) }
+    ensures callers { AreCallersOf (0 ∷ numbers_of result.0.kept) result.0.seen }
+    ensures typed { Each IsTyped result.0.seen }
+{
+    let Memory {
+        space,
+        mut lines,
+        worker_gears,
+        pump_gears,
+    } = memory;
+    let workers = jobs.workers.len();
+    let pumps = jobs.pumps.len();
+    let gears = begin_journals(
+        &mut sinks,
+        &mut lines,
+        worker_gears,
+        pump_gears,
+        workers,
+        pumps,
+        start,
+    );
+    let (pass, jobs, gears, end) = run_gears(rt, server, pass, jobs, gears, space);
+    let failed = end_journals(gears, &mut sinks);
+    (pass, jobs, Written { sinks, failed }, end)
+}
+
+// Takes all memory and runs the jobs; gives them and the sinks back where memory was refused.
+fn serve_all<
+    R: Threads + Wait + Sync,
+    D: Doors + Send + Drop,
+    O: Outlet + Send + Drop,
+    P: Pacer + Send + Drop,
+    M: MuxStore + Send + Drop,
+    C: Clock + Send + Drop,
+    K: Sink + Send + Drop,
+>(
+    rt: &R,
+    alloc: Global,
+    server: &SharedServer,
+    pass: SharedPass,
+    start: u64,
+    jobs: Jobs<D, O, P, M, C>,
+    sinks: Vec<K>,
+) -> Result<(SharedPass, Jobs<D, O, P, M, C>, Written<K>, ServeEnd), (Jobs<D, O, P, M, C>, Vec<K>)>
+    requires of { IsOf pass server.now }
+    requires knows { Knows (Legal server.now.setting) pass }
+    requires first { IsFirst pass }
+    requires start { server.now.setting.start ≡ start }
+    requires workers { length jobs.workers.items ≡ server.now.setting.config.workers }
+    requires few_workers { length jobs.workers.items < 2 ^ 16 }
+    requires pumps { length jobs.pumps.items ≡ length server.now.setting.config.fronts }
+    requires few { length jobs.pumps.items ≤ 16 }
+    requires sinks { length sinks.items ≡ length jobs.workers.items + length jobs.pumps.items + 2 }
+    ensures of { IfOk result (λ served. IsOf served.0 server.now) }
+    ensures knows { IfOk result (λ served. Knows (Legal server.now.setting) served.0) }
+    ensures keys { IfOk result (λ served. map (λ kit. kit.key) served.1.workers.items
+        ≡ map (λ kit. kit.key) jobs.workers.items) }
+    ensures recordings { IfOk result (λ served. map (λ kit. (M.shelf kit.store).recording)
+        served.1.pumps.items
+        ≡ map (λ kit. (M.shelf kit.store).recording) jobs.pumps.items) }
+    ensures run { IfOk result (λ served. (accepts : _)
+        → FreshJobs accepts server.now.setting.start
+        (map (worker_view D.hall O.outbox) jobs.workers.items)
+        (map (pump_view M.shelf O.outbox) jobs.pumps.items)
+        (tick_view C.dial O.outbox jobs.tick)
+        → ServeRun D.Conn.tells O.tells server.now.setting accepts served.0.seen served.0.kept
+        (map (worker_view D.hall O.outbox) served.1.workers.items)
+        (map (pump_view M.shelf O.outbox) served.1.pumps.items)
+        (tick_view C.dial O.outbox served.1.tick)) }
+    ensures ended { IfOk result (λ served. (accepts : _)
+        → FreshJobs accepts server.now.setting.start
+        (map (worker_view D.hall O.outbox) jobs.workers.items)
+        (map (pump_view M.shelf O.outbox) jobs.pumps.items)
+        (tick_view C.dial O.outbox jobs.tick)
+        → EndTells served.3 served.0.seen
+        (map (worker_view D.hall O.outbox) served.1.workers.items)) }
+    ensures journals { IfOk result (λ served. AreWritten K.tells served.2.failed
+        (map K.drain sinks.items) (map K.drain served.2.sinks.items)
+        (journals server.now.setting.start 0 (numbers_of served.0.kept) served.0.seen)) }
+    ensures callers { IfOk result (λ served. AreCallersOf (0 ∷ numbers_of served.0.kept)
+        served.0.seen) }
+    ensures typed { IfOk result (λ served. Each IsTyped served.0.seen) }
+    ensures unused { IfErr result (λ back. back.0 ≡ jobs) }
+    ensures unused_sinks { IfErr result (λ back. back.1.items ≡ sinks.items) }
+{
+    match take_memory(alloc, jobs.workers.len(), jobs.pumps.len()) {
+        Ok(memory) => Ok(run_journaled(rt, server, pass, start, jobs, sinks, memory)),
+        Err(Want) => Err((jobs, sinks)),
+    }
+}
+
+/// Serves as `serve` does, and writes a journal for each job: one for caller 0, which makes the
+/// stop, then for the workers, the pumps in the order of front ends, and the ticker. Each has the
+/// lines of its job's entries, in order, with the places in the history and the job's number in that
+/// order, from 0; job 0's has the start line before them. Behind a put that failed nothing more is
+/// put on that sink; the jobs go on.
+///
+/// All memory is taken before any job begins: where it was refused the kits come back, of which the
+/// clock alone was used, once, and the sinks as they were. It waits.
+pub fn serve_journaled<
+    R: Threads + Wait + Sync,
+    D: Doors + Send + Drop,
+    O: Outlet + Send + Drop,
+    P: Pacer + Send + Drop,
+    M: MuxStore + Send + Drop,
+    C: Clock + Send + Drop,
+    K: Sink + Send + Drop,
+>(
+    rt: &R,
+    alloc: Global,
+    config: Config,
+    mut jobs: Jobs<D, O, P, M, C>,
+    sinks: Vec<K>,
+) -> Result<(Last<D, O, P, M, C>, Written<K>, ServeEnd), (Jobs<D, O, P, M, C>, Vec<K>)>
+    requires few { length config.fronts ≤ 16 }
+    requires numbered { IsNumbered 1 config.fronts }
+    requires received { length config.muxes ≤ 256 }
+    requires workers { length jobs.workers.items ≡ config.workers }
+    requires pumps { length jobs.pumps.items ≡ length config.fronts }
+    requires sinks { length sinks.items ≡ config.workers + length config.fronts + 2 }
+
+    // the configuration that was given, and a pass of the server
+    ensures config { IfOk result (λ served. served.0.server.setting.config ≡ config) }
+    ensures of { IfOk result (λ served. IsOf served.0.pass served.0.server) }
+    ensures knows { IfOk result (λ served. Knows (Legal served.0.server.setting) served.0.pass) }
+
+    // the kits in their order, each worker's with its key, and each pump's with its recordings
+    ensures keys { IfOk result (λ served. map (λ kit. kit.key) served.0.jobs.workers.items
+        ≡ map (λ kit. kit.key) jobs.workers.items) }
+    ensures recordings { IfOk result (λ served. map (λ kit. (M.shelf kit.store).recording)
+        served.0.jobs.pumps.items
+        ≡ map (λ kit. (M.shelf kit.store).recording) jobs.pumps.items) }
+
+    // where the kits were fresh
+    ensures run { IfOk result (λ served. (accepts : _)
+        → AreFresh accepts (map (worker_view D.hall O.outbox) jobs.workers.items)
+        (map (pump_view M.shelf O.outbox) jobs.pumps.items)
+        (tick_view C.dial O.outbox jobs.tick)
+        → ServeRun D.Conn.tells O.tells served.0.server.setting accepts served.0.pass.seen
+        served.0.pass.kept
+        (map (worker_view D.hall O.outbox) served.0.jobs.workers.items) (map (pump_view M.shelf O.outbox) served.0.jobs.pumps.items)
+        (tick_view C.dial O.outbox served.0.jobs.tick)) }
+    // why it ended so: all doors ended, or those of a worker failed, or the history is full
+    ensures ended { IfOk result (λ served. (accepts : _)
+        → AreFresh accepts (map (worker_view D.hall O.outbox) jobs.workers.items)
+        (map (pump_view M.shelf O.outbox) jobs.pumps.items)
+        (tick_view C.dial O.outbox jobs.tick)
+        → EndTells served.2 served.0.pass.seen (map (worker_view D.hall O.outbox)
+        served.0.jobs.workers.items)) }
+
+    // each sink was sent the lines of its job's entries, job 0's behind the start line: all of them
+    // where no put failed, else each at least a beginning, and one count of faults rose
+    ensures journals { IfOk result (λ served. AreWritten K.tells served.1.failed
+        (map K.drain sinks.items) (map K.drain served.1.sinks.items)
+        (journals served.0.server.setting.start 0 (numbers_of served.0.pass.kept)
+        served.0.pass.seen)) }
+    // these callers made all entries, whose values are of their types; so whole journals, put
+    // together in any order, are judged `yes`
+    ensures callers { IfOk result (λ served. AreCallersOf (0 ∷ numbers_of served.0.pass.kept)
+        served.0.pass.seen) }
+    ensures typed { IfOk result (λ served. Each IsTyped served.0.pass.seen) }
+    ensures yes { IfOk result (λ served. served.1.failed ≡ false
+        → AreOneHistory K.tells served.0.server.setting served.0.pass.seen
+        (map K.drain sinks.items) (map K.drain served.1.sinks.items)) }
+    ensures unused { IfErr result (λ back. Unused C.dial jobs.workers.items back.0.workers.items
+        jobs.pumps.items back.0.pumps.items jobs.tick back.0.tick) }
+    ensures unused_sinks { IfErr result (λ back. back.1.items ≡ sinks.items) }
+{
+    let start = jobs.tick.clock.now();
+    match make(alloc, config, start) {
+        Ok((server, pass)) => match serve_all(rt, alloc, &server, pass, start, jobs, sinks) {
+            Ok((pass, jobs, written, end)) => Ok((Last { server, pass, jobs }, written, end)),
+            Err((jobs, sinks)) => Err((jobs, sinks)),
+        },
+        Err(Want) => Err((jobs, sinks)),
+    }
+}

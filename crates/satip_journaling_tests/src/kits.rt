@@ -1,0 +1,77 @@
+//! Kits over memory, and sinks for journals.
+
+ghost use Rattle.std.specs.Prelude.{◌≡◌, [], length, IfOk};
+
+use satip_base::Peer;
+use satip_config::Config;
+use satip_memory::{
+    MemoryClock, MemoryConn, MemoryDoors, MemoryOutlet, MemoryPacer, MemorySink, MemoryStore,
+};
+use satip_pump::TickKit;
+use satip_serve::Jobs;
+use satip_worker::WorkerKit;
+use satip_world::DoorKind;
+use std::alloc::Global;
+use std::test::Fail;
+
+const CLIENT: Peer = Peer { ip: 0xc0a8_0114 };
+
+const OPTIONS: &[u8] = b"OPTIONS * RTSP/1.0\r\nCSeq: 1\r\n\r\n";
+
+pub(crate) type MemoryJobs = Jobs<MemoryDoors, MemoryOutlet, MemoryPacer, MemoryStore, MemoryClock>;
+
+// A server without front ends, with one worker.
+pub(crate) fn config(alloc: Global) -> Config
+    ensures fronts { result.fronts ≡ [] }
+    ensures muxes { result.muxes ≡ [] }
+    ensures workers { result.workers ≡ 1 }
+{
+    Config {
+        address: 0xc0a8_010a,
+        rtsp_port: 5554,
+        http_port: 8875,
+        timeout: 60,
+        workers: 1,
+        fronts: Vec::new(alloc),
+        muxes: Vec::new(alloc),
+        files: Vec::new(alloc),
+    }
+}
+
+// A worker by whose doors one connection comes, which asks for options, and a ticker.
+pub(crate) fn one_worker(alloc: Global) -> Result<MemoryJobs, Fail>
+    ensures workers { IfOk result (λ jobs. length jobs.workers.items ≡ 1) }
+    ensures pumps { IfOk result (λ jobs. jobs.pumps.items ≡ []) }
+{
+    let mut doors = MemoryDoors::make(alloc, 1, &[], &[])?;
+    let conn = MemoryConn::make(alloc, &[OPTIONS], &[], &[], 0)?;
+    doors.add(DoorKind::Rtsp, CLIENT, conn)?;
+    let mut workers = Vec::new(alloc);
+    workers.push(WorkerKit {
+        doors,
+        outlet: MemoryOutlet::make(alloc, &[])?,
+        pacer: MemoryPacer::new(),
+        key: [7; 32],
+    })?;
+    Ok(Jobs {
+        workers,
+        pumps: Vec::new(alloc),
+        tick: TickKit {
+            clock: MemoryClock::make(alloc, &[1000, 1020, 1040])?,
+            outlet: MemoryOutlet::make(alloc, &[])?,
+            pacer: MemoryPacer::new(),
+        },
+    })
+}
+
+// Sinks for the program, the worker and the ticker. The program's fails at these puts, after six
+// bytes.
+pub(crate) fn three_sinks(alloc: Global, failing: &[u64]) -> Result<Vec<MemorySink>, Fail>
+    ensures count { IfOk result (λ sinks. length sinks.items ≡ 3) }
+{
+    let mut sinks = Vec::new(alloc);
+    sinks.push(MemorySink::make(alloc, failing, 6)?)?;
+    sinks.push(MemorySink::make(alloc, &[], 0)?)?;
+    sinks.push(MemorySink::make(alloc, &[], 0)?)?;
+    Ok(sinks)
+}
