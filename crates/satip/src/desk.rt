@@ -57,6 +57,7 @@ pub struct RealDesk<R: Wait + Copy + Drop + Send> {
     dialed: Option<Address>,
     bound: bool,
     timed: bool,
+    journaled: Vec<u64>,
     faults: u64,
 }
 
@@ -67,6 +68,7 @@ impl<R: Wait + Copy + Drop + Send> RealDesk<R> {
         ensures dialed { result.dialed ≡ None }
         ensures bound { result.bound ≡ false }
         ensures timed { result.timed ≡ false }
+        ensures journaled { result.journaled.items ≡ [] }
         ensures faults { result.faults ≡ 0 }
     {
         RealDesk {
@@ -76,6 +78,7 @@ impl<R: Wait + Copy + Drop + Send> RealDesk<R> {
             dialed: None,
             bound: false,
             timed: false,
+            journaled: Vec::new(host.alloc()),
             faults: 0,
         }
     }
@@ -95,6 +98,12 @@ fn tell_error(rt: HostRuntime, device: &str, error: &io::Error) {
         return;
     };
     WriteSink::new(rt.stderr()).put(line.as_bytes());
+}
+
+// Makes the file of a job's journal in the current folder. One that is there is emptied.
+fn make_journal(host: HostRuntime, job: u64) -> io::Result<File> {
+    let name = format!(in host.alloc(); "journal.{job}")?;
+    fs::create(&host, name.as_str())
 }
 
 // Opens the file of a name; `None` where it can't be opened.
@@ -151,6 +160,8 @@ impl<R: Wait + Copy + Drop + Send> Desk for RealDesk<R> {
 
     type Moment = RealClock;
 
+    type Journal = WriteSink<File>;
+
     ghost text = { λ _ _. None };
 
     ghost faults = { λ d. d.faults };
@@ -158,6 +169,8 @@ impl<R: Wait + Copy + Drop + Send> Desk for RealDesk<R> {
     ghost given = { λ d. option_map (λ kits. real_view kits.value) d.given };
 
     ghost handed = { λ d. record { wire = d.dialed; inlet = d.bound; moment = d.timed } };
+
+    ghost journaled = { λ d. d.journaled.items };
 
     fn jobs(
         &mut self,
@@ -220,5 +233,23 @@ impl<R: Wait + Copy + Drop + Send> Desk for RealDesk<R> {
     fn moment(&mut self) -> RealClock {
         self.timed = true;
         RealClock::begin(self.host)
+    }
+
+    fn journal(&mut self, job: u64) -> Result<WriteSink<File>, Failed> {
+        let made = make_journal(self.host, job);
+        match made {
+            Ok(file) => match self.journaled.push(job) {
+                Ok(()) => Ok(WriteSink::new(file)),
+                Err(_) => {
+                    self.faults = self.faults.saturating_add(1);
+                    Err(Failed)
+                }
+            },
+            Err(error) => {
+                tell_error(self.host, "journal", &error);
+                self.faults = self.faults.saturating_add(1);
+                Err(Failed)
+            }
+        }
     }
 }

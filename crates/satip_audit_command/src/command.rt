@@ -32,6 +32,7 @@ pub fn audit_by<K: Desk, I: Source, O: Sink, E: Sink>(
     ensures texts { K.text desk.new ≡ K.text desk.old }
     ensures kits { K.given desk.new ≡ K.given desk.old }
     ensures handed { K.handed desk.new ≡ K.handed desk.old }
+    ensures journaled { K.journaled desk.new ≡ K.journaled desk.old }
 
     // What the audit comes to by its status, and the line of its end.
     ensures ends { AuditEnds K.Config.tells I.tells O.tells E.tells

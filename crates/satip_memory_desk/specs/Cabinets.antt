@@ -21,8 +21,8 @@ pub record GivenKits : Type 0 where
   pub ticker : TickView
 
 -- names with the texts of their configurations and which takes of each fail, for how many connections kits are laid,
--- the kits if they were given, what is still to be given to a client and what was, how many opens are still to fail, and
--- how often the desk failed
+-- the kits if they were given, what is still to be given to a client and what was, to how many jobs journals are given
+-- and to which one was, how many opens are still to fail, and how often the desk failed
 pub record Cabinet : Type 0 where
   pub texts : List (List ℕ × List ℕ)
   pub failing_takes : List (List ℕ)
@@ -32,6 +32,8 @@ pub record Cabinet : Type 0 where
   pub inlet : Option Inbox
   pub clock : Option Dial
   pub handed : Handed
+  pub journals : ℕ
+  pub journaled : List ℕ
   pub failing : ℕ
   pub faults : ℕ
 
@@ -46,6 +48,8 @@ empty_cabinet failing = record {
   inlet = None;
   clock = None;
   handed = nothing_handed;
+  journals = 0;
+  journaled = [];
   failing = failing;
   faults = 0;
 }

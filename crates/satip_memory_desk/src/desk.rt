@@ -1,6 +1,7 @@
 //! A desk over memory.
 
-ghost use Rattle.std.specs.Prelude.{◌≡◌, ◌∷◌, [], None, Some, length, map, option_map, IfOk, IfSome, OnOk, OnErr};
+ghost use Rattle.std.specs.Prelude.{◌≡◌, ◌∷◌, ◌++◌, [], None, Some, length, map, option_map, IfOk, IfSome, MatchOption, OnOk, OnErr};
+ghost use Rattle.satip_base.specs.Streams.{fresh_drain};
 ghost use Rattle.std.specs.Option.{option_copied};
 ghost use Rattle.std.specs.List.{find};
 ghost use Rattle.std.specs.Str.{bytes_eq};
@@ -14,8 +15,8 @@ use crate::moment::MemoryMoment;
 use satip_base::{Address, Failed, Text, Want};
 use satip_config::Config;
 use satip_memory::{
-    MemoryClock, MemoryConn, MemoryDoors, MemoryInlet, MemoryOutlet, MemoryPacer, MemorySource,
-    MemoryStore,
+    MemoryClock, MemoryConn, MemoryDoors, MemoryInlet, MemoryOutlet, MemoryPacer, MemorySink,
+    MemorySource, MemoryStore,
 };
 use satip_serve::Jobs;
 use satip_serving::{Desk, JobsFault};
@@ -49,7 +50,16 @@ struct Lent {
     moment: bool,
 }
 
-/// A desk of given texts, of given kits, and of what is given to a client.
+// To how many jobs journals are given, the put that fails, and the jobs that got one.
+#[derive(Drop)]
+struct Journals {
+    jobs: u64,
+    failing_job: u64,
+    failing_put: u64,
+    given: Vec<u64>,
+}
+
+/// A desk of given texts, of given kits, of what is given to a client, and of journals.
 #[derive(Drop)]
 pub struct MemoryDesk {
     alloc: Global,
@@ -60,6 +70,7 @@ pub struct MemoryDesk {
     inlet: Option<MemoryInlet>,
     clock: Option<MemoryClock>,
     lent: Lent,
+    journals: Journals,
     failing: u64,
     faults: u64,
 }
@@ -84,6 +95,8 @@ impl Model for MemoryDesk {
       inlet = d.inlet;
       clock = d.clock;
       handed = record { wire = d.lent.wire; inlet = d.lent.inlet; moment = d.lent.moment };
+      journals = d.journals.jobs;
+      journaled = d.journals.given.items;
       failing = d.failing;
       faults = d.faults;
     } };
@@ -115,6 +128,12 @@ impl MemoryDesk {
                 wire: None,
                 inlet: false,
                 moment: false,
+            },
+            journals: Journals {
+                jobs: 0,
+                failing_job: 0,
+                failing_put: 0,
+                given: Vec::new(alloc),
             },
             failing,
             faults: 0,
@@ -150,6 +169,39 @@ impl MemoryDesk {
         self.laid = Some(Laid { accepts, jobs });
     }
 
+    /// Lets the jobs below this number have journals. In that of one of them the put with the number
+    /// `failing_put`, from 1, fails and passes five bytes at most.
+    pub fn open_journals(&mut self, jobs: u64, failing_job: u64, failing_put: u64)
+        ensures opened { self.new ≡ record self.old { journals = jobs } }
+    {
+        self.journals.jobs = jobs;
+        self.journals.failing_job = failing_job;
+        self.journals.failing_put = failing_put;
+    }
+
+    // Makes the journal of a job; `None` where there is none, or no memory.
+    fn make_journal(&mut self, job: u64) -> Option<MemorySink>
+        ensures sink { IfSome result (λ sink. sink ≡ fresh_drain) }
+        ensures journaled { MatchOption result (self.new ≡ self.old) (λ _. self.new
+            ≡ record self.old { journaled = self.old.journaled ++ job ∷ [] }) }
+    {
+        if job >= self.journals.jobs {
+            return None;
+        }
+        let failing = if job == self.journals.failing_job {
+            self.journals.failing_put
+        } else {
+            0
+        };
+        let Ok(sink) = MemorySink::make(self.alloc, &[failing], 5) else {
+            return None;
+        };
+        match self.journals.given.push(job) {
+            Ok(()) => Some(sink),
+            Err(_) => None,
+        }
+    }
+
     /// Begins anew with its client: nothing counts as given.
     pub fn renew(&mut self)
         ensures renewed { self.new ≡ record self.old { handed = nothing_handed } }
@@ -176,6 +228,8 @@ impl MemoryDesk {
         ensures inlet { self.new.inlet ≡ self.old.inlet }
         ensures clock { self.new.clock ≡ self.old.clock }
         ensures handed { self.new.handed ≡ self.old.handed }
+        ensures journals { self.new.journals ≡ self.old.journals }
+        ensures journaled { self.new.journaled ≡ self.old.journaled }
     {
         let (Ok(name), Ok(text), Ok(failing)) = (
             Vec::from_slice(self.alloc, name.as_bytes()),
@@ -264,6 +318,8 @@ impl Desk for MemoryDesk {
 
     type Moment = MemoryMoment;
 
+    type Journal = MemorySink;
+
     ghost text = { λ d name. text_in d.texts name };
 
     ghost faults = { λ d. d.faults };
@@ -271,6 +327,8 @@ impl Desk for MemoryDesk {
     ghost given = { λ d. option_map given_view d.given };
 
     ghost handed = { λ d. d.handed };
+
+    ghost journaled = { λ d. d.journaled };
 
     #[tactic(auto, using(crate::proofs::DrawerLemmas::kits_seen))]
     fn jobs(
@@ -340,5 +398,15 @@ impl Desk for MemoryDesk {
     fn moment(&mut self) -> MemoryMoment {
         self.lent.moment = true;
         MemoryMoment::new(self.clock.take())
+    }
+
+    fn journal(&mut self, job: u64) -> Result<MemorySink, Failed> {
+        match self.make_journal(job) {
+            Some(sink) => Ok(sink),
+            None => {
+                self.faults = self.faults.saturating_add(1);
+                Err(Failed)
+            }
+        }
     }
 }

@@ -20,4 +20,20 @@ audit_is_other word is =
     let same : word ≡ codes "audit" = (bytes_eq-Decides word (codes "audit")).0 is in
     subst (λ (w : List ℕ). bytes_eq w (codes "replay") ≡ false) (sym same) refl
 
-pub ruleset words_differ = (serve_is_other, audit_is_other)
+pub serve_is_no_journal : (word : List ℕ) → bytes_eq word (codes "serve") ≡ true → bytes_eq word (codes "journal") ≡ false
+serve_is_no_journal word is =
+    let same : word ≡ codes "serve" = (bytes_eq-Decides word (codes "serve")).0 is in
+    subst (λ (w : List ℕ). bytes_eq w (codes "journal") ≡ false) (sym same) refl
+
+-- the word of a serve with journals is another than those of a stress run and of a serve
+pub journal_is_other : (word : List ℕ) → bytes_eq word (codes "journal") ≡ true → bytes_eq word (codes "stress") ≡ false
+journal_is_other word is =
+    let same : word ≡ codes "journal" = (bytes_eq-Decides word (codes "journal")).0 is in
+    subst (λ (w : List ℕ). bytes_eq w (codes "stress") ≡ false) (sym same) refl
+
+pub journal_is_no_serve : (word : List ℕ) → bytes_eq word (codes "journal") ≡ true → bytes_eq word (codes "serve") ≡ false
+journal_is_no_serve word is =
+    let same : word ≡ codes "journal" = (bytes_eq-Decides word (codes "journal")).0 is in
+    subst (λ (w : List ℕ). bytes_eq w (codes "serve") ≡ false) (sym same) refl
+
+pub ruleset words_differ = (serve_is_other, audit_is_other, serve_is_no_journal, journal_is_other, journal_is_no_serve)

@@ -9,3 +9,4 @@ mod StatusLemmas
 mod ReplayLemmas
 mod RecordingLemmas
 mod AuditLemmas
+mod JournalLemmas

@@ -73,6 +73,20 @@ serve_of (word ∷ name ∷ []) = None
 serve_of (word ∷ name ∷ accepts ∷ []) = serve_named word name (number_of 4294967295 accepts)
 serve_of (word ∷ name ∷ accepts ∷ another ∷ others) = None
 
+-- the form of three words; no configuration has the empty name
+abbrev pub journal_named : List ℕ → List ℕ → Option ℕ → Option Serving
+journal_named word [] accepts = None
+journal_named word (byte ∷ bytes) accepts =
+    if bytes_eq word (codes "journal") then option_map (λ n. record { name = byte ∷ bytes; accepts = n }) accepts else None
+
+-- the form of the words, if they ask for a `serve` with journals
+unfoldable pub journal_of : List (List ℕ) → Option Serving
+journal_of [] = None
+journal_of (word ∷ []) = None
+journal_of (word ∷ name ∷ []) = None
+journal_of (word ∷ name ∷ accepts ∷ []) = journal_named word name (number_of 4294967295 accepts)
+journal_of (word ∷ name ∷ accepts ∷ another ∷ others) = None
+
 -- the form of a `serve`
 abbrev pub serving_of : Serve → Serving
 serving_of serve = record { name = serve.name.now; accepts = serve.accepts }
@@ -118,7 +132,7 @@ HasCount commands.Version = Unit {0}
 
 -- the forms of the words
 abbrev pub usage : List ℕ
-usage = codes "usage: satip talk | replay CONFIG | serve CONFIG ACCEPTS | stress SEED COUNT | audit CONFIG | record ADDRESS QUERY COUNT\n"
+usage = codes "usage: satip talk | replay CONFIG | serve CONFIG ACCEPTS | stress SEED COUNT | journal CONFIG ACCEPTS | audit CONFIG | record ADDRESS QUERY COUNT\n"
 
 -- what --help writes: the forms, a line for each command that is built with an example of it, and where more stands
 abbrev pub help : List ℕ
@@ -132,6 +146,8 @@ help = usage
     ++ codes "    satip talk < requests\n"
     ++ codes "stress: COUNT events that a generator makes of SEED, run and counted\n"
     ++ codes "    satip stress 7 100000\n"
+    ++ codes "journal: as serve, and each job writes its entries to the file journal.N, by its number N, in the current folder\n"
+    ++ codes "    satip journal satip.toml 0\n"
     ++ codes "audit: the verdict on the journals on standard input, by the configuration in the file CONFIG\n"
     ++ codes "    cat journal.* | satip audit satip.toml\n"
     ++ codes "record: COUNT packets of the stream of QUERY, from the server at ADDRESS, to standard output\n"

@@ -9,3 +9,4 @@ pub mod Serving
 pub mod Ends
 pub mod Recording
 pub mod Auditing
+pub mod Journaling

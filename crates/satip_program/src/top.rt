@@ -1,7 +1,7 @@
 //! The top call: what the program does with its words, its input, its output, its errors and its
 //! desk.
 
-ghost use Rattle.std.specs.Prelude.{◌≡◌, ◌↔◌, ◌⊎◌, ℕ, ◌+◌, ◌-◌, ◌<◌, ◌≤◌, List, Some, None, option_map, IsSome, IsNone, IfSome, IsSomeAnd};
+ghost use Rattle.std.specs.Prelude.{◌≡◌, ◌↔◌, ◌⊎◌, ℕ, ◌+◌, ◌-◌, ◌<◌, ◌≤◌, List, [], Some, None, option_map, IsSome, IsNone, IfSome, IsSomeAnd, map};
 ghost use Rattle.satip_base.specs.Streams.{Feed, Rose};
 ghost use Rattle.satip_serving.specs.Given.{jobs_view};
 ghost use Rattle.satip_record_command.specs.Ends.{RecordEnds, left_of};
@@ -10,19 +10,24 @@ ghost use Rattle.satip_serving.specs.Handed.{nothing_handed};
 ghost use Rattle.satip_program.specs.Recording.{IsApart};
 ghost use Rattle.satip_program.specs.Auditing.{IsOfAudit};
 ghost use Rattle.satip_audit_command.specs.Ends.{AuditEnds};
+ghost use Rattle.satip_journal_command.specs.Ends.{JournalEnds};
+ghost use Rattle.satip_program.specs.Journaling.{IsOfJournal};
 ghost use Rattle.satip_telling.specs.Lines.{Says};
-ghost use Rattle.satip_program.specs.Commands.{serve_of, recording_of, audit_of, Talk, Replay, Stress, Help, Version, command_of, config_named, help, version, line_of};
+ghost use Rattle.satip_program.specs.Commands.{serve_of, journal_of, recording_of, audit_of, Talk, Replay, Stress, Help, Version, command_of, config_named, help, version, line_of};
 ghost use Rattle.satip_program.specs.Ends.{TalkEnds, ReplayEnds, StressEnds, ServeEnds};
 ghost use Rattle.satip_program.specs.Outcomes.{input_limit, NothingDone, PrintEnds, StressRuns, Shows};
 ghost use Rattle.satip_program.specs.Replaying.{RunEnds, ReplayRuns};
 
-use crate::commands::{Command, Serve, read_audit, read_recording, read_serve, read_words};
+use crate::commands::{
+    Command, Serve, read_audit, read_journal, read_recording, read_serve, read_words,
+};
 use crate::outcomes::Outcome;
 use crate::serving::{status_of_serving, tell_serving};
 use crate::talk::talk;
 use crate::telling::tell;
 use satip_audit_command::{Audited, audit_by, status_of};
 use satip_base::{Failed, Put, Sink, Source, Text};
+use satip_journal_command::{Journaled, journal_by};
 use satip_record_command::{Recorded, Recording, record};
 use satip_replay::replay;
 use satip_serve::{Jobs, Last};
@@ -33,7 +38,7 @@ use std::sync::Wait;
 use std::thread::Threads;
 
 const HELP: &[u8] = b"usage: satip talk | replay CONFIG | serve CONFIG ACCEPTS | stress SEED COUNT \
-    | audit CONFIG | record ADDRESS QUERY COUNT\n\
+    | journal CONFIG ACCEPTS | audit CONFIG | record ADDRESS QUERY COUNT\n\
     serve: clients, by the configuration in the file CONFIG; each worker ends after ACCEPTS \
     connections, and never where it is 0\n\
     \x20   satip serve satip.toml 0\n\
@@ -46,6 +51,9 @@ const HELP: &[u8] = b"usage: satip talk | replay CONFIG | serve CONFIG ACCEPTS |
     \x20   satip talk < requests\n\
     stress: COUNT events that a generator makes of SEED, run and counted\n\
     \x20   satip stress 7 100000\n\
+    journal: as serve, and each job writes its entries to the file journal.N, by its number N, in the \
+    current folder\n\
+    \x20   satip journal satip.toml 0\n\
     audit: the verdict on the journals on standard input, by the configuration in the file CONFIG\n\
     \x20   cat journal.* | satip audit satip.toml\n\
     record: COUNT packets of the stream of QUERY, from the server at ADDRESS, to standard output\n\
@@ -76,6 +84,8 @@ pub struct Ended<K: Desk> {
     pub inlet: Option<K::Inlet>,
     /// The clock that the desk gave to a recording, if there was one.
     pub moment: Option<K::Moment>,
+    /// The journals that the desk gave to jobs, in their order.
+    pub journals: Vec<K::Journal>,
 }
 
 impl<K: Desk> Drop for Ended<K> {
@@ -88,6 +98,7 @@ impl<K: Desk> Drop for Ended<K> {
             wire: _,
             inlet: _,
             moment: _,
+            journals: _,
         } = self;
     }
 }
@@ -114,7 +125,7 @@ pub fn satip<R: Threads + Wait + Sync, K: Desk, I: Source, O: Sink, E: Sink>(
     // Which words there are, and what they do.
     ensures usage { (result.status ≡ 2) ↔ ((command_of words.now ≡ None)
         × (recording_of words.now ≡ None) × (audit_of words.now ≡ None)
-        × (serve_of words.now ≡ None)) }
+        × (serve_of words.now ≡ None) × (journal_of words.now ≡ None)) }
     ensures unused { command_of words.now ≡ None → recording_of words.now ≡ None
         → audit_of words.now ≡ None → NothingDone
         (I.feed input.old)
@@ -184,29 +195,35 @@ pub fn satip<R: Threads + Wait + Sync, K: Desk, I: Source, O: Sink, E: Sink>(
 
     // Only what names a configuration opens one, and that and a recording alone ask anything of the
     // desk.
-    ensures no_config { serve_of words.now ≡ None → audit_of words.now ≡ None
-        → config_named (command_of words.now) ≡ None → IsNone result.config }
-    ensures desk { serve_of words.now ≡ None → recording_of words.now ≡ None
-        → audit_of words.now ≡ None → config_named (command_of words.now) ≡ None
+    ensures no_config { serve_of words.now ≡ None → journal_of words.now ≡ None
+        → audit_of words.now ≡ None → config_named (command_of words.now) ≡ None → IsNone result.config }
+    ensures desk { serve_of words.now ≡ None → journal_of words.now ≡ None
+        → recording_of words.now ≡ None → audit_of words.now ≡ None → config_named (command_of words.now) ≡ None
         → desk.new ≡ desk.old }
     ensures texts { K.text desk.new ≡ K.text desk.old }
 
+    // Only a serve with journals asks for them.
+    ensures journaled { journal_of words.now ≡ None → K.journaled desk.new ≡ K.journaled desk.old }
+    ensures no_journals { journal_of words.now ≡ None → result.journals.items ≡ [] }
+
     // When each status comes.
-    ensures configuration { serve_of words.now ≡ None → result.status ≡ 3
+    ensures configuration { serve_of words.now ≡ None → journal_of words.now ≡ None
+        → result.status ≡ 3
         → IsSome (config_named (command_of words.now)) ⊎ IsSome (audit_of words.now) }
     ensures script { result.status ≡ 4
         → IsSome (config_named (command_of words.now)) ⊎ IsSome (audit_of words.now) }
     ensures input_fault { result.status ≡ 5 → Rose (K.faults desk.old) (K.faults desk.new)
         ⊎ IsSomeAnd result.config (λ source. Rose 0 (K.Config.feed source).faults)
         ⊎ Rose (I.feed input.old).faults (I.feed input.new).faults }
-    ensures output_fault { result.status ≡ 6
+    ensures output_fault { journal_of words.now ≡ None → result.status ≡ 6
         → Rose (O.drain output.old).faults (O.drain output.new).faults }
     ensures too_long { (result.status ≡ 8) ↔ (input_limit
         < (I.feed input.new).taken - (I.feed input.old).taken) }
     ensures limit { (I.feed input.new).taken ≤ (I.feed input.old).taken + input_limit + 1 }
 
     // A serve: the jobs ran by the configuration of the desk's text, over one history that keeps
-    // the laws. Nothing else asks for kits, or runs jobs.
+    // the laws. So do those of a serve with journals, which are one history in any order. Nothing
+    // else asks for kits, or runs jobs.
     ensures serve { IfSome (serve_of words.now) (λ serve.
         ServeEnds K.Config.tells K.Doors.Conn.tells K.Outlet.tells E.tells
         serve.accepts (K.text desk.old serve.name) (K.faults desk.old) (K.faults desk.new)
@@ -215,10 +232,21 @@ pub fn satip<R: Threads + Wait + Sync, K: Desk, I: Source, O: Sink, E: Sink>(
         (K.given desk.new) result.last result.unused
         (E.drain errors.old) (E.drain errors.new)
         result.status) }
-    ensures kits { serve_of words.now ≡ None → K.given desk.new ≡ None }
-    ensures no_last { serve_of words.now ≡ None → result.last ≡ None }
-    ensures no_unused { serve_of words.now ≡ None → result.unused ≡ None }
-    ensures no_serving { serve_of words.now ≡ None
+    ensures journal { IfSome (journal_of words.now) (λ serve.
+        JournalEnds K.Config.tells K.Doors.Conn.tells K.Outlet.tells K.Journal.tells E.tells
+        serve.accepts (K.text desk.old serve.name) (K.faults desk.old) (K.faults desk.new)
+        (K.journaled desk.old) (K.journaled desk.new) K.Config.feed result.config
+        (jobs_view K.Doors.hall K.Outlet.outbox K.Store.shelf K.Clock.dial)
+        (K.given desk.new) result.last result.unused (map K.Journal.drain result.journals.items)
+        (E.drain errors.old) (E.drain errors.new)
+        result.status) }
+    ensures kits { serve_of words.now ≡ None → journal_of words.now ≡ None
+        → K.given desk.new ≡ None }
+    ensures no_last { serve_of words.now ≡ None → journal_of words.now ≡ None
+        → result.last ≡ None }
+    ensures no_unused { serve_of words.now ≡ None → journal_of words.now ≡ None
+        → result.unused ≡ None }
+    ensures no_serving { serve_of words.now ≡ None → journal_of words.now ≡ None
         → (result.status ≡ 7 → ⊥) × (result.status ≡ 9 → ⊥) }
 
     // What is told of it.
@@ -229,7 +257,56 @@ pub fn satip<R: Threads + Wait + Sync, K: Desk, I: Source, O: Sink, E: Sink>(
 {
     match read_serve(words) {
         Some(Serve { name, accepts }) => run_serve(rt, alloc, name, accepts, errors, desk),
-        None => offline(alloc, words, input, output, errors, desk),
+        None => match read_journal(words) {
+            Some(Serve { name, accepts }) => run_journal(rt, alloc, name, accepts, errors, desk),
+            None => offline(alloc, words, input, output, errors, desk),
+        },
+    }
+}
+
+// Serves with journals, and tells how it ended.
+fn run_journal<R: Threads + Wait + Sync, K: Desk, E: Sink>(
+    rt: &R,
+    alloc: Global,
+    name: &Text,
+    accepts: u32,
+    errors: &mut E,
+    desk: &mut K,
+) -> Ended<K>
+    requires new { K.given desk.old ≡ None }
+    ensures texts { K.text desk.new ≡ K.text desk.old }
+    ensures handed { K.handed desk.new ≡ K.handed desk.old }
+    ensures ends { JournalEnds K.Config.tells K.Doors.Conn.tells K.Outlet.tells K.Journal.tells
+        E.tells accepts (K.text desk.old name.now) (K.faults desk.old) (K.faults desk.new)
+        (K.journaled desk.old) (K.journaled desk.new) K.Config.feed result.config
+        (jobs_view K.Doors.hall K.Outlet.outbox K.Store.shelf K.Clock.dial)
+        (K.given desk.new) result.last result.unused (map K.Journal.drain result.journals.items)
+        (E.drain errors.old) (E.drain errors.new)
+        result.status }
+    ensures of_journal { IsOfJournal result.status }
+    ensures input_fault { result.status ≡ 5 → Rose (K.faults desk.old) (K.faults desk.new)
+        ⊎ IsSomeAnd result.config (λ source. Rose 0 (K.Config.feed source).faults) }
+    ensures no_client { (result.wire ≡ None) × (result.inlet ≡ None) × (result.moment ≡ None) }
+    ensures errors { (result.status ≡ 3 → ⊥) → Says E.tells
+        (E.drain errors.old) (E.drain errors.new)
+        (line_of result.status) }
+{
+    let Journaled {
+        end,
+        config,
+        last,
+        unused,
+        journals,
+    } = journal_by(rt, alloc, name, accepts, errors, desk);
+    Ended {
+        status: end.status(),
+        config,
+        last,
+        unused,
+        wire: None,
+        inlet: None,
+        moment: None,
+        journals,
     }
 }
 
@@ -252,7 +329,9 @@ fn run_serve<R: Threads + Wait + Sync, K: Desk, E: Sink>(
         (E.drain errors.old) (E.drain errors.new)
         result.status }
     ensures handed { K.handed desk.new ≡ K.handed desk.old }
+    ensures journaled { K.journaled desk.new ≡ K.journaled desk.old }
     ensures no_client { (result.wire ≡ None) × (result.inlet ≡ None) × (result.moment ≡ None) }
+    ensures no_journals { result.journals.items ≡ [] }
     ensures errors { (result.status ≡ 3 → ⊥) → Says E.tells
         (E.drain errors.old) (E.drain errors.new)
         (line_of result.status) }
@@ -272,6 +351,7 @@ fn run_serve<R: Threads + Wait + Sync, K: Desk, E: Sink>(
         wire: None,
         inlet: None,
         moment: None,
+        journals: Vec::new(alloc),
     }
 }
 
@@ -365,6 +445,10 @@ pub fn offline<K: Desk, I: Source, O: Sink, E: Sink>(
         → config_named (command_of words.now) ≡ None → desk.new ≡ desk.old }
     ensures texts { K.text desk.new ≡ K.text desk.old }
 
+    // No journals are asked of the desk.
+    ensures journaled { K.journaled desk.new ≡ K.journaled desk.old }
+    ensures no_journals { result.journals.items ≡ [] }
+
     // No kits are asked of the desk.
     ensures kits { K.given desk.new ≡ K.given desk.old }
     ensures no_last { result.last ≡ None }
@@ -398,19 +482,20 @@ pub fn offline<K: Desk, I: Source, O: Sink, E: Sink>(
             None => {
                 let Ending { outcome, config } = run(alloc, words, input, output, desk);
                 tell(outcome, errors);
-                without_jobs(outcome.status(), config)
+                without_jobs(alloc, outcome.status(), config)
             }
         },
     }
 }
 
 // The end of a run that has no jobs and no client.
-fn without_jobs<K: Desk>(status: u8, config: Option<K::Config>) -> Ended<K>
+fn without_jobs<K: Desk>(alloc: Global, status: u8, config: Option<K::Config>) -> Ended<K>
     ensures status { result.status ≡ status }
     ensures config { result.config ≡ config }
     ensures no_last { result.last ≡ None }
     ensures no_unused { result.unused ≡ None }
     ensures no_client { (result.wire ≡ None) × (result.inlet ≡ None) × (result.moment ≡ None) }
+    ensures no_journals { result.journals.items ≡ [] }
 {
     Ended {
         status,
@@ -420,6 +505,7 @@ fn without_jobs<K: Desk>(status: u8, config: Option<K::Config>) -> Ended<K>
         wire: None,
         inlet: None,
         moment: None,
+        journals: Vec::new(alloc),
     }
 }
 
@@ -435,6 +521,7 @@ fn run_audit<K: Desk, I: Source, O: Sink, E: Sink>(
     ensures texts { K.text desk.new ≡ K.text desk.old }
     ensures kits { K.given desk.new ≡ K.given desk.old }
     ensures handed { K.handed desk.new ≡ K.handed desk.old }
+    ensures journaled { K.journaled desk.new ≡ K.journaled desk.old }
     ensures ends { AuditEnds K.Config.tells I.tells O.tells E.tells
         (K.text desk.old name.now) (K.faults desk.old) (K.faults desk.new)
         K.Config.feed result.config
@@ -447,6 +534,7 @@ fn run_audit<K: Desk, I: Source, O: Sink, E: Sink>(
     ensures no_last { result.last ≡ None }
     ensures no_unused { result.unused ≡ None }
     ensures no_client { (result.wire ≡ None) × (result.inlet ≡ None) × (result.moment ≡ None) }
+    ensures no_journals { result.journals.items ≡ [] }
     ensures input_fault { result.status ≡ 5 → Rose (K.faults desk.old) (K.faults desk.new)
         ⊎ IsSomeAnd result.config (λ source. Rose 0 (K.Config.feed source).faults)
         ⊎ Rose (I.feed input.old).faults (I.feed input.new).faults }
@@ -460,7 +548,7 @@ fn run_audit<K: Desk, I: Source, O: Sink, E: Sink>(
         (line_of result.status) }
 {
     let Audited { end, config } = audit_by(alloc, name, input, output, errors, desk);
-    without_jobs(status_of(end), config)
+    without_jobs(alloc, status_of(end), config)
 }
 
 // Records, and tells how it ended.
@@ -476,6 +564,7 @@ fn run_record<K: Desk, O: Sink, E: Sink>(
     requires client { K.handed desk.old ≡ nothing_handed }
     ensures texts { K.text desk.new ≡ K.text desk.old }
     ensures kits { K.given desk.new ≡ K.given desk.old }
+    ensures journaled { K.journaled desk.new ≡ K.journaled desk.old }
     ensures ends { (i : Feed) → RecordEnds K.Wire.tells K.Inlet.tells O.tells E.tells
         (wanted recording.now) (K.handed desk.new) (K.faults desk.old) (K.faults desk.new)
         (left_of K.Wire.line K.Moment.dial K.Inlet.inbox result.wire result.moment result.inlet)
@@ -487,6 +576,7 @@ fn run_record<K: Desk, O: Sink, E: Sink>(
     ensures no_config { result.config ≡ None }
     ensures no_last { result.last ≡ None }
     ensures no_unused { result.unused ≡ None }
+    ensures no_journals { result.journals.items ≡ [] }
 {
     let Recorded {
         end,
@@ -502,6 +592,7 @@ fn run_record<K: Desk, O: Sink, E: Sink>(
         wire,
         inlet,
         moment,
+        journals: Vec::new(alloc),
     }
 }
 
@@ -526,6 +617,7 @@ fn run<K: Desk, I: Source, O: Sink>(
     ensures texts { K.text desk.new ≡ K.text desk.old }
     ensures kits { K.given desk.new ≡ K.given desk.old }
     ensures handed { K.handed desk.new ≡ K.handed desk.old }
+    ensures journaled { K.journaled desk.new ≡ K.journaled desk.old }
 {
     match read_words(words) {
         None => alone(Outcome::Usage),
@@ -567,6 +659,7 @@ fn replay_by<K: Desk, I: Source, O: Sink>(
     ensures texts { K.text desk.new ≡ K.text desk.old }
     ensures kits { K.given desk.new ≡ K.given desk.old }
     ensures handed { K.handed desk.new ≡ K.handed desk.old }
+    ensures journaled { K.journaled desk.new ≡ K.journaled desk.old }
 {
     match desk.config(name) {
         Ok(mut config) => {

@@ -38,6 +38,7 @@ pub fn record<K: Desk, O: Sink, E: Sink>(
     requires new { K.handed desk.old ≡ nothing_handed }
     ensures texts { K.text desk.new ≡ K.text desk.old }
     ensures kits { K.given desk.new ≡ K.given desk.old }
+    ensures journaled { K.journaled desk.new ≡ K.journaled desk.old }
     ensures ends { (i : Feed) → RecordEnds K.Wire.tells K.Inlet.tells O.tells E.tells
         (wanted recording.now) (K.handed desk.new) (K.faults desk.old) (K.faults desk.new)
         (left_of K.Wire.line K.Moment.dial K.Inlet.inbox result.wire result.moment result.inlet)

@@ -135,7 +135,7 @@ struct MeetingDesk<'a> {
 }
 
 impl<'a> Desk for MeetingDesk<'a> {
-    ghost use Rattle.std.specs.Prelude.{None, false, option_map};
+    ghost use Rattle.std.specs.Prelude.{[], None, false, option_map};
     ghost use Rattle.satip_memory_desk.specs.Drawers.{memory_view};
 
     type Config = MemorySource;
@@ -156,6 +156,8 @@ impl<'a> Desk for MeetingDesk<'a> {
 
     type Moment = MemoryMoment;
 
+    type Journal = MemorySink;
+
     ghost text = { λ _ _. None };
 
     ghost faults = { λ d. d.faults };
@@ -163,6 +165,8 @@ impl<'a> Desk for MeetingDesk<'a> {
     ghost given = { λ d. option_map (λ kits. memory_view kits.value) d.given };
 
     ghost handed = { λ d. record { wire = None; inlet = false; moment = d.timed } };
+
+    ghost journaled = { λ _. [] };
 
     fn jobs(
         &mut self,
@@ -206,6 +210,11 @@ impl<'a> Desk for MeetingDesk<'a> {
     fn moment(&mut self) -> MemoryMoment {
         self.timed = true;
         MemoryMoment::new(None)
+    }
+
+    fn journal(&mut self, _job: u64) -> Result<MemorySink, Failed> {
+        self.faults = self.faults.saturating_add(1);
+        Err(Failed)
     }
 }
 

@@ -1,13 +1,14 @@
-//! The command `serve` with two workers, two pumps and the ticker, each of which needs the others:
+//! The commands `serve` and `journal` with two workers, two pumps and the ticker, each of which needs the others:
 //! the first client plays only once the second was answered, and ends its session only once packets
 //! were sent and the clock was read. Jobs that ran one after another would never get there.
 
 use crate::deeds::{Deeds, Gate, OPEN};
-use crate::shared::{OK, OPTIONS, Ran, run, words};
+use crate::shared::{OK, OPTIONS, Ran, run, words, words_of};
 use crate::waiting::{Piece, Served};
 use crate::waiting_desk::{Plan, WaitingDesk};
 use satip_memory::MemorySource;
 use satip_world::ConnEnd;
+use std::alloc::Global;
 use std::test::Fail;
 
 const SETUP: &[u8] =
@@ -98,5 +99,34 @@ fn two_workers_play_a_recording_together(rt: HostRuntime) -> Result<(), Fail> {
     println!(rt; "{told}")?;
     assert!(rt; !deeds.gave_up());
     assert_eq!(rt; told, "served");
+    Ok(())
+}
+
+// The journals put together, the last one first.
+fn joined(alloc: Global, ran: &Ran<WaitingDesk>) -> Result<Vec<u8>, Fail> {
+    let mut text = Vec::new(alloc);
+    for journal in ran.ended.journals.iter().rev() {
+        text.extend_from_slice(journal.sent())?;
+    }
+    Ok(text)
+}
+
+#[test]
+fn their_journals_are_one_history(rt: HostRuntime) -> Result<(), Fail> {
+    let alloc = rt.alloc();
+    let deeds = Deeds::new();
+    let mut desk = WaitingDesk::new(alloc, &deeds, PLAN);
+    let mut input = MemorySource::make(alloc, b"", &[], &[])?;
+    let names = words_of(alloc, &["journal", "c1.toml", "1"])?;
+    let ran = run(&rt, alloc, &names, &mut input, &mut desk)?;
+    assert!(rt; !deeds.gave_up());
+    assert_eq!(rt; told(&ran), "served");
+    assert_eq!(rt; ran.ended.journals.len(), 6);
+    let mut journals = MemorySource::make(alloc, &joined(alloc, &ran)?, &[], &[])?;
+    let mut other = WaitingDesk::new(alloc, &deeds, PLAN);
+    let names = words_of(alloc, &["audit", "c1.toml"])?;
+    let audited = run(&rt, alloc, &names, &mut journals, &mut other)?;
+    assert_eq!(rt; audited.ended.status, 0);
+    assert!(rt; audited.output.sent().starts_with(b"yes "));
     Ok(())
 }

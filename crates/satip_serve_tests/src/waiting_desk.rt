@@ -13,7 +13,7 @@ use crate::reel::ReelStore;
 use crate::waiting::{Piece, WaitingDoors};
 use satip_base::{Address, Failed, Text, Want};
 use satip_config::Config;
-use satip_memory::{MemoryConn, MemoryInlet, MemorySource};
+use satip_memory::{MemoryConn, MemoryInlet, MemorySink, MemorySource};
 use satip_memory_desk::MemoryMoment;
 use satip_program::{Desk, Jobs, JobsFault};
 use satip_pump::{PumpKit, TickKit};
@@ -148,6 +148,7 @@ pub struct WaitingDesk<'a> {
     plan: Plan,
     given: Option<Snapshot<WaitingJobs<'a>>>,
     timed: bool,
+    journaled: Vec<u64>,
     faults: u64,
 }
 
@@ -164,6 +165,7 @@ impl<'a> WaitingDesk<'a> {
             plan,
             given: None,
             timed: false,
+            journaled: Vec::new(alloc),
             faults: 0,
         }
     }
@@ -191,6 +193,8 @@ impl<'a> Desk for WaitingDesk<'a> {
 
     type Moment = MemoryMoment;
 
+    type Journal = MemorySink;
+
     ghost text = { λ _ _. None };
 
     ghost faults = { λ d. d.faults };
@@ -198,6 +202,8 @@ impl<'a> Desk for WaitingDesk<'a> {
     ghost given = { λ d. option_map (λ kits. memory_view kits.value) d.given };
 
     ghost handed = { λ d. record { wire = None; inlet = false; moment = d.timed } };
+
+    ghost journaled = { λ d. d.journaled.items };
 
     fn jobs(
         &mut self,
@@ -241,5 +247,15 @@ impl<'a> Desk for WaitingDesk<'a> {
     fn moment(&mut self) -> MemoryMoment {
         self.timed = true;
         MemoryMoment::new(None)
+    }
+
+    fn journal(&mut self, job: u64) -> Result<MemorySink, Failed> {
+        if let Ok(sink) = MemorySink::make(self.alloc, &[], 0) {
+            if self.journaled.push(job).is_ok() {
+                return Ok(sink);
+            }
+        }
+        self.faults = self.faults.saturating_add(1);
+        Err(Failed)
     }
 }

@@ -1,6 +1,7 @@
 //! What opens the files that the words name, and makes the kits of a server's jobs.
 
-ghost use Rattle.std.specs.Prelude.{◌≡◌, ℕ, List, [], Option, Some, None, true, false, length, map, IfOk, IfErr, OnOk, OnErr};
+ghost use Rattle.std.specs.Prelude.{◌≡◌, ℕ, List, [], ◌∷◌, ◌++◌, Option, Some, None, true, false, length, map, IfOk, IfErr, OnOk, OnErr};
+ghost use Rattle.satip_base.specs.Streams.{fresh_drain};
 ghost use Rattle.satip_world.specs.Counts.{Rises};
 ghost use Rattle.satip_serve.specs.Views.{worker_view, pump_view, tick_view};
 ghost use Rattle.satip_serve.specs.Fresh.{AreFresh};
@@ -10,7 +11,7 @@ ghost use Rattle.satip_world.specs.Lines.{fresh_line};
 ghost use Rattle.satip_serving.specs.Given.{JobsView, jobs_view};
 ghost use Rattle.satip_serving.specs.Handed.{Handed};
 
-use satip_base::{Address, Failed, Source, Text};
+use satip_base::{Address, Failed, Sink, Source, Text};
 use satip_config::Config;
 use satip_inlet::Inlet;
 use satip_serve::Jobs;
@@ -27,7 +28,7 @@ pub enum JobsFault {
 }
 
 /// Opens configurations by their names, and makes the kits of a server's jobs, once. It gives a
-/// client a connection, an inlet and a clock, each once.
+/// client a connection, an inlet and a clock, each once, and the jobs of a server their journals.
 pub trait Desk {
     ghost use Rattle.satip_world.specs.Recordings.{IsStarted};
 
@@ -58,6 +59,9 @@ pub trait Desk {
     /// What tells a client the time.
     type Moment: Clock + Drop;
 
+    /// What a job's journal is written to.
+    type Journal: Sink + Drop + Send;
+
     // The text of the configuration of each name, where the desk tells it.
     ghost text: { Self → List ℕ → Option (List ℕ) };
 
@@ -70,11 +74,15 @@ pub trait Desk {
     // What the desk gave a client.
     ghost handed: { Self → Handed };
 
+    // The jobs to which the desk gave a journal, in order.
+    ghost journaled: { Self → List ℕ };
+
     /// Opens the configuration of a name, from its beginning.
     fn config(&mut self, name: &Text) -> Result<Self::Config, Failed>
         ensures texts { text self.new ≡ text self.old }
         ensures kits { given self.new ≡ given self.old }
         ensures handed { handed self.new ≡ handed self.old }
+        ensures journaled { journaled self.new ≡ journaled self.old }
         ensures started { IfOk result (λ source. IsStarted Self.Config.tells
             (Self.Config.feed source)
             (text self.old name.now)) }
@@ -93,6 +101,7 @@ pub trait Desk {
         requires { given self.old ≡ None }
         ensures texts { text self.new ≡ text self.old }
         ensures handed { handed self.new ≡ handed self.old }
+        ensures journaled { journaled self.new ≡ journaled self.old }
         ensures kits { IfOk result (λ jobs. given self.new
             ≡ Some (jobs_view Self.Doors.hall Self.Outlet.outbox
             Self.Store.shelf Self.Clock.dial jobs)) }
@@ -111,6 +120,7 @@ pub trait Desk {
         requires { (handed self.old).wire ≡ None }
         ensures texts { text self.new ≡ text self.old }
         ensures kits { given self.new ≡ given self.old }
+        ensures journaled { journaled self.new ≡ journaled self.old }
         ensures wire { IfOk result (λ wire. Self.Wire.line wire ≡ fresh_line) }
         ensures handed { OnOk result (handed self.new
             ≡ record (handed self.old) { wire = Some to }) }
@@ -123,6 +133,7 @@ pub trait Desk {
         requires { (handed self.old).inlet ≡ false }
         ensures texts { text self.new ≡ text self.old }
         ensures kits { given self.new ≡ given self.old }
+        ensures journaled { journaled self.new ≡ journaled self.old }
         ensures inlet { IfOk result (λ inlet. Self.Inlet.inbox inlet
             ≡ fresh_inbox (Self.Inlet.inbox inlet).port) }
         ensures handed { OnOk result (handed self.new
@@ -136,7 +147,19 @@ pub trait Desk {
         requires { (handed self.old).moment ≡ false }
         ensures texts { text self.new ≡ text self.old }
         ensures kits { given self.new ≡ given self.old }
+        ensures journaled { journaled self.new ≡ journaled self.old }
         ensures unread { (Self.Moment.dial result).readings ≡ [] }
         ensures handed { handed self.new ≡ record (handed self.old) { moment = true } }
         ensures no_fault { faults self.new ≡ faults self.old };
+
+    /// A journal of a job, to which nothing was sent.
+    fn journal(&mut self, job: u64) -> Result<Self::Journal, Failed>
+        ensures texts { text self.new ≡ text self.old }
+        ensures kits { given self.new ≡ given self.old }
+        ensures handed { handed self.new ≡ handed self.old }
+        ensures sink { IfOk result (λ sink. Self.Journal.drain sink ≡ fresh_drain) }
+        ensures journaled { OnOk result (journaled self.new ≡ journaled self.old ++ job ∷ []) }
+        ensures kept { OnErr result (journaled self.new ≡ journaled self.old) }
+        ensures no_fault { OnOk result (faults self.new ≡ faults self.old) }
+        ensures failed { OnErr result (Rises (faults self.old) (faults self.new)) };
 }

@@ -7,4 +7,5 @@ mod laws;
 mod serving;
 
 pub use desk::{Desk, JobsFault};
+pub use laws::keeps_laws;
 pub use serving::{Served, ServingEnd, serve_by};

@@ -179,6 +179,7 @@ fn serve_source<R: Threads + Wait + Sync, K: Desk>(
     requires new { K.given desk.old ≡ None }
     ensures texts { K.text desk.new ≡ K.text desk.old }
     ensures handed { K.handed desk.new ≡ K.handed desk.old }
+    ensures journaled { K.journaled desk.new ≡ K.journaled desk.old }
     ensures kits { MatchOption (K.given desk.new) (IsNeitherOf result.last result.unused)
         (λ _. IsOneOf result.last result.unused) }
     ensures kits_left { IfSome result.last (λ last. IsSomeAnd (K.given desk.new)
@@ -269,6 +270,7 @@ pub fn serve_by<R: Threads + Wait + Sync, K: Desk>(
     requires new { K.given desk.old ≡ None }
     ensures texts { K.text desk.new ≡ K.text desk.old }
     ensures handed { K.handed desk.new ≡ K.handed desk.old }
+    ensures journaled { K.journaled desk.new ≡ K.journaled desk.old }
 
     // Where the desk gave its kits, those are what the jobs left, each at its place, or no job
     // began with them, and they come back as they were, but for one reading of the clock.

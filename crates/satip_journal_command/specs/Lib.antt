@@ -1,0 +1,4 @@
+pub mod Statuses
+pub mod Asked
+pub mod Ran
+pub mod Ends

@@ -1,0 +1,78 @@
+//! How serving with journals ends.
+
+ghost use Rattle.std.specs.Prelude.{◌≡◌};
+ghost use Rattle.satip_serving.specs.Servings.{HasNoConfiguration};
+ghost use Rattle.satip_journal_command.specs.Statuses.{EndsAs, end_of_run, journal_status};
+
+use satip_config::ConfigFault;
+use satip_replay::ReplayEnd;
+use satip_serve::ServeEnd;
+
+/// How serving with journals ends.
+#[derive(Clone, Copy, Debug, PartialEq, Eq)]
+pub enum JournalEnd {
+    /// All doors ended, and all jobs, and the journals are whole.
+    Served,
+    /// The configuration has this first fault.
+    Configuration(ConfigFault),
+    /// No configuration was opened, or its source failed.
+    InputFault,
+    /// A journal failed, or the desk gave none.
+    JournalFault,
+    /// The doors of a worker failed, or the desk gave no kits.
+    DoorsFault,
+    /// The history is full.
+    HistoryFull,
+    /// Memory was refused, and no job began.
+    OutOfMemory,
+}
+
+impl JournalEnd {
+    // As the reading of a configuration ends that can't be had.
+    pub(crate) fn of_reading(end: ReplayEnd) -> JournalEnd
+        requires none { HasNoConfiguration end }
+        ensures end { EndsAs end result }
+    {
+        match end {
+            ReplayEnd::Configuration(fault) => JournalEnd::Configuration(fault),
+            ReplayEnd::InputFault => JournalEnd::InputFault,
+            ReplayEnd::OutOfMemory => JournalEnd::OutOfMemory,
+            ReplayEnd::Done => unreachable!(),
+            ReplayEnd::Script(_) => unreachable!(),
+            ReplayEnd::OutputFault => unreachable!(),
+            ReplayEnd::TooLong => unreachable!(),
+        }
+    }
+
+    // As the run of all jobs ends, where a put on a journal failed or none did.
+    pub(crate) fn of_run(end: ServeEnd, failed: bool) -> JournalEnd
+        ensures end { result ≡ end_of_run end failed }
+    {
+        match end {
+            ServeEnd::Served => {
+                if failed {
+                    JournalEnd::JournalFault
+                } else {
+                    JournalEnd::Served
+                }
+            }
+            ServeEnd::DoorsFault => JournalEnd::DoorsFault,
+            ServeEnd::HistoryFull => JournalEnd::HistoryFull,
+        }
+    }
+
+    /// The program's exit status.
+    pub fn status(self) -> u8
+        ensures status { result ≡ journal_status self }
+    {
+        match self {
+            JournalEnd::Served => 0,
+            JournalEnd::Configuration(_) => 3,
+            JournalEnd::InputFault => 5,
+            JournalEnd::JournalFault => 6,
+            JournalEnd::DoorsFault => 7,
+            JournalEnd::HistoryFull => 9,
+            JournalEnd::OutOfMemory => 70,
+        }
+    }
+}

@@ -1,0 +1,8 @@
+-- The statuses of a serve with journals beside those of the other commands.
+use Rattle.std.specs.Prelude.{◌≡◌, ℕ}
+
+-- the status isn't one that a serve with journals never has
+pub record IsOfJournal (status : ℕ) : Type 0 where
+  pub usage : status ≡ 2 → ⊥
+  pub script : status ≡ 4 → ⊥
+  pub long : status ≡ 8 → ⊥
