@@ -1,5 +1,5 @@
 -- The statuses of a serve with journals, and its lines.
-use Rattle.std.proofs.Common.{◌≡◌, ℕ, ◌⊎◌, inl, inr, List, Option, Some, None, IsSomeAnd, MatchOption, refl, sym, ◌∙◌, subst, arith}
+use Rattle.std.proofs.Common.{◌≡◌, ℕ, ◌⊎◌, inl, inr, List, Option, Some, None, IsSomeAnd, MatchOption, sym, ◌∙◌, subst, arith}
 use Rattle.satip_base.specs.Streams.{Feed, Rose}
 use Rattle.satip_world.specs.Counts.{Rises}
 use Rattle.satip_journal_command.specs.declared.ends.JournalEnd.{JournalEnd}
