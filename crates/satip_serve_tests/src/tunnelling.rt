@@ -68,35 +68,47 @@ const PLAN: Plan = Plan {
     pumps: Gate { idles: 1, ..OPEN },
 };
 
-// Whether these are whole frames of channels 0 and 1, at least one of channel 0.
-fn are_frames(mut bytes: &[u8]) -> bool {
+// How many bytes the frame of a channel 0 or 1 has that these begin with; 0 where they begin with
+// none.
+fn frame_length(bytes: &[u8]) -> usize {
+    if bytes.len() < 4 || bytes[0] != 0x24 || bytes[1] > 1 {
+        return 0;
+    }
+    let length = 4 + (bytes[2] as usize) * 256 + bytes[3] as usize;
+    if bytes.len() < length { 0 } else { length }
+}
+
+// Whether these are whole frames and, behind one of them, one reply to TEARDOWN.
+fn is_played_out(bytes: &[u8]) -> bool {
+    let mut rest = bytes;
     let mut packets = false;
-    while bytes.len() >= 4 {
-        let channel = bytes[1];
-        let length = (bytes[2] as usize) * 256 + bytes[3] as usize;
-        if bytes[0] != 0x24 || channel > 1 || bytes.len() - 4 < length {
+    let mut over = false;
+    while !rest.is_empty() {
+        let length = frame_length(rest);
+        if length != 0 {
+            packets = packets || rest[1] == 0;
+            rest = rest.split_at(length).1;
+        } else if packets && !over && rest.starts_with(OVER) {
+            over = true;
+            rest = rest.split_at(OVER.len()).1;
+        } else {
             return false;
         }
-        packets = packets || channel == 0;
-        bytes = bytes.split_at(4 + length).1;
     }
-    packets && bytes.is_empty()
+    over
 }
 
 // Whether a connection was sent the replies with frames between them, and its service ended well.
+// What waits in its lane leaves behind the last reply.
 fn has_played(served: Option<&Served>) -> bool {
     let Some(served) = served else {
         return false;
     };
     let sent = served.sent.as_slice();
-    if served.end != ConnEnd::Done || !sent.starts_with(BEGUN) || !sent.ends_with(OVER) {
+    if served.end != ConnEnd::Done || !sent.starts_with(BEGUN) {
         return false;
     }
-    let behind = sent.split_at(BEGUN.len()).1;
-    if behind.len() < OVER.len() {
-        return false;
-    }
-    are_frames(behind.split_at(behind.len() - OVER.len()).0)
+    is_played_out(sent.split_at(BEGUN.len()).1)
 }
 
 fn is_answered(served: Option<&Served>) -> bool {
