@@ -1,7 +1,8 @@
 #!/bin/bash
-# Runs every command of README, in order, and fails where one of them does.
+# Runs every command of README and behind it of docs/USING.md, in order, and fails where one of them
+# does.
 #
-#   tools/try_readme.sh [README]
+#   tools/try_readme.sh [PAGE..]
 #
 # Each fenced block that begins with ```sh is run, in a scratch folder that has each entry of the
 # repository by a link and keeps what earlier blocks wrote. A block's mark is an HTML comment on
@@ -22,8 +23,10 @@
 # no display, its pictures and its sound go nowhere.
 set -u
 top=$(cd "$(dirname "$0")/.." && pwd)
-readme=$(realpath "${1:-$top/README.md}")
+if [ $# -eq 0 ]; then set -- "$top/README.md" "$top/docs/USING.md"; fi
 scratch=$(mktemp -d)
+pages=$scratch/pages
+cat "$@" > "$pages" || exit 1
 server=
 failed=0
 ran=0
@@ -42,7 +45,7 @@ cut_blocks() {
         }
         /^```/ { other = !other; before = ""; next }
         inside { if ($0 !~ /# by hand/) print > name; next }
-        { before = $0 }' "$readme"
+        { before = $0 }' "$pages"
 }
 
 stop_server() {
