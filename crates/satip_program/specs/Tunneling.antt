@@ -18,6 +18,7 @@ use Rattle.satip_tunnel.specs.Histories.{inners}
 use Rattle.satip_tunnel_serve.specs.declared.serving.TunnelLast.{TunnelLast}
 use Rattle.satip_tunnel_serve.specs.TunnelRuns.{TunnelServeRun}
 use Rattle.satip_tunnel_command.specs.Outlets.{OutletsStay}
+use Rattle.satip_tunnel_command.specs.Sent.{SendsFrames, SendsPayloads}
 use Rattle.satip_program.specs.Ends.{serve_statuses}
 use Rattle.satip_program.specs.Serving.{IsServeSettled}
 
@@ -38,6 +39,9 @@ pub record TunnelEnds {S D O P M C : Type 0} (config_tells conn_tells error_tell
   pub payload : IfSome last (λ l. SendsSelected l.server.setting (inners l.pass.seen))
   pub owners : IfSome last (λ l. ObeysOwners l.server.setting (inners l.pass.seen))
   pub busy : IfSome last (λ l. TellsBusy l.server.setting (inners l.pass.seen))
+  -- what the connections were sent: turned replies and the first frames of their lanes, which carry the payload of sessions
+  pub frames : IfSome last (λ l. SendsFrames l.pass.seen)
+  pub channels : IfSome last (λ l. SendsPayloads l.server.setting l.pass.seen)
   -- the configuration is given back, unless the desk failed to open it; its count rises then, or where it gives no kits
   pub config : MatchOption source (Rises before now) (λ _. (now ≡ before) ⊎ ((status ≡ 7) × IsNone last))
   -- with any other status than 5 the source of the configuration never failed

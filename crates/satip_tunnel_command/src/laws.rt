@@ -4,7 +4,9 @@ ghost use Rattle.std.specs.Prelude.{◌<◌, ◌^◌, length};
 ghost use Rattle.satip_serving.specs.Laws.{SendsSelected, ObeysOwners, TellsBusy};
 ghost use Rattle.satip_tunnel.specs.Histories.{TunnelLegal, inners};
 ghost use Rattle.satip_interleave.specs.Calling.{inners_short};
+ghost use Rattle.satip_tunnel_command.specs.Sent.{SendsPayloads};
 
+use satip_channel_laws::channels_carry_payload;
 use satip_interleave::{SharedTunnel, TunnelPass};
 use satip_laws::{law_2, law_3, law_4};
 use satip_plain::prefix_is_legal;
@@ -16,10 +18,12 @@ pub(crate) fn keeps_laws(server: &SharedTunnel, pass: &TunnelPass)
     ensures payload { SendsSelected server.now.setting (inners pass.now.seen) }
     ensures owners { ObeysOwners server.now.setting (inners pass.now.seen) }
     ensures busy { TellsBusy server.now.setting (inners pass.now.seen) }
+    ensures channels { SendsPayloads server.now.setting pass.now.seen }
 {
     let (_server, _pass) = (server, pass);
     prefix_is_legal();
     law_2();
     law_3();
     law_4();
+    channels_carry_payload();
 }

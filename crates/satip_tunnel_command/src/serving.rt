@@ -20,6 +20,7 @@ ghost use Rattle.satip_serving.specs.Given.{jobs_view, ComeBack, ComeUnused};
 ghost use Rattle.satip_serving.specs.Laws.{SendsSelected, ObeysOwners, TellsBusy};
 ghost use Rattle.satip_serving.specs.Servings.{GivenFrom, IsServingOf, IsEndOfRun, AreUnused, IsOneOf, IsNeitherOf};
 ghost use Rattle.satip_tunnel_command.specs.Outlets.{OutletsStay};
+ghost use Rattle.satip_tunnel_command.specs.Sent.{SendsFrames, SendsPayloads};
 
 use crate::laws::keeps_laws;
 use satip_base::{Failed, Text};
@@ -27,6 +28,7 @@ use satip_config::Config;
 use satip_replay::read_configuration;
 use satip_serve::Jobs;
 use satip_serving::{Desk, JobsFault, ServingEnd};
+use satip_tunnel_run_laws::connections_have_lanes;
 use satip_tunnel_serve::{TunnelLast, serve_through_tunnel};
 use satip_world::{Clock, Doors, MuxStore, Outlet, Pacer};
 use std::alloc::Global;
@@ -97,6 +99,9 @@ fn run_kits<
         (inners last.pass.seen)) }
     ensures busy { IfSome result.last (λ last. TellsBusy last.server.setting
         (inners last.pass.seen)) }
+    ensures frames { IfSome result.last (λ last. SendsFrames last.pass.seen) }
+    ensures channels { IfSome result.last (λ last. SendsPayloads last.server.setting
+        last.pass.seen) }
     ensures begun { MatchOption result.last (result.end ≡ ServingEnd.OutOfMemory)
         (λ _. IsEndOfRun result.end) }
     ensures served { result.end ≡ ServingEnd.Served
@@ -115,6 +120,7 @@ fn run_kits<
     match serve_through_tunnel(rt, alloc, config, jobs) {
         Ok((last, end)) => {
             keeps_laws(&last.server, &last.pass);
+            connections_have_lanes::<D>();
             Left {
                 end: ServingEnd::of_run(end),
                 last: Some(last),
@@ -167,6 +173,9 @@ fn run_source<R: Threads + Wait + Sync, K: Desk>(
         (inners last.pass.seen)) }
     ensures busy { IfSome result.last (λ last. TellsBusy last.server.setting
         (inners last.pass.seen)) }
+    ensures frames { IfSome result.last (λ last. SendsFrames last.pass.seen) }
+    ensures channels { IfSome result.last (λ last. SendsPayloads last.server.setting
+        last.pass.seen) }
     ensures begun { IfSome result.last (λ _. IsEndOfRun result.end) }
     ensures configuration { (fault : Fault) → result.end ≡ ServingEnd.Configuration fault
         → Refused K.Config.tells
@@ -269,6 +278,9 @@ pub fn tunnel_by<R: Threads + Wait + Sync, K: Desk>(
         (inners last.pass.seen)) }
     ensures busy { IfSome result.last (λ last. TellsBusy last.server.setting
         (inners last.pass.seen)) }
+    ensures frames { IfSome result.last (λ last. SendsFrames last.pass.seen) }
+    ensures channels { IfSome result.last (λ last. SendsPayloads last.server.setting
+        last.pass.seen) }
 
     // The configuration is given back, unless the desk failed to open it. Its count rises then, or
     // where it gives no kits.

@@ -5,6 +5,9 @@ use Rattle.satip_tunnel_command.proofs.serving.run_kits.Goals as goal
 pub returns-in-Ok-clause-run : goal.returns-in-Ok-clause-run
 returns-in-Ok-clause-run g c = c.in-Ok.ensures.run c.args._accepts c.requires.fresh
 
+pub returns-in-Ok-clause-frames : goal.returns-in-Ok-clause-frames
+returns-in-Ok-clause-frames g c = c.connections_have_lanes.ensures.law _ _ _ _ _ _ _ (c.in-Ok.ensures.run c.args._accepts c.requires.fresh)
+
 pub returns-in-Ok-clause-served : goal.returns-in-Ok-clause-served
 returns-in-Ok-clause-served g c = told_served c.in-Ok.end _ _ _ c.of_run.ensures.end (c.in-Ok.ensures.ended c.args._accepts c.requires.fresh)
 
