@@ -1,9 +1,9 @@
 //! The command `serve` over loopback, and what the real desk can't have.
 
 use crate::desk::RealDesk;
-use satip_base::Text;
+use satip_base::{Sink, Text};
 use satip_memory::{MemorySink, MemorySource};
-use satip_program::satip;
+use satip_program::{Desk, satip};
 use std::alloc::Global;
 use std::io::{Read, Write};
 use std::net::{Ipv4Addr, SocketAddr, TcpStream};
@@ -148,5 +148,25 @@ fn a_port_in_use_is_a_fault(rt: HostRuntime) -> Result<(), Fail> {
     let text = b"address = \"127.0.0.1\"\nrtsp_port = 18560\nhttp_port = 18560\n\
 [[frontend]]\nsources = [1]\nsystems = [\"dvbs\"]\n";
     assert!(rt; has_no_kits(rt, rt, "port.toml", text)?);
+    Ok(())
+}
+
+// What is put on a journal is in its file at once; what it had before is gone.
+#[test]
+fn a_journal_is_a_file(rt: HostRuntime) -> Result<(), Fail> {
+    fs::write(
+        &rt,
+        "journal.7",
+        b"of an earlier server, and longer than what comes",
+    )?;
+    let mut desk = RealDesk::new(rt, rt);
+    let Ok(mut journal) = desk.journal(7) else {
+        return Err(Fail::from("no journal was made"));
+    };
+    journal.put(b"start 0\n");
+    journal.put(b"entry 0 7 08\n");
+    let text = fs::read(&rt, "journal.7")?;
+    fs::remove_file(&rt, "journal.7")?;
+    assert_eq!(rt; text.as_slice(), b"start 0\nentry 0 7 08\n".as_slice());
     Ok(())
 }

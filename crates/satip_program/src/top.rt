@@ -74,10 +74,11 @@ const VERSION: &[u8] = b"satip 0.1.0\n";
 /// How a run ended.
 pub struct Ended<K: Desk> {
     /// 0 where all went well; 2 where the words are in no form; 3 where the configuration has a
-    /// fault, 4 where the script or the journals have a wrong line; 5, 6 where the input, the output failed; 7 where
-    /// the doors of a worker or the desk failed; 8 where the input is too long; 9 where the history
-    /// is full; 10 to 14 where a recording was refused, got a bad reply, met silence, a fault of the
-    /// peer, or an end before a reply; 70 where there was no memory.
+    /// fault, 4 where the script or the journals have a wrong line; 5 where the input failed, 6
+    /// where the output or a journal did; 7 where the doors of a worker or the desk failed; 8 where
+    /// the input is too long; 9 where the history is full; 10 to 14 where a recording was refused,
+    /// got a bad reply, met silence, a fault of the peer, or an end before a reply; 70 where there
+    /// was no memory.
     pub status: u8,
     /// The configuration that the desk gave, as far as it was read.
     pub config: Option<K::Config>,
@@ -207,9 +208,11 @@ pub fn satip<R: Threads + Wait + Sync, K: Desk, I: Source, O: Sink, E: Sink>(
     // Only what names a configuration opens one, and that and a recording alone ask anything of the
     // desk.
     ensures no_config { serve_of words.now ≡ None → tunnel_of words.now ≡ None
-        → journal_of words.now ≡ None → audit_of words.now ≡ None → config_named (command_of words.now) ≡ None → IsNone result.config }
+        → journal_of words.now ≡ None → audit_of words.now ≡ None
+        → config_named (command_of words.now) ≡ None → IsNone result.config }
     ensures desk { serve_of words.now ≡ None → tunnel_of words.now ≡ None
-        → journal_of words.now ≡ None → recording_of words.now ≡ None → audit_of words.now ≡ None → config_named (command_of words.now) ≡ None
+        → journal_of words.now ≡ None → recording_of words.now ≡ None
+        → audit_of words.now ≡ None → config_named (command_of words.now) ≡ None
         → desk.new ≡ desk.old }
     ensures texts { K.text desk.new ≡ K.text desk.old }
 
