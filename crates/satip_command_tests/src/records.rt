@@ -10,6 +10,7 @@ use satip_query::{PidsGiven, Query, QueryFault};
 use satip_records::*;
 use satip_rtsp::{Method, Request, SessionName};
 use satip_tune::{Fec, Key, Modulation, Pol, RollOff, System};
+use std::alloc::Global;
 use std::test::Fail;
 
 #[test]
@@ -22,21 +23,61 @@ fn a_start_is_one_line(rt: HostRuntime) -> Result<(), Fail> {
     Ok(())
 }
 
+// Whether bytes are these texts one after another.
+fn is_joined(bytes: &[u8], texts: &[&[u8]]) -> bool {
+    let mut rest = bytes;
+    for text in texts {
+        if !rest.starts_with(text) {
+            return false;
+        }
+        rest = rest.split_at(text.len().min(rest.len())).1;
+    }
+    rest.is_empty()
+}
+
+// An entry at a place, of a caller, and the texts of its line.
+#[derive(Clone, Copy)]
+struct Row<'a> {
+    place: u64,
+    caller: u64,
+    event: &'a Event,
+    answer: &'a Answer,
+    texts: &'a [&'a [u8]],
+}
+
+// Whether the line of an entry is as its row says.
+fn is_written(line: &mut LineRoom, out: &Out, row: &Row) -> bool {
+    write_entry(row.place, row.caller, row.event, row.answer, out, line);
+    is_joined(line.bytes(), row.texts)
+}
+
 #[test]
 fn a_stop_and_a_tick_are_short_lines(rt: HostRuntime) -> Result<(), Fail> {
     let out = Out::make(rt.alloc())?;
     let mut line = LineRoom::make(rt.alloc())?;
-    let stopping = Answer::Beat(Beat::Stopping);
-    write_entry(0, 0, &Event::Stop, &stopping, &out, &mut line);
-    assert_eq!(rt; line.bytes(), b"entry 0 0 080201000000000000\n".as_slice());
-    let going = Answer::Beat(Beat::Going);
-    write_entry(0, 0, &Event::Tick { now: 10 }, &going, &out, &mut line);
-    assert_eq!(rt;
-        line.bytes(),
-        b"entry 0 0 02000000000000000a0200000000000000\n".as_slice()
-    );
-    write_entry(2, 1, &Event::Stop, &stopping, &out, &mut line);
-    assert_eq!(rt; line.bytes(), b"entry 2 1 080201000000000000\n".as_slice());
+    let stop = Row {
+        place: 0,
+        caller: 0,
+        event: &Event::Stop,
+        answer: &Answer::Beat(Beat::Stopping),
+        texts: &[b"entry 0 0 080201000000000000\n"],
+    };
+    assert!(rt; is_written(&mut line, &out, &stop));
+    let tick = Row {
+        place: 0,
+        caller: 0,
+        event: &Event::Tick { now: 10 },
+        answer: &Answer::Beat(Beat::Going),
+        texts: &[b"entry 0 0 02000000000000000a0200000000000000\n"],
+    };
+    assert!(rt; is_written(&mut line, &out, &tick));
+    let later = Row {
+        place: 2,
+        caller: 1,
+        texts: &[b"entry 2 1 080201000000000000\n"],
+        ..stop
+    };
+    assert!(rt; is_written(&mut line, &out, &later));
     Ok(())
 }
 
@@ -77,10 +118,9 @@ fn setup_request() -> Request {
     }
 }
 
-#[test]
-fn a_request_is_written_field_by_field(rt: HostRuntime) -> Result<(), Fail> {
-    let mut out = Out::make(rt.alloc())?;
-    let mut line = LineRoom::make(rt.alloc())?;
+// The reply "ok", and a datagram and the beginning of another.
+fn two_datagrams(alloc: Global) -> Result<Out, Fail> {
+    let mut out = Out::make(alloc)?;
     out.write(b"ok");
     let to = Address {
         ip: 0x0a00_0002,
@@ -89,6 +129,27 @@ fn a_request_is_written_field_by_field(rt: HostRuntime) -> Result<(), Fail> {
     out.begin(to);
     out.extend(b"abc");
     out.begin(to);
+    Ok(out)
+}
+
+const REQUEST_LINE: &[&[u8]] = &[
+    b"entry 17 3 ",
+    // A request, its peer and its draw; CSeq 2, no refusal, SETUP, stream 7 and a session.
+    b"000a0000020102030405060708090a",
+    b"01000000020002010007010000000300000004",
+    // No front end; position 1, 11494000 kHz, circular left, 0.20, DVB-S2, 8PSK.
+    b"0001010100af62700102010201010101",
+    // Pilots, 22000 kSymb/s and 9/10; the lists of PIDs and the ports.
+    b"010101000055f00108030002000000100100021fff1fff000113881389",
+    // Status 200, not closing; the reply and the datagrams.
+    b"0000c800000000026f6b",
+    b"00020a0000021388000000036162630a000002138800000000\n",
+];
+
+#[test]
+fn a_request_is_written_field_by_field(rt: HostRuntime) -> Result<(), Fail> {
+    let out = two_datagrams(rt.alloc())?;
+    let mut line = LineRoom::make(rt.alloc())?;
     let event = Event::Request {
         peer: Peer { ip: 0x0a00_0002 },
         draw: Draw {
@@ -102,28 +163,20 @@ fn a_request_is_written_field_by_field(rt: HostRuntime) -> Result<(), Fail> {
         status: 200,
         closing: false,
     });
-    write_entry(17, 3, &event, &answer, &out, &mut line);
-    let mut want = Vec::new(rt.alloc());
-    want.extend_from_slice(b"entry 17 3 ")?;
-    // A request, its peer and its draw; CSeq 2, no refusal, SETUP, stream 7 and a session.
-    want.extend_from_slice(b"000a0000020102030405060708090a")?;
-    want.extend_from_slice(b"01000000020002010007010000000300000004")?;
-    // No front end; position 1, 11494000 kHz, circular left, 0.20, DVB-S2, 8PSK.
-    want.extend_from_slice(b"0001010100af62700102010201010101")?;
-    // Pilots, 22000 kSymb/s and 9/10; the lists of PIDs and the ports.
-    want.extend_from_slice(b"010101000055f00108030002000000100100021fff1fff000113881389")?;
-    // Status 200, not closing; the reply and the datagrams.
-    want.extend_from_slice(b"0000c800000000026f6b")?;
-    want.extend_from_slice(b"00020a0000021388000000036162630a000002138800000000\n")?;
-    assert_eq!(rt; line.bytes(), want.as_slice());
+    let row = Row {
+        place: 17,
+        caller: 3,
+        event: &event,
+        answer: &answer,
+        texts: REQUEST_LINE,
+    };
+    assert!(rt; is_written(&mut line, &out, &row));
     Ok(())
 }
 
-#[test]
-fn refusals_packets_and_ids_are_written(rt: HostRuntime) -> Result<(), Fail> {
-    let out = Out::make(rt.alloc())?;
-    let mut line = LineRoom::make(rt.alloc())?;
-    let event = Event::Get {
+// A GET that is refused since its PIDs are out of range.
+fn refused_get() -> Event {
+    Event::Get {
         peer: Peer { ip: 1 },
         draw: Draw {
             word: 0,
@@ -134,30 +187,45 @@ fn refusals_packets_and_ids_are_written(rt: HostRuntime) -> Result<(), Fail> {
             refusal: Some(HttpRefusal::Query(QueryFault::Range(Key::Pids))),
             query: Query::new(),
         },
+    }
+}
+
+#[test]
+fn refusals_packets_and_ids_are_written(rt: HostRuntime) -> Result<(), Fail> {
+    let out = Out::make(rt.alloc())?;
+    let mut line = LineRoom::make(rt.alloc())?;
+    let refused = Row {
+        place: 1,
+        caller: 2,
+        event: &refused_get(),
+        answer: &Answer::Get(GetAnswer::Refused(400)),
+        texts: &[
+            b"entry 1 2 010000000100000000000000000000",
+            b"0106010a00000000000000000000000000010101900000000000",
+            b"00\n",
+        ],
     };
-    let refused = Answer::Get(GetAnswer::Refused(400));
-    write_entry(1, 2, &event, &refused, &out, &mut line);
-    let mut want = Vec::new(rt.alloc());
-    want.extend_from_slice(b"entry 1 2 010000000100000000000000000000")?;
-    want.extend_from_slice(b"0106010a00000000000000000000000000010101900000000000")?;
-    want.extend_from_slice(b"00\n")?;
-    assert_eq!(rt; line.bytes(), want.as_slice());
+    assert!(rt; is_written(&mut line, &out, &refused));
     let id = SessionId {
         count: 1,
         word: 0xdead_beef,
     };
-    let pulled = Answer::Pulled(Pulled::Bytes(1316));
-    write_entry(5, 6, &Event::Pull { session: id }, &pulled, &out, &mut line);
-    assert_eq!(rt;
-        line.bytes(),
-        b"entry 5 6 0600000001deadbeef04000000000000000524000000000000\n".as_slice()
-    );
-    let tune = Answer::Work(Work::Tune { mux: 3, tune: 9 });
-    write_entry(7, 8, &Event::Ask { front: 2 }, &tune, &out, &mut line);
-    assert_eq!(rt;
-        line.bytes(),
-        b"entry 7 8 050002030000030000000000000009000000000000\n".as_slice()
-    );
+    let pulled = Row {
+        place: 5,
+        caller: 6,
+        event: &Event::Pull { session: id },
+        answer: &Answer::Pulled(Pulled::Bytes(1316)),
+        texts: &[b"entry 5 6 0600000001deadbeef04000000000000000524000000000000\n"],
+    };
+    assert!(rt; is_written(&mut line, &out, &pulled));
+    let asked = Row {
+        place: 7,
+        caller: 8,
+        event: &Event::Ask { front: 2 },
+        answer: &Answer::Work(Work::Tune { mux: 3, tune: 9 }),
+        texts: &[b"entry 7 8 050002030000030000000000000009000000000000\n"],
+    };
+    assert!(rt; is_written(&mut line, &out, &asked));
     Ok(())
 }
 

@@ -174,77 +174,116 @@ fn run_over<C: Source, I: Source + Drop>(
     Ok(Report { end, output })
 }
 
-#[test]
-fn a_session_is_founded(rt: HostRuntime) -> Result<(), Fail> {
-    let mut row = Row::new(rt.alloc());
-    row.asks(SETUP, b"200", FOUNDED)?;
-    assert!(rt; row.is_replayed()?);
-    Ok(())
+// What a worked row has, one behind the other.
+#[derive(Clone, Copy)]
+enum Part {
+    /// A message over RTSP, and the reply with its status.
+    Asks(&'static [u8], &'static [u8], &'static [u8]),
+    /// A line, and what its event prints.
+    Line(&'static [u8], &'static [u8]),
+    /// A packet with each of these fillings.
+    Packets(&'static [u8]),
+    /// A datagram with this head, and the packets of these fillings.
+    Datagram(&'static [u8], &'static [u8]),
 }
 
-#[test]
-fn six_packets_leave_at_a_tick_before_the_report(rt: HostRuntime) -> Result<(), Fail> {
-    let mut row = Row::new(rt.alloc());
-    row.asks(SETUP, b"200", FOUNDED)?;
-    row.line(b"tick 1000\n", b"going\n")?;
-    row.asks(PLAY, b"200", PLAYS)?;
-    for filling in 0..6 {
-        row.packet(filling)?;
+use Part::{Asks, Datagram, Line, Packets};
+
+const FOUNDS: Part = Asks(SETUP, b"200", FOUNDED);
+
+const BEGINS: Part = Asks(PLAY, b"200", PLAYS);
+
+const ROWS: &[(&str, &[Part])] = &[
+    ("a session is founded", &[FOUNDS]),
+    (
+        "six packets leave at a tick before the report",
+        &[
+            FOUNDS,
+            Line(b"tick 1000\n", b"going\n"),
+            BEGINS,
+            Packets(&[0, 1, 2, 3, 4, 5]),
+            Line(b"tick 1040\n", b"going\n"),
+            Datagram(b"8021ffff00016da011223344", &[0, 1, 2, 3, 4, 5]),
+            Line(b"", REPORT),
+        ],
+    ),
+    (
+        "seven packets fill a datagram and the eighth leaves at the end",
+        &[
+            FOUNDS,
+            Line(b"# the clock of the datagrams\n\ntick 1000\n", b"going\n"),
+            BEGINS,
+            Packets(&[0, 1, 2, 3, 4, 5, 6]),
+            Datagram(b"8021ffff00015f9011223344", &[0, 1, 2, 3, 4, 5, 6]),
+            Packets(&[7]),
+            Asks(TEARDOWN, b"200", TORN_DOWN),
+            Datagram(b"8021000000015f9011223344", &[7]),
+        ],
+    ),
+    (
+        "a session lives until its timeout",
+        &[
+            FOUNDS,
+            Line(b"tick 59999\n", b"going\n"),
+            Line(b"tick 60000\n", b"going\n"),
+            Asks(OPTIONS, b"454", UNKNOWN),
+            Line(b"stop", b"stopping\n"),
+        ],
+    ),
+];
+
+impl Row {
+    // Appends a part.
+    fn add(&mut self, part: Part) -> Result<(), Fail> {
+        match part {
+            Asks(message, status, reply) => self.asks(message, status, reply),
+            Line(line, printed) => self.line(line, printed),
+            Packets(fillings) => self.packets(fillings),
+            Datagram(front, fillings) => self.datagram(front, fillings),
+        }
     }
-    row.line(b"tick 1040\n", b"going\n")?;
-    row.datagram(b"8021ffff00016da011223344", &[0, 1, 2, 3, 4, 5])?;
-    row.line(b"", REPORT)?;
-    assert!(rt; row.is_replayed()?);
-    Ok(())
-}
 
-#[test]
-fn seven_packets_fill_a_datagram_and_the_eighth_leaves_at_the_end(
-    rt: HostRuntime,
-) -> Result<(), Fail> {
-    let mut row = Row::new(rt.alloc());
-    row.asks(SETUP, b"200", FOUNDED)?;
-    row.line(b"# the clock of the datagrams\n\ntick 1000\n", b"going\n")?;
-    row.asks(PLAY, b"200", PLAYS)?;
-    for filling in 0..7 {
-        row.packet(filling)?;
+    fn packets(&mut self, fillings: &[u8]) -> Result<(), Fail> {
+        for filling in fillings {
+            self.packet(*filling)?;
+        }
+        Ok(())
     }
-    row.datagram(b"8021ffff00015f9011223344", &[0, 1, 2, 3, 4, 5, 6])?;
-    row.packet(7)?;
-    row.asks(TEARDOWN, b"200", TORN_DOWN)?;
-    row.datagram(b"8021000000015f9011223344", &[7])?;
-    assert!(rt; row.is_replayed()?);
-    Ok(())
 }
 
 #[test]
-fn a_session_lives_until_its_timeout(rt: HostRuntime) -> Result<(), Fail> {
-    let mut row = Row::new(rt.alloc());
-    row.asks(SETUP, b"200", FOUNDED)?;
-    row.line(b"tick 59999\n", b"going\n")?;
-    row.line(b"tick 60000\n", b"going\n")?;
-    row.asks(OPTIONS, b"454", UNKNOWN)?;
-    row.line(b"stop", b"stopping\n")?;
-    assert!(rt; row.is_replayed()?);
+fn worked_rows_are_replayed(rt: HostRuntime) -> Result<(), Fail> {
+    for (name, parts) in ROWS {
+        let mut row = Row::new(rt.alloc());
+        for part in *parts {
+            row.add(*part)?;
+        }
+        assert!(rt; row.is_replayed()?, "{name}");
+    }
     Ok(())
+}
+
+// Whether a replay by a configuration of these parts, each so often, is refused with this fault, and
+// writes nothing.
+fn is_refused(alloc: Global, parts: &[(&[u8], usize)], fault: ConfigFault) -> Result<bool, Fail> {
+    let mut config = Vec::new(alloc);
+    for (part, times) in parts {
+        for _ in 0..*times {
+            config.extend_from_slice(part)?;
+        }
+    }
+    let report = run(alloc, &config, b"stop\n", &[])?;
+    Ok(report.end == ReplayEnd::Configuration(fault) && report.output.sent().is_empty())
 }
 
 #[test]
 fn a_configuration_is_refused_with_its_fault(rt: HostRuntime) -> Result<(), Fail> {
     let alloc = rt.alloc();
-    let mut config = Vec::from_slice(alloc, b"timeout = 5\n")?;
-    config.extend_from_slice(CONFIG)?;
-    let report = run(alloc, &config, b"stop\n", &[])?;
     let fault = ConfigFault::Value(ConfigKey::top(ConfigName::Timeout));
-    assert!(rt; report.end == ReplayEnd::Configuration(fault));
-    assert_eq!(rt; report.output.sent(), b"".as_slice());
-    let longest = vec![in alloc; b'\n'; 1048576]?;
-    let report = run(alloc, &longest, b"stop\n", &[])?;
+    assert!(rt; is_refused(alloc, &[(b"timeout = 5\n", 1), (CONFIG, 1)], fault)?);
     let fault = ConfigFault::Shape(ConfigKey::top(ConfigName::Address));
-    assert!(rt; report.end == ReplayEnd::Configuration(fault));
-    let longer = vec![in alloc; b'\n'; 1048577]?;
-    let report = run(alloc, &longer, b"stop\n", &[])?;
-    assert!(rt; report.end == ReplayEnd::Configuration(ConfigFault::Long));
+    assert!(rt; is_refused(alloc, &[(b"\n", 1048576)], fault)?);
+    assert!(rt; is_refused(alloc, &[(b"\n", 1048577)], ConfigFault::Long)?);
     Ok(())
 }
 

@@ -109,13 +109,7 @@ fn request_in(alloc: Global, text: &[u8]) -> Result<Option<Request>, Fail> {
                 request,
             },
         ) => {
-            let right = peer == Peer { ip: 0xc0a8_0114 }
-                && draw
-                    == Draw {
-                        word: 10,
-                        ssrc: 0x1122_3344,
-                        first: 65535,
-                    };
+            let right = peer == CLIENT && draw == DRAW;
             Ok(if right { Some(request) } else { None })
         }
         _ => Ok(None),
@@ -132,80 +126,85 @@ fn get_in(alloc: Global, text: &[u8]) -> Result<Option<HttpRequest>, Fail> {
     }
 }
 
-// These texts one behind the other.
-fn joined(alloc: Global, texts: &[&[u8]]) -> Result<Vec<u8>, Fail> {
-    let mut all = Vec::new(alloc);
-    for text in texts {
-        all.extend_from_slice(text)?;
+// What a line says that has no message and no packet.
+#[derive(Clone, Copy, Debug, PartialEq, Eq)]
+enum Said {
+    Skip,
+    Tick(u64),
+    Ask(u16),
+    Ended(u16, u64),
+    Stop,
+    Pull(SessionId),
+    Close(SessionId),
+    Packet(u16, u64),
+    Wrong,
+    More,
+}
+
+fn said_by(event: &Event) -> Said {
+    match event {
+        Event::Tick { now } => Said::Tick(*now),
+        Event::Ask { front } => Said::Ask(*front),
+        Event::Ended { front, tune } => Said::Ended(*front, *tune),
+        Event::Stop => Said::Stop,
+        Event::Pull { session } => Said::Pull(*session),
+        Event::Close { session } => Said::Close(*session),
+        Event::Packet { front, tune, .. } => Said::Packet(*front, *tune),
+        _ => Said::More,
     }
-    Ok(all)
 }
 
-fn is_wrong(framer: &mut Framer, line: &[u8]) -> bool {
-    matches!(read_line(line, framer), Line::Wrong)
+fn line_says(line: &[u8], framer: &mut Framer) -> Said {
+    match read_line(line, framer) {
+        Line::Skip => Said::Skip,
+        Line::Wrong => Said::Wrong,
+        Line::Event(event) => said_by(&event),
+    }
 }
+
+const LINES: &[(&[u8], Said)] = &[
+    (b"", Said::Skip),
+    (b"# tick", Said::Skip),
+    (b"tick 59999", Said::Tick(59999)),
+    (b"ask 1", Said::Ask(1)),
+    (b"ended 1 2", Said::Ended(1, 2)),
+    (b"stop", Said::Stop),
+    (
+        b"pull 000000010000000a",
+        Said::Pull(SessionId { count: 1, word: 10 }),
+    ),
+    (
+        b"close 000000020000000b",
+        Said::Close(SessionId { count: 2, word: 11 }),
+    ),
+    (b"tik 5", Said::Wrong),
+    (b"tick", Said::Wrong),
+    (b"tick ", Said::Wrong),
+    (b"tick  5", Said::Wrong),
+    (b"tick 5 ", Said::Wrong),
+    (b"tick 5\r", Said::Wrong),
+    (b"tick 18446744073709551616", Said::Wrong),
+    (b"Tick 5", Said::Wrong),
+    (b" stop", Said::Wrong),
+    (b"stop now", Said::Wrong),
+    (b"ask 65536", Said::Wrong),
+    (b"ended 1", Said::Wrong),
+    (b"pull 1", Said::Wrong),
+    (b"close 000000010000000A", Said::Wrong),
+    (b"packet 1 1 47", Said::Wrong),
+    (b"rtsp 192.168.1.20 0000000a11223344ffff", Said::Wrong),
+    (b"rtsp 192.168.1.20 0000000a11223344ffff ", Said::Wrong),
+    (b"rtsp 192.168.1 0000000a11223344ffff 61", Said::Wrong),
+    (b"\r", Said::Wrong),
+];
 
 #[test]
-fn lines_of_each_kind_are_read(rt: HostRuntime) -> Result<(), Fail> {
+fn lines_of_each_kind_are_read_and_others_are_wrong(rt: HostRuntime) -> Result<(), Fail> {
     let mut framer = Framer::make(rt.alloc())?;
-    let framer = &mut framer;
-    assert!(rt; matches!(read_line(b"", framer), Line::Skip));
-    assert!(rt; matches!(read_line(b"# tick", framer), Line::Skip));
-    assert!(rt;
-        matches!(
-            read_line(b"tick 59999", framer),
-            Line::Event(Event::Tick { now: 59999 })
-        )
-    );
-    assert!(rt;
-        matches!(
-            read_line(b"ask 1", framer),
-            Line::Event(Event::Ask { front: 1 })
-        )
-    );
-    assert!(rt;
-        matches!(
-            read_line(b"ended 1 2", framer),
-            Line::Event(Event::Ended { front: 1, tune: 2 })
-        )
-    );
-    assert!(rt; matches!(read_line(b"stop", framer), Line::Event(Event::Stop)));
-    let Line::Event(Event::Pull { session }) = read_line(b"pull 000000010000000a", framer) else {
-        return Err(Fail::from("pull"));
-    };
-    assert_eq!(rt; session, SessionId { count: 1, word: 10 });
-    let Line::Event(Event::Close { session }) = read_line(b"close 000000020000000b", framer) else {
-        return Err(Fail::from("close"));
-    };
-    assert_eq!(rt; session, SessionId { count: 2, word: 11 });
-    Ok(())
-}
-
-#[test]
-fn other_lines_are_wrong(rt: HostRuntime) -> Result<(), Fail> {
-    let mut framer = Framer::make(rt.alloc())?;
-    for line in [
-        b"tik 5".as_slice(),
-        b"tick".as_slice(),
-        b"tick ".as_slice(),
-        b"tick  5".as_slice(),
-        b"tick 5 ".as_slice(),
-        b"tick 5\r".as_slice(),
-        b"tick 18446744073709551616".as_slice(),
-        b"Tick 5".as_slice(),
-        b" stop".as_slice(),
-        b"stop now".as_slice(),
-        b"ask 65536".as_slice(),
-        b"ended 1".as_slice(),
-        b"pull 1".as_slice(),
-        b"close 000000010000000A".as_slice(),
-        b"packet 1 1 47".as_slice(),
-        b"rtsp 192.168.1.20 0000000a11223344ffff".as_slice(),
-        b"rtsp 192.168.1.20 0000000a11223344ffff ".as_slice(),
-        b"rtsp 192.168.1 0000000a11223344ffff 61".as_slice(),
-        b"\r".as_slice(),
-    ] {
-        assert!(rt; is_wrong(&mut framer, line));
+    let mut place = 0usize;
+    for (line, wanted) in LINES {
+        assert_eq!(rt; line_says(line, &mut framer), *wanted, "at {place}");
+        place = place.saturating_add(1);
     }
     Ok(())
 }
@@ -223,23 +222,19 @@ fn packet_line(alloc: Global, first: &[u8], size: usize) -> Result<Vec<u8>, Fail
 #[test]
 fn packets_have_188_bytes_and_begin_with_47(rt: HostRuntime) -> Result<(), Fail> {
     let mut framer = Framer::make(rt.alloc())?;
-    let line = packet_line(rt.alloc(), b"\x47\x00\x10", 188)?;
-    assert!(rt;
-        matches!(
-            read_line(&line, &mut framer),
-            Line::Event(Event::Packet {
-                front: 1,
-                tune: 1,
-                ..
-            })
-        )
-    );
-    let short = packet_line(rt.alloc(), b"\x47\x00\x10", 187)?;
-    assert!(rt; is_wrong(&mut framer, &short));
-    let long = packet_line(rt.alloc(), b"\x47\x00\x10", 189)?;
-    assert!(rt; is_wrong(&mut framer, &long));
-    let other = packet_line(rt.alloc(), b"\x46\x00\x10", 188)?;
-    assert!(rt; is_wrong(&mut framer, &other));
+    for (first, size, wanted) in [
+        (0x47, 188, Said::Packet(1, 1)),
+        (0x47, 187, Said::Wrong),
+        (0x47, 189, Said::Wrong),
+        (0x46, 188, Said::Wrong),
+    ] {
+        let line = packet_line(rt.alloc(), &[first, 0x00, 0x10], size)?;
+        assert_eq!(rt;
+            line_says(&line, &mut framer),
+            wanted,
+            "{first}, {size} bytes"
+        );
+    }
     Ok(())
 }
 
@@ -262,168 +257,267 @@ fn is_no_packet_line(line: &[u8]) -> bool {
     }
 }
 
+// Whether a script of one packet's line is wrong, which has so many bytes and then these digits.
+fn is_refused(alloc: Global, first: &[u8], size: usize, digits: &[u8]) -> Result<bool, Fail> {
+    let mut framer = Framer::make(alloc)?;
+    let mut line = packet_line(alloc, first, size)?;
+    line.extend_from_slice(digits)?;
+    Ok(check_script(&line, &mut framer) == Some(1) && is_no_packet_line(&line))
+}
+
 #[test]
 fn packets_are_checked_and_decoded(rt: HostRuntime) -> Result<(), Fail> {
     let mut framer = Framer::make(rt.alloc())?;
-    let framer = &mut framer;
     let mut line = packet_line(rt.alloc(), b"\x47\x00\x10", 186)?;
     line.extend_from_slice(b"aFB9")?;
-    assert_eq!(rt; check_script(&line, framer), None);
+    assert_eq!(rt; check_script(&line, &mut framer), None);
     assert!(rt; is_packet_line(&line, b"\x47\x00\x10", b"\x00\xaf\xb9"));
-    let other = packet_line(rt.alloc(), b"\x74\x00\x10", 188)?;
-    assert_eq!(rt; check_script(&other, framer), Some(1));
-    assert!(rt; is_no_packet_line(&other));
-    let mut no_digit = packet_line(rt.alloc(), b"\x47\x00\x10", 187)?;
-    no_digit.extend_from_slice(b"0g")?;
-    assert_eq!(rt; check_script(&no_digit, framer), Some(1));
-    assert!(rt; is_no_packet_line(&no_digit));
+    assert!(rt; is_refused(rt.alloc(), b"\x74\x00\x10", 188, b"")?);
+    assert!(rt; is_refused(rt.alloc(), b"\x47\x00\x10", 187, b"0g")?);
     Ok(())
+}
+
+// Whether a SETUP is asked for, without a refusal.
+fn is_setup(request: &Request, cseq: u32, ports: Ports, freq: u32) -> bool {
+    request.refusal.is_none()
+        && request.method == Method::Setup
+        && request.cseq == Some(cseq)
+        && request.ports == Some(ports)
+        && request.query.change.freq == Some(freq)
+}
+
+// Whether a PLAY is asked for.
+fn is_play(request: &Request, stream: u16, session: SessionId) -> bool {
+    request.method == Method::Play
+        && request.stream == Some(stream)
+        && request.session == SessionName::Named(session)
 }
 
 #[test]
 fn requests_of_the_worked_rows_are_read(rt: HostRuntime) -> Result<(), Fail> {
     let setup = request_in(rt.alloc(), SETUP)?.ok_or("setup")?;
-    assert_eq!(rt; setup.refusal, None);
-    assert_eq!(rt; setup.method, Method::Setup);
-    assert_eq!(rt; setup.cseq, Some(1));
-    assert_eq!(rt;
-        setup.ports,
-        Some(Ports {
-            rtp: 1400,
-            rtcp: 1401
-        })
-    );
-    assert_eq!(rt; setup.query.change.freq, Some(11361750));
+    let ports = Ports {
+        rtp: 1400,
+        rtcp: 1401,
+    };
+    assert!(rt; is_setup(&setup, 1, ports, 11361750));
     let play =
         b"PLAY rtsp://192.168.1.10/stream=1 RTSP/1.0\r\nCSeq: 2\r\nSession: 000000010000000a\r\n\r\n";
     let play = request_in(rt.alloc(), play)?.ok_or("play")?;
-    assert_eq!(rt; play.method, Method::Play);
-    assert_eq!(rt; play.stream, Some(1));
-    assert_eq!(rt;
-        play.session,
-        SessionName::Named(SessionId { count: 1, word: 10 })
-    );
+    assert!(rt; is_play(&play, 1, SessionId { count: 1, word: 10 }));
     let get = get_in(rt.alloc(), GET)?.ok_or("get")?;
-    assert_eq!(rt; get.refusal, None);
-    assert_eq!(rt; get.query.change.freq, Some(12402000));
+    assert!(rt; get.refusal.is_none() && get.query.change.freq == Some(12402000));
     Ok(())
 }
 
-// One message and nothing else, or what is broken at its first message.
-#[test]
-fn texts_say_one_thing(rt: HostRuntime) -> Result<(), Fail> {
-    let alloc = rt.alloc();
-    assert!(rt; request_in(alloc, OPTIONS)?.is_some());
-    for texts in [
-        [b"\r\n".as_slice(), OPTIONS],
-        [OPTIONS, b"\r\n".as_slice()],
-        [OPTIONS, b"\n".as_slice()],
-        [OPTIONS, OPTIONS],
-        [OPTIONS, b"x".as_slice()],
-        [
-            b"OPTIONS * RTSP/1.0\r\nCSeq: 1\r\n".as_slice(),
-            b"".as_slice(),
+// What a text of a line comes to.
+#[derive(Clone, Copy, Debug, PartialEq, Eq)]
+enum Read {
+    Nothing,
+    Whole,
+    Broken,
+    TooLong,
+}
+
+const CLIENT: Peer = Peer { ip: 0xc0a8_0114 };
+
+const DRAW: Draw = Draw {
+    word: 10,
+    ssrc: 0x1122_3344,
+    first: 65535,
+};
+
+fn kind_of(refusal: &Option<Refusal>) -> Read {
+    match refusal {
+        Some(Refusal::Broken) => Read::Broken,
+        Some(Refusal::TooLong) => Read::TooLong,
+        _ => Read::Whole,
+    }
+}
+
+fn kind_of_get(refusal: &Option<HttpRefusal>) -> Read {
+    match refusal {
+        Some(HttpRefusal::Broken) => Read::Broken,
+        Some(HttpRefusal::TooLong) => Read::TooLong,
+        _ => Read::Whole,
+    }
+}
+
+// What the text of a line comes to that the client of the worked rows sent.
+fn kind_of_line(line: &Line) -> Read {
+    match line {
+        Line::Event(
+            Event::Request {
+                peer,
+                draw,
+                request,
+            },
+        ) => {
+            if *peer == CLIENT && *draw == DRAW {
+                return kind_of(&request.refusal);
+            }
+            Read::Nothing
+        }
+        Line::Event(Event::Get { request, .. }) => kind_of_get(&request.refusal),
+        _ => Read::Nothing,
+    }
+}
+
+// What a text comes to in a line of this kind.
+fn read_of(alloc: Global, kind: &[u8], text: &[u8]) -> Result<Read, Fail> {
+    let mut framer = Framer::make(alloc)?;
+    let line = line_with(alloc, kind, text)?;
+    Ok(kind_of_line(&read_line(&line, &mut framer)))
+}
+
+const HEAD: &[u8] = b"OPTIONS * RTSP/1.0\r\nCSeq: 1\r\n";
+
+const LONGEST: &[u8] = b"Content-Length: 4096\r\n\r\n";
+
+// Texts of these parts, each so often, and what they come to over RTSP: one message and nothing
+// else, or what is broken or too long at its first message.
+type Texts = (&'static str, &'static [(&'static [u8], usize)], Read);
+
+const TEXTS: &[Texts] = &[
+    ("one message", &[(OPTIONS, 1)], Read::Whole),
+    (
+        "an end of a line before",
+        &[(b"\r\n", 1), (OPTIONS, 1)],
+        Read::Nothing,
+    ),
+    (
+        "an end of a line behind",
+        &[(OPTIONS, 1), (b"\r\n", 1)],
+        Read::Nothing,
+    ),
+    (
+        "a line feed behind",
+        &[(OPTIONS, 1), (b"\n", 1)],
+        Read::Nothing,
+    ),
+    ("two messages", &[(OPTIONS, 2)], Read::Nothing),
+    ("a letter behind", &[(OPTIONS, 1), (b"x", 1)], Read::Nothing),
+    ("a beginning", &[(HEAD, 1)], Read::Nothing),
+    ("ends of lines", &[(b"\r\n", 2)], Read::Nothing),
+    ("no text", &[], Read::Nothing),
+    ("no message", &[(b"hello\r\n\r\n", 1)], Read::Broken),
+    (
+        "no message between others",
+        &[(b"\r\n\n\r\nhello\r\n\r\n", 1), (OPTIONS, 1)],
+        Read::Broken,
+    ),
+    ("many letters", &[(b"a", 30000)], Read::Broken),
+    ("letters that may go on", &[(b"a", 8191)], Read::Nothing),
+    ("many ends of lines", &[(b"\n", 30000)], Read::Nothing),
+    (
+        "a body of 4096 bytes",
+        &[(HEAD, 1), (LONGEST, 1), (b"\n", 4096)],
+        Read::Whole,
+    ),
+    (
+        "a body that isn't whole",
+        &[(HEAD, 1), (LONGEST, 1), (b"\n", 4095)],
+        Read::Nothing,
+    ),
+    (
+        "a byte behind a body",
+        &[(HEAD, 1), (LONGEST, 1), (b"\n", 4097)],
+        Read::Nothing,
+    ),
+    (
+        "a body of 4097 bytes",
+        &[
+            (b"\r\n", 1),
+            (HEAD, 1),
+            (b"Content-Length: 4097\r\n\r\n", 1),
+            (b"\n", 8192),
         ],
-        [b"\r\n\r\n".as_slice(), b"".as_slice()],
-        [b"".as_slice(), b"".as_slice()],
-    ] {
-        assert_eq!(rt; request_in(alloc, &joined(alloc, &texts)?)?, None);
-        assert_eq!(rt; get_in(alloc, &joined(alloc, &texts)?)?, None);
-    }
-    for texts in [
-        [b"hello\r\n\r\n".as_slice(), b"".as_slice()],
-        [b"\r\n\n\r\nhello\r\n\r\n".as_slice(), OPTIONS],
-    ] {
-        let request = request_in(alloc, &joined(alloc, &texts)?)?.ok_or("bad")?;
-        assert_eq!(rt; request.refusal, Some(Refusal::Broken));
-        let request = get_in(alloc, &joined(alloc, &texts)?)?.ok_or("bad")?;
-        assert_eq!(rt; request.refusal, Some(HttpRefusal::Broken));
-    }
-    Ok(())
-}
+        Read::TooLong,
+    ),
+];
 
-// So many bytes.
-fn many(alloc: Global, byte: u8, count: usize) -> Result<Vec<u8>, Fail> {
-    Ok(vec![in alloc; byte; count]?)
-}
-
-// A message with a body of this announced length and of so many bytes.
-fn with_body(alloc: Global, front: &[u8], announced: &[u8], count: usize) -> Result<Vec<u8>, Fail> {
-    let mut text = Vec::from_slice(alloc, front)?;
-    text.extend_from_slice(b"OPTIONS * RTSP/1.0\r\nCSeq: 1\r\nContent-Length: ")?;
-    text.extend_from_slice(announced)?;
-    text.extend_from_slice(b"\r\n\r\n")?;
-    for _ in 0..count {
-        text.push(b'\n')?;
+fn text_of(alloc: Global, parts: &[(&[u8], usize)]) -> Result<Vec<u8>, Fail> {
+    let mut text = Vec::new(alloc);
+    for (part, times) in parts {
+        for _ in 0..*times {
+            text.extend_from_slice(part)?;
+        }
     }
     Ok(text)
 }
 
-// Texts at the limits of bodies.
 #[test]
-fn bodies_have_limits(rt: HostRuntime) -> Result<(), Fail> {
-    let alloc = rt.alloc();
-    let whole = with_body(alloc, b"", b"4096", 4096)?;
-    assert!(rt; request_in(alloc, &whole)?.is_some());
-    let short = with_body(alloc, b"", b"4096", 4095)?;
-    assert_eq!(rt; request_in(alloc, &short)?, None);
-    let behind = with_body(alloc, b"", b"4096", 4097)?;
-    assert_eq!(rt; request_in(alloc, &behind)?, None);
-    let long = with_body(alloc, b"\r\n", b"4097", 8192)?;
-    let request = request_in(alloc, &long)?.ok_or("long")?;
-    assert_eq!(rt; request.refusal, Some(Refusal::TooLong));
-    Ok(())
-}
-
-// Texts at the limits of heads.
-#[test]
-fn heads_have_limits(rt: HostRuntime) -> Result<(), Fail> {
-    let alloc = rt.alloc();
-    let endless = many(alloc, b'a', 30000)?;
-    let request = request_in(alloc, &endless)?.ok_or("endless")?;
-    assert_eq!(rt; request.refusal, Some(Refusal::Broken));
-    let short = many(alloc, b'a', 8191)?;
-    assert_eq!(rt; request_in(alloc, &short)?, None);
-    let newlines = many(alloc, b'\n', 30000)?;
-    assert_eq!(rt; request_in(alloc, &newlines)?, None);
+fn texts_say_one_thing(rt: HostRuntime) -> Result<(), Fail> {
+    for (name, parts, wanted) in TEXTS {
+        let text = text_of(rt.alloc(), parts)?;
+        assert_eq!(rt; read_of(rt.alloc(), b"rtsp", &text)?, *wanted, "{name}");
+        assert_eq!(rt; read_of(rt.alloc(), b"http", &text)?, *wanted, "{name}");
+    }
     Ok(())
 }
 
 #[test]
 fn first_wrong_line_is_told(rt: HostRuntime) -> Result<(), Fail> {
     let mut framer = Framer::make(rt.alloc())?;
-    assert_eq!(rt; check_script(b"", &mut framer), None);
-    assert_eq!(rt; check_script(b"tick 1000\ntik 5\n", &mut framer), Some(2));
-    assert_eq!(rt;
-        check_script(b"# two lines\n\nstop\ntick\nask\n", &mut framer),
-        Some(4)
-    );
-    assert_eq!(rt; check_script(b"tick 5\r\n", &mut framer), Some(1));
-    assert_eq!(rt; check_script(b"ask 1\nstop", &mut framer), None);
-    assert_eq!(rt; check_script(b"ask 1\nstop now", &mut framer), Some(2));
+    for (script, wrong) in [
+        (b"".as_slice(), None),
+        (b"tick 1000\ntik 5\n", Some(2)),
+        (b"# two lines\n\nstop\ntick\nask\n", Some(4)),
+        (b"tick 5\r\n", Some(1)),
+        (b"ask 1\nstop", None),
+        (b"ask 1\nstop now", Some(2)),
+    ] {
+        assert_eq!(rt; check_script(script, &mut framer), wrong);
+    }
     Ok(())
+}
+
+// What the next event of a script says.
+fn next_said(script: &mut Script, framer: &mut Framer) -> Option<Said> {
+    match script.next(framer) {
+        Some(event) => Some(said_by(&event)),
+        None => None,
+    }
 }
 
 #[test]
 fn events_come_in_their_order(rt: HostRuntime) -> Result<(), Fail> {
     let mut framer = Framer::make(rt.alloc())?;
-    let framer = &mut framer;
     let mut script = Script::of(b"# a run\ntick 1000\n\nask 1\nstop\nask\ntick 1");
-    assert!(rt; matches!(script.next(framer), Some(Event::Tick { now: 1000 })));
-    assert!(rt; matches!(script.next(framer), Some(Event::Ask { front: 1 })));
-    assert!(rt; matches!(script.next(framer), Some(Event::Stop)));
-    assert!(rt; script.next(framer).is_none());
-    assert!(rt; script.next(framer).is_none());
+    for wanted in [
+        Some(Said::Tick(1000)),
+        Some(Said::Ask(1)),
+        Some(Said::Stop),
+        None,
+        None,
+    ] {
+        assert_eq!(rt; next_said(&mut script, &mut framer), wanted);
+    }
     Ok(())
+}
+
+// What the next parts of a script say.
+fn next_parts_said(script: &mut Script) -> Option<Said> {
+    match script.next_parts() {
+        Some(EventParts::Tick { now }) => Some(Said::Tick(now)),
+        Some(EventParts::Ask { front }) => Some(Said::Ask(front)),
+        Some(EventParts::Wrong) => Some(Said::Wrong),
+        Some(_) => Some(Said::More),
+        None => None,
+    }
 }
 
 #[test]
 fn events_come_in_parts(rt: HostRuntime) -> Result<(), Fail> {
     let mut script = Script::of(b"# a run\ntick 1000\n\nask 1\ntick\n");
-    assert!(rt; matches!(script.next_parts(), Some(EventParts::Tick { now: 1000 })));
-    assert!(rt; matches!(script.next_parts(), Some(EventParts::Ask { front: 1 })));
-    assert!(rt; matches!(script.next_parts(), Some(EventParts::Wrong)));
-    assert!(rt; script.next_parts().is_none());
+    for wanted in [
+        Some(Said::Tick(1000)),
+        Some(Said::Ask(1)),
+        Some(Said::Wrong),
+        None,
+    ] {
+        assert_eq!(rt; next_parts_said(&mut script), wanted);
+    }
     Ok(())
 }
 
@@ -527,6 +621,27 @@ fn is_same_short(parts: &EventParts, line: Line) -> bool {
 const ADDING: &[u8] =
     b"PLAY rtsp://192.168.1.10/stream=1?addpids=100,200&delpids=16 RTSP/1.0\r\nCSeq: 9\r\nSession: 000000010000000a\r\n\r\n";
 
+const SAME: &[&[u8]] = &[
+    b"",
+    b"# stop",
+    b"tick 59999",
+    b"tick",
+    b"ended 1 2",
+    b"ended 2 1 ",
+    b"ask 65535",
+    b"ask 65536",
+    b"pull 000000010000000a",
+    b"close 000000010000000a",
+    b"close 000000010000000A",
+    b"stop",
+    b"stop ",
+    b"packet 1 1 47 00",
+    b"rtsp 192.168.1.20 0000000a11223344ffff 61 62",
+    b"http 192.168.1.20 0000000a11223344ffff 6",
+];
+
+const SAME_TEXTS: &[&[u8]] = &[SETUP, ADDING, GET, OPTIONS, b"hello\r\n\r\n", b"\r\n"];
+
 #[test]
 fn lines_say_the_same_in_parts_and_whole(rt: HostRuntime) -> Result<(), Fail> {
     let alloc = rt.alloc();
@@ -535,29 +650,12 @@ fn lines_say_the_same_in_parts_and_whole(rt: HostRuntime) -> Result<(), Fail> {
         request: Request::broken(Break::Bad),
         get: HttpRequest::broken(Break::Bad),
     };
-    for line in [
-        b"".as_slice(),
-        b"# stop".as_slice(),
-        b"tick 59999".as_slice(),
-        b"tick".as_slice(),
-        b"ended 1 2".as_slice(),
-        b"ended 2 1 ".as_slice(),
-        b"ask 65535".as_slice(),
-        b"ask 65536".as_slice(),
-        b"pull 000000010000000a".as_slice(),
-        b"close 000000010000000a".as_slice(),
-        b"close 000000010000000A".as_slice(),
-        b"stop".as_slice(),
-        b"stop ".as_slice(),
-        b"packet 1 1 47 00".as_slice(),
-        b"rtsp 192.168.1.20 0000000a11223344ffff 61 62".as_slice(),
-        b"http 192.168.1.20 0000000a11223344ffff 6".as_slice(),
-    ] {
+    for line in SAME {
         assert!(rt; is_same(line, &mut kept));
     }
     let packet = packet_line(alloc, b"\x47\x00\x10", 188)?;
     assert!(rt; is_same(&packet, &mut kept));
-    for text in [SETUP, ADDING, GET, OPTIONS, b"hello\r\n\r\n", b"\r\n"] {
+    for text in SAME_TEXTS {
         assert!(rt; is_same(&line_with(alloc, b"rtsp", text)?, &mut kept));
         assert!(rt; is_same(&line_with(alloc, b"http", text)?, &mut kept));
     }
@@ -571,66 +669,73 @@ fn printed(alloc: Global, answer: Answer, out: &Out) -> Result<Vec<u8>, Fail> {
     Ok(text)
 }
 
+const SESSION: SessionId = SessionId { count: 1, word: 10 };
+
+// Answers without a reply, and the lines of their entries.
+const SHORT: &[(Answer, &[u8])] = &[
+    (Answer::Beat(Beat::Going), b"going\ngoing\n"),
+    (Answer::Beat(Beat::Stopping), b"going\nstopping\n"),
+    (
+        Answer::Work(Work::Tune { mux: 1, tune: 1 }),
+        b"going\ntune 1 1\n",
+    ),
+    (Answer::Work(Work::Nothing), b"going\nnothing\n"),
+    (Answer::Work(Work::Stopping), b"going\nstopping\n"),
+    (Answer::Pulled(Pulled::Empty), b"going\nempty\n"),
+    (Answer::Pulled(Pulled::Gone), b"going\ngone\n"),
+    (Answer::Closed(Closed::Yes), b"going\nclosed\n"),
+    (Answer::Closed(Closed::Gone), b"going\ngone\n"),
+];
+
+// Answers with the reply "RTSP".
+const WITH_REPLY: &[(Answer, &[u8])] = &[
+    (
+        Answer::Replied(Replied {
+            status: 200,
+            closing: false,
+        }),
+        b"going\nreply 200 0 52545350\n",
+    ),
+    (
+        Answer::Replied(Replied {
+            status: 400,
+            closing: true,
+        }),
+        b"going\nreply 400 1 52545350\n",
+    ),
+    (
+        Answer::Get(GetAnswer::Started(SESSION)),
+        b"going\nstarted 000000010000000a 52545350\n",
+    ),
+    (
+        Answer::Get(GetAnswer::Refused(404)),
+        b"going\nrefused 404 52545350\n",
+    ),
+    (Answer::Pulled(Pulled::Bytes(4)), b"going\nbytes 52545350\n"),
+];
+
+fn out_with(alloc: Global, reply: &[u8; 4]) -> Result<Out, Fail> {
+    let mut out = Out::make(alloc)?;
+    out.write(reply);
+    Ok(out)
+}
+
+// Whether entries with this output are printed so.
+fn are_printed(alloc: Global, out: &Out, rows: &[(Answer, &[u8])]) -> Result<bool, Fail> {
+    for (answer, line) in rows {
+        let text = printed(alloc, *answer, out)?;
+        if text.as_slice() != *line {
+            return Ok(false);
+        }
+    }
+    Ok(true)
+}
+
 #[test]
 fn entries_are_printed(rt: HostRuntime) -> Result<(), Fail> {
     let alloc = rt.alloc();
-    let mut out = Out::make(alloc)?;
-    let session = SessionId { count: 1, word: 10 };
-    for (answer, line) in [
-        (Answer::Beat(Beat::Going), b"going\ngoing\n".as_slice()),
-        (
-            Answer::Beat(Beat::Stopping),
-            b"going\nstopping\n".as_slice(),
-        ),
-        (
-            Answer::Work(Work::Tune { mux: 1, tune: 1 }),
-            b"going\ntune 1 1\n".as_slice(),
-        ),
-        (Answer::Work(Work::Nothing), b"going\nnothing\n".as_slice()),
-        (
-            Answer::Work(Work::Stopping),
-            b"going\nstopping\n".as_slice(),
-        ),
-        (Answer::Pulled(Pulled::Empty), b"going\nempty\n".as_slice()),
-        (Answer::Pulled(Pulled::Gone), b"going\ngone\n".as_slice()),
-        (Answer::Closed(Closed::Yes), b"going\nclosed\n".as_slice()),
-        (Answer::Closed(Closed::Gone), b"going\ngone\n".as_slice()),
-    ] {
-        let text = printed(alloc, answer, &out)?;
-        assert!(rt; text.as_slice() == line);
-    }
-    out.write(b"RTSP");
-    for (answer, line) in [
-        (
-            Answer::Replied(Replied {
-                status: 200,
-                closing: false,
-            }),
-            b"going\nreply 200 0 52545350\n".as_slice(),
-        ),
-        (
-            Answer::Replied(Replied {
-                status: 400,
-                closing: true,
-            }),
-            b"going\nreply 400 1 52545350\n".as_slice(),
-        ),
-        (
-            Answer::Get(GetAnswer::Started(session)),
-            b"going\nstarted 000000010000000a 52545350\n".as_slice(),
-        ),
-        (
-            Answer::Get(GetAnswer::Refused(404)),
-            b"going\nrefused 404 52545350\n".as_slice(),
-        ),
-        (
-            Answer::Pulled(Pulled::Bytes(4)),
-            b"going\nbytes 52545350\n".as_slice(),
-        ),
-    ] {
-        let text = printed(alloc, answer, &out)?;
-        assert!(rt; text.as_slice() == line);
-    }
+    assert!(rt; are_printed(alloc, &Out::make(alloc)?, SHORT)?);
+    assert!(rt; are_printed(alloc, &out_with(alloc, b"RTSP")?, WITH_REPLY)?);
     Ok(())
 }
 

@@ -63,6 +63,14 @@ tunnel_is_no_journal word is =
     subst (λ (w : List ℕ). bytes_eq w (codes "journal") ≡ false) (sym same) refl
 
 pub ruleset words_differ = (
-  serve_is_other, audit_is_other, serve_is_no_journal, serve_is_no_tunnel, journal_is_other, journal_is_no_serve, journal_is_no_tunnel, tunnel_is_other,
-  tunnel_is_no_serve, tunnel_is_no_journal,
+  serve_is_other,
+  audit_is_other,
+  serve_is_no_journal,
+  serve_is_no_tunnel,
+  journal_is_other,
+  journal_is_no_serve,
+  journal_is_no_tunnel,
+  tunnel_is_other,
+  tunnel_is_no_serve,
+  tunnel_is_no_journal,
 )

@@ -1,7 +1,8 @@
 //! Connections over memory, and texts that are received and sent on them.
 ghost use Rattle.std.specs.Prelude.{◌≡◌, false};
 
-use crate::setting::{CLIENT, letters, solo};
+use crate::setting::{CLIENT, ask_of_stream, give, letters, play, set_up, solo, tick};
+use satip_base::Out;
 use satip_memory::{MemoryConn, MemoryOutlet, MemoryPacer};
 use satip_solo::Solo;
 use satip_worker::{Draws, Room, serve_connection};
@@ -109,4 +110,51 @@ pub fn serve_alone<R: Wait + Sync>(
 ) -> Result<Seen, Fail> {
     let mut solo = solo(alloc, None)?;
     serve(rt, alloc, &mut solo, kind, conn, &[])
+}
+
+// Founds the first stream and plays it, and gives it eight packets, the last of which is held.
+fn begin(solo: &mut Solo, out: &mut Out) -> Result<(), Fail> {
+    set_up(solo, out)?;
+    tick(solo, 1000, out)?;
+    play(solo, out)?;
+    for _ in 0..8u8 {
+        give(solo, out)?;
+    }
+    Ok(())
+}
+
+/// Serves an RTSP connection over a server that plays the first stream, which holds one packet; the
+/// sends of these numbers fail at the outlet.
+pub fn serve_playing<R: Wait + Sync>(
+    rt: &R,
+    alloc: Global,
+    conn: MemoryConn,
+    failing_posts: &[u64],
+) -> Result<Seen, Fail> {
+    let mut solo = solo(alloc, None)?;
+    let mut out = Out::make(alloc)?;
+    begin(&mut solo, &mut out)?;
+    serve(rt, alloc, &mut solo, DoorKind::Rtsp, conn, failing_posts)
+}
+
+// The status of a DESCRIBE of the first stream behind a tick at this moment.
+fn status_at(alloc: Global, solo: &mut Solo, moment: u64) -> Result<u16, Fail> {
+    let mut out = Out::make(alloc)?;
+    tick(solo, moment, &mut out)?;
+    ask_of_stream(solo, &mut out)
+}
+
+/// Serves an RTSP connection over a new server, and then makes a DESCRIBE of the first stream behind
+/// a tick at each of two moments, whose statuses it gives.
+pub fn serve_and_ask<R: Wait + Sync>(
+    rt: &R,
+    alloc: Global,
+    conn: MemoryConn,
+    moments: [u64; 2],
+) -> Result<(Seen, [u16; 2]), Fail> {
+    let mut solo = solo(alloc, None)?;
+    let seen = serve(rt, alloc, &mut solo, DoorKind::Rtsp, conn, &[])?;
+    let first = status_at(alloc, &mut solo, moments[0])?;
+    let second = status_at(alloc, &mut solo, moments[1])?;
+    Ok((seen, [first, second]))
 }

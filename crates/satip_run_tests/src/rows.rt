@@ -120,11 +120,7 @@ const ROWS: &[Row] = &[
     },
     Row {
         name: "two lengths close",
-        texts: &[
-            (BEGINNING, 1),
-            (b"Content-Length: 0\r\n", 2),
-            (b"\r\n", 1),
-        ],
+        texts: &[(BEGINNING, 1), (b"Content-Length: 0\r\n", 2), (b"\r\n", 1)],
         kinds: b"R",
         sent: &[CLOSING],
         ..RTSP

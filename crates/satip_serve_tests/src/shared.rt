@@ -76,12 +76,7 @@ pub fn run<R: Threads + Wait + Sync, K: Desk>(
 }
 
 // Doors by which one RTSP connection comes, with these pieces.
-fn doors(
-    alloc: Global,
-    accepts: u32,
-    idle: &[u64],
-    pieces: &[&[u8]],
-) -> Result<MemoryDoors, Want>
+fn doors(alloc: Global, accepts: u32, idle: &[u64], pieces: &[&[u8]]) -> Result<MemoryDoors, Want>
     ensures fresh { IfOk result (λ doors. doors ≡ fresh_hall accepts true) }
 {
     let mut doors = MemoryDoors::make(alloc, accepts, idle, &[])?;

@@ -58,7 +58,7 @@ record OwnParts (entries : List TunnelItem) : Type 0 where
 
 served_parts : RunsDrainOwn → (tells : Type 0) (drawn : ℕ → Draw) (from to first last : ℕ) (rs : List Return) (entries : List TunnelItem)
     → ServesAll tells drawn from to first last rs entries → OwnParts entries
-served_parts law tells drawn from to first last [] entries served = record { parts = []; are = served.1.1; own = tt }
+served_parts law tells drawn from to first last [] entries served = record { parts = []; are = served.2; own = tt }
 served_parts law tells drawn from to first last (r ∷ rs) entries (between, seen, own, others, are, le, here, later) =
     let rest = served_parts law tells drawn between to seen last rs others later in
     record {

@@ -6,7 +6,10 @@ ghost use Rattle.satip_tunnel_serve.specs.Asides.{AreKept, IsSpareFor};
 
 use satip_pump::PumpKit;
 use satip_serve::Jobs;
-use satip_silent::{Silent, silence_pumps, silence_ticker, silence_workers, sound_pumps, sound_ticker, sound_workers};
+use satip_silent::{
+    Silent, silence_pumps, silence_ticker, silence_workers, sound_pumps, sound_ticker,
+    sound_workers,
+};
 use satip_worker::WorkerKit;
 
 /// Lists for the kits without outlets, and for the outlets.
