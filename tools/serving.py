@@ -77,7 +77,7 @@ def wait_for(address, port, process):
 
 class Server:
     """Serves recordings of so many seconds whose packets have the PID 256, at one address, or this
-    recording."""
+    recording, by the command `serve` or another that serves."""
 
     def __init__(
         self,
@@ -91,6 +91,7 @@ class Server:
         accepts=0,
         files=("a.ts",),
         recording=None,
+        command="serve",
     ):
         self.folder = tempfile.TemporaryDirectory()
         self.address, self.ports = address, ports
@@ -103,7 +104,7 @@ class Server:
         self.errors = open(self.path("errors"), "w+")
         program = program_words(self.folder.name)
         self.process = subprocess.Popen(
-            [*before, *program, "serve", "try.toml", str(accepts)],
+            [*before, *program, command, "try.toml", str(accepts)],
             cwd=self.folder.name,
             stderr=self.errors,
         )

@@ -108,11 +108,11 @@ fn recording(
     Ok(text)
 }
 
-fn kit(alloc: Global, starts: &[u64], sends: &[u64]) -> Result<Kit, Fail>
+fn kit(alloc: Global, store: MemoryStore, sends: &[u64]) -> Result<Kit, Fail>
     ensures free { IfOk result (λ kit. kit.outlet.held ≡ false) }
 {
     Ok(PumpKit {
-        store: MemoryStore::make(alloc, starts)?,
+        store,
         outlet: MemoryOutlet::make(alloc, sends)?,
         pacer: MemoryPacer::new(),
     })
@@ -153,38 +153,270 @@ fn letter(note: &Note) -> u8 {
     }
 }
 
+// A recording of so many packets of a PID, with bytes before and behind them, and how it is taken:
+// in takes of these sizes, of which these fail.
+#[derive(Clone, Copy)]
+struct Reel {
+    before: &'static [u8],
+    pid: u8,
+    count: u8,
+    behind: &'static [u8],
+    takes: &'static [usize],
+    failing: &'static [u64],
+}
+
+// No packet of PID 1.
+const PACKETS: Reel = Reel {
+    before: &[],
+    pid: 1,
+    count: 0,
+    behind: &[],
+    takes: &[],
+    failing: &[],
+};
+
+// What a pump is run over: starts and sends that fail, a recording of each multiplex, another work
+// from a call on, and where the service stops or has no more room.
+#[derive(Clone, Copy)]
+struct Case {
+    starts: &'static [u64],
+    sends: &'static [u64],
+    first: Reel,
+    second: Option<Reel>,
+    later: Option<(usize, Work)>,
+    stop: usize,
+    room: usize,
+}
+
+// A recording of the first multiplex, with nothing that fails.
+const WHOLE: Case = Case {
+    starts: &[],
+    sends: &[],
+    first: PACKETS,
+    second: None,
+    later: None,
+    stop: 0,
+    room: usize::MAX,
+};
+
+// What a pump came to: its end, its entries, the last answer, the datagrams that left, its pauses,
+// and how many sources are out, and were out at most.
+#[derive(Drop)]
+struct Pumped {
+    end: JobEnd,
+    entries: Vec<u8>,
+    last: Option<Answer>,
+    datagrams: usize,
+    pauses: u64,
+    lent: u64,
+    peak: u64,
+}
+
+fn add_reel(alloc: Global, store: &mut MemoryStore, mux: u16, reel: &Reel) -> Result<(), Fail> {
+    let text = recording(alloc, reel.before, reel.pid, reel.count, reel.behind)?;
+    store.add(mux, &text, reel.takes, reel.failing)?;
+    Ok(())
+}
+
+fn store_of(alloc: Global, case: &Case) -> Result<MemoryStore, Fail> {
+    let mut store = MemoryStore::make(alloc, case.starts)?;
+    add_reel(alloc, &mut store, 1, &case.first)?;
+    if let Some(second) = &case.second {
+        add_reel(alloc, &mut store, 2, second)?;
+    }
+    Ok(store)
+}
+
+fn last_answer(notes: &[Note]) -> Option<Answer> {
+    match notes.last() {
+        Some(note) => Some(note.answer),
+        None => None,
+    }
+}
+
+fn run_case<R: Wait + Sync>(rt: &R, alloc: Global, case: &Case) -> Result<Pumped, Fail> {
+    let mut service = Scripted::new(alloc, FIRST, case.later, case.stop).with_room(case.room);
+    let mut kit = kit(alloc, store_of(alloc, case)?, case.sends)?;
+    let end = pump(rt, alloc, &mut service, &mut kit)?;
+    Ok(Pumped {
+        end,
+        entries: letters(alloc, &service.notes)?,
+        last: last_answer(&service.notes),
+        datagrams: kit.outlet.count(),
+        pauses: kit.pacer.pauses(),
+        lent: kit.store.lent(),
+        peak: kit.store.peak(),
+    })
+}
+
 #[test]
-fn a_pump_gives_the_packets_of_a_recording(rt: HostRuntime) -> Result<(), Fail> {
-    let alloc = rt.alloc();
+fn rows_are_computed(rt: HostRuntime) -> Result<(), Fail> {
     let packet = Packet::of(&packet_bytes(1)).ok_or("packet")?;
     rows_of_tunings(packet, packet);
     row_of_a_run(packet);
     rows_of_pauses(packet);
     rows_of_sources(packet);
-    let mut kit = kit(alloc, &[], &[])?;
-    let text = recording(alloc, &[0, 1, 2, 3, 4], 1, 2, &[0x47; 100])?;
-    kit.store.add(1, &text, &[], &[])?;
-    let mut service = Scripted::new(alloc, FIRST, None, 4);
-    assert_eq!(rt; pump(&rt, alloc, &mut service, &mut kit)?, JobEnd::Stopped);
-    let entries = letters(alloc, &service.notes)?;
-    assert_eq!(rt; entries.as_slice(), b"APPEA".as_slice());
-    let last = service.notes.last().ok_or("last")?;
-    assert!(rt; last.answer == Answer::Work(Work::Stopping));
-    assert_eq!(rt; kit.outlet.count(), 2);
-    assert_eq!(rt; kit.pacer.pauses(), 1);
-    assert_eq!(rt; kit.store.lent(), 0);
+    Ok(())
+}
+
+// A case, and what a pump is to come to over it; a number is looked at where it is given.
+#[derive(Clone, Copy)]
+struct Row {
+    name: &'static str,
+    case: Case,
+    end: JobEnd,
+    entries: &'static [u8],
+    datagrams: Option<usize>,
+    pauses: Option<u64>,
+    peak: Option<u64>,
+}
+
+const ROWS: &[Row] = &[
+    Row {
+        name: "a pump gives the packets of a recording",
+        case: Case {
+            first: Reel {
+                before: &[0, 1, 2, 3, 4],
+                count: 2,
+                behind: &[0x47; 100],
+                ..PACKETS
+            },
+            stop: 4,
+            ..WHOLE
+        },
+        end: JobEnd::Stopped,
+        entries: b"APPEA",
+        datagrams: Some(2),
+        pauses: Some(1),
+        peak: None,
+    },
+    Row {
+        name: "a recording whose start fails ends early",
+        case: Case {
+            starts: &[1],
+            first: Reel {
+                count: 3,
+                ..PACKETS
+            },
+            stop: 2,
+            ..WHOLE
+        },
+        end: JobEnd::Stopped,
+        entries: b"AEA",
+        datagrams: None,
+        pauses: None,
+        peak: None,
+    },
+    Row {
+        name: "a recording whose take fails ends early",
+        case: Case {
+            first: Reel {
+                count: 3,
+                takes: &[188, 188],
+                failing: &[2],
+                ..PACKETS
+            },
+            stop: 3,
+            ..WHOLE
+        },
+        end: JobEnd::Stopped,
+        entries: b"APEA",
+        datagrams: None,
+        pauses: None,
+        peak: None,
+    },
+    Row {
+        name: "a pump that is stopped hands its source back",
+        case: Case {
+            first: Reel {
+                count: 70,
+                ..PACKETS
+            },
+            stop: 3,
+            ..WHOLE
+        },
+        end: JobEnd::Stopped,
+        entries: b"APPP",
+        datagrams: None,
+        pauses: None,
+        peak: None,
+    },
+    Row {
+        name: "a new tuning drops the old packets",
+        case: Case {
+            first: Reel {
+                count: 9,
+                ..PACKETS
+            },
+            second: Some(Reel {
+                pid: 2,
+                count: 2,
+                ..PACKETS
+            }),
+            later: Some((3, SECOND)),
+            stop: 7,
+            ..WHOLE
+        },
+        end: JobEnd::Stopped,
+        entries: b"APPPppEA",
+        datagrams: None,
+        pauses: None,
+        peak: Some(1),
+    },
+    Row {
+        name: "a pump ends where there is no memory",
+        case: Case {
+            first: Reel {
+                count: 9,
+                ..PACKETS
+            },
+            stop: 99,
+            room: 3,
+            ..WHOLE
+        },
+        end: JobEnd::Want,
+        entries: b"APP",
+        datagrams: Some(2),
+        pauses: None,
+        peak: None,
+    },
+];
+
+#[test]
+fn pumps_come_to_what_their_rows_say(rt: HostRuntime) -> Result<(), Fail> {
+    for row in ROWS {
+        let seen = run_case(&rt, rt.alloc(), &row.case)?;
+        let name = row.name;
+        assert_eq!(rt; seen.end, row.end, "{name}");
+        assert_eq!(rt; seen.entries.as_slice(), row.entries, "{name}");
+        assert_eq!(rt;
+            seen.datagrams,
+            row.datagrams.unwrap_or(seen.datagrams),
+            "{name}"
+        );
+        assert_eq!(rt; seen.pauses, row.pauses.unwrap_or(seen.pauses), "{name}");
+        assert_eq!(rt; seen.peak, row.peak.unwrap_or(seen.peak), "{name}");
+        assert_eq!(rt; seen.lent, 0, "{name}");
+        let is_stopped = seen.last == Some(Answer::Work(Work::Stopping));
+        assert_eq!(rt; is_stopped, row.end == JobEnd::Stopped, "{name}");
+    }
     Ok(())
 }
 
 #[test]
 fn a_pump_gives_130_packets_in_bursts(rt: HostRuntime) -> Result<(), Fail> {
-    let alloc = rt.alloc();
-    let mut kit = kit(alloc, &[], &[3])?;
-    let text = recording(alloc, &[], 1, 130, &[])?;
-    kit.store.add(1, &text, &[], &[])?;
-    let mut service = Scripted::new(alloc, FIRST, None, 132);
-    assert_eq!(rt; pump(&rt, alloc, &mut service, &mut kit)?, JobEnd::Stopped);
-    let entries = letters(alloc, &service.notes)?;
+    let case = Case {
+        sends: &[3],
+        first: Reel {
+            count: 130,
+            ..PACKETS
+        },
+        stop: 132,
+        ..WHOLE
+    };
+    let seen = run_case(&rt, rt.alloc(), &case)?;
+    let entries = seen.entries.as_slice();
+    assert_eq!(rt; seen.end, JobEnd::Stopped);
     assert_eq!(rt; entries.len(), 133);
     assert!(rt; entries.first() == Some(&b'A') && entries.last() == Some(&b'A'));
     assert_eq!(rt;
@@ -193,106 +425,57 @@ fn a_pump_gives_130_packets_in_bursts(rt: HostRuntime) -> Result<(), Fail> {
     );
     assert!(rt; entries.get(131) == Some(&b'E'));
     // the third datagram couldn't be sent
-    assert_eq!(rt; kit.outlet.count(), 129);
-    assert_eq!(rt; kit.pacer.pauses(), 3);
+    assert_eq!(rt; seen.datagrams, 129);
+    assert_eq!(rt; seen.pauses, 3);
     Ok(())
 }
 
-#[test]
-fn a_recording_that_fails_ends_early(rt: HostRuntime) -> Result<(), Fail> {
-    let alloc = rt.alloc();
-    let text = recording(alloc, &[], 1, 3, &[])?;
-    let mut unopened = kit(alloc, &[1], &[])?;
-    unopened.store.add(1, &text, &[], &[])?;
-    let mut service = Scripted::new(alloc, FIRST, None, 2);
-    assert_eq!(rt;
-        pump(&rt, alloc, &mut service, &mut unopened)?,
-        JobEnd::Stopped
-    );
-    let entries = letters(alloc, &service.notes)?;
-    assert_eq!(rt; entries.as_slice(), b"AEA".as_slice());
-
-    let mut broken = kit(alloc, &[], &[])?;
-    broken.store.add(1, &text, &[188, 188], &[2])?;
-    let mut service = Scripted::new(alloc, FIRST, None, 3);
-    assert_eq!(rt;
-        pump(&rt, alloc, &mut service, &mut broken)?,
-        JobEnd::Stopped
-    );
-    let entries = letters(alloc, &service.notes)?;
-    assert_eq!(rt; entries.as_slice(), b"APEA".as_slice());
-    assert_eq!(rt; unopened.store.lent(), 0);
-    assert_eq!(rt; broken.store.lent(), 0);
-    Ok(())
+// What a ticker came to: its end, its entries and its pauses.
+#[derive(Drop)]
+struct Ticked {
+    end: JobEnd,
+    notes: Vec<Note>,
+    pauses: u64,
 }
 
-#[test]
-fn a_pump_that_is_stopped_hands_its_source_back(rt: HostRuntime) -> Result<(), Fail> {
-    let alloc = rt.alloc();
-    let mut kit = kit(alloc, &[], &[])?;
-    let text = recording(alloc, &[], 1, 70, &[])?;
-    kit.store.add(1, &text, &[], &[])?;
-    let mut service = Scripted::new(alloc, FIRST, None, 3);
-    assert_eq!(rt; pump(&rt, alloc, &mut service, &mut kit)?, JobEnd::Stopped);
-    let entries = letters(alloc, &service.notes)?;
-    assert_eq!(rt; entries.as_slice(), b"APPP".as_slice());
-    assert_eq!(rt; kit.store.lent(), 0);
-    Ok(())
-}
-
-#[test]
-fn a_new_tuning_drops_the_old_packets(rt: HostRuntime) -> Result<(), Fail> {
-    let alloc = rt.alloc();
-    let mut kit = kit(alloc, &[], &[])?;
-    let first = recording(alloc, &[], 1, 9, &[])?;
-    let second = recording(alloc, &[], 2, 2, &[])?;
-    kit.store.add(1, &first, &[], &[])?;
-    kit.store.add(2, &second, &[], &[])?;
-    let mut service = Scripted::new(alloc, FIRST, Some((3, SECOND)), 7);
-    assert_eq!(rt; pump(&rt, alloc, &mut service, &mut kit)?, JobEnd::Stopped);
-    let entries = letters(alloc, &service.notes)?;
-    assert_eq!(rt; entries.as_slice(), b"APPPppEA".as_slice());
-    assert_eq!(rt; kit.store.lent(), 0);
-    assert_eq!(rt; kit.store.peak(), 1);
-    Ok(())
-}
-
-#[test]
-fn a_pump_ends_where_there_is_no_memory(rt: HostRuntime) -> Result<(), Fail> {
-    let alloc = rt.alloc();
-    let mut kit = kit(alloc, &[], &[])?;
-    let text = recording(alloc, &[], 1, 9, &[])?;
-    kit.store.add(1, &text, &[], &[])?;
-    let mut service = Scripted::new(alloc, FIRST, None, 99).with_room(3);
-    assert_eq!(rt; pump(&rt, alloc, &mut service, &mut kit)?, JobEnd::Want);
-    let entries = letters(alloc, &service.notes)?;
-    assert_eq!(rt; entries.as_slice(), b"APP".as_slice());
-    assert_eq!(rt; kit.outlet.count(), 2);
-    assert_eq!(rt; kit.store.lent(), 0);
-    Ok(())
-}
-
-#[test]
-fn a_ticker_ticks_until_it_is_stopped(rt: HostRuntime) -> Result<(), Fail> {
-    let alloc = rt.alloc();
+// A ticker whose clock shows these moments, over a service that stops at a call.
+fn run_ticks<R: Wait + Sync>(
+    rt: &R,
+    alloc: Global,
+    moments: &[u64],
+    stop: usize,
+) -> Result<Ticked, Fail> {
     let mut kit = TickKit {
-        clock: MemoryClock::make(alloc, &[5, 7, 6])?,
+        clock: MemoryClock::make(alloc, moments)?,
         outlet: MemoryOutlet::make(alloc, &[])?,
         pacer: MemoryPacer::new(),
     };
     let mut out = Out::make(alloc)?;
-    let mut service = Scripted::new(alloc, Work::Nothing, None, 2);
-    assert_eq!(rt;
-        run_ticker(&rt, &mut service, &mut kit, &mut out),
-        JobEnd::Stopped
-    );
-    let entries = letters(alloc, &service.notes)?;
+    let mut service = Scripted::new(alloc, Work::Nothing, None, stop);
+    let end = run_ticker(rt, &mut service, &mut kit, &mut out);
+    Ok(Ticked {
+        end,
+        notes: service.notes,
+        pauses: kit.pacer.pauses(),
+    })
+}
+
+// Whether the entry at a place is a tick at this moment.
+fn is_tick_at(notes: &[Note], place: usize, moment: u64) -> bool {
+    match notes.get(place) {
+        Some(note) => note.number == moment,
+        None => false,
+    }
+}
+
+#[test]
+fn a_ticker_ticks_until_it_is_stopped(rt: HostRuntime) -> Result<(), Fail> {
+    let seen = run_ticks(&rt, rt.alloc(), &[5, 7, 6], 2)?;
+    assert_eq!(rt; seen.end, JobEnd::Stopped);
+    let entries = letters(rt.alloc(), &seen.notes)?;
     assert_eq!(rt; entries.as_slice(), b"TTT".as_slice());
-    let second = service.notes.get(1).ok_or("second")?;
-    assert_eq!(rt; second.number, 7);
-    let last = service.notes.last().ok_or("last")?;
-    assert_eq!(rt; last.number, 6);
-    assert!(rt; last.answer == Answer::Beat(Beat::Stopping));
-    assert_eq!(rt; kit.pacer.pauses(), 3);
+    assert!(rt; is_tick_at(&seen.notes, 1, 7) && is_tick_at(&seen.notes, 2, 6));
+    assert!(rt; last_answer(&seen.notes) == Some(Answer::Beat(Beat::Stopping)));
+    assert_eq!(rt; seen.pauses, 3);
     Ok(())
 }

@@ -33,13 +33,216 @@ const BAD: &[u8] = b"RTSP/1.0 400 Bad Request\r\n\r\n";
 
 const HEAD: &[u8] = b"HTTP/1.1 200 OK\r\n";
 
+// A connection over a scripted service, and what serving it is to come to. It receives so many bytes
+// of noise and then these pieces, each alone or all at once; receives, sends and posts of these numbers fail, and of a failing
+// send so many bytes are passed. The service starts a session at a GET or refuses it, answers pulls
+// so, sends a datagram at each call or none, and has room for so many entries. The number of the
+// pauses, datagrams and draws is looked at where it is given.
+#[derive(Clone, Copy)]
+struct Row {
+    name: &'static str,
+    kind: DoorKind,
+    noise: (u8, usize),
+    pieces: &'static [&'static [u8]],
+    joined: bool,
+    receives: &'static [u64],
+    sends: &'static [u64],
+    passed: usize,
+    posts: &'static [u64],
+    starts: bool,
+    pulls: [u8; 4],
+    posting: bool,
+    room: u8,
+    end: ConnEnd,
+    kinds: [u8; 4],
+    sent: &'static [&'static [u8]],
+    pauses: Option<u64>,
+    datagrams: Option<usize>,
+    draws: usize,
+}
+
+// An RTSP connection that receives nothing, over a service with room for four entries.
+const RTSP: Row = Row {
+    name: "",
+    kind: DoorKind::Rtsp,
+    noise: (0, 0),
+    pieces: &[],
+    joined: false,
+    receives: &[],
+    sends: &[],
+    passed: 0,
+    posts: &[],
+    starts: true,
+    pulls: NO_PULLS,
+    posting: false,
+    room: 4,
+    end: ConnEnd::Done,
+    kinds: *b"----",
+    sent: &[],
+    pauses: None,
+    datagrams: None,
+    draws: 0,
+};
+
+// An HTTP connection that receives a GET, over a service with room for four entries.
+const HTTP: Row = Row {
+    kind: DoorKind::Http,
+    pieces: &[GET],
+    ..RTSP
+};
+
+const ROWS: &[Row] = &[
+    Row {
+        name: "a failed send ends the connection behind three entries",
+        pieces: &[SETUP, PLAY, OPTIONS, OPTIONS],
+        joined: true,
+        sends: &[3],
+        passed: 8,
+        end: ConnEnd::WriteFault,
+        kinds: *b"RRR-",
+        sent: &[OK, OK, b"RTSP/1.0"],
+        draws: 3,
+        ..RTSP
+    },
+    Row {
+        name: "messages are answered however they are cut",
+        pieces: &[b"", b"OPTIONS * RTSP/1.0\r\nCS", b"", b"eq: 3\r\n\r\n"],
+        kinds: *b"R---",
+        sent: &[OK],
+        pauses: Some(2),
+        ..RTSP
+    },
+    Row {
+        name: "a closing reply is the last",
+        noise: (b'a', 100000),
+        pieces: &[OPTIONS],
+        kinds: *b"R---",
+        sent: &[BAD],
+        ..RTSP
+    },
+    Row {
+        name: "newlines are no message",
+        noise: (b'\n', 1000000),
+        ..RTSP
+    },
+    Row {
+        name: "half a message is not answered",
+        pieces: &[b"OPTIONS * RTSP/1.0"],
+        ..RTSP
+    },
+    Row {
+        name: "a first receive that fails ends the connection",
+        pieces: &[SETUP],
+        receives: &[1],
+        end: ConnEnd::ReadFault,
+        ..RTSP
+    },
+    Row {
+        name: "a second receive that fails ends the connection",
+        pieces: &[SETUP, PLAY],
+        receives: &[2],
+        end: ConnEnd::ReadFault,
+        kinds: *b"R---",
+        sent: &[OK],
+        ..RTSP
+    },
+    Row {
+        name: "a send that fails has a beginning of the reply",
+        pieces: &[OPTIONS],
+        sends: &[1],
+        passed: 10,
+        end: ConnEnd::WriteFault,
+        kinds: *b"R---",
+        sent: &[b"RTSP/1.0 2"],
+        ..RTSP
+    },
+    Row {
+        name: "a failed outlet changes nothing else",
+        pieces: &[OPTIONS, OPTIONS],
+        joined: true,
+        posts: &[1],
+        posting: true,
+        kinds: *b"RR--",
+        sent: &[OK, OK],
+        datagrams: Some(1),
+        ..RTSP
+    },
+    Row {
+        name: "a full service ends the connection",
+        pieces: &[OPTIONS, OPTIONS],
+        joined: true,
+        room: 1,
+        end: ConnEnd::Want,
+        kinds: *b"R---",
+        sent: &[OK],
+        ..RTSP
+    },
+    Row {
+        name: "a GET is pulled and closed",
+        pulls: *b"EEEE",
+        kinds: *b"GPC-",
+        sent: &[HEAD],
+        ..HTTP
+    },
+    Row {
+        name: "what is pulled is sent until the session is gone",
+        pulls: *b"BB\0\0",
+        kinds: *b"GPPP",
+        sent: &[HEAD, OK, OK],
+        ..HTTP
+    },
+    Row {
+        name: "a session is closed where its head is not sent",
+        sends: &[1],
+        pulls: *b"EEEE",
+        end: ConnEnd::WriteFault,
+        kinds: *b"GC--",
+        ..HTTP
+    },
+    Row {
+        name: "a session is closed where a receive fails",
+        receives: &[2],
+        pulls: *b"EEEE",
+        end: ConnEnd::ReadFault,
+        kinds: *b"GPC-",
+        sent: &[HEAD],
+        ..HTTP
+    },
+    Row {
+        name: "an end closes a session before a send fails",
+        sends: &[2],
+        passed: 4,
+        pulls: *b"EBBB",
+        kinds: *b"GPC-",
+        sent: &[HEAD],
+        ..HTTP
+    },
+    Row {
+        name: "a session is closed where what was pulled is not sent",
+        sends: &[3],
+        passed: 4,
+        pulls: *b"BBBB",
+        end: ConnEnd::WriteFault,
+        kinds: *b"GPPC",
+        sent: &[HEAD, OK, b"RTSP"],
+        ..HTTP
+    },
+    Row {
+        name: "a refused GET has no session",
+        starts: false,
+        kinds: *b"G---",
+        sent: &[BAD],
+        ..HTTP
+    },
+];
+
 // What serving a connection came to.
 #[derive(Drop)]
 struct Report {
     end: ConnEnd,
     service: Scripted,
-    conn: MemoryConn,
-    outlet: MemoryOutlet,
+    sent: Vec<u8>,
+    datagrams: usize,
     pauses: u64,
 }
 
@@ -52,22 +255,47 @@ fn joined(alloc: Global, texts: &[&[u8]]) -> Result<Vec<u8>, Fail> {
     Ok(all)
 }
 
-fn serve<R: Wait + Sync>(
-    rt: &R,
+// What a connection receives at a time.
+fn pieces_of<'a>(
     alloc: Global,
-    kind: DoorKind,
-    mut conn: MemoryConn,
-    mut service: Scripted,
-    failing_posts: &[u64],
-) -> Result<Report, Fail> {
-    let mut outlet = MemoryOutlet::make(alloc, failing_posts)?;
+    row: &Row,
+    noise: &'a [u8],
+    joined: &'a [u8],
+) -> Result<Vec<&'a [u8]>, Fail> {
+    let mut pieces = Vec::new(alloc);
+    if !noise.is_empty() {
+        pieces.push(noise)?;
+    }
+    if row.joined {
+        pieces.push(joined)?;
+        return Ok(pieces);
+    }
+    for piece in row.pieces {
+        pieces.push(*piece)?;
+    }
+    Ok(pieces)
+}
+
+fn conn_of(alloc: Global, row: &Row) -> Result<MemoryConn, Fail> {
+    let (byte, count) = row.noise;
+    let noise = vec![in alloc; byte; count]?;
+    let joined = joined(alloc, row.pieces)?;
+    let pieces = pieces_of(alloc, row, &noise, &joined)?;
+    let conn = MemoryConn::make(alloc, &pieces, row.receives, row.sends, row.passed)?;
+    Ok(conn)
+}
+
+fn serve<R: Wait + Sync>(rt: &R, alloc: Global, row: &Row) -> Result<Report, Fail> {
+    let mut service = Scripted::new(row.starts, row.pulls, row.posting, row.room);
+    let mut conn = conn_of(alloc, row)?;
+    let mut outlet = MemoryOutlet::make(alloc, row.posts)?;
     let mut pacer = MemoryPacer::new();
     let mut draws = Draws::make(&KEY, 1);
     let mut room = Room::make(alloc)?;
     let end = serve_connection(
         rt,
         &mut service,
-        kind,
+        row.kind,
         CLIENT,
         &mut conn,
         &mut outlet,
@@ -78,37 +306,10 @@ fn serve<R: Wait + Sync>(
     Ok(Report {
         end,
         service,
-        conn,
-        outlet,
+        sent: Vec::from_slice(alloc, conn.sent())?,
+        datagrams: outlet.count(),
         pauses: pacer.pauses(),
     })
-}
-
-// An RTSP connection over a service with room, whose receives and sends of these numbers fail.
-fn rtsp<R: Wait + Sync>(
-    rt: &R,
-    alloc: Global,
-    pieces: &[&[u8]],
-    receives: &[u64],
-    sends: &[u64],
-    passed: usize,
-) -> Result<Report, Fail> {
-    let conn = MemoryConn::make(alloc, pieces, receives, sends, passed)?;
-    let service = Scripted::new(true, NO_PULLS, false, 4);
-    serve(rt, alloc, DoorKind::Rtsp, conn, service, &[])
-}
-
-fn http<R: Wait + Sync>(
-    rt: &R,
-    alloc: Global,
-    pulls: [u8; 4],
-    receives: &[u64],
-    sends: &[u64],
-    passed: usize,
-) -> Result<Report, Fail> {
-    let conn = MemoryConn::make(alloc, &[GET], receives, sends, passed)?;
-    let service = Scripted::new(true, pulls, false, 4);
-    serve(rt, alloc, DoorKind::Http, conn, service, &[])
 }
 
 // Whether bytes are these texts one after another.
@@ -123,13 +324,6 @@ fn is_joined(bytes: &[u8], texts: &[&[u8]]) -> bool {
     rest.is_empty()
 }
 
-impl Report {
-    // Whether the connection ended so, after entries of these kinds, and these texts were sent.
-    fn is(&self, end: ConnEnd, kinds: &[u8; 4], sent: &[&[u8]]) -> bool {
-        self.end == end && self.service.kinds() == *kinds && is_joined(self.conn.sent(), sent)
-    }
-}
-
 // Whether the first entries have these draws.
 fn has_draws(service: &Scripted, draws: &mut Draws, count: usize) -> bool {
     for place in 0..count {
@@ -141,154 +335,55 @@ fn has_draws(service: &Scripted, draws: &mut Draws, count: usize) -> bool {
 }
 
 #[test]
-fn a_failed_send_ends_the_connection_behind_three_entries(rt: HostRuntime) -> Result<(), Fail> {
-    let alloc = rt.alloc();
-    let text = joined(alloc, &[SETUP, PLAY, OPTIONS, OPTIONS])?;
-    let report = rtsp(&rt, alloc, &[&text], &[], &[3], 8)?;
-    assert!(rt; report.is(ConnEnd::WriteFault, b"RRR-", &[OK, OK, b"RTSP/1.0"]));
-    assert!(rt; has_draws(&report.service, &mut Draws::make(&KEY, 1), 3));
+fn connections_come_to_what_their_rows_say(rt: HostRuntime) -> Result<(), Fail> {
+    for row in ROWS {
+        let report = serve(&rt, rt.alloc(), row)?;
+        let name = row.name;
+        assert!(rt; report.end == row.end, "{name}");
+        assert!(rt; report.service.kinds() == row.kinds, "{name}");
+        assert!(rt; is_joined(&report.sent, row.sent), "{name}");
+        assert_eq!(rt;
+            report.pauses,
+            row.pauses.unwrap_or(report.pauses),
+            "{name}"
+        );
+        assert_eq!(rt;
+            report.datagrams,
+            row.datagrams.unwrap_or(report.datagrams),
+            "{name}"
+        );
+        let mut draws = Draws::make(&KEY, 1);
+        assert!(rt; has_draws(&report.service, &mut draws, row.draws), "{name}");
+    }
     Ok(())
 }
 
-#[test]
-fn messages_are_answered_however_they_are_cut(rt: HostRuntime) -> Result<(), Fail> {
-    let pieces = [
-        b"".as_slice(),
-        b"OPTIONS * RTSP/1.0\r\nCS".as_slice(),
-        b"".as_slice(),
-        b"eq: 3\r\n\r\n".as_slice(),
-    ];
-    let report = rtsp(&rt, rt.alloc(), &pieces, &[], &[], 0)?;
-    assert!(rt; report.is(ConnEnd::Done, b"R---", &[OK]) && report.pauses == 2);
-    Ok(())
-}
-
-#[test]
-fn a_closing_reply_is_the_last(rt: HostRuntime) -> Result<(), Fail> {
-    let alloc = rt.alloc();
-    let noise = vec![in alloc; b'a'; 100000]?;
-    let report = rtsp(&rt, alloc, &[&noise, OPTIONS], &[], &[], 0)?;
-    assert!(rt; report.is(ConnEnd::Done, b"R---", &[BAD]));
-    Ok(())
-}
-
-#[test]
-fn newlines_are_no_message(rt: HostRuntime) -> Result<(), Fail> {
-    let alloc = rt.alloc();
-    let newlines = vec![in alloc; b'\n'; 1000000]?;
-    let report = rtsp(&rt, alloc, &[&newlines], &[], &[], 0)?;
-    assert!(rt; report.is(ConnEnd::Done, b"----", &[]));
-    Ok(())
-}
-
-#[test]
-fn half_a_message_is_not_answered(rt: HostRuntime) -> Result<(), Fail> {
-    let report = rtsp(&rt, rt.alloc(), &[b"OPTIONS * RTSP/1.0"], &[], &[], 0)?;
-    assert!(rt; report.is(ConnEnd::Done, b"----", &[]));
-    Ok(())
-}
-
-#[test]
-fn a_first_receive_that_fails_ends_the_connection(rt: HostRuntime) -> Result<(), Fail> {
-    let report = rtsp(&rt, rt.alloc(), &[SETUP], &[1], &[], 0)?;
-    assert!(rt; report.is(ConnEnd::ReadFault, b"----", &[]));
-    Ok(())
-}
-
-#[test]
-fn a_second_receive_that_fails_ends_the_connection(rt: HostRuntime) -> Result<(), Fail> {
-    let report = rtsp(&rt, rt.alloc(), &[SETUP, PLAY], &[2], &[], 0)?;
-    assert!(rt; report.is(ConnEnd::ReadFault, b"R---", &[OK]));
-    Ok(())
-}
-
-#[test]
-fn a_send_that_fails_has_a_beginning_of_the_reply(rt: HostRuntime) -> Result<(), Fail> {
-    let report = rtsp(&rt, rt.alloc(), &[OPTIONS], &[], &[1], 10)?;
-    assert!(rt; report.is(ConnEnd::WriteFault, b"R---", &[b"RTSP/1.0 2"]));
-    Ok(())
-}
-
-#[test]
-fn a_failed_outlet_changes_nothing_else(rt: HostRuntime) -> Result<(), Fail> {
-    let alloc = rt.alloc();
-    let text = joined(alloc, &[OPTIONS, OPTIONS])?;
-    let conn = MemoryConn::make(alloc, &[&text], &[], &[], 0)?;
-    let service = Scripted::new(true, NO_PULLS, true, 4);
-    let report = serve(&rt, alloc, DoorKind::Rtsp, conn, service, &[1])?;
-    assert!(rt; report.is(ConnEnd::Done, b"RR--", &[OK, OK]) && report.outlet.count() == 1);
-    Ok(())
-}
-
-#[test]
-fn a_full_service_ends_the_connection(rt: HostRuntime) -> Result<(), Fail> {
-    let alloc = rt.alloc();
-    let text = joined(alloc, &[OPTIONS, OPTIONS])?;
-    let conn = MemoryConn::make(alloc, &[&text], &[], &[], 0)?;
-    let service = Scripted::new(true, NO_PULLS, false, 1);
-    let report = serve(&rt, alloc, DoorKind::Rtsp, conn, service, &[])?;
-    assert!(rt; report.is(ConnEnd::Want, b"R---", &[OK]));
-    Ok(())
-}
-
-#[test]
-fn a_get_is_pulled_and_closed(rt: HostRuntime) -> Result<(), Fail> {
-    let report = http(&rt, rt.alloc(), *b"EEEE", &[], &[], 0)?;
-    assert!(rt; report.is(ConnEnd::Done, b"GPC-", &[HEAD]));
-    Ok(())
-}
-
-#[test]
-fn what_is_pulled_is_sent_until_the_session_is_gone(rt: HostRuntime) -> Result<(), Fail> {
-    let report = http(&rt, rt.alloc(), *b"BB\0\0", &[], &[], 0)?;
-    assert!(rt; report.is(ConnEnd::Done, b"GPPP", &[HEAD, OK, OK]));
-    Ok(())
-}
-
-#[test]
-fn a_session_is_closed_where_its_head_is_not_sent(rt: HostRuntime) -> Result<(), Fail> {
-    let report = http(&rt, rt.alloc(), *b"EEEE", &[], &[1], 0)?;
-    assert!(rt; report.is(ConnEnd::WriteFault, b"GC--", &[]));
-    Ok(())
-}
-
-#[test]
-fn a_session_is_closed_where_a_receive_fails(rt: HostRuntime) -> Result<(), Fail> {
-    let report = http(&rt, rt.alloc(), *b"EEEE", &[2], &[], 0)?;
-    assert!(rt; report.is(ConnEnd::ReadFault, b"GPC-", &[HEAD]));
-    Ok(())
-}
-
-#[test]
-fn an_end_closes_a_session_before_a_send_fails(rt: HostRuntime) -> Result<(), Fail> {
-    let report = http(&rt, rt.alloc(), *b"EBBB", &[], &[2], 4)?;
-    assert!(rt; report.is(ConnEnd::Done, b"GPC-", &[HEAD]));
-    Ok(())
-}
-
-#[test]
-fn a_session_is_closed_where_what_was_pulled_is_not_sent(rt: HostRuntime) -> Result<(), Fail> {
-    let report = http(&rt, rt.alloc(), *b"BBBB", &[], &[3], 4)?;
-    assert!(rt; report.is(ConnEnd::WriteFault, b"GPPC", &[HEAD, OK, b"RTSP"]));
-    Ok(())
-}
-
-#[test]
-fn a_refused_get_has_no_session(rt: HostRuntime) -> Result<(), Fail> {
-    let alloc = rt.alloc();
-    let conn = MemoryConn::make(alloc, &[GET], &[], &[], 0)?;
-    let service = Scripted::new(false, NO_PULLS, false, 4);
-    let report = serve(&rt, alloc, DoorKind::Http, conn, service, &[])?;
-    assert!(rt; report.is(ConnEnd::Done, b"G---", &[BAD]));
-    Ok(())
-}
-
-// What a worker came to.
+// What a worker came to, and the connections that it handed back, with what was sent on all of them.
 #[derive(Drop)]
 struct Shift {
     end: WorkerEnd,
     service: Scripted,
-    kit: WorkerKit<MemoryDoors, MemoryOutlet, MemoryPacer>,
+    pauses: u64,
+    handed: Vec<(DoorKind, ConnEnd)>,
+    sent: Vec<u8>,
+}
+
+// The connections that were handed back.
+fn handed(alloc: Global, doors: &MemoryDoors) -> Result<Vec<(DoorKind, ConnEnd)>, Fail> {
+    let mut all = Vec::new(alloc);
+    for handed in doors.returned() {
+        all.push((handed.kind, handed.end))?;
+    }
+    Ok(all)
+}
+
+// What was sent on the connections that were handed back, one after another.
+fn sent(alloc: Global, doors: &MemoryDoors) -> Result<Vec<u8>, Fail> {
+    let mut all = Vec::new(alloc);
+    for handed in doors.returned() {
+        all.extend_from_slice(handed.conn.sent())?;
+    }
+    Ok(all)
 }
 
 fn work<R: Wait + Sync>(
@@ -306,7 +401,13 @@ fn work<R: Wait + Sync>(
     };
     let mut room = Room::make(alloc)?;
     let end = run_worker(rt, &mut service, &mut kit, number, &mut room);
-    Ok(Shift { end, service, kit })
+    Ok(Shift {
+        end,
+        service,
+        pauses: kit.pacer.pauses(),
+        handed: handed(alloc, &kit.doors)?,
+        sent: sent(alloc, &kit.doors)?,
+    })
 }
 
 fn add(
@@ -329,15 +430,15 @@ fn a_worker_serves_its_connections_until_its_doors_fail(rt: HostRuntime) -> Resu
     add(&mut doors, alloc, DoorKind::Http, GET, &[1])?;
     let service = Scripted::new(true, *b"EEEE", false, 4);
     let shift = work(&rt, alloc, doors, service, 3)?;
-    assert!(rt; shift.end == WorkerEnd::DoorsFault && shift.kit.pacer.pauses() == 1);
+    assert!(rt; shift.end == WorkerEnd::DoorsFault && shift.pauses == 1);
     assert!(rt; shift.service.kinds() == *b"RGC-");
     assert!(rt; has_draws(&shift.service, &mut Draws::make(&KEY, 3), 2));
-    let [first, second] = shift.kit.doors.returned() else {
-        return Err(Fail::from("two connections come back"));
-    };
-    assert!(rt; first.end == ConnEnd::Done && first.kind == DoorKind::Rtsp);
-    assert!(rt; first.conn.sent() == OK);
-    assert!(rt; second.end == ConnEnd::WriteFault && second.kind == DoorKind::Http);
+    let wanted = [
+        (DoorKind::Rtsp, ConnEnd::Done),
+        (DoorKind::Http, ConnEnd::WriteFault),
+    ];
+    assert!(rt; shift.handed.as_slice() == wanted.as_slice());
+    assert_eq!(rt; shift.sent.as_slice(), OK);
     Ok(())
 }
 
@@ -353,18 +454,15 @@ fn ends_behind_two<R: Wait + Sync>(
     }
     let service = Scripted::new(true, NO_PULLS, false, entries);
     let shift = work(rt, alloc, doors, service, 1)?;
-    Ok((shift.end, shift.kit.doors.returned().len()))
+    Ok((shift.end, shift.handed.len()))
 }
 
 #[test]
-fn a_worker_ends_with_its_doors(rt: HostRuntime) -> Result<(), Fail> {
-    assert!(rt; ends_behind_two(&rt, rt.alloc(), 4)? == (WorkerEnd::Closed, 2));
-    Ok(())
-}
-
-#[test]
-fn a_worker_ends_with_its_service(rt: HostRuntime) -> Result<(), Fail> {
-    assert!(rt; ends_behind_two(&rt, rt.alloc(), 1)? == (WorkerEnd::Want, 2));
+fn a_worker_ends_with_its_doors_or_its_service(rt: HostRuntime) -> Result<(), Fail> {
+    for (entries, end) in [(4, WorkerEnd::Closed), (1, WorkerEnd::Want)] {
+        let seen = ends_behind_two(&rt, rt.alloc(), entries)?;
+        assert!(rt; seen == (end, 2), "with room for {entries}");
+    }
     Ok(())
 }
 

@@ -14,9 +14,11 @@ const CLIENT: Peer = Peer { ip: 0x7f00_0001 };
 fn receive<C: Conn>(alloc: Global, conn: &mut C, most: usize) -> Result<(Received, Vec<u8>), Fail> {
     let mut buf = vec![in alloc; 0; most.max(1)]?;
     let answer = conn.receive(&mut buf);
-    if let Received::Got(count) = answer {
-        buf.truncate(count);
-    }
+    let count = match answer {
+        Received::Got(count) => count,
+        _ => 0,
+    };
+    buf.truncate(count);
     Ok((answer, buf))
 }
 
@@ -48,41 +50,53 @@ fn next<D: Doors>(doors: &mut D) -> Door<D::Conn> {
 
 #[test]
 fn a_connection_gives_its_pieces_and_then_ends(rt: HostRuntime) -> Result<(), Fail> {
-    let alloc = rt.alloc();
     let pieces = [b"abc".as_slice(), b"".as_slice(), b"d".as_slice()];
-    let mut conn = MemoryConn::make(alloc, &pieces, &[2], &[], 0)?;
-    let (answer, bytes) = receive(alloc, &mut conn, 2)?;
-    assert_eq!(rt; answer, Received::Got(2));
-    assert_eq!(rt; bytes.as_slice(), b"ab".as_slice());
-    assert_eq!(rt; receive(alloc, &mut conn, 2)?.0, Received::Failed);
-    let (answer, bytes) = receive(alloc, &mut conn, 2)?;
-    assert_eq!(rt; answer, Received::Got(1));
-    assert_eq!(rt; bytes.as_slice(), b"c".as_slice());
-    assert_eq!(rt; receive(alloc, &mut conn, 2)?.0, Received::Idle);
-    let (answer, bytes) = receive(alloc, &mut conn, 9)?;
-    assert_eq!(rt; answer, Received::Got(1));
-    assert_eq!(rt; bytes.first(), Some(&b'd'));
-    assert_eq!(rt; receive(alloc, &mut conn, 9)?.0, Received::End);
-    assert_eq!(rt; receive(alloc, &mut conn, 9)?.0, Received::End);
+    let mut conn = MemoryConn::make(rt.alloc(), &pieces, &[2], &[], 0)?;
+    for (most, wanted, bytes) in [
+        (2, Received::Got(2), b"ab".as_slice()),
+        (2, Received::Failed, b""),
+        (2, Received::Got(1), b"c"),
+        (2, Received::Idle, b""),
+        (9, Received::Got(1), b"d"),
+        (9, Received::End, b""),
+        (9, Received::End, b""),
+    ] {
+        let (answer, received) = receive(rt.alloc(), &mut conn, most)?;
+        assert_eq!(rt; answer, wanted);
+        assert_eq!(rt; received.as_slice(), bytes);
+    }
     Ok(())
 }
 
 #[test]
 fn a_failing_send_passes_some_bytes(rt: HostRuntime) -> Result<(), Fail> {
     let mut conn = MemoryConn::make(rt.alloc(), &[], &[], &[2], 3)?;
-    assert_eq!(rt; conn.send(b"one "), Put::Whole);
-    assert_eq!(rt; conn.send(b"two "), Put::Failed);
-    assert_eq!(rt; conn.send(b"three"), Put::Whole);
+    for (bytes, put) in [
+        (b"one ".as_slice(), Put::Whole),
+        (b"two ", Put::Failed),
+        (b"three", Put::Whole),
+    ] {
+        assert_eq!(rt; conn.send(bytes), put);
+    }
     assert_eq!(rt; conn.sent(), b"one twothree".as_slice());
     Ok(())
 }
 
+// What an outlet answers whose second send fails, and how many datagrams it keeps.
+fn posted(alloc: Global) -> Result<(MemoryOutlet, [Put; 3]), Fail> {
+    let mut outlet = MemoryOutlet::make(alloc, &[2])?;
+    let puts = [
+        post(&mut outlet, 5, b"abc"),
+        post(&mut outlet, 6, b"def"),
+        post(&mut outlet, 7, b""),
+    ];
+    Ok((outlet, puts))
+}
+
 #[test]
 fn an_outlet_keeps_its_datagrams(rt: HostRuntime) -> Result<(), Fail> {
-    let mut outlet = MemoryOutlet::make(rt.alloc(), &[2])?;
-    assert_eq!(rt; post(&mut outlet, 5, b"abc"), Put::Whole);
-    assert_eq!(rt; post(&mut outlet, 6, b"def"), Put::Failed);
-    assert_eq!(rt; post(&mut outlet, 7, b""), Put::Whole);
+    let (outlet, puts) = posted(rt.alloc())?;
+    assert!(rt; puts == [Put::Whole, Put::Failed, Put::Whole]);
     assert_eq!(rt; outlet.count(), 2);
     let Some((to, bytes)) = outlet.datagram(0) else {
         return Err(Fail::from("no datagram"));
@@ -93,42 +107,57 @@ fn an_outlet_keeps_its_datagrams(rt: HostRuntime) -> Result<(), Fail> {
     Ok(())
 }
 
+// A store with a recording of two multiplexes, the takes of the second in other sizes and failing.
+fn two_recordings(
+    alloc: Global,
+    starts: &[u64],
+    takes: &[usize],
+    failing: &[u64],
+) -> Result<MemoryStore, Fail> {
+    let mut store = MemoryStore::make(alloc, starts)?;
+    store.add(1, b"first", &[], &[])?;
+    store.add(2, b"second", takes, failing)?;
+    Ok(store)
+}
+
 #[test]
 fn a_store_starts_the_recording_of_a_multiplex(rt: HostRuntime) -> Result<(), Fail> {
-    let mut store = MemoryStore::make(rt.alloc(), &[2])?;
-    store.add(1, b"first", &[], &[])?;
-    store.add(2, b"second", &[4], &[2])?;
-    let mut buf = [0; 9];
+    let mut store = two_recordings(rt.alloc(), &[2], &[4], &[2])?;
     let Ok(mut from) = start(&mut store, 2) else {
         return Err(Fail::from("no recording"));
     };
-    assert_eq!(rt; from.take(&mut buf), Taken::Got(4));
-    assert_eq!(rt; &buf[..4], b"seco".as_slice());
-    assert_eq!(rt; from.take(&mut buf), Taken::Failed);
-    assert_eq!(rt; from.take(&mut buf), Taken::Got(2));
-    assert_eq!(rt; from.take(&mut buf), Taken::End);
+    for (wanted, bytes) in [
+        (Taken::Got(4), b"seco".as_slice()),
+        (Taken::Failed, b""),
+        (Taken::Got(2), b"nd"),
+        (Taken::End, b""),
+    ] {
+        let mut buf = [0; 9];
+        assert_eq!(rt; from.take(&mut buf), wanted);
+        assert!(rt; buf.starts_with(bytes));
+    }
     assert_eq!(rt; store.lent(), 1);
     store.back(from);
     assert_eq!(rt; store.lent(), 0);
-    assert!(rt; start(&mut store, 1).is_err());
-    assert!(rt; start(&mut store, 3).is_err());
+    for mux in [1, 3] {
+        assert!(rt; start(&mut store, mux).is_err(), "at {mux}");
+    }
     assert_eq!(rt; store.lent(), 0);
     Ok(())
 }
 
 #[test]
 fn a_store_counts_the_sources_that_are_out(rt: HostRuntime) -> Result<(), Fail> {
-    let mut store = MemoryStore::make(rt.alloc(), &[])?;
-    store.add(1, b"first", &[], &[])?;
-    store.add(2, b"second", &[], &[])?;
-    let (Ok(first), Ok(second)) = (start(&mut store, 1), start(&mut store, 2)) else {
-        return Err(Fail::from("no recording"));
-    };
+    let mut store = two_recordings(rt.alloc(), &[], &[], &[])?;
+    let mut out = Vec::new(rt.alloc());
+    for mux in [1, 2] {
+        out.push(start(&mut store, mux).ok().ok_or("no recording")?)?;
+    }
     assert_eq!(rt; store.lent(), 2);
-    store.back(first);
-    assert_eq!(rt; store.lent(), 1);
-    store.back(second);
-    assert_eq!(rt; store.lent(), 0);
+    for lent in [1, 0] {
+        store.back(out.pop().ok_or("a source")?);
+        assert_eq!(rt; store.lent(), lent);
+    }
     assert_eq!(rt; store.peak(), 2);
     Ok(())
 }
@@ -136,9 +165,9 @@ fn a_store_counts_the_sources_that_are_out(rt: HostRuntime) -> Result<(), Fail> 
 #[test]
 fn a_clock_shows_its_moments_and_a_pacer_counts(rt: HostRuntime) -> Result<(), Fail> {
     let mut clock = MemoryClock::make(rt.alloc(), &[7, 5])?;
-    assert_eq!(rt; moment(&mut clock), 7);
-    assert_eq!(rt; moment(&mut clock), 5);
-    assert_eq!(rt; moment(&mut clock), 0);
+    for wanted in [7, 5, 0] {
+        assert_eq!(rt; moment(&mut clock), wanted);
+    }
     let mut pacer = MemoryPacer::new();
     pause(&mut pacer);
     pause(&mut pacer);
@@ -163,13 +192,25 @@ fn turn(doors: &mut MemoryDoors) -> u8 {
     }
 }
 
+// Doors by which connections of these kinds come.
+fn doors_of(
+    alloc: Global,
+    limit: u32,
+    idle: &[u64],
+    failing: &[u64],
+    kinds: &[DoorKind],
+) -> Result<MemoryDoors, Fail> {
+    let mut doors = MemoryDoors::make(alloc, limit, idle, failing)?;
+    for kind in kinds {
+        doors.add(*kind, CLIENT, MemoryConn::make(alloc, &[], &[], &[], 0)?)?;
+    }
+    Ok(doors)
+}
+
 #[test]
 fn doors_end_at_their_limit(rt: HostRuntime) -> Result<(), Fail> {
-    let alloc = rt.alloc();
-    let mut doors = MemoryDoors::make(alloc, 2, &[2], &[4])?;
-    for kind in [DoorKind::Rtsp, DoorKind::Http, DoorKind::Rtsp] {
-        doors.add(kind, CLIENT, MemoryConn::make(alloc, &[], &[], &[], 0)?)?;
-    }
+    let kinds = [DoorKind::Rtsp, DoorKind::Http, DoorKind::Rtsp];
+    let mut doors = doors_of(rt.alloc(), 2, &[2], &[4], &kinds)?;
     for wanted in *b"RIHFEE" {
         assert_eq!(rt; turn(&mut doors), wanted);
     }
@@ -179,11 +220,7 @@ fn doors_end_at_their_limit(rt: HostRuntime) -> Result<(), Fail> {
 
 #[test]
 fn doors_without_a_limit_end_with_their_connections(rt: HostRuntime) -> Result<(), Fail> {
-    let alloc = rt.alloc();
-    let mut doors = MemoryDoors::make(alloc, 0, &[], &[])?;
-    for kind in [DoorKind::Http, DoorKind::Rtsp] {
-        doors.add(kind, CLIENT, MemoryConn::make(alloc, &[], &[], &[], 0)?)?;
-    }
+    let mut doors = doors_of(rt.alloc(), 0, &[], &[], &[DoorKind::Http, DoorKind::Rtsp])?;
     for wanted in *b"HRE" {
         assert_eq!(rt; turn(&mut doors), wanted);
     }

@@ -3,3 +3,4 @@ pub mod Logging
 pub mod Jobs
 pub mod Runs
 pub mod Gearing
+pub mod Judging

@@ -1,3 +1,4 @@
 pub mod Gears
 pub mod Memories
 pub mod Sent
+pub mod Judged

@@ -1,7 +1,7 @@
 //! The server with all its jobs, each with a journal, from the first reading of the clock to the
 //! last join.
 
-ghost use Rattle.std.specs.Prelude.{◌≡◌, ◌+◌, ◌≤◌, ◌<◌, ◌^◌, ◌∷◌, map, length, vec_capacity, IfOk, IfErr};
+ghost use Rattle.std.specs.Prelude.{◌≡◌, ◌+◌, ◌≤◌, ◌<◌, ◌^◌, ◌∷◌, false, map, length, vec_capacity, IfOk, IfErr};
 ghost use Rattle.satip_fronts.specs.FrontEnds.{IsNumbered};
 ghost use Rattle.satip_history.specs.Lists.{Each};
 ghost use Rattle.satip_plain.specs.Histories.{Legal};
@@ -15,6 +15,7 @@ ghost use Rattle.satip_journal.specs.Journals.{AreCallersOf, journals};
 ghost use Rattle.satip_journal.specs.Typed.{IsTyped};
 ghost use Rattle.satip_crew.specs.Crews.{IsSpace};
 ghost use Rattle.satip_journaling.specs.Gears.{WentOn, others_of};
+ghost use Rattle.satip_journaling.specs.Judged.{AreOneHistory};
 ghost use Rattle.satip_journaling.specs.Memories.{IsMemory};
 ghost use Rattle.satip_journaling.specs.Sent.{AreWritten};
 
@@ -364,11 +365,14 @@ pub fn serve_journaled<
         (map K.drain sinks.items) (map K.drain served.1.sinks.items)
         (journals served.0.server.setting.start 0 (numbers_of served.0.pass.kept)
         served.0.pass.seen)) }
-    // these callers made all entries, whose values are of their types: so whole journals are one
-    // legal history
+    // these callers made all entries, whose values are of their types; so whole journals, put
+    // together in any order, are judged `yes`
     ensures callers { IfOk result (λ served. AreCallersOf (0 ∷ numbers_of served.0.pass.kept)
         served.0.pass.seen) }
     ensures typed { IfOk result (λ served. Each IsTyped served.0.pass.seen) }
+    ensures yes { IfOk result (λ served. served.1.failed ≡ false
+        → AreOneHistory K.tells served.0.server.setting served.0.pass.seen
+        (map K.drain sinks.items) (map K.drain served.1.sinks.items)) }
     ensures unused { IfErr result (λ back. Unused C.dial jobs.workers.items back.0.workers.items
         jobs.pumps.items back.0.pumps.items jobs.tick back.0.tick) }
     ensures unused_sinks { IfErr result (λ back. back.1.items ≡ sinks.items) }

@@ -18,8 +18,7 @@ const CLIENT: Peer = Peer { ip: 0xc0a8_0114 };
 
 const OPTIONS: &[u8] = b"OPTIONS * RTSP/1.0\r\nCSeq: 1\r\n\r\n";
 
-pub(crate) type MemoryJobs =
-    Jobs<MemoryDoors, MemoryOutlet, MemoryPacer, MemoryStore, MemoryClock>;
+pub(crate) type MemoryJobs = Jobs<MemoryDoors, MemoryOutlet, MemoryPacer, MemoryStore, MemoryClock>;
 
 // A server without front ends, with one worker.
 pub(crate) fn config(alloc: Global) -> Config

@@ -1,5 +1,5 @@
 //! Texts at the limits, fed in pieces of several sizes.
-use satip_frame::{Framer, Step};
+use satip_frame::{Framer, Message, Step};
 use std::alloc::{AllocError, Global};
 use std::test::Fail;
 
@@ -26,55 +26,260 @@ fn read_all(framer: &mut Framer, text: &[u8], size: usize) -> (usize, Step) {
     (count, Step::More)
 }
 
-// A message with further header lines, each `line` so many times, and then `more`.
-fn message_with(
-    alloc: Global,
-    line: &[u8],
-    times: usize,
-    more: &[u8],
-) -> Result<Vec<u8>, AllocError> {
-    let mut text = Vec::from_slice(alloc, b"OPTIONS * RTSP/1.0\r\nCSeq: 1\r\n")?;
-    for _ in 0..times {
-        text.extend_from_slice(line)?;
+// A text of these parts, each so often, which is fed in pieces of at most this size, how many
+// messages it has, and the last step.
+#[derive(Clone, Copy)]
+struct Row {
+    name: &'static str,
+    parts: &'static [(&'static [u8], usize)],
+    size: usize,
+    count: usize,
+    step: Step,
+}
+
+const BEGINNING: (&[u8], usize) = (b"OPTIONS * RTSP/1.0\r\nCSeq: 1\r\n", 1);
+
+const END: (&[u8], usize) = (b"\r\n", 1);
+
+// A head that is bad.
+const BAD: Row = Row {
+    name: "",
+    parts: &[],
+    size: 7,
+    count: 0,
+    step: Step::Bad,
+};
+
+const ROWS: &[Row] = &[
+    Row {
+        name: "one byte at a time",
+        parts: &[(OPTIONS, 1)],
+        size: 1,
+        count: 1,
+        step: Step::More,
+    },
+    Row {
+        name: "a head of 8192 bytes",
+        parts: &[BEGINNING, (b"X: ", 1), (b"a", 8156), (b"\r\n\r\n", 1)],
+        size: 4096,
+        count: 1,
+        step: Step::More,
+    },
+    Row {
+        name: "a head of 8193 bytes",
+        parts: &[BEGINNING, (b"X: a", 1), (b"a", 8156), (b"\r\n\r\n", 1)],
+        size: 4096,
+        count: 0,
+        step: Step::Bad,
+    },
+    Row {
+        name: "a body of 4096 bytes",
+        parts: &[
+            BEGINNING,
+            (b"Content-Length: 4096\r\n\r\n", 1),
+            (b"x", 4096),
+            (OPTIONS, 1),
+        ],
+        size: 1000,
+        count: 2,
+        step: Step::More,
+    },
+    Row {
+        name: "a body of 4097 bytes",
+        parts: &[
+            BEGINNING,
+            (b"content-length: 4097\r\n\r\n", 1),
+            (b"x", 4096),
+        ],
+        size: 1000,
+        count: 0,
+        step: Step::TooLong,
+    },
+    Row {
+        name: "two lengths",
+        parts: &[BEGINNING, (b"Content-Length: 0\r\n", 2), END],
+        size: 1000,
+        count: 0,
+        step: Step::Bad,
+    },
+    Row {
+        name: "a length with a sign",
+        parts: &[BEGINNING, (b"Content-Length: +1\r\n", 1), END],
+        size: 1000,
+        count: 0,
+        step: Step::Bad,
+    },
+    Row {
+        name: "64 headers",
+        parts: &[BEGINNING, (b"X: 1\r\n", 63), END],
+        size: 500,
+        count: 1,
+        step: Step::More,
+    },
+    Row {
+        name: "65 headers",
+        parts: &[BEGINNING, (b"X: 1\r\n", 64), END],
+        size: 500,
+        count: 0,
+        step: Step::Bad,
+    },
+    Row {
+        name: "a million ends of lines",
+        parts: &[(b"\n", 1_000_000)],
+        size: 4096,
+        count: 0,
+        step: Step::More,
+    },
+    Row {
+        name: "a million ends of lines before a message",
+        parts: &[(b"\n", 1_000_000), (OPTIONS, 1)],
+        size: 4096,
+        count: 1,
+        step: Step::More,
+    },
+    Row {
+        name: "a hundred thousand letters behind a message",
+        parts: &[(OPTIONS, 1), (b"a", 100_000)],
+        size: 4096,
+        count: 1,
+        step: Step::Bad,
+    },
+    Row {
+        name: "two spaces",
+        parts: &[(b"OPTIONS  * RTSP/1.0\r\n\r\n", 1)],
+        ..BAD
+    },
+    Row {
+        name: "a space at the end",
+        parts: &[(b"OPTIONS * RTSP/1.0 \r\n\r\n", 1)],
+        ..BAD
+    },
+    Row {
+        name: "two words",
+        parts: &[(b"OPTIONS *\r\n\r\n", 1)],
+        ..BAD
+    },
+    Row {
+        name: "a parenthesis in a method",
+        parts: &[(b"OPT(NS * RTSP/1.0\r\n\r\n", 1)],
+        ..BAD
+    },
+    Row {
+        name: "a byte past ASCII in a target",
+        parts: &[(b"OPTIONS \x80 RTSP/1.0\r\n\r\n", 1)],
+        ..BAD
+    },
+    Row {
+        name: "a version of 17 bytes",
+        parts: &[(b"OPTIONS * 12345678901234567\r\n\r\n", 1)],
+        ..BAD
+    },
+    Row {
+        name: "a space before a colon",
+        parts: &[(b"OPTIONS * RTSP/1.0\r\nCSeq : 1\r\n\r\n", 1)],
+        ..BAD
+    },
+    Row {
+        name: "a folded line",
+        parts: &[(b"OPTIONS * RTSP/1.0\r\nX: 1\r\n 2\r\n\r\n", 1)],
+        ..BAD
+    },
+    Row {
+        name: "two carriage returns",
+        parts: &[(b"OPTIONS * RTSP/1.0\r\n\r\r\n\r\n", 1)],
+        ..BAD
+    },
+    Row {
+        name: "a version of 16 bytes, and another message",
+        parts: &[
+            (b"OPTIONS * 1234567890123456\nX:\xff\x09\n\n", 1),
+            (b"OPTIONS * RTSP/1.0\n\n", 1),
+        ],
+        size: 7,
+        count: 2,
+        step: Step::More,
+    },
+];
+
+// The parts one after another.
+fn text_of(alloc: Global, parts: &[(&[u8], usize)]) -> Result<Vec<u8>, AllocError> {
+    let mut text = Vec::new(alloc);
+    for (part, times) in parts {
+        for _ in 0..*times {
+            text.extend_from_slice(part)?;
+        }
     }
-    text.extend_from_slice(more)?;
     Ok(text)
+}
+
+// Whether no more is taken and no other step follows once a framer has ended.
+fn stays_ended(framer: &mut Framer, step: Step) -> bool {
+    step == Step::More || framer.feed(OPTIONS) == 0 && framer.next() == step
+}
+
+#[test]
+fn texts_have_the_messages_that_their_rows_say(rt: HostRuntime) -> Result<(), Fail> {
+    let mut framer = Framer::make(rt.alloc())?;
+    for row in ROWS {
+        let text = text_of(rt.alloc(), row.parts)?;
+        let name = row.name;
+        framer.reset();
+        let seen = read_all(&mut framer, &text, row.size);
+        assert_eq!(rt; seen, (row.count, row.step), "{name}");
+        assert!(rt; stays_ended(&mut framer, row.step), "{name}");
+    }
+    Ok(())
+}
+
+// Whether one message is found that is fed in two pieces.
+fn is_found(framer: &mut Framer, front: &[u8], back: &[u8]) -> bool {
+    framer.reset();
+    framer.feed(front) == front.len()
+        && framer.next() == Step::More
+        && framer.feed(back) == back.len()
+        && framer.next() == Step::Message
+        && framer.next() == Step::More
 }
 
 #[test]
 fn one_message_however_it_is_cut(rt: HostRuntime) -> Result<(), Fail> {
-    let mut framer = Framer::make(rt.alloc()).ok().ok_or("memory")?;
+    let mut framer = Framer::make(rt.alloc())?;
     for cut in 0..OPTIONS.len() {
-        framer.reset();
         let (front, back) = OPTIONS.split_at(cut);
-        assert_eq!(rt; framer.feed(front), cut);
-        assert_eq!(rt; framer.next(), Step::More);
-        assert_eq!(rt; framer.feed(back), back.len());
-        assert_eq!(rt; framer.next(), Step::Message);
-        assert_eq!(rt; framer.next(), Step::More);
+        assert!(rt; is_found(&mut framer, front, back), "cut at {cut}");
     }
-    framer.reset();
-    assert_eq!(rt; read_all(&mut framer, OPTIONS, 1), (1, Step::More));
     Ok(())
+}
+
+// Whether a message has these words.
+fn has_words(message: &Message, method: &[u8], target: &[u8], version: &[u8]) -> bool {
+    message.method() == method && message.target() == target && message.version() == version
+}
+
+// Whether a message has these fields.
+fn has_fields(message: &Message, fields: &[(&[u8], Option<&[u8]>)]) -> bool {
+    for (name, value) in fields {
+        if message.header(name) != *value {
+            return false;
+        }
+    }
+    true
 }
 
 #[test]
 fn a_message_has_words_and_headers(rt: HostRuntime) -> Result<(), Fail> {
-    let mut framer = Framer::make(rt.alloc()).ok().ok_or("memory")?;
+    let mut framer = Framer::make(rt.alloc())?;
     assert!(rt; framer.message().is_none());
-    let text = b"\r\nPLAY /stream=1 RTSP/1.0\nCSeq:\t7 \r\nSession: a\nsession: b\r\n\r\n";
-    framer.feed(text);
+    framer.feed(b"\r\nPLAY /stream=1 RTSP/1.0\nCSeq:\t7 \r\nSession: a\nsession: b\r\n\r\n");
     assert_eq!(rt; framer.next(), Step::Message);
     let message = framer.message().ok_or("message")?;
-    assert_eq!(rt; message.method(), b"PLAY".as_slice());
-    assert_eq!(rt; message.target(), b"/stream=1".as_slice());
-    assert_eq!(rt; message.version(), b"RTSP/1.0".as_slice());
-    assert_eq!(rt; message.header(b"cseq").ok_or("CSeq")?, b"7".as_slice());
-    assert_eq!(rt;
-        message.header(b"SESSION").ok_or("Session")?,
-        b"a".as_slice()
-    );
-    assert!(rt; message.header(b"Require").is_none());
+    assert!(rt; has_words(&message, b"PLAY", b"/stream=1", b"RTSP/1.0"));
+    let fields: [(&[u8], Option<&[u8]>); 3] = [
+        (b"cseq", Some(b"7")),
+        (b"SESSION", Some(b"a")),
+        (b"Require", None),
+    ];
+    assert!(rt; has_fields(&message, &fields));
     framer.feed(b"P");
     assert!(rt; framer.message().is_none());
     Ok(())
@@ -82,7 +287,7 @@ fn a_message_has_words_and_headers(rt: HostRuntime) -> Result<(), Fail> {
 
 #[test]
 fn what_waits_is_shown_and_passed_over(rt: HostRuntime) -> Result<(), Fail> {
-    let mut framer = Framer::make(rt.alloc()).ok().ok_or("memory")?;
+    let mut framer = Framer::make(rt.alloc())?;
     framer.reset();
     assert!(rt; framer.held().is_empty());
     framer.feed(b"$\x00\x00\x01OOPTIONS * RTSP/1.0\r\n\r\nleft");
@@ -102,7 +307,7 @@ fn what_waits_is_shown_and_passed_over(rt: HostRuntime) -> Result<(), Fail> {
 
 #[test]
 fn a_message_is_gone_where_bytes_are_passed_over(rt: HostRuntime) -> Result<(), Fail> {
-    let mut framer = Framer::make(rt.alloc()).ok().ok_or("memory")?;
+    let mut framer = Framer::make(rt.alloc())?;
     framer.reset();
     framer.feed(b"OPTIONS * RTSP/1.0\r\n\r\n");
     match framer.next() {
@@ -112,84 +317,5 @@ fn a_message_is_gone_where_bytes_are_passed_over(rt: HostRuntime) -> Result<(), 
         Step::TooLong => return Err(Fail::from("TooLong")),
     }
     assert!(rt; framer.message().is_none());
-    Ok(())
-}
-
-#[test]
-fn a_head_has_at_most_8192_bytes(rt: HostRuntime) -> Result<(), Fail> {
-    let mut framer = Framer::make(rt.alloc()).ok().ok_or("memory")?;
-    let line = vec![in rt.alloc(); b'a'; 8156]?;
-    let mut head = message_with(rt.alloc(), b"X: ", 1, &line)?;
-    head.extend_from_slice(b"\r\n\r\n")?;
-    assert_eq!(rt; read_all(&mut framer, &head, 4096), (1, Step::More));
-    framer.reset();
-    let mut longer = message_with(rt.alloc(), b"X: a", 1, &line)?;
-    longer.extend_from_slice(b"\r\n\r\n")?;
-    assert_eq!(rt; read_all(&mut framer, &longer, 4096), (0, Step::Bad));
-    assert_eq!(rt; framer.feed(OPTIONS), 0);
-    assert_eq!(rt; framer.next(), Step::Bad);
-    Ok(())
-}
-
-#[test]
-fn a_body_has_at_most_4096_bytes(rt: HostRuntime) -> Result<(), Fail> {
-    let mut framer = Framer::make(rt.alloc()).ok().ok_or("memory")?;
-    let body = vec![in rt.alloc(); b'x'; 4096]?;
-    let mut text = message_with(rt.alloc(), b"Content-Length: 4096\r\n\r\n", 1, &body)?;
-    text.extend_from_slice(OPTIONS)?;
-    assert_eq!(rt; read_all(&mut framer, &text, 1000), (2, Step::More));
-    framer.reset();
-    let longer = message_with(rt.alloc(), b"content-length: 4097\r\n\r\n", 1, &body)?;
-    assert_eq!(rt; read_all(&mut framer, &longer, 1000), (0, Step::TooLong));
-    framer.reset();
-    let twice = message_with(rt.alloc(), b"Content-Length: 0\r\n", 2, b"\r\n")?;
-    assert_eq!(rt; read_all(&mut framer, &twice, 1000), (0, Step::Bad));
-    framer.reset();
-    let sign = message_with(rt.alloc(), b"Content-Length: +1\r\n", 1, b"\r\n")?;
-    assert_eq!(rt; read_all(&mut framer, &sign, 1000), (0, Step::Bad));
-    Ok(())
-}
-
-#[test]
-fn a_message_has_at_most_64_headers(rt: HostRuntime) -> Result<(), Fail> {
-    let mut framer = Framer::make(rt.alloc()).ok().ok_or("memory")?;
-    let most = message_with(rt.alloc(), b"X: 1\r\n", 63, b"\r\n")?;
-    assert_eq!(rt; read_all(&mut framer, &most, 500), (1, Step::More));
-    let more = message_with(rt.alloc(), b"X: 1\r\n", 64, b"\r\n")?;
-    assert_eq!(rt; read_all(&mut framer, &more, 500), (0, Step::Bad));
-    Ok(())
-}
-
-#[test]
-fn long_texts_without_a_message(rt: HostRuntime) -> Result<(), Fail> {
-    let mut framer = Framer::make(rt.alloc()).ok().ok_or("memory")?;
-    let lines = vec![in rt.alloc(); b'\n'; 1_000_000]?;
-    assert_eq!(rt; read_all(&mut framer, &lines, 4096), (0, Step::More));
-    assert_eq!(rt; read_all(&mut framer, OPTIONS, 4096), (1, Step::More));
-    let letters = vec![in rt.alloc(); b'a'; 100_000]?;
-    assert_eq!(rt; read_all(&mut framer, &letters, 4096), (0, Step::Bad));
-    Ok(())
-}
-
-#[test]
-fn heads_that_are_bad(rt: HostRuntime) -> Result<(), Fail> {
-    let mut framer = Framer::make(rt.alloc()).ok().ok_or("memory")?;
-    for head in [
-        b"OPTIONS  * RTSP/1.0\r\n\r\n".as_slice(),
-        b"OPTIONS * RTSP/1.0 \r\n\r\n".as_slice(),
-        b"OPTIONS *\r\n\r\n".as_slice(),
-        b"OPT(NS * RTSP/1.0\r\n\r\n".as_slice(),
-        b"OPTIONS \x80 RTSP/1.0\r\n\r\n".as_slice(),
-        b"OPTIONS * 12345678901234567\r\n\r\n".as_slice(),
-        b"OPTIONS * RTSP/1.0\r\nCSeq : 1\r\n\r\n".as_slice(),
-        b"OPTIONS * RTSP/1.0\r\nX: 1\r\n 2\r\n\r\n".as_slice(),
-        b"OPTIONS * RTSP/1.0\r\n\r\r\n\r\n".as_slice(),
-    ] {
-        framer.reset();
-        assert_eq!(rt; read_all(&mut framer, head, 7), (0, Step::Bad));
-    }
-    framer.reset();
-    let text = b"OPTIONS * 1234567890123456\nX:\xff\x09\n\nOPTIONS * RTSP/1.0\r\n\n";
-    assert_eq!(rt; read_all(&mut framer, text, 7), (2, Step::More));
     Ok(())
 }

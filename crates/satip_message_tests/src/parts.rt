@@ -25,28 +25,143 @@ fn worked_frames()
     ensures message { behind Between (codes "A$b") ≡ codes "A$b" }
 {}
 
+// Texts that are fed, each so often, and the step that follows each time; with a message's method
+// where it is looked at.
+type Feed = (&'static [u8], usize, Step, Option<&'static [u8]>);
+
+const ROWS: &[(&str, &[Feed])] = &[
+    (
+        "a dollar in a body is no frame",
+        &[
+            (
+                b"SET_PARAMETER * RTSP/1.0\r\nContent-Length: 5\r\n\r\n$\x00\x00\x09$$\x00\x00\x01$OPTIONS * RTSP/1.0\r\n\r\n",
+                1,
+                Step::Message,
+                Some(b"SET_PARAMETER"),
+            ),
+            (b"", 1, Step::Message, Some(b"OPTIONS")),
+            (b"", 1, Step::More, None),
+        ],
+    ),
+    (
+        "a frame without content",
+        &[
+            (b"$\x00\x00\x00\r\n$\xff\x00\x00", 1, Step::More, None),
+            (OPTIONS, 1, Step::Message, None),
+        ],
+    ),
+    (
+        "a frame of 65535 bytes",
+        &[
+            (b"$\x05\xff\xff", 1, Step::More, None),
+            (&[b'$'; 4369], 15, Step::More, None),
+            (OPTIONS, 1, Step::Message, None),
+        ],
+    ),
+    (
+        "a frame that never ends",
+        &[
+            (b"$\x00\xff\xff", 1, Step::More, None),
+            (OPTIONS, 101, Step::More, None),
+        ],
+    ),
+    (
+        "a broken text stays broken",
+        &[
+            (b"$\x00\x00\x01xno message\r\n\r\n", 1, Step::Bad, None),
+            (OPTIONS, 1, Step::Bad, None),
+        ],
+    ),
+    (
+        "a long body stays too long",
+        &[
+            (
+                b"SET_PARAMETER * RTSP/1.0\r\nContent-Length: 4097\r\n\r\n",
+                1,
+                Step::TooLong,
+                None,
+            ),
+            (OPTIONS, 1, Step::TooLong, None),
+        ],
+    ),
+];
+
+// Whether the message that was found has this method.
+fn has_method(parter: &Parter, method: &[u8]) -> bool {
+    match parter.message() {
+        Some(message) => message.method() == method,
+        None => false,
+    }
+}
+
+// Whether the step behind a text is this one. All of the text is taken, and nothing once the parts
+// ended.
+fn steps(parter: &mut Parter, text: &[u8], ended: bool, step: Step) -> bool {
+    let taken = if ended { 0 } else { text.len() };
+    parter.feed(text) == taken && parter.next() == step
+}
+
+fn ends(step: Step) -> bool {
+    match step {
+        Step::Bad | Step::TooLong => true,
+        Step::Message | Step::More => false,
+    }
+}
+
+// Whether each text is followed by its step.
+fn all_follow(parter: &mut Parter, feeds: &[Feed]) -> bool {
+    let mut ended = false;
+    for (text, times, step, method) in feeds {
+        for _ in 0..*times {
+            if !steps(parter, text, ended, *step) {
+                return false;
+            }
+        }
+        if let Some(method) = method {
+            if !has_method(parter, method) {
+                return false;
+            }
+        }
+        ended = ends(*step);
+    }
+    true
+}
+
+#[test]
+fn frames_are_passed_over_as_their_rows_say(rt: HostRuntime) -> Result<(), Fail> {
+    worked_frames();
+    let mut parter = Parter::make(rt.alloc())?;
+    for (name, feeds) in ROWS {
+        parter.reset();
+        assert!(rt; all_follow(&mut parter, feeds), "{name}");
+    }
+    Ok(())
+}
+
 #[test]
 fn a_frame_and_options_cut_at_every_byte(rt: HostRuntime) -> Result<(), Fail> {
-    worked_frames();
-    let mut parter = Parter::make(rt.alloc()).ok().ok_or("memory")?;
+    let mut parter = Parter::make(rt.alloc())?;
     for cut in 0..FRAME_AND_OPTIONS.len() {
         parter.reset();
         let (front, back) = FRAME_AND_OPTIONS.split_at(cut);
-        assert_eq!(rt; parter.feed(front), cut);
-        assert_eq!(rt; parter.next(), Step::More);
-        assert_eq!(rt; parter.feed(back), back.len());
-        assert_eq!(rt; parter.next(), Step::Message);
-        let message = parter.message().ok_or("message")?;
-        assert!(rt; message.method() == b"OPTIONS".as_slice());
-        assert_eq!(rt; parter.next(), Step::More);
-        assert!(rt; parter.message().is_none());
+        assert!(rt;
+            steps(&mut parter, front, false, Step::More),
+            "cut at {cut}"
+        );
+        assert!(rt;
+            steps(&mut parter, back, false, Step::Message),
+            "cut at {cut}"
+        );
+        assert!(rt; has_method(&parter, b"OPTIONS"), "cut at {cut}");
+        assert!(rt; steps(&mut parter, b"", false, Step::More), "cut at {cut}");
+        assert!(rt; parter.message().is_none(), "cut at {cut}");
     }
     Ok(())
 }
 
 #[test]
 fn one_byte_at_a_time(rt: HostRuntime) -> Result<(), Fail> {
-    let mut parter = Parter::make(rt.alloc()).ok().ok_or("memory")?;
+    let mut parter = Parter::make(rt.alloc())?;
     let mut found = 0u8;
     for byte in FRAME_AND_OPTIONS {
         assert_eq!(rt; parter.feed(&[*byte]), 1);
@@ -55,69 +170,5 @@ fn one_byte_at_a_time(rt: HostRuntime) -> Result<(), Fail> {
         }
     }
     assert_eq!(rt; found, 1);
-    Ok(())
-}
-
-#[test]
-fn a_dollar_in_a_body_is_no_frame(rt: HostRuntime) -> Result<(), Fail> {
-    let mut parter = Parter::make(rt.alloc()).ok().ok_or("memory")?;
-    parter.feed(b"SET_PARAMETER * RTSP/1.0\r\nContent-Length: 5\r\n\r\n$\x00\x00\x09$");
-    parter.feed(b"$\x00\x00\x01$OPTIONS * RTSP/1.0\r\n\r\n");
-    assert_eq!(rt; parter.next(), Step::Message);
-    assert!(rt; parter.message().ok_or("first")?.method() == b"SET_PARAMETER".as_slice());
-    assert_eq!(rt; parter.next(), Step::Message);
-    assert!(rt; parter.message().ok_or("second")?.method() == b"OPTIONS".as_slice());
-    assert_eq!(rt; parter.next(), Step::More);
-    Ok(())
-}
-
-#[test]
-fn a_frame_without_content(rt: HostRuntime) -> Result<(), Fail> {
-    let mut parter = Parter::make(rt.alloc()).ok().ok_or("memory")?;
-    parter.feed(b"$\x00\x00\x00\r\n$\xff\x00\x00");
-    assert_eq!(rt; parter.next(), Step::More);
-    parter.feed(OPTIONS);
-    assert_eq!(rt; parter.next(), Step::Message);
-    Ok(())
-}
-
-#[test]
-fn a_frame_of_65535_bytes(rt: HostRuntime) -> Result<(), Fail> {
-    let mut parter = Parter::make(rt.alloc()).ok().ok_or("memory")?;
-    parter.feed(b"$\x05\xff\xff");
-    for _ in 0..15 {
-        assert_eq!(rt; parter.next(), Step::More);
-        assert_eq!(rt; parter.feed(&[b'$'; 4369]), 4369);
-    }
-    assert_eq!(rt; parter.next(), Step::More);
-    parter.feed(OPTIONS);
-    assert_eq!(rt; parter.next(), Step::Message);
-    Ok(())
-}
-
-#[test]
-fn a_frame_that_never_ends(rt: HostRuntime) -> Result<(), Fail> {
-    let mut parter = Parter::make(rt.alloc()).ok().ok_or("memory")?;
-    parter.feed(b"$\x00\xff\xff");
-    parter.feed(OPTIONS);
-    assert_eq!(rt; parter.next(), Step::More);
-    for _ in 0..100 {
-        assert_eq!(rt; parter.feed(OPTIONS), OPTIONS.len());
-        assert_eq!(rt; parter.next(), Step::More);
-    }
-    Ok(())
-}
-
-#[test]
-fn a_broken_text_stays_broken(rt: HostRuntime) -> Result<(), Fail> {
-    let mut parter = Parter::make(rt.alloc()).ok().ok_or("memory")?;
-    parter.feed(b"$\x00\x00\x01xno message\r\n\r\n");
-    assert_eq!(rt; parter.next(), Step::Bad);
-    assert_eq!(rt; parter.feed(OPTIONS), 0);
-    assert_eq!(rt; parter.next(), Step::Bad);
-    parter.reset();
-    parter.feed(b"SET_PARAMETER * RTSP/1.0\r\nContent-Length: 4097\r\n\r\n");
-    assert_eq!(rt; parter.next(), Step::TooLong);
-    assert_eq!(rt; parter.next(), Step::TooLong);
     Ok(())
 }

@@ -324,88 +324,116 @@ fn sessions_are_named(rt: HostRuntime) -> Result<(), Fail> {
     Ok(())
 }
 
-#[test]
+// The replies whose texts are looked at.
+#[derive(Clone, Copy)]
+enum Reply {
+    Options,
+    OptionsOfSession,
+    Bad,
+    TooLong,
+    NotImplemented,
+    Setup,
+    Play,
+    Describe,
+    NotOwner,
+    CheckSyntax,
+    OutOfRange,
+    NoMoreFrontends,
+    Unsupported,
+}
+
+const SESSION: SessionId = SessionId { count: 1, word: 10 };
+
+const PORTS: Ports = Ports {
+    rtp: 1400,
+    rtcp: 1401,
+};
+
+// The host 192.168.1.10.
+const ADDRESS: u32 = 3232235786;
+
+// Writes a reply in place of what was written before.
 #[tactic(auto, using(satip_rtsp::proofs::ReplyLemmas::reply_bounds))]
+fn write_reply(reply: Reply, out: &mut Out) {
+    out.clear();
+    match reply {
+        Reply::Options => write_options(Some(1), None, out),
+        Reply::OptionsOfSession => write_options(None, Some(SESSION), out),
+        Reply::Bad => write_closing(Break::Bad, out),
+        Reply::TooLong => write_closing(Break::TooLong, out),
+        Reply::NotImplemented => write_plain(Some(4294967295), 501, out),
+        Reply::Setup => write_setup(Some(2), SESSION, 60, PORTS, 1, out),
+        Reply::Play => write_play(Some(3), SESSION, ADDRESS, 1, 65535, out),
+        Reply::Describe => write_describe(Some(4), ADDRESS, 189, out),
+        Reply::NotOwner => write_text(Some(5), 403, RefusalBody::NotOwner, out),
+        Reply::CheckSyntax => write_text(None, 400, RefusalBody::CheckSyntax(Key::Pol), out),
+        Reply::OutOfRange => write_text(Some(8), 403, RefusalBody::OutOfRange(Key::Pids), out),
+        Reply::NoMoreFrontends => write_text(Some(9), 503, RefusalBody::NoMoreFrontends, out),
+        Reply::Unsupported => write_unsupported(Some(6), &Short::of(b"a.b"), out),
+    }
+}
+
+const REPLIES: &[(Reply, &[u8])] = &[
+    (
+        Reply::Options,
+        b"RTSP/1.0 200 OK\r\nCSeq: 1\r\nPublic: OPTIONS, DESCRIBE, SETUP, PLAY, TEARDOWN\r\n\r\n",
+    ),
+    (
+        Reply::OptionsOfSession,
+        b"RTSP/1.0 200 OK\r\nPublic: OPTIONS, DESCRIBE, SETUP, PLAY, TEARDOWN\r\nSession: 000000010000000a\r\n\r\n",
+    ),
+    (
+        Reply::Bad,
+        b"RTSP/1.0 400 Bad Request\r\nConnection: close\r\n\r\n",
+    ),
+    (
+        Reply::TooLong,
+        b"RTSP/1.0 413 Request Entity Too Large\r\nConnection: close\r\n\r\n",
+    ),
+    (
+        Reply::NotImplemented,
+        b"RTSP/1.0 501 Not Implemented\r\nCSeq: 4294967295\r\n\r\n",
+    ),
+    (
+        Reply::Setup,
+        b"RTSP/1.0 200 OK\r\nCSeq: 2\r\nSession: 000000010000000a;timeout=60\r\nTransport: RTP/AVP;unicast;client_port=1400-1401\r\ncom.ses.streamID: 1\r\n\r\n",
+    ),
+    (
+        Reply::Play,
+        b"RTSP/1.0 200 OK\r\nCSeq: 3\r\nSession: 000000010000000a\r\nRTP-Info: url=rtsp://192.168.1.10/stream=1;seq=65535\r\n\r\n",
+    ),
+    (
+        Reply::Describe,
+        b"RTSP/1.0 200 OK\r\nCSeq: 4\r\nContent-Type: application/sdp\r\nContent-Base: rtsp://192.168.1.10/\r\nContent-Length: 189\r\n\r\n",
+    ),
+    (
+        Reply::NotOwner,
+        b"RTSP/1.0 403 Forbidden\r\nCSeq: 5\r\nContent-Type: text/parameters\r\nContent-Length: 18\r\n\r\nNot-Owner:stream\r\n",
+    ),
+    (
+        Reply::CheckSyntax,
+        b"RTSP/1.0 400 Bad Request\r\nContent-Type: text/parameters\r\nContent-Length: 18\r\n\r\nCheck-Syntax:pol\r\n",
+    ),
+    (
+        Reply::OutOfRange,
+        b"RTSP/1.0 403 Forbidden\r\nCSeq: 8\r\nContent-Type: text/parameters\r\nContent-Length: 19\r\n\r\nOut-of-Range:pids\r\n",
+    ),
+    (
+        Reply::NoMoreFrontends,
+        b"RTSP/1.0 503 Service Unavailable\r\nCSeq: 9\r\nContent-Type: text/parameters\r\nContent-Length: 19\r\n\r\nNo-More:frontends\r\n",
+    ),
+    (
+        Reply::Unsupported,
+        b"RTSP/1.0 551 Option not supported\r\nCSeq: 6\r\nUnsupported: a.b\r\n\r\n",
+    ),
+];
+
+#[test]
 fn replies_have_these_texts(rt: HostRuntime) -> Result<(), Fail> {
-    let mut out = Out::make(rt.alloc()).ok().ok_or("memory")?;
-    write_options(Some(1), None, &mut out);
-    let text =
-        b"RTSP/1.0 200 OK\r\nCSeq: 1\r\nPublic: OPTIONS, DESCRIBE, SETUP, PLAY, TEARDOWN\r\n\r\n";
-    assert_eq!(rt; out.reply(), text.as_slice());
-    out.clear();
-    write_options(None, Some(SessionId { count: 1, word: 10 }), &mut out);
-    let text =
-        b"RTSP/1.0 200 OK\r\nPublic: OPTIONS, DESCRIBE, SETUP, PLAY, TEARDOWN\r\nSession: 000000010000000a\r\n\r\n";
-    assert_eq!(rt; out.reply(), text.as_slice());
-    out.clear();
-    write_closing(Break::Bad, &mut out);
-    assert_eq!(rt;
-        out.reply(),
-        b"RTSP/1.0 400 Bad Request\r\nConnection: close\r\n\r\n".as_slice()
-    );
-    out.clear();
-    write_closing(Break::TooLong, &mut out);
-    let text = b"RTSP/1.0 413 Request Entity Too Large\r\nConnection: close\r\n\r\n";
-    assert_eq!(rt; out.reply(), text.as_slice());
-    out.clear();
-    write_plain(Some(4294967295), 501, &mut out);
-    let text = b"RTSP/1.0 501 Not Implemented\r\nCSeq: 4294967295\r\n\r\n";
-    assert_eq!(rt; out.reply(), text.as_slice());
-    Ok(())
-}
-
-#[test]
-#[tactic(auto, using(satip_rtsp::proofs::ReplyLemmas::reply_bounds))]
-fn replies_to_sessions_have_these_texts(rt: HostRuntime) -> Result<(), Fail> {
-    let mut out = Out::make(rt.alloc()).ok().ok_or("memory")?;
-    let id = SessionId { count: 1, word: 10 };
-    let ports = Ports {
-        rtp: 1400,
-        rtcp: 1401,
-    };
-    write_setup(Some(2), id, 60, ports, 1, &mut out);
-    let text =
-        b"RTSP/1.0 200 OK\r\nCSeq: 2\r\nSession: 000000010000000a;timeout=60\r\nTransport: RTP/AVP;unicast;client_port=1400-1401\r\ncom.ses.streamID: 1\r\n\r\n";
-    assert_eq!(rt; out.reply(), text.as_slice());
-    out.clear();
-    write_play(Some(3), id, 3232235786, 1, 65535, &mut out);
-    let text =
-        b"RTSP/1.0 200 OK\r\nCSeq: 3\r\nSession: 000000010000000a\r\nRTP-Info: url=rtsp://192.168.1.10/stream=1;seq=65535\r\n\r\n";
-    assert_eq!(rt; out.reply(), text.as_slice());
-    out.clear();
-    write_describe(Some(4), 3232235786, 189, &mut out);
-    let text =
-        b"RTSP/1.0 200 OK\r\nCSeq: 4\r\nContent-Type: application/sdp\r\nContent-Base: rtsp://192.168.1.10/\r\nContent-Length: 189\r\n\r\n";
-    assert_eq!(rt; out.reply(), text.as_slice());
-    Ok(())
-}
-
-#[test]
-#[tactic(auto, using(satip_rtsp::proofs::ReplyLemmas::reply_bounds))]
-fn refusals_have_these_texts(rt: HostRuntime) -> Result<(), Fail> {
-    let mut out = Out::make(rt.alloc()).ok().ok_or("memory")?;
-    write_text(Some(5), 403, RefusalBody::NotOwner, &mut out);
-    let text =
-        b"RTSP/1.0 403 Forbidden\r\nCSeq: 5\r\nContent-Type: text/parameters\r\nContent-Length: 18\r\n\r\nNot-Owner:stream\r\n";
-    assert_eq!(rt; out.reply(), text.as_slice());
-    out.clear();
-    write_text(None, 400, RefusalBody::CheckSyntax(Key::Pol), &mut out);
-    let text =
-        b"RTSP/1.0 400 Bad Request\r\nContent-Type: text/parameters\r\nContent-Length: 18\r\n\r\nCheck-Syntax:pol\r\n";
-    assert_eq!(rt; out.reply(), text.as_slice());
-    out.clear();
-    write_text(Some(8), 403, RefusalBody::OutOfRange(Key::Pids), &mut out);
-    let text =
-        b"RTSP/1.0 403 Forbidden\r\nCSeq: 8\r\nContent-Type: text/parameters\r\nContent-Length: 19\r\n\r\nOut-of-Range:pids\r\n";
-    assert_eq!(rt; out.reply(), text.as_slice());
-    out.clear();
-    write_text(Some(9), 503, RefusalBody::NoMoreFrontends, &mut out);
-    let text =
-        b"RTSP/1.0 503 Service Unavailable\r\nCSeq: 9\r\nContent-Type: text/parameters\r\nContent-Length: 19\r\n\r\nNo-More:frontends\r\n";
-    assert_eq!(rt; out.reply(), text.as_slice());
-    out.clear();
-    write_unsupported(Some(6), &Short::of(b"a.b"), &mut out);
-    let text = b"RTSP/1.0 551 Option not supported\r\nCSeq: 6\r\nUnsupported: a.b\r\n\r\n";
-    assert_eq!(rt; out.reply(), text.as_slice());
+    let mut out = Out::make(rt.alloc())?;
+    for (reply, text) in REPLIES {
+        write_reply(*reply, &mut out);
+        assert_eq!(rt; out.reply(), *text);
+    }
     Ok(())
 }

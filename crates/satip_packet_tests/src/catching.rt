@@ -28,13 +28,6 @@ fn take_of(catcher: &mut Catcher, number: u16, ssrc: u32) -> bool
     }
 }
 
-fn take(catcher: &mut Catcher, number: u16) -> bool
-    requires rests { Rests catcher.old }
-    ensures unfinished { catcher.new.finished ≡ false }
-{
-    take_of(catcher, number, SOURCE)
-}
-
 // The next item is the datagram of this number, with its own packet.
 fn hands_up(catcher: &mut Catcher, number: u16) -> bool
     ensures finished { catcher.new.finished ≡ catcher.old.finished }
@@ -73,93 +66,133 @@ fn waits(catcher: &mut Catcher) -> bool
     catcher.next().is_none()
 }
 
+// What the next item is to be: the datagram of a number, or a gap from a number on.
+#[derive(Clone, Copy)]
+enum Wanted {
+    Data(u16),
+    Gap(u16, u32),
+}
+
+use Wanted::{Data, Gap};
+
+// A datagram of a number and a source that comes, whether it is taken, and all items that follow.
+type Round = (u16, u32, bool, &'static [Wanted]);
+
+// Datagrams that come, and the items that follow once they end.
+#[derive(Clone, Copy)]
+struct Row {
+    name: &'static str,
+    rounds: &'static [Round],
+    rest: &'static [Wanted],
+}
+
+const ROWS: &[Row] = &[
+    Row {
+        name: "late datagrams are put in order and a repeat is dropped",
+        rounds: &[
+            (65534, SOURCE, true, &[Data(65534)]),
+            (0, SOURCE, true, &[]),
+            (65535, SOURCE, true, &[Data(65535), Data(0)]),
+            (0, SOURCE, false, &[]),
+            (3, SOURCE, true, &[]),
+        ],
+        rest: &[Gap(1, 2), Data(3)],
+    },
+    Row {
+        name: "a number is passed once one came that is 64 ahead",
+        rounds: &[
+            (10, SOURCE, true, &[Data(10)]),
+            (75, SOURCE, true, &[Gap(11, 1)]),
+            (11, SOURCE, false, &[]),
+            (12, SOURCE, true, &[Data(12)]),
+        ],
+        rest: &[Gap(13, 62), Data(75)],
+    },
+    Row {
+        name: "a held datagram is not taken twice",
+        rounds: &[
+            (100, SOURCE, true, &[Data(100)]),
+            (103, SOURCE, true, &[]),
+            (102, SOURCE, true, &[]),
+            (102, SOURCE, false, &[]),
+            (103, SOURCE, false, &[]),
+        ],
+        rest: &[Gap(101, 1), Data(102), Data(103)],
+    },
+    Row {
+        name: "another source is left out",
+        rounds: &[
+            (7, SOURCE, true, &[Data(7)]),
+            (8, SOURCE + 1, false, &[]),
+            (8, SOURCE, true, &[Data(8)]),
+        ],
+        rest: &[],
+    },
+    Row {
+        name: "half of all numbers are ahead",
+        rounds: &[
+            (0, SOURCE, true, &[Data(0)]),
+            (32768, SOURCE, false, &[]),
+            (32767, SOURCE, true, &[Gap(1, 32703)]),
+        ],
+        rest: &[Gap(32704, 63), Data(32767)],
+    },
+];
+
+// Whether the next item is this one.
+fn gives(catcher: &mut Catcher, wanted: Wanted) -> bool
+    ensures finished { catcher.new.finished ≡ catcher.old.finished }
+{
+    match wanted {
+        Wanted::Data(number) => hands_up(catcher, number),
+        Wanted::Gap(from, count) => tells_gap(catcher, from, count),
+    }
+}
+
+// Whether the next items are these, and none follows.
+fn gives_all(catcher: &mut Catcher, items: &[Wanted]) -> bool
+    ensures rests { result ≡ true → catcher.old.finished ≡ false → Rests catcher.new }
+    ensures finished { catcher.new.finished ≡ catcher.old.finished }
+{
+    for wanted in items {
+        if !gives(catcher, *wanted) {
+            return false;
+        }
+    }
+    waits(catcher)
+}
+
+// Whether a datagram is taken or left out as it is to be, and its items follow.
+fn follows(catcher: &mut Catcher, round: Round) -> bool
+    requires rests { Rests catcher.old }
+    ensures rests { result ≡ true → Rests catcher.new }
+{
+    let (number, source, taken, items) = round;
+    if take_of(catcher, number, source) != taken {
+        return false;
+    }
+    gives_all(catcher, items)
+}
+
+// Whether each datagram is followed by its items, and the end by the rest.
+fn catches(catcher: &mut Catcher, row: &Row) -> bool
+    requires rests { Rests catcher.old }
+{
+    for round in row.rounds {
+        if !follows(catcher, *round) {
+            return false;
+        }
+    }
+    catcher.finish();
+    gives_all(catcher, row.rest)
+}
+
 #[test]
-fn late_datagrams_are_put_in_order_and_a_repeat_is_dropped(rt: HostRuntime) -> Result<(), Fail> {
+fn datagrams_are_caught_as_their_rows_say(rt: HostRuntime) -> Result<(), Fail> {
     worked_rows();
-    let mut catcher = Catcher::make(rt.alloc())?;
-    assert!(rt; take(&mut catcher, 65534));
-    assert!(rt; hands_up(&mut catcher, 65534));
-    assert!(rt; waits(&mut catcher));
-    assert!(rt; take(&mut catcher, 0));
-    assert!(rt; waits(&mut catcher));
-    assert!(rt; take(&mut catcher, 65535));
-    assert!(rt; hands_up(&mut catcher, 65535));
-    assert!(rt; hands_up(&mut catcher, 0));
-    assert!(rt; waits(&mut catcher));
-    assert!(rt; !take(&mut catcher, 0));
-    assert!(rt; waits(&mut catcher));
-    assert!(rt; take(&mut catcher, 3));
-    assert!(rt; waits(&mut catcher));
-    catcher.finish();
-    assert!(rt; tells_gap(&mut catcher, 1, 2));
-    assert!(rt; hands_up(&mut catcher, 3));
-    assert!(rt; waits(&mut catcher));
-    Ok(())
-}
-
-#[test]
-fn a_number_is_passed_once_one_came_that_is_64_ahead(rt: HostRuntime) -> Result<(), Fail> {
-    let mut catcher = Catcher::make(rt.alloc())?;
-    assert!(rt; take(&mut catcher, 10));
-    assert!(rt; hands_up(&mut catcher, 10));
-    assert!(rt; waits(&mut catcher));
-    assert!(rt; take(&mut catcher, 75));
-    assert!(rt; tells_gap(&mut catcher, 11, 1));
-    assert!(rt; waits(&mut catcher));
-    assert!(rt; !take(&mut catcher, 11));
-    assert!(rt; waits(&mut catcher));
-    assert!(rt; take(&mut catcher, 12));
-    assert!(rt; hands_up(&mut catcher, 12));
-    assert!(rt; waits(&mut catcher));
-    Ok(())
-}
-
-#[test]
-fn a_held_datagram_is_not_taken_twice(rt: HostRuntime) -> Result<(), Fail> {
-    let mut catcher = Catcher::make(rt.alloc())?;
-    assert!(rt; take(&mut catcher, 100));
-    assert!(rt; hands_up(&mut catcher, 100));
-    assert!(rt; waits(&mut catcher));
-    assert!(rt; take(&mut catcher, 103));
-    assert!(rt; waits(&mut catcher));
-    assert!(rt; take(&mut catcher, 102));
-    assert!(rt; waits(&mut catcher));
-    assert!(rt; !take(&mut catcher, 102));
-    assert!(rt; waits(&mut catcher));
-    assert!(rt; !take(&mut catcher, 103));
-    assert!(rt; waits(&mut catcher));
-    catcher.finish();
-    assert!(rt; tells_gap(&mut catcher, 101, 1));
-    assert!(rt; hands_up(&mut catcher, 102));
-    assert!(rt; hands_up(&mut catcher, 103));
-    assert!(rt; waits(&mut catcher));
-    Ok(())
-}
-
-#[test]
-fn another_source_is_left_out(rt: HostRuntime) -> Result<(), Fail> {
-    let mut catcher = Catcher::make(rt.alloc())?;
-    assert!(rt; take(&mut catcher, 7));
-    assert!(rt; hands_up(&mut catcher, 7));
-    assert!(rt; waits(&mut catcher));
-    assert!(rt; !take_of(&mut catcher, 8, SOURCE + 1));
-    assert!(rt; waits(&mut catcher));
-    assert!(rt; take(&mut catcher, 8));
-    assert!(rt; hands_up(&mut catcher, 8));
-    assert!(rt; waits(&mut catcher));
-    Ok(())
-}
-
-#[test]
-fn half_of_all_numbers_are_ahead(rt: HostRuntime) -> Result<(), Fail> {
-    let mut catcher = Catcher::make(rt.alloc())?;
-    assert!(rt; take(&mut catcher, 0));
-    assert!(rt; hands_up(&mut catcher, 0));
-    assert!(rt; waits(&mut catcher));
-    assert!(rt; !take(&mut catcher, 32768));
-    assert!(rt; waits(&mut catcher));
-    assert!(rt; take(&mut catcher, 32767));
-    assert!(rt; tells_gap(&mut catcher, 1, 32703));
-    assert!(rt; waits(&mut catcher));
+    for row in ROWS {
+        let mut catcher = Catcher::make(rt.alloc())?;
+        assert!(rt; catches(&mut catcher, row), "{}", row.name);
+    }
     Ok(())
 }

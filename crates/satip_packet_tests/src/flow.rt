@@ -1,7 +1,7 @@
 //! Which subscriber gets which packet.
 mod plain;
 
-ghost use Rattle.std.specs.Prelude.{◌<◌};
+ghost use Rattle.std.specs.Prelude.{◌≡◌, ◌<◌};
 ghost use Rattle.satip_flow.specs.Subscriptions.{IsFrontOrNone};
 
 use plain::Plain;
@@ -33,128 +33,209 @@ fn give(flow: &mut Flow, packet: &Packet, times: u16, out: &mut Out) -> u64 {
     overrun
 }
 
-#[test]
-fn streams_and_their_sessions_get_packets_in_order(rt: HostRuntime) -> Result<(), Fail> {
-    let mut flow = Flow::make(rt.alloc())?;
-    let mut out = Out::make(rt.alloc())?;
+fn place_of(slot: u16, stream: u16, count: u32) -> Place
+    ensures slot { result.slot ≡ slot }
+{
+    Place {
+        slot,
+        stream,
+        count,
+    }
+}
+
+/// A set of PID 16.
+fn sixteen() -> PidSet {
+    let mut pids = PidSet::new();
+    let _ = pids.set(&[16]);
+    pids
+}
+
+/// Two RTP sessions that select all PIDs of front end 1, the later stream's first, and one without a
+/// front end.
+fn three_sessions(alloc: Global) -> Result<Flow, Fail> {
+    let mut flow = Flow::make(alloc)?;
     let mut all = PidSet::new();
     all.set_all();
-    flow.add_rtp(
-        Place {
-            slot: 5,
-            stream: 2,
-            count: 1,
-        },
-        Some(1),
-        &all,
-        SECOND,
-        7,
-        0,
-    );
-    flow.add_rtp(
-        Place {
-            slot: 0,
-            stream: 1,
-            count: 2,
-        },
-        Some(1),
-        &all,
-        FIRST,
-        8,
-        65535,
-    );
-    flow.add_rtp(
-        Place {
-            slot: 9,
-            stream: 3,
-            count: 3,
-        },
-        None,
-        &all,
-        FIRST,
-        9,
-        0,
-    );
-    let selected = packet(16).ok_or("packet")?;
-    give(&mut flow, &selected, 7, &mut out);
-    assert_eq!(rt; out.count(), 2);
-    assert!(rt; out.datagram(0).ok_or("first")?.0 == FIRST);
-    assert!(rt; out.datagram(1).ok_or("second")?.0 == SECOND);
-    assert_eq!(rt; flow.state(0).ok_or("state")?.next, 0);
-    assert_eq!(rt; flow.state(5).ok_or("state")?.octets, 1316);
-    assert_eq!(rt; flow.state(9).ok_or("state")?.datagrams, 0);
-    assert!(rt; flow.state(1).is_none());
+    flow.add_rtp(place_of(5, 2, 1), Some(1), &all, SECOND, 7, 0);
+    flow.add_rtp(place_of(0, 1, 2), Some(1), &all, FIRST, 8, 65535);
+    flow.add_rtp(place_of(9, 3, 3), None, &all, FIRST, 9, 0);
+    Ok(flow)
+}
+
+/// An RTP session of PID 16 at front end 1.
+fn one_session(alloc: Global) -> Result<Flow, Fail> {
+    let mut flow = Flow::make(alloc)?;
+    flow.add_rtp(place_of(0, 1, 1), Some(1), &sixteen(), FIRST, 7, 9);
+    Ok(flow)
+}
+
+/// A session over HTTP of PID 16 at front end 1.
+fn one_queue(alloc: Global) -> Result<Flow, Fail> {
+    let mut flow = Flow::make(alloc)?;
+    flow.add_http(place_of(3, 1, 1), Some(1), &sixteen());
+    Ok(flow)
+}
+
+/// What a call answers, or what stands in the output behind it.
+#[derive(Clone, Copy)]
+enum Step {
+    /// So many packets of a PID; the marks of the last one.
+    Give(u8, u16, u64),
+    /// Stream 1 moves to front end 2.
+    Move,
+    Address(u16, Address, bool),
+    Flush(u16, u64, bool),
+    End(u16, bool),
+    /// How many bytes are pulled; they are in the reply.
+    Pull(u16, Option<usize>),
+    /// The reply begins with the packet of a PID.
+    Begins(u8),
+    /// How many datagrams there are.
+    Datagrams(usize),
+    /// Where a datagram goes.
+    Goes(usize, Address),
+    /// How many bytes a datagram has.
+    Length(usize, usize),
+    /// The next number of a slot, its datagrams and octets.
+    State(u16, Option<(u16, u32, u32)>),
+}
+
+fn give_all(flow: &mut Flow, pid: u8, times: u16, out: &mut Out) -> Option<u64> {
+    match packet(pid) {
+        Some(packet) => Some(give(flow, &packet, times, out)),
+        None => None,
+    }
+}
+
+fn flush(flow: &mut Flow, slot: u16, clock: u64, out: &mut Out) -> bool {
+    out.clear();
+    flow.flush(slot, clock, out)
+}
+
+/// Whether so much is pulled, and the reply has as many bytes.
+fn pulls(flow: &mut Flow, slot: u16, bytes: Option<usize>, out: &mut Out) -> bool {
+    out.clear();
+    flow.pull(slot, out) == bytes && out.reply().len() == bytes.unwrap_or(0)
+}
+
+fn begins(out: &Out, pid: u8) -> bool {
+    match packet(pid) {
+        Some(packet) => out.reply().starts_with(packet.bytes()),
+        None => false,
+    }
+}
+
+fn goes(out: &Out, place: usize, wanted: Address) -> bool {
+    match out.datagram(place) {
+        Some((to, _)) => to == wanted,
+        None => false,
+    }
+}
+
+fn has_length(out: &Out, place: usize, length: usize) -> bool {
+    match out.datagram(place) {
+        Some((_, bytes)) => bytes.len() == length,
+        None => false,
+    }
+}
+
+fn state(flow: &Flow, slot: u16) -> Option<(u16, u32, u32)> {
+    match flow.state(slot) {
+        Some(state) => Some((state.next, state.datagrams, state.octets)),
+        None => None,
+    }
+}
+
+/// Whether a flow answers so.
+fn is_answered(flow: &mut Flow, out: &mut Out, step: Step) -> bool {
+    match step {
+        Step::Give(pid, times, marks) => give_all(flow, pid, times, out) == Some(marks),
+        Step::Move => {
+            flow.change(1, Some(2), &sixteen());
+            true
+        }
+        Step::Address(slot, to, there) => flow.address(slot, to) == there,
+        Step::Flush(slot, clock, held) => flush(flow, slot, clock, out) == held,
+        Step::End(slot, there) => flow.end(slot) == there,
+        Step::Pull(slot, bytes) => pulls(flow, slot, bytes, out),
+        Step::Begins(pid) => begins(out, pid),
+        Step::Datagrams(count) => out.count() == count,
+        Step::Goes(place, to) => goes(out, place, to),
+        Step::Length(place, length) => has_length(out, place, length),
+        Step::State(slot, wanted) => state(flow, slot) == wanted,
+    }
+}
+
+/// Takes all steps; the place of the first that isn't answered so.
+fn take_all(alloc: Global, flow: &mut Flow, steps: &[Step]) -> Result<Option<usize>, Fail> {
+    let mut out = Out::make(alloc)?;
+    let mut place = 0usize;
+    for step in steps {
+        if !is_answered(flow, &mut out, *step) {
+            return Ok(Some(place));
+        }
+        place = place.saturating_add(1);
+    }
+    Ok(None)
+}
+
+const IN_ORDER: &[Step] = &[
+    Step::Give(16, 7, 0),
+    Step::Datagrams(2),
+    Step::Goes(0, FIRST),
+    Step::Goes(1, SECOND),
+    Step::State(0, Some((0, 1, 1316))),
+    Step::State(5, Some((1, 1, 1316))),
+    Step::State(9, Some((0, 0, 0))),
+    Step::State(1, None),
+];
+
+#[test]
+fn streams_and_their_sessions_get_packets_in_order(rt: HostRuntime) -> Result<(), Fail> {
+    let mut flow = three_sessions(rt.alloc())?;
+    assert_eq!(rt; take_all(rt.alloc(), &mut flow, IN_ORDER)?, None);
     Ok(())
 }
+
+const HELD: &[Step] = &[
+    Step::Give(16, 6, 0),
+    Step::Give(17, 6, 0),
+    Step::Move,
+    Step::Give(16, 6, 0),
+    Step::Address(0, SECOND, true),
+    Step::Flush(0, 1040, true),
+    Step::Goes(0, SECOND),
+    Step::Length(0, 1140),
+    Step::Flush(0, 1080, false),
+    Step::State(0, Some((10, 1, 1128))),
+    Step::End(0, true),
+    Step::End(0, false),
+    Step::Address(0, FIRST, false),
+];
 
 #[test]
 fn held_packets_stay_over_a_change_and_leave_at_a_flush(rt: HostRuntime) -> Result<(), Fail> {
-    let mut flow = Flow::make(rt.alloc())?;
-    let mut out = Out::make(rt.alloc())?;
-    let mut pids = PidSet::new();
-    pids.set(&[16])?;
-    flow.add_rtp(
-        Place {
-            slot: 0,
-            stream: 1,
-            count: 1,
-        },
-        Some(1),
-        &pids,
-        FIRST,
-        7,
-        9,
-    );
-    let selected = packet(16).ok_or("packet")?;
-    let other = packet(17).ok_or("packet")?;
-    give(&mut flow, &selected, 6, &mut out);
-    give(&mut flow, &other, 6, &mut out);
-    flow.change(1, Some(2), &pids);
-    give(&mut flow, &selected, 6, &mut out);
-    assert!(rt; flow.address(0, SECOND));
-    out.clear();
-    assert!(rt; flow.flush(0, 1040, &mut out));
-    let (to, flushed) = out.datagram(0).ok_or("flushed")?;
-    assert!(rt; to == SECOND);
-    assert_eq!(rt; flushed.len(), 1140);
-    out.clear();
-    assert!(rt; !flow.flush(0, 1080, &mut out));
-    assert_eq!(rt; flow.state(0).ok_or("state")?.octets, 1128);
-    assert!(rt; flow.end(0));
-    assert!(rt; !flow.end(0));
-    assert!(rt; !flow.address(0, FIRST));
+    let mut flow = one_session(rt.alloc())?;
+    assert_eq!(rt; take_all(rt.alloc(), &mut flow, HELD)?, None);
     Ok(())
 }
 
+const QUEUED: &[Step] = &[
+    Step::Give(16, 4096, 0),
+    Step::Give(17, 1, 0),
+    Step::Give(16, 1, 8),
+    Step::Pull(3, Some(12032)),
+    Step::Begins(16),
+    Step::Give(16, 64, 0),
+    Step::Give(16, 1, 8),
+    Step::End(3, true),
+    Step::Pull(3, None),
+];
+
 #[test]
 fn a_full_queue_takes_no_more(rt: HostRuntime) -> Result<(), Fail> {
-    let mut flow = Flow::make(rt.alloc())?;
-    let mut out = Out::make(rt.alloc())?;
-    let mut pids = PidSet::new();
-    pids.set(&[16])?;
-    flow.add_http(
-        Place {
-            slot: 3,
-            stream: 1,
-            count: 1,
-        },
-        Some(1),
-        &pids,
-    );
-    let selected = packet(16).ok_or("packet")?;
-    let other = packet(17).ok_or("packet")?;
-    assert_eq!(rt; give(&mut flow, &selected, 4096, &mut out), 0);
-    assert_eq!(rt; give(&mut flow, &other, 1, &mut out), 0);
-    assert_eq!(rt; give(&mut flow, &selected, 1, &mut out), 8);
-    out.clear();
-    assert_eq!(rt; flow.pull(3, &mut out), Some(12032));
-    assert_eq!(rt; out.reply().len(), 12032);
-    assert!(rt; out.reply().split_at(188).0 == selected.bytes().as_slice());
-    assert_eq!(rt; give(&mut flow, &selected, 64, &mut out), 0);
-    assert_eq!(rt; give(&mut flow, &selected, 1, &mut out), 8);
-    assert!(rt; flow.end(3));
-    out.clear();
-    assert!(rt; flow.pull(3, &mut out).is_none());
+    let mut flow = one_queue(rt.alloc())?;
+    assert_eq!(rt; take_all(rt.alloc(), &mut flow, QUEUED)?, None);
     Ok(())
 }
 
@@ -264,6 +345,40 @@ fn some_front(draw: u32) -> Option<u16>
     Some((draw % 2 + 1 + draw / 2 % 2 * 14) as u16)
 }
 
+impl Both {
+    /// A stream moves.
+    fn change(&mut self, stream: u16, drawn: u32) {
+        let pids = some_pids(drawn);
+        self.flow.change(stream, some_front(drawn), &pids);
+        self.plain.change(stream, some_front(drawn), &pids);
+    }
+
+    /// Makes one call of each, as a number says. Whether both answer alike.
+    fn call(&mut self, alloc: Global, draw: u32, made: u32) -> bool {
+        let kind = draw >> 28;
+        let drawn = (draw >> 8) % 65536;
+        let slot = (drawn % 66) as u16;
+        match kind {
+            0..=4 => self.ask(kind, slot, made as u64),
+            5 => {
+                self.change(slot / 2, drawn);
+                true
+            }
+            6 | 7 => {
+                let place = place_of(slot % 64, (drawn % 23) as u16, made);
+                self.add(alloc, place, some_front(drawn), drawn)
+            }
+            _ => {
+                let front = drawn / 16 % 3 + drawn / 64 % 2 * 15;
+                match packet_of(some_pid(drawn)) {
+                    Some(packet) => self.packet(front as u16, &packet, made as u64),
+                    None => false,
+                }
+            }
+        }
+    }
+}
+
 #[test]
 fn ten_thousand_calls_are_as_on_a_plain_list(rt: HostRuntime) -> Result<(), Fail> {
     let mut both = Both {
@@ -275,31 +390,7 @@ fn ten_thousand_calls_are_as_on_a_plain_list(rt: HostRuntime) -> Result<(), Fail
     let mut draw: u32 = 2463534242;
     for made in 0..10000u32 {
         draw = draw.wrapping_mul(1664525).wrapping_add(1013904223);
-        let kind = draw >> 28;
-        let drawn = (draw >> 8) % 65536;
-        let slot = (drawn % 66) as u16;
-        let same = match kind {
-            0..=4 => both.ask(kind, slot, made as u64),
-            5 => {
-                let pids = some_pids(drawn);
-                both.flow.change(slot / 2, some_front(drawn), &pids);
-                both.plain.change(slot / 2, some_front(drawn), &pids);
-                true
-            }
-            6 | 7 => {
-                let place = Place {
-                    slot: slot % 64,
-                    stream: (drawn % 23) as u16,
-                    count: made,
-                };
-                both.add(rt.alloc(), place, some_front(drawn), drawn)
-            }
-            _ => {
-                let packet = packet_of(some_pid(drawn)).ok_or("packet")?;
-                let front = drawn / 16 % 3 + drawn / 64 % 2 * 15;
-                both.packet(front as u16, &packet, made as u64)
-            }
-        };
+        let same = both.call(rt.alloc(), draw, made);
         assert!(rt; same && both.wrote_same());
     }
     for slot in 0..64 {

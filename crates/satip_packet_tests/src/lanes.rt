@@ -37,105 +37,212 @@ fn to(ip: u32, port: u16) -> Address {
     Address { ip, port }
 }
 
+// A call on the lanes and its answer, or what a reply is to have.
+#[derive(Clone, Copy)]
+enum Step {
+    Enter(Option<u32>),
+    /// To a lane and a port.
+    Put(u32, u16, &'static [u8]),
+    /// So many of one byte.
+    PutMany(u32, u16, usize, u8),
+    Drain(u32, Drained),
+    Leave(u32, bool),
+    /// How many bytes the reply of the last drain has.
+    Length(usize),
+    /// What stands in it from a place on.
+    Has(usize, &'static [u8]),
+    /// One byte in it from a place up to another.
+    Fills(usize, usize, u8),
+}
+
+use Step::{Drain, Enter, Fills, Has, Leave, Length, Put, PutMany};
+
 // A drain of a lane into an output that is cleared before.
 fn drain(lanes: &mut Lanes, lane: u32, out: &mut Out) -> Drained {
     out.clear();
     lanes.drain(lane, out)
 }
 
-#[test]
-fn packet_and_report_leave_in_one_reply(rt: HostRuntime) -> Result<(), Fail> {
-    let mut lanes = Lanes::make(rt.alloc())?;
-    let mut out = Out::make(rt.alloc())?;
-    assert_eq!(rt; lanes.enter(), Some(1));
-    lanes.put(to(1, 1), &bytes(rt.alloc(), 1140, 71)?);
-    lanes.put(to(1, 2), &bytes(rt.alloc(), 152, 200)?);
-    assert_eq!(rt; drain(&mut lanes, 1, &mut out), Drained::Frames(1300));
-    let reply = out.reply();
-    assert_eq!(rt; reply.len(), 1300);
-    assert!(rt; &reply[..5] == [0x24, 0x00, 0x04, 0x74, 71].as_slice());
-    assert!(rt; &reply[1143..1149] == [71, 0x24, 0x01, 0x00, 0x98, 200].as_slice());
-    assert_eq!(rt; drain(&mut lanes, 1, &mut out), Drained::Empty);
-    assert!(rt; out.reply().is_empty());
+// What stands in a reply from a place on.
+fn behind(reply: &[u8], place: usize) -> &[u8] {
+    reply.split_at(place.min(reply.len())).1
+}
+
+// Whether a reply has one byte from a place up to another.
+fn fills(reply: &[u8], from: usize, to: usize, byte: u8) -> bool {
+    if reply.len() < to {
+        return false;
+    }
+    for found in behind(reply.split_at(to).0, from) {
+        if *found != byte {
+            return false;
+        }
+    }
+    true
+}
+
+fn put(alloc: Global, lanes: &mut Lanes, step: Step) -> Result<(), Fail> {
+    match step {
+        Put(lane, port, text) => lanes.put(to(lane, port), text),
+        PutMany(lane, port, count, byte) => {
+            lanes.put(to(lane, port), &bytes(alloc, count, byte)?)
+        }
+        _ => (),
+    }
     Ok(())
 }
+
+// Whether a call is answered so; a put isn't answered.
+fn is_answered(lanes: &mut Lanes, out: &mut Out, step: Step) -> bool {
+    match step {
+        Enter(number) => lanes.enter() == number,
+        Drain(lane, drained) => drain(lanes, lane, out) == drained,
+        Leave(lane, held) => lanes.leave(lane) == held,
+        Length(length) => out.reply().len() == length,
+        Has(place, text) => behind(out.reply(), place).starts_with(text),
+        Fills(from, to, byte) => fills(out.reply(), from, to, byte),
+        _ => true,
+    }
+}
+
+// Steps, each list so often.
+type Row = (&'static str, &'static [(u32, &'static [Step])]);
+
+const ROWS: &[Row] = &[
+    (
+        "a packet and a report leave in one reply",
+        &[(
+            1,
+            &[
+                Enter(Some(1)),
+                PutMany(1, 1, 1140, 71),
+                PutMany(1, 2, 152, 200),
+                Drain(1, Drained::Frames(1300)),
+                Length(1300),
+                Has(0, &[0x24, 0x00, 0x04, 0x74, 71]),
+                Has(1143, &[71, 0x24, 0x01, 0x00, 0x98, 200]),
+                Drain(1, Drained::Empty),
+                Length(0),
+            ],
+        )],
+    ),
+    (
+        "a full lane breaks alone",
+        &[
+            (1, &[Enter(Some(1)), Enter(Some(2)), Put(2, 3, b"next")]),
+            (16, &[PutMany(1, 1, 32764, 9)]),
+            (1, &[Put(1, 1, b"")]),
+            (
+                8,
+                &[
+                    Drain(1, Drained::Frames(65536)),
+                    Put(1, 1, b"behind a break"),
+                ],
+            ),
+            (
+                1,
+                &[
+                    Drain(1, Drained::Broken),
+                    Drain(2, Drained::Frames(8)),
+                    Length(8),
+                    Has(0, b"$\x02\x00\x04next"),
+                ],
+            ),
+        ],
+    ),
+    (
+        "frames go around the end",
+        &[
+            (1, &[Enter(Some(1))]),
+            (
+                8,
+                &[PutMany(1, 1, 60000, 9), Drain(1, Drained::Frames(60004))],
+            ),
+            (
+                1,
+                &[
+                    PutMany(1, 256, 50000, 8),
+                    Put(1, 1, b"last"),
+                    Drain(1, Drained::Frames(50012)),
+                    Length(50012),
+                    Has(0, &[0x24, 0xff, 0xc3, 0x50, 8]),
+                    Fills(4, 50004, 8),
+                    Has(50004, b"$\x00\x00\x04last"),
+                ],
+            ),
+        ],
+    ),
+    (
+        "ports and lengths have bounds",
+        &[(
+            1,
+            &[
+                Enter(Some(1)),
+                Put(1, 0, b"no channel"),
+                Put(1, 257, b"no channel"),
+                Put(1, 300, b"no channel"),
+                Put(9, 1, b"no lane"),
+                Drain(1, Drained::Empty),
+                PutMany(1, 1, 65532, 7),
+                Drain(1, Drained::Frames(65536)),
+                PutMany(1, 1, 65536, 7),
+                Drain(1, Drained::Broken),
+            ],
+        )],
+    ),
+];
+
+// Takes a step. Whether it is answered as it is to be.
+fn take(alloc: Global, lanes: &mut Lanes, out: &mut Out, step: Step) -> Result<bool, Fail> {
+    put(alloc, lanes, step)?;
+    Ok(is_answered(lanes, out, step))
+}
+
+// Takes all steps, each list so often, and stops at the first that isn't answered so.
+fn take_all(alloc: Global, lanes: &mut Lanes, lists: &[(u32, &[Step])]) -> Result<bool, Fail> {
+    let mut out = Out::make(alloc)?;
+    for (times, steps) in lists {
+        for _ in 0..*times {
+            for step in *steps {
+                if !take(alloc, lanes, &mut out, *step)? {
+                    return Ok(false);
+                }
+            }
+        }
+    }
+    Ok(true)
+}
+
+#[test]
+fn lanes_answer_as_their_rows_say(rt: HostRuntime) -> Result<(), Fail> {
+    for (name, lists) in ROWS {
+        let mut lanes = Lanes::make(rt.alloc())?;
+        assert!(rt; take_all(rt.alloc(), &mut lanes, lists)?, "{name}");
+    }
+    Ok(())
+}
+
+const LEFT: &[(u32, &[Step])] = &[(
+    1,
+    &[
+        Enter(None),
+        Put(7, 1, b"late"),
+        Leave(7, true),
+        Leave(7, false),
+        Drain(7, Drained::Gone),
+        Enter(Some(65)),
+        Put(7, 1, b"lost"),
+        Drain(65, Drained::Empty),
+        Enter(None),
+    ],
+)];
 
 #[test]
 fn numbers_go_on_where_lanes_are_left(rt: HostRuntime) -> Result<(), Fail> {
     let mut lanes = Lanes::make(rt.alloc())?;
-    let mut out = Out::make(rt.alloc())?;
     for number in 1..65 {
         assert_eq!(rt; lanes.enter(), Some(number));
     }
-    assert_eq!(rt; lanes.enter(), None);
-    lanes.put(to(7, 1), b"late");
-    assert!(rt; lanes.leave(7));
-    assert!(rt; !lanes.leave(7));
-    assert_eq!(rt; drain(&mut lanes, 7, &mut out), Drained::Gone);
-    assert_eq!(rt; lanes.enter(), Some(65));
-    lanes.put(to(7, 1), b"lost");
-    assert_eq!(rt; drain(&mut lanes, 65, &mut out), Drained::Empty);
-    assert_eq!(rt; lanes.enter(), None);
-    Ok(())
-}
-
-#[test]
-fn full_lane_breaks_alone(rt: HostRuntime) -> Result<(), Fail> {
-    let mut lanes = Lanes::make(rt.alloc())?;
-    let mut out = Out::make(rt.alloc())?;
-    let datagram = bytes(rt.alloc(), 32764, 9)?;
-    assert_eq!(rt; lanes.enter(), Some(1));
-    assert_eq!(rt; lanes.enter(), Some(2));
-    lanes.put(to(2, 3), b"next");
-    for _put in 0..16 {
-        lanes.put(to(1, 1), &datagram);
-    }
-    lanes.put(to(1, 1), b"");
-    for _drained in 0..8 {
-        assert_eq!(rt; drain(&mut lanes, 1, &mut out), Drained::Frames(65536));
-        lanes.put(to(1, 1), b"behind a break");
-    }
-    assert_eq!(rt; drain(&mut lanes, 1, &mut out), Drained::Broken);
-    assert_eq!(rt; drain(&mut lanes, 2, &mut out), Drained::Frames(8));
-    assert!(rt; out.reply() == b"$\x02\x00\x04next".as_slice());
-    Ok(())
-}
-
-#[test]
-fn frames_go_around_the_end(rt: HostRuntime) -> Result<(), Fail> {
-    let mut lanes = Lanes::make(rt.alloc())?;
-    let mut out = Out::make(rt.alloc())?;
-    let datagram = bytes(rt.alloc(), 60000, 9)?;
-    assert_eq!(rt; lanes.enter(), Some(1));
-    for _put in 0..8 {
-        lanes.put(to(1, 1), &datagram);
-        assert_eq!(rt; drain(&mut lanes, 1, &mut out), Drained::Frames(60004));
-    }
-    let body = bytes(rt.alloc(), 50000, 8)?;
-    lanes.put(to(1, 256), &body);
-    lanes.put(to(1, 1), b"last");
-    assert_eq!(rt; drain(&mut lanes, 1, &mut out), Drained::Frames(50012));
-    let reply = out.reply();
-    assert_eq!(rt; reply.len(), 50012);
-    assert!(rt; &reply[..5] == [0x24, 0xff, 0xc3, 0x50, 8].as_slice());
-    assert!(rt; &reply[4..50004] == body.as_slice());
-    assert!(rt; &reply[50004..] == b"$\x00\x00\x04last".as_slice());
-    Ok(())
-}
-
-#[test]
-fn ports_and_lengths_have_bounds(rt: HostRuntime) -> Result<(), Fail> {
-    let mut lanes = Lanes::make(rt.alloc())?;
-    let mut out = Out::make(rt.alloc())?;
-    assert_eq!(rt; lanes.enter(), Some(1));
-    lanes.put(to(1, 0), b"no channel");
-    lanes.put(to(1, 257), b"no channel");
-    lanes.put(to(1, 300), b"no channel");
-    lanes.put(to(9, 1), b"no lane");
-    assert_eq!(rt; drain(&mut lanes, 1, &mut out), Drained::Empty);
-    lanes.put(to(1, 1), &bytes(rt.alloc(), 65532, 7)?);
-    assert_eq!(rt; drain(&mut lanes, 1, &mut out), Drained::Frames(65536));
-    lanes.put(to(1, 1), &bytes(rt.alloc(), 65536, 7)?);
-    assert_eq!(rt; drain(&mut lanes, 1, &mut out), Drained::Broken);
+    assert!(rt; take_all(rt.alloc(), &mut lanes, LEFT)?);
     Ok(())
 }

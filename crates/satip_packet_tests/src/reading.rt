@@ -28,9 +28,20 @@ fn a_datagram_is_read(rt: HostRuntime) -> Result<(), Fail> {
     Ok(())
 }
 
+// Whether a datagram is dropped that has another byte at a place.
+fn is_dropped_with(at: usize, byte: u8) -> bool {
+    let mut bytes = datagram();
+    match bytes.get_mut(at) {
+        Some(place) => *place = byte,
+        None => return false,
+    }
+    read_rtp(&bytes).is_none()
+}
+
 #[test]
 fn other_datagrams_are_dropped(rt: HostRuntime) -> Result<(), Fail> {
-    // another version, padding, an extension, a contributing source; another payload type
+    // another version, padding, an extension, a contributing source; another payload type; and a
+    // packet that doesn't begin so
     for (at, byte) in [
         (0, 0x40),
         (0, 0xa0),
@@ -38,24 +49,34 @@ fn other_datagrams_are_dropped(rt: HostRuntime) -> Result<(), Fail> {
         (0, 0x81),
         (1, 0x20),
         (1, 0xe0),
+        (12, 0x46),
+        (200, 0x46),
+        (388, 0x46),
+        (576, 0x46),
+        (764, 0x46),
+        (952, 0x46),
+        (1140, 0x46),
     ] {
-        let mut bytes = datagram();
-        bytes[at] = byte;
-        assert!(rt; read_rtp(&bytes).is_none());
-    }
-    for number in 0..7usize {
-        let mut bytes = datagram();
-        bytes[12 + 188 * number] = 0x46;
-        assert!(rt; read_rtp(&bytes).is_none());
+        assert!(rt; is_dropped_with(at, byte), "at {at}");
     }
     let bytes = datagram();
     for cut in [0, 1, 11, 12, 13, 199, 201, 1327] {
-        assert!(rt; read_rtp(&bytes[..cut]).is_none());
+        assert!(rt; read_rtp(&bytes[..cut]).is_none(), "up to {cut}");
     }
     let mut eight = [0x47; 12 + 8 * 188];
     eight[..12].copy_from_slice(&bytes[..12]);
     assert!(rt; read_rtp(&eight).is_none());
     Ok(())
+}
+
+// Whether a datagram has this number and source, and two packets of the byte 0x47.
+fn is_read(bytes: &[u8], number: u16, ssrc: u32) -> bool {
+    match read_rtp(bytes) {
+        Some(view) => {
+            view.number == number && view.ssrc == ssrc && view.packets == [0x47; 2 * 188].as_slice()
+        }
+        None => false,
+    }
 }
 
 #[test]
@@ -71,9 +92,6 @@ fn what_a_packer_sends_is_read(rt: HostRuntime) -> Result<(), Fail> {
     packer.push(&packet, 1000, to, &mut out);
     packer.flush(1000, to, &mut out);
     let (_, bytes) = out.datagram(0).ok_or("datagram")?;
-    let view = read_rtp(bytes).ok_or("view")?;
-    assert_eq!(rt; view.number, 513);
-    assert_eq!(rt; view.ssrc, 0xfedcba98);
-    assert!(rt; view.packets == [0x47; 2 * 188].as_slice());
+    assert!(rt; is_read(bytes, 513, 0xfedcba98));
     Ok(())
 }

@@ -44,6 +44,24 @@ fn push_packets(packer: &mut Packer, packet: &Packet, count: u8, out: &mut Out)
     }
 }
 
+// Whether a datagram has this head, and so many bytes behind it, which are those of packets of the
+// byte 0x47.
+fn is_sent(out: &Out, place: usize, head: &[u8; 12], length: usize) -> bool {
+    let Some((to, bytes)) = out.datagram(place) else {
+        return false;
+    };
+    let (front, packets) = bytes.split_at(bytes.len().min(12));
+    to == TO
+        && front == head.as_slice()
+        && packets.len() == length
+        && packets.iter().all(|byte| *byte == 0x47)
+}
+
+// The next number, and how many datagrams and octets were sent.
+fn state(packer: &Packer) -> (u16, u32, u32) {
+    (packer.next(), packer.datagrams(), packer.octets())
+}
+
 #[test]
 fn the_seventh_packet_sends_and_the_number_wraps(rt: HostRuntime) -> Result<(), Fail> {
     worked_cuts();
@@ -54,21 +72,11 @@ fn the_seventh_packet_sends_and_the_number_wraps(rt: HostRuntime) -> Result<(), 
     assert!(rt; packer.flush(1000, TO, &mut out));
     assert!(rt; !packer.flush(1000, TO, &mut out));
     assert_eq!(rt; out.count(), 2);
-    let (to, first) = out.datagram(0).ok_or("first")?;
-    assert!(rt; to == TO);
-    assert_eq!(rt; first.len(), 1328);
-    assert!(rt;
-        first.split_at(12).0 == b"\x80\x21\xff\xff\x00\x01\x5f\x90\x11\x22\x33\x44".as_slice()
-    );
-    let (_, second) = out.datagram(1).ok_or("second")?;
-    assert_eq!(rt; second.len(), 200);
-    assert!(rt;
-        second.split_at(12).0 == b"\x80\x21\x00\x00\x00\x01\x5f\x90\x11\x22\x33\x44".as_slice()
-    );
-    assert!(rt; second.split_at(12).1 == packet.bytes().as_slice());
-    assert_eq!(rt; packer.next(), 1);
-    assert_eq!(rt; packer.datagrams(), 2);
-    assert_eq!(rt; packer.octets(), 1504);
+    let first = b"\x80\x21\xff\xff\x00\x01\x5f\x90\x11\x22\x33\x44";
+    assert!(rt; is_sent(&out, 0, first, 1316));
+    let second = b"\x80\x21\x00\x00\x00\x01\x5f\x90\x11\x22\x33\x44";
+    assert!(rt; is_sent(&out, 1, second, 188));
+    assert_eq!(rt; state(&packer), (1, 2, 1504));
     Ok(())
 }
 
@@ -80,10 +88,7 @@ fn six_packets_wait_for_a_flush(rt: HostRuntime) -> Result<(), Fail> {
     push_packets(&mut packer, &packet, 6, &mut out);
     assert_eq!(rt; out.count(), 0);
     assert!(rt; packer.flush(1040, TO, &mut out));
-    let (_, flushed) = out.datagram(0).ok_or("flushed")?;
-    assert_eq!(rt; flushed.len(), 1140);
-    assert!(rt;
-        flushed.split_at(12).0 == b"\x80\x21\xff\xff\x00\x01\x6d\xa0\x11\x22\x33\x44".as_slice()
-    );
+    let head = b"\x80\x21\xff\xff\x00\x01\x6d\xa0\x11\x22\x33\x44";
+    assert!(rt; is_sent(&out, 0, head, 1128));
     Ok(())
 }

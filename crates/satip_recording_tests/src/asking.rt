@@ -51,113 +51,108 @@ fn a_reply_is_heard_however_it_is_cut(rt: HostRuntime) -> Result<(), Fail> {
     Ok(())
 }
 
+// Pieces that come, each so often; the receives and sends that fail; and how it ends.
+type Row = (
+    &'static [(&'static [u8], usize)],
+    &'static [u64],
+    &'static [u64],
+    RecordEnd,
+);
+
+const ROWS: &[Row] = &[
+    (
+        &[(b"RTSP/1.0 503 No\r\nCSeq: 1\r\n\r\n", 1)],
+        &[],
+        &[],
+        RecordEnd::Refused(503),
+    ),
+    (
+        &[(GRANTED, 1), (b"RTSP/1.0 454 No\r\nCSeq: 2\r\n\r\n", 1)],
+        &[],
+        &[],
+        RecordEnd::Refused(454),
+    ),
+    (
+        &[(b"RTSP/1.0 200 OK\r\nCSeq: 1\r\nSession: 1a\r\n\r\n", 1)],
+        &[],
+        &[],
+        RecordEnd::BadReply,
+    ),
+    (
+        &[(GRANTED, 1), (b"RTSP/1.0 503 No\r\nCSeq: 3\r\n\r\n", 1)],
+        &[],
+        &[],
+        RecordEnd::BadReply,
+    ),
+    (&[(b"HTTP", 1)], &[], &[], RecordEnd::BadReply),
+    (
+        &[(GRANTED, 1), (ACCEPTED, 1)],
+        &[2],
+        &[],
+        RecordEnd::PeerFault,
+    ),
+    (
+        &[(GRANTED, 1), (ACCEPTED, 1)],
+        &[],
+        &[2],
+        RecordEnd::PeerFault,
+    ),
+    (&[(b"", 9999)], &[], &[], RecordEnd::Closed),
+    (&[(b"", 10000)], &[], &[], RecordEnd::Silent),
+];
+
 #[test]
-fn each_reply_may_end_it(rt: HostRuntime) -> Result<(), Fail> {
-    let alloc = rt.alloc();
-    let busy: &[u8] = b"RTSP/1.0 503 No\r\nCSeq: 1\r\n\r\n";
-    assert_eq!(rt; ends(alloc, &[busy], &[], &[])?, RecordEnd::Refused(503));
-    let gone: &[u8] = b"RTSP/1.0 454 No\r\nCSeq: 2\r\n\r\n";
-    assert_eq!(rt;
-        ends(alloc, &[GRANTED, gone], &[], &[])?,
-        RecordEnd::Refused(454)
-    );
-    let none: &[u8] = b"RTSP/1.0 200 OK\r\nCSeq: 1\r\nSession: 1a\r\n\r\n";
-    assert_eq!(rt; ends(alloc, &[none], &[], &[])?, RecordEnd::BadReply);
-    let other: &[u8] = b"RTSP/1.0 503 No\r\nCSeq: 3\r\n\r\n";
-    assert_eq!(rt;
-        ends(alloc, &[GRANTED, other], &[], &[])?,
-        RecordEnd::BadReply
-    );
-    assert_eq!(rt; ends(alloc, &[b"HTTP"], &[], &[])?, RecordEnd::BadReply);
+fn replies_faults_and_silence_end_it(rt: HostRuntime) -> Result<(), Fail> {
+    let mut place = 0usize;
+    for (texts, receives, sends, end) in ROWS {
+        let mut pieces = Vec::new(rt.alloc());
+        for (text, times) in *texts {
+            for _ in 0..*times {
+                pieces.push(*text)?;
+            }
+        }
+        let seen = ends(rt.alloc(), &pieces, receives, sends)?;
+        assert_eq!(rt; seen, *end, "at {place}");
+        place = place.saturating_add(1);
+    }
     Ok(())
 }
 
-#[test]
-fn faults_and_silence_end_it(rt: HostRuntime) -> Result<(), Fail> {
-    let alloc = rt.alloc();
-    assert_eq!(rt;
-        ends(alloc, &[GRANTED, ACCEPTED], &[2], &[])?,
-        RecordEnd::PeerFault
-    );
-    assert_eq!(rt;
-        ends(alloc, &[GRANTED, ACCEPTED], &[], &[2])?,
-        RecordEnd::PeerFault
-    );
-    let nothing: &[u8] = b"";
-    assert_eq!(rt; ends(alloc, &[nothing; 9999], &[], &[])?, RecordEnd::Closed);
-    assert_eq!(rt;
-        ends(alloc, &[nothing; 10000], &[], &[])?,
-        RecordEnd::Silent
-    );
-    Ok(())
+// Whether it goes on behind a moment of the clock.
+fn goes_on(
+    wire: &mut MemoryConn,
+    clock: &mut MemoryClock,
+    lease: &Lease,
+    pulse: &mut Pulse,
+    page: &mut Page,
+) -> bool {
+    pulse.cseq < u32::MAX && keep_alive(wire, clock, b"10.0.0.1", lease, pulse, page).is_ok()
+}
+
+// Whether what was sent behind a place is this.
+fn was_sent(wire: &MemoryConn, before: usize, text: &[u8]) -> bool {
+    wire.sent().split_at(before.min(wire.sent().len())).1 == text
 }
 
 #[test]
 fn half_of_the_timeout_brings_options(rt: HostRuntime) -> Result<(), Fail> {
     let alloc = rt.alloc();
     let mut wire = MemoryConn::make(alloc, &[GRANTED, ACCEPTED], &[], &[], 0)?;
-    let asked = asks(alloc, &mut wire);
-    assert!(rt; asked.is_ok());
-    let Ok(lease) = asked else {
-        return Ok(());
-    };
+    let lease = asks(alloc, &mut wire).ok().ok_or("lease")?;
     let mut clock = MemoryClock::make(alloc, &[1004, 1005, 1006])?;
     let mut pulse = Pulse { mark: 5, cseq: 3 };
     let mut page = Page::new(alloc);
     let before = wire.sent().len();
-    assert!(rt;
-        keep_alive(
-            &mut wire,
-            &mut clock,
-            b"10.0.0.1",
-            &lease,
-            &mut pulse,
-            &mut page
-        )
-        .is_ok()
-    );
-    assert_eq!(rt; wire.sent().len(), before);
-    assert_eq!(rt; pulse, Pulse { mark: 5, cseq: 3 });
-    assert!(rt;
-        keep_alive(
-            &mut wire,
-            &mut clock,
-            b"10.0.0.1",
-            &lease,
-            &mut pulse,
-            &mut page
-        )
-        .is_ok()
-    );
-    assert_eq!(rt;
-        pulse,
-        Pulse {
-            mark: 1005,
-            cseq: 4
-        }
-    );
-    let last = wire.sent().split_at(before.min(wire.sent().len())).1;
-    assert!(rt;
-        last == b"OPTIONS rtsp://10.0.0.1/ RTSP/1.0\r\nCSeq: 3\r\nSession: 1a\r\n\r\n".as_slice()
-    );
-    assert!(rt;
-        keep_alive(
-            &mut wire,
-            &mut clock,
-            b"10.0.0.1",
-            &lease,
-            &mut pulse,
-            &mut page
-        )
-        .is_ok()
-    );
-    assert_eq!(rt;
-        pulse,
-        Pulse {
-            mark: 1005,
-            cseq: 4
-        }
-    );
+    let options = b"OPTIONS rtsp://10.0.0.1/ RTSP/1.0\r\nCSeq: 3\r\nSession: 1a\r\n\r\n";
+    for (mark, cseq, text) in [
+        (5, 3, b"".as_slice()),
+        (1005, 4, options),
+        (1005, 4, options),
+    ] {
+        assert!(rt; goes_on(&mut wire, &mut clock, &lease, &mut pulse, &mut page));
+        assert_eq!(rt; pulse, Pulse { mark, cseq });
+        assert!(rt; was_sent(&wire, before, text));
+    }
     Ok(())
 }
 

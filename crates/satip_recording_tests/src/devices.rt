@@ -4,49 +4,73 @@ use satip_base::{Put, Sink, Source, Taken};
 use satip_inlet::Inlet;
 use satip_memory::{MemoryInlet, MemorySink, MemorySource};
 use satip_world::Received;
+use std::alloc::Global;
 use std::test::Fail;
+
+// What a take gives, and the bytes that it gave.
+fn take<S: Source>(alloc: Global, source: &mut S) -> Result<(Taken, Vec<u8>), Fail> {
+    let mut buf = [0; 3];
+    let taken = source.take(&mut buf);
+    let count = match taken {
+        Taken::Got(count) => count,
+        _ => 0,
+    };
+    Ok((taken, Vec::from_slice(alloc, buf.split_at(count.min(3)).0)?))
+}
 
 #[test]
 fn a_memory_source_gives_pieces_and_fails_when_told(rt: HostRuntime) -> Result<(), Fail> {
     let mut source = MemorySource::make(rt.alloc(), b"abcdef", &[2], &[2])?;
-    let mut buf = [0u8; 3];
-    assert_eq!(rt; source.take(&mut buf), Taken::Got(2));
-    assert_eq!(rt; source.take(&mut buf), Taken::Failed);
-    assert_eq!(rt; source.take(&mut buf), Taken::Got(3));
-    assert!(rt; buf == *b"cde");
-    assert_eq!(rt; source.take(&mut buf), Taken::Got(1));
-    assert_eq!(rt; source.take(&mut buf), Taken::End);
-    assert_eq!(rt; source.take(&mut buf), Taken::End);
+    for (wanted, bytes) in [
+        (Taken::Got(2), b"ab".as_slice()),
+        (Taken::Failed, b""),
+        (Taken::Got(3), b"cde"),
+        (Taken::Got(1), b"f"),
+        (Taken::End, b""),
+        (Taken::End, b""),
+    ] {
+        let (taken, given) = take(rt.alloc(), &mut source)?;
+        assert_eq!(rt; taken, wanted);
+        assert_eq!(rt; given.as_slice(), bytes);
+    }
     Ok(())
 }
 
 #[test]
 fn a_memory_sink_keeps_what_is_put_and_fails_when_told(rt: HostRuntime) -> Result<(), Fail> {
     let mut sink = MemorySink::make(rt.alloc(), &[2], 1)?;
-    assert_eq!(rt; sink.put(b"ab"), Put::Whole);
-    assert_eq!(rt; sink.put(b"cd"), Put::Failed);
-    assert_eq!(rt; sink.put(b"ef"), Put::Whole);
+    for (bytes, put) in [
+        (b"ab".as_slice(), Put::Whole),
+        (b"cd", Put::Failed),
+        (b"ef", Put::Whole),
+    ] {
+        assert_eq!(rt; sink.put(bytes), put);
+    }
     assert_eq!(rt; sink.sent(), b"abcef".as_slice());
     Ok(())
+}
+
+// What a receive gives, and the first three and the last byte of 2048.
+fn receive<I: Inlet>(inlet: &mut I) -> (Received, [u8; 3], u8) {
+    let mut buf = [0; 2048];
+    let received = inlet.receive(&mut buf);
+    (received, [buf[0], buf[1], buf[2]], buf[2047])
 }
 
 #[test]
 fn datagrams_come_in_order_and_then_none(rt: HostRuntime) -> Result<(), Fail> {
     let long = [7; 2049];
-    let made = MemoryInlet::make(rt.alloc(), 5000, &[b"abc", b"", &long], &[2], &[4]);
-    assert!(rt; made.is_ok());
-    let Ok(mut inlet) = made else {
-        return Ok(());
-    };
+    let mut inlet = MemoryInlet::make(rt.alloc(), 5000, &[b"abc", b"", &long], &[2], &[4])?;
     assert_eq!(rt; inlet.port(), 5000);
-    let mut buf = [0; 2048];
-    assert_eq!(rt; inlet.receive(&mut buf), Received::Got(3));
-    assert!(rt; buf[..3] == [b'a', b'b', b'c']);
-    assert_eq!(rt; inlet.receive(&mut buf), Received::Idle);
-    assert_eq!(rt; inlet.receive(&mut buf), Received::Got(0));
-    assert_eq!(rt; inlet.receive(&mut buf), Received::Failed);
-    assert_eq!(rt; inlet.receive(&mut buf), Received::Got(2048));
-    assert_eq!(rt; buf[2047], 7);
-    assert_eq!(rt; inlet.receive(&mut buf), Received::Idle);
+    for wanted in [
+        (Received::Got(3), *b"abc", 0),
+        (Received::Idle, [0; 3], 0),
+        (Received::Got(0), [0; 3], 0),
+        (Received::Failed, [0; 3], 0),
+        (Received::Got(2048), [7; 3], 7),
+        (Received::Idle, [0; 3], 0),
+    ] {
+        assert_eq!(rt; receive(&mut inlet), wanted);
+    }
     Ok(())
 }

@@ -107,135 +107,211 @@ fn play(
     })
 }
 
-// The bytes before a place and those from it on; all are before a place that is too far.
-fn cut(bytes: &[u8], place: usize) -> (&[u8], &[u8]) {
-    bytes.split_at(place.min(bytes.len()))
+// What comes to the inlet: the datagram of a number, or another.
+#[derive(Clone, Copy)]
+enum Came {
+    Data(u16),
+    Other(&'static [u8]),
 }
 
-#[test]
-fn two_packets_are_recorded(rt: HostRuntime) -> Result<(), Fail> {
-    let first = datagram(9);
-    let played = play(rt.alloc(), &[GRANTED, ACCEPTED], &[&first], NONE, 2)?;
-    assert_eq!(rt; played.end(), RecordEnd::Done);
-    assert!(rt; played.written() == &first[HEAD..HEAD + 376]);
-    let (opened, left) = cut(played.sent(), OPENED.len());
-    assert!(rt; opened == OPENED);
-    assert!(rt; left == LEFT);
-    assert!(rt; played.told().is_empty());
-    Ok(())
+// A recording, and what it is to come to: its end, what was sent on its connection, the beginnings
+// of the packets of which datagrams were written, and what was told. None isn't looked at.
+#[derive(Clone, Copy)]
+struct Row {
+    name: &'static str,
+    replies: &'static [&'static [u8]],
+    came: &'static [Came],
+    troubles: Troubles,
+    count: u32,
+    end: RecordEnd,
+    sent: Option<&'static [&'static [u8]]>,
+    written: Option<&'static [(u16, usize)]>,
+    told: Option<&'static [u8]>,
 }
 
-#[test]
-fn a_busy_server_is_told(rt: HostRuntime) -> Result<(), Fail> {
-    let busy: &[u8] = b"RTSP/1.0 503 Service Unavailable\r\nCSeq: 1\r\n\r\n";
-    let played = play(rt.alloc(), &[busy], &[], NONE, 2)?;
-    assert_eq!(rt; played.end(), RecordEnd::Refused(503));
-    assert!(rt; played.written().is_empty());
-    assert!(rt; played.told() == b"refused 503\n".as_slice());
-    Ok(())
+const PLAYED: Row = Row {
+    name: "",
+    replies: &[GRANTED, ACCEPTED],
+    came: &[],
+    troubles: NONE,
+    count: 1,
+    end: RecordEnd::Done,
+    sent: None,
+    written: None,
+    told: None,
+};
+
+const ROWS: &[Row] = &[
+    Row {
+        name: "two packets are recorded",
+        came: &[Came::Data(9)],
+        count: 2,
+        sent: Some(&[OPENED, LEFT]),
+        written: Some(&[(9, 376)]),
+        told: Some(b""),
+        ..PLAYED
+    },
+    Row {
+        name: "a busy server is told",
+        replies: &[b"RTSP/1.0 503 Service Unavailable\r\nCSeq: 1\r\n\r\n"],
+        count: 2,
+        end: RecordEnd::Refused(503),
+        written: Some(&[]),
+        told: Some(b"refused 503\n"),
+        ..PLAYED
+    },
+    Row {
+        name: "a gap is told once it is passed",
+        came: &[
+            Came::Data(10),
+            Came::Data(75),
+            Came::Data(11),
+            Came::Data(12),
+        ],
+        count: 6,
+        written: Some(&[(10, 564), (12, 564)]),
+        told: Some(b"gap 11 1\n"),
+        ..PLAYED
+    },
+    Row {
+        name: "repeated and late datagrams are put in order",
+        came: &[
+            Came::Data(65535),
+            Came::Data(65535),
+            Came::Data(1),
+            Came::Other(b"no RTP"),
+            Came::Data(0),
+            Came::Data(0),
+        ],
+        count: 8,
+        written: Some(&[(65535, 564), (0, 564), (1, 376)]),
+        told: Some(b""),
+        ..PLAYED
+    },
+    Row {
+        name: "half of the timeout brings OPTIONS",
+        came: &[Came::Other(b"no RTP"), Came::Data(9)],
+        troubles: Troubles { idle: 1, ..NONE },
+        sent: Some(&[
+            OPENED,
+            b"OPTIONS rtsp://127.0.0.1:18554/ RTSP/1.0\r\nCSeq: 3\r\nSession: 1a\r\n\r\n",
+            b"TEARDOWN rtsp://127.0.0.1:18554/stream=7 RTSP/1.0\r\nCSeq: 4\r\nSession: 1a\r\n\r\n",
+        ]),
+        ..PLAYED
+    },
+    Row {
+        name: "a failing inlet ends it",
+        came: &[Came::Data(9)],
+        troubles: Troubles { inlet: 1, ..NONE },
+        end: RecordEnd::PeerFault,
+        told: Some(b"peer fault\n"),
+        ..PLAYED
+    },
+    Row {
+        name: "a failing output ends it",
+        came: &[Came::Data(9)],
+        troubles: Troubles { output: 1, ..NONE },
+        end: RecordEnd::OutputFault,
+        written: Some(&[(9, 100)]),
+        ..PLAYED
+    },
+    Row {
+        name: "a last request that fails ends it",
+        came: &[Came::Data(9)],
+        troubles: Troubles { send: 3, ..NONE },
+        end: RecordEnd::PeerFault,
+        sent: Some(&[OPENED, b"TEARD"]),
+        ..PLAYED
+    },
+    Row {
+        name: "a connection that ends early ends it",
+        replies: &[GRANTED],
+        end: RecordEnd::Closed,
+        told: Some(b"closed\n"),
+        ..PLAYED
+    },
+    Row {
+        name: "silence ends it",
+        end: RecordEnd::Silent,
+        told: Some(b"silent\n"),
+        ..PLAYED
+    },
+    Row {
+        name: "behind a line that fails none is told",
+        came: &[Came::Data(10), Came::Data(75)],
+        troubles: Troubles {
+            inlet: 3,
+            errors: 1,
+            ..NONE
+        },
+        count: 6,
+        end: RecordEnd::PeerFault,
+        told: Some(b"gap"),
+        ..PLAYED
+    },
+];
+
+// The bytes of what comes.
+fn bytes_of(alloc: Global, came: Came) -> Result<Vec<u8>, Fail> {
+    match came {
+        Came::Data(number) => Ok(Vec::from_slice(alloc, &datagram(number))?),
+        Came::Other(bytes) => Ok(Vec::from_slice(alloc, bytes)?),
+    }
 }
 
-#[test]
-fn a_gap_is_told_once_it_is_passed(rt: HostRuntime) -> Result<(), Fail> {
-    let (first, far, late, next) = (datagram(10), datagram(75), datagram(11), datagram(12));
-    let came: [&[u8]; 4] = [&first, &far, &late, &next];
-    let played = play(rt.alloc(), &[GRANTED, ACCEPTED], &came, NONE, 6)?;
-    assert_eq!(rt; played.end(), RecordEnd::Done);
-    assert_eq!(rt; played.written().len(), 1128);
-    let (begin, end) = cut(played.written(), 564);
-    assert!(rt; begin == &first[HEAD..]);
-    assert!(rt; end == &next[HEAD..]);
-    assert!(rt; played.told() == b"gap 11 1\n".as_slice());
-    Ok(())
+fn play_row(alloc: Global, row: &Row) -> Result<Played, Fail> {
+    let mut owned = Vec::new(alloc);
+    for came in row.came {
+        owned.push(bytes_of(alloc, *came)?)?;
+    }
+    let mut datagrams = Vec::new(alloc);
+    for bytes in &owned {
+        datagrams.push(bytes.as_slice())?;
+    }
+    Ok(play(alloc, row.replies, &datagrams, row.troubles, row.count)?)
 }
 
-#[test]
-fn repeated_and_late_datagrams_are_put_in_order(rt: HostRuntime) -> Result<(), Fail> {
-    let (first, late, next) = (datagram(65535), datagram(0), datagram(1));
-    let came: [&[u8]; 6] = [&first, &first, &next, b"no RTP", &late, &late];
-    let played = play(rt.alloc(), &[GRANTED, ACCEPTED], &came, NONE, 8)?;
-    assert_eq!(rt; played.end(), RecordEnd::Done);
-    assert_eq!(rt; played.written().len(), 1504);
-    let (begin, rest) = cut(played.written(), 564);
-    let (middle, end) = cut(rest, 564);
-    assert!(rt; begin == &first[HEAD..]);
-    assert!(rt; middle == &late[HEAD..]);
-    assert!(rt; end == &next[HEAD..HEAD + 376]);
-    assert!(rt; played.told().is_empty());
-    Ok(())
-}
-
-#[test]
-fn half_of_the_timeout_brings_options(rt: HostRuntime) -> Result<(), Fail> {
-    let first = datagram(9);
-    let waits = Troubles { idle: 1, ..NONE };
-    let came: [&[u8]; 2] = [b"no RTP", &first];
-    let played = play(rt.alloc(), &[GRANTED, ACCEPTED], &came, waits, 1)?;
-    assert_eq!(rt; played.end(), RecordEnd::Done);
-    let (_, rest) = cut(played.sent(), OPENED.len());
-    let wanted: &[u8] =
-        b"OPTIONS rtsp://127.0.0.1:18554/ RTSP/1.0\r\nCSeq: 3\r\nSession: 1a\r\n\r\nTEARDOWN rtsp://127.0.0.1:18554/stream=7 RTSP/1.0\r\nCSeq: 4\r\nSession: 1a\r\n\r\n";
-    assert!(rt; rest == wanted);
-    Ok(())
-}
-
-#[test]
-fn a_failing_inlet_ends_it(rt: HostRuntime) -> Result<(), Fail> {
-    let first = datagram(9);
-    let failing = Troubles { inlet: 1, ..NONE };
-    let played = play(rt.alloc(), &[GRANTED, ACCEPTED], &[&first], failing, 1)?;
-    assert_eq!(rt; played.end(), RecordEnd::PeerFault);
-    assert!(rt; played.told() == b"peer fault\n".as_slice());
-    Ok(())
-}
-
-#[test]
-fn a_failing_output_ends_it(rt: HostRuntime) -> Result<(), Fail> {
-    let first = datagram(9);
-    let failing = Troubles { output: 1, ..NONE };
-    let played = play(rt.alloc(), &[GRANTED, ACCEPTED], &[&first], failing, 1)?;
-    assert_eq!(rt; played.end(), RecordEnd::OutputFault);
-    assert_eq!(rt; played.written().len(), 100);
-    Ok(())
-}
-
-#[test]
-fn a_last_request_that_fails_ends_it(rt: HostRuntime) -> Result<(), Fail> {
-    let first = datagram(9);
-    let failing = Troubles { send: 3, ..NONE };
-    let played = play(rt.alloc(), &[GRANTED, ACCEPTED], &[&first], failing, 1)?;
-    assert_eq!(rt; played.end(), RecordEnd::PeerFault);
-    assert_eq!(rt; played.sent().len(), OPENED.len() + 5);
-    Ok(())
-}
-
-#[test]
-fn a_connection_that_ends_early_ends_it(rt: HostRuntime) -> Result<(), Fail> {
-    let played = play(rt.alloc(), &[GRANTED], &[], NONE, 1)?;
-    assert_eq!(rt; played.end(), RecordEnd::Closed);
-    assert!(rt; played.told() == b"closed\n".as_slice());
-    Ok(())
-}
-
-#[test]
-fn silence_ends_it(rt: HostRuntime) -> Result<(), Fail> {
-    let played = play(rt.alloc(), &[GRANTED, ACCEPTED], &[], NONE, 1)?;
-    assert_eq!(rt; played.end(), RecordEnd::Silent);
-    assert!(rt; played.told() == b"silent\n".as_slice());
-    Ok(())
-}
-
-#[test]
-fn behind_a_line_that_fails_none_is_told(rt: HostRuntime) -> Result<(), Fail> {
-    let (first, far) = (datagram(10), datagram(75));
-    let failing = Troubles {
-        inlet: 3,
-        errors: 1,
-        ..NONE
+// Whether bytes are these texts one after another, where they are looked at.
+fn is_joined(bytes: &[u8], texts: Option<&[&[u8]]>) -> bool {
+    let Some(texts) = texts else {
+        return true;
     };
-    let came: [&[u8]; 2] = [&first, &far];
-    let played = play(rt.alloc(), &[GRANTED, ACCEPTED], &came, failing, 6)?;
-    assert_eq!(rt; played.end(), RecordEnd::PeerFault);
-    assert!(rt; played.told() == b"gap".as_slice());
+    let mut rest = bytes;
+    for text in texts {
+        if !rest.starts_with(text) {
+            return false;
+        }
+        rest = rest.split_at(text.len().min(rest.len())).1;
+    }
+    rest.is_empty()
+}
+
+// Whether bytes are the beginnings of the packets of these datagrams, where they are looked at.
+fn are_packets(bytes: &[u8], parts: Option<&[(u16, usize)]>) -> bool {
+    let Some(parts) = parts else {
+        return true;
+    };
+    let mut rest = bytes;
+    for (number, count) in parts {
+        let whole = datagram(*number);
+        let part = whole[HEAD..].split_at((*count).min(564)).0;
+        if !rest.starts_with(part) {
+            return false;
+        }
+        rest = rest.split_at(part.len().min(rest.len())).1;
+    }
+    rest.is_empty()
+}
+
+#[test]
+fn recordings_come_to_what_their_rows_say(rt: HostRuntime) -> Result<(), Fail> {
+    for row in ROWS {
+        let played = play_row(rt.alloc(), row)?;
+        let name = row.name;
+        assert_eq!(rt; played.end(), row.end, "{name}");
+        assert!(rt; is_joined(played.sent(), row.sent), "{name}");
+        assert!(rt; are_packets(played.written(), row.written), "{name}");
+        assert_eq!(rt; played.told(), row.told.unwrap_or(played.told()), "{name}");
+    }
     Ok(())
 }

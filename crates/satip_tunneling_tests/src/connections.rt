@@ -16,9 +16,9 @@ use std::test::Fail;
 /// A report of a client on channel 1 (RFC 2326, section 10.12), and an OPTIONS behind it.
 const REPORT_AND_OPTIONS: &[u8] = b"$\x01\x00\x04\x00\x00\x00\x00OPTIONS * RTSP/1.0\r\nCSeq: 1\r\n\r\n";
 
-const OPTIONS: &[u8] = b"OPTIONS * RTSP/1.0\r\nCSeq: 1\r\n\r\n";
+pub const OPTIONS: &[u8] = b"OPTIONS * RTSP/1.0\r\nCSeq: 1\r\n\r\n";
 
-const OPTIONS_REPLY: &[u8] =
+pub const OPTIONS_REPLY: &[u8] =
     b"RTSP/1.0 200 OK\r\nCSeq: 1\r\nPublic: OPTIONS, DESCRIBE, SETUP, PLAY, TEARDOWN\r\n\r\n";
 
 const SETUP: &[u8] =
@@ -39,7 +39,7 @@ const CLOSING: &[u8] = b"RTSP/1.0 400 Bad Request\r\nConnection: close\r\n\r\n";
 
 /// The key of what is drawn. Its first draw has the word ade0b876 (the first word of the ChaCha20
 /// stream of this key).
-const KEY: [u8; 32] = [0; 32];
+pub const KEY: [u8; 32] = [0; 32];
 
 /// A connection: the pieces that come in, which receives and sends fail, how it ends, what it is
 /// sent, and how many entries it makes.

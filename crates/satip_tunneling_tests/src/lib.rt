@@ -5,3 +5,5 @@
 mod connections;
 #[cfg(test)]
 mod setting;
+#[cfg(test)]
+mod worker;

@@ -9,6 +9,8 @@ use satip_base::Out;
 use satip_memory::MemoryStore;
 use satip_pump::JobEnd;
 use std::alloc::Global;
+use std::process::Abort;
+use std::sync::Wait;
 use std::test::Fail;
 
 const ROUNDS: u64 = 64;
@@ -104,33 +106,80 @@ fn are_same(own: &[Note], plain: &[Note]) -> bool {
     own.len() == plain.len() && own.iter().zip(plain).all(|(a, b)| *a == *b)
 }
 
+// What a pump came to: its end, if it is none of the plain one, its entries and pauses, and how many
+// sources are out.
+#[derive(Drop)]
+struct Run {
+    end: Option<JobEnd>,
+    notes: Vec<Note>,
+    pauses: u64,
+    lent: u64,
+}
+
+fn pumped<R: Wait + Sync>(
+    rt: &R,
+    alloc: Global,
+    store: MemoryStore,
+    later: usize,
+    stop: usize,
+) -> Result<Run, Fail> {
+    let mut service = Scripted::new(alloc, FIRST, Some((later, SECOND)), stop);
+    let mut kit = kit(alloc, store, &[])?;
+    let end = pump(rt, alloc, &mut service, &mut kit)?;
+    Ok(Run {
+        end: Some(end),
+        notes: service.notes,
+        pauses: kit.pacer.pauses(),
+        lent: kit.store.lent(),
+    })
+}
+
+fn plainly_pumped(
+    alloc: Global,
+    store: &mut MemoryStore,
+    later: usize,
+    stop: usize,
+) -> Result<Run, Fail> {
+    let mut service = Scripted::new(alloc, FIRST, Some((later, SECOND)), stop);
+    let mut pump = PlainPump::new(alloc);
+    pump.run(&mut service, store, &mut Out::make(alloc)?)?;
+    Ok(Run {
+        end: None,
+        notes: service.notes,
+        pauses: pump.pauses,
+        lent: store.lent(),
+    })
+}
+
+// A pump beside the plain one over the same recordings: how many entries both made.
+fn beside<R: Abort + Wait + Sync>(
+    rt: &R,
+    alloc: Global,
+    words: &mut Words,
+    broken: bool,
+) -> Result<usize, Fail> {
+    let mut store = MemoryStore::make(alloc, &[])?;
+    let mut plain = MemoryStore::make(alloc, &[])?;
+    add_recordings(alloc, &mut store, &mut plain, words, broken)?;
+    let later = words.up_to(140) as usize;
+    let stop = later.saturating_add(words.up_to(200) as usize);
+    let own = pumped(rt, alloc, store, later, stop)?;
+    let other = plainly_pumped(alloc, &mut plain, later, stop)?;
+    assert_eq!(rt; own.end, Some(JobEnd::Stopped));
+    assert!(rt; are_same(&own.notes, &other.notes));
+    assert_eq!(rt; own.pauses, other.pauses);
+    assert_eq!(rt; own.lent, 0);
+    assert_eq!(rt; other.lent, 0);
+    Ok(own.notes.len())
+}
+
 #[test]
 fn a_pump_does_what_the_plain_one_does(rt: HostRuntime) -> Result<(), Fail> {
-    let alloc = rt.alloc();
     let mut words = Words { last: 25 };
     let mut calls = 0usize;
     for round in 0..ROUNDS {
-        let mut own = kit(alloc, &[], &[])?;
-        let mut plain = MemoryStore::make(alloc, &[])?;
-        add_recordings(
-            alloc,
-            &mut own.store,
-            &mut plain,
-            &mut words,
-            round % 2 == 0,
-        )?;
-        let later = words.up_to(140) as usize;
-        let stop = later.saturating_add(words.up_to(200) as usize);
-        let mut service = Scripted::new(alloc, FIRST, Some((later, SECOND)), stop);
-        let mut plain_service = Scripted::new(alloc, FIRST, Some((later, SECOND)), stop);
-        let mut plain_pump = PlainPump::new(alloc);
-        assert_eq!(rt; pump(&rt, alloc, &mut service, &mut own)?, JobEnd::Stopped);
-        plain_pump.run(&mut plain_service, &mut plain, &mut Out::make(alloc)?)?;
-        assert!(rt; are_same(&service.notes, &plain_service.notes));
-        assert_eq!(rt; own.pacer.pauses(), plain_pump.pauses);
-        assert_eq!(rt; own.store.lent(), 0);
-        assert_eq!(rt; plain.lent(), 0);
-        calls = calls.saturating_add(service.notes.len());
+        let made = beside(&rt, rt.alloc(), &mut words, round % 2 == 0)?;
+        calls = calls.saturating_add(made);
     }
     assert!(rt; calls >= 10_000);
     Ok(())

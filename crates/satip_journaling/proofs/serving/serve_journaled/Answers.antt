@@ -7,6 +7,8 @@ use Rattle.satip_shared.specs.Calling.{ServerPass}
 use Rattle.satip_serve.specs.Fresh.{ReadOnce}
 use Rattle.satip_serve.specs.Views.{tick_view}
 use Rattle.satip_serve.proofs.WholeRuns.{read_once}
+use Rattle.satip_turn.specs.Views.{numbers_of}
+use Rattle.satip_journaling.proofs.Judging.{judged_yes}
 use Rattle.satip_journaling.proofs.serving.serve_journaled.Goals as goal
 
 pub serve_all-requires-clause-first : goal.serve_all-requires-clause-first
@@ -44,3 +46,9 @@ returns-in-Ok-serve_all-clause-ended g c = λ accepts fresh.
       pumps_are = fresh.pumps_are;
       ticker_is = subst (λ s. ReadOnce s (tick_view {P = g.row.P.Denot} g.C.Clock.dial g.O.Outlet.outbox tick)) (sym (ap (λ (s : Setting). s.start) setting)) read;
     })
+
+pub returns-in-Ok-serve_all-clause-yes : goal.returns-in-Ok-serve_all-clause-yes
+returns-in-Ok-serve_all-clause-yes g c = λ unfailed.
+    let all = c.in-Ok-serve_all.ensures in
+    judged_yes g.K.Sink.tells c.in-Ok.server.setting c.in-Ok-serve_all.pass.seen (numbers_of c.in-Ok-serve_all.pass.kept) c.in-Ok-serve_all.written.failed
+    _ _ all.knows.lawful all.typed all.callers all.journals unfailed

@@ -1,10 +1,9 @@
-//! RTSP connections whose receives and sends fail.
+//! RTSP connections of sessions whose devices fail.
 
-use crate::wanted::wants;
 use satip_base::Out;
 use satip_memory::MemoryConn;
-use satip_run_fixtures::serving::{OPTIONS, SETUP, SETUP_REPLY, Seen, serve, serve_alone};
-use satip_run_fixtures::setting::{give, play, set_up, solo, tick};
+use satip_run_fixtures::serving::{PLAY, SETUP, SETUP_REPLY, Seen, joined, serve};
+use satip_run_fixtures::setting::{ask_of_stream, give, play, set_up, solo, tick};
 use satip_solo::Solo;
 use satip_world::{ConnEnd, DoorKind};
 use std::alloc::Global;
@@ -16,32 +15,11 @@ const TEARDOWN: &[u8] =
 
 const TEARDOWN_REPLY: &[u8] = b"RTSP/1.0 200 OK\r\nCSeq: 1\r\n\r\n";
 
-#[test]
-fn a_first_receive_that_fails_ends_the_connection(rt: HostRuntime) -> Result<(), Fail> {
-    let alloc = rt.alloc();
-    let conn = MemoryConn::make(alloc, &[SETUP], &[1], &[], 0)?;
-    let seen = serve_alone(&rt, alloc, DoorKind::Rtsp, conn)?;
-    wants(&rt, &seen, ConnEnd::ReadFault, b"", b"");
-    Ok(())
-}
+const OPTIONS_OF_SESSION: &[u8] =
+    b"OPTIONS * RTSP/1.0\r\nCSeq: 3\r\nSession: 00000001ade0b876\r\n\r\n";
 
-#[test]
-fn a_later_receive_that_fails_ends_the_connection(rt: HostRuntime) -> Result<(), Fail> {
-    let alloc = rt.alloc();
-    let conn = MemoryConn::make(alloc, &[SETUP, OPTIONS], &[2], &[], 0)?;
-    let seen = serve_alone(&rt, alloc, DoorKind::Rtsp, conn)?;
-    wants(&rt, &seen, ConnEnd::ReadFault, b"R", SETUP_REPLY);
-    Ok(())
-}
-
-#[test]
-fn a_send_that_fails_passes_a_beginning(rt: HostRuntime) -> Result<(), Fail> {
-    let alloc = rt.alloc();
-    let conn = MemoryConn::make(alloc, &[OPTIONS], &[], &[1], 10)?;
-    let seen = serve_alone(&rt, alloc, DoorKind::Rtsp, conn)?;
-    wants(&rt, &seen, ConnEnd::WriteFault, b"R", b"RTSP/1.0 2");
-    Ok(())
-}
+const PLAY_REPLY: &[u8] =
+    b"RTSP/1.0 200 OK\r\nCSeq: 2\r\nSession: 00000001ade0b876\r\nRTP-Info: url=rtsp://192.168.1.10/stream=1;seq=23872\r\n\r\n";
 
 // Founds the first stream and plays it, and gives it eight packets, the last of which is held.
 fn begin(solo: &mut Solo, out: &mut Out) -> Result<(), Fail> {
@@ -78,5 +56,28 @@ fn an_outlet_that_fails_changes_nothing_else(rt: HostRuntime) -> Result<(), Fail
         assert_eq!(rt; seen.sent.as_slice(), TEARDOWN_REPLY);
         assert_eq!(rt; seen.datagrams, datagrams);
     }
+    Ok(())
+}
+
+// The status of a DESCRIBE of the first stream behind a tick at this moment.
+fn status_at(alloc: Global, solo: &mut Solo, moment: u64) -> Result<u16, Fail> {
+    let mut out = Out::make(alloc)?;
+    tick(solo, moment, &mut out)?;
+    ask_of_stream(solo, &mut out)
+}
+
+#[test]
+fn a_session_lives_after_its_third_send_failed(rt: HostRuntime) -> Result<(), Fail> {
+    let alloc = rt.alloc();
+    let text = joined(alloc, &[SETUP, PLAY, OPTIONS_OF_SESSION])?;
+    let sent = joined(alloc, &[SETUP_REPLY, PLAY_REPLY])?;
+    let conn = MemoryConn::make(alloc, &[&text], &[], &[3], 0)?;
+    let mut solo = solo(alloc, None)?;
+    let seen = serve(&rt, alloc, &mut solo, DoorKind::Rtsp, conn, &[])?;
+    assert!(rt; seen.end == ConnEnd::WriteFault);
+    assert_eq!(rt; seen.kinds.as_slice(), b"RRR".as_slice());
+    assert_eq!(rt; seen.sent.as_slice(), sent.as_slice());
+    assert_eq!(rt; status_at(alloc, &mut solo, 59999)?, 200);
+    assert_eq!(rt; status_at(alloc, &mut solo, 60000)?, 404);
     Ok(())
 }

@@ -1,0 +1,152 @@
+#!/usr/bin/env python3
+"""Measures `satip tunnel` on loopback to 1, 8 and 16 connections, beside a plain loop that only
+sends the same frames at the same pace on as many TCP connections. Then one of eight stops reading,
+and what the others miss is counted.
+
+    python3 bench/tunnel.py [PROGRAM [SECONDS]]
+
+CPU is that of all threads of the server, by /proc/PID/task/*/schedstat. Packets are counted by the
+bytes that came; what is missing is read off the RTP numbers. SECONDS, 6 without the word, is how
+long each row takes.
+
+PROGRAM is crates/satip/out/satip without the word; `cd crates/satip && rt run -- --version` builds
+it. Needs python3, gcc, and ffmpeg (for tools/make_recording.sh)."""
+import os
+import select
+import socket
+import subprocess
+import sys
+import tempfile
+import time
+
+TOP = os.path.dirname(os.path.dirname(os.path.abspath(__file__)))
+sys.path.insert(0, os.path.join(TOP, "tools"))
+sys.path.insert(0, os.path.join(TOP, "bench"))
+sys.dont_write_bytecode = True
+from interleaved import PACKET, RTP_HEADER, Interleaved
+from receivers import cpu_seconds, resident_megabytes
+from serving import PROGRAM, QUERY, Server, free_ports
+
+ADDRESS = "127.0.0.1"
+CONNECTIONS = (1, 8, 16)
+
+
+class Readers:
+    """Connections that play one stream, read by one thread; those that are left out don't read."""
+
+    def __init__(self, port, count):
+        self.clients = [Interleaved(ADDRESS, port)]
+        target, self.session = self.clients[0].play(f"{QUERY}&pids=all")
+        for _ in range(count - 1):
+            client = Interleaved(ADDRESS, port)
+            client.play("", target)
+            self.clients.append(client)
+        self.target, self.poll = target, select.epoll()
+        self.by_file = {client.line.fileno(): client for client in self.clients}
+        self.last, self.payload, self.missing, self.ended = {}, 0, 0, 0
+        for client in self.clients:
+            client.line.setblocking(False)
+            self.poll.register(client.line, select.EPOLLIN)
+
+    def leave_out(self, client):
+        self.poll.unregister(client.line)
+
+    def read_for(self, seconds):
+        end = time.monotonic() + seconds
+        while time.monotonic() < end:
+            for file, _ in self.poll.poll(0.1):
+                self.read(file, self.by_file[file])
+
+    def read(self, file, client):
+        try:
+            client.receive()
+        except BlockingIOError:
+            return
+        except OSError:
+            self.ended += 1
+            self.poll.unregister(client.line)
+            return
+        while frame := client.cut_frame():
+            self.count(file, *frame)
+
+    def count(self, file, channel, data):
+        if channel != 0:
+            return
+        number = data[2] << 8 | data[3]
+        last = self.last.get(file)
+        if last is not None:
+            self.missing += (number - last - 1) & 0xFFFF
+        self.last[file] = number
+        self.payload += len(data) - RTP_HEADER
+
+    def close(self):
+        for client in self.clients:
+            client.close()
+        self.poll.close()
+
+
+def measure(server, port, count, seconds):
+    """CPU seconds of the server for each packet that came, and the readers."""
+    readers = Readers(port, count)
+    readers.read_for(1)
+    before, payload = cpu_seconds(server.pid), readers.payload
+    readers.read_for(seconds)
+    used = cpu_seconds(server.pid) - before
+    packets = (readers.payload - payload) // PACKET
+    readers.close()
+    return used / packets, readers
+
+
+def loop_to(loop, count, seconds):
+    """CPU seconds of the plain loop for each packet."""
+    port, _ = free_ports(ADDRESS)
+    words = [loop, str(seconds), str(port), str(count)]
+    with subprocess.Popen(words, stdout=subprocess.PIPE, text=True) as sends:
+        time.sleep(0.3)
+        socks = [socket.create_connection((ADDRESS, port)) for _ in range(count)]
+        open_socks = {sock.fileno(): sock for sock in socks}
+        while open_socks:
+            for file in select.select(list(open_socks), [], [])[0]:
+                if not open_socks[file].recv(262144):
+                    del open_socks[file]
+        told = sends.stdout.read().split()
+    for sock in socks:
+        sock.close()
+    return float(told[3]) / int(told[1])
+
+
+def measure_slow(port, seconds):
+    """Eight connections, one of which stops reading."""
+    readers = Readers(port, 8)
+    readers.read_for(1)
+    readers.leave_out(readers.clients[3])
+    readers.read_for(2 * seconds)
+    print(f"8 connections, one of which stops reading: the other seven got {readers.payload // PACKET} "
+          f"packets and miss {readers.missing} datagrams; {readers.ended} of them ended")
+    readers.close()
+
+
+def main():
+    program = os.path.abspath(sys.argv[1] if len(sys.argv) > 1 else PROGRAM)
+    os.environ["SATIP_PROGRAM"] = program
+    seconds = int(sys.argv[2]) if len(sys.argv) > 2 else 6
+    with tempfile.TemporaryDirectory() as folder:
+        loop = os.path.join(folder, "send_loop")
+        subprocess.run(["gcc", "-O2", "-o", loop, os.path.join(TOP, "bench", "send_loop.c")], check=True)
+        ports = free_ports(ADDRESS)
+        server = Server(ADDRESS, workers=20, ports=ports, seconds=20 * seconds + 60, command="tunnel")
+        try:
+            for count in CONNECTIONS:
+                each, readers = measure(server.process, ports[0], count, seconds)
+                plain = loop_to(loop, count, seconds)
+                memory = resident_megabytes(server.process.pid)
+                print(f"{count:2} connections: {1e6 * each:.3f} s of CPU a million packets, a loop of send "
+                      f"{1e6 * plain:.3f} s: factor {each / plain:.2f}; missing {readers.missing}; "
+                      f"{memory:.1f} MB", flush=True)
+            measure_slow(ports[0], seconds)
+        finally:
+            server.close()
+
+
+if __name__ == "__main__":
+    main()

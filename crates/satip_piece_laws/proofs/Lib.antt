@@ -1,0 +1,5 @@
+pub mod Splitting
+pub mod Plain
+pub mod Forming
+pub mod Turning
+pub mod Replies

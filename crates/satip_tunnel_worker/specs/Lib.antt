@@ -1,0 +1,3 @@
+pub mod ConnRun
+pub mod WorkerRun
+pub mod Rows
