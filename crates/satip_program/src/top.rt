@@ -51,8 +51,8 @@ const HELP: &[u8] = b"usage: satip talk | replay CONFIG | serve CONFIG ACCEPTS |
     \x20   satip talk < requests\n\
     stress: COUNT events that a generator makes of SEED, run and counted\n\
     \x20   satip stress 7 100000\n\
-    journal: as serve, and each job writes its entries to the file journal.N, by its number N, in the \
-    current folder\n\
+    journal: as serve, and each job writes its entries to the file journal.N, by its number N, \
+    in the current folder\n\
     \x20   satip journal satip.toml 0\n\
     audit: the verdict on the journals on standard input, by the configuration in the file CONFIG\n\
     \x20   cat journal.* | satip audit satip.toml\n\
@@ -67,10 +67,10 @@ const VERSION: &[u8] = b"satip 0.1.0\n";
 /// How a run ended.
 pub struct Ended<K: Desk> {
     /// 0 where all went well; 2 where the words are in no form; 3 where the configuration has a
-    /// fault, 4 where the script or the journals have a wrong line; 5, 6 where the input, the output failed; 7 where
-    /// the doors of a worker or the desk failed; 8 where the input is too long; 9 where the history
-    /// is full; 10 to 14 where a recording was refused, got a bad reply, met silence, a fault of the
-    /// peer, or an end before a reply; 70 where there was no memory.
+    /// fault, 4 where the script or the journals have a wrong line; 5, 6 where the input, the output
+    /// or a journal failed; 7 where the doors of a worker or the desk failed; 8 where the input is too
+    /// long; 9 where the history is full; 10 to 14 where a recording was refused, got a bad reply,
+    /// met silence, a fault of the peer, or an end before a reply; 70 where there was no memory.
     pub status: u8,
     /// The configuration that the desk gave, as far as it was read.
     pub config: Option<K::Config>,
@@ -196,10 +196,11 @@ pub fn satip<R: Threads + Wait + Sync, K: Desk, I: Source, O: Sink, E: Sink>(
     // Only what names a configuration opens one, and that and a recording alone ask anything of the
     // desk.
     ensures no_config { serve_of words.now ≡ None → journal_of words.now ≡ None
-        → audit_of words.now ≡ None → config_named (command_of words.now) ≡ None → IsNone result.config }
+        → audit_of words.now ≡ None → config_named (command_of words.now) ≡ None
+        → IsNone result.config }
     ensures desk { serve_of words.now ≡ None → journal_of words.now ≡ None
-        → recording_of words.now ≡ None → audit_of words.now ≡ None → config_named (command_of words.now) ≡ None
-        → desk.new ≡ desk.old }
+        → recording_of words.now ≡ None → audit_of words.now ≡ None
+        → config_named (command_of words.now) ≡ None → desk.new ≡ desk.old }
     ensures texts { K.text desk.new ≡ K.text desk.old }
 
     // Only a serve with journals asks for them.
