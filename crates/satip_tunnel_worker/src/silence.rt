@@ -23,6 +23,13 @@ impl<O> Silenced<O> {
             held: false,
         }
     }
+
+    /// The outlet that was kept.
+    pub fn into_outlet(self) -> O
+        ensures kept { result ≡ self.outlet }
+    {
+        self.outlet
+    }
 }
 
 impl<O> Outlet for Silenced<O> {

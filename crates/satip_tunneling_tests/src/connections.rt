@@ -14,19 +14,20 @@ use std::sync::Wait;
 use std::test::Fail;
 
 /// A report of a client on channel 1 (RFC 2326, section 10.12), and an OPTIONS behind it.
-const REPORT_AND_OPTIONS: &[u8] = b"$\x01\x00\x04\x00\x00\x00\x00OPTIONS * RTSP/1.0\r\nCSeq: 1\r\n\r\n";
+const REPORT_AND_OPTIONS: &[u8] =
+    b"$\x01\x00\x04\x00\x00\x00\x00OPTIONS * RTSP/1.0\r\nCSeq: 1\r\n\r\n";
 
 pub const OPTIONS: &[u8] = b"OPTIONS * RTSP/1.0\r\nCSeq: 1\r\n\r\n";
 
 pub const OPTIONS_REPLY: &[u8] =
     b"RTSP/1.0 200 OK\r\nCSeq: 1\r\nPublic: OPTIONS, DESCRIBE, SETUP, PLAY, TEARDOWN\r\n\r\n";
 
-const SETUP: &[u8] =
+pub const SETUP: &[u8] =
     b"SETUP rtsp://192.168.1.10/?src=1&freq=11361.75&pol=h&ro=0.35&msys=dvbs2&mtype=8psk&plts=on&sr=22000&fec=23&pids=0,16,17&x_pmt=100 RTSP/1.0\r\nCSeq: 1\r\nTransport: RTP/AVP/TCP;interleaved=0-1\r\n\r\n";
 
 /// The reply to the SETUP: its session was made by the key's first draw, and its transport is told
 /// in channels.
-const SETUP_REPLY: &[u8] =
+pub const SETUP_REPLY: &[u8] =
     b"RTSP/1.0 200 OK\r\nCSeq: 1\r\nSession: 00000001ade0b876;timeout=60\r\nTransport: RTP/AVP/TCP;unicast;interleaved=0-1\r\ncom.ses.streamID: 1\r\n\r\n";
 
 const SETUP_UDP: &[u8] =
@@ -78,8 +79,8 @@ fn serve<R: Wait + Sync + Abort>(
     Ok(())
 }
 
-// Each ends at the end of its input unless it says so.
-fn rows<'a>(pieces: &'a [&'a [u8]], sent: &'a [u8], entries: u64) -> Row<'a> {
+// A connection that ends well.
+fn expect_done<'a>(pieces: &'a [&'a [u8]], sent: &'a [u8], entries: u64) -> Row<'a> {
     Row {
         pieces,
         failing_receives: &[],
@@ -99,7 +100,13 @@ fn serve_cut<R: Wait + Sync + Abort>(
 ) -> Result<(), Fail> {
     for cut in 1..REPORT_AND_OPTIONS.len() {
         let (front, back) = REPORT_AND_OPTIONS.split_at(cut);
-        serve(rt, alloc, caller, room, &rows(&[front, back], OPTIONS_REPLY, 4))?;
+        serve(
+            rt,
+            alloc,
+            caller,
+            room,
+            &expect_done(&[front, back], OPTIONS_REPLY, 4),
+        )?;
     }
     Ok(())
 }
@@ -111,21 +118,51 @@ fn serve_rows<R: Wait + Sync + Abort>(
     caller: &mut TunnelCaller<R>,
     room: &mut TunnelRoom,
 ) -> Result<(), Fail> {
-    serve(rt, alloc, caller, room, &rows(&[SETUP_UDP], REFUSED, 4))?;
-    serve(rt, alloc, caller, room, &rows(&[SETUP], SETUP_REPLY, 4))?;
-    serve(rt, alloc, caller, room, &rows(&[b"", OPTIONS], OPTIONS_REPLY, 5))?;
-    serve(rt, alloc, caller, room, &rows(&[b"OPTIONS * RTSP"], b"", 2))?;
-    serve(rt, alloc, caller, room, &rows(&[b"a\r\n\r\n", OPTIONS], CLOSING, 4))?;
+    serve(
+        rt,
+        alloc,
+        caller,
+        room,
+        &expect_done(&[SETUP_UDP], REFUSED, 4),
+    )?;
+    serve(
+        rt,
+        alloc,
+        caller,
+        room,
+        &expect_done(&[SETUP], SETUP_REPLY, 4),
+    )?;
+    serve(
+        rt,
+        alloc,
+        caller,
+        room,
+        &expect_done(&[b"", OPTIONS], OPTIONS_REPLY, 5),
+    )?;
+    serve(
+        rt,
+        alloc,
+        caller,
+        room,
+        &expect_done(&[b"OPTIONS * RTSP"], b"", 2),
+    )?;
+    serve(
+        rt,
+        alloc,
+        caller,
+        room,
+        &expect_done(&[b"a\r\n\r\n", OPTIONS], CLOSING, 4),
+    )?;
     let lost = Row {
         failing_sends: &[1],
         end: TunnelEnd::WriteFault,
-        ..rows(&[OPTIONS], b"RTSP/1.0 2", 3)
+        ..expect_done(&[OPTIONS], b"RTSP/1.0 2", 3)
     };
     serve(rt, alloc, caller, room, &lost)?;
     let unread = Row {
         failing_receives: &[2],
         end: TunnelEnd::ReadFault,
-        ..rows(&[OPTIONS, OPTIONS], OPTIONS_REPLY, 4)
+        ..expect_done(&[OPTIONS, OPTIONS], OPTIONS_REPLY, 4)
     };
     serve(rt, alloc, caller, room, &unread)
 }
@@ -144,7 +181,7 @@ fn serve_full<R: Wait + Sync + Abort>(
     }
     let full = Row {
         end: TunnelEnd::Full,
-        ..rows(&[OPTIONS], b"", 1)
+        ..expect_done(&[OPTIONS], b"", 1)
     };
     serve(rt, alloc, caller, room, &full)
 }

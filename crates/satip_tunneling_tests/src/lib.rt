@@ -6,4 +6,6 @@ mod connections;
 #[cfg(test)]
 mod setting;
 #[cfg(test)]
+mod streaming;
+#[cfg(test)]
 mod worker;
