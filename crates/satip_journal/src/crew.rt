@@ -6,7 +6,6 @@ ghost use Rattle.satip_records.specs.Lines.{start_line};
 ghost use Rattle.satip_journal.specs.Gears.{gear_of};
 ghost use Rattle.satip_journal.specs.Keeping.{kept, SameJournal};
 ghost use Rattle.satip_journal.specs.Logs.{Logs};
-ghost use Rattle.satip_journal.specs.Owning.{KnowsOwn};
 
 use crate::journal::{Journal, fails_to_put};
 use satip_base::{Out, Sink};
@@ -51,30 +50,6 @@ impl<K: Sink> JournalGear<K> {
     {
         write_start(now, &mut self.line);
         self.failed = fails_to_put(&mut self.sink, self.line.bytes());
-    }
-}
-
-impl<'a, R: Wait + Sync, K: Sink> Journal<'a, R, K> {
-    /// The journal of a caller that goes on with this gear.
-    pub fn with_gear(caller: Caller<'a, R>, gear: JournalGear<K>) -> Journal<'a, R, K>
-        requires own { KnowsOwn caller.pass }
-        ensures server { result.caller.server.now ≡ caller.entry.server.now }
-        ensures pass { result.caller.pass ≡ caller.entry.pass }
-        ensures gear { gear_of result.number result.sink result.line result.failed ≡ gear }
-    {
-        let JournalGear {
-            number,
-            sink,
-            line,
-            failed,
-        } = gear;
-        Journal {
-            caller,
-            number,
-            sink,
-            line,
-            failed,
-        }
     }
 }
 

@@ -3,6 +3,8 @@
 
 mod gears;
 mod memory;
+mod rows;
 mod serving;
 
+pub use rows::worked_sinks;
 pub use serving::{Written, serve_journaled};

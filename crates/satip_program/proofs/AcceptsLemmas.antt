@@ -36,4 +36,33 @@ journal_is_no_serve word is =
     let same : word ≡ codes "journal" = (bytes_eq-Decides word (codes "journal")).0 is in
     subst (λ (w : List ℕ). bytes_eq w (codes "serve") ≡ false) (sym same) refl
 
-pub ruleset words_differ = (serve_is_other, audit_is_other, serve_is_no_journal, journal_is_other, journal_is_no_serve)
+pub serve_is_no_tunnel : (word : List ℕ) → bytes_eq word (codes "serve") ≡ true → bytes_eq word (codes "tunnel") ≡ false
+serve_is_no_tunnel word is =
+    let same : word ≡ codes "serve" = (bytes_eq-Decides word (codes "serve")).0 is in
+    subst (λ (w : List ℕ). bytes_eq w (codes "tunnel") ≡ false) (sym same) refl
+
+pub journal_is_no_tunnel : (word : List ℕ) → bytes_eq word (codes "journal") ≡ true → bytes_eq word (codes "tunnel") ≡ false
+journal_is_no_tunnel word is =
+    let same : word ≡ codes "journal" = (bytes_eq-Decides word (codes "journal")).0 is in
+    subst (λ (w : List ℕ). bytes_eq w (codes "tunnel") ≡ false) (sym same) refl
+
+-- the word of a tunnel is another than those of a stress run, of a serve and of a serve with journals
+pub tunnel_is_other : (word : List ℕ) → bytes_eq word (codes "tunnel") ≡ true → bytes_eq word (codes "stress") ≡ false
+tunnel_is_other word is =
+    let same : word ≡ codes "tunnel" = (bytes_eq-Decides word (codes "tunnel")).0 is in
+    subst (λ (w : List ℕ). bytes_eq w (codes "stress") ≡ false) (sym same) refl
+
+pub tunnel_is_no_serve : (word : List ℕ) → bytes_eq word (codes "tunnel") ≡ true → bytes_eq word (codes "serve") ≡ false
+tunnel_is_no_serve word is =
+    let same : word ≡ codes "tunnel" = (bytes_eq-Decides word (codes "tunnel")).0 is in
+    subst (λ (w : List ℕ). bytes_eq w (codes "serve") ≡ false) (sym same) refl
+
+pub tunnel_is_no_journal : (word : List ℕ) → bytes_eq word (codes "tunnel") ≡ true → bytes_eq word (codes "journal") ≡ false
+tunnel_is_no_journal word is =
+    let same : word ≡ codes "tunnel" = (bytes_eq-Decides word (codes "tunnel")).0 is in
+    subst (λ (w : List ℕ). bytes_eq w (codes "journal") ≡ false) (sym same) refl
+
+pub ruleset words_differ = (
+  serve_is_other, audit_is_other, serve_is_no_journal, serve_is_no_tunnel, journal_is_other, journal_is_no_serve, journal_is_no_tunnel, tunnel_is_other,
+  tunnel_is_no_serve, tunnel_is_no_journal,
+)

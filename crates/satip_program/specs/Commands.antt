@@ -74,6 +74,20 @@ serve_of (word ∷ name ∷ accepts ∷ []) = serve_named word name (number_of 4
 serve_of (word ∷ name ∷ accepts ∷ another ∷ others) = None
 
 -- the form of three words; no configuration has the empty name
+abbrev pub tunnel_named : List ℕ → List ℕ → Option ℕ → Option Serving
+tunnel_named word [] accepts = None
+tunnel_named word (byte ∷ bytes) accepts =
+    if bytes_eq word (codes "tunnel") then option_map (λ n. record { name = byte ∷ bytes; accepts = n }) accepts else None
+
+-- the form of the words, if they ask for a `serve` with RTP inside the RTSP connections
+unfoldable pub tunnel_of : List (List ℕ) → Option Serving
+tunnel_of [] = None
+tunnel_of (word ∷ []) = None
+tunnel_of (word ∷ name ∷ []) = None
+tunnel_of (word ∷ name ∷ accepts ∷ []) = tunnel_named word name (number_of 4294967295 accepts)
+tunnel_of (word ∷ name ∷ accepts ∷ another ∷ others) = None
+
+-- the form of three words; no configuration has the empty name
 abbrev pub journal_named : List ℕ → List ℕ → Option ℕ → Option Serving
 journal_named word [] accepts = None
 journal_named word (byte ∷ bytes) accepts =
@@ -132,7 +146,7 @@ HasCount commands.Version = Unit {0}
 
 -- the forms of the words
 abbrev pub usage : List ℕ
-usage = codes "usage: satip talk | replay CONFIG | serve CONFIG ACCEPTS | stress SEED COUNT | journal CONFIG ACCEPTS | audit CONFIG | record ADDRESS QUERY COUNT\n"
+usage = codes "usage: satip talk | replay CONFIG | serve CONFIG ACCEPTS | stress SEED COUNT | tunnel CONFIG ACCEPTS | journal CONFIG ACCEPTS | audit CONFIG | record ADDRESS QUERY COUNT\n"
 
 -- what --help writes: the forms, a line for each command that is built with an example of it, and where more stands
 abbrev pub help : List ℕ
@@ -146,6 +160,8 @@ help = usage
     ++ codes "    satip talk < requests\n"
     ++ codes "stress: COUNT events that a generator makes of SEED, run and counted\n"
     ++ codes "    satip stress 7 100000\n"
+    ++ codes "tunnel: as serve, but RTP and RTCP go down the RTSP connection, to clients that ask for RTP/AVP/TCP\n"
+    ++ codes "    satip tunnel satip.toml 0\n"
     ++ codes "journal: as serve, and each job writes its entries to the file journal.N, by its number N, in the current folder\n"
     ++ codes "    satip journal satip.toml 0\n"
     ++ codes "audit: the verdict on the journals on standard input, by the configuration in the file CONFIG\n"

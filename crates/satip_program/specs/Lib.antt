@@ -6,6 +6,7 @@ pub mod Hearing
 pub mod Outcomes
 pub mod Replaying
 pub mod Serving
+pub mod Tunneling
 pub mod Ends
 pub mod Recording
 pub mod Auditing

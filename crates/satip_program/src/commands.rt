@@ -4,7 +4,7 @@ ghost use Rattle.std.specs.Prelude.{◌≡◌, ◌≤◌, ◌∷◌, [], None, f
 ghost use Rattle.std.specs.Str.{bytes_eq};
 ghost use Rattle.satip_base.specs.Numbers.{number_of};
 ghost use Rattle.satip_record_command.specs.Words.{wanted, wanted_of};
-ghost use Rattle.satip_program.specs.Commands.{recording_of, form_of, command_of, command_named, replay_named, stress_named, stress_by, serving_of, serve_of, serve_named, journal_of, journal_named, audit_of, audit_named, HasCount};
+ghost use Rattle.satip_program.specs.Commands.{recording_of, form_of, command_of, command_named, replay_named, stress_named, stress_by, serving_of, serve_of, serve_named, tunnel_of, tunnel_named, journal_of, journal_named, audit_of, audit_named, HasCount};
 
 use satip_base::{Text, read_number};
 use satip_record_command::Recording;
@@ -35,13 +35,14 @@ pub(crate) struct Serve<'w> {
 
 /// The `serve` that the words ask for; `None` where they ask for none. No other command has such
 /// words.
-#[tactic(auto, unfolding(crate::specs::Commands::serve_of, crate::specs::Commands::command_of, crate::specs::Commands::recording_of, crate::specs::Commands::audit_of, crate::specs::Commands::journal_of))]
+#[tactic(auto, unfolding(crate::specs::Commands::serve_of, crate::specs::Commands::command_of, crate::specs::Commands::recording_of, crate::specs::Commands::audit_of, crate::specs::Commands::journal_of, crate::specs::Commands::tunnel_of))]
 pub(crate) fn read_serve(words: &[Text]) -> Option<Serve<'_>>
     ensures serve { option_map serving_of result ≡ serve_of words.now }
     ensures alone { IfSome result (λ _. command_of words.now ≡ None) }
     ensures other { IfSome result (λ _. recording_of words.now ≡ None) }
     ensures audit { IfSome result (λ _. audit_of words.now ≡ None) }
     ensures journal { IfSome result (λ _. journal_of words.now ≡ None) }
+    ensures tunnel { IfSome result (λ _. tunnel_of words.now ≡ None) }
 {
     match words {
         [] => None,
@@ -54,13 +55,14 @@ pub(crate) fn read_serve(words: &[Text]) -> Option<Serve<'_>>
 
 /// The `serve` with journals that the words ask for; `None` where they ask for none. No other
 /// command has such words.
-#[tactic(auto, unfolding(crate::specs::Commands::journal_of, crate::specs::Commands::serve_of, crate::specs::Commands::command_of, crate::specs::Commands::recording_of, crate::specs::Commands::audit_of))]
+#[tactic(auto, unfolding(crate::specs::Commands::journal_of, crate::specs::Commands::serve_of, crate::specs::Commands::command_of, crate::specs::Commands::recording_of, crate::specs::Commands::audit_of, crate::specs::Commands::tunnel_of))]
 pub(crate) fn read_journal(words: &[Text]) -> Option<Serve<'_>>
     ensures journal { option_map serving_of result ≡ journal_of words.now }
     ensures alone { IfSome result (λ _. command_of words.now ≡ None) }
     ensures other { IfSome result (λ _. recording_of words.now ≡ None) }
     ensures audit { IfSome result (λ _. audit_of words.now ≡ None) }
     ensures serve { IfSome result (λ _. serve_of words.now ≡ None) }
+    ensures tunnel { IfSome result (λ _. tunnel_of words.now ≡ None) }
 {
     match words {
         [] => None,
@@ -78,11 +80,55 @@ fn read_journal_words<'w>(word: &[u8], name: &'w Text, accepts: &[u8]) -> Option
     ensures other { IfSome result (λ _. bytes_eq word.now (codes "stress") ≡ false) }
     ensures serve { IfSome result
         (λ _. serve_named word.now name.now (number_of 4294967295 accepts.now) ≡ None) }
+    ensures tunnel { IfSome result
+        (λ _. tunnel_named word.now name.now (number_of 4294967295 accepts.now) ≡ None) }
 {
     match name.bytes() {
         [] => None,
         [_, ..] => {
             if is_text(word, b"journal") {
+                read_accepts(name, accepts)
+            } else {
+                None
+            }
+        }
+    }
+}
+
+/// The `tunnel` that the words ask for; `None` where they ask for none. No other command has such
+/// words.
+#[tactic(auto, unfolding(crate::specs::Commands::tunnel_of, crate::specs::Commands::serve_of, crate::specs::Commands::command_of, crate::specs::Commands::recording_of, crate::specs::Commands::audit_of, crate::specs::Commands::journal_of))]
+pub(crate) fn read_tunnel(words: &[Text]) -> Option<Serve<'_>>
+    ensures tunnel { option_map serving_of result ≡ tunnel_of words.now }
+    ensures alone { IfSome result (λ _. command_of words.now ≡ None) }
+    ensures other { IfSome result (λ _. recording_of words.now ≡ None) }
+    ensures audit { IfSome result (λ _. audit_of words.now ≡ None) }
+    ensures serve { IfSome result (λ _. serve_of words.now ≡ None) }
+    ensures journal { IfSome result (λ _. journal_of words.now ≡ None) }
+{
+    match words {
+        [] => None,
+        [_] => None,
+        [_, _] => None,
+        [word, name, accepts] => read_tunnel_words(word.bytes(), name, accepts.bytes()),
+        [_, _, _, _, ..] => None,
+    }
+}
+
+#[tactic(auto, using(crate::proofs::AcceptsLemmas::words_differ))]
+fn read_tunnel_words<'w>(word: &[u8], name: &'w Text, accepts: &[u8]) -> Option<Serve<'w>>
+    ensures tunnel { option_map serving_of result
+        ≡ tunnel_named word.now name.now (number_of 4294967295 accepts.now) }
+    ensures other { IfSome result (λ _. bytes_eq word.now (codes "stress") ≡ false) }
+    ensures serve { IfSome result
+        (λ _. serve_named word.now name.now (number_of 4294967295 accepts.now) ≡ None) }
+    ensures journal { IfSome result
+        (λ _. journal_named word.now name.now (number_of 4294967295 accepts.now) ≡ None) }
+{
+    match name.bytes() {
+        [] => None,
+        [_, ..] => {
+            if is_text(word, b"tunnel") {
                 read_accepts(name, accepts)
             } else {
                 None
@@ -98,6 +144,8 @@ fn read_three<'w>(word: &[u8], name: &'w Text, accepts: &[u8]) -> Option<Serve<'
     ensures other { IfSome result (λ _. bytes_eq word.now (codes "stress") ≡ false) }
     ensures journal { IfSome result
         (λ _. journal_named word.now name.now (number_of 4294967295 accepts.now) ≡ None) }
+    ensures tunnel { IfSome result
+        (λ _. tunnel_named word.now name.now (number_of 4294967295 accepts.now) ≡ None) }
 {
     match name.bytes() {
         [] => None,

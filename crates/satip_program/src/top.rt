@@ -13,13 +13,15 @@ ghost use Rattle.satip_audit_command.specs.Ends.{AuditEnds};
 ghost use Rattle.satip_journal_command.specs.Ends.{JournalEnds};
 ghost use Rattle.satip_program.specs.Journaling.{IsOfJournal};
 ghost use Rattle.satip_telling.specs.Lines.{Says};
-ghost use Rattle.satip_program.specs.Commands.{serve_of, journal_of, recording_of, audit_of, Talk, Replay, Stress, Help, Version, command_of, config_named, help, version, line_of};
+ghost use Rattle.satip_program.specs.Commands.{serve_of, tunnel_of, journal_of, recording_of, audit_of, Talk, Replay, Stress, Help, Version, command_of, config_named, help, version, line_of};
 ghost use Rattle.satip_program.specs.Ends.{TalkEnds, ReplayEnds, StressEnds, ServeEnds};
+ghost use Rattle.satip_program.specs.Tunneling.{TunnelEnds};
+ghost use Rattle.satip_silent.specs.Silences.{no_outbox};
 ghost use Rattle.satip_program.specs.Outcomes.{input_limit, NothingDone, PrintEnds, StressRuns, Shows};
 ghost use Rattle.satip_program.specs.Replaying.{RunEnds, ReplayRuns};
 
 use crate::commands::{
-    Command, Serve, read_audit, read_journal, read_recording, read_serve, read_words,
+    Command, Serve, read_audit, read_journal, read_recording, read_serve, read_tunnel, read_words,
 };
 use crate::outcomes::Outcome;
 use crate::serving::{status_of_serving, tell_serving};
@@ -33,12 +35,14 @@ use satip_replay::replay;
 use satip_serve::{Jobs, Last};
 use satip_serving::{Desk, Served, serve_by};
 use satip_stress::{StressEnd, stress};
+use satip_tunnel_command::{Tunneled, tunnel_by};
+use satip_tunnel_serve::TunnelLast;
 use std::alloc::Global;
 use std::sync::Wait;
 use std::thread::Threads;
 
 const HELP: &[u8] = b"usage: satip talk | replay CONFIG | serve CONFIG ACCEPTS | stress SEED COUNT \
-    | journal CONFIG ACCEPTS | audit CONFIG | record ADDRESS QUERY COUNT\n\
+    | tunnel CONFIG ACCEPTS | journal CONFIG ACCEPTS | audit CONFIG | record ADDRESS QUERY COUNT\n\
     serve: clients, by the configuration in the file CONFIG; each worker ends after ACCEPTS \
     connections, and never where it is 0\n\
     \x20   satip serve satip.toml 0\n\
@@ -51,6 +55,9 @@ const HELP: &[u8] = b"usage: satip talk | replay CONFIG | serve CONFIG ACCEPTS |
     \x20   satip talk < requests\n\
     stress: COUNT events that a generator makes of SEED, run and counted\n\
     \x20   satip stress 7 100000\n\
+    tunnel: as serve, but RTP and RTCP go down the RTSP connection, to clients that ask for \
+    RTP/AVP/TCP\n\
+    \x20   satip tunnel satip.toml 0\n\
     journal: as serve, and each job writes its entries to the file journal.N, by its number N, \
     in the current folder\n\
     \x20   satip journal satip.toml 0\n\
@@ -76,6 +83,8 @@ pub struct Ended<K: Desk> {
     pub config: Option<K::Config>,
     /// What the jobs of a `serve` left, if any began.
     pub last: Option<Last<K::Doors, K::Outlet, K::Pacer, K::Store, K::Clock>>,
+    /// What the jobs of a `tunnel` left, if any began.
+    pub tunnel: Option<TunnelLast<K::Doors, K::Outlet, K::Pacer, K::Store, K::Clock>>,
     /// The kits that the desk gave, if no job began.
     pub unused: Option<Jobs<K::Doors, K::Outlet, K::Pacer, K::Store, K::Clock>>,
     /// The connection that the desk gave to a recording, if it gave one.
@@ -94,6 +103,7 @@ impl<K: Desk> Drop for Ended<K> {
             status: _,
             config: _,
             last: _,
+            tunnel: _,
             unused: _,
             wire: _,
             inlet: _,
@@ -125,7 +135,8 @@ pub fn satip<R: Threads + Wait + Sync, K: Desk, I: Source, O: Sink, E: Sink>(
     // Which words there are, and what they do.
     ensures usage { (result.status ≡ 2) ↔ ((command_of words.now ≡ None)
         × (recording_of words.now ≡ None) × (audit_of words.now ≡ None)
-        × (serve_of words.now ≡ None) × (journal_of words.now ≡ None)) }
+        × (serve_of words.now ≡ None) × (tunnel_of words.now ≡ None)
+        × (journal_of words.now ≡ None)) }
     ensures unused { command_of words.now ≡ None → recording_of words.now ≡ None
         → audit_of words.now ≡ None → NothingDone
         (I.feed input.old)
@@ -195,12 +206,13 @@ pub fn satip<R: Threads + Wait + Sync, K: Desk, I: Source, O: Sink, E: Sink>(
 
     // Only what names a configuration opens one, and that and a recording alone ask anything of the
     // desk.
-    ensures no_config { serve_of words.now ≡ None → journal_of words.now ≡ None
+    ensures no_config { serve_of words.now ≡ None → tunnel_of words.now ≡ None
+        → journal_of words.now ≡ None → audit_of words.now ≡ None
+        → config_named (command_of words.now) ≡ None → IsNone result.config }
+    ensures desk { serve_of words.now ≡ None → tunnel_of words.now ≡ None
+        → journal_of words.now ≡ None → recording_of words.now ≡ None
         → audit_of words.now ≡ None → config_named (command_of words.now) ≡ None
-        → IsNone result.config }
-    ensures desk { serve_of words.now ≡ None → journal_of words.now ≡ None
-        → recording_of words.now ≡ None → audit_of words.now ≡ None
-        → config_named (command_of words.now) ≡ None → desk.new ≡ desk.old }
+        → desk.new ≡ desk.old }
     ensures texts { K.text desk.new ≡ K.text desk.old }
 
     // Only a serve with journals asks for them.
@@ -208,7 +220,8 @@ pub fn satip<R: Threads + Wait + Sync, K: Desk, I: Source, O: Sink, E: Sink>(
     ensures no_journals { journal_of words.now ≡ None → result.journals.items ≡ [] }
 
     // When each status comes.
-    ensures configuration { serve_of words.now ≡ None → journal_of words.now ≡ None
+    ensures configuration { serve_of words.now ≡ None → tunnel_of words.now ≡ None
+        → journal_of words.now ≡ None
         → result.status ≡ 3
         → IsSome (config_named (command_of words.now)) ⊎ IsSome (audit_of words.now) }
     ensures script { result.status ≡ 4
@@ -223,14 +236,23 @@ pub fn satip<R: Threads + Wait + Sync, K: Desk, I: Source, O: Sink, E: Sink>(
     ensures limit { (I.feed input.new).taken ≤ (I.feed input.old).taken + input_limit + 1 }
 
     // A serve: the jobs ran by the configuration of the desk's text, over one history that keeps
-    // the laws. So do those of a serve with journals, which are one history in any order. Nothing
-    // else asks for kits, or runs jobs.
+    // the laws. So do the server's entries of a tunnel's, and those of a serve with journals, which
+    // are one history in any order. Nothing else asks for kits, or runs jobs.
     ensures serve { IfSome (serve_of words.now) (λ serve.
         ServeEnds K.Config.tells K.Doors.Conn.tells K.Outlet.tells E.tells
         serve.accepts (K.text desk.old serve.name) (K.faults desk.old) (K.faults desk.new)
         K.Config.feed result.config
         (jobs_view K.Doors.hall K.Outlet.outbox K.Store.shelf K.Clock.dial)
         (K.given desk.new) result.last result.unused
+        (E.drain errors.old) (E.drain errors.new)
+        result.status) }
+    ensures tunnel { IfSome (tunnel_of words.now) (λ serve.
+        TunnelEnds K.Config.tells K.Doors.Conn.tells E.tells
+        serve.accepts (K.text desk.old serve.name) (K.faults desk.old) (K.faults desk.new)
+        K.Config.feed result.config
+        (jobs_view K.Doors.hall K.Outlet.outbox K.Store.shelf K.Clock.dial)
+        (jobs_view K.Doors.hall no_outbox K.Store.shelf K.Clock.dial)
+        (K.given desk.new) result.tunnel result.unused
         (E.drain errors.old) (E.drain errors.new)
         result.status) }
     ensures journal { IfSome (journal_of words.now) (λ serve.
@@ -241,14 +263,15 @@ pub fn satip<R: Threads + Wait + Sync, K: Desk, I: Source, O: Sink, E: Sink>(
         (K.given desk.new) result.last result.unused (map K.Journal.drain result.journals.items)
         (E.drain errors.old) (E.drain errors.new)
         result.status) }
-    ensures kits { serve_of words.now ≡ None → journal_of words.now ≡ None
-        → K.given desk.new ≡ None }
+    ensures kits { serve_of words.now ≡ None → tunnel_of words.now ≡ None
+        → journal_of words.now ≡ None → K.given desk.new ≡ None }
     ensures no_last { serve_of words.now ≡ None → journal_of words.now ≡ None
         → result.last ≡ None }
-    ensures no_unused { serve_of words.now ≡ None → journal_of words.now ≡ None
-        → result.unused ≡ None }
-    ensures no_serving { serve_of words.now ≡ None → journal_of words.now ≡ None
-        → (result.status ≡ 7 → ⊥) × (result.status ≡ 9 → ⊥) }
+    ensures no_tunnel { tunnel_of words.now ≡ None → result.tunnel ≡ None }
+    ensures no_unused { serve_of words.now ≡ None → tunnel_of words.now ≡ None
+        → journal_of words.now ≡ None → result.unused ≡ None }
+    ensures no_serving { serve_of words.now ≡ None → tunnel_of words.now ≡ None
+        → journal_of words.now ≡ None → (result.status ≡ 7 → ⊥) × (result.status ≡ 9 → ⊥) }
 
     // What is told of it.
     ensures errors { recording_of words.now ≡ None
@@ -260,7 +283,12 @@ pub fn satip<R: Threads + Wait + Sync, K: Desk, I: Source, O: Sink, E: Sink>(
         Some(Serve { name, accepts }) => run_serve(rt, alloc, name, accepts, errors, desk),
         None => match read_journal(words) {
             Some(Serve { name, accepts }) => run_journal(rt, alloc, name, accepts, errors, desk),
-            None => offline(alloc, words, input, output, errors, desk),
+            None => match read_tunnel(words) {
+                Some(Serve { name, accepts }) => {
+                    run_tunnel(rt, alloc, name, accepts, errors, desk)
+                }
+                None => offline(alloc, words, input, output, errors, desk),
+            },
         },
     }
 }
@@ -285,6 +313,7 @@ fn run_journal<R: Threads + Wait + Sync, K: Desk, E: Sink>(
         (E.drain errors.old) (E.drain errors.new)
         result.status }
     ensures of_journal { IsOfJournal result.status }
+    ensures no_tunnel { result.tunnel ≡ None }
     ensures input_fault { result.status ≡ 5 → Rose (K.faults desk.old) (K.faults desk.new)
         ⊎ IsSomeAnd result.config (λ source. Rose 0 (K.Config.feed source).faults) }
     ensures no_client { (result.wire ≡ None) × (result.inlet ≡ None) × (result.moment ≡ None) }
@@ -303,6 +332,7 @@ fn run_journal<R: Threads + Wait + Sync, K: Desk, E: Sink>(
         status: end.status(),
         config,
         last,
+        tunnel: None,
         unused,
         wire: None,
         inlet: None,
@@ -333,6 +363,7 @@ fn run_serve<R: Threads + Wait + Sync, K: Desk, E: Sink>(
     ensures journaled { K.journaled desk.new ≡ K.journaled desk.old }
     ensures no_client { (result.wire ≡ None) × (result.inlet ≡ None) × (result.moment ≡ None) }
     ensures no_journals { result.journals.items ≡ [] }
+    ensures no_tunnel { result.tunnel ≡ None }
     ensures errors { (result.status ≡ 3 → ⊥) → Says E.tells
         (E.drain errors.old) (E.drain errors.new)
         (line_of result.status) }
@@ -348,6 +379,55 @@ fn run_serve<R: Threads + Wait + Sync, K: Desk, E: Sink>(
         status: status_of_serving(end),
         config,
         last,
+        tunnel: None,
+        unused,
+        wire: None,
+        inlet: None,
+        moment: None,
+        journals: Vec::new(alloc),
+    }
+}
+
+// Serves through a tunnel, and tells how it ended.
+fn run_tunnel<R: Threads + Wait + Sync, K: Desk, E: Sink>(
+    rt: &R,
+    alloc: Global,
+    name: &Text,
+    accepts: u32,
+    errors: &mut E,
+    desk: &mut K,
+) -> Ended<K>
+    requires new { K.given desk.old ≡ None }
+    ensures texts { K.text desk.new ≡ K.text desk.old }
+    ensures ends { TunnelEnds K.Config.tells K.Doors.Conn.tells E.tells
+        accepts (K.text desk.old name.now) (K.faults desk.old) (K.faults desk.new)
+        K.Config.feed result.config
+        (jobs_view K.Doors.hall K.Outlet.outbox K.Store.shelf K.Clock.dial)
+        (jobs_view K.Doors.hall no_outbox K.Store.shelf K.Clock.dial)
+        (K.given desk.new) result.tunnel result.unused
+        (E.drain errors.old) (E.drain errors.new)
+        result.status }
+    ensures handed { K.handed desk.new ≡ K.handed desk.old }
+    ensures journaled { K.journaled desk.new ≡ K.journaled desk.old }
+    ensures no_client { (result.wire ≡ None) × (result.inlet ≡ None) × (result.moment ≡ None) }
+    ensures no_journals { result.journals.items ≡ [] }
+    ensures no_last { result.last ≡ None }
+    ensures errors { (result.status ≡ 3 → ⊥) → Says E.tells
+        (E.drain errors.old) (E.drain errors.new)
+        (line_of result.status) }
+{
+    let Tunneled {
+        end,
+        config,
+        last,
+        unused,
+    } = tunnel_by(rt, alloc, name, accepts, desk);
+    tell_serving(end, errors);
+    Ended {
+        status: status_of_serving(end),
+        config,
+        last: None,
+        tunnel: last,
         unused,
         wire: None,
         inlet: None,
@@ -453,6 +533,7 @@ pub fn offline<K: Desk, I: Source, O: Sink, E: Sink>(
     // No kits are asked of the desk.
     ensures kits { K.given desk.new ≡ K.given desk.old }
     ensures no_last { result.last ≡ None }
+    ensures no_tunnel { result.tunnel ≡ None }
     ensures no_unused { result.unused ≡ None }
     ensures no_serving { (result.status ≡ 7 → ⊥) × (result.status ≡ 9 → ⊥) }
 
@@ -494,6 +575,7 @@ fn without_jobs<K: Desk>(alloc: Global, status: u8, config: Option<K::Config>) -
     ensures status { result.status ≡ status }
     ensures config { result.config ≡ config }
     ensures no_last { result.last ≡ None }
+    ensures no_tunnel { result.tunnel ≡ None }
     ensures no_unused { result.unused ≡ None }
     ensures no_client { (result.wire ≡ None) × (result.inlet ≡ None) × (result.moment ≡ None) }
     ensures no_journals { result.journals.items ≡ [] }
@@ -502,6 +584,7 @@ fn without_jobs<K: Desk>(alloc: Global, status: u8, config: Option<K::Config>) -
         status,
         config,
         last: None,
+        tunnel: None,
         unused: None,
         wire: None,
         inlet: None,
@@ -533,6 +616,7 @@ fn run_audit<K: Desk, I: Source, O: Sink, E: Sink>(
         result.status }
     ensures of_audit { IsOfAudit result.status }
     ensures no_last { result.last ≡ None }
+    ensures no_tunnel { result.tunnel ≡ None }
     ensures no_unused { result.unused ≡ None }
     ensures no_client { (result.wire ≡ None) × (result.inlet ≡ None) × (result.moment ≡ None) }
     ensures no_journals { result.journals.items ≡ [] }
@@ -576,6 +660,7 @@ fn run_record<K: Desk, O: Sink, E: Sink>(
         → Rose (O.drain output.old).faults (O.drain output.new).faults }
     ensures no_config { result.config ≡ None }
     ensures no_last { result.last ≡ None }
+    ensures no_tunnel { result.tunnel ≡ None }
     ensures no_unused { result.unused ≡ None }
     ensures no_journals { result.journals.items ≡ [] }
 {
@@ -589,6 +674,7 @@ fn run_record<K: Desk, O: Sink, E: Sink>(
         status: end.status(),
         config: None,
         last: None,
+        tunnel: None,
         unused: None,
         wire,
         inlet,

@@ -13,13 +13,16 @@ pub enum Place {
 }
 
 /// What must have been done: so many replies on each connection, so many transport packets in
-/// datagrams, and so many readings of the clock.
+/// datagrams, and so many readings of the clock; so many times the first connection was idle behind
+/// its second reply, and so many sends of frames on it behind that.
 #[derive(Clone, Copy, Debug, PartialEq, Eq)]
 pub struct Gate {
     pub first: u64,
     pub second: u64,
     pub packets: u64,
     pub readings: u64,
+    pub idles: u64,
+    pub frames: u64,
 }
 
 /// Nothing must have been done.
@@ -28,6 +31,8 @@ pub const OPEN: Gate = Gate {
     second: 0,
     packets: 0,
     readings: 0,
+    idles: 0,
+    frames: 0,
 };
 
 /// What was done so far on all devices of a run.
@@ -37,6 +42,8 @@ pub struct Deeds {
     second: AtomicU64,
     packets: AtomicU64,
     readings: AtomicU64,
+    idles: AtomicU64,
+    frames: AtomicU64,
     gave_up: AtomicBool,
 }
 
@@ -47,6 +54,8 @@ impl Deeds {
             second: AtomicU64::new(0),
             packets: AtomicU64::new(0),
             readings: AtomicU64::new(0),
+            idles: AtomicU64::new(0),
+            frames: AtomicU64::new(0),
             gave_up: AtomicBool::new(false),
         }
     }
@@ -57,6 +66,20 @@ impl Deeds {
             Place::First => self.first.fetch_add(1, Ordering::SeqCst),
             Place::Second => self.second.fetch_add(1, Ordering::SeqCst),
         };
+    }
+
+    /// Nothing came in on a connection.
+    pub fn idle(&self, place: Place) {
+        if place == Place::First && self.first.load(Ordering::SeqCst) >= 2 {
+            self.idles.fetch_add(1, Ordering::SeqCst);
+        }
+    }
+
+    /// Frames were sent on a connection.
+    pub fn frame(&self, place: Place) {
+        if place == Place::First && self.idles.load(Ordering::SeqCst) >= 1 {
+            self.frames.fetch_add(1, Ordering::SeqCst);
+        }
     }
 
     /// So many transport packets were sent.
@@ -84,5 +107,7 @@ impl Deeds {
             && self.second.load(Ordering::SeqCst) >= gate.second
             && self.packets.load(Ordering::SeqCst) >= gate.packets
             && self.readings.load(Ordering::SeqCst) >= gate.readings
+            && self.idles.load(Ordering::SeqCst) >= gate.idles
+            && self.frames.load(Ordering::SeqCst) >= gate.frames
     }
 }

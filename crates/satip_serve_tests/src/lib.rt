@@ -22,6 +22,8 @@ mod talking;
 #[cfg(test)]
 mod together;
 #[cfg(test)]
+mod tunnelling;
+#[cfg(test)]
 mod waiting;
 #[cfg(test)]
 mod waiting_desk;

@@ -75,17 +75,22 @@ pub fn run<R: Threads + Wait + Sync, K: Desk>(
     })
 }
 
-// Doors by which one RTSP connection comes, with one message.
-fn doors(alloc: Global, accepts: u32, idle: &[u64]) -> Result<MemoryDoors, Want>
+// Doors by which one RTSP connection comes, with these pieces.
+fn doors(
+    alloc: Global,
+    accepts: u32,
+    idle: &[u64],
+    pieces: &[&[u8]],
+) -> Result<MemoryDoors, Want>
     ensures fresh { IfOk result (λ doors. doors ≡ fresh_hall accepts true) }
 {
     let mut doors = MemoryDoors::make(alloc, accepts, idle, &[])?;
-    let conn = MemoryConn::make(alloc, &[OPTIONS], &[], &[], 0)?;
+    let conn = MemoryConn::make(alloc, pieces, &[], &[], 0)?;
     doors.add(DoorKind::Rtsp, Peer { ip: 0xc0a8_0114 }, conn)?;
     Ok(doors)
 }
 
-/// The kit of a worker to which one connection comes. Its doors are idle at the looks with these
+/// The kit of a worker to which one connection comes, with one message. Its doors are idle at the looks with these
 /// numbers.
 pub fn worker<P: Pacer + Drop>(
     alloc: Global,
@@ -96,8 +101,23 @@ pub fn worker<P: Pacer + Drop>(
     ensures hall { IfOk result (λ kit. kit.doors ≡ fresh_hall accepts true) }
     ensures outbox { IfOk result (λ kit. kit.outlet ≡ fresh_outbox) }
 {
+    worker_of(alloc, accepts, idle, &[OPTIONS], pacer)
+}
+
+/// The kit of a worker to which one connection comes, with these pieces. Its doors are idle at the
+/// looks with these numbers.
+pub fn worker_of<P: Pacer + Drop>(
+    alloc: Global,
+    accepts: u32,
+    idle: &[u64],
+    pieces: &[&[u8]],
+    pacer: P,
+) -> Result<WorkerKit<MemoryDoors, MemoryOutlet, P>, Want>
+    ensures hall { IfOk result (λ kit. kit.doors ≡ fresh_hall accepts true) }
+    ensures outbox { IfOk result (λ kit. kit.outlet ≡ fresh_outbox) }
+{
     Ok(WorkerKit {
-        doors: doors(alloc, accepts, idle)?,
+        doors: doors(alloc, accepts, idle, pieces)?,
         outlet: MemoryOutlet::make(alloc, &[])?,
         pacer,
         key: [7; 32],

@@ -60,6 +60,7 @@ impl<'a> Conn for WaitingConn<'a> {
         }
         if !self.deeds.open(piece.gate) {
             self.idles += 1;
+            self.deeds.idle(self.place);
             return Received::Idle;
         }
         let count = piece.text.len().min(buf.len());
@@ -73,7 +74,11 @@ impl<'a> Conn for WaitingConn<'a> {
             self.faults = self.faults.saturating_add(1);
             return Put::Failed;
         }
-        self.deeds.reply(self.place);
+        if bytes.starts_with(b"$") {
+            self.deeds.frame(self.place);
+        } else {
+            self.deeds.reply(self.place);
+        }
         Put::Whole
     }
 }

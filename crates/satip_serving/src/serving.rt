@@ -46,8 +46,8 @@ pub enum ServingEnd {
 }
 
 impl ServingEnd {
-    // As the reading of a configuration ends that can't be had.
-    fn of_reading(end: ReplayEnd) -> ServingEnd
+    /// As the reading of a configuration ends that can't be had.
+    pub fn of_reading(end: ReplayEnd) -> ServingEnd
         requires none { HasNoConfiguration end }
         ensures end { EndsAs end result }
     {
@@ -62,8 +62,8 @@ impl ServingEnd {
         }
     }
 
-    // As the run of all jobs ends.
-    fn of_run(end: ServeEnd) -> ServingEnd
+    /// As the run of all jobs ends.
+    pub fn of_run(end: ServeEnd) -> ServingEnd
         ensures end { result ≡ end_of_run end }
     {
         match end {

@@ -289,7 +289,7 @@ fn an_input_has_at_most_67108864_bytes(rt: HostRuntime) -> Result<(), Fail> {
 fn other_words_are_a_faulty_command_line(rt: HostRuntime) -> Result<(), Fail> {
     let alloc = rt.alloc();
     let usage = b"usage: satip talk | replay CONFIG | serve CONFIG ACCEPTS | stress SEED COUNT \
-        | journal CONFIG ACCEPTS | audit CONFIG | record ADDRESS QUERY COUNT\n";
+        | tunnel CONFIG ACCEPTS | journal CONFIG ACCEPTS | audit CONFIG | record ADDRESS QUERY COUNT\n";
     let mut input = MemorySource::make(alloc, OPTIONS, &[], &[])?;
     let mut output = MemorySink::make(alloc, &[], 0)?;
     let mut errors = MemorySink::make(alloc, &[], 0)?;

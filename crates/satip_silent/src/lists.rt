@@ -1,0 +1,111 @@
+//! Lists of kits with outlets that send nothing, and with their own again.
+
+ghost use Rattle.std.specs.Prelude.{◌≡◌, ◌+◌, ◌<◌, ◌≤◌, ◌++◌, [], ◌∷◌, map, vec_len, vec_capacity};
+ghost use Rattle.satip_silent.specs.Kits.{each_two, silent_worker, silent_pump, worker_with, pump_with};
+
+use crate::kits::{silence_pump, silence_worker, sound_pump, sound_worker};
+use crate::silent::Silent;
+use satip_pump::PumpKit;
+use satip_worker::WorkerKit;
+
+// Takes out the first of a list.
+fn take_first<T>(items: &mut Vec<T>) -> T
+    requires some { 0 < vec_len items.old }
+    ensures first { items.old.items ≡ result ∷ items.new.items }
+    ensures count { vec_len items.old ≡ vec_len items.new + 1 }
+    ensures capacity { vec_capacity items.new ≡ vec_capacity items.old }
+{
+    items.remove(0)
+}
+
+// Puts one behind a list that has the memory for it.
+fn put_last<T>(items: &mut Vec<T>, item: T)
+    requires space { vec_len items.old < vec_capacity items.old }
+    ensures last { items.new.items ≡ items.old.items ++ item ∷ [] }
+    ensures count { vec_len items.new ≡ vec_len items.old + 1 }
+    ensures capacity { vec_capacity items.new ≡ vec_capacity items.old }
+{
+    items.push_reserved(item);
+}
+
+/// Takes the outlets of workers' kits out, in order, and puts such as send nothing in their place.
+pub fn silence_workers<D, O, P>(
+    kits: &mut Vec<WorkerKit<D, O, P>>,
+    silent: &mut Vec<WorkerKit<D, Silent, P>>,
+    outlets: &mut Vec<O>,
+)
+    requires none { silent.old.items ≡ [] }
+    requires no_outlets { outlets.old.items ≡ [] }
+    requires space { vec_len kits.old ≤ vec_capacity silent.old }
+    requires outlet_space { vec_len kits.old ≤ vec_capacity outlets.old }
+    ensures silent { silent.new.items ≡ map (λ kit. silent_worker kit) kits.old.items }
+    ensures outlets { outlets.new.items ≡ map (λ kit. kit.outlet) kits.old.items }
+    ensures empty { kits.new.items ≡ [] }
+    ensures capacity { vec_len kits.old ≤ vec_capacity kits.new }
+{
+    while !kits.is_empty() {
+        let (kit, outlet) = silence_worker(take_first(kits));
+        put_last(silent, kit);
+        put_last(outlets, outlet);
+    }
+}
+
+/// Gives workers' kits these outlets, in order.
+pub fn sound_workers<D, O, P>(
+    silent: &mut Vec<WorkerKit<D, Silent, P>>,
+    outlets: &mut Vec<O>,
+    kits: &mut Vec<WorkerKit<D, O, P>>,
+)
+    requires none { kits.old.items ≡ [] }
+    requires outlets { vec_len outlets.old ≡ vec_len silent.old }
+    requires space { vec_len silent.old ≤ vec_capacity kits.old }
+    ensures kits { kits.new.items
+        ≡ each_two (λ kit outlet. worker_with kit outlet) silent.old.items outlets.old.items }
+{
+    while !silent.is_empty() {
+        let kit = take_first(silent);
+        let outlet = take_first(outlets);
+        put_last(kits, sound_worker(kit, outlet));
+    }
+}
+
+/// Takes the outlets of pumps' kits out, in order, and puts such as send nothing in their place.
+pub fn silence_pumps<M, O, P>(
+    kits: &mut Vec<PumpKit<M, O, P>>,
+    silent: &mut Vec<PumpKit<M, Silent, P>>,
+    outlets: &mut Vec<O>,
+)
+    requires none { silent.old.items ≡ [] }
+    requires no_outlets { outlets.old.items ≡ [] }
+    requires space { vec_len kits.old ≤ vec_capacity silent.old }
+    requires outlet_space { vec_len kits.old ≤ vec_capacity outlets.old }
+    ensures silent { silent.new.items ≡ map (λ kit. silent_pump kit) kits.old.items }
+    ensures outlets { outlets.new.items ≡ map (λ kit. kit.outlet) kits.old.items }
+    ensures empty { kits.new.items ≡ [] }
+    ensures capacity { vec_len kits.old ≤ vec_capacity kits.new }
+{
+    while !kits.is_empty() {
+        let (kit, outlet) = silence_pump(take_first(kits));
+        put_last(silent, kit);
+        put_last(outlets, outlet);
+    }
+}
+
+/// Gives pumps' kits these outlets, in order.
+pub fn sound_pumps<M, O, P>(
+    silent: &mut Vec<PumpKit<M, Silent, P>>,
+    outlets: &mut Vec<O>,
+    kits: &mut Vec<PumpKit<M, O, P>>,
+)
+    requires none { kits.old.items ≡ [] }
+    requires outlets { vec_len outlets.old ≡ vec_len silent.old }
+    requires space { vec_len silent.old ≤ vec_capacity kits.old }
+    ensures kits { kits.new.items
+        ≡ each_two (λ kit outlet. pump_with kit outlet) silent.old.items outlets.old.items }
+{
+    while !silent.is_empty() {
+        let kit = take_first(silent);
+        let outlet = take_first(outlets);
+        put_last(kits, sound_pump(kit, outlet));
+    }
+}

@@ -1,0 +1,66 @@
+-- How serving through a tunnel ends, by how the run of its jobs does, and the outlets of the kits that they leave.
+use Rattle.std.proofs.Common.{◌≡◌, ◌≢◌, true, refl, sym, ap, ◌∙◌, List, [], ◌∷◌, map}
+use Rattle.satip_history.specs.Lists.{Each}
+use Rattle.satip_world.specs.Dials.{Dial}
+use Rattle.satip_world.specs.Halls.{Hall}
+use Rattle.satip_world.specs.Outboxes.{Outbox}
+use Rattle.satip_world.specs.Recordings.{StoreView}
+use Rattle.satip_pump.specs.declared.kits.PumpKit.{PumpKit}
+use Rattle.satip_worker.specs.declared.kits.WorkerKit.{WorkerKit}
+use Rattle.satip_crew.specs.declared.end.ServeEnd.{ServeEnd}
+use Rattle.satip_crew.specs.declared.end.ServeEnd.TheVariants as serves
+use Rattle.satip_crew.specs.Passes.{IsFull}
+use Rattle.satip_crew.specs.Runs.{HasOne}
+use Rattle.satip_serve.specs.declared.kits.Jobs.{Jobs}
+use Rattle.satip_serve.specs.Views.{WorkerView, PumpView, worker_view, pump_view}
+use Rattle.satip_serving.specs.declared.serving.ServingEnd.{ServingEnd}
+use Rattle.satip_serving.specs.declared.serving.ServingEnd.TheVariants as ends
+use Rattle.satip_serving.specs.Given.{jobs_view}
+use Rattle.satip_serving.specs.Servings.{end_of_run}
+use Rattle.satip_tunnel.specs.Histories.{TunnelItem}
+use Rattle.satip_tunnel_serve.specs.TunnelRuns.{TunnelEndTells}
+use Rattle.satip_tunnel_command.specs.Outlets.{OutletsStay}
+
+-- the run ended well
+pub told_served : (end : ServeEnd) (result : ServingEnd) (seen : List TunnelItem) (workers : List WorkerView) → result ≡ end_of_run end → TunnelEndTells end seen workers
+    → result ≡ ends.Served → Each (λ (w : WorkerView). w.hall.ended ≡ true) workers
+told_served serves.Served result seen workers of tells is = tells
+told_served serves.DoorsFault result seen workers of tells is = absurd (cc (sym of ∙ is))
+told_served serves.HistoryFull result seen workers of tells is = absurd (cc (sym of ∙ is))
+
+-- by a fault of doors
+pub told_fault : (end : ServeEnd) (result : ServingEnd) (seen : List TunnelItem) (workers : List WorkerView) → result ≡ end_of_run end → TunnelEndTells end seen workers
+    → result ≡ ends.DoorsFault → HasOne (λ (w : WorkerView). w.hall.faults ≢ 0) workers
+told_fault serves.Served result seen workers of tells is = absurd (cc (sym of ∙ is))
+told_fault serves.DoorsFault result seen workers of tells is = tells
+told_fault serves.HistoryFull result seen workers of tells is = absurd (cc (sym of ∙ is))
+
+-- by a full history
+pub told_full : (end : ServeEnd) (result : ServingEnd) (seen : List TunnelItem) (workers : List WorkerView) → result ≡ end_of_run end → TunnelEndTells end seen workers
+    → result ≡ ends.HistoryFull → IsFull seen
+told_full serves.Served result seen workers of tells is = absurd (cc (sym of ∙ is))
+told_full serves.DoorsFault result seen workers of tells is = absurd (cc (sym of ∙ is))
+told_full serves.HistoryFull result seen workers of tells is = tells
+
+-- what outlets show, as it is seen of their kits
+worker_outboxes : {D O P : Type 0} (hall : D → Hall) (outbox : O → Outbox) (kits : List (WorkerKit D O P))
+    → map (λ (w : WorkerView). w.outbox) (map (worker_view hall outbox) kits) ≡ map outbox (map (λ (kit : WorkerKit D O P). kit.outlet) kits)
+worker_outboxes hall outbox [] = refl
+worker_outboxes hall outbox (kit ∷ kits) = ap (λ (all : List Outbox). outbox kit.outlet ∷ all) (worker_outboxes hall outbox kits)
+
+pump_outboxes : {M O P : Type 0} (shelf : M → StoreView) (outbox : O → Outbox) (kits : List (PumpKit M O P))
+    → map (λ (p : PumpView). p.outbox) (map (pump_view shelf outbox) kits) ≡ map outbox (map (λ (kit : PumpKit M O P). kit.outlet) kits)
+pump_outboxes shelf outbox [] = refl
+pump_outboxes shelf outbox (kit ∷ kits) = ap (λ (all : List Outbox). outbox kit.outlet ∷ all) (pump_outboxes shelf outbox kits)
+
+-- the outlets come back as they were
+pub outlets_stay : {D O P M C : Type 0} (hall : D → Hall) (outbox : O → Outbox) (shelf : M → StoreView) (dial : C → Dial) (jobs left : Jobs D O P M C)
+    → map (λ (kit : WorkerKit D O P). kit.outlet) left.workers.items ≡ map (λ (kit : WorkerKit D O P). kit.outlet) jobs.workers.items
+    → map (λ (kit : PumpKit M O P). kit.outlet) left.pumps.items ≡ map (λ (kit : PumpKit M O P). kit.outlet) jobs.pumps.items
+    → left.tick.outlet ≡ jobs.tick.outlet
+    → OutletsStay (jobs_view hall outbox shelf dial jobs) (jobs_view hall outbox shelf dial left)
+outlets_stay {D} {O} {P} {M} {C} hall outbox shelf dial jobs left workers pumps ticker = record {
+  workers = worker_outboxes hall outbox left.workers.items ∙ ap (λ (os : List O). map outbox os) workers ∙ sym (worker_outboxes hall outbox jobs.workers.items);
+  pumps = pump_outboxes shelf outbox left.pumps.items ∙ ap (λ (os : List O). map outbox os) pumps ∙ sym (pump_outboxes shelf outbox jobs.pumps.items);
+  ticker = ap outbox ticker;
+}

@@ -1,0 +1,25 @@
+//! The laws, of the server's entries of what a pass has seen.
+
+ghost use Rattle.std.specs.Prelude.{◌<◌, ◌^◌, length};
+ghost use Rattle.satip_serving.specs.Laws.{SendsSelected, ObeysOwners, TellsBusy};
+ghost use Rattle.satip_tunnel.specs.Histories.{TunnelLegal, inners};
+ghost use Rattle.satip_interleave.specs.Calling.{inners_short};
+
+use satip_interleave::{SharedTunnel, TunnelPass};
+use satip_laws::{law_2, law_3, law_4};
+use satip_plain::prefix_is_legal;
+
+// The server's entries of what a pass has seen, where that is legal, keep the laws.
+pub(crate) fn keeps_laws(server: &SharedTunnel, pass: &TunnelPass)
+    requires lawful { TunnelLegal server.now.setting pass.now.seen }
+    requires short { length pass.now.seen < 2 ^ 64 }
+    ensures payload { SendsSelected server.now.setting (inners pass.now.seen) }
+    ensures owners { ObeysOwners server.now.setting (inners pass.now.seen) }
+    ensures busy { TellsBusy server.now.setting (inners pass.now.seen) }
+{
+    let (_server, _pass) = (server, pass);
+    prefix_is_legal();
+    law_2();
+    law_3();
+    law_4();
+}

@@ -1,0 +1,99 @@
+-- What a job of a tunnel did to a fresh kit is what it has done.
+use Rattle.std.proofs.Common.{◌≡◌, ◌≢◌, ℕ, ◌⊎◌, inl, inr, Bool, true, false, List, [], ◌∷◌, ◌++◌, map, length, sym, ap, ◌∙◌, subst}
+use Rattle.std.proofs.lemmas.Bool.{false≢true}
+use Rattle.satip_history.specs.Lists.{Each}
+use Rattle.satip_history.proofs.Elements.{Each-append, each_follows}
+use Rattle.satip_interleave.specs.Calling.{known_by, outers}
+use Rattle.satip_service.specs.Known.{Known}
+use Rattle.satip_tunnel.specs.Histories.{TunnelItem, inners}
+use Rattle.satip_tunneling.specs.Seats.{Seat}
+use Rattle.satip_turn.specs.Views.{row}
+use Rattle.satip_world.specs.declared.doors.ConnEnd.TheVariants.{Spent as ConnSpent}
+use Rattle.satip_world.specs.Dials.{Reads, fresh_dial}
+use Rattle.satip_world.specs.Halls.{Hall, Return, fresh_hall}
+use Rattle.satip_world.specs.Outboxes.{fresh_outbox}
+use Rattle.satip_worker.specs.declared.worker.WorkerEnd.{WorkerEnd}
+use Rattle.satip_worker.specs.declared.worker.WorkerEnd.TheVariants.{Closed, DoorsFault, Spent, Want}
+use Rattle.satip_worker.specs.Drawing.{draw_at}
+use Rattle.satip_worker.specs.Ends.{is_unmade}
+use Rattle.satip_worker.specs.WorkerRun.{WorkerEnds}
+use Rattle.satip_crew.specs.declared.end.ServeEnd.{ServeEnd}
+use Rattle.satip_serve.specs.Done.{EndsInTime}
+use Rattle.satip_serve.specs.Fresh.{FreshPump}
+use Rattle.satip_serve.specs.Views.{WorkerView, PumpView, TickView}
+use Rattle.satip_serve.proofs.Finishing.{not_zero, pump_done, ticker_done}
+use Rattle.satip_tunnel_worker.specs.WorkerRun.{ServesAll}
+use Rattle.satip_tunnel_serve.specs.Deeds.{TunnelWorkerDid, TunnelPumpDid, TunnelTickerDid}
+use Rattle.satip_tunnel_serve.specs.Done.{TunnelWorkerDone, TunnelPumpDone, TunnelTickerDone}
+
+made_in_time : (full : Type 0) (r : Return) → is_unmade r.end ≡ false → EndsInTime full r
+made_in_time full r made = (
+  λ want. absurd (false≢true (sym made ∙ ap is_unmade want)),
+  λ spent. absurd (false≢true (sym made ∙ ap is_unmade spent)),
+)
+
+spent_in_time : (full : Type 0) (r : Return) → r.end ≡ ConnSpent → full → EndsInTime full r
+spent_in_time full r is then = (λ want. absurd (cc (is, want)), λ _. then)
+
+record EndedInTime (full : Type 0) (hall : Hall) (returns : List Return) : Type 0 where
+  ended : (hall.ended ≡ true) ⊎ ((hall.faults ≢ 0) ⊎ full)
+  in_time : Each (EndsInTime full) returns
+
+all_made : (full : Type 0) (returns : List Return) → Each (λ r. is_unmade r.end ≡ false) returns → Each (EndsInTime full) returns
+all_made full returns made = each_follows (λ (r : Return). is_unmade r.end ≡ false) (EndsInTime full) (made_in_time full) returns made
+
+worker_ended : (full : Type 0) (end : WorkerEnd) (accepts : ℕ) (told : Bool) (hall : Hall) (l : Known) (returns : List Return)
+    → WorkerEnds end (fresh_hall accepts told) hall false l returns → (l.length ≡ 18446744073709551615 → full) → EndedInTime full hall returns
+worker_ended full Closed accepts told hall l returns ends fills = record { ended = inl ends.ended; in_time = all_made full returns ends.made }
+worker_ended full DoorsFault accepts told hall l returns ends fills =
+    record { ended = inr (inl (not_zero hall.faults ends.faults)); in_time = all_made full returns ends.made }
+worker_ended full Spent accepts told hall l returns ends fills =
+    let then = fills ends.full in
+    let last = ends.last in
+    let all : Each (EndsInTime full) (last.before ++ last.last ∷ []) =
+    Each-append (EndsInTime full) last.before (last.last ∷ []) (all_made full last.before last.made) (spent_in_time full last.last last.end_is then, tt) in
+    record { ended = inr (inr then); in_time = subst (λ (rs : List Return). Each (EndsInTime full) rs) (sym last.returns_are) all }
+worker_ended full Want accepts told hall l returns ends fills = absurd (false≢true ends.may)
+
+-- a worker with fresh doors
+pub worker_done : (conn_tells full : Type 0) (accepts number caller : ℕ) (told : Bool) (o n : WorkerView) (s t : Seat) (end : ServeEnd)
+    → TunnelWorkerDid conn_tells number o s n t end → o.hall ≡ fresh_hall accepts told → s.pass.own ≡ []
+    → (length t.pass.seen ≡ 18446744073709551615 → full) → TunnelWorkerDone conn_tells full accepts number n (row caller t.pass.own)
+worker_done conn_tells full accepts number caller told o n s t end did hall none fills =
+    let run = did.serves in
+    let own : run.entries ≡ t.pass.own = sym (run.grows.own ∙ ap (λ (es : List TunnelItem). es ++ run.entries) none) in
+    let ends = worker_ended full did.ended accepts told n.hall (known_by t.pass) run.returns
+    (subst (λ (h : Hall). WorkerEnds did.ended h n.hall false (known_by t.pass) run.returns) hall run.ends) fills in
+    let served : ServesAll conn_tells (draw_at n.key number) 0 run.draws (length s.pass.seen) (length t.pass.seen) run.returns run.entries =
+    subst (λ (key : List ℕ). ServesAll conn_tells (draw_at key number) 0 run.draws (length s.pass.seen) (length t.pass.seen) run.returns run.entries) (sym did.key) run.serves in
+    record {
+      limit = run.limit ∙ ap (λ (h : Hall). h.limit) hall;
+      ended = ends.ended;
+      connections = run.returns;
+      draws = run.draws;
+      came = λ still. run.moved.given still ∙ ap (λ (h : Hall). h.given ++ map (λ (r : Return). record { kind = r.kind; peer = r.peer }) run.returns) hall;
+      handed_back = λ still. run.moved.returned still ∙ ap (λ (h : Hall). h.returned ++ run.returns) hall;
+      first = length s.pass.seen;
+      last = length t.pass.seen;
+      served = subst (λ (es : List TunnelItem). ServesAll conn_tells (draw_at n.key number) 0 run.draws (length s.pass.seen) (length t.pass.seen) run.returns es) own served;
+      filled = fills;
+      in_time = ends.in_time;
+    }
+
+-- a pump with a fresh store
+pub tunnel_pump_done : (full : Type 0) (number caller : ℕ) (o n : PumpView) (s t : Seat) (end : ServeEnd)
+    → TunnelPumpDid number o s n t end → FreshPump o → s.pass.own ≡ [] → (length t.pass.seen ≡ 18446744073709551615 → full)
+    → TunnelPumpDone full number n (row caller t.pass.own)
+tunnel_pump_done full number caller o n s t end did fresh none fills = record {
+  done = pump_done ⊥ full number caller o n (known_by s.pass) (known_by t.pass) end did.pumped fresh (ap (λ (es : List TunnelItem). inners es) none) fills;
+  none = did.others ∙ ap (λ (es : List TunnelItem). outers es) none;
+}
+
+-- the ticker with a clock that was read once
+pub tunnel_ticker_done : (full : Type 0) (start caller : ℕ) (told : Bool) (o n : TickView) (s t : Seat) (end : ServeEnd)
+    → TunnelTickerDid o s n t end → Reads (fresh_dial told) o.dial start → o.outbox ≡ fresh_outbox → s.pass.own ≡ [] → (length t.pass.seen ≡ 18446744073709551615 → full)
+    → TunnelTickerDone full start n (row caller t.pass.own)
+tunnel_ticker_done full start caller told o n s t end did reads outbox none fills = record {
+  done = ticker_done ⊥ full start caller told o n (known_by s.pass) (known_by t.pass) end did.ticked reads outbox (ap (λ (es : List TunnelItem). inners es) none) fills;
+  none = did.others ∙ ap (λ (es : List TunnelItem). outers es) none;
+}

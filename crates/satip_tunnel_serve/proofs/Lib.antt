@@ -1,0 +1,6 @@
+mod Unheard
+mod Finishing
+mod Seating
+mod Ended
+mod WholeRuns
+mod Asides

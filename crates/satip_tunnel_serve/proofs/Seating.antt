@@ -1,0 +1,54 @@
+-- Jobs of a tunnel at their seats, over a service of its server.
+use Rattle.std.proofs.Common.{◌≡◌, ℕ, Bool, List, subst}
+use Rattle.satip_plain.specs.declared.setting.Setting.{Setting}
+use Rattle.satip_pump.specs.declared.kits.PumpKit.{PumpKit}
+use Rattle.satip_pump.specs.declared.kits.TickKit.{TickKit}
+use Rattle.satip_service.specs.Known.{Known}
+use Rattle.satip_turn.specs.Shown.{Cell}
+use Rattle.satip_interleave.specs.Calling.{ShownPass, known_by}
+use Rattle.satip_tunnel.specs.Histories.{TunnelItem}
+use Rattle.satip_world.specs.Dials.{Dial}
+use Rattle.satip_world.specs.Recordings.{StoreView}
+use Rattle.satip_crew.specs.declared.end.ServeEnd.{ServeEnd}
+use Rattle.satip_crew.specs.declared.seat.Seat.{Seat}
+use Rattle.satip_crew.specs.Works.{IsSameSeat}
+use Rattle.satip_serve.specs.Deeds.{PumpDid, TickerDid}
+use Rattle.satip_serve.specs.Views.{pump_view, tick_view}
+use Rattle.satip_tunnel_serve.specs.Deeds.{SeatDid, pump_deed, ticker_deed}
+use Rattle.satip_silent.specs.declared.silent.Silent.{Silent}
+use Rattle.satip_silent.specs.Kits.{silent_outbox}
+use Rattle.satip_tunnel_serve.specs.Services.{PumpedAtSeat, ServesInTunnel, TickedAtSeat}
+use Rattle.satip_tunnel_serve.proofs.Unheard.{pump_unheard, ticker_unheard}
+
+module _ {X : Type 0} (known : X → Known) (may_want : X → Bool) (same : X → X → Type 0) (cell : X → Cell Setting) (pass : X → ShownPass)
+    (legal : Setting → List TunnelItem → Type 0) (is_stop : TunnelItem → Type 0) (serves : ServesInTunnel known may_want same cell pass legal is_stop) where
+  pub still_seated : {K M : Type 0} (x y : Seat X K M) → same x.caller y.caller → y.number ≡ x.number → IsSameSeat cell pass x y
+  still_seated x y is number =
+      let caller = serves.same_caller x.caller y.caller is in
+      record { cell_is = caller.server; keeps = caller.pass; number = number }
+
+  pub pumped_at_seat : {M P L : Type 0} (shelf : M → StoreView) (x y : Seat X (PumpKit M Silent P) L) → PumpedAtSeat same known shelf x y → SeatDid cell pass (pump_deed shelf) x y
+  pumped_at_seat shelf x y did = record {
+    still = still_seated x y did.same_is did.number;
+    deed = record {
+      pumped = pump_unheard x.number (pump_view shelf silent_outbox x.kit) (pump_view shelf silent_outbox y.kit) (known_by (pass x.caller)) (known_by (pass y.caller)) y.end
+          (subst (λ (l : Known). PumpDid ⊥ x.number (pump_view shelf silent_outbox x.kit) (known_by (pass x.caller)) (pump_view shelf silent_outbox y.kit) l y.end)
+          (serves.known_is y.caller)
+          (subst (λ (k : Known). PumpDid ⊥ x.number (pump_view shelf silent_outbox x.kit) k (pump_view shelf silent_outbox y.kit) (known y.caller) y.end)
+          (serves.known_is x.caller) did.deed));
+      others = (serves.same_caller x.caller y.caller did.same_is).others;
+    };
+  }
+
+  pub ticked_at_seat : {C P L : Type 0} (dial : C → Dial) (x y : Seat X (TickKit C Silent P) L) → TickedAtSeat same known dial x y → SeatDid cell pass (ticker_deed dial) x y
+  ticked_at_seat dial x y did = record {
+    still = still_seated x y did.same_is did.number;
+    deed = record {
+      ticked = ticker_unheard (tick_view dial silent_outbox x.kit) (tick_view dial silent_outbox y.kit) (known_by (pass x.caller)) (known_by (pass y.caller)) y.end
+          (subst (λ (l : Known). TickerDid ⊥ (tick_view dial silent_outbox x.kit) (known_by (pass x.caller)) (tick_view dial silent_outbox y.kit) l y.end)
+          (serves.known_is y.caller)
+          (subst (λ (k : Known). TickerDid ⊥ (tick_view dial silent_outbox x.kit) k (tick_view dial silent_outbox y.kit) (known y.caller) y.end)
+          (serves.known_is x.caller) did.deed));
+      others = (serves.same_caller x.caller y.caller did.same_is).others;
+    };
+  }

@@ -1,0 +1,159 @@
+-- What all jobs of a tunnel did is a run of it.
+use Rattle.std.proofs.Common.{◌≡◌, ◌≢◌, ℕ, ◌⊎◌, inl, inr, Bool, true, List, map, refl, sym, ap, ◌∙◌, subst, length}
+use Rattle.std.proofs.lemmas.List.{length-map}
+use Rattle.satip_history.specs.Lists.{Each}
+use Rattle.satip_plain.specs.declared.setting.Setting.{Setting}
+use Rattle.satip_turn.specs.Shown.{Cell, Knows}
+use Rattle.satip_tunnel.specs.Histories.{TunnelItem, TunnelLegal}
+use Rattle.satip_interleave.specs.Calling.{ShownPass}
+use Rattle.satip_tunneling.specs.Seats.{seated, Seat as CallerSeat}
+use Rattle.satip_crew.specs.declared.end.ServeEnd.{ServeEnd}
+use Rattle.satip_crew.specs.declared.posts.Posts.{Posts}
+use Rattle.satip_crew.specs.declared.seat.Seat.{Seat}
+use Rattle.satip_crew.specs.Crewed.{RunDid}
+use Rattle.satip_crew.specs.Passes.{IsFull}
+use Rattle.satip_crew.specs.Runs.{HasOne, HasNoStop, MatchEnd, Run, StopsOnce}
+use Rattle.satip_crew.proofs.Ended.{end_over}
+use Rattle.satip_crew.proofs.WholeRuns.{run_over}
+use Rattle.satip_serve.specs.Fresh.{FreshWorker, FreshPump, FreshJobs, ReadOnce}
+use Rattle.satip_serve.specs.Views.{WorkerView, PumpView, TickView}
+use Rattle.satip_serve.proofs.WholeRuns.{each_map, map_twice}
+use Rattle.satip_tunnel_serve.specs.Deeds.{SeatDid, TunnelWorkerDid, TunnelPumpDid, TunnelTickerDid}
+use Rattle.satip_tunnel_serve.specs.Done.{TunnelRow, TunnelWorkerDone, TunnelPumpDone, TunnelTickerDone}
+use Rattle.satip_tunnel_serve.specs.Services.{IsFirst}
+use Rattle.satip_tunnel_serve.specs.TunnelRuns.{IsTunnelStop, TunnelEndTells, TunnelServeRun}
+use Rattle.satip_tunnel_serve.proofs.Ended.{one_worker_tells, one_pump_tells, one_ticker_tells}
+use Rattle.satip_tunnel_serve.proofs.Finishing.{worker_done, tunnel_pump_done, tunnel_ticker_done}
+
+stops_once : (is_stop : TunnelItem → Type 0) → ((t : TunnelItem) → is_stop t → IsTunnelStop t) → (h : List TunnelItem) (callers : List TunnelRow)
+    → StopsOnce is_stop h callers ⊎ HasNoStop h → StopsOnce IsTunnelStop h callers ⊎ HasNoStop h
+stops_once is_stop stops h callers (inl once) = inl (record {
+  before = once.before;
+  stop = once.stop;
+  after = once.after;
+  are = once.are;
+  is_stop = stops once.stop once.is_stop;
+  own = once.own;
+  last = once.last;
+})
+stops_once is_stop stops h callers (inr never) = inr never
+
+run_is_tunnels : (is_stop : TunnelItem → Type 0) (legal : Setting → List TunnelItem → Type 0) → ((t : TunnelItem) → is_stop t → IsTunnelStop t)
+    → ((c : Setting) (h : List TunnelItem) → legal c h → TunnelLegal c h) → (conn_tells : Type 0) (c : Setting) (accepts : ℕ) (seen : List TunnelItem) (kept : List TunnelRow)
+    (workers : List WorkerView) (pumps : List PumpView) (ticker : TickView)
+    → Run c legal is_stop (TunnelWorkerDone conn_tells (IsFull seen) accepts) (TunnelPumpDone (IsFull seen)) (TunnelTickerDone (IsFull seen) c.start)
+    seen kept workers pumps ticker
+    → TunnelServeRun conn_tells c accepts seen kept workers pumps ticker
+run_is_tunnels is_stop legal stops lawful conn_tells c accepts seen kept workers pumps ticker run = record {
+  of_workers = run.of_workers;
+  of_pumps = run.of_pumps;
+  of_ticker = run.of_ticker;
+  callers = run.callers;
+  worker_count = run.worker_count;
+  pump_count = run.pump_count;
+  entries = run.entries;
+  lawful = lawful c seen run.lawful;
+  worked = run.worked;
+  pumped = run.pumped;
+  ticked = run.ticked;
+  stopped = stops_once is_stop stops seen run.of_workers run.stopped;
+  covered = run.covered;
+}
+
+-- lists of which the same is seen are as long
+pub as_long : {S T U : Type 0} (f : S → U) (h : T → U) (xs : List S) (ys : List T) → map f xs ≡ map h ys → length xs ≡ length ys
+as_long {U = U} f h xs ys same = sym (length-map xs f) ∙ ap (λ (us : List U). length us) same ∙ length-map ys h
+
+-- what each kind of job did, as a relation of kits
+abbrev pub works : {W : Type 0} → (conn_tells : Type 0) → (W → WorkerView) → ℕ → W → CallerSeat → W → CallerSeat → ServeEnd → Type 0
+works conn_tells worker_of n o s m t e = TunnelWorkerDid conn_tells n (worker_of o) s (worker_of m) t e
+
+abbrev pub pumps_so : {P : Type 0} → (P → PumpView) → ℕ → P → CallerSeat → P → CallerSeat → ServeEnd → Type 0
+pumps_so pump_of n o s m t e = TunnelPumpDid n (pump_of o) s (pump_of m) t e
+
+abbrev pub ticks : {T : Type 0} → (T → TickView) → ℕ → T → CallerSeat → T → CallerSeat → ServeEnd → Type 0
+ticks tick_of n o s m t e = TunnelTickerDid (tick_of o) s (tick_of m) t e
+
+module _ {X G W L P M T N : Type 0} (cell : X → Cell Setting) (pass : X → ShownPass) (gear : X → G)
+    (legal : Setting → List TunnelItem → Type 0) (is_stop : TunnelItem → Type 0) (goes_on : X → X → Type 0)
+    (conn_tells : Type 0) (worker_of : W → WorkerView) (pump_of : P → PumpView) (tick_of : T → TickView) (o : X) (before : Posts W P T G) (n : X)
+    (after : Posts W P T G) (end : ServeEnd)
+    (run : RunDid cell pass gear legal is_stop goes_on {L = L} {M = M} {N = N} (SeatDid cell pass (works conn_tells worker_of))
+    (SeatDid cell pass (pumps_so pump_of)) (SeatDid cell pass (ticks tick_of)) o before n after end) where
+  -- the caller at a seat
+  abbrev at : {K S : Type 0} → Seat X K S → CallerSeat
+  at s = seated (cell s.caller) (pass s.caller)
+
+  workers_fresh : (accepts : ℕ) → Each (FreshWorker accepts) (map worker_of before.workers.items) → Each (λ s. FreshWorker accepts (worker_of s.kit)) run.first
+  workers_fresh accepts fresh =
+      each_map (λ (w : W). FreshWorker accepts (worker_of w)) (λ (s : Seat X W L). s.kit) run.first
+      (subst (λ (ws : List W). Each (λ (w : W). FreshWorker accepts (worker_of w)) ws) (sym run.first_begun.kits_are)
+      (each_map (FreshWorker accepts) worker_of before.workers.items fresh))
+
+  pumps_fresh : Each FreshPump (map pump_of before.pumps.items) → Each (λ s. FreshPump (pump_of s.kit)) run.second
+  pumps_fresh fresh =
+      each_map (λ (w : P). FreshPump (pump_of w)) (λ (s : Seat X P M). s.kit) run.second
+      (subst (λ (ws : List P). Each (λ (w : P). FreshPump (pump_of w)) ws) (sym run.second_begun.kits_are) (each_map FreshPump pump_of before.pumps.items fresh))
+
+  ticker_fresh : ReadOnce (cell o).setting.start (tick_of before.ticker) → ReadOnce (cell o).setting.start (tick_of run.third.kit)
+  ticker_fresh read = (subst (λ (ts : List T). Each (λ (t : T). ReadOnce (cell o).setting.start (tick_of t)) ts) (sym run.third_begun.kits_are) (read, tt)).0
+
+  -- the kits, as they are seen at last
+  workers_seen : map (λ s. worker_of s.kit) run.front.ended ≡ map worker_of after.workers.items
+  workers_seen = sym (map_twice (λ (s : Seat X W L). s.kit) worker_of run.front.ended) ∙ ap (λ (ws : List W). map worker_of ws) (sym run.front.kits_are)
+
+  pumps_seen : map (λ s. pump_of s.kit) run.second_ended ≡ map pump_of after.pumps.items
+  pumps_seen = sym (map_twice (λ (s : Seat X P M). s.kit) pump_of run.second_ended) ∙ ap (λ (ps : List P). map pump_of ps) (sym run.pumps_are)
+
+  pub tunnel_run : ((t : TunnelItem) → is_stop t → IsTunnelStop t) → ((c : Setting) (h : List TunnelItem) → legal c h → TunnelLegal c h) → (accepts : ℕ)
+      → IsFirst (pass o) → Knows (legal (cell o).setting) (pass n)
+      → FreshJobs accepts (cell o).setting.start (map worker_of before.workers.items) (map pump_of before.pumps.items) (tick_of before.ticker)
+      → length before.workers.items ≡ (cell o).setting.config.workers → length before.pumps.items ≡ length (cell o).setting.config.fronts
+      → TunnelServeRun conn_tells (cell o).setting accepts (pass n).seen (pass n).kept (map worker_of after.workers.items) (map pump_of after.pumps.items) (tick_of after.ticker)
+  tunnel_run stops lawful accepts first knows fresh worker_count pump_count =
+      let c : Setting = (cell o).setting in
+      let full : Type 0 = IsFull (pass n).seen in
+      let worked = works conn_tells worker_of in
+      let pumped = pumps_so pump_of in
+      let ticked = ticks tick_of in
+      let whole : Run c legal is_stop (TunnelWorkerDone conn_tells full accepts) (TunnelPumpDone full) (TunnelTickerDone full c.start)
+      (pass n).seen (pass n).kept (map (λ (s : Seat X W L). worker_of s.kit) run.front.ended) (map (λ (s : Seat X P M). pump_of s.kit) run.second_ended)
+      (tick_of run.third_ended.kit) =
+      run_over cell pass gear legal is_stop goes_on (SeatDid cell pass worked) (SeatDid cell pass pumped) (SeatDid cell pass ticked) o before n after end run
+      (λ (s : Seat X W L). worker_of s.kit) (λ (s : Seat X P M). pump_of s.kit) (λ (s : Seat X T N). tick_of s.kit)
+      (λ (s : Seat X W L). FreshWorker accepts (worker_of s.kit)) (λ (s : Seat X P M). FreshPump (pump_of s.kit)) (λ (s : Seat X T N). ReadOnce c.start (tick_of s.kit))
+      (TunnelWorkerDone conn_tells full accepts) (TunnelPumpDone full) (TunnelTickerDone full c.start)
+      (λ (x y : Seat X W L) did kit none filled. worker_done conn_tells full accepts x.number (pass y.caller).number kit.told (worker_of x.kit) (worker_of y.kit)
+      (at x) (at y) y.end did.deed kit.hall none filled)
+      (λ (x y : Seat X P M) did kit none filled. tunnel_pump_done full x.number (pass y.caller).number (pump_of x.kit) (pump_of y.kit) (at x) (at y) y.end did.deed kit none filled)
+      (λ (x y : Seat X T N) did kit none filled. tunnel_ticker_done full c.start (pass y.caller).number kit.told (tick_of x.kit) (tick_of y.kit) (at x) (at y) y.end
+      did.deed kit.reads kit.outbox none filled)
+      (λ (x y : Seat X W L) did. did.still) (λ (x y : Seat X P M) did. did.still) (λ (x y : Seat X T N) did. did.still)
+      first.number first.own first.kept first.made knows (workers_fresh accepts fresh.workers_are) (pumps_fresh fresh.pumps_are) (ticker_fresh fresh.ticker_is)
+      worker_count pump_count in
+      run_is_tunnels is_stop legal stops lawful conn_tells c accepts (pass n).seen (pass n).kept (map worker_of after.workers.items)
+      (map pump_of after.pumps.items) (tick_of after.ticker)
+      (subst (λ (t : T). Run c legal is_stop (TunnelWorkerDone conn_tells full accepts) (TunnelPumpDone full) (TunnelTickerDone full c.start)
+      (pass n).seen (pass n).kept (map worker_of after.workers.items) (map pump_of after.pumps.items) (tick_of t)) (sym run.ticker_is)
+      (subst (λ (ps : List PumpView). Run c legal is_stop (TunnelWorkerDone conn_tells full accepts) (TunnelPumpDone full) (TunnelTickerDone full c.start)
+      (pass n).seen (pass n).kept (map worker_of after.workers.items) ps (tick_of run.third_ended.kit)) pumps_seen
+      (subst (λ (ws : List WorkerView). Run c legal is_stop (TunnelWorkerDone conn_tells full accepts) (TunnelPumpDone full) (TunnelTickerDone full c.start)
+      (pass n).seen (pass n).kept ws (map (λ (s : Seat X P M). pump_of s.kit) run.second_ended) (tick_of run.third_ended.kit)) workers_seen whole)))
+
+  pub end_tells : (accepts : ℕ) → Knows (legal (cell o).setting) (pass n) → Each (FreshWorker accepts) (map worker_of before.workers.items)
+      → TunnelEndTells end (pass n).seen (map worker_of after.workers.items)
+  end_tells accepts knows fresh =
+      let full : Type 0 = IsFull (pass n).seen in
+      let worked = works conn_tells worker_of in
+      let pumped = pumps_so pump_of in
+      let ticked = ticks tick_of in
+      let good : WorkerView → Type 0 = λ w. w.hall.ended ≡ true in
+      let bad : WorkerView → Type 0 = λ w. w.hall.faults ≢ 0 in
+      let whole : MatchEnd end (Each good (map (λ (s : Seat X W L). worker_of s.kit) run.front.ended)) (HasOne bad (map (λ (s : Seat X W L). worker_of s.kit) run.front.ended)) full =
+      end_over cell pass gear legal is_stop goes_on (SeatDid cell pass worked) (SeatDid cell pass pumped) (SeatDid cell pass ticked) o before n after end run
+      (λ (s : Seat X W L). worker_of s.kit) good bad (λ (s : Seat X W L). FreshWorker accepts (worker_of s.kit))
+      (λ (x y : Seat X W L) did kit filled. one_worker_tells conn_tells full accepts x.number (worker_of x.kit) (worker_of y.kit) (at x) (at y) y.end did.deed kit filled)
+      (λ (x y : Seat X P M) did filled. one_pump_tells full x.number (pump_of x.kit) (pump_of y.kit) (at x) (at y) y.end did.deed filled)
+      (λ (x y : Seat X T N) did filled. one_ticker_tells full (tick_of x.kit) (tick_of y.kit) (at x) (at y) y.end did.deed filled)
+      knows (workers_fresh accepts fresh) in
+      subst (λ (ws : List WorkerView). MatchEnd end (Each good ws) (HasOne bad ws) full) workers_seen whole

@@ -1,0 +1,19 @@
+-- What contracts see of the kits of a tunnel's jobs, whose outlets have no part.
+use Rattle.std.specs.Prelude.{◌≡◌, ℕ, List}
+use Rattle.satip_world.specs.Dials.{Dial}
+use Rattle.satip_world.specs.Halls.{Hall}
+use Rattle.satip_world.specs.Recordings.{StoreView}
+use Rattle.satip_pump.specs.declared.kits.PumpKit.{PumpKit}
+use Rattle.satip_pump.specs.declared.kits.TickKit.{TickKit}
+use Rattle.satip_worker.specs.declared.kits.WorkerKit.{WorkerKit}
+use Rattle.satip_serve.specs.Views.{WorkerView, PumpView, TickView, worker_view, pump_view, tick_view}
+use Rattle.satip_silent.specs.Silences.{no_outbox}
+
+abbrev pub worker_seen : {D O P : Type 0} → (D → Hall) → WorkerKit D O P → WorkerView
+worker_seen hall kit = worker_view hall no_outbox kit
+
+abbrev pub pump_seen : {M O P : Type 0} → (M → StoreView) → PumpKit M O P → PumpView
+pump_seen shelf kit = pump_view shelf no_outbox kit
+
+abbrev pub ticker_seen : {C O P : Type 0} → (C → Dial) → TickKit C O P → TickView
+ticker_seen dial kit = tick_view dial no_outbox kit

@@ -1,0 +1,117 @@
+//! The run of all jobs of a tunnel.
+
+ghost use Rattle.std.specs.Prelude.{◌≡◌, map, length, vec_capacity};
+ghost use Rattle.std.specs.Thread.{IsSync};
+ghost use Rattle.satip_turn.specs.Shown.{Knows};
+ghost use Rattle.satip_crew.specs.Crews.{IsSpace};
+ghost use Rattle.satip_serve.specs.Fresh.{FreshJobs};
+ghost use Rattle.satip_serve.specs.Services.{NeverWants};
+ghost use Rattle.satip_tunnel_serve.specs.Deeds.{worker_deed};
+ghost use Rattle.satip_tunnel_serve.specs.Services.{IsFirst, PumpedAtSeat, ServesInTunnel, TickedAtSeat, WorksSo};
+ghost use Rattle.satip_tunnel_serve.specs.TunnelRuns.{TunnelEndTells, TunnelServeRun};
+ghost use Rattle.satip_tunnel_serve.specs.Views.{worker_seen, pump_seen, ticker_seen};
+
+use satip_base::Out;
+use satip_crew::{Crew, Posts, Seat, ServeEnd, Space, run_jobs};
+use satip_pump::{PumpKit, TickKit};
+use satip_serve::{PumpRoom, pump_seat, tick_seat};
+use satip_service::Service;
+use satip_silent::Silent;
+use satip_tunnel::{TunnelAnswer, TunnelEvent};
+use satip_worker::WorkerKit;
+use satip_world::{Clock, Doors, MuxStore, Pacer};
+use std::sync::Wait;
+use std::thread::Threads;
+
+/// The kits of a tunnel's jobs, and what the callers of these have.
+pub type TunnelPosts<D, P, M, C, G> = Posts<
+    WorkerKit<D, Silent, P>,
+    PumpKit<M, Silent, P>,
+    TickKit<C, Silent, P>,
+    G,
+>;
+
+/// The memory that a tunnel's jobs take.
+pub type TunnelSpace<X, D, L, P, M> = Space<
+    X,
+    WorkerKit<D, Silent, P>,
+    L,
+    PumpKit<M, Silent, P>,
+    PumpRoom,
+    Out,
+>;
+
+/// Serves with all jobs of a tunnel beside each other: workers, which do this work, pumps in the
+/// order of front ends, and the ticker. Each job is a caller of its own, split off from `root`,
+/// caller 0, with its gear. When all workers have ended their callers are joined, and caller 0
+/// makes the one stop, while pumps and ticker still run; when these have ended they are joined too.
+/// Callers are joined in the order of jobs. Kits and gears come back in that order. It waits.
+pub fn run_in_tunnel<
+    R: Threads + Wait + Sync,
+    X: Service + Crew<Asks = TunnelEvent, Answers = TunnelAnswer> + Send + Drop,
+    D: Doors + Send + Drop,
+    L: Send + Drop,
+    P: Pacer + Send + Drop,
+    M: MuxStore + Send + Drop,
+    C: Clock + Send + Drop,
+    F: Fn(&mut Seat<X, WorkerKit<D, Silent, P>, L>) + Sync,
+>(
+    rt: &R,
+    root: X,
+    posts: TunnelPosts<D, P, M, C, X::Gear>,
+    space: TunnelSpace<X, D, L, P, M>,
+    work: &F,
+) -> (X, TunnelPosts<D, P, M, C, X::Gear>, ServeEnd)
+    requires serves { ServesInTunnel X.known X.may_want X.same X.cell X.pass X.Crew.legal X.is_stop }
+    requires work { WorksSo X.cell X.pass (worker_deed D.Conn.tells D.hall) F.Fn work.now }
+    requires first { IsFirst (X.pass root) }
+    requires workers { IsSpace posts.workers.items posts.worker_gears.items
+        space.worker_rooms.items space.workers.items (vec_capacity space.workers) }
+    requires pumps { IsSpace posts.pumps.items posts.pump_gears.items
+        space.pump_rooms.items space.pumps.items (vec_capacity space.pumps) }
+    requires worker_count { length posts.workers.items
+        ≡ (X.cell root).setting.config.workers }
+    requires pump_count { length posts.pumps.items
+        ≡ length (X.cell root).setting.config.fronts }
+    ensures cell { X.cell result.0 ≡ X.cell root }
+    ensures knows { Knows (X.Crew.legal (X.cell root).setting) (X.pass result.0) }
+
+    // the kits in their order, each worker's with its key, and each pump's with its recordings
+    ensures keys { map (λ kit. kit.key) result.1.workers.items
+        ≡ map (λ kit. kit.key) posts.workers.items }
+    ensures recordings { map (λ kit. (M.shelf kit.store).recording) result.1.pumps.items
+        ≡ map (λ kit. (M.shelf kit.store).recording) posts.pumps.items }
+
+    // where the kits were fresh, and the clock read once, for the start
+    ensures run { (accepts : _)
+        → FreshJobs accepts (X.cell root).setting.start
+        (map (worker_seen D.hall) posts.workers.items) (map (pump_seen M.shelf) posts.pumps.items)
+        (ticker_seen C.dial posts.ticker)
+        → TunnelServeRun D.Conn.tells (X.cell root).setting accepts (X.pass result.0).seen
+        (X.pass result.0).kept
+        (map (worker_seen D.hall) result.1.workers.items)
+        (map (pump_seen M.shelf) result.1.pumps.items) (ticker_seen C.dial result.1.ticker) }
+    // why it ended so: all doors ended, or those of a worker failed, or the history is full
+    ensures ended { (accepts : _)
+        → FreshJobs accepts (X.cell root).setting.start
+        (map (worker_seen D.hall) posts.workers.items) (map (pump_seen M.shelf) posts.pumps.items)
+        (ticker_seen C.dial posts.ticker)
+        → TunnelEndTells result.2 (X.pass result.0).seen
+        (map (worker_seen D.hall) result.1.workers.items) }
+{
+    run_jobs(
+        rt,
+        root,
+        posts,
+        space,
+        work,
+        &|seat: &mut Seat<X, PumpKit<M, Silent, P>, PumpRoom>|
+            requires { IsSync R.row × NeverWants X.may_want }
+            ensures { PumpedAtSeat X.same X.known M.shelf seat.old seat.new }
+        { pump_seat(rt, seat) },
+        &|seat: &mut Seat<X, TickKit<C, Silent, P>, Out>|
+            requires { IsSync R.row × NeverWants X.may_want }
+            ensures { TickedAtSeat X.same X.known C.dial seat.old seat.new }
+        { tick_seat(rt, seat) },
+    )
+}

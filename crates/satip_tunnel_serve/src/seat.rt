@@ -1,0 +1,32 @@
+//! The worker of a tunnel at its seat.
+
+ghost use Rattle.satip_tunneling.specs.Seats.{seated};
+ghost use Rattle.satip_tunnel_serve.specs.Deeds.{SeatDid, WorkedAtSeat, pump_deed, ticker_deed};
+ghost use Rattle.satip_tunnel_serve.specs.Views.{worker_seen};
+
+use crate::end::tell_worker;
+use satip_crew::Seat;
+use satip_interleave::TunnelCaller;
+use satip_silent::Silent;
+use satip_tunnel_worker::{WorkerRoom, run_tunnel_worker};
+use satip_worker::WorkerKit;
+use satip_world::{Doors, Pacer};
+use std::sync::Wait;
+
+// Does the work of a worker, whose number is the stream of its draws. It waits.
+pub(crate) fn work_at_seat<'a, R: Wait + Sync, D: Doors, P: Pacer>(
+    seat: &mut Seat<TunnelCaller<'a, R>, WorkerKit<D, Silent, P>, WorkerRoom>,
+)
+    ensures did { WorkedAtSeat D.Conn.tells seat.old.number seat.new.number
+        (worker_seen D.hall seat.old.kit)
+        (seated seat.old.caller.server.now seat.old.caller.pass) (worker_seen D.hall seat.new.kit)
+        (seated seat.new.caller.server.now seat.new.caller.pass) seat.new.end }
+{
+    let end = run_tunnel_worker(
+        &mut seat.caller,
+        &mut seat.kit,
+        seat.number as u64,
+        &mut seat.room,
+    );
+    seat.end = tell_worker(end);
+}

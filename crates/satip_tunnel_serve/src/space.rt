@@ -1,0 +1,136 @@
+//! The memory that all jobs of a tunnel take.
+
+ghost use Rattle.std.specs.Prelude.{◌≡◌, ◌≤◌, [], length, vec_capacity, IfOk};
+ghost use Rattle.satip_serve.specs.Spaces.{IsSpaceFor};
+ghost use Rattle.satip_tunnel_serve.specs.Asides.{IsSpareFor};
+
+use crate::aside::Spare;
+use crate::run::TunnelSpace;
+use satip_base::{Out, Want};
+use satip_crew::Space;
+use satip_pump::Batch;
+use satip_serve::PumpRoom;
+use satip_tunnel_worker::WorkerRoom;
+use std::alloc::Global;
+
+/// All memory that the jobs take, beside their kits.
+#[derive(Drop)]
+pub(crate) struct Memory<X, D, O, P, M> {
+    pub space: TunnelSpace<X, D, WorkerRoom, P, M>,
+    pub worker_gears: Vec<()>,
+    pub pump_gears: Vec<()>,
+    pub spare: Spare<D, O, P, M>,
+}
+
+// A list with memory for so many.
+fn with_room<T: Drop>(alloc: Global, count: usize) -> Result<Vec<T>, Want>
+    ensures empty { IfOk result (λ items. items.items ≡ []) }
+    ensures room { IfOk result (λ items. count ≤ vec_capacity items) }
+{
+    match Vec::with_capacity(alloc, count) {
+        Ok(items) => Ok(items),
+        Err(_) => Err(Want),
+    }
+}
+
+fn make_rooms(alloc: Global, count: usize) -> Result<Vec<WorkerRoom>, Want>
+    ensures count { IfOk result (λ rooms. length rooms.items ≡ count) }
+{
+    let mut rooms = with_room(alloc, count)?;
+    while rooms.len() < count {
+        rooms.push_reserved(WorkerRoom::make(alloc)?);
+    }
+    Ok(rooms)
+}
+
+fn make_pump_rooms(alloc: Global, count: usize) -> Result<Vec<PumpRoom>, Want>
+    ensures count { IfOk result (λ rooms. length rooms.items ≡ count) }
+{
+    let mut rooms = with_room(alloc, count)?;
+    while rooms.len() < count {
+        let out = Out::make(alloc)?;
+        let batch = Batch::make(alloc)?;
+        rooms.push_reserved(PumpRoom { out, batch });
+    }
+    Ok(rooms)
+}
+
+// What the callers of so many jobs have beside the right to call, which is nothing.
+fn make_gears(alloc: Global, count: usize) -> Result<Vec<()>, Want>
+    ensures count { IfOk result (λ gears. length gears.items ≡ count) }
+{
+    let mut gears = with_room(alloc, count)?;
+    while gears.len() < count {
+        gears.push_reserved(());
+    }
+    Ok(gears)
+}
+
+fn take_spare<D: Drop, O: Drop, P: Drop, M: Drop>(
+    alloc: Global,
+    workers: usize,
+    pumps: usize,
+) -> Result<Spare<D, O, P, M>, Want>
+    ensures workers { IfOk result (λ spare. IsSpareFor workers spare.workers.items
+        (vec_capacity spare.workers) spare.worker_outlets.items
+        (vec_capacity spare.worker_outlets)) }
+    ensures pumps { IfOk result (λ spare. IsSpareFor pumps spare.pumps.items
+        (vec_capacity spare.pumps) spare.pump_outlets.items (vec_capacity spare.pump_outlets)) }
+{
+    Ok(Spare {
+        workers: with_room(alloc, workers)?,
+        worker_outlets: with_room(alloc, workers)?,
+        pumps: with_room(alloc, pumps)?,
+        pump_outlets: with_room(alloc, pumps)?,
+    })
+}
+
+// The memory for jobs at their seats.
+fn take_space<X: Drop, D: Drop, P: Drop, M: Drop>(
+    alloc: Global,
+    workers: usize,
+    pumps: usize,
+) -> Result<TunnelSpace<X, D, WorkerRoom, P, M>, Want>
+    ensures worker_rooms { IfOk result (λ space. length space.worker_rooms.items ≡ workers) }
+    ensures workers { IfOk result (λ space. space.workers.items ≡ []) }
+    ensures worker_space { IfOk result (λ space. workers ≤ vec_capacity space.workers) }
+    ensures pump_rooms { IfOk result (λ space. length space.pump_rooms.items ≡ pumps) }
+    ensures pumps { IfOk result (λ space. space.pumps.items ≡ []) }
+    ensures pump_space { IfOk result (λ space. pumps ≤ vec_capacity space.pumps) }
+{
+    Ok(Space {
+        worker_rooms: make_rooms(alloc, workers)?,
+        workers: with_room(alloc, workers)?,
+        pump_rooms: make_pump_rooms(alloc, pumps)?,
+        pumps: with_room(alloc, pumps)?,
+        ticker_room: Out::make(alloc)?,
+        stop_out: Out::make(alloc)?,
+    })
+}
+
+/// Takes the memory for so many workers and pumps. `Want` where it was refused.
+pub(crate) fn take_memory<X: Drop, D: Drop, O: Drop, P: Drop, M: Drop>(
+    alloc: Global,
+    workers: usize,
+    pumps: usize,
+) -> Result<Memory<X, D, O, P, M>, Want>
+    ensures workers { IfOk result (λ memory. IsSpaceFor workers memory.worker_gears.items
+        memory.space.worker_rooms.items memory.space.workers.items
+        (vec_capacity memory.space.workers)) }
+    ensures pumps { IfOk result (λ memory. IsSpaceFor pumps memory.pump_gears.items
+        memory.space.pump_rooms.items memory.space.pumps.items
+        (vec_capacity memory.space.pumps)) }
+    ensures spare_workers { IfOk result (λ memory. IsSpareFor workers memory.spare.workers.items
+        (vec_capacity memory.spare.workers) memory.spare.worker_outlets.items
+        (vec_capacity memory.spare.worker_outlets)) }
+    ensures spare_pumps { IfOk result (λ memory. IsSpareFor pumps memory.spare.pumps.items
+        (vec_capacity memory.spare.pumps) memory.spare.pump_outlets.items
+        (vec_capacity memory.spare.pump_outlets)) }
+{
+    Ok(Memory {
+        space: take_space(alloc, workers, pumps)?,
+        worker_gears: make_gears(alloc, workers)?,
+        pump_gears: make_gears(alloc, pumps)?,
+        spare: take_spare(alloc, workers, pumps)?,
+    })
+}
