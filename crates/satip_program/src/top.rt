@@ -74,10 +74,11 @@ const VERSION: &[u8] = b"satip 0.1.0\n";
 /// How a run ended.
 pub struct Ended<K: Desk> {
     /// 0 where all went well; 2 where the words are in no form; 3 where the configuration has a
-    /// fault, 4 where the script or the journals have a wrong line; 5, 6 where the input, the output
-    /// or a journal failed; 7 where the doors of a worker or the desk failed; 8 where the input is too
-    /// long; 9 where the history is full; 10 to 14 where a recording was refused, got a bad reply,
-    /// met silence, a fault of the peer, or an end before a reply; 70 where there was no memory.
+    /// fault, 4 where the script or the journals have a wrong line; 5 where the input failed, 6
+    /// where the output or a journal did; 7 where the doors of a worker or the desk failed; 8 where
+    /// the input is too long; 9 where the history is full; 10 to 14 where a recording was refused,
+    /// got a bad reply, met silence, a fault of the peer, or an end before a reply; 70 where there
+    /// was no memory.
     pub status: u8,
     /// The configuration that the desk gave, as far as it was read.
     pub config: Option<K::Config>,
