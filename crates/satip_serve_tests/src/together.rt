@@ -1,7 +1,6 @@
-//! The commands `serve` and `journal` with two workers, two pumps and the ticker, each of which
-//! needs the others: the first client plays only once the second was answered, and ends its session
-//! only once packets were sent and the clock was read. Jobs that ran one after another would never
-//! get there.
+//! The commands `serve` and `journal` with two workers, two pumps and the ticker, each of which needs the others:
+//! the first client plays only once the second was answered, and ends its session only once packets
+//! were sent and the clock was read. Jobs that ran one after another would never get there.
 
 use crate::deeds::{Deeds, Gate, OPEN};
 use crate::shared::{OK, OPTIONS, Ran, run, words, words_of};
