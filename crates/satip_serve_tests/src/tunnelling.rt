@@ -68,34 +68,46 @@ const PLAN: Plan = Plan {
     pumps: Gate { idles: 1, ..OPEN },
 };
 
-// How many bytes the frame of a channel 0 or 1 has that these begin with; 0 where they begin with
-// none.
-fn frame_length(bytes: &[u8]) -> usize {
+// What stands behind the frame of channel 0 or 1 that these bytes begin with; None where they begin
+// with no such frame.
+fn after_frame(bytes: &[u8]) -> Option<&[u8]> {
     if bytes.len() < 4 || bytes[0] != 0x24 || bytes[1] > 1 {
-        return 0;
+        return None;
     }
     let length = 4 + (bytes[2] as usize) * 256 + bytes[3] as usize;
-    if bytes.len() < length { 0 } else { length }
+    if bytes.len() < length {
+        return None;
+    }
+    Some(bytes.split_at(length).1)
+}
+
+// What stands behind a text that these bytes begin with; None where they don't.
+fn after_text<'a>(bytes: &'a [u8], text: &[u8]) -> Option<&'a [u8]> {
+    if bytes.len() < text.len() {
+        return None;
+    }
+    let (first, behind) = bytes.split_at(text.len());
+    if first == text { Some(behind) } else { None }
 }
 
 // Whether these are whole frames and, behind one of them, one reply to TEARDOWN.
 fn is_played_out(bytes: &[u8]) -> bool {
     let mut rest = bytes;
-    let mut packets = false;
+    let mut framed = false;
     let mut over = false;
-    while !rest.is_empty() {
-        let length = frame_length(rest);
-        if length != 0 {
-            packets = packets || rest[1] == 0;
-            rest = rest.split_at(length).1;
-        } else if packets && !over && rest.starts_with(OVER) {
+    for _ in 0..bytes.len() {
+        if let Some(behind) = after_frame(rest) {
+            framed = true;
+            rest = behind;
+        } else if let Some(behind) = after_text(rest, OVER) {
+            if over || !framed {
+                return false;
+            }
             over = true;
-            rest = rest.split_at(OVER.len()).1;
-        } else {
-            return false;
+            rest = behind;
         }
     }
-    over
+    over && rest.is_empty()
 }
 
 // Whether a connection was sent the replies with frames between them, and its service ended well.
@@ -104,11 +116,10 @@ fn has_played(served: Option<&Served>) -> bool {
     let Some(served) = served else {
         return false;
     };
-    let sent = served.sent.as_slice();
-    if served.end != ConnEnd::Done || !sent.starts_with(BEGUN) {
-        return false;
+    match after_text(served.sent.as_slice(), BEGUN) {
+        Some(behind) => served.end == ConnEnd::Done && is_played_out(behind),
+        None => false,
     }
-    is_played_out(sent.split_at(BEGUN.len()).1)
 }
 
 fn is_answered(served: Option<&Served>) -> bool {

@@ -1,22 +1,19 @@
 -- Each caller of a run of a tunnel's jobs drains and gives up lanes of its own alone.
-use Rattle.std.proofs.Common.{◌≡◌, ◌∙◌, ℕ, ◌+◌, ◌⊎◌, inl, inr, List, [], ◌∷◌, ◌++◌, refl, sym, ap, subst}
+use Rattle.std.proofs.Common.{◌≡◌, ◌∙◌, ℕ, ◌+◌, ◌⊎◌, inl, inr, List, [], ◌∷◌, ◌++◌, sym, ap, subst}
 use Rattle.std.specs.List.{flat_map}
 use Rattle.satip_base.specs.declared.identity.Draw.{Draw}
 use Rattle.satip_base.specs.declared.network.Peer.{Peer}
 use Rattle.satip_history.specs.History.{own_of}
 use Rattle.satip_history.specs.Lists.{Each}
 use Rattle.satip_history.proofs.Elements.{Each-append}
-use Rattle.satip_plain.specs.declared.events.Event.TheVariants.{Stop}
-use Rattle.satip_plain.specs.declared.setting.Setting.{Setting}
 use Rattle.satip_interleave.specs.Calling.{outer_by, outers}
 use Rattle.satip_crew.specs.Runs.{Along, HasNoStop, StopsOnce}
-use Rattle.satip_serve.specs.Views.{WorkerView, PumpView, TickView}
+use Rattle.satip_serve.specs.Views.{WorkerView, PumpView}
 use Rattle.satip_tunnel.specs.declared.events.TunnelAnswer.{TunnelAnswer}
 use Rattle.satip_tunnel.specs.declared.events.TunnelEvent.{TunnelEvent}
 use Rattle.satip_tunnel.specs.declared.events.TunnelEvent.TheVariants.{Inner, Enter, Drain, Leave}
 use Rattle.satip_tunnel.specs.Histories.{TunnelItem}
-use Rattle.satip_tunnel_laws.specs.Owners.{CallersDrainOwn, DrainsGiven, DrainsOwn, IsOfGiven, PartsDrainOwn, given_by}
-use Rattle.satip_tunneling.specs.declared.ends.TunnelEnd.{TunnelEnd}
+use Rattle.satip_tunnel_laws.specs.Owners.{DrainsGiven, DrainsOwn, IsOfGiven, PartsDrainOwn, given_by}
 use Rattle.satip_turn.specs.Views.{numbers_of}
 use Rattle.satip_wire_laws.specs.Wires.{RunsDrainOwn, WiresHaveLanes}
 use Rattle.satip_world.specs.declared.doors.ConnEnd.{ConnEnd}
@@ -27,8 +24,8 @@ use Rattle.satip_world.specs.Lines.{Line, fresh_line}
 use Rattle.satip_worker.specs.Drawing.{draw_at}
 use Rattle.satip_tunnel_worker.specs.ConnRun.{ConnServed}
 use Rattle.satip_tunnel_worker.specs.WorkerRun.{ServesAll}
-use Rattle.satip_tunnel_serve.specs.Done.{TunnelRow, TunnelWorkerDone, TunnelPumpDone, TunnelTickerDone}
-use Rattle.satip_tunnel_serve.specs.TunnelRuns.{IsTunnelStop, TunnelServeRun}
+use Rattle.satip_tunnel_serve.specs.Done.{TunnelRow, TunnelWorkerDone, TunnelPumpDone}
+use Rattle.satip_tunnel_serve.specs.TunnelRuns.{IsTunnelStop}
 use Rattle.satip_tunnel_run_laws.specs.Runs.{ConnectionsHaveLanes, JobsDrainOwn}
 
 -- entries of the server alone touch no lane

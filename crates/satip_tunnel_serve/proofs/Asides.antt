@@ -1,5 +1,5 @@
 -- Kits whose outlets are put aside, and kits that have them again: what is seen of them without outlets is the same.
-use Rattle.std.proofs.Common.{◌≡◌, ℕ, suc, List, [], ◌∷◌, map, length, arith, refl, sym, ap, ◌∙◌, subst}
+use Rattle.std.proofs.Common.{◌≡◌, ℕ, List, [], ◌∷◌, map, length, arith, refl, sym, ap, ◌∙◌, subst}
 use Rattle.std.proofs.lemmas.List.{length-map}
 use Rattle.satip_history.specs.Lists.{Each}
 use Rattle.satip_plain.specs.declared.setting.Setting.{Setting}
@@ -11,7 +11,7 @@ use Rattle.satip_world.specs.Recordings.{StoreView}
 use Rattle.satip_pump.specs.declared.kits.PumpKit.{PumpKit}
 use Rattle.satip_pump.specs.declared.kits.TickKit.{TickKit}
 use Rattle.satip_worker.specs.declared.kits.WorkerKit.{WorkerKit}
-use Rattle.satip_silent.specs.Kits.{each_two, pump_with, silent, silent_pump, silent_worker, ticker_with, worker_with}
+use Rattle.satip_silent.specs.Kits.{each_two, silent, silent_pump, silent_worker, ticker_with}
 use Rattle.satip_silent.specs.declared.silent.Silent.{Silent}
 use Rattle.satip_serve.specs.Fresh.{FreshWorker, FreshPump, FreshJobs, ReadOnce}
 use Rattle.satip_serve.specs.Views.{WorkerView, PumpView, TickView, worker_view, pump_view, tick_view}

@@ -1,5 +1,5 @@
 -- Why a tunnel's jobs ended so.
-use Rattle.std.proofs.Common.{◌≡◌, ◌≢◌, ℕ, Bool, true, false, List, map, length, sym, subst}
+use Rattle.std.proofs.Common.{◌≡◌, ◌≢◌, ℕ, Bool, true, false, List, length, sym, subst}
 use Rattle.std.proofs.lemmas.Bool.{false≢true}
 use Rattle.satip_service.specs.Known.{Known}
 use Rattle.satip_interleave.specs.Calling.{known_by}

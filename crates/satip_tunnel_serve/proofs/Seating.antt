@@ -1,5 +1,5 @@
 -- Jobs of a tunnel at their seats, over a service of its server.
-use Rattle.std.proofs.Common.{◌≡◌, ℕ, Bool, List, subst}
+use Rattle.std.proofs.Common.{◌≡◌, Bool, List, subst}
 use Rattle.satip_plain.specs.declared.setting.Setting.{Setting}
 use Rattle.satip_pump.specs.declared.kits.PumpKit.{PumpKit}
 use Rattle.satip_pump.specs.declared.kits.TickKit.{TickKit}
@@ -9,7 +9,6 @@ use Rattle.satip_interleave.specs.Calling.{ShownPass, known_by}
 use Rattle.satip_tunnel.specs.Histories.{TunnelItem}
 use Rattle.satip_world.specs.Dials.{Dial}
 use Rattle.satip_world.specs.Recordings.{StoreView}
-use Rattle.satip_crew.specs.declared.end.ServeEnd.{ServeEnd}
 use Rattle.satip_crew.specs.declared.seat.Seat.{Seat}
 use Rattle.satip_crew.specs.Works.{IsSameSeat}
 use Rattle.satip_serve.specs.Deeds.{PumpDid, TickerDid}

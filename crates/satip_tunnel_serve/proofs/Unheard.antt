@@ -1,5 +1,5 @@
 -- Jobs whose outlets tell nothing: their deeds, with nothing said of the outlet.
-use Rattle.std.proofs.Common.{◌≡◌, ℕ, ◌+◌, ◌≤◌, inl, List, [], ◌∷◌, arith}
+use Rattle.std.proofs.Common.{ℕ, inl, List, [], ◌∷◌, arith}
 use Rattle.satip_base.specs.Output.{Datagram}
 use Rattle.satip_service.specs.Known.{Known}
 use Rattle.satip_world.specs.Deliveries.{Delivers, LeavesOut}

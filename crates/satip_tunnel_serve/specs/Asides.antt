@@ -1,5 +1,5 @@
 -- What the outlets of kits are kept in while their jobs run without them.
-use Rattle.std.specs.Prelude.{◌≡◌, ℕ, ◌≤◌, List, [], map, length}
+use Rattle.std.specs.Prelude.{◌≡◌, ℕ, ◌≤◌, List, [], length}
 
 -- empty lists with memory for so many kits and outlets
 pub record IsSpareFor {K O : Type 0} (count : ℕ) (kits : List K) (kit_capacity : ℕ) (outlets : List O) (outlet_capacity : ℕ) : Type 0 where

@@ -1,5 +1,4 @@
 -- What contracts see of the kits of a tunnel's jobs, whose outlets have no part.
-use Rattle.std.specs.Prelude.{◌≡◌, ℕ, List}
 use Rattle.satip_world.specs.Dials.{Dial}
 use Rattle.satip_world.specs.Halls.{Hall}
 use Rattle.satip_world.specs.Recordings.{StoreView}

@@ -1,5 +1,4 @@
 -- The jobs work over the tunnel, and what they did is a run of it.
-use Rattle.std.proofs.Common.{rules}
 use Rattle.std.proofs.iter.Serving.{serving}
 use Rattle.satip_pump.specs.declared.kits.PumpKit.{PumpKit}
 use Rattle.satip_silent.specs.declared.silent.Silent.{Silent}

@@ -1,5 +1,4 @@
 -- The callers of jobs may go to other threads, and as many kits come back.
-use Rattle.std.proofs.Common.{length}
 use Rattle.std.proofs.iter.Serving.{serving}
 use Rattle.satip_pump.specs.declared.kits.PumpKit.{PumpKit}
 use Rattle.satip_silent.specs.declared.silent.Silent.{Silent}

@@ -1,11 +1,8 @@
 -- The jobs ran on kits whose outlets were put aside, and the kits have them again.
-use Rattle.std.proofs.Common.{◌≡◌, ◌≢◌, true, List, map, refl, sym, ap, subst}
-use Rattle.satip_history.specs.Lists.{Each}
-use Rattle.satip_crew.specs.Passes.{IsFull}
-use Rattle.satip_crew.specs.Runs.{HasOne, MatchEnd}
+use Rattle.std.proofs.Common.{List, map, refl, sym, ap, subst}
 use Rattle.satip_pump.specs.declared.kits.PumpKit.{PumpKit}
 use Rattle.satip_pump.specs.declared.kits.TickKit.{TickKit}
-use Rattle.satip_serve.specs.Views.{WorkerView, TickView}
+use Rattle.satip_serve.specs.Views.{WorkerView}
 use Rattle.satip_silent.specs.Kits.{pump_with, silent_pump, silent_worker, worker_with}
 use Rattle.satip_silent.specs.declared.silent.Silent.{Silent}
 use Rattle.satip_worker.specs.declared.kits.WorkerKit.{WorkerKit}

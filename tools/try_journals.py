@@ -1,0 +1,120 @@
+#!/usr/bin/env python3
+"""Serves with journals by the built program, and has `satip audit` judge them.
+
+    tools/try_journals.py
+
+The journals of a server that ends, of one that is killed, and of one whose files can't be made or
+written (by strace, where it is there): each has whole lines alone, and the verdict is `yes` with the
+number of entries where nothing was lost. It ends with status 1 where something didn't hold.
+
+Needs crates/satip/out/satip (`cd crates/satip && rt run -- --version` builds it), or SATIP_PROGRAM,
+and the Debian packages python3 and strace."""
+import glob
+import os
+import shutil
+import signal
+import subprocess
+import sys
+import tempfile
+
+sys.dont_write_bytecode = True
+from serving import Checks, free_ports, options, program_words, wait_for
+
+ADDRESS = "127.0.0.1"
+WORKERS = 2
+# An injected fault, the call and the journal that it is for, the status, and whether nothing is lost.
+FAULTS = (
+    ("openat fails", "openat:error=EACCES", 6, False),
+    ("openat is interrupted once", "openat:error=EINTR:when=1", 0, True),
+    ("write fails", "write:error=ENOSPC", 6, False),
+    ("write is interrupted once", "write:error=EINTR:when=1", 0, True),
+)
+
+
+def configuration(folder, ports):
+    name = os.path.join(folder, "satip.toml")
+    with open(name, "w") as file:
+        file.write(f'address = "{ADDRESS}"\nrtsp_port = {ports[0]}\nhttp_port = {ports[1]}\n')
+        file.write(f'workers = {WORKERS}\n[[frontend]]\nsources = [1]\nsystems = ["dvbs"]\n')
+    return name
+
+
+def journals(folder):
+    return [open(name, "rb").read() for name in sorted(glob.glob(f"{folder}/journal.*"))]
+
+
+def verdict(program, config, texts):
+    done = subprocess.run([*program, "audit", config], input=b"".join(texts), capture_output=True)
+    return done.stdout.decode().strip()
+
+
+def is_yes(program, config, texts):
+    """Whether the verdict is `yes` with a line's number of entries, whatever the order is."""
+    entries = b"".join(texts).count(b"\n") - 1
+    orders = (texts, texts[::-1])
+    return all(verdict(program, config, order) == f"yes {entries}" for order in orders)
+
+
+def traced(folder, fault):
+    """The words of strace that inject a fault into the calls for one journal."""
+    paths = ("-P", "journal.2", "-P", os.path.join(folder, "journal.2"))
+    return ["strace", "-f", "-qq", "-o", os.devnull, *paths, "-e", f"inject={fault}"]
+
+
+def serve(program, accepts, fault=""):
+    """A server in a folder of its own, each of whose workers ends after so many connections."""
+    folder = os.path.realpath(tempfile.mkdtemp())
+    ports = free_ports(ADDRESS)
+    config = configuration(folder, ports)
+    before = traced(folder, fault) if fault else []
+    words = [*before, *program, "journal", config, str(accepts)]
+    process = subprocess.Popen(words, cwd=folder, stderr=subprocess.PIPE)
+    return folder, config, ports[0], process
+
+
+def main():
+    checks = Checks()
+    with tempfile.TemporaryDirectory() as place:
+        program = program_words(place)
+    folder, config, port, process = serve(program, 1)
+    wait_and_ask(port, process, WORKERS)
+    checks.check(process.wait(20) == 0, "a server whose doors end has status 0")
+    checks.check(is_yes(program, config, journals(folder)), "its journals are one history")
+    shutil.rmtree(folder)
+    folder, config, port, process = serve(program, 0)
+    wait_and_ask(port, process, 5)
+    process.send_signal(signal.SIGKILL)
+    process.wait()
+    texts = journals(folder)
+    whole = all(not text or text.endswith(b"\n") for text in texts)
+    checks.check(whole and len(texts) == WORKERS + 3, "the journals of a killed server are whole lines")
+    checks.check(is_yes(program, config, texts), "they are one history")
+    shutil.rmtree(folder)
+    for name, fault, status, kept in FAULTS if shutil.which("strace") else ():
+        folder, config, port, process = serve(program, 1, fault)
+        wait_and_ask(port, process, WORKERS)
+        said = process.communicate(timeout=30)[1].decode().strip().split("\n")[-1]
+        told = process.returncode == status and (status == 0 or said == "output fault")
+        checks.check(told, f"{name}: status {status}")
+        found = "one history" if kept else "not all entries are there"
+        checks.check(is_yes(program, config, journals(folder)) == kept, f"{name}: {found}")
+        shutil.rmtree(folder)
+    checks.end()
+
+
+def wait_and_ask(port, process, count):
+    """So many requests, on a connection each; none where the server ends before."""
+    if process.poll() is None and listens(port, process):
+        for _ in range(count):
+            options(ADDRESS, port=port)
+
+
+def listens(port, process):
+    try:
+        wait_for(ADDRESS, port, process)
+        return True
+    except SystemExit:
+        return False
+
+
+main()
