@@ -1,0 +1,111 @@
+#!/usr/bin/env python3
+"""Measures what journals cost: the CPU of `satip journal` beside `satip serve`, each to 16 receivers,
+and the CPU, time and memory of `satip audit` on journals of 16, 32 and 60 MiB.
+
+    python3 bench/journal.py [PROGRAM [SECONDS]]
+
+SECONDS, 6 without the word, is how long each server is measured. CPU is that of all threads, by
+/proc/PID/task/*/schedstat; an audit's is what the system tells of it when it ended. The journals of
+an audit are those of a server with one receiver that was killed when they had the size.
+
+PROGRAM is crates/satip/out/satip without the word; `cd crates/satip && rt run -- --version` builds
+it. Needs python3."""
+import glob
+import os
+import subprocess
+import sys
+import time
+
+TOP = os.path.dirname(os.path.dirname(os.path.abspath(__file__)))
+sys.path.insert(0, os.path.join(TOP, "tools"))
+sys.path.insert(0, os.path.join(TOP, "bench"))
+sys.dont_write_bytecode = True
+from count_late import Client, begin
+from receivers import PACKET, Receivers, cpu_seconds
+from serving import PROGRAM, QUERY, Server, free_ports
+
+ADDRESS = "127.0.0.1"
+RECEIVERS = 16
+MEBIBYTES = (16, 32, 60)
+
+
+def play(ports, count):
+    receivers, client = Receivers(count), Client(ADDRESS, ports[0])
+    begin(client, f"rtsp://{ADDRESS}:{ports[0]}/", f"{QUERY}&pids=all", receivers.ports())
+    return receivers, client
+
+
+def seconds_a_million(command, seconds):
+    """CPU seconds of a server for a million packets that came to its receivers."""
+    ports = free_ports(ADDRESS)
+    server = Server(ADDRESS, workers=20, ports=ports, seconds=4 * seconds + 20, command=command)
+    receivers, client = play(ports, RECEIVERS)
+    try:
+        receivers.read_for(1)
+        before, payload = cpu_seconds(server.process.pid), receivers.payload
+        receivers.read_for(seconds)
+        used = cpu_seconds(server.process.pid) - before
+        return 1e6 * used * PACKET / (receivers.payload - payload), receivers.missing
+    finally:
+        receivers.close()
+        client.line.close()
+        server.close()
+
+
+def written(folder):
+    return sum(os.path.getsize(name) for name in glob.glob(f"{folder}/journal.*"))
+
+
+def audit(program, mebibytes):
+    """What an audit of so many bytes of journals uses, and its verdict."""
+    ports = free_ports(ADDRESS)
+    server = Server(ADDRESS, workers=2, ports=ports, seconds=120, command="journal")
+    folder = server.folder.name
+    receivers, client = play(ports, 1)
+    try:
+        while written(folder) < mebibytes << 20:
+            receivers.read_for(0.1)
+        server.process.kill()
+        server.process.wait()
+        text = f"{folder}/journals"
+        with open(text, "wb") as whole:
+            for name in sorted(glob.glob(f"{folder}/journal.*")):
+                with open(name, "rb") as part:
+                    whole.write(part.read())
+        with open(text, "rb") as input_file:
+            begun = time.monotonic()
+            auditing = subprocess.Popen(
+                [program, "audit", server.path("try.toml")], stdin=input_file, stdout=subprocess.PIPE
+            )
+            told = auditing.stdout.read().decode().strip()
+            _, _, usage = os.wait4(auditing.pid, 0)
+            took = time.monotonic() - begun
+        size, cpu = os.path.getsize(text), usage.ru_utime + usage.ru_stime
+        print(
+            f"audit of {size / (1 << 20):.1f} MiB: {told}, {cpu:.2f} s of CPU, {took:.2f} s, "
+            f"{usage.ru_maxrss / 1024:.0f} MiB at most, {1e9 * cpu / size:.1f} s a gigabyte",
+            flush=True,
+        )
+    finally:
+        receivers.close()
+        client.line.close()
+        server.close()
+
+
+def main():
+    program = os.path.abspath(sys.argv[1] if len(sys.argv) > 1 else PROGRAM)
+    os.environ["SATIP_PROGRAM"] = program
+    seconds = float(sys.argv[2]) if len(sys.argv) > 2 else 6
+    plain, missing = seconds_a_million("serve", int(seconds))
+    written_down, lost = seconds_a_million("journal", int(seconds))
+    print(
+        f"{RECEIVERS} receivers: serve {plain:.3f} s of CPU a million packets, journal "
+        f"{written_down:.3f} s: factor {written_down / plain:.2f}; missing {missing} and {lost}",
+        flush=True,
+    )
+    for mebibytes in MEBIBYTES:
+        audit(program, mebibytes)
+
+
+if __name__ == "__main__":
+    main()
