@@ -62,14 +62,19 @@ class Interleaved:
             if reply is not None:
                 return reply
 
-    def play(self, query, target=None, channel=0):
-        """Founds a stream, or joins one, and plays; the stream's URL and the session."""
+    def set_up(self, query, target=None, channel=0):
+        """Founds a stream, or joins one; the stream's URL and the session."""
         transport = f"Transport: RTP/AVP/TCP;unicast;interleaved={channel}-{channel + 1}"
         head = self.ask("SETUP", target or f"{self.base}?{query}", transport)
         if not head.startswith("RTSP/1.0 200 "):
             raise ConnectionError(head.splitlines()[0])
         session = re.search(r"Session: *([0-9a-f]+)", head).group(1)
-        target = f"{self.base}stream={re.search(r'streamID: *([0-9]+)', head, re.I).group(1)}"
+        stream = re.search(r"streamID: *([0-9]+)", head, re.I).group(1)
+        return f"{self.base}stream={stream}", session
+
+    def play(self, query, target=None, channel=0):
+        """The same, and the stream plays."""
+        target, session = self.set_up(query, target, channel)
         self.ask("PLAY", target, f"Session: {session}")
         return target, session
 

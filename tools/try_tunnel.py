@@ -7,13 +7,13 @@ The recording's packets are numbered, so that what came is seen to be the record
 order and with none missing. For SECONDS each, 6 without the word: one connection; eight, one of
 which stops reading, of which the other seven are to miss nothing; a connection that sends frames of
 its own, as the receiver reports of a player, between its requests. A transport over UDP is refused
-with 461. Then players: FFmpeg, GStreamer and VLC where they are installed, each of which is to
-write a file in which FFmpeg finds a picture. It ends with a line that counts what held, and with
+with 461. Then players: FFmpeg and GStreamer, where they are installed, join a stream that another
+connection founded, and each is to write a file in which FFmpeg finds a picture. It ends with a line that counts what held, and with
 status 1 where something didn't.
 
 Needs crates/satip/out/satip (`cd crates/satip && rt run -- --version` builds it), or SATIP_PROGRAM,
-and python3; for the players the Debian packages ffmpeg, vlc-bin, vlc-plugin-base,
-gstreamer1.0-tools, gstreamer1.0-plugins-base, -good and -bad. As root VLC runs as nobody."""
+and python3; for the players the Debian packages ffmpeg, gstreamer1.0-tools, and
+gstreamer1.0-plugins-base, -good and -bad. VLC as Debian has it opens no rtsp:// by TCP."""
 import os
 import shutil
 import subprocess
@@ -129,20 +129,16 @@ def has_picture(path):
 
 def player_words(url, folder, seconds):
     """For each player the command that writes what it gets to a file for so many seconds."""
-    vlc = ["runuser", "-u", "nobody", "--"] if os.geteuid() == 0 else []
-    vlc += ["env", f"HOME={folder}", "cvlc", "--rtsp-tcp", f"--run-time={seconds}", url]
-    vlc += ["--sout", f"#std{{access=file,mux=ts,dst={folder}/vlc.ts}}", "vlc://quit"]
     return {
         "ffmpeg": ["ffmpeg", "-v", "error", "-rtsp_transport", "tcp", "-i", url]
         + ["-t", str(seconds), "-c", "copy", f"{folder}/ffmpeg.ts"],
         "gst-launch-1.0": ["gst-launch-1.0", "-q", "-e", "rtspsrc", f"location={url}"]
         + ["protocols=tcp", "!", "rtpmp2tdepay", "!", "filesink", f"location={folder}/gst.ts"],
-        "cvlc": vlc,
     }
 
 
 def try_players(checks, seconds):
-    names = {"ffmpeg": "ffmpeg.ts", "gst-launch-1.0": "gst.ts", "cvlc": "vlc.ts"}
+    names = {"ffmpeg": "ffmpeg.ts", "gst-launch-1.0": "gst.ts"}
     with tempfile.TemporaryDirectory() as folder:
         os.chmod(folder, 0o777)
         words = [f"{TOP}/tools/make_recording.sh", f"{folder}/news.ts", "60"]
@@ -151,7 +147,8 @@ def try_players(checks, seconds):
             recording = file.read()
         ports = free_ports(ADDRESS)
         server = Server(ADDRESS, ports=ports, recording=recording, command="tunnel")
-        url = f"rtsp://{ADDRESS}:{ports[0]}/?{STREAM}"
+        founder = Interleaved(ADDRESS, ports[0])
+        url, _ = founder.set_up(STREAM)
         try:
             for player, words in player_words(url, folder, seconds).items():
                 if not shutil.which(player):
@@ -164,6 +161,7 @@ def try_players(checks, seconds):
                 checks.check(has_picture(path), f"{player}: {size} bytes with a picture")
             checks.check(server.lives(), "the server lives behind the players")
         finally:
+            founder.close()
             server.close()
 
 
