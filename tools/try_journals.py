@@ -5,7 +5,8 @@
 
 The journals of a server that ends, of one that is killed, and of one whose files can't be made or
 written (by strace, where it is there): each has whole lines alone, and the verdict is `yes` with the
-number of entries where nothing was lost. It ends with status 1 where something didn't hold.
+number of entries where nothing was lost. Where a digit of a place or of what was answered is another
+one it is never `yes`. It ends with status 1 where something didn't hold.
 
 Needs crates/satip/out/satip (`cd crates/satip && rt run -- --version` builds it), or SATIP_PROGRAM,
 and the Debian packages python3 and strace."""
@@ -55,6 +56,28 @@ def is_yes(program, config, texts):
     return all(verdict(program, config, order) == f"yes {entries}" for order in orders)
 
 
+# How many digits of a record are its event, by the first two: a tick, an ask and a stop. With another
+# event it may be another legal history.
+EVENTS = {b"02": 18, b"05": 6, b"08": 2}
+
+
+def changed(text):
+    """The text with each digit of an entry's place and of what was answered changed in turn, one at a
+    time; of a longer event than these, the second half of its record."""
+    begin = 0
+    for line in text.split(b"\n"):
+        words = line.split(b" ")
+        if words[0] == b"entry":
+            caller = begin + len(words[0]) + len(words[1]) + 2
+            for at in range(begin + len(words[0]) + 1, begin + len(line)):
+                record = caller + len(words[2]) + 1
+                event = record + EVENTS.get(words[3][:2], len(words[3]) // 2)
+                if text[at] != 0x20 and not caller <= at < event:
+                    other = b"1" if text[at] == 0x30 else b"0"
+                    yield text[:at] + other + text[at + 1 :]
+        begin += len(line) + 1
+
+
 def traced(folder, fault):
     """The words of strace that inject a fault into the calls for one journal."""
     paths = ("-P", "journal.2", "-P", os.path.join(folder, "journal.2"))
@@ -79,7 +102,11 @@ def main():
     folder, config, port, process = serve(program, 1)
     wait_and_ask(port, process, WORKERS)
     checks.check(process.wait(20) == 0, "a server whose doors end has status 0")
-    checks.check(is_yes(program, config, journals(folder)), "its journals are one history")
+    texts = journals(folder)
+    checks.check(is_yes(program, config, texts), "its journals are one history")
+    told = [verdict(program, config, [text]) for text in changed(b"".join(texts))]
+    no_yes = not any(text.startswith("yes") for text in told)
+    checks.check(no_yes, f"{len(told)} digits of them changed in turn: never yes")
     shutil.rmtree(folder)
     folder, config, port, process = serve(program, 0)
     wait_and_ask(port, process, 5)
