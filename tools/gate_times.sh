@@ -68,7 +68,8 @@ watch_checks() {
   hz=$(getconf CLK_TCK)
   while sleep 1; do
     now=()
-    for pid in $(pgrep -x 'rattle|antt-kernel'); do
+    # Newer releases of procps refuse a pattern of more than 15 characters, so each name is asked for by itself.
+    for pid in $(pgrep -x rattle; pgrep -x antt-kernel); do
       root=$pid
       text=$(stat_of "$pid") || continue
       read -r -a stat <<<"$text"
