@@ -6,8 +6,9 @@
 The recording's packets are numbered, so that what came is seen to be the recording's packets, in
 order and with none missing. For SECONDS each, 6 without the word: one connection; eight, one of
 which stops reading, of which the other seven are to miss nothing; a connection that sends frames of
-its own, as the receiver reports of a player, between its requests. A transport over UDP is refused
-with 461. Then players: FFmpeg and GStreamer, where they are installed, join a stream that another
+its own, as the receiver reports of a player, between its requests; one that misses nothing beside 62
+that stop reading, each of which the server ends. A transport over UDP is refused with 461. Then
+players: FFmpeg and GStreamer, where they are installed, join a stream that another
 connection founded, and each is to write a file in which FFmpeg finds a picture. It ends with a line that counts what held, and with
 status 1 where something didn't.
 
@@ -16,6 +17,7 @@ and python3; for the players the Debian packages ffmpeg, gstreamer1.0-tools, and
 gstreamer1.0-plugins-base, -good and -bad. VLC as Debian has it opens no rtsp:// by TCP."""
 import os
 import shutil
+import socket
 import subprocess
 import sys
 import tempfile
@@ -29,6 +31,8 @@ from try_record import SIZE, missing_runs, numbered
 
 ADDRESS = "127.0.0.1"
 STREAM = QUERY + "&pids=all"
+# A server has at most 64 workers, so it serves 64 connections at once.
+STOPPED = 62
 
 
 class Reader(threading.Thread):
@@ -120,6 +124,37 @@ def try_connections(checks, recording, seconds):
         server.close()
 
 
+def is_ended(client, seconds):
+    """Whether the server ends this connection within so long."""
+    client.line.settimeout(seconds)
+    try:
+        while client.line.recv(262144):
+            pass
+        return True
+    except socket.timeout:
+        return False
+    except OSError:
+        return True
+
+
+def try_stopped_readers(checks, recording, seconds):
+    """One reader beside as many connections that stop reading as the other workers serve."""
+    ports = free_ports(ADDRESS)
+    server = Server(ADDRESS, workers=64, ports=ports, recording=recording, command="tunnel")
+    try:
+        reader = Reader(ports[0], seconds + 14)
+        stopped = [Interleaved(ADDRESS, ports[0]) for _ in range(STOPPED)]
+        for client in stopped:
+            client.play(STREAM, reader.target)
+        run_all([reader])
+        check_whole(checks, f"a reader beside {STOPPED} that stop", reader, recording)
+        ended = sum(is_ended(client, 10) for client in stopped)
+        checks.check(ended == STOPPED, f"{ended} of {STOPPED} that stopped were ended")
+        checks.check(server.lives(), "the server lives behind those that stopped")
+    finally:
+        server.close()
+
+
 def has_picture(path):
     words = ["ffmpeg", "-v", "error", "-i", path, "-frames:v", "1", "-f", "null", "-"]
     if not os.path.exists(path) or os.path.getsize(path) == 0:
@@ -170,6 +205,7 @@ def main():
     recording = numbered(PACKETS_A_SECOND * (8 * seconds + 60))
     checks = Checks()
     try_connections(checks, recording, seconds)
+    try_stopped_readers(checks, recording, seconds)
     if shutil.which("ffmpeg"):
         try_players(checks, 12)
     else:
