@@ -1,0 +1,66 @@
+#!/usr/bin/env python3
+"""Checks that what README.md and docs/ name is there.
+
+    tools/check_docs.py
+
+Each path between backticks is a file or a folder, from the top or from crates/; where a name stands
+before a path, as in `law_5`, `crates/satip_laws/src/theorems.rt`, the file has it; each crate
+`satip_..` is one of crates.txt. It prints what isn't there, one line each, and ends with status 1
+where there is something. It needs python3 alone."""
+import os
+import re
+import sys
+
+TOP = os.path.dirname(os.path.dirname(os.path.abspath(__file__)))
+PATH = re.compile(r"`((?:crates|satip_\w+|tools|bench|docs|examples)/[\w./-]+)`")
+NAMED = re.compile(r"`([\w:-]+)`, (?:by `[^`]*` of )?`((?:crates/)?satip_\w+/[\w./-]+\.(?:rt|antt|edit))`")
+CRATE = re.compile(r"`(satip_\w+)(?:::[\w:]+)?`")
+
+
+def found(path):
+    """The file or folder of this name, or None."""
+    places = (f"{TOP}/{path}", f"{TOP}/crates/{path}")
+    return next((it for it in places if os.path.exists(it)), None)
+
+
+def is_free(name):
+    """Whether it stands for any crate, or for what only a build makes."""
+    parts = name.split("/")
+    return "NAME" in parts or "satip_c" in parts or "out" in parts
+
+
+def crates():
+    with open(f"{TOP}/crates.txt", encoding="utf-8") as file:
+        lines = [line.split("#")[0] for line in file]
+    return {line.split(":")[0].split()[0] for line in lines if ":" in line}
+
+
+def faults(text, names):
+    """What a text names that isn't there."""
+    paths = [it for it in PATH.findall(text) if not is_free(it)]
+    yield from (f"no file {it}" for it in paths if not found(it))
+    for name, path in NAMED.findall(text):
+        place = found(path)
+        if place:
+            with open(place, encoding="utf-8") as file:
+                if name.split("::")[-1] not in file.read():
+                    yield f"no {name} in {path}"
+    kinds = [it for it in CRATE.findall(text) if not is_free(it)]
+    yield from (f"no crate {it}" for it in kinds if it not in names)
+
+
+def main():
+    names, count = crates(), 0
+    docs = [f"docs/{it}" for it in sorted(os.listdir(f"{TOP}/docs")) if it.endswith(".md")]
+    for name in ["README.md", *docs]:
+        with open(f"{TOP}/{name}", encoding="utf-8") as file:
+            for number, line in enumerate(file, 1):
+                for fault in faults(line, names):
+                    print(f"{name}:{number}: {fault}")
+                    count += 1
+    print(f"{count} names that aren't there")
+    sys.exit(min(count, 1))
+
+
+if __name__ == "__main__":
+    main()
