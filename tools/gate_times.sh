@@ -1,7 +1,7 @@
 #!/usr/bin/env bash
 # Tells what the gate costs, in processor seconds and seconds that passed: each crate's check, the check of its tests, and its
 # must-fail edits, the dearest first. It needs nothing but the kit and procps.
-#   tools/gate_times.sh record LOG [NAME..]   runs `rt ci` at the top, from nothing and alone on the machine, and writes LOG when it ends;
+#   tools/gate_times.sh record LOG [NAME..]   runs `rt ci` at the top, from nothing, and writes LOG when it ends; seconds that passed are the gate's own where it is alone;
 #                                             names of crates only where the kit's rt ci takes them
 #   tools/gate_times.sh LOG                   prints the table of a log
 # A line of LOG is one check: its kind (library, tests, seed or edit), its crate, its edit or -, and both times.
@@ -22,7 +22,7 @@ next_of() {
   printf -v "$2" '%s' "$count"
 }
 
-# Names the check that a process makes, from its words; nothing for any other process.
+# Names the check that a process makes, from its words; no other process gets a name.
 name_of() {
   local -a words
   mapfile -d '' -t words 2>/dev/null <"/proc/$1/cmdline" || return 0
@@ -60,6 +60,18 @@ stat_of() {
   text=$(cat "/proc/$1/stat" 2>/dev/null) && printf '%s' "${text##*) }"
 }
 
+# Whether a process was started by the gate, and not by another run of rt on the machine.
+is_ours() {
+  local pid=$1
+  local -a stat
+  while ((pid > 1)); do
+    if ((pid == gate)); then return 0; fi
+    read -r -a stat <<<"$(stat_of "$pid")"
+    pid=${stat[1]-0}
+  done
+  return 1
+}
+
 # Once a second, what each check has used so far, with the processes that it started.
 watch_checks() {
   local hz pid root key text ticks name
@@ -81,8 +93,8 @@ watch_checks() {
       fi
       key=$root:${stat[19]}
       if [[ -z ${check[$key]-} ]]; then
-        name=
-        name_of "$root"
+        name=-
+        if is_ours "$root"; then name_of "$root"; fi
         check[$key]=$name
       fi
       now[$key]=$((${now[$key]-0} + ticks))
@@ -99,7 +111,7 @@ watch_checks() {
 write_log() {
   local key
   for key in "${!check[@]}"; do
-    [[ -n ${check[$key]} ]] || continue
+    [[ ${check[$key]:--} != - ]] || continue
     printf '%s %s %s\n' "${check[$key]}" "${used[$key]:-0}" "$((last[$key] - first[$key] + 1))"
   done >"$1"
 }
