@@ -4,7 +4,7 @@ use Rattle.satip_base.specs.Streams.{Feed, Drain, Rose}
 use Rattle.satip_world.specs.Counts.{Rises}
 use Rattle.satip_config.specs.declared.fault.ConfigFault.{ConfigFault}
 use Rattle.satip_history.specs.Lists.{Has}
-use Rattle.satip_replay.specs.Replays.{configuration_limit}
+use Rattle.satip_reading.specs.Configurations.{configuration_limit}
 use Rattle.satip_replay.specs.Ends.{EndsByConfiguration, EndsByInput, EndsByLength}
 use Rattle.satip_auditing.specs.Audits.{Audited}
 use Rattle.satip_auditing.specs.Ends.{EndsByJournal, EndsByOutput, EndsByWant, IsEndOf}

@@ -5,8 +5,9 @@ use Rattle.satip_config.specs.Configuration.{Configuration}
 use Rattle.satip_audit.specs.declared.verdict.Verdict.{Verdict}
 use Rattle.satip_audit.specs.Journals.{IsJournal, Note}
 use Rattle.satip_audit.specs.Verdicts.{IsVerdict}
-use Rattle.satip_replay.specs.Reading.{ReadWhole}
-use Rattle.satip_replay.specs.Replays.{Configured, script_limit}
+use Rattle.satip_reading.specs.Reading.{ReadWhole}
+use Rattle.satip_reading.specs.Configurations.{Configured}
+use Rattle.satip_replay.specs.Replays.{script_limit}
 use Rattle.satip_auditing.specs.Printed.{verdict_text}
 
 -- the whole input was read, and is journals that say this, or has its first wrong line here

@@ -5,25 +5,21 @@ use Rattle.satip_config.specs.Configuration.{Configuration}
 use Rattle.satip_config.specs.Config.{config}
 use Rattle.satip_audit.specs.declared.verdict.Verdict.{Verdict}
 use Rattle.satip_audit.specs.Journals.{IsJournal, Note}
-use Rattle.satip_replay.specs.declared.ends.ReplayEnd.{ReplayEnd}
-use Rattle.satip_replay.specs.declared.ends.ReplayEnd.TheVariants as replay_ends
-use Rattle.satip_replay.specs.Reading.{EndsTooLong}
-use Rattle.satip_replay.specs.Replays.{Configured, script_limit}
-use Rattle.satip_replay.specs.Ends.{IsConfiguration}
+use Rattle.satip_reading.specs.declared.configuration.ConfigurationEnd.{ConfigurationEnd}
+use Rattle.satip_reading.specs.declared.configuration.ConfigurationEnd.TheVariants as reading
+use Rattle.satip_reading.specs.Reading.{EndsTooLong}
+use Rattle.satip_reading.specs.Configurations.{Configured, IsConfiguration}
+use Rattle.satip_replay.specs.Replays.{script_limit}
 use Rattle.satip_auditing.specs.declared.ends.AuditEnd.{AuditEnd}
 use Rattle.satip_auditing.specs.declared.ends.AuditEnd.TheVariants.{Done, Configuration as OfConfiguration, Journal, InputFault, OutputFault, TooLong, OutOfMemory}
 use Rattle.satip_auditing.specs.Printed.{verdict_text}
 use Rattle.satip_auditing.specs.Audits.{Heard, Judged}
 
--- the same end of another command
-abbrev pub IsSameEnd : ReplayEnd → AuditEnd → Type 0
-IsSameEnd replay_ends.Done end = end ≡ Done
-IsSameEnd (replay_ends.Configuration fault) end = end ≡ OfConfiguration fault
-IsSameEnd (replay_ends.Script number) end = end ≡ Journal number
-IsSameEnd replay_ends.InputFault end = end ≡ InputFault
-IsSameEnd replay_ends.OutputFault end = end ≡ OutputFault
-IsSameEnd replay_ends.TooLong end = end ≡ TooLong
-IsSameEnd replay_ends.OutOfMemory end = end ≡ OutOfMemory
+-- how an audit ends whose configuration isn't read
+abbrev pub end_of_reading : ConfigurationEnd → AuditEnd
+end_of_reading (reading.Fault fault) = OfConfiguration fault
+end_of_reading reading.SourceFailed = InputFault
+end_of_reading reading.OutOfMemory = OutOfMemory
 
 -- the first wrong line of the whole input has this number; nothing was written
 pub record EndsByJournal (config_tells in_tells : Type 0) (a b i j : Feed) (o n : Drain) (number : ℕ) : Type 0 where

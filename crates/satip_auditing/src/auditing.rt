@@ -3,8 +3,9 @@
 ghost use Rattle.std.specs.Prelude.{◌≡◌, ◌↔◌, ℕ, ◌+◌, ◌-◌, ◌<◌, ◌≤◌, Err, IfOk, IfErr};
 ghost use Rattle.satip_base.specs.Streams.{Rose};
 ghost use Rattle.satip_config.specs.declared.fault.ConfigFault.{ConfigFault as Fault};
-ghost use Rattle.satip_replay.specs.Reading.{EndsWhole};
-ghost use Rattle.satip_replay.specs.Replays.{script_limit, configuration_limit};
+ghost use Rattle.satip_reading.specs.Reading.{EndsWhole};
+ghost use Rattle.satip_reading.specs.Configurations.{configuration_limit};
+ghost use Rattle.satip_replay.specs.Replays.{script_limit};
 ghost use Rattle.satip_replay.specs.Ends.{EndsByConfiguration, EndsByInput, EndsByLength};
 ghost use Rattle.satip_auditing.specs.Printed.{verdict_text};
 ghost use Rattle.satip_auditing.specs.Audits.{Audited};
@@ -15,7 +16,7 @@ use crate::printing::print_verdict;
 use satip_audit::Verdict;
 use satip_base::limits::INPUT;
 use satip_base::{Put, Sink, Source};
-use satip_replay::{ReadFault, read_configuration, read_whole};
+use satip_reading::{ReadFault, read_configuration, read_whole};
 use satip_verdict::{JournalFault, verdict};
 use std::alloc::Global;
 
@@ -76,7 +77,7 @@ pub fn audit<C: Source, I: Source, O: Sink>(
 {
     let configuration = match read_configuration(alloc, config) {
         Ok(configuration) => configuration,
-        Err(end) => return AuditEnd::of(end),
+        Err(end) => return AuditEnd::from(end),
     };
     let text = match read_journals(alloc, input) {
         Ok(text) => text,

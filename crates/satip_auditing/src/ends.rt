@@ -1,9 +1,10 @@
 //! How an audit ends.
 
-ghost use Rattle.satip_auditing.specs.Ends.{IsSameEnd};
+ghost use Rattle.std.specs.Prelude.{◌≡◌};
+ghost use Rattle.satip_auditing.specs.Ends.{end_of_reading};
 
 use satip_config::ConfigFault;
-use satip_replay::ReplayEnd;
+use satip_reading::ConfigurationEnd;
 
 /// How an audit ends.
 #[derive(Clone, Copy, Debug, PartialEq, Eq)]
@@ -24,19 +25,14 @@ pub enum AuditEnd {
     OutOfMemory,
 }
 
-impl AuditEnd {
-    // The end of an audit whose configuration isn't read, by that of a replay.
-    pub(crate) fn of(end: ReplayEnd) -> AuditEnd
-        ensures same { IsSameEnd end result }
-    {
+impl From<ConfigurationEnd> for AuditEnd {
+    ghost from_gives = { λ end result. result ≡ end_of_reading end };
+
+    fn from(end: ConfigurationEnd) -> AuditEnd {
         match end {
-            ReplayEnd::Done => AuditEnd::Done,
-            ReplayEnd::Configuration(fault) => AuditEnd::Configuration(fault),
-            ReplayEnd::Script(number) => AuditEnd::Journal(number),
-            ReplayEnd::InputFault => AuditEnd::InputFault,
-            ReplayEnd::OutputFault => AuditEnd::OutputFault,
-            ReplayEnd::TooLong => AuditEnd::TooLong,
-            ReplayEnd::OutOfMemory => AuditEnd::OutOfMemory,
+            ConfigurationEnd::Fault(fault) => AuditEnd::Configuration(fault),
+            ConfigurationEnd::SourceFailed => AuditEnd::InputFault,
+            ConfigurationEnd::OutOfMemory => AuditEnd::OutOfMemory,
         }
     }
 }

@@ -4,8 +4,7 @@ use Rattle.satip_base.specs.Streams.{Feed, Drain, Rose, fresh_drain}
 use Rattle.satip_world.specs.Counts.{Rises}
 use Rattle.satip_config.specs.declared.fault.ConfigFault.{ConfigFault}
 use Rattle.satip_history.specs.Lists.{Each, Has}
-use Rattle.satip_replay.specs.Replays.{Configured}
-use Rattle.satip_replay.specs.Ends.{Refused}
+use Rattle.satip_reading.specs.Configurations.{Configured, Refused}
 use Rattle.satip_serve.specs.declared.kits.Jobs.{Jobs}
 use Rattle.satip_serve.specs.declared.serving.Last.{Last}
 use Rattle.satip_serve.specs.Fresh.{AreFresh}

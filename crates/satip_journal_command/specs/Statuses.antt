@@ -2,9 +2,9 @@
 use Rattle.std.specs.Prelude.{◌≡◌, ℕ, Bool, true, false, List, [], ◌∷◌, codes, Option, None, Err}
 use Rattle.satip_world.specs.Counts.{Rises}
 use Rattle.satip_config.specs.Config.{config}
-use Rattle.satip_replay.specs.Ends.{IsConfiguration}
-use Rattle.satip_replay.specs.declared.ends.ReplayEnd.{ReplayEnd}
-use Rattle.satip_replay.specs.declared.ends.ReplayEnd.TheVariants as replays
+use Rattle.satip_reading.specs.declared.configuration.ConfigurationEnd.{ConfigurationEnd}
+use Rattle.satip_reading.specs.declared.configuration.ConfigurationEnd.TheVariants as reading
+use Rattle.satip_reading.specs.Configurations.{IsConfiguration}
 use Rattle.satip_crew.specs.declared.end.ServeEnd.{ServeEnd}
 use Rattle.satip_crew.specs.declared.end.ServeEnd.TheVariants as serves
 use Rattle.satip_telling.specs.Lines.{configuration_line}
@@ -35,15 +35,11 @@ journal_line DoorsFault = codes "doors fault\n"
 journal_line HistoryFull = codes "history full\n"
 journal_line OutOfMemory = codes "out of memory\n"
 
--- it ends as the reading of its configuration does
-abbrev pub EndsAs : ReplayEnd → JournalEnd → Type 0
-EndsAs replays.Done end = ⊥
-EndsAs (replays.Configuration fault) end = end ≡ Configuration fault
-EndsAs (replays.Script number) end = ⊥
-EndsAs replays.InputFault end = end ≡ InputFault
-EndsAs replays.OutputFault end = ⊥
-EndsAs replays.TooLong end = ⊥
-EndsAs replays.OutOfMemory end = end ≡ OutOfMemory
+-- how it ends where its configuration isn't read
+abbrev pub end_of_reading : ConfigurationEnd → JournalEnd
+end_of_reading (reading.Fault fault) = Configuration fault
+end_of_reading reading.SourceFailed = InputFault
+end_of_reading reading.OutOfMemory = OutOfMemory
 
 -- how it ends where the jobs ended so, and a put on a journal failed or none did
 abbrev pub end_of_run : ServeEnd → Bool → JournalEnd

@@ -1,11 +1,10 @@
 //! How serving with journals ends.
 
 ghost use Rattle.std.specs.Prelude.{◌≡◌};
-ghost use Rattle.satip_serving.specs.Servings.{HasNoConfiguration};
-ghost use Rattle.satip_journal_command.specs.Statuses.{EndsAs, end_of_run, journal_status};
+ghost use Rattle.satip_journal_command.specs.Statuses.{end_of_reading, end_of_run, journal_status};
 
 use satip_config::ConfigFault;
-use satip_replay::ReplayEnd;
+use satip_reading::ConfigurationEnd;
 use satip_serve::ServeEnd;
 
 /// How serving with journals ends.
@@ -28,22 +27,6 @@ pub enum JournalEnd {
 }
 
 impl JournalEnd {
-    // As the reading of a configuration ends that can't be had.
-    pub(crate) fn of_reading(end: ReplayEnd) -> JournalEnd
-        requires none { HasNoConfiguration end }
-        ensures end { EndsAs end result }
-    {
-        match end {
-            ReplayEnd::Configuration(fault) => JournalEnd::Configuration(fault),
-            ReplayEnd::InputFault => JournalEnd::InputFault,
-            ReplayEnd::OutOfMemory => JournalEnd::OutOfMemory,
-            ReplayEnd::Done => unreachable!(),
-            ReplayEnd::Script(_) => unreachable!(),
-            ReplayEnd::OutputFault => unreachable!(),
-            ReplayEnd::TooLong => unreachable!(),
-        }
-    }
-
     // As the run of all jobs ends, where a put on a journal failed or none did.
     pub(crate) fn of_run(end: ServeEnd, failed: bool) -> JournalEnd
         ensures end { result ≡ end_of_run end failed }
@@ -73,6 +56,18 @@ impl JournalEnd {
             JournalEnd::DoorsFault => 7,
             JournalEnd::HistoryFull => 9,
             JournalEnd::OutOfMemory => 70,
+        }
+    }
+}
+
+impl From<ConfigurationEnd> for JournalEnd {
+    ghost from_gives = { λ end result. result ≡ end_of_reading end };
+
+    fn from(end: ConfigurationEnd) -> JournalEnd {
+        match end {
+            ConfigurationEnd::Fault(fault) => JournalEnd::Configuration(fault),
+            ConfigurationEnd::SourceFailed => JournalEnd::InputFault,
+            ConfigurationEnd::OutOfMemory => JournalEnd::OutOfMemory,
         }
     }
 }

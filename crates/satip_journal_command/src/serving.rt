@@ -6,8 +6,7 @@ ghost use Rattle.satip_base.specs.Streams.{Rose, fresh_drain};
 ghost use Rattle.satip_config.specs.declared.fault.ConfigFault.{ConfigFault as Fault};
 ghost use Rattle.satip_fronts.specs.FrontEnds.{IsNumbered};
 ghost use Rattle.satip_history.specs.Lists.{Each};
-ghost use Rattle.satip_replay.specs.Ends.{Refused};
-ghost use Rattle.satip_replay.specs.Replays.{Configured, IsServed};
+ghost use Rattle.satip_reading.specs.Configurations.{Configured, IsServed, Refused};
 ghost use Rattle.satip_serve.specs.Fresh.{AreFresh};
 ghost use Rattle.satip_serve.specs.Views.{worker_view, pump_view, tick_view};
 ghost use Rattle.satip_world.specs.Counts.{Rises};
@@ -26,7 +25,7 @@ use satip_base::{Failed, Sink, Text};
 use satip_config::Config;
 use satip_journal_laws::journals_are_one_history;
 use satip_journaling::serve_journaled;
-use satip_replay::read_configuration;
+use satip_reading::read_configuration;
 use satip_serve::{Jobs, Last};
 use satip_serving::{Desk, JobsFault, keeps_laws};
 use satip_world::{Clock, Doors, MuxStore, Outlet, Pacer};
@@ -216,7 +215,7 @@ fn run_source<R: Threads + Wait + Sync, K: Desk>(
 {
     let config = match read_configuration(alloc, source) {
         Ok(config) => config,
-        Err(end) => return not_begun(JournalEnd::of_reading(end), None, Vec::new(alloc)),
+        Err(end) => return not_begun(JournalEnd::from(end), None, Vec::new(alloc)),
     };
     match desk.jobs(alloc, &config, accepts) {
         Ok(jobs) => run_kits(rt, alloc, config, accepts, jobs, desk),

@@ -1,4 +1,2 @@
-mod ConfigLemmas
 mod EndLemmas
-mod ReadLemmas
 mod RunLemmas

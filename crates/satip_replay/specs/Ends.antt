@@ -1,26 +1,18 @@
 -- How a replay ends.
-use Rattle.std.specs.Prelude.{◌≡◌, ◌≢◌, ℕ, ◌<◌, ◌≤◌, ◌⊎◌, true, List, length, Ok, Err}
+use Rattle.std.specs.Prelude.{◌≡◌, ℕ, ◌<◌, ◌≤◌, ◌⊎◌, List, length, Ok, Err}
 use Rattle.satip_base.specs.Streams.{Feed, Drain, Rose, Began, PutAll, FailedToPut}
 use Rattle.satip_config.specs.Configuration.{Configuration}
 use Rattle.satip_config.specs.Config.{config}
 use Rattle.satip_config.specs.declared.fault.ConfigFault.{ConfigFault}
-use Rattle.satip_config.specs.declared.fault.ConfigFault.TheVariants as faults
 use Rattle.satip_plain.specs.declared.events.Event.{Event}
 use Rattle.satip_script.specs.Scripts.{IsScript}
+use Rattle.satip_reading.specs.declared.configuration.ConfigurationEnd.{ConfigurationEnd}
+use Rattle.satip_reading.specs.declared.configuration.ConfigurationEnd.TheVariants as reading
+use Rattle.satip_reading.specs.Reading.{EndsTooLong}
+pub use Rattle.satip_reading.specs.Configurations.{Configured, IsConfiguration, Refused}
 use Rattle.satip_replay.specs.declared.ends.ReplayEnd.{ReplayEnd}
 use Rattle.satip_replay.specs.declared.ends.ReplayEnd.TheVariants.{Done, Configuration as OfConfiguration, Script, InputFault, OutputFault, TooLong, OutOfMemory}
-use Rattle.satip_replay.specs.Reading.{Read, EndsTooLong}
-use Rattle.satip_replay.specs.Replays.{script_limit, Configured, Scripted, Replayed, PartlyReplayed}
-
--- the configuration has this first fault; it was read to its end, unless it is too long
-pub record Refused (tells : Type 0) (a b : Feed) (fault : ConfigFault) : Type 0 where
-  pub text : List ℕ
-  pub read : Read tells a b text
-  pub refused : config text ≡ Err fault
-  pub whole : tells → config a.left ≡ Err fault
-  pub known : fault ≢ faults.Want
-  pub ending : (b.ended ≡ true) ⊎ (fault ≡ faults.Long)
-  pub faults : b.faults ≡ a.faults
+use Rattle.satip_replay.specs.Replays.{script_limit, Scripted, Replayed, PartlyReplayed}
 
 -- the configuration is refused; nothing else was done
 pub record EndsByConfiguration (tells : Type 0) (a b i j : Feed) (o n : Drain) (fault : ConfigFault) : Type 0 where
@@ -70,15 +62,11 @@ pub record EndsByWant (config_tells in_tells out_tells : Type 0) (a b i j : Feed
   pub out_faults : n.faults ≡ o.faults
   pub written : (n ≡ o) ⊎ PartlyReplayed config_tells in_tells out_tells a b i j o n
 
--- no configuration is read
-abbrev pub ConfigurationEnds : (tells : Type 0) (a b : Feed) → ReplayEnd → Type 0
-ConfigurationEnds tells a b Done = ⊥
-ConfigurationEnds tells a b (OfConfiguration fault) = Refused tells a b fault
-ConfigurationEnds tells a b (Script number) = ⊥
-ConfigurationEnds tells a b InputFault = Rose a.faults b.faults
-ConfigurationEnds tells a b OutputFault = ⊥
-ConfigurationEnds tells a b TooLong = ⊥
-ConfigurationEnds tells a b OutOfMemory = b.faults ≡ a.faults
+-- how a replay ends whose configuration isn't read
+abbrev pub end_of_reading : ConfigurationEnd → ReplayEnd
+end_of_reading (reading.Fault fault) = OfConfiguration fault
+end_of_reading reading.SourceFailed = InputFault
+end_of_reading reading.OutOfMemory = OutOfMemory
 
 -- no script is read
 abbrev pub ScriptEnds : (tells : Type 0) (i j : Feed) → ReplayEnd → Type 0
@@ -114,11 +102,6 @@ ReplayEnds ct it ot a b i j o n InputFault = EndsByInput ct a b i j o n
 ReplayEnds ct it ot a b i j o n OutputFault = EndsByOutput ct it ot a b i j o n
 ReplayEnds ct it ot a b i j o n TooLong = EndsByLength ct it a b i j o n
 ReplayEnds ct it ot a b i j o n OutOfMemory = EndsByWant ct it ot a b i j o n
-
--- the text is a configuration
-pub record IsConfiguration (text : List ℕ) : Type 0 where
-  pub configuration : Configuration
-  pub configured : config text ≡ Ok configuration
 
 -- the text is a script within the limit
 pub record IsRightScript (text : List ℕ) : Type 0 where

@@ -1,23 +1,18 @@
 -- A replay: a configuration and a script that were read as a whole, and the printed run.
-use Rattle.std.specs.Prelude.{◌≡◌, ℕ, ◌≤◌, List, length, Result, Ok}
+use Rattle.std.specs.Prelude.{ℕ, ◌≤◌, List, length, Result, Ok}
 use Rattle.satip_base.specs.Streams.{Feed, Drain, PutAll, Began}
 use Rattle.satip_config.specs.Configuration.{Configuration}
-use Rattle.satip_config.specs.Config.{config}
-use Rattle.satip_fronts.specs.FrontEnds.{IsNumbered}
 use Rattle.satip_plain.specs.declared.events.Event.{Event}
 use Rattle.satip_plain.specs.declared.setting.Setting.{Setting}
 use Rattle.satip_script.specs.Scripts.{IsScript}
 use Rattle.satip_script.specs.Runs.{run}
 use Rattle.satip_script.specs.Printed.{printed}
-use Rattle.satip_replay.specs.Reading.{ReadWhole}
+use Rattle.satip_reading.specs.Reading.{ReadWhole}
+pub use Rattle.satip_reading.specs.Configurations.{configuration_limit, Configured}
 
 -- the most bytes of a script
 abbrev pub script_limit : ℕ
 script_limit = 67108864
-
--- the most bytes of a configuration
-abbrev pub configuration_limit : ℕ
-configuration_limit = 1048576
 
 -- a replay starts at the moment 0
 abbrev pub setting_of : Configuration → Setting
@@ -26,12 +21,6 @@ setting_of c = record { config = c; start = 0 }
 -- what a replay prints: the run of the events in which caller 0 makes them
 abbrev pub replayed : Configuration → List Event → List ℕ
 replayed c events = printed (run (setting_of c) events)
-
--- the whole configuration was read, and is this one
-pub record Configured (tells : Type 0) (a b : Feed) (c : Configuration) : Type 0 where
-  pub text : List ℕ
-  pub whole : ReadWhole tells a b text
-  pub configured : config text ≡ Ok c
 
 -- the whole input was read, and is the script of these events, or has its first wrong line here
 pub record Scripted (tells : Type 0) (i j : Feed) (result : Result (List Event) ℕ) : Type 0 where
@@ -46,12 +35,6 @@ pub record HasScript (tells : Type 0) (i j : Feed) (text : List ℕ) : Type 0 wh
   pub short : length text ≤ script_limit
   pub events : List Event
   pub script : IsScript text (Ok events)
-
--- a server can be made with the configuration
-pub record IsServed (c : Configuration) : Type 0 where
-  pub few : length c.fronts ≤ 16
-  pub numbered : IsNumbered 1 c.fronts
-  pub received : length c.muxes ≤ 256
 
 -- both were read, and nothing is wrong with them
 pub record Checked (config_tells in_tells : Type 0) (a b i j : Feed) : Type 0 where

@@ -1,6 +1,10 @@
 //! How a replay ends.
 
+ghost use Rattle.std.specs.Prelude.{◌≡◌};
+ghost use Rattle.satip_replay.specs.Ends.{end_of_reading};
+
 use satip_config::ConfigFault;
+use satip_reading::ConfigurationEnd;
 
 /// How a replay ends.
 #[derive(Clone, Copy, Debug, PartialEq, Eq)]
@@ -19,4 +23,16 @@ pub enum ReplayEnd {
     TooLong,
     /// Memory was refused.
     OutOfMemory,
+}
+
+impl From<ConfigurationEnd> for ReplayEnd {
+    ghost from_gives = { λ end result. result ≡ end_of_reading end };
+
+    fn from(end: ConfigurationEnd) -> ReplayEnd {
+        match end {
+            ConfigurationEnd::Fault(fault) => ReplayEnd::Configuration(fault),
+            ConfigurationEnd::SourceFailed => ReplayEnd::InputFault,
+            ConfigurationEnd::OutOfMemory => ReplayEnd::OutOfMemory,
+        }
+    }
 }

@@ -2,10 +2,8 @@
 #![tactic(auto)]
 
 mod ends;
-mod reading;
 mod replaying;
 mod running;
 
 pub use ends::ReplayEnd;
-pub use reading::{ReadFault, read_whole};
-pub use replaying::{read_configuration, replay};
+pub use replaying::replay;

@@ -3,16 +3,16 @@
 ghost use Rattle.std.specs.Prelude.{◌≡◌, ◌↔◌, ℕ, ◌+◌, ◌-◌, ◌<◌, ◌≤◌, Err, IfOk, IfErr};
 ghost use Rattle.satip_base.specs.Streams.{Rose};
 ghost use Rattle.satip_config.specs.declared.fault.ConfigFault.{ConfigFault as Fault};
-ghost use Rattle.satip_replay.specs.Replays.{script_limit, configuration_limit, Configured, HasScript, IsServed, Replayed};
-ghost use Rattle.satip_replay.specs.Ends.{EndsByConfiguration, EndsByScript, EndsByInput, EndsByOutput, EndsByLength, EndsByWant, ConfigurationEnds, ScriptEnds, IsEndOf};
+ghost use Rattle.satip_reading.specs.Configurations.{configuration_limit};
+ghost use Rattle.satip_replay.specs.Replays.{script_limit, HasScript, Replayed};
+ghost use Rattle.satip_replay.specs.Ends.{EndsByConfiguration, EndsByScript, EndsByInput, EndsByOutput, EndsByLength, EndsByWant, ScriptEnds, IsEndOf};
 
 use crate::ends::ReplayEnd;
-use crate::reading::{ReadFault, read_whole};
 use crate::running::run_script;
-use satip_base::limits::{CONFIGURATION, INPUT};
+use satip_base::limits::INPUT;
 use satip_base::{Sink, Source};
-use satip_config::{Config, ConfigFault, read_config};
 use satip_frame::Framer;
+use satip_reading::{ReadFault, read_configuration, read_whole};
 use satip_script::check_script;
 use std::alloc::Global;
 
@@ -74,7 +74,7 @@ pub fn replay<C: Source, I: Source, O: Sink>(
 {
     let configuration = match read_configuration(alloc, config) {
         Ok(configuration) => configuration,
-        Err(end) => return end,
+        Err(end) => return ReplayEnd::from(end),
     };
     let Ok(mut framer) = Framer::make(alloc) else {
         return ReplayEnd::OutOfMemory;
@@ -82,31 +82,6 @@ pub fn replay<C: Source, I: Source, O: Sink>(
     match read_script(alloc, input, &mut framer) {
         Ok(script) => run_script(alloc, configuration, &script, &mut framer, output),
         Err(end) => end,
-    }
-}
-
-/// Reads a whole configuration, of which at most 1048577 bytes are taken. Where there is none, it
-/// says how a run by it ends: with the first fault of its text, as its source failed, or as memory
-/// was refused.
-pub fn read_configuration<C: Source>(alloc: Global, source: &mut C) -> Result<Config, ReplayEnd>
-    ensures ok { IfOk result (λ c. Configured C.tells
-        (C.feed source.old) (C.feed source.new) c) }
-    ensures served { IfOk result IsServed }
-    ensures fault { IfErr result (ConfigurationEnds C.tells
-        (C.feed source.old) (C.feed source.new)) }
-    ensures limit { (C.feed source.new).taken
-        ≤ (C.feed source.old).taken + configuration_limit + 1 }
-{
-    let text = match read_whole(alloc, source, CONFIGURATION) {
-        Ok(text) => text,
-        Err(ReadFault::TooLong) => return Err(ReplayEnd::Configuration(ConfigFault::Long)),
-        Err(ReadFault::Failed) => return Err(ReplayEnd::InputFault),
-        Err(ReadFault::OutOfMemory) => return Err(ReplayEnd::OutOfMemory),
-    };
-    match read_config(alloc, &text) {
-        Ok(configuration) => Ok(configuration),
-        Err(ConfigFault::Want) => Err(ReplayEnd::OutOfMemory),
-        Err(fault) => Err(ReplayEnd::Configuration(fault)),
     }
 }
 

@@ -3,9 +3,9 @@ use Rattle.std.specs.Prelude.{◌≡◌, ℕ, ◌⊎◌, List, Option, IsSome, I
 use Rattle.satip_base.specs.Streams.{Feed}
 use Rattle.satip_world.specs.Recordings.{IsStarted}
 use Rattle.satip_config.specs.Config.{config}
-use Rattle.satip_replay.specs.Ends.{IsConfiguration}
-use Rattle.satip_replay.specs.declared.ends.ReplayEnd.{ReplayEnd}
-use Rattle.satip_replay.specs.declared.ends.ReplayEnd.TheVariants as replays
+use Rattle.satip_reading.specs.declared.configuration.ConfigurationEnd.{ConfigurationEnd}
+use Rattle.satip_reading.specs.declared.configuration.ConfigurationEnd.TheVariants as reading
+use Rattle.satip_reading.specs.Configurations.{IsConfiguration}
 use Rattle.satip_crew.specs.declared.end.ServeEnd.{ServeEnd}
 use Rattle.satip_crew.specs.declared.end.ServeEnd.TheVariants as serves
 use Rattle.satip_history.specs.Lists.{Each}
@@ -20,25 +20,11 @@ pub record GivenFrom (tells : Type 0) (text : Option (List ℕ)) (Said : Feed �
   pub started : IsStarted tells source text
   pub said : Said source
 
--- a replay ends so where it has no configuration
-abbrev pub HasNoConfiguration : ReplayEnd → Type 0
-HasNoConfiguration replays.Done = ⊥
-HasNoConfiguration (replays.Configuration fault) = Unit {0}
-HasNoConfiguration (replays.Script number) = ⊥
-HasNoConfiguration replays.InputFault = Unit {0}
-HasNoConfiguration replays.OutputFault = ⊥
-HasNoConfiguration replays.TooLong = ⊥
-HasNoConfiguration replays.OutOfMemory = Unit {0}
-
--- serving ends as the reading of its configuration does
-abbrev pub EndsAs : ReplayEnd → ServingEnd → Type 0
-EndsAs replays.Done end = ⊥
-EndsAs (replays.Configuration fault) end = end ≡ ends.Configuration fault
-EndsAs (replays.Script number) end = ⊥
-EndsAs replays.InputFault end = end ≡ ends.InputFault
-EndsAs replays.OutputFault end = ⊥
-EndsAs replays.TooLong end = ⊥
-EndsAs replays.OutOfMemory end = end ≡ ends.OutOfMemory
+-- how serving ends whose configuration isn't read
+abbrev pub end_of_reading : ConfigurationEnd → ServingEnd
+end_of_reading (reading.Fault fault) = ends.Configuration fault
+end_of_reading reading.SourceFailed = ends.InputFault
+end_of_reading reading.OutOfMemory = ends.OutOfMemory
 
 -- how serving ends whose jobs ended so
 abbrev pub end_of_run : ServeEnd → ServingEnd

@@ -4,8 +4,7 @@ ghost use Rattle.std.specs.Prelude.{◌≡◌, ℕ, ◌⊎◌, List, true, Some,
 ghost use Rattle.satip_base.specs.Streams.{Rose};
 ghost use Rattle.satip_config.specs.declared.fault.ConfigFault.{ConfigFault as Fault};
 ghost use Rattle.satip_fronts.specs.FrontEnds.{IsNumbered};
-ghost use Rattle.satip_replay.specs.Ends.{Refused};
-ghost use Rattle.satip_replay.specs.Replays.{Configured, IsServed};
+ghost use Rattle.satip_reading.specs.Configurations.{Configured, IsServed, Refused};
 ghost use Rattle.satip_serve.specs.Done.{IsFull};
 ghost use Rattle.satip_serve.specs.ServeRuns.{ServeRun, HasFault};
 ghost use Rattle.satip_history.specs.Lists.{Each};
@@ -15,13 +14,13 @@ ghost use Rattle.satip_turn.specs.Shown.{IsOf};
 ghost use Rattle.satip_world.specs.Counts.{Rises};
 ghost use Rattle.satip_serving.specs.Given.{jobs_view, ComeBack, ComeUnused};
 ghost use Rattle.satip_serving.specs.Laws.{SendsSelected, ObeysOwners, TellsBusy, PlaysRecordings};
-ghost use Rattle.satip_serving.specs.Servings.{GivenFrom, HasNoConfiguration, EndsAs, end_of_run, IsServingOf, IsEndOfRun, AreUnused, IsOneOf, IsNeitherOf};
+ghost use Rattle.satip_serving.specs.Servings.{GivenFrom, end_of_reading, end_of_run, IsServingOf, IsEndOfRun, AreUnused, IsOneOf, IsNeitherOf};
 
 use crate::desk::{Desk, JobsFault};
 use crate::laws::keeps_laws;
 use satip_base::{Failed, Text};
 use satip_config::{Config, ConfigFault};
-use satip_replay::{ReplayEnd, read_configuration};
+use satip_reading::{ConfigurationEnd, read_configuration};
 use satip_serve::{Jobs, Last, ServeEnd, serve};
 use satip_world::{Clock, Doors, MuxStore, Outlet, Pacer};
 use std::alloc::Global;
@@ -46,22 +45,6 @@ pub enum ServingEnd {
 }
 
 impl ServingEnd {
-    /// As the reading of a configuration ends that can't be had.
-    pub fn of_reading(end: ReplayEnd) -> ServingEnd
-        requires none { HasNoConfiguration end }
-        ensures end { EndsAs end result }
-    {
-        match end {
-            ReplayEnd::Configuration(fault) => ServingEnd::Configuration(fault),
-            ReplayEnd::InputFault => ServingEnd::InputFault,
-            ReplayEnd::OutOfMemory => ServingEnd::OutOfMemory,
-            ReplayEnd::Done => unreachable!(),
-            ReplayEnd::Script(_) => unreachable!(),
-            ReplayEnd::OutputFault => unreachable!(),
-            ReplayEnd::TooLong => unreachable!(),
-        }
-    }
-
     /// As the run of all jobs ends.
     pub fn of_run(end: ServeEnd) -> ServingEnd
         ensures end { result ≡ end_of_run end }
@@ -70,6 +53,18 @@ impl ServingEnd {
             ServeEnd::Served => ServingEnd::Served,
             ServeEnd::DoorsFault => ServingEnd::DoorsFault,
             ServeEnd::HistoryFull => ServingEnd::HistoryFull,
+        }
+    }
+}
+
+impl From<ConfigurationEnd> for ServingEnd {
+    ghost from_gives = { λ end result. result ≡ end_of_reading end };
+
+    fn from(end: ConfigurationEnd) -> ServingEnd {
+        match end {
+            ConfigurationEnd::Fault(fault) => ServingEnd::Configuration(fault),
+            ConfigurationEnd::SourceFailed => ServingEnd::InputFault,
+            ConfigurationEnd::OutOfMemory => ServingEnd::OutOfMemory,
         }
     }
 }
@@ -237,7 +232,7 @@ fn serve_source<R: Threads + Wait + Sync, K: Desk>(
 {
     let config = match read_configuration(alloc, source) {
         Ok(config) => config,
-        Err(end) => return nothing_left(ServingEnd::of_reading(end)),
+        Err(end) => return nothing_left(ServingEnd::from(end)),
     };
     match desk.jobs(alloc, &config, accepts) {
         Ok(jobs) => serve_jobs(rt, alloc, config, accepts, jobs),

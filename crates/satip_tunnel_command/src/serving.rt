@@ -4,8 +4,7 @@ ghost use Rattle.std.specs.Prelude.{◌≡◌, ◌≢◌, ℕ, ◌⊎◌, List, 
 ghost use Rattle.satip_base.specs.Streams.{Rose};
 ghost use Rattle.satip_config.specs.declared.fault.ConfigFault.{ConfigFault as Fault};
 ghost use Rattle.satip_fronts.specs.FrontEnds.{IsNumbered};
-ghost use Rattle.satip_replay.specs.Ends.{Refused};
-ghost use Rattle.satip_replay.specs.Replays.{Configured, IsServed};
+ghost use Rattle.satip_reading.specs.Configurations.{Configured, IsServed, Refused};
 ghost use Rattle.satip_history.specs.Lists.{Each};
 ghost use Rattle.satip_crew.specs.Passes.{IsFull};
 ghost use Rattle.satip_crew.specs.Runs.{HasOne};
@@ -25,7 +24,7 @@ ghost use Rattle.satip_tunnel_command.specs.Sent.{SendsFrames, SendsPayloads};
 use crate::laws::keeps_laws;
 use satip_base::{Failed, Text};
 use satip_config::Config;
-use satip_replay::read_configuration;
+use satip_reading::read_configuration;
 use satip_serve::Jobs;
 use satip_serving::{Desk, JobsFault, ServingEnd};
 use satip_tunnel_run_laws::connections_have_lanes;
@@ -209,7 +208,7 @@ fn run_source<R: Threads + Wait + Sync, K: Desk>(
 {
     let config = match read_configuration(alloc, source) {
         Ok(config) => config,
-        Err(end) => return nothing_left(ServingEnd::of_reading(end)),
+        Err(end) => return nothing_left(ServingEnd::from(end)),
     };
     match desk.jobs(alloc, &config, accepts) {
         Ok(jobs) => run_kits(rt, alloc, config, accepts, jobs),

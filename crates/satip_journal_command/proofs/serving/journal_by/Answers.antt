@@ -1,8 +1,7 @@
 use Rattle.std.proofs.Common.{◌≡◌, ◌∙◌, ◌++◌, append-nil, inl, inr, ℕ, List, length, map, refl, sym, ap, subst, arith}
 use Rattle.satip_base.specs.Streams.{Drain, Feed, fresh_drain}
 use Rattle.satip_history.specs.Lists.{Each}
-use Rattle.satip_replay.specs.Ends.{Refused}
-use Rattle.satip_replay.specs.Replays.{Configured}
+use Rattle.satip_reading.specs.Configurations.{Configured, Refused}
 use Rattle.satip_serving.specs.Servings.{GivenFrom}
 use Rattle.satip_telling.specs.Lines.{Says}
 use Rattle.satip_journal_command.specs.Asked.{first_jobs}

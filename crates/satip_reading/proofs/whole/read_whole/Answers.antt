@@ -1,6 +1,6 @@
 use Rattle.std.proofs.Common.{arith}
-use Rattle.satip_replay.proofs.ReadLemmas.{ends_too_long, ends_wanting}
-use Rattle.satip_replay.proofs.reading.read_whole.Goals as goal
+use Rattle.satip_reading.proofs.ReadLemmas.{ends_too_long, ends_wanting}
+use Rattle.satip_reading.proofs.whole.read_whole.Goals as goal
 
 pub returns-then-count-limit : goal.returns-then-count-limit
 returns-then-count-limit g c = record {

@@ -7,11 +7,11 @@ use Rattle.satip_tune.specs.declared.frontends.Front.{Front}
 use Rattle.satip_fronts.specs.FrontEnds.{IsNumbered}
 use Rattle.satip_config.specs.declared.fault.ConfigFault.TheVariants.{Long}
 use Rattle.satip_config.specs.Config.{config}
-use Rattle.satip_replay.specs.declared.reading.ReadFault.{ReadFault}
-use Rattle.satip_replay.specs.declared.reading.ReadFault.TheVariants.{TooLong}
-use Rattle.satip_replay.specs.Reading.{EndsTooLong, ReadFails}
-use Rattle.satip_replay.specs.Replays.{configuration_limit}
-use Rattle.satip_replay.specs.Ends.{Refused}
+use Rattle.satip_reading.specs.declared.whole.ReadFault.{ReadFault}
+use Rattle.satip_reading.specs.declared.whole.ReadFault.TheVariants.{TooLong}
+use Rattle.satip_reading.specs.Reading.{EndsTooLong, ReadFails}
+use Rattle.satip_reading.specs.Configurations.{configuration_limit}
+use Rattle.satip_reading.specs.Configurations.{Refused}
 
 -- front ends whose numbers are a range are numbered in order
 pub numbered_from : (from : ℕ) (fronts : List Front) → map (λ (f : Front). f.number) fronts ≡ range_with_len from (length fronts) → IsNumbered from fronts

@@ -1,7 +1,7 @@
 -- A source that is read piece by piece.
 use Rattle.std.proofs.Common.{◌≡◌, ℕ, ◌+◌, ◌≤◌, List, [], ◌++◌, length, take, append_assoc, append-nil, length-append, length-take, refl, sym, ◌∙◌, ap, arith}
 use Rattle.satip_base.specs.Streams.{Feed, TookBytes, MetEnd, FailedToTake}
-use Rattle.satip_replay.specs.Reading.{Read, EndsWhole, EndsTooLong, EndsFailed, EndsWanting}
+use Rattle.satip_reading.specs.Reading.{Read, EndsWhole, EndsTooLong, EndsFailed, EndsWanting}
 
 -- so much was read, within the limit
 pub record Goes (tells : Type 0) (i j : Feed) (limit : ℕ) (text : List ℕ) : Type 0 where

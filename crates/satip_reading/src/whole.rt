@@ -2,7 +2,7 @@
 
 ghost use Rattle.std.specs.Prelude.{◌≡◌, ◌<◌, ◌≤◌, ◌+◌, ◌^◌, length, MatchResult};
 ghost use Rattle.satip_base.specs.Streams.{Takes};
-ghost use Rattle.satip_replay.specs.Reading.{EndsWhole, ReadFails, GetsAtMost};
+ghost use Rattle.satip_reading.specs.Reading.{EndsWhole, ReadFails, GetsAtMost};
 
 use satip_base::{Source, Taken};
 use std::alloc::Global;
@@ -64,7 +64,8 @@ fn room_for(left: usize) -> usize
     left.clamp(1, PIECE)
 }
 
-fn take_some<S: Source>(source: &mut S, buf: &mut [u8], room: usize) -> Taken
+/// Takes at most `room` bytes of a source, to the front of the buffer.
+pub fn take_some<S: Source>(source: &mut S, buf: &mut [u8], room: usize) -> Taken
     requires some { 1 ≤ room }
     requires within { room ≤ length buf.old }
     ensures takes { Takes S.tells

@@ -1,6 +1,6 @@
 use Rattle.std.proofs.Common.{◌≡◌, ◌-◌, length, vec_len}
-use Rattle.satip_replay.proofs.ReadLemmas.{Goes}
-use Rattle.satip_replay.proofs.reading.read_whole.Given as goal
+use Rattle.satip_reading.proofs.ReadLemmas.{Goes}
+use Rattle.satip_reading.proofs.whole.read_whole.Given as goal
 
 -- the text is what was read so far
 abbrev pub invariant-source : goal.invariant-source

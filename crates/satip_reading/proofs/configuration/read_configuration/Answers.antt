@@ -1,5 +1,5 @@
-use Rattle.satip_replay.proofs.ConfigLemmas.{numbered_from, too_long}
-use Rattle.satip_replay.proofs.replaying.read_configuration.Goals as goal
+use Rattle.satip_reading.proofs.ConfigLemmas.{numbered_from, too_long}
+use Rattle.satip_reading.proofs.configuration.read_configuration.Goals as goal
 
 pub returns-in-Err-TooLong-clause-fault : goal.returns-in-Err-TooLong-clause-fault
 returns-in-Err-TooLong-clause-fault g c = too_long _ _ _ _ c.in-Err-TooLong.field-0-is c.in-Err-TooLong.ensures.ends
