@@ -3,11 +3,10 @@ ghost use Rattle.std.specs.Prelude.{◌≡◌, ◌+◌, ◌-◌, ◌<◌, ◌≤
 ghost use Rattle.satip_plain.specs.Histories.{Item};
 ghost use Rattle.satip_service.specs.Known.{Known};
 ghost use Rattle.satip_world.specs.Outboxes.{Outbox};
-ghost use Rattle.satip_pump.specs.Loads.{is_of};
 ghost use Rattle.satip_pump.specs.Pauses.{Paced, PumpPauses, owed_by};
 ghost use Rattle.satip_pump.specs.PumpRuns.{PumpRun};
 ghost use Rattle.satip_pump.specs.Readings.{held};
-ghost use Rattle.satip_pump.specs.Runs.{Runs, Feeds, Answered};
+ghost use Rattle.satip_pump.specs.Runs.{Runs, Answered};
 ghost use Rattle.satip_pump.specs.Works.{Works};
 
 use crate::batch::Batch;

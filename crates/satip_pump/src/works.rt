@@ -1,5 +1,5 @@
 //! Events that ask for work.
-ghost use Rattle.std.specs.Prelude.{◌≡◌, ◌≤◌, length, true, false};
+ghost use Rattle.std.specs.Prelude.{◌≡◌, ◌≤◌, length, false};
 ghost use Rattle.satip_pump.specs.Works.{AsksWork, Works, Gave};
 
 use crate::batch::Batch;

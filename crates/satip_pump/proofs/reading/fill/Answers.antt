@@ -9,7 +9,7 @@ loop-init g c =
       tt,
       tt,
       buffers _ _ _ c.args.reading.now c.renew.new.self (λ first early reel stands.
-      kept_goes _ _ first _ early reel c.args.reading.now c.renew.new.self stands (rw c.renew.ensures.renewed refl) (rw c.renew.ensures.renewed refl)),
+          kept_goes _ _ first _ early reel c.args.reading.now c.renew.new.self stands (rw c.renew.ensures.renewed refl) (rw c.renew.ensures.renewed refl)),
       rw (c.renew.ensures.renewed, empty) refl,
       rw (c.renew.ensures.renewed, empty) (omega arith),
     )

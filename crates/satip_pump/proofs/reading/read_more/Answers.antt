@@ -1,4 +1,4 @@
-use Rattle.std.proofs.Common.{◌≡◌, List, ℕ, ◌++◌, ap, ◌∙◌, refl, rules}
+use Rattle.std.proofs.Common.{List, ℕ, ◌++◌, ap, ◌∙◌, refl, rules}
 use Rattle.satip_pump.proofs.ReadingLemmas.{ended_goes, failed_goes, read_goes}
 use Rattle.satip_pump.proofs.reading.read_more.Goals as goal
 
