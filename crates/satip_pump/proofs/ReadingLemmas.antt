@@ -4,11 +4,12 @@ use Rattle.satip_base.specs.Streams.{Feed}
 use Rattle.std.proofs.lemmas.Bool.Decides.{nat_tests}
 use Rattle.satip_ts.specs.Recording.{cut_packets}
 use Rattle.satip_world.specs.Counts.{Rises}
+use Rattle.satip_world.specs.Recordings.{StoreView}
 use Rattle.satip_pump.specs.declared.reading.Reading.{Reading}
 use Rattle.satip_plain.specs.Pumping.{Reel, tuned, fresh}
 use Rattle.satip_pump.specs.Buffers.{Buffered, CutsOne, CutsNone, nothing_read}
 use Rattle.satip_pump.specs.PumpRuns.{RoseBy}
-use Rattle.satip_pump.specs.Readings.{AreToldLeft, IsReel, Stands, Begins}
+use Rattle.satip_pump.specs.Readings.{AreToldLeft, IsReel, Stands, Goes, ReadsOn, Begins}
 
 -- how counts of faults go on
 pub rose_less : (m n a b : ℕ) → RoseBy (m + n) a b → RoseBy m a b
@@ -227,3 +228,21 @@ module _ {F : Type 0} (tells : Type 0) (feed : F → Feed) where
       (λ owed told left_is.
       let P : List (List ℕ) → Type 0 = λ ps. AreToldLeft tells feed told ps buffer.rest old.source owed in
       subst P (sym cut.packets) (left_skipped told old.buffer.packets old.buffer.rest buffer.rest old.source owed cut.same cut.none left_is))
+
+  -- one step of reading on after another
+  pub reads_then : (r s t : StoreView) (old mid new : Reading F) → ReadsOn tells feed r old s mid → ReadsOn tells feed s mid t new → ReadsOn tells feed r old t new
+  reads_then r s t old mid new one two = record {
+    goes = λ first early reel stands. two.goes first early reel (one.goes first early reel stands);
+    recordings = two.recordings ∙ one.recordings;
+    tune = two.tune ∙ one.tune;
+    lent = λ enough.
+        let before = one.lent enough in
+        let after = two.lent (omega (arith, enough, before)) in
+        omega (arith, before, after);
+    peak = two.peak ∙ one.peak;
+  }
+
+  -- a step that leaves the store alone
+  pub buffers : (store : StoreView) (old : Reading F) (buffer : Buffered) → Goes tells feed store.faults old store.faults (record old { buffer = buffer })
+      → ReadsOn tells feed store old store (record old { buffer = buffer })
+  buffers store old buffer goes = record { goes = goes; recordings = refl; tune = refl; lent = λ enough. refl; peak = refl }

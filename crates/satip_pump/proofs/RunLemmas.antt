@@ -31,7 +31,7 @@ use Rattle.satip_pump.specs.Loads.{is_of, Gives}
 use Rattle.satip_plain.specs.Pumping.{Reel, Due, Asking, Feeding, Finished, fresh, tuned, after_work, work_told, moved, none_of, after_entry, IsFirst, IsDue, one_if_left, early_by, early_end, Pumps}
 use Rattle.satip_pump.specs.PumpRuns.{RoseBy, last_from, PumpRun}
 use Rattle.satip_plain.specs.Pumping.{rest_of}
-use Rattle.satip_pump.specs.Readings.{AreToldLeft, Stands, Goes}
+use Rattle.satip_pump.specs.Readings.{AreToldLeft, Stands, Goes, GoesTo}
 use Rattle.satip_pump.specs.Runs.{SoFar, Runs, Feeds, Fails, Answered}
 use Rattle.satip_pump.specs.Works.{Works, Gave}
 use Rattle.satip_pump.proofs.TickLemmas.{delivers_both, delivers_entry}
@@ -109,6 +109,10 @@ if_true false x y is = absurd (cc is)
 
 alike : (m n : ℕ) → m ≡ n → (m == n) ≡ true
 alike m n same = grind (arith, nat_tests)
+
+-- work to read for a number is of that number
+pub of_itself : (mux tune : ℕ) → is_of tune (Tune mux tune) ≡ true
+of_itself mux tune = alike tune tune refl
 
 alike_is : (m n : ℕ) → (m == n) ≡ true → m ≡ n
 alike_is m n same = grind (arith, nat_tests)
@@ -275,29 +279,18 @@ module _ {F : Type 0} (reads : Type 0) (feed : F → Feed) where
   }
 
   -- a tuning is read for
-  pub turned : (front : ℕ) (recording : ℕ → Option (List ℕ)) (tells : Type 0) (k l : Known) (o n : Outbox) (first now later mux tune : ℕ) (old new : Reading F)
-      → Runs front recording tells reads feed k l o n first now (Tune mux tune) old
-      → ((early : ℕ) (reel : Option Reel) → Stands reads feed first now early reel old
-      → Stands reads feed first later early (Some (tuned recording reel mux tune)) new)
-      → Feeds front recording tells reads feed k l o n first later (Tune mux tune) tune new
-  turned front recording tells k l o n first now later mux tune old new runs goes = record {
-    reel = tuned recording runs.reel mux tune;
-    early = runs.early;
-    so_far = runs.so_far;
-    stands = goes runs.early runs.reel runs.stands;
-    same = tuned_for recording runs.reel mux tune;
-  }
-
-  pub feeds_on : (front : ℕ) (recording : ℕ → Option (List ℕ)) (tells : Type 0) (k l : Known) (o n : Outbox) (first now later : ℕ) (work : Work) (tune : ℕ) (old new : Reading F)
-      → Feeds front recording tells reads feed k l o n first now work tune old → Goes reads feed now old later new
-      → Feeds front recording tells reads feed k l o n first later work tune new
-  feeds_on front recording tells k l o n first now later work tune old new feeds goes = record {
-    reel = feeds.reel;
-    early = feeds.early;
-    so_far = feeds.so_far;
-    stands = goes first feeds.early (Some feeds.reel) feeds.stands;
-    same = feeds.same;
-  }
+  pub turned : (front : ℕ) (recording : ℕ → Option (List ℕ)) (tells : Type 0) (k l : Known) (o n : Outbox) (first a b c mux tune : ℕ) (old mid new : Reading F)
+      → Runs front recording tells reads feed k l o n first a (Tune mux tune) old → GoesTo reads feed recording a old mux tune b mid → Goes reads feed b mid c new
+      → Feeds front recording tells reads feed k l o n first c (Tune mux tune) tune new
+  turned front recording tells k l o n first a b c mux tune old mid new runs goes on =
+      let reel : Reel = tuned recording runs.reel mux tune in
+      record {
+        reel = reel;
+        early = runs.early;
+        so_far = runs.so_far;
+        stands = on first runs.early (Some reel) (goes first runs.early runs.reel runs.stands);
+        same = tuned_for recording runs.reel mux tune;
+      }
 
   -- where nothing waits and nothing is read, a fault was there for packets that are left
   owed_for : (told : Option (List (List ℕ))) (held : List ℕ) (owed : ℕ) → AreToldLeft reads feed told [] held None owed → one_if_left told ≤ owed

@@ -94,18 +94,3 @@ makes_locked may_want k l tells o p m n event (Err fault) free into out none = r
   unmade = none.unmade;
   unsent = unsent_within o p m n free into out none.unsent;
 }
-
--- packets that were given between a lock and an unlock
-pub gave_locked : (may_want : Bool) (front tune : ℕ) (work : Work) (k l : Known) (tells : Type 0) (o p m n : Outbox) (q r : Buffered) (result : Result Work ServiceFault)
-    → p ≡ locked o → n ≡ unlocked m → Gave may_want front tune work k l tells p m q r result → Gave may_want front tune work k l tells o n q r result
-gave_locked may_want front tune work k l tells o p m n q r result into out gave = record {
-  caller = gave.caller;
-  taken = gave.taken;
-  last = gave.last;
-  gives = gave.gives;
-  rest = gave.rest;
-  suit = gave.suit;
-  adds = gave.adds;
-  delivers = delivers_within tells o p m n (flat_map (λ t. t.out.datagrams) gave.taken) into out gave.delivers;
-  ends = gave.ends;
-}

@@ -1,8 +1,9 @@
 -- How what a pump has read stands to the recording.
-use Rattle.std.specs.Prelude.{◌≡◌, ◌≢◌, ℕ, ◌+◌, ◌⊎◌, List, [], ◌++◌, Option, Some, None}
+use Rattle.std.specs.Prelude.{◌≡◌, ◌≢◌, ℕ, ◌+◌, ◌≤◌, ◌⊎◌, List, [], ◌++◌, Option, Some, None}
 use Rattle.satip_base.specs.Streams.{Feed}
 use Rattle.satip_ts.specs.Recording.{cut_packets}
 use Rattle.satip_world.specs.Counts.{Rises}
+use Rattle.satip_world.specs.Recordings.{StoreView}
 use Rattle.satip_pump.specs.declared.reading.Reading.{Reading}
 use Rattle.satip_plain.specs.Pumping.{Reel, tuned}
 use Rattle.satip_pump.specs.Buffers.{nothing_read}
@@ -44,6 +45,14 @@ pub record Stands {F : Type 0} (tells : Type 0) (feed : F → Feed) (first now e
 abbrev pub Goes : {F : Type 0} → (tells : Type 0) → (F → Feed) → ℕ → Reading F → ℕ → Reading F → Type 0
 Goes tells feed faults old faults' new =
     (first early : ℕ) (reel : Option Reel) → Stands tells feed first faults early reel old → Stands tells feed first faults' early reel new
+
+-- a step of reading on: what is read stays the same recording, and the store stays as it was but for a source that is handed back
+pub record ReadsOn {F : Type 0} (tells : Type 0) (feed : F → Feed) (before : StoreView) (old : Reading F) (after : StoreView) (new : Reading F) : Type 0 where
+  pub goes : Goes tells feed before.faults old after.faults new
+  pub recordings : after.recording ≡ before.recording
+  pub tune : new.tune ≡ old.tune
+  pub lent : held old.source ≤ before.lent → after.lent + held old.source ≡ before.lent + held new.source
+  pub peak : after.peak ≡ before.peak
 
 -- as it stood before, so it stands after, but for the recording of a tuning
 abbrev pub GoesTo : {F : Type 0} → (tells : Type 0) → (F → Feed) → (ℕ → Option (List ℕ)) → ℕ → Reading F → ℕ → ℕ → ℕ → Reading F → Type 0

@@ -1,5 +1,5 @@
 //! What was read of a recording and is still to be given.
-ghost use Rattle.std.specs.Prelude.{◌≡◌, ◌≢◌, ◌+◌, ◌-◌, ◌<◌, ◌≤◌, ◌==◌, ◌↔◌, [], length, take, drop, position, IsNone, IfNone, Some, MatchBool};
+ghost use Rattle.std.specs.Prelude.{◌≡◌, ◌+◌, ◌-◌, ◌<◌, ◌≤◌, ◌==◌, [], length, take, drop, position, Some, MatchBool};
 ghost use Rattle.satip_ts.specs.Packet.{IsPacket};
 ghost use Rattle.satip_ts.specs.Recording.{from_sync};
 ghost use Rattle.satip_plain.specs.Pumping.{rest_of};

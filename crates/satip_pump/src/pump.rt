@@ -3,11 +3,10 @@ ghost use Rattle.std.specs.Prelude.{◌≡◌, ◌+◌, ◌-◌, ◌<◌, ◌≤
 ghost use Rattle.satip_plain.specs.Histories.{Item};
 ghost use Rattle.satip_service.specs.Known.{Known};
 ghost use Rattle.satip_world.specs.Outboxes.{Outbox};
-ghost use Rattle.satip_pump.specs.Loads.{is_of};
 ghost use Rattle.satip_pump.specs.Pauses.{Paced, PumpPauses, owed_by};
 ghost use Rattle.satip_pump.specs.PumpRuns.{PumpRun};
 ghost use Rattle.satip_pump.specs.Readings.{held};
-ghost use Rattle.satip_pump.specs.Runs.{Runs, Feeds, Answered};
+ghost use Rattle.satip_pump.specs.Runs.{Runs, Answered};
 ghost use Rattle.satip_pump.specs.Works.{Works};
 
 use crate::batch::Batch;
@@ -29,59 +28,6 @@ struct Pump<F> {
     front: u16,
     reading: Reading<F>,
     since: usize,
-}
-
-// Gives the packets that wait, and pauses after 64.
-fn give_some<S: Service, M: MuxStore, O: Outlet, P: Pacer>(
-    service: &mut S,
-    kit: &mut PumpKit<M, O, P>,
-    pump: &mut Pump<M::From>,
-    tuning: (Work, u64),
-    out: &mut Out,
-    batch: &mut Batch,
-) -> Result<Work, ServiceFault>
-    requires work { is_of tuning.1 tuning.0 ≡ true }
-    requires paced { pump.old.since < 64 }
-    requires few { pump.old.since + length pump.old.reading.buffer.packets ≤ 64 }
-    requires free { (O.outbox kit.old.outlet).held ≡ false }
-    ensures free { (O.outbox kit.new.outlet).held ≡ false }
-    ensures same { S.same service.old service.new }
-    ensures answered { (k : Known) (o : Outbox) (first : ℕ)
-        → Feeds pump.old.front (M.shelf kit.old.store).recording O.tells M.From.tells M.From.feed k
-        (S.known service.old) o (O.outbox kit.old.outlet)
-        first (M.shelf kit.old.store).faults tuning.0 tuning.1 pump.old.reading
-        → Answered (S.may_want service.old) pump.old.front (M.shelf kit.old.store).recording O.tells
-        M.From.tells M.From.feed k (S.known service.new) o (O.outbox kit.new.outlet)
-        first (M.shelf kit.new.store).faults pump.new.reading result }
-    ensures paces { (own : List Item) (first : ℕ)
-        → Paced own (S.known service.old).own first (P.pauses kit.old.pacer) pump.old.since 0
-        → Paced own (S.known service.new).own first (P.pauses kit.new.pacer) pump.new.since
-        (owed_by result) }
-    ensures recordings { (M.shelf kit.new.store).recording ≡ (M.shelf kit.old.store).recording }
-    ensures front { pump.new.front ≡ pump.old.front }
-    ensures paced { pump.new.since < 64 }
-    ensures few { pump.new.since + length pump.new.reading.buffer.packets ≤ 64 }
-    ensures lent { held pump.old.reading.source ≤ (M.shelf kit.old.store).lent
-        → (M.shelf kit.new.store).lent + held pump.old.reading.source
-        ≡ (M.shelf kit.old.store).lent + held pump.new.reading.source }
-    ensures peak { (M.shelf kit.new.store).peak ≡ (M.shelf kit.old.store).peak }
-{
-    let before = pump.reading.buffer.count();
-    let answer = give(
-        service,
-        &mut kit.outlet,
-        (pump.front, tuning.1),
-        tuning.0,
-        &mut pump.reading.buffer,
-        out,
-        batch,
-    );
-    pump.since += before - pump.reading.buffer.count();
-    if pump.since == PLACES {
-        kit.pacer.pause();
-        pump.since = 0;
-    }
-    answer
 }
 
 // Tells the end of the recording, of which no source is held then.
@@ -107,53 +53,8 @@ fn tell_end<S: Service, F, O: Outlet>(
     make_work(service, outlet, &ended, out)
 }
 
-// Reads and gives packets, or gives the end of the recording where there are none.
-fn feed<R: Wait, S: Service, M: MuxStore, O: Outlet, P: Pacer>(
-    rt: &R,
-    service: &mut S,
-    kit: &mut PumpKit<M, O, P>,
-    pump: &mut Pump<M::From>,
-    tuning: (Work, u64),
-    out: &mut Out,
-    batch: &mut Batch,
-) -> Result<Work, ServiceFault>
-    requires work { is_of tuning.1 tuning.0 ≡ true }
-    requires paced { pump.old.since < 64 }
-    requires few { pump.old.since + length pump.old.reading.buffer.packets ≤ 64 }
-    requires free { (O.outbox kit.old.outlet).held ≡ false }
-    ensures free { (O.outbox kit.new.outlet).held ≡ false }
-    ensures same { S.same service.old service.new }
-    ensures answered { (k : Known) (o : Outbox) (first : ℕ)
-        → Feeds pump.old.front (M.shelf kit.old.store).recording O.tells M.From.tells M.From.feed k
-        (S.known service.old) o (O.outbox kit.old.outlet)
-        first (M.shelf kit.old.store).faults tuning.0 tuning.1 pump.old.reading
-        → Answered (S.may_want service.old) pump.old.front (M.shelf kit.old.store).recording O.tells
-        M.From.tells M.From.feed k (S.known service.new) o (O.outbox kit.new.outlet)
-        first (M.shelf kit.new.store).faults pump.new.reading result }
-    ensures paces { (own : List Item) (first : ℕ)
-        → Paced own (S.known service.old).own first (P.pauses kit.old.pacer) pump.old.since 0
-        → Paced own (S.known service.new).own first (P.pauses kit.new.pacer) pump.new.since
-        (owed_by result) }
-    ensures recordings { (M.shelf kit.new.store).recording ≡ (M.shelf kit.old.store).recording }
-    ensures front { pump.new.front ≡ pump.old.front }
-    ensures paced { pump.new.since < 64 }
-    ensures few { pump.new.since + length pump.new.reading.buffer.packets ≤ 64 }
-    ensures lent { held pump.old.reading.source ≤ (M.shelf kit.old.store).lent
-        → (M.shelf kit.new.store).lent + held pump.old.reading.source
-        ≡ (M.shelf kit.old.store).lent + held pump.new.reading.source }
-    ensures peak { (M.shelf kit.new.store).peak ≡ (M.shelf kit.old.store).peak }
-{
-    if pump.reading.buffer.count() != 0 {
-        return give_some(service, kit, pump, tuning, out, batch);
-    }
-    fill(rt, &mut pump.reading, &mut kit.store, PLACES - pump.since);
-    if pump.reading.buffer.count() != 0 {
-        return give_some(service, kit, pump, tuning, out, batch);
-    }
-    tell_end(service, &mut kit.outlet, pump, tuning.1, out)
-}
-
-// Does what an answer told, which is to read for a tuning.
+// Does what an answer told, which is to read for a tuning: gives the packets that wait or are read,
+// and pauses after 64, or tells the end of the recording where there are none.
 fn tune<R: Wait, S: Service, M: MuxStore, O: Outlet, P: Pacer>(
     rt: &R,
     service: &mut S,
@@ -192,15 +93,26 @@ fn tune<R: Wait, S: Service, M: MuxStore, O: Outlet, P: Pacer>(
 {
     let (mux, tune) = tuning;
     turn_to(&mut pump.reading, &mut kit.store, mux, tune);
-    feed(
-        rt,
+    fill(rt, &mut pump.reading, &mut kit.store, PLACES - pump.since);
+    let before = pump.reading.buffer.count();
+    if before == 0 {
+        return tell_end(service, &mut kit.outlet, pump, tune, out);
+    }
+    let answer = give(
         service,
-        kit,
-        pump,
-        (Work::Tune { mux, tune }, tune),
+        &mut kit.outlet,
+        (pump.front, tune),
+        Work::Tune { mux, tune },
+        &mut pump.reading.buffer,
         out,
         batch,
-    )
+    );
+    pump.since += before - pump.reading.buffer.count();
+    if pump.since == PLACES {
+        kit.pacer.pause();
+        pump.since = 0;
+    }
+    answer
 }
 
 /// Asks what to read for a front end, reads it and gives its packets and its end, until the service

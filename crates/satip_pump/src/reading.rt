@@ -2,7 +2,7 @@
 ghost use Rattle.std.specs.Prelude.{◌≡◌, ◌+◌, ◌-◌, ◌<◌, ◌≤◌, ◌↔◌, max, true, false, [], length, Some, None, IsTrue};
 ghost use Rattle.satip_ts.specs.Recording.{cut_packets};
 ghost use Rattle.satip_world.specs.Counts.{Rises};
-ghost use Rattle.satip_pump.specs.Readings.{Goes, GoesTo, HasFailed, Begins, begun, held};
+ghost use Rattle.satip_pump.specs.Readings.{GoesTo, ReadsOn, HasFailed, Begins, begun, held};
 
 use crate::buffer::Buffer;
 use satip_base::Taken;
@@ -104,17 +104,11 @@ fn read_more<M: MuxStore>(reading: &mut Reading<M::From>, store: &mut M, packets
     requires none { cut_packets reading.old.buffer.rest ≡ [] }
     requires some { 1 ≤ packets }
     requires most { packets ≤ 64 }
-    ensures goes { Goes M.From.tells M.From.feed (M.shelf store.old).faults reading.old
-        (M.shelf store.new).faults reading.new }
-    ensures recordings { (M.shelf store.new).recording ≡ (M.shelf store.old).recording }
+    ensures reads_on { ReadsOn M.From.tells M.From.feed (M.shelf store.old) reading.old
+        (M.shelf store.new) reading.new }
     ensures shut { result ≡ false → reading.new.buffer.packets ≡ [] → reading.new.source ≡ None }
     ensures packets { reading.new.buffer.packets ≡ reading.old.buffer.packets }
     ensures room { reading.new.buffer.room ≡ reading.old.buffer.room }
-    ensures tune { reading.new.tune ≡ reading.old.tune }
-    ensures lent { held reading.old.source ≤ (M.shelf store.old).lent
-        → (M.shelf store.new).lent + held reading.old.source
-        ≡ (M.shelf store.old).lent + held reading.new.source }
-    ensures peak { (M.shelf store.new).peak ≡ (M.shelf store.old).peak }
 {
     let Some(source) = &mut reading.source else {
         return false;
@@ -141,18 +135,12 @@ fn read_one<M: MuxStore>(reading: &mut Reading<M::From>, store: &mut M, packets:
     requires some { 1 ≤ packets }
     requires room { packets ≤ reading.old.buffer.room }
     requires most { packets ≤ 64 }
-    ensures goes { Goes M.From.tells M.From.feed (M.shelf store.old).faults reading.old
-        (M.shelf store.new).faults reading.new }
-    ensures recordings { (M.shelf store.new).recording ≡ (M.shelf store.old).recording }
+    ensures reads_on { ReadsOn M.From.tells M.From.feed (M.shelf store.old) reading.old
+        (M.shelf store.new) reading.new }
     ensures shut { result ≡ false → reading.new.buffer.packets ≡ [] → reading.new.source ≡ None }
     ensures most { length reading.new.buffer.packets ≤ length reading.old.buffer.packets + 1 }
     ensures room { reading.new.buffer.room + length reading.new.buffer.packets
         ≡ reading.old.buffer.room + length reading.old.buffer.packets }
-    ensures tune { reading.new.tune ≡ reading.old.tune }
-    ensures lent { held reading.old.source ≤ (M.shelf store.old).lent
-        → (M.shelf store.new).lent + held reading.old.source
-        ≡ (M.shelf store.old).lent + held reading.new.source }
-    ensures peak { (M.shelf store.new).peak ≡ (M.shelf store.old).peak }
 {
     if reading.buffer.cut() {
         return true;
@@ -160,28 +148,25 @@ fn read_one<M: MuxStore>(reading: &mut Reading<M::From>, store: &mut M, packets:
     read_more(reading, store, packets)
 }
 
-/// Reads until so many packets wait, or there is no more to read, or no room for it behind those
-/// that wait. It waits for the source.
+/// Where no packet waits, reads until so many do, or there is no more to read, or no room for it
+/// behind those that wait. It waits for the source.
 pub(crate) fn fill<R: Wait, M: MuxStore>(
     rt: &R,
     reading: &mut Reading<M::From>,
     store: &mut M,
     most: usize,
 )
-    requires empty { reading.old.buffer.packets ≡ [] }
+    requires few { length reading.old.buffer.packets ≤ most }
     requires some { 1 ≤ most }
     requires most { most ≤ 64 }
-    ensures goes { Goes M.From.tells M.From.feed (M.shelf store.old).faults reading.old
-        (M.shelf store.new).faults reading.new }
-    ensures recordings { (M.shelf store.new).recording ≡ (M.shelf store.old).recording }
+    ensures reads_on { ReadsOn M.From.tells M.From.feed (M.shelf store.old) reading.old
+        (M.shelf store.new) reading.new }
     ensures most { length reading.new.buffer.packets ≤ most }
     ensures empty { reading.new.buffer.packets ≡ [] → reading.new.source ≡ None }
-    ensures tune { reading.new.tune ≡ reading.old.tune }
-    ensures lent { held reading.old.source ≤ (M.shelf store.old).lent
-        → (M.shelf store.new).lent + held reading.old.source
-        ≡ (M.shelf store.old).lent + held reading.new.source }
-    ensures peak { (M.shelf store.new).peak ≡ (M.shelf store.old).peak }
 {
+    if reading.buffer.count() != 0 {
+        return;
+    }
     reading.buffer.renew();
     for _ in rt.forever() {
         let count = reading.buffer.count();

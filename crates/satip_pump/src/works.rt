@@ -1,5 +1,5 @@
 //! Events that ask for work.
-ghost use Rattle.std.specs.Prelude.{◌≡◌, ◌≤◌, length, true, false};
+ghost use Rattle.std.specs.Prelude.{◌≡◌, ◌≤◌, length, false};
 ghost use Rattle.satip_pump.specs.Works.{AsksWork, Works, Gave};
 
 use crate::batch::Batch;
@@ -52,28 +52,6 @@ pub(crate) fn give<S: Service, O: Outlet>(
     ensures fewer { length buffer.new.packets ≤ length buffer.old.packets }
 {
     outlet.lock();
-    let gave = burst_and_post(service, outlet, tuning, work, buffer, out, batch);
-    outlet.unlock();
-    gave
-}
-
-// Gives the packets in one burst, and sends their datagrams after it.
-fn burst_and_post<S: Service, O: Outlet>(
-    service: &mut S,
-    outlet: &mut O,
-    tuning: (u16, u64),
-    work: Work,
-    buffer: &mut Buffer,
-    out: &mut Out,
-    batch: &mut Batch,
-) -> Result<Work, ServiceFault>
-    requires held { (O.outbox outlet.old).held ≡ true }
-    ensures same { S.same service.old service.new }
-    ensures gave { Gave (S.may_want service.old) tuning.0 tuning.1 work (S.known service.old)
-        (S.known service.new)
-        O.tells (O.outbox outlet.old) (O.outbox outlet.new) buffer.old buffer.new result }
-    ensures fewer { length buffer.new.packets ≤ length buffer.old.packets }
-{
     batch.clear();
     let mut load = Load {
         front: tuning.0,
@@ -86,6 +64,7 @@ fn burst_and_post<S: Service, O: Outlet>(
     };
     let made = service.burst(&mut load, out);
     load.batch.post(outlet);
+    outlet.unlock();
     match made {
         Ok(()) => Ok(load.work),
         Err(fault) => Err(fault),

@@ -1,4 +1,4 @@
-use Rattle.std.proofs.Common.{◌≡◌, ◌-◌, ◌≤◌, take, drop, arith, ◌∙◌}
+use Rattle.std.proofs.Common.{◌≡◌, ◌-◌, ◌≤◌, drop, arith, ◌∙◌}
 use Rattle.std.proofs.lemmas.List.{take-take}
 use Rattle.satip_pump.specs.BufferFields.{packet_at}
 use Rattle.satip_pump.proofs.BufferLemmas.{packet_of}

@@ -1,7 +1,41 @@
-use Rattle.satip_pump.proofs.RunLemmas.{turned}
+use Rattle.std.proofs.Common.{◌≡◌, ◌+◌, ◌-◌, [], length, arith, refl}
+use Rattle.satip_pump.proofs.PauseLemmas.{gave_paces, paced_full, works_pace}
+use Rattle.satip_pump.proofs.RunLemmas.{finished, given, of_itself, turned}
+use Rattle.satip_pump.proofs.WorkLemmas.{none_waits}
 use Rattle.satip_pump.proofs.pump.tune.Goals as goal
 
-pub returns-clause-answered : goal.returns-clause-answered
-returns-clause-answered g c = λ k o first runs.
-    let step = rw c.turn_to.ensures.recordings at c.feed.ensures.answered in
-    step k o first (turned _ _ _ _ _ k _ o _ first _ _ _ _ _ _ runs (λ early reel. c.turn_to.ensures.goes first early reel))
+pub returns-then-before-eq0-clause-answered : goal.returns-then-before-eq0-clause-answered
+returns-then-before-eq0-clause-answered g c = λ k o first runs.
+    let empty : c.fill.new.reading.buffer.packets ≡ [] = none_waits c.fill.new.reading.buffer.packets (omega arith) in
+    finished _ _ _ _ _ _ k _ _ o _ _ first _ _ _ _ _
+    (turned _ _ _ _ _ k _ o _ first _ _ _ _ _ _ _ _ runs c.turn_to.ensures.goes c.fill.ensures.reads_on.goes) (of_itself c.args.tuning.0 c.args.tuning.1)
+    empty (c.fill.ensures.empty empty) c.tell_end.ensures.works
+
+pub returns-then-pump-eq-PLACES-clause-answered : goal.returns-then-pump-eq-PLACES-clause-answered
+returns-then-pump-eq-PLACES-clause-answered g c = λ k o first runs.
+    given _ _ _ _ _ _ k _ _ o _ _ first _ _ _ c.fill.new.reading c.give-answer.new.buffer _
+    (turned _ _ _ _ _ k _ o _ first _ _ _ _ _ _ _ _ runs c.turn_to.ensures.goes c.fill.ensures.reads_on.goes) (of_itself c.args.tuning.0 c.args.tuning.1)
+    c.give-answer.ensures.gave
+
+pub returns-else-pump-eq-PLACES-clause-answered : goal.returns-else-pump-eq-PLACES-clause-answered
+returns-else-pump-eq-PLACES-clause-answered g c = λ k o first runs.
+    given _ _ _ _ _ _ k _ _ o _ _ first _ _ _ c.fill.new.reading c.give-answer.new.buffer _
+    (turned _ _ _ _ _ k _ o _ first _ _ _ _ _ _ _ _ runs c.turn_to.ensures.goes c.fill.ensures.reads_on.goes) (of_itself c.args.tuning.0 c.args.tuning.1)
+    c.give-answer.ensures.gave
+
+pub returns-then-before-eq0-clause-paces : goal.returns-then-before-eq0-clause-paces
+returns-then-before-eq0-clause-paces g c = λ own first paced. works_pace _ _ _ _ _ _ _ _ own first _ _ c.tell_end.ensures.works refl paced
+
+pub returns-then-pump-eq-PLACES-clause-paces : goal.returns-then-pump-eq-PLACES-clause-paces
+returns-then-pump-eq-PLACES-clause-paces g c = λ own first paced.
+    let size : length c.fill.new.reading.buffer.packets ≡ (c.count-before.result - c.count.result) + length c.give-answer.new.buffer.packets =
+    omega (arith, c.count-before.ensures.count, c.count.ensures.count, c.give-answer.ensures.fewer) in
+    paced_full _ _ _ _ _ _ _ c.if-pump-eq-PLACES.true
+    (gave_paces _ _ _ _ _ _ _ _ _ _ _ _ own first _ _ _ c.give-answer.ensures.gave (of_itself c.args.tuning.0 c.args.tuning.1) size paced)
+    c.pause.ensures.pauses
+
+pub returns-else-pump-eq-PLACES-clause-paces : goal.returns-else-pump-eq-PLACES-clause-paces
+returns-else-pump-eq-PLACES-clause-paces g c = λ own first paced.
+    let size : length c.fill.new.reading.buffer.packets ≡ (c.count-before.result - c.count.result) + length c.give-answer.new.buffer.packets =
+    omega (arith, c.count-before.ensures.count, c.count.ensures.count, c.give-answer.ensures.fewer) in
+    gave_paces _ _ _ _ _ _ _ _ _ _ _ _ own first _ _ _ c.give-answer.ensures.gave (of_itself c.args.tuning.0 c.args.tuning.1) size paced

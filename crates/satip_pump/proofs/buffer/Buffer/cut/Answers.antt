@@ -1,4 +1,4 @@
-use Rattle.std.proofs.Common.{◌≡◌, ◌+◌, ◌-◌, ◌≤◌, ◌<◌, ℕ, List, map, length, refl, arith, rules, sym, ap, ◌∙◌, subst}
+use Rattle.std.proofs.Common.{◌+◌, ◌-◌, ◌≤◌, ◌<◌, ℕ, List, map, length, refl, arith, rules, sym, ap, ◌∙◌, subst}
 use Rattle.std.proofs.lemmas.List.{map_push}
 use Rattle.satip_pump.specs.BufferFields.{AreStarts, packet_at}
 use Rattle.satip_pump.proofs.BufferLemmas.{cut_none, cut_one, length_between, push_between, starts_more, starts_within}

@@ -1,4 +1,4 @@
-use Rattle.std.proofs.Common.{◌≡◌, ◌≤◌, ◌<◌, length, arith, rules}
+use Rattle.std.proofs.Common.{◌≤◌, ◌<◌, length, arith, rules}
 use Rattle.satip_pump.proofs.BufferLemmas.{at_front, packets_first, starts_first}
 use Rattle.satip_pump.proofs.buffer.Buffer.first.Goals as goal
 

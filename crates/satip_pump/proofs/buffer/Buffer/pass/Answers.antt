@@ -1,4 +1,4 @@
-use Rattle.std.proofs.Common.{◌≤◌, ◌<◌, List, ℕ, length, arith, rules, sym, ap, map}
+use Rattle.std.proofs.Common.{◌≤◌, ◌<◌, length, arith, rules, sym, ap}
 use Rattle.std.proofs.lemmas.List.{length-map}
 use Rattle.satip_plain.specs.Pumping.{rest_of}
 use Rattle.satip_pump.specs.BufferFields.{left_starts, packet_at}
