@@ -1,14 +1,12 @@
 -- What a text asks, when one message more was found and when more bytes come.
 use Rattle.std.proofs.Common.{◌≡◌, ℕ, ◌+◌, ◌*◌, ◌<◌, ◌≤◌, List, [], ◌∷◌, ◌++◌, length, length-append, map, arith, refl, sym, ap, ◌∙◌, subst, ⊎_elim, Option, Some, None, IsSomeAnd}
 use Rattle.std.proofs.lemmas.Bool.{cases_lt}
-use Rattle.std.proofs.lemmas.List.{append-nil, map_push, map-append}
+use Rattle.std.proofs.lemmas.List.{append-nil, map_push}
 use Rattle.satip_frame.specs.declared.framing.Break.{Break}
 use Rattle.satip_frame.specs.Said.{Said}
-use Rattle.satip_frame.specs.Stream.{Tail, Unfinished, Broken, Messages, Leads, skip_newlines}
-use Rattle.satip_frame.specs.Held.{Held}
-use Rattle.satip_frame.proofs.StreamLemmas.{skip_shorter, begins_some, leads-append, leads_first, broken_stays, ends_from_rest}
-use Rattle.satip_frame.proofs.ReadingLemmas.{reading_of}
-use Rattle.satip_hearing.specs.Asking.{AsksAll, AsksFirst, AsksSoFar, AsksNext, AsksLast, asked_by_tail}
+use Rattle.satip_frame.specs.Stream.{Unfinished, Broken, Messages, Leads, skip_newlines}
+use Rattle.satip_frame.proofs.StreamLemmas.{skip_shorter, begins_some, leads-append, broken_stays, ends_from_rest}
+use Rattle.satip_hearing.specs.Asking.{AsksFirst, AsksSoFar, AsksNext, AsksLast}
 
 -- messages stand in front of the same rest, but for CR and LF
 leads_same : (text : List ℕ) (ms : List Said) (rest later : List ℕ) → Leads text ms rest → skip_newlines rest ≡ skip_newlines later

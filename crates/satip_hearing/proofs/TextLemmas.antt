@@ -4,7 +4,7 @@ use Rattle.std.proofs.lemmas.List.{append-nil, map-append}
 use Rattle.satip_frame.specs.declared.framing.Break.{Break}
 use Rattle.satip_frame.specs.Head.{HasNoEmptyLine}
 use Rattle.satip_frame.specs.Said.{Said}
-use Rattle.satip_frame.specs.Stream.{Tail, Unfinished, Broken}
+use Rattle.satip_frame.specs.Stream.{Unfinished, Broken}
 use Rattle.satip_frame.proofs.StreamLemmas.{leads-append, leads_first}
 use Rattle.satip_frame.proofs.ReadingLemmas.{reading_of}
 use Rattle.satip_hearing.specs.Asking.{AsksAll, AsksFirst, AsksSoFar, AsksLast, AsksMore, asked_by_tail}
@@ -21,11 +21,11 @@ nothing_asked asked = record {
 }
 
 -- more bytes came
-pub more_came : {A : Type 0} (asked : Said → A) (text piece rest : List ℕ) (requests : List A) → AsksSoFar asked text requests rest
-    → AsksFirst asked (text ++ piece) requests (rest ++ piece)
-more_came asked text piece rest requests heard = record {
+pub more_came : {A : Type 0} (asked : Said → A) (text piece rest given : List ℕ) (requests : List A) → given ≡ piece
+    → AsksSoFar asked text requests rest → AsksFirst asked (text ++ piece) requests (rest ++ given)
+more_came asked text piece rest given requests is heard = record {
   messages = heard.first.messages;
-  leads = leads-append text piece heard.first.messages rest heard.first.leads;
+  leads = rw is (leads-append text piece heard.first.messages rest heard.first.leads);
   requests_are = heard.first.requests_are;
 }
 

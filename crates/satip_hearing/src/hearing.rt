@@ -32,11 +32,7 @@ fn read_found<A: Asks>(framer: &Framer, request: &mut A)
 
 /// Feeds the rest of a piece to a framer up to the next thing that the text asks, and reads that
 /// over `request`. The text is all that came so far: what was fed, and the whole piece.
-pub fn next_asked<A: Asks>(
-    framer: &mut Framer,
-    piece: &mut Piece<'_>,
-    request: &mut A,
-) -> Next
+pub fn next_asked<A: Asks>(framer: &mut Framer, piece: &mut Piece<'_>, request: &mut A) -> Next
     requires open { framer.old.ended ≡ None }
 
     // Right of each text, whatever its pieces were.
