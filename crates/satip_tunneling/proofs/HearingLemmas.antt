@@ -1,6 +1,6 @@
 -- A connection of a tunnel goes on with one message more.
-use Rattle.std.proofs.Common.{◌≡◌, ◌≢◌, ◌∙◌, ℕ, ◌+◌, Bool, true, false, List, [], ◌∷◌, ◌++◌, append_assoc, append-nil, length, length-append, map, arith, refl, sym, ap, subst, inl, inr}
-use Rattle.std.proofs.lemmas.List.{map-append, map_push}
+use Rattle.std.proofs.Common.{◌≡◌, ◌≢◌, ◌∙◌, ℕ, ◌+◌, Bool, true, false, List, [], ◌∷◌, ◌++◌, append_assoc, append-nil, length, length-append, map, arith, refl, sym, ap, subst, inl, inr, take, drop}
+use Rattle.std.proofs.lemmas.List.{map-append, map_push, take-append-drop}
 use Rattle.rand_chacha.specs.ChaCha.{ChaCha}
 use Rattle.satip_base.specs.declared.identity.Draw.{Draw}
 use Rattle.satip_channels.specs.Requests.{asked_by_tunnel}
@@ -448,6 +448,20 @@ stopped_stays tells course n m c received text more stopped = record {
   first = first_stays tells course n m c received text more end_spent tt stopped.first;
   full = stopped.full;
 }
+
+-- a piece in its parts
+pub piece_parts : (heard rest piece : List ℕ) (count : ℕ) → piece ≡ heard ++ rest → piece ≡ (heard ++ take count rest) ++ drop count rest
+piece_parts heard rest piece count whole =
+    whole ∙ ap (λ (r : List ℕ). heard ++ r) (sym (take-append-drop count rest)) ∙ sym (append_assoc heard (take count rest) (drop count rest))
+
+-- a text and the piece behind it, in its parts
+pub text_parts : (text heard rest piece : List ℕ) (count : ℕ) → piece ≡ heard ++ rest
+    → ((text ++ heard) ++ take count rest) ++ drop count rest ≡ text ++ piece
+text_parts text heard rest piece count whole =
+    append_assoc (text ++ heard) (take count rest) (drop count rest)
+    ∙ ap (λ (r : List ℕ). (text ++ heard) ++ r) (take-append-drop count rest)
+    ∙ append_assoc text heard rest
+    ∙ ap (λ (p : List ℕ). text ++ p) (sym whole)
 
 -- none of a piece was heard
 pub heard_none : (tells : Type 0) (course : Course) (n : Seat) (m : Line) (c : ChaCha) (received text piece : List ℕ) (parter : Held)

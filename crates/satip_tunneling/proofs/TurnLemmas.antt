@@ -1,5 +1,5 @@
 -- What one request comes to on the course of a connection.
-use Rattle.std.proofs.Common.{◌≡◌, ◌≢◌, ◌∙◌, ℕ, ◌+◌, ◌*◌, ◌/◌, ◌%◌, ◌<◌, ◌≤◌, Bool, true, false, List, [], ◌∷◌, ◌++◌, append-nil, length, map, arith, sym, ap, subst, inl, inr, IsSomeAnd}
+use Rattle.std.proofs.Common.{◌≡◌, ◌≢◌, ◌∙◌, ℕ, ◌+◌, ◌*◌, ◌/◌, ◌%◌, ◌<◌, ◌≤◌, Bool, true, false, List, [], ◌∷◌, ◌++◌, append-nil, length, map, arith, sym, ap, subst, inl, inr, Option, Some, None, IsSomeAnd}
 use Rattle.std.proofs.lemmas.List.{map_push}
 use Rattle.rand_chacha.specs.ChaCha.{ChaCha}
 use Rattle.satip_channels.specs.Requests.{asked_by_tunnel}
@@ -17,7 +17,6 @@ use Rattle.satip_rtsp.specs.declared.requests.Request.{Request}
 use Rattle.satip_rtsp.specs.Asked.{broken}
 use Rattle.satip_service.specs.Suits.{closes}
 use Rattle.satip_world.specs.Lines.{Line}
-use Rattle.satip_worker.proofs.HearingLemmas.{some_value, some_both}
 use Rattle.satip_tunneling.specs.declared.ends.TunnelEnd.TheVariants.{Broken as end_broken}
 use Rattle.satip_tunneling.specs.declared.ends.Way.{Way}
 use Rattle.satip_tunneling.specs.declared.ends.Way.TheVariants.{On, Broken, Lost, Spent}
@@ -28,6 +27,16 @@ use Rattle.satip_tunneling.specs.Exchanges.{Answers, Exchanges}
 use Rattle.satip_tunneling.specs.Hearing.{Course, Stands, HasClosed, MadeFirst, HasLost, HasStopped}
 use Rattle.satip_tunneling.proofs.SuitLemmas.{broken_closes}
 use Rattle.satip_tunneling.proofs.HearingLemmas.{AsksBehind, asks_first, asks_next, asks_all, stands_next, closes_text, breaks, loses, stops_behind, stops_before}
+
+-- the value that is there
+some_value : {A : Type 0} (found : Option A) (P : A → Type 0) → IsSomeAnd found P → (x : A) × P x
+some_value None P p = absurd p
+some_value (Some x) P p = (x, p)
+
+-- what holds of the value that is there
+some_both : {A : Type 0} (found : Option A) (P Q : A → Type 0) → IsSomeAnd found P → IsSomeAnd found Q → (x : A) × P x × Q x
+some_both None P Q p q = absurd p
+some_both (Some x) P Q p q = (x, p, q)
 
 -- what a text asks before a request, which is the next that it asks
 record AsksNext (text : List ℕ) (made : List Request) (request : Request) : Type 0 where

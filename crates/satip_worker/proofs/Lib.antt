@@ -1,7 +1,6 @@
 pub mod ProgressLemmas
 pub mod EventLemmas
 pub mod HearingLemmas
-pub mod ClosingLemmas
 pub mod RunLemmas
 pub mod FirstLemmas
 pub mod StreamLemmas

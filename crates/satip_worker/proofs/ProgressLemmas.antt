@@ -1,5 +1,5 @@
 -- What a service, an outlet and a connection do one after another.
-use Rattle.std.proofs.Common.{◌≡◌, ℕ, suc, ◌≤◌, ◌⊎◌, inl, inr, Bool, List, [], ◌∷◌, ◌++◌, append_assoc, arith, sym, ap, ◌∙◌, subst, refl, Result, Ok, Err}
+use Rattle.std.proofs.Common.{◌≡◌, ℕ, suc, ◌≤◌, ◌⊎◌, inl, inr, Bool, List, [], ◌∷◌, ◌++◌, append_assoc, arith, sym, ap, ◌∙◌, subst, take, refl, Result, Ok, Err}
 use Rattle.std.proofs.lemmas.List.{append-nil}
 use Rattle.std.proofs.lemmas.List.Concat.{flat_map-append}
 use Rattle.satip_base.specs.Output.{Datagram, Output}
@@ -8,7 +8,7 @@ use Rattle.satip_plain.specs.Histories.{Item}
 use Rattle.satip_plain.specs.declared.answers.Answer.{Answer}
 use Rattle.satip_plain.specs.declared.events.Event.{Event}
 use Rattle.satip_world.specs.Counts.{Rises}
-use Rattle.satip_world.specs.Lines.{Line}
+use Rattle.satip_world.specs.Lines.{Line, GotBytes, WasIdle, InputEnded, ReceiveFailed}
 use Rattle.satip_world.specs.Outboxes.{Outbox, locked, unlocked}
 use Rattle.satip_world.specs.Deliveries.{Delivers}
 use Rattle.satip_world.proofs.DeliveryLemmas.{delivers_none, delivers_then, delivers_within}
@@ -134,3 +134,41 @@ pub carries_on : (tells : Type 0) (l m n : Line) (a b : List ℕ) → Carries te
 carries_on tells l m n a b first second =
     let P : List ℕ → Type 0 = λ s. Carries tells l n a s in
     subst P (append-nil b) (carries_sent tells l m n a b [] first second)
+
+-- some bytes came in
+pub carries_got : (tells : Type 0) (l m n : Line) (text sent buf : List ℕ) (count : ℕ) → Carries tells l m text sent → GotBytes tells m n buf count
+    → Carries tells l n (text ++ take count buf) sent
+carries_got tells l m n text sent buf count before got =
+    carries_received tells l m n text sent (take count buf) before (record {
+      content = got.content;
+      idles = omega (arith, got.counts.idles);
+      receive_faults = omega (arith, got.counts.receive_faults);
+      send_faults = omega (arith, got.counts.send_faults);
+    })
+
+-- nothing came in
+pub carries_idle : (tells : Type 0) (m n : Line) → WasIdle tells m n → Carries tells m n [] []
+carries_idle tells m n idle = record {
+  content = idle.content;
+  idles = idle.idles.kept;
+  receive_faults = omega (arith, idle.receive_faults);
+  send_faults = omega (arith, idle.send_faults);
+}
+
+-- the input ended
+pub carries_ended : (tells : Type 0) (m n : Line) → InputEnded tells m n → Carries tells m n [] []
+carries_ended tells m n ended = record {
+  content = ended.content;
+  idles = omega (arith, ended.counts.idles);
+  receive_faults = omega (arith, ended.counts.receive_faults);
+  send_faults = omega (arith, ended.counts.send_faults);
+}
+
+-- a receive failed
+pub carries_failed : (tells : Type 0) (m n : Line) → ReceiveFailed tells m n → Carries tells m n [] []
+carries_failed tells m n failed = record {
+  content = failed.content;
+  idles = omega (arith, failed.idles);
+  receive_faults = failed.receive_faults.kept;
+  send_faults = omega (arith, failed.send_faults);
+}

@@ -1,9 +1,8 @@
 -- What is asked first on an HTTP connection.
-use Rattle.std.specs.Prelude.{◌≡◌, ◌⊎◌, true, false, ℕ, List, [], ◌∷◌, Option, Some, None}
+use Rattle.std.specs.Prelude.{◌≡◌, ◌⊎◌, true, false, ℕ, List, [], ◌∷◌}
 use Rattle.satip_frame.specs.declared.framing.Break.{Break}
 use Rattle.satip_frame.specs.Said.{Said}
-use Rattle.satip_frame.specs.Stream.{Unfinished, Broken, Messages, Leads, AreFirst}
-use Rattle.satip_frame.specs.Held.{Held}
+use Rattle.satip_frame.specs.Stream.{Unfinished, Broken, Messages, AreFirst}
 use Rattle.satip_http.specs.declared.requests.HttpRequest.{HttpRequest}
 use Rattle.satip_http.specs.Gets.{asked, broken}
 use Rattle.satip_world.specs.Counts.{Rises}
@@ -27,16 +26,6 @@ pub record AsksByBreak (text : List ℕ) (request : HttpRequest) : Type 0 where
 -- this is what the text asks first
 abbrev pub AsksFirst : List ℕ → HttpRequest → Type 0
 AsksFirst text request = AsksByMessage text request ⊎ AsksByBreak text request
-
--- the text asks nothing yet, and the framer holds it
-pub record AsksNothing (text : List ℕ) (framer : Held) : Type 0 where
-  pub read : Messages text [] Unfinished
-  pub leads : Leads text [] framer.bytes
-
--- what was found in a text
-abbrev pub Finds : List ℕ → Held → Option HttpRequest → Type 0
-Finds text framer None = AsksNothing text framer
-Finds text framer (Some request) = AsksFirst text request
 
 -- something was asked
 pub record ReadAsked (tells : Type 0) (l m : Line) (request : HttpRequest) : Type 0 where

@@ -1,13 +1,10 @@
 -- An RTSP connection in the middle of its text.
-use Rattle.std.specs.Prelude.{◌≡◌, ◌≢◌, ℕ, ◌+◌, false, true, List, [], ◌∷◌, ◌++◌, map, length}
+use Rattle.std.specs.Prelude.{◌≡◌, ◌≢◌, ℕ, ◌+◌, Bool, false, true, List, [], ◌++◌, length}
 use Rattle.rand_chacha.specs.ChaCha.{ChaCha}
 use Rattle.satip_base.specs.declared.network.Peer.{Peer}
-use Rattle.satip_frame.specs.declared.framing.Break.{Break}
-use Rattle.satip_frame.specs.Said.{Said}
-use Rattle.satip_frame.specs.Stream.{Unfinished, Broken, Messages, Leads}
-use Rattle.satip_frame.specs.Held.{Held}
 use Rattle.satip_rtsp.specs.declared.requests.Request.{Request}
-use Rattle.satip_rtsp.specs.Asked.{asked, broken}
+use Rattle.satip_rtsp.specs.Asked.{asked}
+use Rattle.satip_hearing.specs.Asking.{AsksFirst, AsksSoFar}
 use Rattle.satip_plain.specs.declared.events.Event.{Event}
 use Rattle.satip_plain.specs.Histories.{Item}
 use Rattle.satip_world.specs.Counts.{Rises}
@@ -39,36 +36,33 @@ course_events course requests = request_events course.peer (draw_at course.key c
 abbrev pub drawn : Course → ℕ → ChaCha
 drawn course count = before_draw course.key course.stream (course.from + count)
 
--- these first messages of the text were answered, and the framer holds what stands behind them
-pub record Stands (conn_tells outlet_tells : Type 0) (course : Course) (n : Stage) (m : Line) (draws : ChaCha)
-    (received text : List ℕ) (messages : List Said) (framer : Held) : Type 0 where
-  pub leads : Leads text messages framer.bytes
+-- these requests of the text were answered, and the connection ends with the last answer, or doesn't
+pub record Answered (conn_tells outlet_tells : Type 0) (course : Course) (n : Stage) (m : Line) (draws : ChaCha) (text : List ℕ)
+    (requests : List Request) (over : Bool) : Type 0 where
   pub entries : List Item
-  pub events : events_of entries ≡ course_events course (map asked messages)
-  pub unended : ends_with_last entries ≡ false
+  pub events : events_of entries ≡ course_events course requests
+  pub ends : ends_with_last entries ≡ over
   pub draws_are : draws ≡ drawn course (length entries)
   pub makes : Makes outlet_tells course.stage n entries
-  pub carries : Carries conn_tells course.line m received (replies entries)
+  pub carries : Carries conn_tells course.line m text (replies entries)
 
--- all messages of the text were answered, and more may come
-pub record Listens (conn_tells outlet_tells : Type 0) (course : Course) (n : Stage) (m : Line) (draws : ChaCha)
-    (received text : List ℕ) (framer : Held) : Type 0 where
-  pub messages : List Said
-  pub read : Messages text messages Unfinished
-  pub stands : Stands conn_tells outlet_tells course n m draws received text messages framer
+-- what the text asks first was answered, and then these bytes wait
+pub record Stands (conn_tells outlet_tells : Type 0) (course : Course) (n : Stage) (m : Line) (draws : ChaCha) (text waiting : List ℕ) : Type 0 where
+  pub requests : List Request
+  pub first : AsksFirst asked text requests waiting
+  pub answered : Answered conn_tells outlet_tells course n m draws text requests false
+
+-- all that the text asks so far was answered, and then the framer holds these bytes
+pub record Listens (conn_tells outlet_tells : Type 0) (course : Course) (n : Stage) (m : Line) (draws : ChaCha) (text held : List ℕ) : Type 0 where
+  pub requests : List Request
+  pub heard : AsksSoFar asked text requests held
+  pub answered : Answered conn_tells outlet_tells course n m draws text requests false
 
 -- the text is broken, and all that it asks was answered
-pub record HasClosed (conn_tells outlet_tells : Type 0) (course : Course) (n : Stage) (m : Line) (draws : ChaCha)
-    (received text : List ℕ) : Type 0 where
-  pub messages : List Said
-  pub cause : Break
-  pub read : Messages text messages (Broken cause)
-  pub entries : List Item
-  pub events : events_of entries ≡ course_events course (map asked messages ++ broken cause ∷ [])
-  pub ended : ends_with_last entries ≡ true
-  pub draws_are : draws ≡ drawn course (length entries)
-  pub makes : Makes outlet_tells course.stage n entries
-  pub carries : Carries conn_tells course.line m received (replies entries)
+pub record HasClosed (conn_tells outlet_tells : Type 0) (course : Course) (n : Stage) (m : Line) (draws : ChaCha) (text : List ℕ) : Type 0 where
+  pub requests : List Request
+  pub asks : AsksAll text requests
+  pub answered : Answered conn_tells outlet_tells course n m draws text requests true
 
 -- the events of entries are the first of what the text asks
 pub record AreFirstOf (course : Course) (text : List ℕ) (entries : List Item) : Type 0 where
@@ -78,36 +72,31 @@ pub record AreFirstOf (course : Course) (text : List ℕ) (entries : List Item) 
   pub events : course_events course requests ≡ events_of entries ++ rest
 
 -- a send failed in the middle of the text
-pub record HasLost (conn_tells outlet_tells : Type 0) (course : Course) (n : Stage) (m : Line) (draws : ChaCha)
-    (received text : List ℕ) : Type 0 where
+pub record HasLost (conn_tells outlet_tells : Type 0) (course : Course) (n : Stage) (m : Line) (draws : ChaCha) (text : List ℕ) : Type 0 where
   pub entries : List Item
   pub first : AreFirstOf course text entries
   pub sent : List ℕ
   pub in_part : SentInPart entries sent
   pub draws_are : draws ≡ drawn course (length entries)
   pub makes : Makes outlet_tells course.stage n entries
-  pub carries : Carries conn_tells course.line m received sent
+  pub carries : Carries conn_tells course.line m text sent
   pub faults : Rises course.line.send_faults m.send_faults
 
 -- the service made no entry of what the text asks next
-pub record HasStopped (conn_tells outlet_tells : Type 0) (course : Course) (n : Stage) (m : Line) (draws : ChaCha)
-    (received text : List ℕ) (fault : ServiceFault) : Type 0 where
+pub record HasStopped (conn_tells outlet_tells : Type 0) (course : Course) (n : Stage) (m : Line) (draws : ChaCha) (text : List ℕ)
+    (fault : ServiceFault) : Type 0 where
   pub entries : List Item
   pub first : AreFirstOf course text entries
   pub more : first.rest ≢ []
   pub draws_are : draws ≡ drawn course (length entries + 1)
   pub makes : Makes outlet_tells course.stage n entries
-  pub carries : Carries conn_tells course.line m received (replies entries)
+  pub carries : Carries conn_tells course.line m text (replies entries)
   pub cause : Cause course.stage.may_want n.known fault
 
--- what hearing a text comes to
+-- what hearing a text comes to, of which the framer then holds these bytes
 abbrev pub Hears : (conn_tells outlet_tells : Type 0) (course : Course) (n : Stage) (m : Line) (draws : ChaCha)
-    (received text : List ℕ) (framer : Held) → Heard → Type 0
-Hears conn_tells outlet_tells course n m draws received text framer All =
-    Listens conn_tells outlet_tells course n m draws received text framer
-Hears conn_tells outlet_tells course n m draws received text framer Closed =
-    HasClosed conn_tells outlet_tells course n m draws received text
-Hears conn_tells outlet_tells course n m draws received text framer Lost =
-    HasLost conn_tells outlet_tells course n m draws received text
-Hears conn_tells outlet_tells course n m draws received text framer (Unmade fault) =
-    HasStopped conn_tells outlet_tells course n m draws received text fault
+    (text held : List ℕ) → Heard → Type 0
+Hears conn_tells outlet_tells course n m draws text held All = Listens conn_tells outlet_tells course n m draws text held
+Hears conn_tells outlet_tells course n m draws text held Closed = HasClosed conn_tells outlet_tells course n m draws text
+Hears conn_tells outlet_tells course n m draws text held Lost = HasLost conn_tells outlet_tells course n m draws text
+Hears conn_tells outlet_tells course n m draws text held (Unmade fault) = HasStopped conn_tells outlet_tells course n m draws text fault

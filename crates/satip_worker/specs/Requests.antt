@@ -1,25 +1,21 @@
 -- What is asked on an RTSP connection.
-use Rattle.std.specs.Prelude.{◌≡◌, ℕ, ◌+◌, List, [], ◌∷◌, ◌++◌, map}
+use Rattle.std.specs.Prelude.{ℕ, ◌+◌, List, [], ◌∷◌}
 use Rattle.satip_base.specs.declared.network.Peer.{Peer}
 use Rattle.satip_base.specs.declared.identity.Draw.{Draw}
-use Rattle.satip_frame.specs.Said.{Said}
-use Rattle.satip_frame.specs.Stream.{Tail, Unfinished, Broken, Messages}
+use Rattle.satip_frame.specs.Stream.{Tail}
 use Rattle.satip_rtsp.specs.declared.requests.Request.{Request}
 use Rattle.satip_rtsp.specs.Asked.{asked, broken}
+use Rattle.satip_hearing.specs.Asking.{asked_by_tail as tail_asks, AsksAll as TextAsks}
 use Rattle.satip_plain.specs.declared.events.Event.{Event}
 use Rattle.satip_plain.specs.declared.events.Event.TheVariants.{Request as Asks}
 
 -- what is asked by what is no message
 abbrev pub asked_by_tail : Tail → List Request
-asked_by_tail Unfinished = []
-asked_by_tail (Broken cause) = broken cause ∷ []
+asked_by_tail = tail_asks broken
 
 -- all that a whole text asks: one request for each message, and one more for what is no message
-pub record AsksAll (text : List ℕ) (all : List Request) : Type 0 where
-  pub messages : List Said
-  pub tail : Tail
-  pub read : Messages text messages tail
-  pub requests : all ≡ map asked messages ++ asked_by_tail tail
+abbrev pub AsksAll : List ℕ → List Request → Type 0
+AsksAll = TextAsks asked broken
 
 -- the events of requests of a peer, which take the draws one after another from one number on
 abbrev pub request_events : Peer → (ℕ → Draw) → ℕ → List Request → List Event

@@ -1,12 +1,12 @@
 //! What is asked first on an HTTP connection (RFC 9112, section 2).
 
-ghost use Rattle.std.specs.Prelude.{◌≡◌, ◌≢◌, ◌<◌, ℕ, List, ◌++◌, None, IsSome, IsSomeAnd, IsNone, length};
-ghost use Rattle.satip_frame.specs.Held.{capacity, new_framer};
-ghost use Rattle.satip_http.specs.Gets.{asked};
-ghost use Rattle.satip_worker.specs.FirstAsked.{AsksNothing, Finds, ReadsFirst};
+ghost use Rattle.std.specs.Prelude.{◌≡◌, ◌≢◌};
+ghost use Rattle.satip_frame.specs.Held.{new_framer};
+ghost use Rattle.satip_worker.specs.FirstAsked.{ReadsFirst};
 
 use satip_base::limits::PIECE;
-use satip_frame::{Break, Framer, Step};
+use satip_frame::{Break, Framer};
+use satip_hearing::{Next, Piece, next_asked};
 use satip_http::HttpRequest;
 use satip_world::{Conn, Pacer, Received};
 use std::sync::Wait;
@@ -22,40 +22,6 @@ pub(crate) enum First {
     Failed,
 }
 
-// The request of the message that was found.
-fn found_request(framer: &Framer) -> HttpRequest
-    requires { IsSome framer.now.found }
-    ensures asked { IsSomeAnd framer.now.found (λ message. result ≡ asked message) }
-{
-    match framer.message() {
-        Some(message) => HttpRequest::of(&message),
-        None => unreachable!(),
-    }
-}
-
-// Takes in bytes, up to the first message or what stands in place of one.
-fn find_first(framer: &mut Framer, piece: &[u8]) -> Option<HttpRequest>
-    requires goes_on { framer.old.ended ≡ None }
-    requires space { length framer.old.bytes < capacity }
-    ensures finds { (text : List ℕ) → AsksNothing text framer.old
-        → Finds (text ++ piece.now) framer.new result }
-    ensures goes_on { IsNone result → framer.new.ended ≡ None }
-    ensures space { IsNone result → length framer.new.bytes < capacity }
-{
-    let mut rest = piece;
-    'piece: while !rest.is_empty() {
-        let count = framer.feed(rest);
-        rest = rest.split_at(count).1;
-        match framer.next() {
-            Step::Message => return Some(found_request(framer)),
-            Step::More => {}
-            Step::Bad => return Some(HttpRequest::broken(Break::Bad)),
-            Step::TooLong => return Some(HttpRequest::broken(Break::TooLong)),
-        }
-    }
-    None
-}
-
 /// Receives up to the first message, or what stands in place of one.
 pub(crate) fn read_first<R: Wait + Sync, C: Conn, P: Pacer>(
     rt: &R,
@@ -69,12 +35,16 @@ pub(crate) fn read_first<R: Wait + Sync, C: Conn, P: Pacer>(
         ≡ (C.line conn.old).receive_faults }
 {
     let mut buf = [0; PIECE];
+    let mut request = HttpRequest::broken(Break::Bad);
     for _ in rt.forever() {
         match conn.receive(&mut buf) {
-            Received::Got(count) => match find_first(framer, &buf[..count]) {
-                Some(request) => return First::Asked(request),
-                None => {}
-            },
+            Received::Got(count) => {
+                match next_asked(framer, &mut Piece::new(&buf[..count]), &mut request) {
+                    Next::Asked => return First::Asked(request),
+                    Next::Last => return First::Asked(request),
+                    Next::Nothing => {}
+                }
+            }
             Received::Idle => pacer.pause(),
             Received::End => return First::Ended,
             Received::Failed => return First::Failed,

@@ -1,15 +1,12 @@
 //! One RTSP connection: each message is one request, answered in order (RFC 2326, section 10).
 
-ghost use Rattle.std.specs.Prelude.{◌≡◌, ◌≢◌, ◌<◌, ◌+◌, ℕ, List, ◌++◌, None, IsSome, IsSomeAnd, length, false};
-ghost use Rattle.satip_frame.specs.Said.{Said};
-ghost use Rattle.satip_frame.specs.Stream.{Broken, Messages};
-ghost use Rattle.satip_frame.specs.Held.{Held, capacity, new_framer};
-ghost use Rattle.satip_rtsp.specs.Asked.{asked, broken};
+ghost use Rattle.std.specs.Prelude.{◌≡◌, ◌+◌, ℕ, List, ◌++◌, None, false};
+ghost use Rattle.satip_frame.specs.Held.{new_framer};
 ghost use Rattle.satip_plain.specs.declared.events.Event.{Event};
 ghost use Rattle.satip_service.specs.Suits.{closes};
 ghost use Rattle.satip_worker.specs.Drawing.{draw_at, before_draw};
 ghost use Rattle.satip_worker.specs.Turns.{Turns};
-ghost use Rattle.satip_worker.specs.Hearing.{Course, Stands, Listens, Hears};
+ghost use Rattle.satip_worker.specs.Hearing.{Course, Stands, Hears};
 ghost use Rattle.satip_worker.specs.Served.{ServesConn};
 ghost use Rattle.satip_worker.specs.Progress.{staged};
 
@@ -18,7 +15,8 @@ use crate::room::Room;
 use crate::turns::{Heard, Turn, end_of, make};
 use satip_base::limits::PIECE;
 use satip_base::{Out, Peer, Put};
-use satip_frame::{Break, Framer, Step};
+use satip_frame::Break;
+use satip_hearing::{Next, Piece, next_asked};
 use satip_plain::Event;
 use satip_rtsp::Request;
 use satip_service::Service;
@@ -30,7 +28,7 @@ fn turn<S: Service, C: Conn, O: Outlet>(
     service: &mut S,
     peer: Peer,
     draws: &mut Draws,
-    request: Request,
+    request: &Request,
     out: &mut Out,
     outlet: &mut O,
     conn: &mut C,
@@ -47,13 +45,13 @@ fn turn<S: Service, C: Conn, O: Outlet>(
         (staged S.may_want S.known O.outbox service.old outlet.old)
         (staged S.may_want S.known O.outbox service.new outlet.new)
         (C.line conn.old) (C.line conn.new)
-        (Event.Request peer (draw_at key stream number) request) (closes request.refusal) result }
+        (Event.Request peer (draw_at key stream number) request.now) (closes request.now.refusal) result }
 {
     let draw = draws.next();
     let event = Event::Request {
         peer,
         draw,
-        request,
+        request: *request,
     };
     match make(service, &event, out, outlet) {
         Err(fault) => Turn::Unmade(fault),
@@ -64,123 +62,7 @@ fn turn<S: Service, C: Conn, O: Outlet>(
     }
 }
 
-// Answers what is no message.
-fn close<S: Service, C: Conn, O: Outlet>(
-    service: &mut S,
-    peer: Peer,
-    draws: &mut Draws,
-    cause: Break,
-    out: &mut Out,
-    outlet: &mut O,
-    conn: &mut C,
-) -> Heard
-    requires free { (O.outbox outlet.old).held ≡ false }
-    ensures free { (O.outbox outlet.new).held ≡ false }
-    ensures same { S.same service.old service.new }
-    ensures input { (C.line conn.new).ended ≡ (C.line conn.old).ended }
-    ensures calm { (C.line conn.new).receive_faults ≡ (C.line conn.old).receive_faults }
-    ensures hears { (course : Course) (received text : List ℕ) (messages : List Said)
-        (framer : Held)
-        → course.peer ≡ peer
-        → Stands C.tells O.tells course
-        (staged S.may_want S.known O.outbox service.old outlet.old)
-        (C.line conn.old) draws.old received text messages framer
-        → Messages text messages (Broken cause)
-        → Hears C.tells O.tells course
-        (staged S.may_want S.known O.outbox service.new outlet.new)
-        (C.line conn.new) draws.new received text framer result }
-    ensures over { result ≢ Heard.All }
-{
-    match turn(
-        service,
-        peer,
-        draws,
-        Request::broken(cause),
-        out,
-        outlet,
-        conn,
-    ) {
-        Turn::Sent => Heard::Closed,
-        Turn::Lost => Heard::Lost,
-        Turn::Unmade(fault) => Heard::Unmade(fault),
-    }
-}
-
-// The request of the message that was found.
-fn found_request(framer: &Framer) -> Request
-    requires { IsSome framer.now.found }
-    ensures asked { IsSomeAnd framer.now.found (λ message. result ≡ asked message) }
-    ensures whole { closes result.refusal ≡ false }
-{
-    match framer.message() {
-        Some(message) => Request::of(&message),
-        None => unreachable!(),
-    }
-}
-
-// Answers all whole messages that the framer holds.
-fn answer<S: Service, C: Conn, O: Outlet>(
-    service: &mut S,
-    peer: Peer,
-    draws: &mut Draws,
-    room: &mut Room,
-    outlet: &mut O,
-    conn: &mut C,
-) -> Heard
-    requires free { (O.outbox outlet.old).held ≡ false }
-    ensures free { (O.outbox outlet.new).held ≡ false }
-    ensures same { S.same service.old service.new }
-    ensures input { (C.line conn.new).ended ≡ (C.line conn.old).ended }
-    ensures calm { (C.line conn.new).receive_faults ≡ (C.line conn.old).receive_faults }
-    ensures hears { (course : Course) (received text : List ℕ) (messages : List Said)
-        → course.peer ≡ peer
-        → Stands C.tells O.tells course
-        (staged S.may_want S.known O.outbox service.old outlet.old)
-        (C.line conn.old) draws.old received text messages room.old.framer
-        → Hears C.tells O.tells course
-        (staged S.may_want S.known O.outbox service.new outlet.new)
-        (C.line conn.new) draws.new received text room.new.framer result }
-    ensures goes_on { result ≡ Heard.All → room.new.framer.ended ≡ None }
-    ensures space { result ≡ Heard.All → length room.new.framer.bytes < capacity }
-{
-    'messages: loop {
-        match room.framer.next() {
-            Step::Message => {
-                let request = found_request(&room.framer);
-                match turn(service, peer, draws, request, &mut room.out, outlet, conn) {
-                    Turn::Sent => {}
-                    Turn::Lost => return Heard::Lost,
-                    Turn::Unmade(fault) => return Heard::Unmade(fault),
-                }
-            }
-            Step::More => return Heard::All,
-            Step::Bad => {
-                return close(
-                    service,
-                    peer,
-                    draws,
-                    Break::Bad,
-                    &mut room.out,
-                    outlet,
-                    conn,
-                );
-            }
-            Step::TooLong => {
-                return close(
-                    service,
-                    peer,
-                    draws,
-                    Break::TooLong,
-                    &mut room.out,
-                    outlet,
-                    conn,
-                );
-            }
-        }
-    }
-}
-
-// Takes in bytes behind those that came before, and answers all whole messages.
+// Takes in a piece behind what came before, and answers all that is asked.
 fn hear<S: Service, C: Conn, O: Outlet>(
     service: &mut S,
     peer: Peer,
@@ -191,35 +73,38 @@ fn hear<S: Service, C: Conn, O: Outlet>(
     conn: &mut C,
 ) -> Heard
     requires goes_on { room.old.framer.ended ≡ None }
-    requires space { length room.old.framer.bytes < capacity }
     requires free { (O.outbox outlet.old).held ≡ false }
     ensures free { (O.outbox outlet.new).held ≡ false }
     ensures same { S.same service.old service.new }
     ensures input { (C.line conn.new).ended ≡ (C.line conn.old).ended }
     ensures calm { (C.line conn.new).receive_faults ≡ (C.line conn.old).receive_faults }
-    ensures hears { (course : Course) (received text : List ℕ)
+    ensures hears { (course : Course) (text : List ℕ)
         → course.peer ≡ peer
-        → Listens C.tells O.tells course
+        → Stands C.tells O.tells course
         (staged S.may_want S.known O.outbox service.old outlet.old)
-        (C.line conn.old) draws.old received text room.old.framer
+        (C.line conn.old) draws.old text (room.old.framer.bytes ++ piece.now)
         → Hears C.tells O.tells course
         (staged S.may_want S.known O.outbox service.new outlet.new)
-        (C.line conn.new) draws.new received (text ++ piece.now) room.new.framer result }
+        (C.line conn.new) draws.new text room.new.framer.bytes result }
     ensures goes_on { result ≡ Heard.All → room.new.framer.ended ≡ None }
-    ensures space { result ≡ Heard.All → length room.new.framer.bytes < capacity }
 {
-    let mut rest = piece;
-    'piece: while !rest.is_empty() {
-        let count = room.framer.feed(rest);
-        rest = rest.split_at(count).1;
-        match answer(service, peer, draws, room, outlet, conn) {
-            Heard::All => {}
-            Heard::Closed => return Heard::Closed,
-            Heard::Lost => return Heard::Lost,
-            Heard::Unmade(fault) => return Heard::Unmade(fault),
+    let mut rest = Piece::new(piece);
+    let mut request = Request::broken(Break::Bad);
+    'requests: loop {
+        match next_asked(&mut room.framer, &mut rest, &mut request) {
+            Next::Asked => match turn(service, peer, draws, &request, &mut room.out, outlet, conn) {
+                Turn::Sent => {}
+                Turn::Lost => return Heard::Lost,
+                Turn::Unmade(fault) => return Heard::Unmade(fault),
+            },
+            Next::Last => match turn(service, peer, draws, &request, &mut room.out, outlet, conn) {
+                Turn::Sent => return Heard::Closed,
+                Turn::Lost => return Heard::Lost,
+                Turn::Unmade(fault) => return Heard::Unmade(fault),
+            },
+            Next::Nothing => return Heard::All,
         }
     }
-    Heard::All
 }
 
 /// Serves an RTSP connection: the messages that come in are answered in order, until the input

@@ -1,7 +1,6 @@
 use Rattle.std.proofs.Common.{◌++◌, refl, append_assoc, take, drop, ◌∙◌}
-use Rattle.satip_worker.proofs.HearingLemmas.{piece_parts, text_parts}
 use Rattle.satip_tunneling.specs.declared.ends.TunnelEnd.TheVariants.{Broken as end_broken}
-use Rattle.satip_tunneling.proofs.HearingLemmas.{stands_fed, closed_stays, first_stays, lost_stays, stopped_stays, heard_none}
+use Rattle.satip_tunneling.proofs.HearingLemmas.{stands_fed, closed_stays, first_stays, lost_stays, stopped_stays, heard_none, piece_parts, text_parts}
 use Rattle.satip_tunneling.proofs.hearing.hear.Goals as goal
 
 pub piece-init : goal.piece-init

@@ -1,29 +1,48 @@
-use Rattle.std.proofs.Common.{refl, lit<, ◌∙◌, []}
-use Rattle.satip_worker.proofs.ProgressLemmas.{carries_nothing}
-use Rattle.satip_worker.proofs.FirstLemmas.{nothing_asked, carries_got, read_asked}
+use Rattle.std.proofs.Common.{refl, ◌∙◌, ◌++◌, [], take}
+use Rattle.satip_http.specs.Gets.{asked}
+use Rattle.satip_hearing.proofs.TextLemmas.{nothing_asked, more_came}
+use Rattle.satip_worker.proofs.ProgressLemmas.{carries_nothing, carries_got}
+use Rattle.satip_worker.proofs.FirstLemmas.{first_found, first_broken, read_asked, read_nothing, read_failed}
 use Rattle.satip_worker.proofs.first.read_first.Goals as goal
 
 pub loop-init : goal.loop-init
-loop-init g c = (
-  record { goes_on = rw c.requires.new refl; space = rw c.requires.new (lit< tt) },
-  refl,
-  ([], nothing_asked _ c.requires.new, carries_nothing _ _),
-  refl,
-)
+loop-init g c = (rw c.requires.new refl, refl, ([], rw c.requires.new (nothing_asked asked), carries_nothing _ _), refl)
 
-pub loop-preserved-in-None-find_first : goal.loop-preserved-in-None-find_first
-loop-preserved-in-None-find_first g c =
-    let before = c.loop.invariant.2 in (
-      record { goes_on = c.in-None-find_first.ensures.goes_on refl; space = c.in-None-find_first.ensures.space refl },
+pub returns-in-Asked-clause-reads : goal.returns-in-Asked-clause-reads
+returns-in-Asked-clause-reads g c =
+    let before = c.loop.invariant.2 in
+    let piece = take c.in-Got.count c.receive.new.buf in
+    let waits = more_came asked before.0 piece c.loop.framer.bytes c.new.result [] c.new.ensures.whole before.1 in
+    read_asked _ _ _ _ before.0 c.receive.new.buf c.in-Got.count _ before.2 c.in-Got.ensures.receives
+    (first_found (before.0 ++ piece) _ _ (c.in-Asked.ensures.hears (before.0 ++ piece) [] waits))
+
+pub returns-in-Last-clause-reads : goal.returns-in-Last-clause-reads
+returns-in-Last-clause-reads g c =
+    let before = c.loop.invariant.2 in
+    let piece = take c.in-Got.count c.receive.new.buf in
+    let waits = more_came asked before.0 piece c.loop.framer.bytes c.new.result [] c.new.ensures.whole before.1 in
+    read_asked _ _ _ _ before.0 c.receive.new.buf c.in-Got.count _ before.2 c.in-Got.ensures.receives
+    (first_broken (before.0 ++ piece) _ (c.in-Last.ensures.hears (before.0 ++ piece) [] waits))
+
+pub loop-preserved-in-Nothing : goal.loop-preserved-in-Nothing
+loop-preserved-in-Nothing g c =
+    let before = c.loop.invariant.2 in
+    let piece = take c.in-Got.count c.receive.new.buf in
+    let waits = more_came asked before.0 piece c.loop.framer.bytes c.new.result [] c.new.ensures.whole before.1 in (
+      c.in-Nothing.ensures.open (λ is. cc is),
       c.receive.auto.buf ∙ c.loop.invariant.1,
-      (_, c.in-None-find_first.ensures.finds before.0 before.1, carries_got _ _ _ _ before.0 _ _ before.2 c.in-Got.ensures.receives),
+      (
+        before.0 ++ piece,
+        (c.in-Nothing.ensures.hears (before.0 ++ piece) [] waits).0,
+        carries_got _ _ _ _ before.0 [] c.receive.new.buf c.in-Got.count before.2 c.in-Got.ensures.receives,
+      ),
       c.in-Got.ensures.receives.counts.receive_faults ∙ c.loop.invariant.3,
     )
 
-pub returns-in-Some-find_first : goal.returns-in-Some-find_first
-returns-in-Some-find_first g c =
-    let before = c.loop.invariant.2 in
-    record {
-      reads = read_asked _ _ _ _ before.0 _ _ _ before.2 c.in-Got.ensures.receives (c.in-Some-find_first.ensures.finds before.0 before.1);
-      calm = λ _. c.in-Got.ensures.receives.counts.receive_faults ∙ c.loop.invariant.3;
-    }
+pub returns-in-End-clause-reads : goal.returns-in-End-clause-reads
+returns-in-End-clause-reads g c =
+    let before = c.loop.invariant.2 in read_nothing _ _ _ _ before.0 _ before.1 before.2 c.in-End.ensures.receives
+
+pub returns-in-Failed-clause-reads : goal.returns-in-Failed-clause-reads
+returns-in-Failed-clause-reads g c =
+    let before = c.loop.invariant.2 in read_failed _ _ _ _ before.0 _ before.1 before.2 c.in-Failed.ensures.receives

@@ -1,49 +1,75 @@
-use Rattle.std.proofs.Common.{◌++◌, refl, append_assoc, take, drop, ◌∙◌}
-use Rattle.satip_worker.proofs.HearingLemmas.{heard_none, stands_fed, closed_stays, lost_stays, stopped_stays, piece_parts, text_parts}
+use Rattle.std.proofs.Common.{refl, ◌∙◌, ◌++◌, ◌∷◌, []}
+use Rattle.satip_rtsp.specs.Asked.{asked, broken}
+use Rattle.satip_hearing.proofs.TextLemmas.{all_with_last}
+use Rattle.satip_worker.specs.declared.turns.Turn.TheVariants.{Sent, Lost, Unmade}
+use Rattle.satip_worker.proofs.HearingLemmas.{stands_whole, message_turns, last_turns}
 use Rattle.satip_worker.proofs.rtsp.hear.Goals as goal
 
-pub piece-init : goal.piece-init
-piece-init g c = (
-  record { goes_on = c.requires.goes_on; space = c.requires.space },
+pub requests-init : goal.requests-init
+requests-init g c = (
+  c.requires.goes_on,
   g.met.S.Service.same_self _,
   refl,
-  λ course received text same listens. heard_none _ _ course _ _ _ received text _ _ listens,
+  λ course text same stands. stands_whole _ _ course _ _ _ text c.args.room.now.framer.bytes _ _ c.new-rest.ensures.whole stands,
   refl,
   c.requires.free,
 )
 
-pub piece-preserved : goal.piece-preserved
-piece-preserved g c = (
-  record { goes_on = c.in-All.ensures.goes_on refl; space = c.in-All.ensures.space refl },
-  g.met.S.Service.same_then _ _ _ c.piece.invariant.1 c.answer.ensures.same,
-  c.answer.ensures.input ∙ c.piece.invariant.2,
-  λ course received text same listens.
-      let before = c.piece.invariant.3 course received text same listens in
-      let fed = stands_fed _ _ course _ _ _ received (text ++ before.0) _ _ _ c.feed-count.new.self before.2.stands c.feed-count.ensures.bytes in
-      let heard = c.in-All.ensures.hears course received _ before.2.messages same fed in
-      let parts = piece_parts before.0 _ _ c.feed-count.result before.1 in
-      (before.0 ++ take c.feed-count.result c.piece.rest.now, rw c.split_at.ensures.back parts, rw (← append_assoc text before.0 _) heard),
-  c.answer.ensures.calm ∙ c.piece.invariant.4,
-  c.answer.ensures.free,
+pub requests-preserved : goal.requests-preserved
+requests-preserved g c = (
+  c.in-Asked.ensures.open (λ is. cc is),
+  g.met.S.Service.same_then _ _ _ c.requests.invariant.1 c.turn.ensures.same,
+  c.turn.ensures.input ∙ c.requests.invariant.2,
+  λ course text same stands.
+      let before = c.requests.invariant.3 course text same stands in
+      let next = c.in-Asked.ensures.hears text before.requests before.first in
+      record {
+        requests = before.requests ++ c.next_asked.new.request ∷ [];
+        first = next.first;
+        answered = message_turns _ _ course _ _ _ _ _ _ text before.requests c.next_asked.new.request before.answered _ same
+            c.turn.ensures.draws Sent c.in-Sent.ensures.turns _ next;
+      },
+  c.turn.ensures.calm ∙ c.requests.invariant.4,
+  c.turn.ensures.free,
 )
 
-pub returns-in-Closed-clause-hears : goal.returns-in-Closed-clause-hears
-returns-in-Closed-clause-hears g c = λ course received text same listens.
-    let before = c.piece.invariant.3 course received text same listens in
-    let fed = stands_fed _ _ course _ _ _ received (text ++ before.0) _ _ _ c.feed-count.new.self before.2.stands c.feed-count.ensures.bytes in
-    let closed = closed_stays _ _ course _ _ _ received _ (drop c.feed-count.result c.piece.rest.now) (c.in-Closed.ensures.hears course received _ before.2.messages same fed) in
-    rw (← text_parts text before.0 _ _ c.feed-count.result before.1) closed
-
 pub returns-in-Lost-clause-hears : goal.returns-in-Lost-clause-hears
-returns-in-Lost-clause-hears g c = λ course received text same listens.
-    let before = c.piece.invariant.3 course received text same listens in
-    let fed = stands_fed _ _ course _ _ _ received (text ++ before.0) _ _ _ c.feed-count.new.self before.2.stands c.feed-count.ensures.bytes in
-    let lost = lost_stays _ _ course _ _ _ received _ (drop c.feed-count.result c.piece.rest.now) (c.in-Lost.ensures.hears course received _ before.2.messages same fed) in
-    rw (← text_parts text before.0 _ _ c.feed-count.result before.1) lost
+returns-in-Lost-clause-hears g c = λ course text same stands.
+    let before = c.requests.invariant.3 course text same stands in
+    message_turns _ _ course _ _ _ _ _ _ text before.requests c.next_asked.new.request before.answered _ same
+    c.turn.ensures.draws Lost c.in-Lost.ensures.turns _ (c.in-Asked.ensures.hears text before.requests before.first)
 
 pub returns-in-Unmade-clause-hears : goal.returns-in-Unmade-clause-hears
-returns-in-Unmade-clause-hears g c = λ course received text same listens.
-    let before = c.piece.invariant.3 course received text same listens in
-    let fed = stands_fed _ _ course _ _ _ received (text ++ before.0) _ _ _ c.feed-count.new.self before.2.stands c.feed-count.ensures.bytes in
-    let stopped = stopped_stays _ _ course _ _ _ received _ (drop c.feed-count.result c.piece.rest.now) _ (c.in-Unmade.ensures.hears course received _ before.2.messages same fed) in
-    rw (← text_parts text before.0 _ _ c.feed-count.result before.1) stopped
+returns-in-Unmade-clause-hears g c = λ course text same stands.
+    let before = c.requests.invariant.3 course text same stands in
+    message_turns _ _ course _ _ _ _ _ _ text before.requests c.next_asked.new.request before.answered _ same
+    c.turn.ensures.draws (Unmade c.in-Unmade.fault) c.in-Unmade.ensures.turns _ (c.in-Asked.ensures.hears text before.requests before.first)
+
+pub returns-in-Sent-turn-clause-hears : goal.returns-in-Sent-turn-clause-hears
+returns-in-Sent-turn-clause-hears g c = λ course text same stands.
+    let before = c.requests.invariant.3 course text same stands in
+    let last = c.in-Last.ensures.hears text before.requests before.first in
+    record {
+      requests = before.requests ++ c.next_asked.new.request ∷ [];
+      asks = all_with_last asked broken text before.requests c.next_asked.new.request last;
+      answered = last_turns _ _ course _ _ _ _ _ _ text before.requests c.next_asked.new.request before.answered _ same
+          c.turn-in-Last.ensures.draws Sent c.in-Sent-turn.ensures.turns last;
+    }
+
+pub returns-in-Lost-turn-clause-hears : goal.returns-in-Lost-turn-clause-hears
+returns-in-Lost-turn-clause-hears g c = λ course text same stands.
+    let before = c.requests.invariant.3 course text same stands in
+    last_turns _ _ course _ _ _ _ _ _ text before.requests c.next_asked.new.request before.answered _ same
+    c.turn-in-Last.ensures.draws Lost c.in-Lost-turn.ensures.turns (c.in-Last.ensures.hears text before.requests before.first)
+
+pub returns-in-Unmade-turn-clause-hears : goal.returns-in-Unmade-turn-clause-hears
+returns-in-Unmade-turn-clause-hears g c = λ course text same stands.
+    let before = c.requests.invariant.3 course text same stands in
+    last_turns _ _ course _ _ _ _ _ _ text before.requests c.next_asked.new.request before.answered _ same
+    c.turn-in-Last.ensures.draws (Unmade c.in-Unmade-turn.fault) c.in-Unmade-turn.ensures.turns
+    (c.in-Last.ensures.hears text before.requests before.first)
+
+pub returns-in-Nothing-clause-hears : goal.returns-in-Nothing-clause-hears
+returns-in-Nothing-clause-hears g c = λ course text same stands.
+    let before = c.requests.invariant.3 course text same stands in
+    record { requests = before.requests; heard = (c.in-Nothing.ensures.hears text before.requests before.first).0; answered = before.answered }

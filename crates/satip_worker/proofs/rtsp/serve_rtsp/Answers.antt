@@ -1,10 +1,10 @@
-use Rattle.std.proofs.Common.{refl, lit<, ◌∙◌, []}
-use Rattle.satip_worker.proofs.RunLemmas.{listens_from, listens_got, listens_idle, ran_to_end, ran_to_read_fault, ran_to_closing, ran_to_write_fault, ran_to_stop}
+use Rattle.std.proofs.Common.{refl, ◌∙◌, []}
+use Rattle.satip_worker.proofs.RunLemmas.{listens_from, stands_got, listens_idle, ran_to_end, ran_to_read_fault, ran_to_closing, ran_to_write_fault, ran_to_stop}
 use Rattle.satip_worker.proofs.rtsp.serve_rtsp.Goals as goal
 
 pub loop-init : goal.loop-init
 loop-init g c = (
-  record { goes_on = rw c.requires.new refl; space = rw c.requires.new (lit< tt) },
+  rw c.requires.new refl,
   refl,
   g.met.S.Service.same_self _,
   λ key stream from are. ([], listens_from _ _ _ _ _ c.requires.new are),
@@ -14,12 +14,12 @@ loop-init g c = (
 
 pub loop-preserved-in-All : goal.loop-preserved-in-All
 loop-preserved-in-All g c = (
-  record { goes_on = c.in-All.ensures.goes_on refl; space = c.in-All.ensures.space refl },
+  c.in-All.ensures.goes_on refl,
   c.receive.auto.buf ∙ c.loop.invariant.1,
   g.met.S.Service.same_then _ _ _ c.loop.invariant.2 c.hear.ensures.same,
   λ key stream from are.
       let before = c.loop.invariant.3 key stream from are in
-      (_, c.in-All.ensures.hears _ _ _ refl (listens_got _ _ _ _ _ _ _ before.0 _ before.1 _ _ c.in-Got.ensures.receives)),
+      (_, c.in-All.ensures.hears _ _ refl (stands_got _ _ _ _ _ _ _ before.0 _ before.1 _ _ c.in-Got.ensures.receives)),
   c.hear.ensures.calm ∙ c.in-Got.ensures.receives.counts.receive_faults ∙ c.loop.invariant.4,
   c.hear.ensures.free,
 )
@@ -28,19 +28,19 @@ pub returns-in-Closed-clause-serves : goal.returns-in-Closed-clause-serves
 returns-in-Closed-clause-serves g c = λ key stream from are.
     let before = c.loop.invariant.3 key stream from are in
     ran_to_closing _ _ _ _ _ _ _ (c.hear.ensures.input ∙ c.in-Got.ensures.receives.after)
-    (c.in-Closed.ensures.hears _ _ _ refl (listens_got _ _ _ _ _ _ _ before.0 _ before.1 _ _ c.in-Got.ensures.receives))
+    (c.in-Closed.ensures.hears _ _ refl (stands_got _ _ _ _ _ _ _ before.0 _ before.1 _ _ c.in-Got.ensures.receives))
 
 pub returns-in-Lost-clause-serves : goal.returns-in-Lost-clause-serves
 returns-in-Lost-clause-serves g c = λ key stream from are.
     let before = c.loop.invariant.3 key stream from are in
     ran_to_write_fault _ _ _ _ _ _ _ (c.hear.ensures.input ∙ c.in-Got.ensures.receives.after)
-    (c.in-Lost.ensures.hears _ _ _ refl (listens_got _ _ _ _ _ _ _ before.0 _ before.1 _ _ c.in-Got.ensures.receives))
+    (c.in-Lost.ensures.hears _ _ refl (stands_got _ _ _ _ _ _ _ before.0 _ before.1 _ _ c.in-Got.ensures.receives))
 
 pub returns-in-Unmade-clause-serves : goal.returns-in-Unmade-clause-serves
 returns-in-Unmade-clause-serves g c = λ key stream from are.
     let before = c.loop.invariant.3 key stream from are in
     rw c.end_of.ensures.end (ran_to_stop _ _ _ _ _ _ _ _
-    (c.in-Unmade.ensures.hears _ _ _ refl (listens_got _ _ _ _ _ _ _ before.0 _ before.1 _ _ c.in-Got.ensures.receives)))
+    (c.in-Unmade.ensures.hears _ _ refl (stands_got _ _ _ _ _ _ _ before.0 _ before.1 _ _ c.in-Got.ensures.receives)))
 
 pub loop-preserved : goal.loop-preserved
 loop-preserved g c = (

@@ -1,0 +1,72 @@
+//! The next thing that a text asks.
+
+ghost use Rattle.std.specs.Prelude.{◌≡◌, ◌≢◌, ◌<◌, ◌++◌, ℕ, List, None, IsSome, IsSomeAnd, length};
+ghost use Rattle.satip_frame.specs.Stream.{skip_newlines};
+ghost use Rattle.satip_hearing.specs.Asking.{AsksFirst, Hears};
+
+use crate::asking::Asks;
+use crate::pieces::Piece;
+use satip_frame::{Break, Framer, Step};
+
+/// What was heard next.
+#[derive(Clone, Copy, Debug, PartialEq, Eq)]
+pub enum Next {
+    /// What the next message asks.
+    Asked,
+    /// What is asked by what is no message. Nothing behind it is heard.
+    Last,
+    /// Nothing: the whole piece was taken, and all its messages were heard.
+    Nothing,
+}
+
+// Reads what the message that was found asks.
+fn read_found<A: Asks>(framer: &Framer, request: &mut A)
+    requires found { IsSome framer.now.found }
+    ensures asked { IsSomeAnd framer.now.found (λ message. request.new ≡ A.asked message) }
+{
+    match framer.message() {
+        Some(message) => request.found(&message),
+        None => unreachable!(),
+    }
+}
+
+/// Feeds the rest of a piece to a framer up to the next thing that the text asks, and reads that
+/// over `request`. The text is all that came so far: what was fed, and the whole piece.
+pub fn next_asked<A: Asks>(framer: &mut Framer, piece: &mut Piece<'_>, request: &mut A) -> Next
+    requires open { framer.old.ended ≡ None }
+
+    // Right of each text, whatever its pieces were.
+    ensures hears { (text : List ℕ) (before : List A)
+        → AsksFirst A.asked text before (framer.old.bytes ++ piece.old)
+        → Hears A.asked A.broken text before request.new framer.new piece.new result }
+
+    ensures open { result ≢ Next.Last → framer.new.ended ≡ None }
+
+    // Each message takes some of the bytes that wait.
+    ensures fewer { result ≡ Next.Asked
+        → length (skip_newlines (framer.new.bytes ++ piece.new))
+        < length (skip_newlines (framer.old.bytes ++ piece.old)) }
+{
+    'pieces: loop {
+        piece.give(framer);
+        match framer.next() {
+            Step::Message => {
+                read_found(framer, request);
+                return Next::Asked;
+            }
+            Step::More => {
+                if piece.is_empty() {
+                    return Next::Nothing;
+                }
+            }
+            Step::Bad => {
+                request.ended(Break::Bad);
+                return Next::Last;
+            }
+            Step::TooLong => {
+                request.ended(Break::TooLong);
+                return Next::Last;
+            }
+        }
+    }
+}

@@ -1,0 +1,11 @@
+//! What is asked one after another by a text that comes in pieces: by each of its messages, and
+//! once more by what is no message.
+#![tactic(auto)]
+
+mod asking;
+mod hearing;
+mod pieces;
+
+pub use asking::Asks;
+pub use hearing::{Next, next_asked};
+pub use pieces::Piece;
