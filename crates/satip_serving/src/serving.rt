@@ -217,7 +217,13 @@ pub fn serve_by<R: Threads + Wait + Sync, K: Desk>(
 {
     match desk.config(name) {
         Ok(mut source) => {
-            let JobsLeft { end, last, unused } = serve_source(rt, alloc, &mut source, accepts, desk);
+            let JobsLeft { end, last, unused } = serve_source(
+                rt,
+                alloc,
+                &mut source,
+                accepts,
+                desk,
+            );
             Served {
                 end,
                 config: Some(source),
