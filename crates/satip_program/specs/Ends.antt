@@ -1,28 +1,23 @@
 -- What the run of a command comes to, by its status.
-use Rattle.std.specs.Prelude.{◌≡◌, ℕ, ◌+◌, ◌≤◌, ◌⊎◌, ◌↔◌, true, List, [], ◌∷◌, ◌++◌, length, Option, Some, None, IsNone, IfSome, IsSomeAnd, MatchOption}
+use Rattle.std.specs.Prelude.{◌≡◌, ℕ, ◌+◌, ◌≤◌, ◌⊎◌, List, [], ◌∷◌, ◌++◌, length, Option, Some, IfSome, IsSomeAnd, MatchOption}
 use Rattle.satip_base.specs.Streams.{Feed, Drain, Rose, PutAll, FailedToPut}
 use Rattle.satip_world.specs.Counts.{Rises}
 use Rattle.satip_config.specs.declared.fault.ConfigFault.{ConfigFault}
-use Rattle.satip_history.specs.Lists.{Each, Has}
-use Rattle.satip_turn.specs.Shown.{IsOf}
+use Rattle.satip_history.specs.Lists.{Has}
 use Rattle.satip_serve.specs.declared.kits.Jobs.{Jobs}
 use Rattle.satip_serve.specs.declared.serving.Last.{Last}
-use Rattle.satip_serve.specs.Done.{IsFull}
-use Rattle.satip_serve.specs.ServeRuns.{ServeRun, HasFault}
-use Rattle.satip_serving.specs.Given.{JobsView, ComeBack, ComeUnused}
-use Rattle.satip_serving.specs.Laws.{SendsSelected, ObeysOwners, TellsBusy, PlaysRecordings}
-use Rattle.satip_serving.specs.Servings.{GivenFrom, AreUnused, IsOneOf, IsNeitherOf}
-use Rattle.satip_replay.specs.Replays.{configuration_limit, Configured, Replayed}
-use Rattle.satip_replay.specs.Ends.{EndsByConfiguration, EndsByScript, EndsByInput, EndsByOutput, EndsByLength, EndsByWant, Refused}
+use Rattle.satip_serving.specs.Ends.{Serves}
+use Rattle.satip_serving.specs.Given.{JobsView}
+use Rattle.satip_replay.specs.Replays.{configuration_limit, Replayed}
+use Rattle.satip_replay.specs.Ends.{EndsByConfiguration, EndsByScript, EndsByInput, EndsByOutput, EndsByLength, EndsByWant}
 use Rattle.satip_stress.specs.Ends.{stressed}
 use Rattle.satip_telling.specs.Lines.{Says, configuration_line}
 use Rattle.satip_program.specs.Commands.{script_line}
 use Rattle.satip_program.specs.Talk.{Answered}
 use Rattle.satip_program.specs.Outcomes.{input_limit, IsBroken, EndsEarly, ReadsInTime, NothingDone}
 use Rattle.satip_program.specs.Replaying.{Given, IsSettled}
-use Rattle.satip_program.specs.Serving.{IsServeSettled}
 
--- the statuses of a talk, of a replay, of a stress run and of a serve
+-- the statuses of a talk, of a replay and of a stress run
 abbrev pub talk_statuses : List ℕ
 talk_statuses = 0 ∷ 5 ∷ 6 ∷ 8 ∷ 70 ∷ []
 
@@ -31,9 +26,6 @@ replay_statuses = 0 ∷ 3 ∷ 4 ∷ 5 ∷ 6 ∷ 8 ∷ 70 ∷ []
 
 abbrev pub stress_statuses : List ℕ
 stress_statuses = 0 ∷ 6 ∷ 70 ∷ []
-
-abbrev pub serve_statuses : List ℕ
-serve_statuses = 0 ∷ 3 ∷ 5 ∷ 7 ∷ 9 ∷ 70 ∷ []
 
 -- a closing reply answers to a beginning of the text that is within the limit
 pub record ClosesInTime (text : List ℕ) : Type 0 where
@@ -110,38 +102,10 @@ pub record StressEnds (out_tells : Type 0) (seed count : ℕ) (i j : Feed) (o n 
 -- a serve: after how many connections doors end, the text of its configuration where the desk tells it, the desk's count
 -- of faults before and behind it, the source that the desk gave, if it gave one, as it is behind it, the kits that the
 -- desk gave, what the jobs left, if any began, or else the kits with which none began, its errors before and behind it,
--- and its status
-pub record ServeEnds {S D O P M C : Type 0} (config_tells conn_tells outlet_tells error_tells : Type 0) (accepts : ℕ) (text : Option (List ℕ))
-    (before now : ℕ) (seen : S → Feed) (source : Option S) (view : Jobs D O P M C → JobsView) (given : Option JobsView)
-    (last : Option (Last D O P M C)) (unused : Option (Jobs D O P M C)) (e m : Drain) (status : ℕ) : Type 0 where
-  pub status_is : Has status serve_statuses
-  -- the jobs ran by the configuration of the desk's text, over one history that keeps the laws
-  pub pass : IfSome last (λ l. IsOf l.pass l.server)
-  pub served_by : IfSome last (λ l. IsSomeAnd source (λ s. GivenFrom config_tells text (λ a. Configured config_tells a (seen s) l.server.setting.config)))
-  pub run : IfSome last (λ l. ServeRun conn_tells outlet_tells l.server.setting accepts l.pass.seen l.pass.kept
-      (view l.jobs).workers (view l.jobs).pumps (view l.jobs).ticker)
-  pub payload : IfSome last (λ l. SendsSelected l.server.setting l.pass.seen)
-  pub owners : IfSome last (λ l. ObeysOwners l.server.setting l.pass.seen)
-  pub busy : IfSome last (λ l. TellsBusy l.server.setting l.pass.seen)
-  pub recordings : IfSome last (λ l. PlaysRecordings l.server.setting l.pass.seen (view l.jobs).pumps)
-  -- the configuration is given back, unless the desk failed to open it; its count rises then, or where it gives no kits
-  pub config : MatchOption source (Rises before now) (λ _. (now ≡ before) ⊎ ((status ≡ 7) × IsNone last))
-  -- with any other status than 5 the source of the configuration never failed
-  pub read : (status ≡ 5 → ⊥) → IsSomeAnd source (λ s. (seen s).faults ≡ 0)
-  -- the kits that the desk gave are what the jobs left, each at its place, or no job began with them, and they come back
-  -- as they were, but for one reading of the clock
-  pub kits : MatchOption given (IsNeitherOf last unused) (λ _. IsOneOf last unused)
-  pub kits_left : IfSome last (λ l. IsSomeAnd given (λ g. ComeBack g (view l.jobs)))
-  pub kits_unused : IfSome unused (λ k. IsSomeAnd given (λ g. ComeUnused g (view k)))
-  pub unused_kits : IfSome unused (λ k. AreUnused accepts (view k).workers (view k).pumps (view k).ticker)
-  -- when each status comes
-  pub begun : IfSome last (λ _. (status ≡ 0) ⊎ (status ≡ 7) ⊎ (status ≡ 9))
-  pub unused_status : IfSome unused (λ _. status ≡ 70)
-  pub served : status ≡ 0 → IsSomeAnd last (λ l. Each (λ w. w.hall.ended ≡ true) (view l.jobs).workers)
-  pub configuration : status ≡ 3 → (fault : ConfigFault) × Says error_tells e m (configuration_line fault)
-      × IsSomeAnd source (λ s. GivenFrom config_tells text (λ a. Refused config_tells a (seen s) fault))
-  pub input : (status ≡ 5) ↔ MatchOption source (Rises before now) (λ s. Rose 0 (seen s).faults)
-  pub settled : (told : List ℕ) → text ≡ Some told → IfSome source (λ s. (Rose 0 (seen s).faults → ⊥) → IsServeSettled told status)
-  pub doors_fault : status ≡ 7 → MatchOption last (Rises before now) (λ l. HasFault (view l.jobs).workers)
-  pub no_kits : status ≡ 7 → IsNone last → given ≡ None
-  pub history_full : status ≡ 9 → IsSomeAnd last (λ l. IsFull l.pass.seen)
+-- and its status. With 3 the configuration's fault is told
+abbrev pub ServeEnds : {S D O P M C : Type 0} → (config_tells conn_tells outlet_tells error_tells : Type 0) → ℕ → Option (List ℕ) → (before now : ℕ)
+    → (S → Feed) → Option S → (Jobs D O P M C → JobsView) → Option JobsView → Option (Last D O P M C) → Option (Jobs D O P M C)
+    → (e m : Drain) → ℕ → Type 0
+ServeEnds config_tells conn_tells outlet_tells error_tells accepts text before now seen source view given last unused e m status =
+    Serves config_tells conn_tells outlet_tells (λ fault. Says error_tells e m (configuration_line fault)) accepts text before now seen source view
+    given last unused status

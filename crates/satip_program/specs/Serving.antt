@@ -1,19 +1,9 @@
 -- How the command `serve` is told.
-use Rattle.std.specs.Prelude.{◌≡◌, ℕ, List}
+use Rattle.std.specs.Prelude.{ℕ, List}
 use Rattle.satip_serving.specs.declared.serving.ServingEnd.{ServingEnd}
 use Rattle.satip_serving.specs.declared.serving.ServingEnd.TheVariants.{Served, Configuration, InputFault, DoorsFault, HistoryFull, OutOfMemory}
-use Rattle.satip_serving.specs.Servings.{IsServingOf}
 use Rattle.satip_telling.specs.Lines.{configuration_line}
 use Rattle.satip_program.specs.Commands.{line_of}
-
--- the status where serving ends so
-abbrev pub serving_status : ServingEnd → ℕ
-serving_status Served = 0
-serving_status (Configuration fault) = 3
-serving_status InputFault = 5
-serving_status DoorsFault = 7
-serving_status HistoryFull = 9
-serving_status OutOfMemory = 70
 
 -- the line on the errors sink
 abbrev pub serving_line : ServingEnd → List ℕ
@@ -23,9 +13,3 @@ serving_line InputFault = line_of 5
 serving_line DoorsFault = line_of 7
 serving_line HistoryFull = line_of 9
 serving_line OutOfMemory = line_of 70
-
--- the status is that of a serve that ends as the text of its configuration says
-pub record IsServeSettled (text : List ℕ) (status : ℕ) : Type 0 where
-  pub ending : ServingEnd
-  pub told : status ≡ serving_status ending
-  pub ends : IsServingOf text ending

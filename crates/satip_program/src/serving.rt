@@ -2,7 +2,8 @@
 
 ghost use Rattle.std.specs.Prelude.{◌≡◌};
 ghost use Rattle.satip_telling.specs.Lines.{Says};
-ghost use Rattle.satip_program.specs.Serving.{serving_status, serving_line};
+ghost use Rattle.satip_serving.specs.Statuses.{serving_status};
+ghost use Rattle.satip_program.specs.Serving.{serving_line};
 
 use crate::outcomes::Outcome;
 use crate::telling::tell;

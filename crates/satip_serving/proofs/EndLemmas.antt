@@ -21,27 +21,6 @@ use Rattle.satip_serving.specs.declared.serving.ServingEnd.{ServingEnd}
 use Rattle.satip_serving.specs.declared.serving.ServingEnd.TheVariants as ends
 use Rattle.satip_serving.specs.Servings.{end_of_run, AreUnused}
 
--- the run ended well
-pub told_served : (end : ServeEnd) (result : ServingEnd) (seen : List Item) (workers : List WorkerView) → result ≡ end_of_run end → EndTells end seen workers
-    → result ≡ ends.Served → Each (λ (w : WorkerView). w.hall.ended ≡ true) workers
-told_served serves.Served result seen workers of tells is = tells
-told_served serves.DoorsFault result seen workers of tells is = absurd (cc (sym of ∙ is))
-told_served serves.HistoryFull result seen workers of tells is = absurd (cc (sym of ∙ is))
-
--- by a fault of doors
-pub told_fault : (end : ServeEnd) (result : ServingEnd) (seen : List Item) (workers : List WorkerView) → result ≡ end_of_run end → EndTells end seen workers
-    → result ≡ ends.DoorsFault → HasFault workers
-told_fault serves.Served result seen workers of tells is = absurd (cc (sym of ∙ is))
-told_fault serves.DoorsFault result seen workers of tells is = tells
-told_fault serves.HistoryFull result seen workers of tells is = absurd (cc (sym of ∙ is))
-
--- by a full history
-pub told_full : (end : ServeEnd) (result : ServingEnd) (seen : List Item) (workers : List WorkerView) → result ≡ end_of_run end → EndTells end seen workers
-    → result ≡ ends.HistoryFull → IsFull seen
-told_full serves.Served result seen workers of tells is = absurd (cc (sym of ∙ is))
-told_full serves.DoorsFault result seen workers of tells is = absurd (cc (sym of ∙ is))
-told_full serves.HistoryFull result seen workers of tells is = tells
-
 -- kits that are the same but for one reading of the clock, as they are seen
 pub unused_of : {D O P M C : Type 0} (hall : D → Hall) (outbox : O → Outbox) (shelf : M → StoreView) (dial : C → Dial) (accepts : ℕ)
     (workers workers' : List (WorkerKit D O P)) (pumps pumps' : List (PumpKit M O P)) (tick tick' : TickKit C O P)

@@ -1,3 +1,4 @@
 pub mod EndLemmas
+pub mod StatusLemmas
 pub mod Quiet
 pub mod PumpPackets

@@ -8,4 +8,4 @@ mod serving;
 
 pub use desk::{Desk, JobsFault};
 pub use laws::keeps_laws;
-pub use serving::{Served, ServingEnd, serve_by};
+pub use serving::{JobsLeft, Served, ServingEnd, serve_by};

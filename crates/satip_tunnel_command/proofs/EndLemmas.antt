@@ -1,5 +1,5 @@
 -- How serving through a tunnel ends, by how the run of its jobs does, and the outlets of the kits that they leave.
-use Rattle.std.proofs.Common.{◌≡◌, ◌≢◌, true, refl, sym, ap, ◌∙◌, List, [], ◌∷◌, map}
+use Rattle.std.proofs.Common.{◌≡◌, ◌≢◌, inl, inr, true, refl, sym, ap, ◌∙◌, List, [], ◌∷◌, map}
 use Rattle.satip_history.specs.Lists.{Each}
 use Rattle.satip_world.specs.Dials.{Dial}
 use Rattle.satip_world.specs.Halls.{Hall}
@@ -10,37 +10,35 @@ use Rattle.satip_worker.specs.declared.kits.WorkerKit.{WorkerKit}
 use Rattle.satip_crew.specs.declared.end.ServeEnd.{ServeEnd}
 use Rattle.satip_crew.specs.declared.end.ServeEnd.TheVariants as serves
 use Rattle.satip_crew.specs.Passes.{IsFull}
-use Rattle.satip_crew.specs.Runs.{HasOne}
+use Rattle.satip_crew.specs.Runs.{HasOne, MatchEnd}
 use Rattle.satip_serve.specs.declared.kits.Jobs.{Jobs}
+use Rattle.satip_serve.specs.ServeRuns.{HasFault}
 use Rattle.satip_serve.specs.Views.{WorkerView, PumpView, worker_view, pump_view}
-use Rattle.satip_serving.specs.declared.serving.ServingEnd.{ServingEnd}
-use Rattle.satip_serving.specs.declared.serving.ServingEnd.TheVariants as ends
 use Rattle.satip_serving.specs.Given.{jobs_view}
+use Rattle.satip_serving.specs.Ran.{JobsEnd}
 use Rattle.satip_serving.specs.Servings.{end_of_run}
+use Rattle.satip_serving.specs.Statuses.{serving_status}
+use Rattle.satip_serving.proofs.StatusLemmas.{jobs_end}
 use Rattle.satip_tunnel.specs.Histories.{TunnelItem}
 use Rattle.satip_tunnel_serve.specs.TunnelRuns.{TunnelEndTells}
 use Rattle.satip_tunnel_command.specs.Outlets.{OutletsStay}
 
--- the run ended well
-pub told_served : (end : ServeEnd) (result : ServingEnd) (seen : List TunnelItem) (workers : List WorkerView) → result ≡ end_of_run end → TunnelEndTells end seen workers
-    → result ≡ ends.Served → Each (λ (w : WorkerView). w.hall.ended ≡ true) workers
-told_served serves.Served result seen workers of tells is = tells
-told_served serves.DoorsFault result seen workers of tells is = absurd (cc (sym of ∙ is))
-told_served serves.HistoryFull result seen workers of tells is = absurd (cc (sym of ∙ is))
+-- the doors of a worker failed
+has_fault : (workers : List WorkerView) → HasOne (λ (w : WorkerView). w.hall.faults ≢ 0) workers → HasFault workers
+has_fault [] has = absurd has
+has_fault (w ∷ ws) (inl here) = inl here
+has_fault (w ∷ ws) (inr later) = inr (has_fault ws later)
 
--- by a fault of doors
-pub told_fault : (end : ServeEnd) (result : ServingEnd) (seen : List TunnelItem) (workers : List WorkerView) → result ≡ end_of_run end → TunnelEndTells end seen workers
-    → result ≡ ends.DoorsFault → HasOne (λ (w : WorkerView). w.hall.faults ≢ 0) workers
-told_fault serves.Served result seen workers of tells is = absurd (cc (sym of ∙ is))
-told_fault serves.DoorsFault result seen workers of tells is = tells
-told_fault serves.HistoryFull result seen workers of tells is = absurd (cc (sym of ∙ is))
+-- how jobs ended, by the status
+tunnel_told : (end : ServeEnd) (seen : List TunnelItem) (workers : List WorkerView) → TunnelEndTells end seen workers
+    → MatchEnd end (Each (λ (w : WorkerView). w.hall.ended ≡ true) workers) (HasFault workers) (IsFull seen)
+tunnel_told serves.Served seen workers tells = tells
+tunnel_told serves.DoorsFault seen workers tells = has_fault workers tells
+tunnel_told serves.HistoryFull seen workers tells = tells
 
--- by a full history
-pub told_full : (end : ServeEnd) (result : ServingEnd) (seen : List TunnelItem) (workers : List WorkerView) → result ≡ end_of_run end → TunnelEndTells end seen workers
-    → result ≡ ends.HistoryFull → IsFull seen
-told_full serves.Served result seen workers of tells is = absurd (cc (sym of ∙ is))
-told_full serves.DoorsFault result seen workers of tells is = absurd (cc (sym of ∙ is))
-told_full serves.HistoryFull result seen workers of tells is = tells
+pub tunnel_end : (end : ServeEnd) (seen : List TunnelItem) (workers : List WorkerView) → TunnelEndTells end seen workers
+    → JobsEnd workers (IsFull seen) (serving_status (end_of_run end))
+tunnel_end end seen workers tells = jobs_end end workers (IsFull seen) (tunnel_told end seen workers tells)
 
 -- what outlets show, as it is seen of their kits
 worker_outboxes : {D O P : Type 0} (hall : D → Hall) (outbox : O → Outbox) (kits : List (WorkerKit D O P))

@@ -1,2 +1,3 @@
 pub mod Outlets
 pub mod Sent
+pub mod Ends

@@ -1,57 +1,29 @@
 //! `tunnel`: a configuration is read, the desk gives the kits of all jobs, and the jobs serve.
 
-ghost use Rattle.std.specs.Prelude.{◌≡◌, ◌≢◌, ℕ, ◌⊎◌, List, true, Some, None, length, map, IfSome, IsNone, IsSomeAnd, MatchOption};
-ghost use Rattle.satip_base.specs.Streams.{Rose};
-ghost use Rattle.satip_config.specs.declared.fault.ConfigFault.{ConfigFault as Fault};
+ghost use Rattle.std.specs.Prelude.{◌≡◌, ℕ, List, Option, Some, None, length, map, IfSome, MatchOption};
 ghost use Rattle.satip_fronts.specs.FrontEnds.{IsNumbered};
-ghost use Rattle.satip_reading.specs.Configurations.{Configured, IsServed, Refused};
-ghost use Rattle.satip_history.specs.Lists.{Each};
-ghost use Rattle.satip_crew.specs.Passes.{IsFull};
-ghost use Rattle.satip_crew.specs.Runs.{HasOne};
+ghost use Rattle.satip_reading.specs.Configurations.{IsServed};
 ghost use Rattle.satip_serve.specs.Fresh.{AreFresh};
 ghost use Rattle.satip_serve.specs.Views.{worker_view, pump_view, tick_view};
-ghost use Rattle.satip_turn.specs.Shown.{IsOf};
-ghost use Rattle.satip_tunnel.specs.Histories.{inners};
-ghost use Rattle.satip_tunnel_serve.specs.TunnelRuns.{TunnelServeRun};
-ghost use Rattle.satip_tunnel_serve.specs.Views.{worker_seen, pump_seen, ticker_seen};
-ghost use Rattle.satip_world.specs.Counts.{Rises};
-ghost use Rattle.satip_serving.specs.Given.{jobs_view, ComeBack, ComeUnused};
-ghost use Rattle.satip_serving.specs.Laws.{SendsSelected, ObeysOwners, TellsBusy};
-ghost use Rattle.satip_serving.specs.Servings.{GivenFrom, IsServingOf, IsEndOfRun, AreUnused, IsOneOf, IsNeitherOf};
-ghost use Rattle.satip_tunnel_command.specs.Outlets.{OutletsStay};
-ghost use Rattle.satip_tunnel_command.specs.Sent.{SendsFrames, SendsPayloads};
+ghost use Rattle.satip_silent.specs.Silences.{no_outbox};
+ghost use Rattle.satip_world.specs.Recordings.{IsStarted};
+ghost use Rattle.satip_serving.specs.Given.{jobs_view, ComeUnused};
+ghost use Rattle.satip_serving.specs.Servings.{IsEndOfRun, AreUnused, IsOneOf};
+ghost use Rattle.satip_serving.specs.Statuses.{serving_status};
+ghost use Rattle.satip_tunnel_command.specs.Ends.{TunnelServingRun, Tunnels};
 
 use crate::laws::keeps_laws;
 use satip_base::{Failed, Text};
 use satip_config::Config;
 use satip_reading::read_configuration;
 use satip_serve::Jobs;
-use satip_serving::{Desk, JobsFault, ServingEnd};
+use satip_serving::{Desk, JobsFault, JobsLeft, ServingEnd};
 use satip_tunnel_run_laws::connections_have_lanes;
 use satip_tunnel_serve::{TunnelLast, serve_through_tunnel};
 use satip_world::{Clock, Doors, MuxStore, Outlet, Pacer};
 use std::alloc::Global;
 use std::sync::Wait;
 use std::thread::Threads;
-
-// What the jobs leave, if any began, or else their kits, if there were any.
-struct Left<D, O, P, M, C> {
-    end: ServingEnd,
-    last: Option<TunnelLast<D, O, P, M, C>>,
-    unused: Option<Jobs<D, O, P, M, C>>,
-}
-
-fn nothing_left<D, O, P, M, C>(end: ServingEnd) -> Left<D, O, P, M, C>
-    ensures end { result.end ≡ end }
-    ensures last { result.last ≡ None }
-    ensures unused { result.unused ≡ None }
-{
-    Left {
-        end,
-        last: None,
-        unused: None,
-    }
-}
 
 // Serves with these kits.
 fn run_kits<
@@ -67,7 +39,7 @@ fn run_kits<
     config: Config,
     _accepts: u32,
     jobs: Jobs<D, O, P, M, C>,
-) -> Left<D, O, P, M, C>
+) -> JobsLeft<TunnelLast<D, O, P, M, C>, Jobs<D, O, P, M, C>>
     requires served { IsServed config }
     requires workers { length jobs.workers.items ≡ config.workers }
     requires pumps { length jobs.pumps.items ≡ length config.fronts }
@@ -76,42 +48,17 @@ fn run_kits<
         (map (pump_view M.shelf O.outbox) jobs.pumps.items)
         (tick_view C.dial O.outbox jobs.tick) }
     ensures one { IsOneOf result.last result.unused }
-    ensures kits_left { IfSome result.last (λ last. ComeBack
-        (jobs_view D.hall O.outbox M.shelf C.dial jobs)
-        (jobs_view D.hall O.outbox M.shelf C.dial last.jobs)) }
-    ensures outlets { IfSome result.last (λ last. OutletsStay
-        (jobs_view D.hall O.outbox M.shelf C.dial jobs)
-        (jobs_view D.hall O.outbox M.shelf C.dial last.jobs)) }
+    ensures config { IfSome result.last (λ last. last.server.setting.config ≡ config) }
+    ensures ran { IfSome result.last (λ last. TunnelServingRun D.Conn.tells _accepts
+        (jobs_view D.hall O.outbox M.shelf C.dial)
+        (jobs_view D.hall no_outbox M.shelf C.dial)
+        (jobs_view D.hall O.outbox M.shelf C.dial jobs) last (serving_status result.end)) }
+    ensures begun { MatchOption result.last (result.end ≡ ServingEnd.OutOfMemory)
+        (λ _. IsEndOfRun result.end) }
     ensures kits_unused { IfSome result.unused (λ kits. ComeUnused
         (jobs_view D.hall O.outbox M.shelf C.dial jobs)
         (jobs_view D.hall O.outbox M.shelf C.dial kits)) }
-    ensures of { IfSome result.last (λ last. IsOf last.pass last.server) }
-    ensures config { IfSome result.last (λ last. last.server.setting.config ≡ config) }
-    ensures run { IfSome result.last (λ last. TunnelServeRun D.Conn.tells
-        last.server.setting _accepts last.pass.seen last.pass.kept
-        (map (worker_seen D.hall) last.jobs.workers.items)
-        (map (pump_seen M.shelf) last.jobs.pumps.items)
-        (ticker_seen C.dial last.jobs.tick)) }
-    ensures payload { IfSome result.last (λ last. SendsSelected last.server.setting
-        (inners last.pass.seen)) }
-    ensures owners { IfSome result.last (λ last. ObeysOwners last.server.setting
-        (inners last.pass.seen)) }
-    ensures busy { IfSome result.last (λ last. TellsBusy last.server.setting
-        (inners last.pass.seen)) }
-    ensures frames { IfSome result.last (λ last. SendsFrames last.pass.seen) }
-    ensures channels { IfSome result.last (λ last. SendsPayloads last.server.setting
-        last.pass.seen) }
-    ensures begun { MatchOption result.last (result.end ≡ ServingEnd.OutOfMemory)
-        (λ _. IsEndOfRun result.end) }
-    ensures served { result.end ≡ ServingEnd.Served
-        → IsSomeAnd result.last (λ last. Each (λ w. w.hall.ended ≡ true)
-        (map (worker_seen D.hall) last.jobs.workers.items)) }
-    ensures doors_fault { result.end ≡ ServingEnd.DoorsFault
-        → IsSomeAnd result.last (λ last. HasOne (λ w. w.hall.faults ≢ 0)
-        (map (worker_seen D.hall) last.jobs.workers.items)) }
-    ensures history_full { result.end ≡ ServingEnd.HistoryFull
-        → IsSomeAnd result.last (λ last. IsFull last.pass.seen) }
-    ensures unused { IfSome result.unused (λ kits. AreUnused _accepts
+    ensures unused_kits { IfSome result.unused (λ kits. AreUnused _accepts
         (map (worker_view D.hall O.outbox) kits.workers.items)
         (map (pump_view M.shelf O.outbox) kits.pumps.items)
         (tick_view C.dial O.outbox kits.tick)) }
@@ -120,13 +67,13 @@ fn run_kits<
         Ok((last, end)) => {
             keeps_laws(&last.server, &last.pass);
             connections_have_lanes::<D>();
-            Left {
+            JobsLeft {
                 end: ServingEnd::of_run(end),
                 last: Some(last),
                 unused: None,
             }
         }
-        Err(jobs) => Left {
+        Err(jobs) => JobsLeft {
             end: ServingEnd::OutOfMemory,
             last: None,
             unused: Some(jobs),
@@ -141,79 +88,31 @@ fn run_source<R: Threads + Wait + Sync, K: Desk>(
     source: &mut K::Config,
     accepts: u32,
     desk: &mut K,
-) -> Left<K::Doors, K::Outlet, K::Pacer, K::Store, K::Clock>
+) -> JobsLeft<
+    TunnelLast<K::Doors, K::Outlet, K::Pacer, K::Store, K::Clock>,
+    Jobs<K::Doors, K::Outlet, K::Pacer, K::Store, K::Clock>,
+>
     requires new { K.given desk.old ≡ None }
     ensures texts { K.text desk.new ≡ K.text desk.old }
     ensures handed { K.handed desk.new ≡ K.handed desk.old }
     ensures journaled { K.journaled desk.new ≡ K.journaled desk.old }
-    ensures kits { MatchOption (K.given desk.new) (IsNeitherOf result.last result.unused)
-        (λ _. IsOneOf result.last result.unused) }
-    ensures kits_left { IfSome result.last (λ last. IsSomeAnd (K.given desk.new)
-        (λ given. ComeBack given
-        (jobs_view K.Doors.hall K.Outlet.outbox K.Store.shelf K.Clock.dial last.jobs))) }
-    ensures outlets { IfSome result.last (λ last. IsSomeAnd (K.given desk.new)
-        (λ given. OutletsStay given
-        (jobs_view K.Doors.hall K.Outlet.outbox K.Store.shelf K.Clock.dial last.jobs))) }
-    ensures kits_unused { IfSome result.unused
-        (λ kits. IsSomeAnd (K.given desk.new) (λ given. ComeUnused given
-        (jobs_view K.Doors.hall K.Outlet.outbox K.Store.shelf K.Clock.dial kits))) }
-    ensures of { IfSome result.last (λ last. IsOf last.pass last.server) }
-    ensures config { IfSome result.last (λ last. Configured K.Config.tells
-        (K.Config.feed source.old) (K.Config.feed source.new)
-        last.server.setting.config) }
-    ensures run { IfSome result.last (λ last. TunnelServeRun K.Doors.Conn.tells
-        last.server.setting accepts last.pass.seen last.pass.kept
-        (map (worker_seen K.Doors.hall) last.jobs.workers.items)
-        (map (pump_seen K.Store.shelf) last.jobs.pumps.items)
-        (ticker_seen K.Clock.dial last.jobs.tick)) }
-    ensures payload { IfSome result.last (λ last. SendsSelected last.server.setting
-        (inners last.pass.seen)) }
-    ensures owners { IfSome result.last (λ last. ObeysOwners last.server.setting
-        (inners last.pass.seen)) }
-    ensures busy { IfSome result.last (λ last. TellsBusy last.server.setting
-        (inners last.pass.seen)) }
-    ensures frames { IfSome result.last (λ last. SendsFrames last.pass.seen) }
-    ensures channels { IfSome result.last (λ last. SendsPayloads last.server.setting
-        last.pass.seen) }
-    ensures begun { IfSome result.last (λ _. IsEndOfRun result.end) }
-    ensures configuration { (fault : Fault) → result.end ≡ ServingEnd.Configuration fault
-        → Refused K.Config.tells
-        (K.Config.feed source.old) (K.Config.feed source.new)
-        fault }
-    ensures input_fault { result.end ≡ ServingEnd.InputFault
-        → Rose (K.Config.feed source.old).faults (K.Config.feed source.new).faults }
-    ensures read_through { (result.end ≡ ServingEnd.InputFault → ⊥)
-        → (K.Config.feed source.new).faults ≡ (K.Config.feed source.old).faults }
-    ensures desk_faults { (K.faults desk.new ≡ K.faults desk.old)
-        ⊎ ((result.end ≡ ServingEnd.DoorsFault) × IsNone result.last) }
-    ensures settled { K.Config.tells → (Rose (K.Config.feed source.old).faults
-        (K.Config.feed source.new).faults → ⊥) → IsServingOf (K.Config.feed source.old).left
-        result.end }
-    ensures served { result.end ≡ ServingEnd.Served
-        → IsSomeAnd result.last (λ last. Each (λ w. w.hall.ended ≡ true)
-        (map (worker_seen K.Doors.hall) last.jobs.workers.items)) }
-    ensures doors_fault { result.end ≡ ServingEnd.DoorsFault
-        → MatchOption result.last (Rises (K.faults desk.old) (K.faults desk.new))
-        (λ last. HasOne (λ w. w.hall.faults ≢ 0)
-        (map (worker_seen K.Doors.hall) last.jobs.workers.items)) }
-    ensures no_kits { result.end ≡ ServingEnd.DoorsFault → IsNone result.last
-        → K.given desk.new ≡ None }
-    ensures history_full { result.end ≡ ServingEnd.HistoryFull
-        → IsSomeAnd result.last (λ last. IsFull last.pass.seen) }
-    ensures out_of_memory { IfSome result.unused (λ _. result.end ≡ ServingEnd.OutOfMemory) }
-    ensures unused { IfSome result.unused (λ kits. AreUnused accepts
-        (map (worker_view K.Doors.hall K.Outlet.outbox) kits.workers.items)
-        (map (pump_view K.Store.shelf K.Outlet.outbox) kits.pumps.items)
-        (tick_view K.Clock.dial K.Outlet.outbox kits.tick)) }
+    ensures ends { (text : Option (List ℕ))
+        → IsStarted K.Config.tells (K.Config.feed source.old) text
+        → Tunnels K.Config.tells K.Doors.Conn.tells
+        (λ fault. result.end ≡ ServingEnd.Configuration fault) accepts
+        text (K.faults desk.old) (K.faults desk.new) K.Config.feed (Some source.new)
+        (jobs_view K.Doors.hall K.Outlet.outbox K.Store.shelf K.Clock.dial)
+        (jobs_view K.Doors.hall no_outbox K.Store.shelf K.Clock.dial)
+        (K.given desk.new) result.last result.unused (serving_status result.end) }
 {
     let config = match read_configuration(alloc, source) {
         Ok(config) => config,
-        Err(end) => return nothing_left(ServingEnd::from(end)),
+        Err(end) => return JobsLeft::nothing(ServingEnd::from(end)),
     };
     match desk.jobs(alloc, &config, accepts) {
         Ok(jobs) => run_kits(rt, alloc, config, accepts, jobs),
-        Err(JobsFault::Failed) => nothing_left(ServingEnd::DoorsFault),
-        Err(JobsFault::Want) => nothing_left(ServingEnd::OutOfMemory),
+        Err(JobsFault::Failed) => JobsLeft::nothing(ServingEnd::DoorsFault),
+        Err(JobsFault::Want) => JobsLeft::nothing(ServingEnd::OutOfMemory),
     }
 }
 
@@ -243,87 +142,17 @@ pub fn tunnel_by<R: Threads + Wait + Sync, K: Desk>(
     ensures texts { K.text desk.new ≡ K.text desk.old }
     ensures handed { K.handed desk.new ≡ K.handed desk.old }
     ensures journaled { K.journaled desk.new ≡ K.journaled desk.old }
-
-    // Where the desk gave its kits, those are what the jobs left, each at its place and with its
-    // outlet as it was, or no job began with them, and they come back as they were, but for one
-    // reading of the clock.
-    ensures kits { MatchOption (K.given desk.new) (IsNeitherOf result.last result.unused)
-        (λ _. IsOneOf result.last result.unused) }
-    ensures kits_left { IfSome result.last (λ last. IsSomeAnd (K.given desk.new)
-        (λ given. ComeBack given
-        (jobs_view K.Doors.hall K.Outlet.outbox K.Store.shelf K.Clock.dial last.jobs))) }
-    ensures outlets { IfSome result.last (λ last. IsSomeAnd (K.given desk.new)
-        (λ given. OutletsStay given
-        (jobs_view K.Doors.hall K.Outlet.outbox K.Store.shelf K.Clock.dial last.jobs))) }
-    ensures kits_unused { IfSome result.unused
-        (λ kits. IsSomeAnd (K.given desk.new) (λ given. ComeUnused given
-        (jobs_view K.Doors.hall K.Outlet.outbox K.Store.shelf K.Clock.dial kits))) }
-
-    // The jobs' run: its pass is one of its server, and its configuration is that of the desk's
-    // text.
-    ensures of { IfSome result.last (λ last. IsOf last.pass last.server) }
-    ensures config { IfSome result.last (λ last. IsSomeAnd result.config (λ source.
-        GivenFrom K.Config.tells (K.text desk.old name.now)
-        (λ before. Configured K.Config.tells before
-        (K.Config.feed source) last.server.setting.config))) }
-    ensures run { IfSome result.last (λ last. TunnelServeRun K.Doors.Conn.tells
-        last.server.setting accepts last.pass.seen last.pass.kept
-        (map (worker_seen K.Doors.hall) last.jobs.workers.items)
-        (map (pump_seen K.Store.shelf) last.jobs.pumps.items)
-        (ticker_seen K.Clock.dial last.jobs.tick)) }
-    ensures payload { IfSome result.last (λ last. SendsSelected last.server.setting
-        (inners last.pass.seen)) }
-    ensures owners { IfSome result.last (λ last. ObeysOwners last.server.setting
-        (inners last.pass.seen)) }
-    ensures busy { IfSome result.last (λ last. TellsBusy last.server.setting
-        (inners last.pass.seen)) }
-    ensures frames { IfSome result.last (λ last. SendsFrames last.pass.seen) }
-    ensures channels { IfSome result.last (λ last. SendsPayloads last.server.setting
-        last.pass.seen) }
-
-    // The configuration is given back, unless the desk failed to open it. Its count rises then, or
-    // where it gives no kits.
-    ensures opened { MatchOption result.config (Rises (K.faults desk.old) (K.faults desk.new))
-        (λ _. (K.faults desk.new ≡ K.faults desk.old)
-        ⊎ ((result.end ≡ ServingEnd.DoorsFault) × IsNone result.last)) }
-
-    // When each end comes.
-    ensures begun { IfSome result.last (λ _. IsEndOfRun result.end) }
-    ensures configuration { (fault : Fault) → result.end ≡ ServingEnd.Configuration fault
-        → IsSomeAnd result.config (λ source.
-        GivenFrom K.Config.tells (K.text desk.old name.now) (λ before. Refused K.Config.tells before
-        (K.Config.feed source) fault)) }
-    ensures input_fault { result.end ≡ ServingEnd.InputFault
-        → MatchOption result.config (Rises (K.faults desk.old) (K.faults desk.new))
-        (λ source. Rose 0 (K.Config.feed source).faults) }
-    ensures unopened { IsNone result.config → result.end ≡ ServingEnd.InputFault }
-    ensures read_through { (result.end ≡ ServingEnd.InputFault → ⊥)
-        → IsSomeAnd result.config (λ source. (K.Config.feed source).faults ≡ 0) }
-    ensures settled { (text : List ℕ) → K.text desk.old name.now ≡ Some text
-        → IfSome result.config (λ source.
-        (Rose 0 (K.Config.feed source).faults → ⊥) → IsServingOf text result.end) }
-    ensures served { result.end ≡ ServingEnd.Served
-        → IsSomeAnd result.last (λ last. Each (λ w. w.hall.ended ≡ true)
-        (map (worker_seen K.Doors.hall) last.jobs.workers.items)) }
-    ensures doors_fault { result.end ≡ ServingEnd.DoorsFault
-        → MatchOption result.last (Rises (K.faults desk.old) (K.faults desk.new))
-        (λ last. HasOne (λ w. w.hall.faults ≢ 0)
-        (map (worker_seen K.Doors.hall) last.jobs.workers.items)) }
-    ensures no_kits { result.end ≡ ServingEnd.DoorsFault → IsNone result.last
-        → K.given desk.new ≡ None }
-    ensures history_full { result.end ≡ ServingEnd.HistoryFull
-        → IsSomeAnd result.last (λ last. IsFull last.pass.seen) }
-    ensures out_of_memory { IfSome result.unused (λ _. result.end ≡ ServingEnd.OutOfMemory) }
-
-    // With kits that no job began with nothing was done, but for one reading of the clock.
-    ensures unused { IfSome result.unused (λ kits. AreUnused accepts
-        (map (worker_view K.Doors.hall K.Outlet.outbox) kits.workers.items)
-        (map (pump_view K.Store.shelf K.Outlet.outbox) kits.pumps.items)
-        (tick_view K.Clock.dial K.Outlet.outbox kits.tick)) }
+    ensures ends { Tunnels K.Config.tells K.Doors.Conn.tells
+        (λ fault. result.end ≡ ServingEnd.Configuration fault) accepts
+        (K.text desk.old name.now) (K.faults desk.old) (K.faults desk.new)
+        K.Config.feed result.config
+        (jobs_view K.Doors.hall K.Outlet.outbox K.Store.shelf K.Clock.dial)
+        (jobs_view K.Doors.hall no_outbox K.Store.shelf K.Clock.dial)
+        (K.given desk.new) result.last result.unused (serving_status result.end) }
 {
     match desk.config(name) {
         Ok(mut source) => {
-            let Left { end, last, unused } = run_source(rt, alloc, &mut source, accepts, desk);
+            let JobsLeft { end, last, unused } = run_source(rt, alloc, &mut source, accepts, desk);
             Tunneled {
                 end,
                 config: Some(source),

@@ -1,32 +1,31 @@
-use Rattle.satip_serving.proofs.EndLemmas.{told_served, told_fault, told_full, unused_of, come_back, come_unused}
+use Rattle.std.proofs.Common.{ap}
+use Rattle.satip_serving.specs.Statuses.{serving_status}
+use Rattle.satip_serving.proofs.EndLemmas.{unused_of, come_back, come_unused}
 use Rattle.satip_serving.proofs.PumpPackets.{plays_recordings}
+use Rattle.satip_serving.proofs.StatusLemmas.{jobs_end}
 use Rattle.satip_serving.proofs.serving.serve_jobs.Goals as goal
 
-pub returns-in-Ok-clause-run : goal.returns-in-Ok-clause-run
-returns-in-Ok-clause-run g c = c.in-Ok.ensures.run c.args._accepts c.requires.fresh
-
-pub returns-in-Ok-clause-served : goal.returns-in-Ok-clause-served
-returns-in-Ok-clause-served g c = told_served c.in-Ok.end _ _ _ c.of_run.ensures.end (c.in-Ok.ensures.ended c.args._accepts c.requires.fresh)
-
-pub returns-in-Ok-clause-doors_fault : goal.returns-in-Ok-clause-doors_fault
-returns-in-Ok-clause-doors_fault g c = told_fault c.in-Ok.end _ _ _ c.of_run.ensures.end (c.in-Ok.ensures.ended c.args._accepts c.requires.fresh)
-
-pub returns-in-Ok-clause-history_full : goal.returns-in-Ok-clause-history_full
-returns-in-Ok-clause-history_full g c = told_full c.in-Ok.end _ _ _ c.of_run.ensures.end (c.in-Ok.ensures.ended c.args._accepts c.requires.fresh)
-
-pub returns-in-Err-clause-unused : goal.returns-in-Err-clause-unused
-returns-in-Err-clause-unused g c = unused_of g.D.Doors.hall g.O.Outlet.outbox g.M.MuxStore.shelf g.C.Clock.dial _ _ _ _ _ _ _ c.requires.fresh c.in-Err.ensures.unused
-
-pub returns-in-Ok-clause-recordings : goal.returns-in-Ok-clause-recordings
-returns-in-Ok-clause-recordings g c =
-    plays_recordings _ _ _ _ _ _ _ _ _ (c.in-Ok.ensures.run c.args._accepts c.requires.fresh) c.keeps_laws.ensures.recordings
-
-pub returns-in-Ok-clause-kits_left : goal.returns-in-Ok-clause-kits_left
-returns-in-Ok-clause-kits_left g c =
-    come_back g.D.Doors.hall g.O.Outlet.outbox g.M.MuxStore.shelf g.C.Clock.dial c.args.jobs
-    c.in-Ok.last.jobs c.in-Ok.ensures.keys c.in-Ok.ensures.recordings
+pub returns-in-Ok-clause-ran : goal.returns-in-Ok-clause-ran
+returns-in-Ok-clause-ran g c =
+    let run = c.in-Ok.ensures.run c.args._accepts c.requires.fresh in
+    rw (ap serving_status c.of_run.ensures.end) (record {
+      pass = c.in-Ok.ensures.of;
+      run = run;
+      payload = c.keeps_laws.ensures.payload;
+      owners = c.keeps_laws.ensures.owners;
+      busy = c.keeps_laws.ensures.busy;
+      recordings = plays_recordings _ _ _ _ _ _ _ _ _ run c.keeps_laws.ensures.recordings;
+      kits_left =
+          come_back g.D.Doors.hall g.O.Outlet.outbox g.M.MuxStore.shelf g.C.Clock.dial c.args.jobs
+          c.in-Ok.last.jobs c.in-Ok.ensures.keys c.in-Ok.ensures.recordings;
+      ends = jobs_end c.in-Ok.end _ _ (c.in-Ok.ensures.ended c.args._accepts c.requires.fresh);
+    })
 
 pub returns-in-Err-clause-kits_unused : goal.returns-in-Err-clause-kits_unused
 returns-in-Err-clause-kits_unused g c =
     come_unused g.D.Doors.hall g.O.Outlet.outbox g.M.MuxStore.shelf g.C.Clock.dial c.args.jobs
     c.in-Err.jobs c.in-Err.ensures.unused
+
+pub returns-in-Err-clause-unused_kits : goal.returns-in-Err-clause-unused_kits
+returns-in-Err-clause-unused_kits g c =
+    unused_of g.D.Doors.hall g.O.Outlet.outbox g.M.MuxStore.shelf g.C.Clock.dial _ _ _ _ _ _ _ c.requires.fresh c.in-Err.ensures.unused

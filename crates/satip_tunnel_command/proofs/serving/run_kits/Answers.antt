@@ -1,36 +1,34 @@
+use Rattle.std.proofs.Common.{ap}
+use Rattle.satip_serving.specs.Statuses.{serving_status}
 use Rattle.satip_serving.proofs.EndLemmas.{come_back, come_unused, unused_of}
-use Rattle.satip_tunnel_command.proofs.EndLemmas.{outlets_stay, told_served, told_fault, told_full}
+use Rattle.satip_tunnel_command.proofs.EndLemmas.{outlets_stay, tunnel_end}
 use Rattle.satip_tunnel_command.proofs.serving.run_kits.Goals as goal
 
-pub returns-in-Ok-clause-run : goal.returns-in-Ok-clause-run
-returns-in-Ok-clause-run g c = c.in-Ok.ensures.run c.args._accepts c.requires.fresh
-
-pub returns-in-Ok-clause-frames : goal.returns-in-Ok-clause-frames
-returns-in-Ok-clause-frames g c = c.connections_have_lanes.ensures.law _ _ _ _ _ _ _ (c.in-Ok.ensures.run c.args._accepts c.requires.fresh)
-
-pub returns-in-Ok-clause-served : goal.returns-in-Ok-clause-served
-returns-in-Ok-clause-served g c = told_served c.in-Ok.end _ _ _ c.of_run.ensures.end (c.in-Ok.ensures.ended c.args._accepts c.requires.fresh)
-
-pub returns-in-Ok-clause-doors_fault : goal.returns-in-Ok-clause-doors_fault
-returns-in-Ok-clause-doors_fault g c = told_fault c.in-Ok.end _ _ _ c.of_run.ensures.end (c.in-Ok.ensures.ended c.args._accepts c.requires.fresh)
-
-pub returns-in-Ok-clause-history_full : goal.returns-in-Ok-clause-history_full
-returns-in-Ok-clause-history_full g c = told_full c.in-Ok.end _ _ _ c.of_run.ensures.end (c.in-Ok.ensures.ended c.args._accepts c.requires.fresh)
-
-pub returns-in-Err-clause-unused : goal.returns-in-Err-clause-unused
-returns-in-Err-clause-unused g c = unused_of g.D.Doors.hall g.O.Outlet.outbox g.M.MuxStore.shelf g.C.Clock.dial _ _ _ _ _ _ _ c.requires.fresh c.in-Err.ensures.unused
-
-pub returns-in-Ok-clause-kits_left : goal.returns-in-Ok-clause-kits_left
-returns-in-Ok-clause-kits_left g c =
-    come_back g.D.Doors.hall g.O.Outlet.outbox g.M.MuxStore.shelf g.C.Clock.dial c.args.jobs
-    c.in-Ok.last.jobs c.in-Ok.ensures.keys c.in-Ok.ensures.recordings
-
-pub returns-in-Ok-clause-outlets : goal.returns-in-Ok-clause-outlets
-returns-in-Ok-clause-outlets g c =
-    outlets_stay g.D.Doors.hall g.O.Outlet.outbox g.M.MuxStore.shelf g.C.Clock.dial c.args.jobs
-    c.in-Ok.last.jobs c.in-Ok.ensures.worker_outlets c.in-Ok.ensures.pump_outlets c.in-Ok.ensures.ticker_outlet
+pub returns-in-Ok-clause-ran : goal.returns-in-Ok-clause-ran
+returns-in-Ok-clause-ran g c =
+    let run = c.in-Ok.ensures.run c.args._accepts c.requires.fresh in
+    rw (ap serving_status c.of_run.ensures.end) (record {
+      pass = c.in-Ok.ensures.of;
+      run = run;
+      payload = c.keeps_laws.ensures.payload;
+      owners = c.keeps_laws.ensures.owners;
+      busy = c.keeps_laws.ensures.busy;
+      frames = c.connections_have_lanes.ensures.law _ _ _ _ _ _ _ run;
+      channels = c.keeps_laws.ensures.channels;
+      kits_left =
+          come_back g.D.Doors.hall g.O.Outlet.outbox g.M.MuxStore.shelf g.C.Clock.dial c.args.jobs
+          c.in-Ok.last.jobs c.in-Ok.ensures.keys c.in-Ok.ensures.recordings;
+      outlets =
+          outlets_stay g.D.Doors.hall g.O.Outlet.outbox g.M.MuxStore.shelf g.C.Clock.dial c.args.jobs
+          c.in-Ok.last.jobs c.in-Ok.ensures.worker_outlets c.in-Ok.ensures.pump_outlets c.in-Ok.ensures.ticker_outlet;
+      ends = tunnel_end c.in-Ok.end _ _ (c.in-Ok.ensures.ended c.args._accepts c.requires.fresh);
+    })
 
 pub returns-in-Err-clause-kits_unused : goal.returns-in-Err-clause-kits_unused
 returns-in-Err-clause-kits_unused g c =
     come_unused g.D.Doors.hall g.O.Outlet.outbox g.M.MuxStore.shelf g.C.Clock.dial c.args.jobs
     c.in-Err.jobs c.in-Err.ensures.unused
+
+pub returns-in-Err-clause-unused_kits : goal.returns-in-Err-clause-unused_kits
+returns-in-Err-clause-unused_kits g c =
+    unused_of g.D.Doors.hall g.O.Outlet.outbox g.M.MuxStore.shelf g.C.Clock.dial _ _ _ _ _ _ _ c.requires.fresh c.in-Err.ensures.unused

@@ -1,0 +1,50 @@
+-- What serving comes to, by its status.
+use Rattle.std.specs.Prelude.{◌≡◌, ℕ, ◌⊎◌, ◌↔◌, List, Option, Some, None, IsSome, IsNone, IfSome, IsSomeAnd, MatchOption}
+use Rattle.satip_base.specs.Streams.{Feed, Rose}
+use Rattle.satip_world.specs.Counts.{Rises}
+use Rattle.satip_config.specs.Configuration.{Configuration}
+use Rattle.satip_config.specs.declared.fault.ConfigFault.{ConfigFault}
+use Rattle.satip_history.specs.Lists.{Has}
+use Rattle.satip_reading.specs.Configurations.{Configured, Refused}
+use Rattle.satip_serve.specs.declared.kits.Jobs.{Jobs}
+use Rattle.satip_serve.specs.declared.serving.Last.{Last}
+use Rattle.satip_serving.specs.Given.{JobsView, ComeUnused}
+use Rattle.satip_serving.specs.Ran.{ServingRun}
+use Rattle.satip_serving.specs.Servings.{GivenFrom, AreUnused, IsOneOf, IsNeitherOf}
+use Rattle.satip_serving.specs.Statuses.{serve_statuses, IsServeSettled}
+
+-- serving by a configuration: how a fault of it is told, after how many connections doors end, the text of the configuration
+-- where the desk tells it, the desk's count of faults before and behind it, the source that the desk gave, if it gave one,
+-- as it is behind it, the kits that the desk gave, by what configuration jobs ran and how they ran with kits, what they left,
+-- if any began, or else the kits with which none began, and the status
+pub record ServingEnds {S L J : Type 0} (config_tells : Type 0) (Told : ConfigFault → Type 0) (accepts : ℕ) (text : Option (List ℕ))
+    (before now : ℕ) (seen : S → Feed) (source : Option S) (view : J → JobsView) (given : Option JobsView)
+    (config_of : L → Configuration) (Ran : JobsView → L → Type 0) (last : Option L) (unused : Option J) (status : ℕ) : Type 0 where
+  pub status_is : Has status serve_statuses
+  -- the jobs ran with the kits that the desk gave, by the configuration of its text
+  pub ran : IfSome last (λ l. IsSomeAnd given (λ g. Ran g l))
+  pub served_by : IfSome last (λ l. IsSomeAnd source (λ s. GivenFrom config_tells text (λ a. Configured config_tells a (seen s) (config_of l))))
+  -- the configuration is given back, unless the desk failed to open it; its count rises then, or where it gives no kits
+  pub config : MatchOption source (Rises before now) (λ _. (now ≡ before) ⊎ ((status ≡ 7) × IsNone last))
+  -- with any other status than 5 the source of the configuration never failed
+  pub read : (status ≡ 5 → ⊥) → IsSomeAnd source (λ s. (seen s).faults ≡ 0)
+  -- the kits that the desk gave are what the jobs left, or no job began with them, and they come back as they were, but for
+  -- one reading of the clock
+  pub kits : MatchOption given (IsNeitherOf last unused) (λ _. IsOneOf last unused)
+  pub kits_unused : IfSome unused (λ k. IsSomeAnd given (λ g. ComeUnused g (view k)))
+  pub unused_kits : IfSome unused (λ k. AreUnused accepts (view k).workers (view k).pumps (view k).ticker)
+  -- when each status comes; how jobs ended with 0, 7 or 9 their run says
+  pub unused_status : IfSome unused (λ _. status ≡ 70)
+  pub served : (status ≡ 0) ⊎ (status ≡ 9) → IsSome last
+  pub configuration : status ≡ 3 → (fault : ConfigFault) × Told fault
+      × IsSomeAnd source (λ s. GivenFrom config_tells text (λ a. Refused config_tells a (seen s) fault))
+  pub input : (status ≡ 5) ↔ MatchOption source (Rises before now) (λ s. Rose 0 (seen s).faults)
+  pub doors_fault : status ≡ 7 → IsNone last → (given ≡ None) × Rises before now
+  pub settled : (told : List ℕ) → text ≡ Some told → IfSome source (λ s. (Rose 0 (seen s).faults → ⊥) → IsServeSettled told status)
+
+-- so a serve, whose jobs run over one history of the server
+abbrev pub Serves : {S D O P M C : Type 0} → (config_tells conn_tells outlet_tells : Type 0) → (ConfigFault → Type 0) → ℕ → Option (List ℕ) → (before now : ℕ)
+    → (S → Feed) → Option S → (Jobs D O P M C → JobsView) → Option JobsView → Option (Last D O P M C) → Option (Jobs D O P M C) → ℕ → Type 0
+Serves config_tells conn_tells outlet_tells Told accepts text before now seen source view given last unused status =
+    ServingEnds config_tells Told accepts text before now seen source view given (λ l. l.server.setting.config)
+    (λ g l. ServingRun conn_tells outlet_tells accepts view g l status) last unused status
