@@ -230,7 +230,8 @@ module _ {F : Type 0} (tells : Type 0) (feed : F → Feed) where
       subst P (sym cut.packets) (left_skipped told old.buffer.packets old.buffer.rest buffer.rest old.source owed cut.same cut.none left_is))
 
   -- one step of reading on after another
-  pub reads_then : (r s t : StoreView) (old mid new : Reading F) → ReadsOn tells feed r old s mid → ReadsOn tells feed s mid t new → ReadsOn tells feed r old t new
+  pub reads_then : (r s t : StoreView) (old mid new : Reading F) → ReadsOn tells feed r old s mid → ReadsOn tells feed s mid t new
+      → ReadsOn tells feed r old t new
   reads_then r s t old mid new one two = record {
     goes = λ first early reel stands. two.goes first early reel (one.goes first early reel stands);
     recordings = two.recordings ∙ one.recordings;

@@ -279,8 +279,10 @@ module _ {F : Type 0} (reads : Type 0) (feed : F → Feed) where
   }
 
   -- a tuning is read for
-  pub turned : (front : ℕ) (recording : ℕ → Option (List ℕ)) (tells : Type 0) (k l : Known) (o n : Outbox) (first a b c mux tune : ℕ) (old mid new : Reading F)
-      → Runs front recording tells reads feed k l o n first a (Tune mux tune) old → GoesTo reads feed recording a old mux tune b mid → Goes reads feed b mid c new
+  pub turned : (front : ℕ) (recording : ℕ → Option (List ℕ)) (tells : Type 0) (k l : Known) (o n : Outbox) (first a b c mux tune : ℕ)
+      (old mid new : Reading F)
+      → Runs front recording tells reads feed k l o n first a (Tune mux tune) old → GoesTo reads feed recording a old mux tune b mid
+      → Goes reads feed b mid c new
       → Feeds front recording tells reads feed k l o n first c (Tune mux tune) tune new
   turned front recording tells k l o n first a b c mux tune old mid new runs goes on =
       let reel : Reel = tuned recording runs.reel mux tune in
