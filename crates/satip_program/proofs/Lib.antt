@@ -7,6 +7,8 @@ pub mod AcceptsLemmas
 pub mod ServingLemmas
 mod StatusLemmas
 mod ReplayLemmas
+mod RunLemmas
+mod ServiceLemmas
 mod RecordingLemmas
 mod AuditLemmas
 mod JournalLemmas

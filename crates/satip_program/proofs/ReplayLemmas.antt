@@ -7,11 +7,10 @@ use Rattle.satip_replay.specs.Replays.{configuration_limit}
 use Rattle.satip_replay.specs.Ends.{IsEndOf, ReplayEnds as EndsSo}
 use Rattle.satip_replay.specs.declared.ends.ReplayEnd.{ReplayEnd}
 use Rattle.satip_replay.specs.declared.ends.ReplayEnd.TheVariants as ends
-use Rattle.satip_program.specs.Commands.{Form, Replay}
 use Rattle.satip_program.specs.declared.outcomes.Outcome.{Outcome}
 use Rattle.satip_telling.specs.Lines.{Says}
 use Rattle.satip_program.specs.Outcomes.{status_of, line_for, outcome_of}
-use Rattle.satip_program.specs.Replaying.{ReplayRuns, RunEnds, IsSettled}
+use Rattle.satip_program.specs.Replaying.{ReplayRuns, IsSettled}
 use Rattle.satip_program.specs.Ends.{ReplayEnds}
 use Rattle.satip_program.proofs.StatusLemmas.{has_end}
 
@@ -152,7 +151,8 @@ opened_ends ct it ot et text before now view s i j o n e m a ends.OutOfMemory de
   settled = λ told is tells still source input. settled_told ct it text a (view s) i j ends.OutOfMemory started settled told is tells source input;
 }
 
-replay_ends : {C : Type 0} (ct it ot et : Type 0) (text : Option (List ℕ)) (before now : ℕ) (view : C → Feed) (source : Option C) (i j : Feed) (o n e m : Drain)
+-- a replay
+pub replay_ends : {C : Type 0} (ct it ot et : Type 0) (text : Option (List ℕ)) (before now : ℕ) (view : C → Feed) (source : Option C) (i j : Feed) (o n e m : Drain)
     (outcome : Outcome) → ReplayRuns ct it ot text before now i j o n (option_map view source) outcome → Says et e m (line_for outcome)
     → ReplayEnds ct it ot et text before now view source i j o n e m (status_of outcome)
 replay_ends ct it ot et text before now view None i j o n e m outcome runs line =
@@ -164,12 +164,3 @@ replay_ends ct it ot et text before now view (Some s) i j o n e m outcome runs l
     let said = runs.given.said in
     subst P (sym said.told) (opened_ends ct it ot et text before now view s i j o n e m runs.given.source said.ending runs.desk runs.given.started
     said.ends said.config_limit said.settled (subst L said.told line))
-
-pub run_replays : {C : Type 0} (ct it ot et : Type 0) (text : List ℕ → Option (List ℕ)) (before now : ℕ) (view : C → Feed) (source : Option C)
-    (i j : Feed) (o n e m : Drain) (form : Option Form) (outcome : Outcome) (status : ℕ)
-    → RunEnds ct it ot text before now i j o n form (option_map view source) outcome → Says et e m (line_for outcome) → status ≡ status_of outcome
-    → (name : List ℕ) → form ≡ Some (Replay name) → ReplayEnds ct it ot et (text name) before now view source i j o n e m status
-run_replays ct it ot et text before now view source i j o n e m form outcome status ends line told name is =
-    let P : Option Form → Type 0 = λ f. RunEnds ct it ot text before now i j o n f (option_map view source) outcome in
-    let Q : ℕ → Type 0 = λ s. ReplayEnds ct it ot et (text name) before now view source i j o n e m s in
-    subst Q (sym told) (replay_ends ct it ot et (text name) before now view source i j o n e m outcome (subst P is ends) line)

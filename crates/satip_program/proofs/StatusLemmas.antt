@@ -8,11 +8,9 @@ use Rattle.satip_history.specs.Lists.{Has}
 use Rattle.satip_replay.specs.declared.ends.ReplayEnd.{ReplayEnd}
 use Rattle.satip_replay.specs.declared.ends.ReplayEnd.TheVariants as ends
 use Rattle.satip_program.proofs.OutcomeLemmas.{talk_early}
-use Rattle.satip_program.specs.Commands.{Form, Talk, Stress}
 use Rattle.satip_program.specs.declared.outcomes.Outcome.{Outcome}
 use Rattle.satip_program.specs.declared.outcomes.Outcome.TheVariants.{Done, Usage, Configuration, Script, InputFault, OutputFault, TooLong, OutOfMemory}
 use Rattle.satip_program.specs.Outcomes.{input_limit, status_of, outcome_of, TalkRuns, StressRuns, EndsEarly, EndsByLength, NothingDone}
-use Rattle.satip_program.specs.Replaying.{RunEnds}
 use Rattle.satip_program.specs.Ends.{talk_statuses, replay_statuses, ClosesInTime, IsWithinLimit, TalkEnds, StressEnds}
 
 -- of two beginnings of one text the shorter is a beginning of the longer
@@ -65,7 +63,8 @@ other_ends it ot i j o n status has never early nothing settled = record {
   settled = settled;
 }
 
-talk_ends : (it ot : Type 0) (i j : Feed) (o n : Drain) (outcome : Outcome) → TalkRuns it ot i j o n outcome → TalkEnds it ot i j o n (status_of outcome)
+-- a talk
+pub talk_ends : (it ot : Type 0) (i j : Feed) (o n : Drain) (outcome : Outcome) → TalkRuns it ot i j o n outcome → TalkEnds it ot i j o n (status_of outcome)
 talk_ends it ot i j o n Done runs = record {
   status_is = inl refl;
   replies = λ is told. runs.whole told;
@@ -92,14 +91,8 @@ talk_ends it ot i j o n OutOfMemory runs =
     other_ends it ot i j o n 70 (inr (inr (inr (inr (inl refl))))) (λ is. omega (arith, is))
     (talk_early it ot i j o n OutOfMemory runs (λ is. omega (arith, is))) (λ is. runs) (λ told within input output. inr refl)
 
-pub run_talks : (ct it ot : Type 0) (text : List ℕ → Option (List ℕ)) (before now : ℕ) (i j : Feed) (o n : Drain) (form : Option Form) (config : Option Feed) (outcome : Outcome) (status : ℕ)
-    → RunEnds ct it ot text before now i j o n form config outcome → status ≡ status_of outcome → form ≡ Some Talk → TalkEnds it ot i j o n status
-run_talks ct it ot text before now i j o n form config outcome status ends told is =
-    let P : Option Form → Type 0 = λ f. RunEnds ct it ot text before now i j o n f config outcome in
-    let Q : ℕ → Type 0 = λ s. TalkEnds it ot i j o n s in
-    subst Q (sym told) (talk_ends it ot i j o n outcome (subst P is ends))
-
-stress_ends : (ot : Type 0) (i j : Feed) (o n : Drain) (seed count : ℕ) (outcome : Outcome) → StressRuns ot i j o n seed count outcome
+-- a stress run
+pub stress_ends : (ot : Type 0) (i j : Feed) (o n : Drain) (seed count : ℕ) (outcome : Outcome) → StressRuns ot i j o n seed count outcome
     → StressEnds ot seed count i j o n (status_of outcome)
 stress_ends ot i j o n seed count Done runs = record {
   status_is = inl refl;
@@ -127,14 +120,6 @@ stress_ends ot i j o n seed count OutOfMemory runs = record {
   counted_partly = λ is. absurd (omega (arith, is));
   wants = λ is. runs.output;
 }
-
-pub run_stresses : (ct it ot : Type 0) (text : List ℕ → Option (List ℕ)) (before now : ℕ) (i j : Feed) (o n : Drain) (form : Option Form) (config : Option Feed) (outcome : Outcome) (status : ℕ)
-    → RunEnds ct it ot text before now i j o n form config outcome → status ≡ status_of outcome
-    → (seed count : ℕ) → form ≡ Some (Stress seed count) → StressEnds ot seed count i j o n status
-run_stresses ct it ot text before now i j o n form config outcome status ends told seed count is =
-    let P : Option Form → Type 0 = λ f. RunEnds ct it ot text before now i j o n f config outcome in
-    let Q : ℕ → Type 0 = λ s. StressEnds ot seed count i j o n s in
-    subst Q (sym told) (stress_ends ot i j o n seed count outcome (subst P is ends))
 
 -- the status of a replay, by its end
 pub has_end : (ending : ReplayEnd) → Has (status_of (outcome_of ending)) replay_statuses

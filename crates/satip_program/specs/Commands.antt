@@ -1,17 +1,21 @@
 -- The words of the command line, and the lines that the program writes of itself.
-use Rattle.std.specs.Prelude.{ℕ, ◌≤◌, ◌==◌, List, [], ◌∷◌, ◌++◌, codes, decimal, Option, Some, None, option_map, if◌then◌else◌}
+use Rattle.std.specs.Prelude.{◌≡◌, ℕ, ◌≤◌, ◌==◌, Bool, true, false, List, [], ◌∷◌, ◌++◌, codes, decimal, Option, Some, None, if◌then◌else◌}
 use Rattle.std.specs.Str.{bytes_eq}
 use Rattle.satip_base.specs.Numbers.{number_of}
-use Rattle.satip_record_command.specs.Words.{Wanted, wanted_of}
+use Rattle.satip_record_command.specs.Words.{Wanted, wanted, wanted_of}
 use Rattle.satip_program.specs.declared.commands.Command.{Command}
-use Rattle.satip_program.specs.declared.commands.Serve.{Serve}
 use Rattle.satip_program.specs.declared.commands.Command.TheVariants as commands
+use Rattle.satip_program.specs.declared.commands.Service.{Service}
+use Rattle.satip_program.specs.declared.commands.Service.TheVariants as services
 
--- what the words ask for; a replay has the name of its configuration, a stress run its seed and its count
+-- what the words ask for that waits for nobody; a replay and an audit have the name of their configuration, a stress run
+-- its seed and its count, a recording what it wants
 pub data Form : Type 0 where
   Talk : Form
   Replay : List ℕ → Form
   Stress : ℕ → ℕ → Form
+  Audit : List ℕ → Form
+  Record : Wanted → Form
   Help : Form
   Version : Form
 
@@ -20,6 +24,8 @@ abbrev pub form_of : Command → Form
 form_of commands.Talk = Talk
 form_of (commands.Replay name) = Replay name.now
 form_of (commands.Stress seed count) = Stress seed count
+form_of (commands.Audit name) = Audit name.now
+form_of (commands.Record recording) = Record (wanted recording)
 form_of commands.Help = Help
 form_of commands.Version = Version
 
@@ -32,9 +38,15 @@ command_named word =
     else None
 
 -- the form of two words; no configuration has the empty name
-abbrev pub replay_named : List ℕ → List ℕ → Option Form
-replay_named word [] = None
-replay_named word (byte ∷ bytes) = if bytes_eq word (codes "replay") then Some (Replay (byte ∷ bytes)) else None
+abbrev pub pair_by : List ℕ → List ℕ → Option Form
+pair_by word name =
+    if bytes_eq word (codes "replay") then Some (Replay name)
+    else if bytes_eq word (codes "audit") then Some (Audit name)
+    else None
+
+abbrev pub pair_named : List ℕ → List ℕ → Option Form
+pair_named word [] = None
+pair_named word (byte ∷ bytes) = pair_by word (byte ∷ bytes)
 
 -- the form of three words; the numbers are read where they are allowed
 abbrev pub stress_by : Option ℕ → Option ℕ → Option Form
@@ -45,102 +57,101 @@ stress_by None count = None
 abbrev pub stress_named : List ℕ → Option ℕ → Option ℕ → Option Form
 stress_named word seed count = if bytes_eq word (codes "stress") then stress_by seed count else None
 
--- the form of the words, if they are in one
+-- the form of four words; what is wanted is read where it is allowed
+abbrev pub recording_by : Option Wanted → Option Form
+recording_by (Some w) = Some (Record w)
+recording_by None = None
+
+abbrev pub recording_named : List ℕ → Option Wanted → Option Form
+recording_named word w = if bytes_eq word (codes "record") then recording_by w else None
+
+-- the form of the words, if they ask for a command that waits for nobody
 unfoldable pub command_of : List (List ℕ) → Option Form
 command_of [] = None
 command_of (word ∷ []) = command_named word
-command_of (word ∷ name ∷ []) = replay_named word name
+command_of (word ∷ name ∷ []) = pair_named word name
 command_of (word ∷ seed ∷ count ∷ []) =
     stress_named word (number_of 18446744073709551615 seed) (number_of 1000000 count)
-command_of (word ∷ name ∷ another ∷ one_more ∷ others) = None
+command_of (word ∷ address ∷ query ∷ count ∷ []) = recording_named word (wanted_of address query count)
+command_of (word ∷ address ∷ query ∷ count ∷ another ∷ others) = None
 
--- the words of a `serve`: the name of its configuration, and after how many connections the doors of a worker end
-pub record Serving : Type 0 where
-  pub name : List ℕ
-  pub accepts : ℕ
+-- what the words ask for that waits for clients: a server, one through a tunnel, or one with journals; each has the name
+-- of its configuration, and after how many connections the doors of a worker end
+pub data Serving : Type 0 where
+  Serve : List ℕ → ℕ → Serving
+  Tunnel : List ℕ → ℕ → Serving
+  Journal : List ℕ → ℕ → Serving
 
--- the form of three words; no configuration has the empty name
-abbrev pub serve_named : List ℕ → List ℕ → Option ℕ → Option Serving
-serve_named word [] accepts = None
-serve_named word (byte ∷ bytes) accepts =
-    if bytes_eq word (codes "serve") then option_map (λ n. record { name = byte ∷ bytes; accepts = n }) accepts else None
+-- what a service asks for
+abbrev pub serving_for : Service → Serving
+serving_for (services.Serve name accepts) = Serve name.now accepts
+serving_for (services.Tunnel name accepts) = Tunnel name.now accepts
+serving_for (services.Journal name accepts) = Journal name.now accepts
 
--- the form of the words, if they ask for a `serve`
-unfoldable pub serve_of : List (List ℕ) → Option Serving
-serve_of [] = None
-serve_of (word ∷ []) = None
-serve_of (word ∷ name ∷ []) = None
-serve_of (word ∷ name ∷ accepts ∷ []) = serve_named word name (number_of 4294967295 accepts)
-serve_of (word ∷ name ∷ accepts ∷ another ∷ others) = None
+-- the service of a word, with its name and its number
+abbrev pub serving_by : List ℕ → List ℕ → ℕ → Option Serving
+serving_by word name accepts =
+    if bytes_eq word (codes "serve") then Some (Serve name accepts)
+    else if bytes_eq word (codes "tunnel") then Some (Tunnel name accepts)
+    else if bytes_eq word (codes "journal") then Some (Journal name accepts)
+    else None
 
--- the form of three words; no configuration has the empty name
-abbrev pub tunnel_named : List ℕ → List ℕ → Option ℕ → Option Serving
-tunnel_named word [] accepts = None
-tunnel_named word (byte ∷ bytes) accepts =
-    if bytes_eq word (codes "tunnel") then option_map (λ n. record { name = byte ∷ bytes; accepts = n }) accepts else None
+-- the service of three words; no configuration has the empty name
+abbrev pub serving_named : List ℕ → List ℕ → Option ℕ → Option Serving
+serving_named word [] accepts = None
+serving_named word (byte ∷ bytes) (Some accepts) = serving_by word (byte ∷ bytes) accepts
+serving_named word (byte ∷ bytes) None = None
 
--- the form of the words, if they ask for a `serve` with RTP inside the RTSP connections
-unfoldable pub tunnel_of : List (List ℕ) → Option Serving
-tunnel_of [] = None
-tunnel_of (word ∷ []) = None
-tunnel_of (word ∷ name ∷ []) = None
-tunnel_of (word ∷ name ∷ accepts ∷ []) = tunnel_named word name (number_of 4294967295 accepts)
-tunnel_of (word ∷ name ∷ accepts ∷ another ∷ others) = None
+-- the service that the words ask for, if they ask for one
+unfoldable pub serving_of : List (List ℕ) → Option Serving
+serving_of [] = None
+serving_of (word ∷ []) = None
+serving_of (word ∷ name ∷ []) = None
+serving_of (word ∷ name ∷ accepts ∷ []) = serving_named word name (number_of 4294967295 accepts)
+serving_of (word ∷ name ∷ accepts ∷ another ∷ others) = None
 
--- the form of three words; no configuration has the empty name
-abbrev pub journal_named : List ℕ → List ℕ → Option ℕ → Option Serving
-journal_named word [] accepts = None
-journal_named word (byte ∷ bytes) accepts =
-    if bytes_eq word (codes "journal") then option_map (λ n. record { name = byte ∷ bytes; accepts = n }) accepts else None
-
--- the form of the words, if they ask for a `serve` with journals
-unfoldable pub journal_of : List (List ℕ) → Option Serving
-journal_of [] = None
-journal_of (word ∷ []) = None
-journal_of (word ∷ name ∷ []) = None
-journal_of (word ∷ name ∷ accepts ∷ []) = journal_named word name (number_of 4294967295 accepts)
-journal_of (word ∷ name ∷ accepts ∷ another ∷ others) = None
-
--- the form of a `serve`
-abbrev pub serving_of : Serve → Serving
-serving_of serve = record { name = serve.name.now; accepts = serve.accepts }
-
--- the name of the configuration of an audit; no configuration has the empty name
-abbrev pub audit_named : List ℕ → List ℕ → Option (List ℕ)
-audit_named word [] = None
-audit_named word (byte ∷ bytes) = if bytes_eq word (codes "audit") then Some (byte ∷ bytes) else None
-
--- the name of its configuration, if the words ask for an `audit`
-unfoldable pub audit_of : List (List ℕ) → Option (List ℕ)
-audit_of [] = None
-audit_of (word ∷ []) = None
-audit_of (word ∷ name ∷ []) = audit_named word name
-audit_of (word ∷ name ∷ another ∷ others) = None
-
--- what the words want recorded, if they ask for a recording: an address, a query and a count
-unfoldable pub recording_of : List (List ℕ) → Option Wanted
-recording_of [] = None
-recording_of (word ∷ []) = None
-recording_of (word ∷ address ∷ []) = None
-recording_of (word ∷ address ∷ query ∷ []) = None
-recording_of (word ∷ address ∷ query ∷ count ∷ []) =
-    if bytes_eq word (codes "record") then wanted_of address query count else None
-recording_of (word ∷ address ∷ query ∷ count ∷ another ∷ others) = None
-
--- the name of the configuration that the words name, if they name one
+-- the name of the configuration that a form names, if it names one
 abbrev pub config_named : Option Form → Option (List ℕ)
 config_named (Some (Replay name)) = Some name
+config_named (Some (Audit name)) = Some name
 config_named (Some Talk) = None
 config_named (Some (Stress seed count)) = None
+config_named (Some (Record w)) = None
 config_named (Some Help) = None
 config_named (Some Version) = None
 config_named None = None
+
+-- what a form wants recorded, if it wants that
+abbrev pub recording_in : Option Form → Option Wanted
+recording_in (Some (Record w)) = Some w
+recording_in (Some Talk) = None
+recording_in (Some (Replay name)) = None
+recording_in (Some (Stress seed count)) = None
+recording_in (Some (Audit name)) = None
+recording_in (Some Help) = None
+recording_in (Some Version) = None
+recording_in None = None
+
+-- whether a service goes through a tunnel, and whether it keeps journals
+abbrev pub is_tunnel : Option Serving → Bool
+is_tunnel (Some (Tunnel name accepts)) = true
+is_tunnel (Some (Serve name accepts)) = false
+is_tunnel (Some (Journal name accepts)) = false
+is_tunnel None = false
+
+abbrev pub is_journal : Option Serving → Bool
+is_journal (Some (Journal name accepts)) = true
+is_journal (Some (Serve name accepts)) = false
+is_journal (Some (Tunnel name accepts)) = false
+is_journal None = false
 
 -- the count of a command is allowed
 abbrev pub HasCount : Command → Type 0
 HasCount commands.Talk = Unit {0}
 HasCount (commands.Replay name) = Unit {0}
 HasCount (commands.Stress seed count) = count ≤ 1000000
+HasCount (commands.Audit name) = Unit {0}
+HasCount (commands.Record recording) = (1 ≤ recording.count) × (recording.count ≤ 1000000)
 HasCount commands.Help = Unit {0}
 HasCount commands.Version = Unit {0}
 

@@ -8,6 +8,6 @@ pub mod Replaying
 pub mod Serving
 pub mod Tunneling
 pub mod Ends
+pub mod Runs
 pub mod Recording
-pub mod Auditing
 pub mod Journaling

@@ -149,11 +149,6 @@ StressRuns tells i j o n seed count OutputFault = Prints (FailedToPut tells o n 
 StressRuns tells i j o n seed count TooLong = ⊥
 StressRuns tells i j o n seed count OutOfMemory = NothingDone i j o n
 
--- the words were refused
-pub record IsRefused (i j : Feed) (o n : Drain) (outcome : Outcome) : Type 0 where
-  pub usage : outcome ≡ Usage
-  pub nothing : NothingDone i j o n
-
 -- the input was read to its end, or to the piece that has the message to which the closing reply answers
 pub record ReadsInTime (tells : Type 0) (i j : Feed) : Type 0 where
   pub text : List ℕ

@@ -7,8 +7,7 @@ use Rattle.satip_replay.specs.Replays.{script_limit, configuration_limit}
 use Rattle.satip_replay.specs.Ends.{ReplayEnds, IsEndOf}
 use Rattle.satip_replay.specs.declared.ends.ReplayEnd.{ReplayEnd}
 use Rattle.satip_replay.specs.declared.ends.ReplayEnd.TheVariants.{TooLong}
-use Rattle.satip_program.specs.Commands.{Form, Talk, Replay, Stress, Help, Version, help, version}
-use Rattle.satip_program.specs.Outcomes.{status_of, outcome_of, NothingDone, TalkRuns, StressRuns, PrintEnds, IsRefused}
+use Rattle.satip_program.specs.Outcomes.{status_of, outcome_of, NothingDone}
 use Rattle.satip_program.specs.declared.outcomes.Outcome.{Outcome}
 use Rattle.satip_program.specs.declared.outcomes.Outcome.TheVariants.{InputFault}
 
@@ -43,15 +42,6 @@ pub record Opened (config_tells in_tells out_tells : Type 0) (text : Option (Lis
 abbrev pub ReplayRuns : (config_tells in_tells out_tells : Type 0) (text : Option (List ℕ)) (before now : ℕ) (i j : Feed) (o n : Drain) → Option Feed → Outcome → Type 0
 ReplayRuns ct it ot text before now i j o n None outcome = Unopened before now i j o n outcome
 ReplayRuns ct it ot text before now i j o n (Some b) outcome = Opened ct it ot text before now b i j o n outcome
-
--- how the run of a command ends; `text` has the text of each configuration, where the desk tells it
-abbrev pub RunEnds : (config_tells in_tells out_tells : Type 0) (text : List ℕ → Option (List ℕ)) (before now : ℕ) (i j : Feed) (o n : Drain) → Option Form → Option Feed → Outcome → Type 0
-RunEnds ct it ot text before now i j o n None config outcome = IsRefused i j o n outcome
-RunEnds ct it ot text before now i j o n (Some Talk) config outcome = TalkRuns it ot i j o n outcome
-RunEnds ct it ot text before now i j o n (Some (Replay name)) config outcome = ReplayRuns ct it ot (text name) before now i j o n config outcome
-RunEnds ct it ot text before now i j o n (Some (Stress seed count)) config outcome = StressRuns ot i j o n seed count outcome
-RunEnds ct it ot text before now i j o n (Some Help) config outcome = PrintEnds ot i j o n help outcome
-RunEnds ct it ot text before now i j o n (Some Version) config outcome = PrintEnds ot i j o n version outcome
 
 -- the status is that of a replay that ends as the texts of the configuration and of the script say
 pub record IsSettled (config_text text : List ℕ) (status : ℕ) : Type 0 where

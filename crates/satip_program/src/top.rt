@@ -1,36 +1,31 @@
 //! The top call: what the program does with its words, its input, its output, its errors and its
 //! desk.
 
-ghost use Rattle.std.specs.Prelude.{◌≡◌, ◌↔◌, ◌⊎◌, ℕ, ◌+◌, ◌-◌, ◌<◌, ◌≤◌, List, [], Some, None, option_map, IsSome, IsNone, IfSome, IsSomeAnd, map};
+ghost use Rattle.std.specs.Prelude.{◌≡◌, ◌⊎◌, ℕ, ◌≤◌, List, [], Option, Some, None, option_map, IsNone, IsSomeAnd, map};
 ghost use Rattle.satip_base.specs.Streams.{Feed, Rose};
 ghost use Rattle.satip_serving.specs.Given.{jobs_view};
-ghost use Rattle.satip_record_command.specs.Ends.{RecordEnds, left_of};
-ghost use Rattle.satip_record_command.specs.Words.{wanted};
 ghost use Rattle.satip_serving.specs.Handed.{nothing_handed};
-ghost use Rattle.satip_program.specs.Recording.{IsApart};
-ghost use Rattle.satip_program.specs.Auditing.{IsOfAudit};
-ghost use Rattle.satip_audit_command.specs.Ends.{AuditEnds};
+ghost use Rattle.satip_record_command.specs.Words.{Wanted};
 ghost use Rattle.satip_journal_command.specs.Ends.{JournalEnds};
-ghost use Rattle.satip_program.specs.Journaling.{IsOfJournal};
 ghost use Rattle.satip_telling.specs.Lines.{Says};
-ghost use Rattle.satip_program.specs.Commands.{serve_of, tunnel_of, journal_of, recording_of, audit_of, Talk, Replay, Stress, Help, Version, command_of, config_named, help, version, line_of};
-ghost use Rattle.satip_program.specs.Ends.{TalkEnds, ReplayEnds, StressEnds, ServeEnds};
-ghost use Rattle.satip_program.specs.Tunneling.{TunnelEnds};
 ghost use Rattle.satip_silent.specs.Silences.{no_outbox};
-ghost use Rattle.satip_program.specs.Outcomes.{input_limit, NothingDone, PrintEnds, StressRuns, Shows};
-ghost use Rattle.satip_program.specs.Replaying.{RunEnds, ReplayRuns};
+ghost use Rattle.satip_program.specs.Commands.{Form, Replay, Record, Serve, Tunnel, Journal, command_of, serving_of, config_named, line_of};
+ghost use Rattle.satip_program.specs.Ends.{ServeEnds};
+ghost use Rattle.satip_program.specs.Tunneling.{TunnelEnds};
+ghost use Rattle.satip_program.specs.Runs.{AsksOnly, GivesBack, RunEnds};
+ghost use Rattle.satip_program.specs.Journaling.{IsOfJournal};
+ghost use Rattle.satip_program.specs.Outcomes.{line_for, status_of, PrintEnds, StressRuns};
+ghost use Rattle.satip_program.specs.Replaying.{ReplayRuns};
 
-use crate::commands::{
-    Command, Serve, read_audit, read_journal, read_recording, read_serve, read_tunnel, read_words,
-};
+use crate::commands::{Command, Service, read_service, read_words};
 use crate::outcomes::Outcome;
 use crate::serving::{status_of_serving, tell_serving};
 use crate::talk::talk;
 use crate::telling::tell;
-use satip_audit_command::{Audited, audit_by, status_of};
+use satip_audit_command::{Audited, audit_by};
 use satip_base::{Failed, Put, Sink, Source, Text};
 use satip_journal_command::{Journaled, journal_by};
-use satip_record_command::{Recorded, Recording, record};
+use satip_record_command::{Recorded, record};
 use satip_replay::replay;
 use satip_serve::{Jobs, Last};
 use satip_serving::{Desk, Served, serve_by};
@@ -114,8 +109,8 @@ impl<K: Desk> Drop for Ended<K> {
     }
 }
 
-// How a command ended.
-struct Ending<K: Desk> {
+// How a replay ended, and the configuration that the desk gave for it.
+struct Replayed<K: Desk> {
     outcome: Outcome,
     config: Option<K::Config>,
 }
@@ -133,164 +128,60 @@ pub fn satip<R: Threads + Wait + Sync, K: Desk, I: Source, O: Sink, E: Sink>(
     requires new { K.given desk.old ≡ None }
     requires client { K.handed desk.old ≡ nothing_handed }
 
-    // Which words there are, and what they do.
-    ensures usage { (result.status ≡ 2) ↔ ((command_of words.now ≡ None)
-        × (recording_of words.now ≡ None) × (audit_of words.now ≡ None)
-        × (serve_of words.now ≡ None) × (tunnel_of words.now ≡ None)
-        × (journal_of words.now ≡ None)) }
-    ensures unused { command_of words.now ≡ None → recording_of words.now ≡ None
-        → audit_of words.now ≡ None → NothingDone
-        (I.feed input.old)
-        (I.feed input.new)
-        (O.drain output.old) (O.drain output.new) }
-    ensures help { command_of words.now ≡ Some Help → Shows O.tells
-        (I.feed input.old)
-        (I.feed input.new)
-        (O.drain output.old) (O.drain output.new)
-        help result.status }
-    ensures version { command_of words.now ≡ Some Version → Shows O.tells
-        (I.feed input.old)
-        (I.feed input.new)
-        (O.drain output.old) (O.drain output.new)
-        version result.status }
-
-    // A talk: the replies to the whole input, or a beginning of the replies to what was taken.
-    ensures talk { command_of words.now ≡ Some Talk → TalkEnds I.tells O.tells
-        (I.feed input.old)
-        (I.feed input.new)
-        (O.drain output.old) (O.drain output.new)
-        result.status }
-
-    // A replay of the script by the configuration that the desk gave.
-    ensures replay { (name : List ℕ) → command_of words.now ≡ Some (Replay name)
-        → ReplayEnds K.Config.tells I.tells O.tells E.tells
-        (K.text desk.old name) (K.faults desk.old) (K.faults desk.new)
-        K.Config.feed result.config
-        (I.feed input.old)
-        (I.feed input.new)
-        (O.drain output.old) (O.drain output.new)
+    // Of all commands: what one that waits for nobody does, what is asked of the desk, what comes
+    // back, and what the status tells.
+    ensures ends { RunEnds K.Config.tells K.Wire.tells K.Inlet.tells I.tells O.tells E.tells
+        (command_of words.now) (serving_of words.now)
+        K.text K.faults K.given K.handed K.journaled desk.old desk.new
+        (I.feed input.old) (I.feed input.new) (O.drain output.old) (O.drain output.new)
         (E.drain errors.old) (E.drain errors.new)
-        result.status }
+        K.Config.feed result.config result.last result.tunnel result.unused
+        K.Wire.line K.Moment.dial K.Inlet.inbox result.wire result.moment result.inlet
+        result.journals.items result.status }
 
-    // A stress run: the six counts of its events.
-    ensures stress { (seed : ℕ) (count : ℕ) → command_of words.now ≡ Some (Stress seed count)
-        → StressEnds O.tells seed count
-        (I.feed input.old)
-        (I.feed input.new)
-        (O.drain output.old) (O.drain output.new)
-        result.status }
-
-    // An audit: the verdict on the journals by the configuration that the desk gave.
-    ensures audit { IfSome (audit_of words.now) (λ name.
-        AuditEnds K.Config.tells I.tells O.tells E.tells
-        (K.text desk.old name) (K.faults desk.old) (K.faults desk.new)
-        K.Config.feed result.config
-        (I.feed input.old)
-        (I.feed input.new)
-        (O.drain output.old) (O.drain output.new)
-        (E.drain errors.old) (E.drain errors.new)
-        result.status) }
-
-    // A recording: the first packets of what is caught of the stream, or a beginning of them.
-    ensures recording { IfSome (recording_of words.now) (λ wanted.
-        RecordEnds K.Wire.tells K.Inlet.tells O.tells E.tells
-        wanted (K.handed desk.new) (K.faults desk.old) (K.faults desk.new)
-        (left_of K.Wire.line K.Moment.dial K.Inlet.inbox result.wire result.moment result.inlet)
-        (I.feed input.old)
-        (I.feed input.new)
-        (O.drain output.old) (O.drain output.new)
-        (E.drain errors.old) (E.drain errors.new)
-        result.status) }
-    ensures handed { recording_of words.now ≡ None → K.handed desk.new ≡ nothing_handed }
-    ensures no_client { recording_of words.now ≡ None
-        → (result.wire ≡ None) × (result.inlet ≡ None) × (result.moment ≡ None) }
-
-    // Only what names a configuration opens one, and that and a recording alone ask anything of the
-    // desk.
-    ensures no_config { serve_of words.now ≡ None → tunnel_of words.now ≡ None
-        → journal_of words.now ≡ None → audit_of words.now ≡ None
-        → config_named (command_of words.now) ≡ None → IsNone result.config }
-    ensures desk { serve_of words.now ≡ None → tunnel_of words.now ≡ None
-        → journal_of words.now ≡ None → recording_of words.now ≡ None
-        → audit_of words.now ≡ None → config_named (command_of words.now) ≡ None
-        → desk.new ≡ desk.old }
-    ensures texts { K.text desk.new ≡ K.text desk.old }
-
-    // Only a serve with journals asks for them.
-    ensures journaled { journal_of words.now ≡ None → K.journaled desk.new ≡ K.journaled desk.old }
-    ensures no_journals { journal_of words.now ≡ None → result.journals.items ≡ [] }
-
-    // When each status comes.
-    ensures configuration { serve_of words.now ≡ None → tunnel_of words.now ≡ None
-        → journal_of words.now ≡ None
-        → result.status ≡ 3
-        → IsSome (config_named (command_of words.now)) ⊎ IsSome (audit_of words.now) }
-    ensures script { result.status ≡ 4
-        → IsSome (config_named (command_of words.now)) ⊎ IsSome (audit_of words.now) }
-    ensures input_fault { result.status ≡ 5 → Rose (K.faults desk.old) (K.faults desk.new)
-        ⊎ IsSomeAnd result.config (λ source. Rose 0 (K.Config.feed source).faults)
-        ⊎ Rose (I.feed input.old).faults (I.feed input.new).faults }
-    ensures output_fault { journal_of words.now ≡ None → result.status ≡ 6
-        → Rose (O.drain output.old).faults (O.drain output.new).faults }
-    ensures too_long { (result.status ≡ 8) ↔ (input_limit
-        < (I.feed input.new).taken - (I.feed input.old).taken) }
-    ensures limit { (I.feed input.new).taken ≤ (I.feed input.old).taken + input_limit + 1 }
-
-    // A serve: the jobs ran by the configuration of the desk's text, over one history that keeps
-    // the laws. So do the server's entries of a tunnel's, and those of a serve with journals, which
-    // are one history in any order. Nothing else asks for kits, or runs jobs.
-    ensures serve { IfSome (serve_of words.now) (λ serve.
-        ServeEnds K.Config.tells K.Doors.Conn.tells K.Outlet.tells E.tells
-        serve.accepts (K.text desk.old serve.name) (K.faults desk.old) (K.faults desk.new)
+    // A server: the jobs ran by the configuration of the desk's text, over one history that keeps
+    // the laws. So do the server's entries of a tunnel's, and those of a server with journals,
+    // which are one history in any order.
+    ensures serve { (name : List ℕ) (accepts : ℕ)
+        → serving_of words.now ≡ Some (Serve name accepts)
+        → ServeEnds K.Config.tells K.Doors.Conn.tells K.Outlet.tells E.tells
+        accepts (K.text desk.old name) (K.faults desk.old) (K.faults desk.new)
         K.Config.feed result.config
         (jobs_view K.Doors.hall K.Outlet.outbox K.Store.shelf K.Clock.dial)
         (K.given desk.new) result.last result.unused
         (E.drain errors.old) (E.drain errors.new)
-        result.status) }
-    ensures tunnel { IfSome (tunnel_of words.now) (λ serve.
-        TunnelEnds K.Config.tells K.Doors.Conn.tells E.tells
-        serve.accepts (K.text desk.old serve.name) (K.faults desk.old) (K.faults desk.new)
+        result.status }
+    ensures tunnel { (name : List ℕ) (accepts : ℕ)
+        → serving_of words.now ≡ Some (Tunnel name accepts)
+        → TunnelEnds K.Config.tells K.Doors.Conn.tells E.tells
+        accepts (K.text desk.old name) (K.faults desk.old) (K.faults desk.new)
         K.Config.feed result.config
         (jobs_view K.Doors.hall K.Outlet.outbox K.Store.shelf K.Clock.dial)
         (jobs_view K.Doors.hall no_outbox K.Store.shelf K.Clock.dial)
         (K.given desk.new) result.tunnel result.unused
         (E.drain errors.old) (E.drain errors.new)
-        result.status) }
-    ensures journal { IfSome (journal_of words.now) (λ serve.
-        JournalEnds K.Config.tells K.Doors.Conn.tells K.Outlet.tells K.Journal.tells E.tells
-        serve.accepts (K.text desk.old serve.name) (K.faults desk.old) (K.faults desk.new)
+        result.status }
+    ensures journal { (name : List ℕ) (accepts : ℕ)
+        → serving_of words.now ≡ Some (Journal name accepts)
+        → JournalEnds K.Config.tells K.Doors.Conn.tells K.Outlet.tells K.Journal.tells E.tells
+        accepts (K.text desk.old name) (K.faults desk.old) (K.faults desk.new)
         (K.journaled desk.old) (K.journaled desk.new) K.Config.feed result.config
         (jobs_view K.Doors.hall K.Outlet.outbox K.Store.shelf K.Clock.dial)
         (K.given desk.new) result.last result.unused (map K.Journal.drain result.journals.items)
         (E.drain errors.old) (E.drain errors.new)
-        result.status) }
-    ensures kits { serve_of words.now ≡ None → tunnel_of words.now ≡ None
-        → journal_of words.now ≡ None → K.given desk.new ≡ None }
-    ensures no_last { serve_of words.now ≡ None → journal_of words.now ≡ None
-        → result.last ≡ None }
-    ensures no_tunnel { tunnel_of words.now ≡ None → result.tunnel ≡ None }
-    ensures no_unused { serve_of words.now ≡ None → tunnel_of words.now ≡ None
-        → journal_of words.now ≡ None → result.unused ≡ None }
-    ensures no_serving { serve_of words.now ≡ None → tunnel_of words.now ≡ None
-        → journal_of words.now ≡ None → (result.status ≡ 7 → ⊥) × (result.status ≡ 9 → ⊥) }
-
-    // What is told of it.
-    ensures errors { recording_of words.now ≡ None
-        → (result.status ≡ 3 → ⊥) → (result.status ≡ 4 → ⊥) → Says E.tells
-        (E.drain errors.old) (E.drain errors.new)
-        (line_of result.status) }
+        result.status }
 {
-    match read_serve(words) {
-        Some(Serve { name, accepts }) => run_serve(rt, alloc, name, accepts, errors, desk),
-        None => match read_journal(words) {
-            Some(Serve { name, accepts }) => run_journal(rt, alloc, name, accepts, errors, desk),
-            None => match read_tunnel(words) {
-                Some(Serve { name, accepts }) => {
-                    run_tunnel(rt, alloc, name, accepts, errors, desk)
-                }
-                None => offline(alloc, words, input, output, errors, desk),
-            },
-        },
+    match read_service(words) {
+        Some(Service::Serve { name, accepts }) => {
+            run_serve(rt, alloc, name, accepts, errors, desk)
+        }
+        Some(Service::Tunnel { name, accepts }) => {
+            run_tunnel(rt, alloc, name, accepts, errors, desk)
+        }
+        Some(Service::Journal { name, accepts }) => {
+            run_journal(rt, alloc, name, accepts, errors, desk)
+        }
+        None => offline(alloc, words, input, output, errors, desk),
     }
 }
 
@@ -438,7 +329,7 @@ fn run_tunnel<R: Threads + Wait + Sync, K: Desk, E: Sink>(
 }
 
 /// The commands that wait for nobody: `talk`, `replay`, `stress`, `audit`, `record`, `--help` and
-/// `--version`. It always returns.
+/// `--version`. It always returns. The words of a server are in no form here.
 pub fn offline<K: Desk, I: Source, O: Sink, E: Sink>(
     alloc: Global,
     words: &[Text],
@@ -449,137 +340,73 @@ pub fn offline<K: Desk, I: Source, O: Sink, E: Sink>(
 ) -> Ended<K>
     requires client { K.handed desk.old ≡ nothing_handed }
 
-    // Which words there are, and what they do.
-    ensures usage { (result.status ≡ 2) ↔ ((command_of words.now ≡ None)
-        × (recording_of words.now ≡ None) × (audit_of words.now ≡ None)) }
-    ensures unused { command_of words.now ≡ None → recording_of words.now ≡ None
-        → audit_of words.now ≡ None → NothingDone
-        (I.feed input.old)
-        (I.feed input.new)
-        (O.drain output.old) (O.drain output.new) }
-    ensures help { command_of words.now ≡ Some Help → Shows O.tells
-        (I.feed input.old)
-        (I.feed input.new)
-        (O.drain output.old) (O.drain output.new)
-        help result.status }
-    ensures version { command_of words.now ≡ Some Version → Shows O.tells
-        (I.feed input.old)
-        (I.feed input.new)
-        (O.drain output.old) (O.drain output.new)
-        version result.status }
-
-    // A talk: the replies to the whole input, or a beginning of the replies to what was taken.
-    ensures talk { command_of words.now ≡ Some Talk → TalkEnds I.tells O.tells
-        (I.feed input.old)
-        (I.feed input.new)
-        (O.drain output.old) (O.drain output.new)
-        result.status }
-
-    // A replay of the script by the configuration that the desk gave.
-    ensures replay { (name : List ℕ) → command_of words.now ≡ Some (Replay name)
-        → ReplayEnds K.Config.tells I.tells O.tells E.tells
-        (K.text desk.old name) (K.faults desk.old) (K.faults desk.new)
-        K.Config.feed result.config
-        (I.feed input.old)
-        (I.feed input.new)
-        (O.drain output.old) (O.drain output.new)
+    // As `satip` says of words that ask for no service.
+    ensures ends { RunEnds K.Config.tells K.Wire.tells K.Inlet.tells I.tells O.tells E.tells
+        (command_of words.now) None
+        K.text K.faults K.given K.handed K.journaled desk.old desk.new
+        (I.feed input.old) (I.feed input.new) (O.drain output.old) (O.drain output.new)
         (E.drain errors.old) (E.drain errors.new)
-        result.status }
-
-    // A stress run: the six counts of its events.
-    ensures stress { (seed : ℕ) (count : ℕ) → command_of words.now ≡ Some (Stress seed count)
-        → StressEnds O.tells seed count
-        (I.feed input.old)
-        (I.feed input.new)
-        (O.drain output.old) (O.drain output.new)
-        result.status }
-
-    // An audit: the verdict on the journals by the configuration that the desk gave.
-    ensures audit { IfSome (audit_of words.now) (λ name.
-        AuditEnds K.Config.tells I.tells O.tells E.tells
-        (K.text desk.old name) (K.faults desk.old) (K.faults desk.new)
-        K.Config.feed result.config
-        (I.feed input.old)
-        (I.feed input.new)
-        (O.drain output.old) (O.drain output.new)
-        (E.drain errors.old) (E.drain errors.new)
-        result.status) }
-
-    // A recording: the first packets of what is caught of the stream, or a beginning of them.
-    ensures recording { IfSome (recording_of words.now) (λ wanted.
-        RecordEnds K.Wire.tells K.Inlet.tells O.tells E.tells
-        wanted (K.handed desk.new) (K.faults desk.old) (K.faults desk.new)
-        (left_of K.Wire.line K.Moment.dial K.Inlet.inbox result.wire result.moment result.inlet)
-        (I.feed input.old)
-        (I.feed input.new)
-        (O.drain output.old) (O.drain output.new)
-        (E.drain errors.old) (E.drain errors.new)
-        result.status) }
-    ensures handed { recording_of words.now ≡ None → K.handed desk.new ≡ nothing_handed }
-    ensures no_client { recording_of words.now ≡ None
-        → (result.wire ≡ None) × (result.inlet ≡ None) × (result.moment ≡ None) }
-
-    // Only what names a configuration opens one, and that and a recording alone ask anything of the
-    // desk.
-    ensures no_config { audit_of words.now ≡ None → config_named (command_of words.now) ≡ None
-        → IsNone result.config }
-    ensures desk { recording_of words.now ≡ None → audit_of words.now ≡ None
-        → config_named (command_of words.now) ≡ None → desk.new ≡ desk.old }
-    ensures texts { K.text desk.new ≡ K.text desk.old }
-
-    // No journals are asked of the desk.
-    ensures journaled { K.journaled desk.new ≡ K.journaled desk.old }
-    ensures no_journals { result.journals.items ≡ [] }
-
-    // No kits are asked of the desk.
-    ensures kits { K.given desk.new ≡ K.given desk.old }
-    ensures no_last { result.last ≡ None }
-    ensures no_tunnel { result.tunnel ≡ None }
-    ensures no_unused { result.unused ≡ None }
-    ensures no_serving { (result.status ≡ 7 → ⊥) × (result.status ≡ 9 → ⊥) }
-
-    // When each status comes.
-    ensures configuration { result.status ≡ 3
-        → IsSome (config_named (command_of words.now)) ⊎ IsSome (audit_of words.now) }
-    ensures script { result.status ≡ 4
-        → IsSome (config_named (command_of words.now)) ⊎ IsSome (audit_of words.now) }
-    ensures input_fault { result.status ≡ 5 → Rose (K.faults desk.old) (K.faults desk.new)
-        ⊎ IsSomeAnd result.config (λ source. Rose 0 (K.Config.feed source).faults)
-        ⊎ Rose (I.feed input.old).faults (I.feed input.new).faults }
-    ensures output_fault { result.status ≡ 6
-        → Rose (O.drain output.old).faults (O.drain output.new).faults }
-    ensures too_long { (result.status ≡ 8) ↔ (input_limit
-        < (I.feed input.new).taken - (I.feed input.old).taken) }
-    ensures limit { (I.feed input.new).taken ≤ (I.feed input.old).taken + input_limit + 1 }
-
-    // What is told of it.
-    ensures errors { recording_of words.now ≡ None
-        → (result.status ≡ 3 → ⊥) → (result.status ≡ 4 → ⊥) → Says E.tells
-        (E.drain errors.old) (E.drain errors.new)
-        (line_of result.status) }
+        K.Config.feed result.config result.last result.tunnel result.unused
+        K.Wire.line K.Moment.dial K.Inlet.inbox result.wire result.moment result.inlet
+        result.journals.items result.status }
 {
-    match read_recording(words) {
-        Some(recording) => run_record(alloc, &recording, output, errors, desk),
-        None => match read_audit(words) {
-            Some(name) => run_audit(alloc, name, input, output, errors, desk),
-            None => {
-                let Ending { outcome, config } = run(alloc, words, input, output, desk);
-                tell(outcome, errors);
-                without_jobs(alloc, outcome.status(), config)
-            }
-        },
+    match read_words(words) {
+        None => told(alloc, Outcome::Usage, None, errors),
+        Some(Command::Talk) => told(alloc, talk(alloc, input, output), None, errors),
+        Some(Command::Replay(name)) => {
+            let Replayed { outcome, config } = replay_by(alloc, name, input, output, desk);
+            told(alloc, outcome, config, errors)
+        }
+        Some(Command::Stress { seed, count }) => {
+            told(alloc, count_by(alloc, seed, count, output), None, errors)
+        }
+        Some(Command::Audit(name)) => {
+            let Audited { end, config } = audit_by(alloc, name, input, output, errors, desk);
+            without_jobs(alloc, satip_audit_command::status_of(end), config)
+        }
+        Some(Command::Record(recording)) => {
+            let Recorded {
+                end,
+                wire,
+                inlet,
+                moment,
+            } = record(alloc, &recording, output, errors, desk);
+            with_client(alloc, end.status(), wire, inlet, moment)
+        }
+        Some(Command::Help) => told(alloc, print(HELP, output), None, errors),
+        Some(Command::Version) => told(alloc, print(VERSION, output), None, errors),
     }
+}
+
+// Tells how a run ended that has no jobs and no client.
+fn told<K: Desk, E: Sink>(
+    alloc: Global,
+    outcome: Outcome,
+    config: Option<K::Config>,
+    errors: &mut E,
+) -> Ended<K>
+    ensures status { result.status ≡ status_of outcome }
+    ensures says { Says E.tells
+        (E.drain errors.old) (E.drain errors.new)
+        (line_for outcome) }
+    ensures config { result.config ≡ config }
+    ensures back { (form : Option Form) → (config_named form ≡ None → IsNone config)
+        → GivesBack form None
+        result.config result.last result.tunnel result.unused
+        result.wire result.inlet result.moment result.journals.items }
+{
+    tell(outcome, errors);
+    without_jobs(alloc, outcome.status(), config)
 }
 
 // The end of a run that has no jobs and no client.
 fn without_jobs<K: Desk>(alloc: Global, status: u8, config: Option<K::Config>) -> Ended<K>
     ensures status { result.status ≡ status }
     ensures config { result.config ≡ config }
-    ensures no_last { result.last ≡ None }
-    ensures no_tunnel { result.tunnel ≡ None }
-    ensures no_unused { result.unused ≡ None }
-    ensures no_client { (result.wire ≡ None) × (result.inlet ≡ None) × (result.moment ≡ None) }
-    ensures no_journals { result.journals.items ≡ [] }
+    ensures back { (form : Option Form) → (config_named form ≡ None → IsNone config)
+        → GivesBack form None
+        result.config result.last result.tunnel result.unused
+        result.wire result.inlet result.moment result.journals.items }
 {
     Ended {
         status,
@@ -594,85 +421,22 @@ fn without_jobs<K: Desk>(alloc: Global, status: u8, config: Option<K::Config>) -
     }
 }
 
-// Audits, and tells how it ended.
-fn run_audit<K: Desk, I: Source, O: Sink, E: Sink>(
+// The end of a recording.
+fn with_client<K: Desk>(
     alloc: Global,
-    name: &Text,
-    input: &mut I,
-    output: &mut O,
-    errors: &mut E,
-    desk: &mut K,
+    status: u8,
+    wire: Option<K::Wire>,
+    inlet: Option<K::Inlet>,
+    moment: Option<K::Moment>,
 ) -> Ended<K>
-    ensures texts { K.text desk.new ≡ K.text desk.old }
-    ensures kits { K.given desk.new ≡ K.given desk.old }
-    ensures handed { K.handed desk.new ≡ K.handed desk.old }
-    ensures journaled { K.journaled desk.new ≡ K.journaled desk.old }
-    ensures ends { AuditEnds K.Config.tells I.tells O.tells E.tells
-        (K.text desk.old name.now) (K.faults desk.old) (K.faults desk.new)
-        K.Config.feed result.config
-        (I.feed input.old)
-        (I.feed input.new)
-        (O.drain output.old) (O.drain output.new)
-        (E.drain errors.old) (E.drain errors.new)
-        result.status }
-    ensures of_audit { IsOfAudit result.status }
-    ensures no_last { result.last ≡ None }
-    ensures no_tunnel { result.tunnel ≡ None }
-    ensures no_unused { result.unused ≡ None }
-    ensures no_client { (result.wire ≡ None) × (result.inlet ≡ None) × (result.moment ≡ None) }
-    ensures no_journals { result.journals.items ≡ [] }
-    ensures input_fault { result.status ≡ 5 → Rose (K.faults desk.old) (K.faults desk.new)
-        ⊎ IsSomeAnd result.config (λ source. Rose 0 (K.Config.feed source).faults)
-        ⊎ Rose (I.feed input.old).faults (I.feed input.new).faults }
-    ensures output_fault { result.status ≡ 6
-        → Rose (O.drain output.old).faults (O.drain output.new).faults }
-    ensures too_long { (result.status ≡ 8) ↔ (input_limit
-        < (I.feed input.new).taken - (I.feed input.old).taken) }
-    ensures limit { (I.feed input.new).taken ≤ (I.feed input.old).taken + input_limit + 1 }
-    ensures errors { (result.status ≡ 3 → ⊥) → (result.status ≡ 4 → ⊥) → Says E.tells
-        (E.drain errors.old) (E.drain errors.new)
-        (line_of result.status) }
+    ensures status { result.status ≡ status }
+    ensures client { (result.wire ≡ wire) × (result.inlet ≡ inlet) × (result.moment ≡ moment) }
+    ensures back { (w : Wanted) → GivesBack (Some (Record w)) None
+        result.config result.last result.tunnel result.unused
+        result.wire result.inlet result.moment result.journals.items }
 {
-    let Audited { end, config } = audit_by(alloc, name, input, output, errors, desk);
-    without_jobs(alloc, status_of(end), config)
-}
-
-// Records, and tells how it ended.
-fn run_record<K: Desk, O: Sink, E: Sink>(
-    alloc: Global,
-    recording: &Recording,
-    output: &mut O,
-    errors: &mut E,
-    desk: &mut K,
-) -> Ended<K>
-    requires some { 1 ≤ recording.now.count }
-    requires few { recording.now.count ≤ 1000000 }
-    requires client { K.handed desk.old ≡ nothing_handed }
-    ensures texts { K.text desk.new ≡ K.text desk.old }
-    ensures kits { K.given desk.new ≡ K.given desk.old }
-    ensures journaled { K.journaled desk.new ≡ K.journaled desk.old }
-    ensures ends { (i : Feed) → RecordEnds K.Wire.tells K.Inlet.tells O.tells E.tells
-        (wanted recording.now) (K.handed desk.new) (K.faults desk.old) (K.faults desk.new)
-        (left_of K.Wire.line K.Moment.dial K.Inlet.inbox result.wire result.moment result.inlet)
-        i i (O.drain output.old) (O.drain output.new) (E.drain errors.old) (E.drain errors.new)
-        result.status }
-    ensures apart { IsApart result.status }
-    ensures rose { result.status ≡ 6
-        → Rose (O.drain output.old).faults (O.drain output.new).faults }
-    ensures no_config { result.config ≡ None }
-    ensures no_last { result.last ≡ None }
-    ensures no_tunnel { result.tunnel ≡ None }
-    ensures no_unused { result.unused ≡ None }
-    ensures no_journals { result.journals.items ≡ [] }
-{
-    let Recorded {
-        end,
-        wire,
-        inlet,
-        moment,
-    } = record(alloc, recording, output, errors, desk);
     Ended {
-        status: end.status(),
+        status,
         config: None,
         last: None,
         tunnel: None,
@@ -684,50 +448,6 @@ fn run_record<K: Desk, O: Sink, E: Sink>(
     }
 }
 
-fn run<K: Desk, I: Source, O: Sink>(
-    alloc: Global,
-    words: &[Text],
-    input: &mut I,
-    output: &mut O,
-    desk: &mut K,
-) -> Ending<K>
-    ensures ends { RunEnds K.Config.tells I.tells O.tells
-        (K.text desk.old) (K.faults desk.old) (K.faults desk.new)
-        (I.feed input.old)
-        (I.feed input.new)
-        (O.drain output.old) (O.drain output.new)
-        (command_of words.now)
-        (option_map K.Config.feed
-        result.config)
-        result.outcome }
-    ensures no_config { config_named (command_of words.now) ≡ None → IsNone result.config }
-    ensures desk { config_named (command_of words.now) ≡ None → desk.new ≡ desk.old }
-    ensures texts { K.text desk.new ≡ K.text desk.old }
-    ensures kits { K.given desk.new ≡ K.given desk.old }
-    ensures handed { K.handed desk.new ≡ K.handed desk.old }
-    ensures journaled { K.journaled desk.new ≡ K.journaled desk.old }
-{
-    match read_words(words) {
-        None => alone(Outcome::Usage),
-        Some(Command::Talk) => alone(talk(alloc, input, output)),
-        Some(Command::Replay(name)) => replay_by(alloc, name, input, output, desk),
-        Some(Command::Stress { seed, count }) => alone(count_by(alloc, seed, count, output)),
-        Some(Command::Help) => alone(print(HELP, output)),
-        Some(Command::Version) => alone(print(VERSION, output)),
-    }
-}
-
-// A run that has no configuration.
-fn alone<K: Desk>(outcome: Outcome) -> Ending<K>
-    ensures outcome { result.outcome ≡ outcome }
-    ensures none { result.config ≡ None }
-{
-    Ending {
-        outcome,
-        config: None,
-    }
-}
-
 // A replay by the configuration of this name.
 fn replay_by<K: Desk, I: Source, O: Sink>(
     alloc: Global,
@@ -735,29 +455,28 @@ fn replay_by<K: Desk, I: Source, O: Sink>(
     input: &mut I,
     output: &mut O,
     desk: &mut K,
-) -> Ending<K>
+) -> Replayed<K>
     ensures runs { ReplayRuns K.Config.tells I.tells O.tells
         (K.text desk.old name.now) (K.faults desk.old) (K.faults desk.new)
-        (I.feed input.old)
-        (I.feed input.new)
+        (I.feed input.old) (I.feed input.new)
         (O.drain output.old) (O.drain output.new)
-        (option_map K.Config.feed
-        result.config)
+        (option_map K.Config.feed result.config)
         result.outcome }
-    ensures texts { K.text desk.new ≡ K.text desk.old }
-    ensures kits { K.given desk.new ≡ K.given desk.old }
-    ensures handed { K.handed desk.new ≡ K.handed desk.old }
-    ensures journaled { K.journaled desk.new ≡ K.journaled desk.old }
+    ensures asks { AsksOnly (Some (Replay name.now)) None
+        K.text K.given K.handed K.journaled desk.old desk.new }
 {
     match desk.config(name) {
         Ok(mut config) => {
             let end = replay(alloc, &mut config, input, output);
-            Ending {
+            Replayed {
                 outcome: Outcome::of(end),
                 config: Some(config),
             }
         }
-        Err(Failed) => alone(Outcome::InputFault),
+        Err(Failed) => Replayed {
+            outcome: Outcome::InputFault,
+            config: None,
+        },
     }
 }
 

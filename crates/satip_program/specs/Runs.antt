@@ -1,0 +1,90 @@
+-- What a run comes to by its words, what it asks of the desk and gives back, and what its status tells.
+use Rattle.std.specs.Prelude.{◌≡◌, ℕ, ◌+◌, ◌-◌, ◌<◌, ◌≤◌, ◌⊎◌, ◌↔◌, true, false, List, [], Option, Some, None, IsSome, IsNone, IsSomeAnd}
+use Rattle.satip_base.specs.Streams.{Feed, Drain, Rose}
+use Rattle.satip_audit_command.specs.Ends.{AuditEnds}
+use Rattle.satip_inlet.specs.Inboxes.{Inbox}
+use Rattle.satip_record_command.specs.Ends.{RecordEnds, Left, left_of}
+use Rattle.satip_serving.specs.Given.{JobsView}
+use Rattle.satip_serving.specs.Handed.{Handed}
+use Rattle.satip_telling.specs.Lines.{Says}
+use Rattle.satip_world.specs.Dials.{Dial}
+use Rattle.satip_world.specs.Lines.{Line}
+use Rattle.satip_program.specs.Commands.{Form, Talk, Replay, Stress, Audit, Record, Help, Version, Serving, config_named, recording_in, is_tunnel, is_journal, help, version, line_of}
+use Rattle.satip_program.specs.Outcomes.{input_limit, NothingDone, Shows}
+use Rattle.satip_program.specs.Ends.{TalkEnds, ReplayEnds, StressEnds}
+
+-- what a command that waits for nobody comes to, by the form of its words: the text of each configuration where the desk
+-- tells it, the desk's count of faults before and behind it, what the desk gave a client, the source of the configuration
+-- and what is left of the client's devices, the input, the output and the errors before and behind it, and the status;
+-- without such a command nothing is taken and nothing is written
+abbrev pub CommandEnds : {C : Type 0} → (config_tells wire_tells inlet_tells in_tells out_tells error_tells : Type 0)
+    → (text : List ℕ → Option (List ℕ)) → (before now : ℕ) → Handed → (C → Feed) → Option C → Left → (i j : Feed) → (o n e m : Drain)
+    → (status : ℕ) → Option Form → Type 0
+CommandEnds ct wt lt it ot et text before now handed view source left i j o n e m status None = NothingDone i j o n
+CommandEnds ct wt lt it ot et text before now handed view source left i j o n e m status (Some Talk) = TalkEnds it ot i j o n status
+CommandEnds ct wt lt it ot et text before now handed view source left i j o n e m status (Some (Replay name)) =
+    ReplayEnds ct it ot et (text name) before now view source i j o n e m status
+CommandEnds ct wt lt it ot et text before now handed view source left i j o n e m status (Some (Stress seed count)) =
+    StressEnds ot seed count i j o n status
+CommandEnds ct wt lt it ot et text before now handed view source left i j o n e m status (Some (Audit name)) =
+    AuditEnds ct it ot et (text name) before now view source i j o n e m status
+CommandEnds ct wt lt it ot et text before now handed view source left i j o n e m status (Some (Record w)) =
+    RecordEnds wt lt ot et w handed before now left i j o n e m status
+CommandEnds ct wt lt it ot et text before now handed view source left i j o n e m status (Some Help) = Shows ot i j o n help status
+CommandEnds ct wt lt it ot et text before now handed view source left i j o n e m status (Some Version) = Shows ot i j o n version status
+
+-- what is asked of a desk: what the words ask for, how the desk is seen, and the desk before and behind the run
+pub record AsksOnly {D : Type 0} (form : Option Form) (serving : Option Serving) (text : D → List ℕ → Option (List ℕ)) (given : D → Option JobsView)
+    (handed : D → Handed) (journaled : D → List ℕ) (d f : D) : Type 0 where
+  -- only what names a configuration and a recording ask anything
+  pub nothing : serving ≡ None → config_named form ≡ None → recording_in form ≡ None → f ≡ d
+  pub texts : text f ≡ text d
+  -- only a service asks for kits, only a recording for a client's devices, only a service with journals for those
+  pub kits : serving ≡ None → given f ≡ given d
+  pub client : recording_in form ≡ None → handed f ≡ handed d
+  pub journals : is_journal serving ≡ false → journaled f ≡ journaled d
+
+-- what comes back of what desks give: what the words ask for, the configuration, what the jobs of a service left, without
+-- a tunnel and with one, the kits with which no job began, a client's connection, inlet and clock, and the journals
+pub record GivesBack {C L T U W I M J : Type 0} (form : Option Form) (serving : Option Serving) (config : Option C) (last : Option L) (tunnel : Option T)
+    (unused : Option U) (wire : Option W) (inlet : Option I) (moment : Option M) (journals : List J) : Type 0 where
+  -- only what names a configuration opens one
+  pub no_config : serving ≡ None → config_named form ≡ None → IsNone config
+  -- only a service runs jobs
+  pub no_last : serving ≡ None → last ≡ None
+  pub last_alone : is_tunnel serving ≡ true → last ≡ None
+  pub no_tunnel : is_tunnel serving ≡ false → tunnel ≡ None
+  pub no_unused : serving ≡ None → unused ≡ None
+  pub no_client : recording_in form ≡ None → (wire ≡ None) × (inlet ≡ None) × (moment ≡ None)
+  pub no_journals : is_journal serving ≡ false → journals ≡ []
+
+-- when each status comes, how much is taken, and what is told: what the words ask for, the desk's count of faults before
+-- and behind the run, the configuration and how it is seen, the input, the output and the errors before and behind it, and
+-- the status
+pub record StatusTells {C : Type 0} (error_tells : Type 0) (form : Option Form) (serving : Option Serving) (before now : ℕ)
+    (view : C → Feed) (source : Option C) (i j : Feed) (o n e m : Drain) (status : ℕ) : Type 0 where
+  pub usage : (status ≡ 2) ↔ ((form ≡ None) × (serving ≡ None))
+  pub configuration : serving ≡ None → status ≡ 3 → IsSome (config_named form)
+  pub script : status ≡ 4 → IsSome (config_named form)
+  pub input_fault : status ≡ 5 → Rose before now ⊎ IsSomeAnd source (λ s. Rose 0 (view s).faults) ⊎ Rose i.faults j.faults
+  pub output_fault : is_journal serving ≡ false → status ≡ 6 → Rose o.faults n.faults
+  -- only a service has 7 and 9
+  pub no_serving : serving ≡ None → (status ≡ 7 → ⊥) × (status ≡ 9 → ⊥)
+  pub too_long : (status ≡ 8) ↔ (input_limit < j.taken - i.taken)
+  pub limit : j.taken ≤ i.taken + input_limit + 1
+  pub errors : recording_in form ≡ None → (status ≡ 3 → ⊥) → (status ≡ 4 → ⊥) → Says error_tells e m (line_of status)
+
+-- what a run comes to: what the words ask for; how the desk is seen, and the desk before and behind the run; the input, the
+-- output and the errors before and behind it; and what it ends with: the configuration and how it is seen, what the jobs
+-- left, without a tunnel and with one, the kits with which none began, how a client's connection, clock and inlet are
+-- seen, and the three, the journals, and the status
+pub record RunEnds {D C L T U W M I J : Type 0} (config_tells wire_tells inlet_tells in_tells out_tells error_tells : Type 0)
+    (form : Option Form) (serving : Option Serving) (text : D → List ℕ → Option (List ℕ)) (faults : D → ℕ) (given : D → Option JobsView)
+    (handed : D → Handed) (journaled : D → List ℕ) (d f : D) (i j : Feed) (o n e m : Drain) (view : C → Feed) (config : Option C) (last : Option L)
+    (tunnel : Option T) (unused : Option U) (line : W → Line) (dial : M → Dial) (inbox : I → Inbox) (wire : Option W) (moment : Option M) (inlet : Option I)
+    (journals : List J) (status : ℕ) : Type 0 where
+  pub command : CommandEnds config_tells wire_tells inlet_tells in_tells out_tells error_tells (text d) (faults d) (faults f) (handed f) view config
+      (left_of line dial inbox wire moment inlet) i j o n e m status form
+  pub asks : AsksOnly form serving text given handed journaled d f
+  pub back : GivesBack form serving config last tunnel unused wire inlet moment journals
+  pub tells : StatusTells error_tells form serving (faults d) (faults f) view config i j o n e m status
