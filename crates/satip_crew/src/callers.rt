@@ -9,26 +9,7 @@ ghost use Rattle.satip_crew.specs.Ends.{worst};
 use crate::crew::Crew;
 use crate::end::ServeEnd;
 use crate::seat::Seat;
-
-// Takes out the first of a list.
-fn take_first<T>(items: &mut Vec<T>) -> T
-    requires some { 0 < vec_len items.old }
-    ensures first { items.old.items ≡ result ∷ items.new.items }
-    ensures count { vec_len items.old ≡ vec_len items.new + 1 }
-    ensures capacity { vec_capacity items.new ≡ vec_capacity items.old }
-{
-    items.remove(0)
-}
-
-// Puts one behind a list that has the memory for it.
-fn put_last<T>(items: &mut Vec<T>, item: T)
-    requires space { vec_len items.old < vec_capacity items.old }
-    ensures last { items.new.items ≡ items.old.items ++ item ∷ [] }
-    ensures count { vec_len items.new ≡ vec_len items.old + 1 }
-    ensures capacity { vec_capacity items.new ≡ vec_capacity items.old }
-{
-    items.push_reserved(item);
-}
+use satip_jobs::{put_last, take_first};
 
 // A job of a new caller, which hasn't begun.
 pub(crate) fn seat_one<X: Crew, K, M>(

@@ -1,0 +1,23 @@
+//! Lists from which jobs are taken in order, and behind which they are put.
+
+ghost use Rattle.std.specs.Prelude.{◌≡◌, ◌+◌, ◌<◌, ◌++◌, [], ◌∷◌, vec_len, vec_capacity};
+
+/// Takes out the first of a list.
+pub fn take_first<T>(items: &mut Vec<T>) -> T
+    requires some { 0 < vec_len items.old }
+    ensures first { items.old.items ≡ result ∷ items.new.items }
+    ensures count { vec_len items.old ≡ vec_len items.new + 1 }
+    ensures capacity { vec_capacity items.new ≡ vec_capacity items.old }
+{
+    items.remove(0)
+}
+
+/// Puts one behind a list that has the memory for it.
+pub fn put_last<T>(items: &mut Vec<T>, item: T)
+    requires space { vec_len items.old < vec_capacity items.old }
+    ensures last { items.new.items ≡ items.old.items ++ item ∷ [] }
+    ensures count { vec_len items.new ≡ vec_len items.old + 1 }
+    ensures capacity { vec_capacity items.new ≡ vec_capacity items.old }
+{
+    items.push_reserved(item);
+}
