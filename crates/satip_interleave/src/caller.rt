@@ -6,12 +6,12 @@ ghost use Rattle.satip_tunnel.specs.Histories.{inners};
 ghost use Rattle.satip_plain.specs.Single.{legal_prop};
 ghost use Rattle.satip_interleave.specs.Single.{of_prop};
 
-use crate::copying::{copied, server_answer};
+use crate::answers::server_answer;
 use crate::feeding::Feeding;
 use crate::tunnel::{SharedTunnel, TunnelPass};
 use satip_base::{Out, Spent};
 use satip_plain::{Answer, Event};
-use satip_service::{Lot, Service, ServiceFault};
+use satip_service::{Lot, Service, ServiceFault, copy_of};
 use satip_tunnel::TunnelEvent;
 use std::sync::Wait;
 
@@ -56,7 +56,7 @@ impl<'a, R: Wait + Sync> Service for TunnelCaller<'a, R> {
     ghost same_want = { λ _ _ _. refl };
 
     fn call(&mut self, event: &Event, out: &mut Out) -> Result<Answer, ServiceFault> {
-        let event = TunnelEvent::Inner(copied(event));
+        let event = TunnelEvent::Inner(copy_of(event));
         match self.server.call(self.rt, &mut self.pass, &event, out) {
             Ok(answer) => Ok(server_answer(answer)),
             Err(Spent) => Err(ServiceFault::Spent),

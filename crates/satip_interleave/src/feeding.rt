@@ -4,7 +4,7 @@ ghost use Rattle.satip_history.specs.Lists.{Each};
 ghost use Rattle.satip_tunnel.specs.declared.events.TunnelEvent.TheVariants.{Inner};
 ghost use Rattle.satip_interleave.specs.Taking.{IsInnerEvent, AreAnswered, inners_taken};
 
-use crate::copying::server_answer;
+use crate::answers::server_answer;
 use satip_base::Out;
 use satip_service::Lot;
 use satip_tunnel::{Tunnel, TunnelAnswer, TunnelEvent};

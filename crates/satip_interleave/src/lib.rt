@@ -3,8 +3,8 @@
 //! connection is served in, and what its messages ask for.
 #![tactic(auto)]
 
+mod answers;
 mod caller;
-mod copying;
 mod crew;
 mod feeding;
 mod room;

@@ -1,53 +1,8 @@
-//! Copies of events, and of what an event writes.
+//! Copies of what an event writes.
 ghost use Rattle.std.specs.Prelude.{◌≡◌, ◌≢◌, ◌<◌, ◌≤◌, length, IsSomeAnd, slice_get};
 ghost use Rattle.satip_base.specs.Output.{Sends, empty};
 
 use satip_base::Out;
-use satip_plain::Event;
-
-/// The same event.
-pub(crate) fn copy_of(event: &Event) -> Event
-    ensures same { result ≡ event.now }
-{
-    match event {
-        Event::Request {
-            peer,
-            draw,
-            request,
-        } => Event::Request {
-            peer: *peer,
-            draw: *draw,
-            request: *request,
-        },
-        Event::Get {
-            peer,
-            draw,
-            request,
-        } => Event::Get {
-            peer: *peer,
-            draw: *draw,
-            request: *request,
-        },
-        Event::Tick { now } => Event::Tick { now: *now },
-        Event::Packet {
-            front,
-            tune,
-            packet,
-        } => Event::Packet {
-            front: *front,
-            tune: *tune,
-            packet: *packet,
-        },
-        Event::Ended { front, tune } => Event::Ended {
-            front: *front,
-            tune: *tune,
-        },
-        Event::Ask { front } => Event::Ask { front: *front },
-        Event::Pull { session } => Event::Pull { session: *session },
-        Event::Close { session } => Event::Close { session: *session },
-        Event::Stop => Event::Stop,
-    }
-}
 
 /// Writes the same reply and datagrams into an `Out` that has nothing.
 pub(crate) fn copy_out(from: &Out, to: &mut Out)

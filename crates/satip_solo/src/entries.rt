@@ -7,11 +7,12 @@ ghost use Rattle.satip_core.specs.Serving.{StandsAfter};
 ghost use Rattle.satip_solo.specs.Log.{is_at};
 ghost use Rattle.satip_solo.specs.Inside.{Stopped};
 
-use crate::copies::{copy_of, copy_out};
+use crate::copies::copy_out;
 use satip_base::Out;
 use satip_core::Server;
 use satip_history::{Entry, Served};
 use satip_plain::{Answer, Beat, Event};
+use satip_service::copy_of;
 use std::alloc::Global;
 
 pub(crate) type Entries = Vec<Entry<Event, Answer, Out>>;

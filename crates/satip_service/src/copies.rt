@@ -1,12 +1,10 @@
-//! Events of the server and their answers, as those of a tunnel.
+//! Copies of events.
 ghost use Rattle.std.specs.Prelude.{◌≡◌};
-ghost use Rattle.satip_tunnel.specs.Answers.{IsInner};
 
-use satip_plain::{Answer, Beat, Event};
-use satip_tunnel::TunnelAnswer;
+use satip_plain::Event;
 
-/// The same event once more.
-pub(crate) fn copied(event: &Event) -> Event
+/// The same event, for a service that hands its events on by value.
+pub fn copy_of(event: &Event) -> Event
     ensures same { result ≡ event.now }
 {
     match event {
@@ -46,23 +44,5 @@ pub(crate) fn copied(event: &Event) -> Event
         Event::Pull { session } => Event::Pull { session: *session },
         Event::Close { session } => Event::Close { session: *session },
         Event::Stop => Event::Stop,
-    }
-}
-
-/// The server's answer in one of a tunnel. The lanes answer no event of the server, so that what
-/// stands for their answers is told to nobody.
-pub(crate) fn server_answer(answer: TunnelAnswer) -> Answer
-    ensures told { IsInner answer → answer ≡ TunnelAnswer.Inner result }
-{
-    let nobody = Answer::Beat(Beat::Going);
-    match answer {
-        TunnelAnswer::Inner(answer) => answer,
-        TunnelAnswer::Lane(_number) => nobody,
-        TunnelAnswer::Full => nobody,
-        TunnelAnswer::Frames(_count) => nobody,
-        TunnelAnswer::Empty => nobody,
-        TunnelAnswer::Broken => nobody,
-        TunnelAnswer::Gone => nobody,
-        TunnelAnswer::Left => nobody,
     }
 }
