@@ -1,5 +1,6 @@
 pub mod Gears
 pub mod Memories
 pub mod Sent
+pub mod Journaled
 pub mod Judged
 pub mod Rows

@@ -1,12 +1,12 @@
 //! The memory that jobs with journals take.
 
-ghost use Rattle.std.specs.Prelude.{◌≡◌, ◌≤◌, ◌<◌, ◌^◌, [], length, vec_capacity, IfOk};
+ghost use Rattle.std.specs.Prelude.{◌≡◌, ◌<◌, ◌^◌, length, vec_capacity, IfOk};
 ghost use Rattle.satip_journaling.specs.Memories.{IsMemory};
 
 use satip_base::{Sink, Want};
 use satip_journal::{Journal, JournalGear};
 use satip_records::LineRoom;
-use satip_serve::{ServeSpace, take_space};
+use satip_serve::{ServeSpace, take_space, with_room};
 use std::alloc::Global;
 use std::sync::Wait;
 
@@ -18,17 +18,6 @@ pub(crate) struct Memory<'a, R: Wait + Sync, D, O, P, M, K: Sink> {
     pub lines: Vec<LineRoom>,
     pub worker_gears: Vec<JournalGear<K>>,
     pub pump_gears: Vec<JournalGear<K>>,
-}
-
-// A list with memory for so many.
-fn with_room<T: Drop>(alloc: Global, count: usize) -> Result<Vec<T>, Want>
-    ensures empty { IfOk result (λ items. items.items ≡ []) }
-    ensures room { IfOk result (λ items. count ≤ vec_capacity items) }
-{
-    match Vec::with_capacity(alloc, count) {
-        Ok(items) => Ok(items),
-        Err(_) => Err(Want),
-    }
 }
 
 fn make_lines(alloc: Global, count: usize) -> Result<Vec<LineRoom>, Want>

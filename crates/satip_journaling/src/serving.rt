@@ -7,14 +7,15 @@ ghost use Rattle.satip_history.specs.Lists.{Each};
 ghost use Rattle.satip_plain.specs.Histories.{Legal};
 ghost use Rattle.satip_turn.specs.Shown.{IsOf, Knows};
 ghost use Rattle.satip_turn.specs.Views.{numbers_of};
-ghost use Rattle.satip_serve.specs.Fresh.{AreFresh, FreshJobs, Unused};
+ghost use Rattle.satip_serve.specs.Fresh.{AreFresh, Unused};
+ghost use Rattle.satip_serve.specs.Ran.{CanRun, HaveRun};
 ghost use Rattle.satip_serve.specs.ServeRuns.{ServeRun, EndTells};
-ghost use Rattle.satip_serve.specs.Services.{IsFirst};
 ghost use Rattle.satip_serve.specs.Views.{worker_view, pump_view, tick_view};
 ghost use Rattle.satip_journal.specs.Journals.{AreCallersOf, journals};
 ghost use Rattle.satip_journal.specs.Typed.{IsTyped};
 ghost use Rattle.satip_crew.specs.Crews.{IsSpace};
 ghost use Rattle.satip_journaling.specs.Gears.{WentOn, others_of};
+ghost use Rattle.satip_journaling.specs.Journaled.{Journaled};
 ghost use Rattle.satip_journaling.specs.Judged.{AreOneHistory};
 ghost use Rattle.satip_journaling.specs.Memories.{IsMemory};
 ghost use Rattle.satip_journaling.specs.Sent.{AreWritten};
@@ -40,6 +41,16 @@ pub struct Written<K> {
     pub failed: bool,
 }
 
+// What is left when all jobs have ended: the one pass into which all others are joined, the kits,
+// and what the journals have or have written.
+#[derive(Drop)]
+struct Ran<D, O, P, M, C, J> {
+    pass: SharedPass,
+    jobs: Jobs<D, O, P, M, C>,
+    journals: J,
+    end: ServeEnd,
+}
+
 // Runs the jobs over journals that have begun.
 fn run_gears<
     R: Threads + Wait + Sync,
@@ -56,91 +67,45 @@ fn run_gears<
     jobs: Jobs<D, O, P, M, C>,
     gears: Gears<K>,
     space: ServeSpace<Journal<'_, R, K>, D, O, P, M>,
-) -> (SharedPass, Jobs<D, O, P, M, C>, Gears<K>, ServeEnd)
-    requires of { IsOf pass server.now }
-    requires knows { Knows (Legal server.now.setting) pass }
-    requires first { IsFirst pass }
+) -> Ran<D, O, P, M, C, Gears<K>>
+    requires ready { CanRun server.now pass jobs }
     requires worker_space { IsSpace jobs.workers.items gears.workers.items
         space.worker_rooms.items space.workers.items (vec_capacity space.workers) }
     requires pump_space { IsSpace jobs.pumps.items gears.pumps.items
         space.pump_rooms.items space.pumps.items (vec_capacity space.pumps) }
-    requires workers { length jobs.workers.items ≡ server.now.setting.config.workers }
-    requires pumps { length jobs.pumps.items ≡ length server.now.setting.config.fronts }
-    ensures of { IsOf result.0 server.now }
-    ensures knows { Knows (Legal server.now.setting) result.0 }
-    ensures keys { map (λ kit. kit.key) result.1.workers.items
-        ≡ map (λ kit. kit.key) jobs.workers.items }
-    ensures recordings { map (λ kit. (M.shelf kit.store).recording) result.1.pumps.items
-        ≡ map (λ kit. (M.shelf kit.store).recording) jobs.pumps.items }
-    ensures run { (accepts : _)
-        → FreshJobs accepts server.now.setting.start
-        (map (worker_view D.hall O.outbox) jobs.workers.items)
-        (map (pump_view M.shelf O.outbox) jobs.pumps.items)
-        (tick_view C.dial O.outbox jobs.tick)
-        → ServeRun D.Conn.tells O.tells server.now.setting accepts result.0.seen result.0.kept
-        (map (worker_view D.hall O.outbox) result.1.workers.items)
-        (map (pump_view M.shelf O.outbox) result.1.pumps.items)
-        (tick_view C.dial O.outbox result.1.tick) }
-    ensures ended { (accepts : _)
-        → FreshJobs accepts server.now.setting.start
-        (map (worker_view D.hall O.outbox) jobs.workers.items)
-        (map (pump_view M.shelf O.outbox) jobs.pumps.items)
-        (tick_view C.dial O.outbox jobs.tick)
-        → EndTells result.3 result.0.seen (map (worker_view D.hall O.outbox) result.1.workers.items) }
-    ensures went_on { WentOn K.tells K.drain gears.root (others_of gears) result.2.root
-        (others_of result.2) (numbers_of result.0.kept) result.0.seen }
-    ensures worker_gears { length result.2.workers.items ≡ length gears.workers.items }
-    ensures pump_gears { length result.2.pumps.items ≡ length gears.pumps.items }
-    ensures callers { AreCallersOf (0 ∷ numbers_of result.0.kept) result.0.seen }
-    ensures typed { Each IsTyped result.0.seen }
+    ensures ran { HaveRun D.Conn.tells O.tells D.hall O.outbox M.shelf C.dial server.now jobs
+        result.pass result.jobs result.end }
+    ensures went_on { WentOn K.tells K.drain gears.root (others_of gears) result.journals.root
+        (others_of result.journals) (numbers_of result.pass.kept) result.pass.seen }
+    ensures worker_gears { length result.journals.workers.items ≡ length gears.workers.items }
+    ensures pump_gears { length result.journals.pumps.items ≡ length gears.pumps.items }
+    ensures callers { AreCallersOf (0 ∷ numbers_of result.pass.kept) result.pass.seen }
+    ensures typed { Each IsTyped result.pass.seen }
 {
-    let Gears {
-        root,
-        workers: worker_gears,
-        pumps: pump_gears,
-        ticker: ticker_gear,
-    } = gears;
-    let JournalGear {
-        number,
-        sink,
-        line,
-        failed,
-    } = root;
     let journal = Journal {
         caller: Caller { rt, server, pass },
-        number,
-        sink,
-        line,
-        failed,
+        number: gears.root.number,
+        sink: gears.root.sink,
+        line: gears.root.line,
+        failed: gears.root.failed,
     };
     let posts = Posts {
         workers: jobs.workers,
-        worker_gears,
+        worker_gears: gears.workers,
         pumps: jobs.pumps,
-        pump_gears,
+        pump_gears: gears.pumps,
         ticker: jobs.tick,
-        ticker_gear,
+        ticker_gear: gears.ticker,
     };
     let (journal, posts, end) = run_services(rt, journal, posts, space);
-    let Journal {
-        caller,
-        number,
-        sink,
-        line,
-        failed,
-    } = journal;
-    let Caller {
-        rt: _,
-        server: _,
-        pass,
-    } = caller;
-    let gears = Gears {
-        root: JournalGear {
-            number,
-            sink,
-            line,
-            failed,
-        },
+    let root = JournalGear {
+        number: journal.number,
+        sink: journal.sink,
+        line: journal.line,
+        failed: journal.failed,
+    };
+    let journals = Gears {
+        root,
         workers: posts.worker_gears,
         pumps: posts.pump_gears,
         ticker: posts.ticker_gear,
@@ -150,7 +115,12 @@ fn run_gears<
         pumps: posts.pumps,
         tick: posts.ticker,
     };
-    (pass, jobs, gears, end)
+    Ran {
+        pass: journal.caller.pass,
+        jobs,
+        journals,
+        end,
+    }
 }
 
 // Begins the journals, runs the jobs, and ends the journals.
@@ -170,14 +140,10 @@ fn run_journaled<
     jobs: Jobs<D, O, P, M, C>,
     mut sinks: Vec<K>,
     memory: Memory<'_, R, D, O, P, M, K>,
-) -> (SharedPass, Jobs<D, O, P, M, C>, Written<K>, ServeEnd)
-    requires of { IsOf pass server.now }
-    requires knows { Knows (Legal server.now.setting) pass }
-    requires first { IsFirst pass }
+) -> Ran<D, O, P, M, C, Written<K>>
+    requires ready { CanRun server.now pass jobs }
     requires start { server.now.setting.start ≡ start }
-    requires workers { length jobs.workers.items ≡ server.now.setting.config.workers }
     requires few_workers { length jobs.workers.items < 2 ^ 16 }
-    requires pumps { length jobs.pumps.items ≡ length server.now.setting.config.fronts }
     requires few { length jobs.pumps.items ≤ 16 }
     requires sinks { length sinks.items ≡ length jobs.workers.items + length jobs.pumps.items + 2 }
     requires memory { IsMemory (length jobs.workers.items) (length jobs.pumps.items)
@@ -186,32 +152,10 @@ fn run_journaled<
         memory.space.pumps.items (vec_capacity memory.space.pumps) memory.lines.items
         memory.worker_gears.items (vec_capacity memory.worker_gears) memory.pump_gears.items
         (vec_capacity memory.pump_gears) }
-    ensures of { IsOf result.0 server.now }
-    ensures knows { Knows (Legal server.now.setting) result.0 }
-    ensures keys { map (λ kit. kit.key) result.1.workers.items
-        ≡ map (λ kit. kit.key) jobs.workers.items }
-    ensures recordings { map (λ kit. (M.shelf kit.store).recording) result.1.pumps.items
-        ≡ map (λ kit. (M.shelf kit.store).recording) jobs.pumps.items }
-    ensures run { (accepts : _)
-        → FreshJobs accepts server.now.setting.start
-        (map (worker_view D.hall O.outbox) jobs.workers.items)
-        (map (pump_view M.shelf O.outbox) jobs.pumps.items)
-        (tick_view C.dial O.outbox jobs.tick)
-        → ServeRun D.Conn.tells O.tells server.now.setting accepts result.0.seen result.0.kept
-        (map (worker_view D.hall O.outbox) result.1.workers.items)
-        (map (pump_view M.shelf O.outbox) result.1.pumps.items)
-        (tick_view C.dial O.outbox result.1.tick) }
-    ensures ended { (accepts : _)
-        → FreshJobs accepts server.now.setting.start
-        (map (worker_view D.hall O.outbox) jobs.workers.items)
-        (map (pump_view M.shelf O.outbox) jobs.pumps.items)
-        (tick_view C.dial O.outbox jobs.tick)
-        → EndTells result.3 result.0.seen (map (worker_view D.hall O.outbox) result.1.workers.items) }
-    ensures journals { AreWritten K.tells result.2.failed (map K.drain sinks.items)
-        (map K.drain result.2.sinks.items)
-        (journals server.now.setting.start 0 (numbers_of result.0.kept) result.0.seen) }
-    ensures callers { AreCallersOf (0 ∷ numbers_of result.0.kept) result.0.seen }
-    ensures typed { Each IsTyped result.0.seen }
+    ensures ran { HaveRun D.Conn.tells O.tells D.hall O.outbox M.shelf C.dial server.now jobs
+        result.pass result.jobs result.end }
+    ensures journaled { Journaled K.tells K.drain server.now.setting.start sinks.items result.pass
+        result.journals }
 {
     let Memory {
         space,
@@ -230,9 +174,14 @@ fn run_journaled<
         pumps,
         start,
     );
-    let (pass, jobs, gears, end) = run_gears(rt, server, pass, jobs, gears, space);
-    let failed = end_journals(gears, &mut sinks);
-    (pass, jobs, Written { sinks, failed }, end)
+    let ran = run_gears(rt, server, pass, jobs, gears, space);
+    let failed = end_journals(ran.journals, &mut sinks);
+    Ran {
+        pass: ran.pass,
+        jobs: ran.jobs,
+        journals: Written { sinks, failed },
+        end: ran.end,
+    }
 }
 
 // Takes all memory and runs the jobs; gives them and the sinks back where memory was refused.
@@ -252,45 +201,16 @@ fn serve_all<
     start: u64,
     jobs: Jobs<D, O, P, M, C>,
     sinks: Vec<K>,
-) -> Result<(SharedPass, Jobs<D, O, P, M, C>, Written<K>, ServeEnd), (Jobs<D, O, P, M, C>, Vec<K>)>
-    requires of { IsOf pass server.now }
-    requires knows { Knows (Legal server.now.setting) pass }
-    requires first { IsFirst pass }
+) -> Result<Ran<D, O, P, M, C, Written<K>>, (Jobs<D, O, P, M, C>, Vec<K>)>
+    requires ready { CanRun server.now pass jobs }
     requires start { server.now.setting.start ≡ start }
-    requires workers { length jobs.workers.items ≡ server.now.setting.config.workers }
     requires few_workers { length jobs.workers.items < 2 ^ 16 }
-    requires pumps { length jobs.pumps.items ≡ length server.now.setting.config.fronts }
     requires few { length jobs.pumps.items ≤ 16 }
     requires sinks { length sinks.items ≡ length jobs.workers.items + length jobs.pumps.items + 2 }
-    ensures of { IfOk result (λ served. IsOf served.0 server.now) }
-    ensures knows { IfOk result (λ served. Knows (Legal server.now.setting) served.0) }
-    ensures keys { IfOk result (λ served. map (λ kit. kit.key) served.1.workers.items
-        ≡ map (λ kit. kit.key) jobs.workers.items) }
-    ensures recordings { IfOk result (λ served. map (λ kit. (M.shelf kit.store).recording)
-        served.1.pumps.items
-        ≡ map (λ kit. (M.shelf kit.store).recording) jobs.pumps.items) }
-    ensures run { IfOk result (λ served. (accepts : _)
-        → FreshJobs accepts server.now.setting.start
-        (map (worker_view D.hall O.outbox) jobs.workers.items)
-        (map (pump_view M.shelf O.outbox) jobs.pumps.items)
-        (tick_view C.dial O.outbox jobs.tick)
-        → ServeRun D.Conn.tells O.tells server.now.setting accepts served.0.seen served.0.kept
-        (map (worker_view D.hall O.outbox) served.1.workers.items)
-        (map (pump_view M.shelf O.outbox) served.1.pumps.items)
-        (tick_view C.dial O.outbox served.1.tick)) }
-    ensures ended { IfOk result (λ served. (accepts : _)
-        → FreshJobs accepts server.now.setting.start
-        (map (worker_view D.hall O.outbox) jobs.workers.items)
-        (map (pump_view M.shelf O.outbox) jobs.pumps.items)
-        (tick_view C.dial O.outbox jobs.tick)
-        → EndTells served.3 served.0.seen
-        (map (worker_view D.hall O.outbox) served.1.workers.items)) }
-    ensures journals { IfOk result (λ served. AreWritten K.tells served.2.failed
-        (map K.drain sinks.items) (map K.drain served.2.sinks.items)
-        (journals server.now.setting.start 0 (numbers_of served.0.kept) served.0.seen)) }
-    ensures callers { IfOk result (λ served. AreCallersOf (0 ∷ numbers_of served.0.kept)
-        served.0.seen) }
-    ensures typed { IfOk result (λ served. Each IsTyped served.0.seen) }
+    ensures ran { IfOk result (λ ran. HaveRun D.Conn.tells O.tells D.hall O.outbox M.shelf C.dial
+        server.now jobs ran.pass ran.jobs ran.end) }
+    ensures journaled { IfOk result (λ ran. Journaled K.tells K.drain server.now.setting.start
+        sinks.items ran.pass ran.journals) }
     ensures unused { IfErr result (λ back. back.0 ≡ jobs) }
     ensures unused_sinks { IfErr result (λ back. back.1.items ≡ sinks.items) }
 {
@@ -380,7 +300,14 @@ pub fn serve_journaled<
     let start = jobs.tick.clock.now();
     match make(alloc, config, start) {
         Ok((server, pass)) => match serve_all(rt, alloc, &server, pass, start, jobs, sinks) {
-            Ok((pass, jobs, written, end)) => Ok((Last { server, pass, jobs }, written, end)),
+            Ok(ran) => {
+                let last = Last {
+                    server,
+                    pass: ran.pass,
+                    jobs: ran.jobs,
+                };
+                Ok((last, ran.journals, ran.end))
+            }
             Err((jobs, sinks)) => Err((jobs, sinks)),
         },
         Err(Want) => Err((jobs, sinks)),

@@ -6,3 +6,4 @@ pub mod ServeRuns
 pub mod Services
 pub mod Fresh
 pub mod Spaces
+pub mod Ran

@@ -4,15 +4,15 @@ ghost use Rattle.std.specs.Prelude.{◌≡◌, ◌≤◌, map, length, vec_capac
 ghost use Rattle.satip_fronts.specs.FrontEnds.{IsNumbered};
 ghost use Rattle.satip_plain.specs.Histories.{Legal};
 ghost use Rattle.satip_turn.specs.Shown.{IsOf, Knows};
-ghost use Rattle.satip_serve.specs.Fresh.{AreFresh, FreshJobs, Unused};
+ghost use Rattle.satip_serve.specs.Fresh.{AreFresh, Unused};
+ghost use Rattle.satip_serve.specs.Ran.{CanRun, HaveRun};
 ghost use Rattle.satip_serve.specs.ServeRuns.{ServeRun, EndTells};
-ghost use Rattle.satip_serve.specs.Services.{IsFirst};
 ghost use Rattle.satip_serve.specs.Spaces.{IsSpaceFor};
 ghost use Rattle.satip_serve.specs.Views.{worker_view, pump_view, tick_view};
 
 use crate::kits::Jobs;
 use crate::run::run_services;
-use crate::space::{ServeSpace, take_space, with_room};
+use crate::space::{ServeSpace, make_gears, take_space};
 use satip_base::Want;
 use satip_config::Config;
 use satip_crew::{Posts, ServeEnd};
@@ -29,17 +29,6 @@ pub struct Last<D, O, P, M, C> {
     pub server: SharedServer,
     pub pass: SharedPass,
     pub jobs: Jobs<D, O, P, M, C>,
-}
-
-// What the callers of so many jobs have beside the right to call, which is nothing.
-fn make_gears(alloc: Global, count: usize) -> Result<Vec<()>, Want>
-    ensures count { IfOk result (λ gears. length gears.items ≡ count) }
-{
-    let mut gears = with_room(alloc, count)?;
-    while gears.len() < count {
-        gears.push_reserved(());
-    }
-    Ok(gears)
 }
 
 // All memory that the jobs take.
@@ -84,35 +73,10 @@ fn serve_all<
     pass: SharedPass,
     jobs: Jobs<D, O, P, M, C>,
 ) -> Result<(SharedPass, Jobs<D, O, P, M, C>, ServeEnd), Jobs<D, O, P, M, C>>
-    requires of { IsOf pass server.now }
-    requires knows { Knows (Legal server.now.setting) pass }
-    requires first { IsFirst pass }
-    requires workers { length jobs.workers.items ≡ server.now.setting.config.workers }
-    requires pumps { length jobs.pumps.items ≡ length server.now.setting.config.fronts }
+    requires ready { CanRun server.now pass jobs }
     requires few { length jobs.pumps.items ≤ 16 }
-    ensures of { IfOk result (λ served. IsOf served.0 server.now) }
-    ensures knows { IfOk result (λ served. Knows (Legal server.now.setting) served.0) }
-    ensures keys { IfOk result (λ served. map (λ kit. kit.key) served.1.workers.items
-        ≡ map (λ kit. kit.key) jobs.workers.items) }
-    ensures recordings { IfOk result (λ served. map (λ kit. (M.shelf kit.store).recording)
-        served.1.pumps.items
-        ≡ map (λ kit. (M.shelf kit.store).recording) jobs.pumps.items) }
-    ensures run { IfOk result (λ served. (accepts : _)
-        → FreshJobs accepts server.now.setting.start
-        (map (worker_view D.hall O.outbox) jobs.workers.items)
-        (map (pump_view M.shelf O.outbox) jobs.pumps.items)
-        (tick_view C.dial O.outbox jobs.tick)
-        → ServeRun D.Conn.tells O.tells server.now.setting accepts served.0.seen served.0.kept
-        (map (worker_view D.hall O.outbox) served.1.workers.items)
-        (map (pump_view M.shelf O.outbox) served.1.pumps.items)
-        (tick_view C.dial O.outbox served.1.tick)) }
-    ensures ended { IfOk result (λ served. (accepts : _)
-        → FreshJobs accepts server.now.setting.start
-        (map (worker_view D.hall O.outbox) jobs.workers.items)
-        (map (pump_view M.shelf O.outbox) jobs.pumps.items)
-        (tick_view C.dial O.outbox jobs.tick)
-        → EndTells served.2 served.0.seen
-        (map (worker_view D.hall O.outbox) served.1.workers.items)) }
+    ensures ran { IfOk result (λ served. HaveRun D.Conn.tells O.tells D.hall O.outbox M.shelf
+        C.dial server.now jobs served.0 served.1 served.2) }
     ensures unused { IfErr result (λ back. back ≡ jobs) }
 {
     match take_memory(alloc, jobs.workers.len(), jobs.pumps.len()) {

@@ -19,8 +19,8 @@ pub type ServeSpace<X, D, O, P, M> = Space<
     Out,
 >;
 
-// A list with memory for so many.
-pub(crate) fn with_room<T: Drop>(alloc: Global, count: usize) -> Result<Vec<T>, Want>
+/// An empty list with memory for so many. `Want` where it was refused.
+pub fn with_room<T: Drop>(alloc: Global, count: usize) -> Result<Vec<T>, Want>
     ensures empty { IfOk result (λ items. items.items ≡ []) }
     ensures room { IfOk result (λ items. count ≤ vec_capacity items) }
 {
@@ -40,7 +40,8 @@ fn make_rooms(alloc: Global, count: usize) -> Result<Vec<Room>, Want>
     Ok(rooms)
 }
 
-fn make_pump_rooms(alloc: Global, count: usize) -> Result<Vec<PumpRoom>, Want>
+/// Rooms that so many pumps work in. `Want` where memory was refused.
+pub fn make_pump_rooms(alloc: Global, count: usize) -> Result<Vec<PumpRoom>, Want>
     ensures count { IfOk result (λ rooms. length rooms.items ≡ count) }
 {
     let mut rooms = with_room(alloc, count)?;
@@ -50,6 +51,18 @@ fn make_pump_rooms(alloc: Global, count: usize) -> Result<Vec<PumpRoom>, Want>
         rooms.push_reserved(PumpRoom { out, batch });
     }
     Ok(rooms)
+}
+
+/// What the callers of so many jobs have beside the right to call, where that is nothing. `Want`
+/// where memory was refused.
+pub fn make_gears(alloc: Global, count: usize) -> Result<Vec<()>, Want>
+    ensures count { IfOk result (λ gears. length gears.items ≡ count) }
+{
+    let mut gears = with_room(alloc, count)?;
+    while gears.len() < count {
+        gears.push_reserved(());
+    }
+    Ok(gears)
 }
 
 /// All memory that so many workers and pumps take, beside their kits and what their callers have.

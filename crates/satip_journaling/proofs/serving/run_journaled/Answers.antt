@@ -6,9 +6,9 @@ use Rattle.satip_journaling.proofs.serving.run_journaled.Goals as goal
 
 pub end_journals-failed-requires-clause-space : goal.end_journals-failed-requires-clause-space
 end_journals-failed-requires-clause-space g c =
-    let ran = c.run_gears-pass.ensures in
+    let ran = c.run_gears-ran.ensures in
     let gears = c.begin_journals-gears in
-    let after = c.run_gears-pass.result.2 in
+    let after = c.run_gears-ran.result.journals in
     omega (
       arith,
       ran.worker_gears,
@@ -27,10 +27,14 @@ end_journals-failed-requires-clause-space g c =
       c.len-pumps.ensures,
     )
 
-pub returns-clause-journals : goal.returns-clause-journals
-returns-clause-journals g c =
+pub returns-clause-journaled : goal.returns-clause-journaled
+returns-clause-journaled g c =
+    let ran = c.run_gears-ran.ensures in
     let before = c.begin_journals-gears.result in
-    let after = c.run_gears-pass.result.2 in
-    journals_written g.K.Sink.tells g.K.Sink.drain c.args.start _ c.args.sinks.items _ before.root after.root (others_of before) (others_of after) _ _ _
-    c.begin_journals-gears.ensures.begun c.run_gears-pass.ensures.went_on c.end_journals-failed.ensures.sinks c.end_journals-failed.ensures.failed
-    c.requires.start
+    let after = c.run_gears-ran.result.journals in
+    record {
+      journals = journals_written g.K.Sink.tells g.K.Sink.drain c.args.start _ c.args.sinks.items _ before.root after.root (others_of before) (others_of after) _ _ _
+          c.begin_journals-gears.ensures.begun ran.went_on c.end_journals-failed.ensures.sinks c.end_journals-failed.ensures.failed c.requires.start;
+      callers = ran.callers;
+      typed = ran.typed;
+    }

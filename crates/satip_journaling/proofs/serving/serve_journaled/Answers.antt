@@ -11,14 +11,20 @@ use Rattle.satip_turn.specs.Views.{numbers_of}
 use Rattle.satip_journaling.proofs.Judging.{judged_yes}
 use Rattle.satip_journaling.proofs.serving.serve_journaled.Goals as goal
 
-pub serve_all-requires-clause-first : goal.serve_all-requires-clause-first
-serve_all-requires-clause-first g c κs within =
+pub serve_all-requires-clause-ready : goal.serve_all-requires-clause-ready
+serve_all-requires-clause-ready g c κs within =
     let first : c.in-Ok.pass ≡ first_pass c.in-Ok.server = search rules in
     record {
-      number = ap (λ (p : ServerPass). p.number) first;
-      own = ap (λ (p : ServerPass). p.own) first;
-      kept = ap (λ (p : ServerPass). p.kept) first;
-      made = ap (λ (p : ServerPass). p.made) first;
+      of = search rules;
+      knows = search rules;
+      first = record {
+        number = ap (λ (p : ServerPass). p.number) first;
+        own = ap (λ (p : ServerPass). p.own) first;
+        kept = ap (λ (p : ServerPass). p.kept) first;
+        made = ap (λ (p : ServerPass). p.made) first;
+      };
+      workers = search rules;
+      pumps = search rules;
     }
 
 pub returns-in-Ok-serve_all-clause-run : goal.returns-in-Ok-serve_all-clause-run
@@ -28,7 +34,7 @@ returns-in-Ok-serve_all-clause-run g c = λ accepts fresh.
     let read : ReadOnce c.now-start.result (tick_view {P = g.row.P.Denot} g.C.Clock.dial g.O.Outlet.outbox tick) =
     read_once (tick_view g.C.Clock.dial g.O.Outlet.outbox c.args.jobs.tick) (tick_view g.C.Clock.dial g.O.Outlet.outbox tick) c.now-start.result
     fresh.ticker_is c.now-start.ensures.reads refl in
-    c.in-Ok-serve_all.ensures.run accepts (record {
+    c.in-Ok-serve_all.ensures.ran.run accepts (record {
       workers_are = fresh.workers_are;
       pumps_are = fresh.pumps_are;
       ticker_is = subst (λ s. ReadOnce s (tick_view {P = g.row.P.Denot} g.C.Clock.dial g.O.Outlet.outbox tick)) (sym (ap (λ (s : Setting). s.start) setting)) read;
@@ -41,7 +47,7 @@ returns-in-Ok-serve_all-clause-ended g c = λ accepts fresh.
     let read : ReadOnce c.now-start.result (tick_view {P = g.row.P.Denot} g.C.Clock.dial g.O.Outlet.outbox tick) =
     read_once (tick_view g.C.Clock.dial g.O.Outlet.outbox c.args.jobs.tick) (tick_view g.C.Clock.dial g.O.Outlet.outbox tick) c.now-start.result
     fresh.ticker_is c.now-start.ensures.reads refl in
-    c.in-Ok-serve_all.ensures.ended accepts (record {
+    c.in-Ok-serve_all.ensures.ran.ended accepts (record {
       workers_are = fresh.workers_are;
       pumps_are = fresh.pumps_are;
       ticker_is = subst (λ s. ReadOnce s (tick_view {P = g.row.P.Denot} g.C.Clock.dial g.O.Outlet.outbox tick)) (sym (ap (λ (s : Setting). s.start) setting)) read;
@@ -49,6 +55,7 @@ returns-in-Ok-serve_all-clause-ended g c = λ accepts fresh.
 
 pub returns-in-Ok-serve_all-clause-yes : goal.returns-in-Ok-serve_all-clause-yes
 returns-in-Ok-serve_all-clause-yes g c = λ unfailed.
-    let all = c.in-Ok-serve_all.ensures in
-    judged_yes g.K.Sink.tells c.in-Ok.server.setting c.in-Ok-serve_all.pass.seen (numbers_of c.in-Ok-serve_all.pass.kept) c.in-Ok-serve_all.written.failed
-    _ _ all.knows.lawful all.typed all.callers all.journals unfailed
+    let run = c.in-Ok-serve_all.ran in
+    let all = c.in-Ok-serve_all.ensures.journaled in
+    judged_yes g.K.Sink.tells c.in-Ok.server.setting run.pass.seen (numbers_of run.pass.kept) run.journals.failed _ _ c.in-Ok-serve_all.ensures.ran.knows.lawful
+    all.typed all.callers all.journals unfailed

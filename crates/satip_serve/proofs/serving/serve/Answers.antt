@@ -9,14 +9,20 @@ use Rattle.satip_serve.specs.Views.{tick_view}
 use Rattle.satip_serve.proofs.WholeRuns.{read_once}
 use Rattle.satip_serve.proofs.serving.serve.Goals as goal
 
-pub serve_all-requires-clause-first : goal.serve_all-requires-clause-first
-serve_all-requires-clause-first g c κs within =
+pub serve_all-requires-clause-ready : goal.serve_all-requires-clause-ready
+serve_all-requires-clause-ready g c κs within =
     let first : c.in-Ok.pass ≡ first_pass c.in-Ok.server = search rules in
     record {
-      number = ap (λ (p : ServerPass). p.number) first;
-      own = ap (λ (p : ServerPass). p.own) first;
-      kept = ap (λ (p : ServerPass). p.kept) first;
-      made = ap (λ (p : ServerPass). p.made) first;
+      of = search rules;
+      knows = search rules;
+      first = record {
+        number = ap (λ (p : ServerPass). p.number) first;
+        own = ap (λ (p : ServerPass). p.own) first;
+        kept = ap (λ (p : ServerPass). p.kept) first;
+        made = ap (λ (p : ServerPass). p.made) first;
+      };
+      workers = search rules;
+      pumps = search rules;
     }
 
 pub returns-in-Ok-serve_all-clause-run : goal.returns-in-Ok-serve_all-clause-run
@@ -26,7 +32,7 @@ returns-in-Ok-serve_all-clause-run g c = λ accepts fresh.
     let read : ReadOnce c.now-start.result (tick_view {P = g.row.P.Denot} g.C.Clock.dial g.O.Outlet.outbox tick) =
     read_once (tick_view g.C.Clock.dial g.O.Outlet.outbox c.args.jobs.tick) (tick_view g.C.Clock.dial g.O.Outlet.outbox tick) c.now-start.result
     fresh.ticker_is c.now-start.ensures.reads refl in
-    c.in-Ok-serve_all.ensures.run accepts (record {
+    c.in-Ok-serve_all.ensures.ran.run accepts (record {
       workers_are = fresh.workers_are;
       pumps_are = fresh.pumps_are;
       ticker_is = subst (λ s. ReadOnce s (tick_view {P = g.row.P.Denot} g.C.Clock.dial g.O.Outlet.outbox tick)) (sym (ap (λ (s : Setting). s.start) setting)) read;
@@ -39,7 +45,7 @@ returns-in-Ok-serve_all-clause-ended g c = λ accepts fresh.
     let read : ReadOnce c.now-start.result (tick_view {P = g.row.P.Denot} g.C.Clock.dial g.O.Outlet.outbox tick) =
     read_once (tick_view g.C.Clock.dial g.O.Outlet.outbox c.args.jobs.tick) (tick_view g.C.Clock.dial g.O.Outlet.outbox tick) c.now-start.result
     fresh.ticker_is c.now-start.ensures.reads refl in
-    c.in-Ok-serve_all.ensures.ended accepts (record {
+    c.in-Ok-serve_all.ensures.ran.ended accepts (record {
       workers_are = fresh.workers_are;
       pumps_are = fresh.pumps_are;
       ticker_is = subst (λ s. ReadOnce s (tick_view {P = g.row.P.Denot} g.C.Clock.dial g.O.Outlet.outbox tick)) (sym (ap (λ (s : Setting). s.start) setting)) read;
