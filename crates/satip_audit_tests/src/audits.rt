@@ -8,7 +8,7 @@ use std::alloc::Global;
 use std::io::{Read, repeat};
 use std::test::Fail;
 
-const CONFIG: &[u8] = b"address = \"192.168.1.10\"
+pub(crate) const CONFIG: &[u8] = b"address = \"192.168.1.10\"
 [[frontend]]
 sources = [1]
 systems = [\"dvbs\", \"dvbs2\"]
@@ -36,12 +36,17 @@ const STOP: &[u8] = b"start 0\nentry 0 0 080201000000000000\n";
 
 // What an audit came to.
 #[derive(Drop)]
-struct Report {
-    end: AuditEnd,
-    output: MemorySink,
+pub(crate) struct Report {
+    pub(crate) end: AuditEnd,
+    pub(crate) output: MemorySink,
 }
 
-fn run(alloc: Global, config: &[u8], text: &[u8], failing_puts: &[u64]) -> Result<Report, Fail> {
+pub(crate) fn run(
+    alloc: Global,
+    config: &[u8],
+    text: &[u8],
+    failing_puts: &[u64],
+) -> Result<Report, Fail> {
     let mut config = MemorySource::make(alloc, config, &[], &[])?;
     let input = MemorySource::make(alloc, text, &[], &[])?;
     run_over(alloc, &mut config, input, failing_puts)

@@ -4,4 +4,6 @@
 #[cfg(test)]
 mod audits;
 #[cfg(test)]
+mod changes;
+#[cfg(test)]
 mod places;
