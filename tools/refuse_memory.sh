@@ -1,14 +1,15 @@
 #!/bin/sh
-# Refuses the requests for memory of three runs one after another, each in a run of its own, and counts how the runs end.
+# Refuses the requests for memory of four runs one after another, each in a run of its own, and counts how the runs end.
 #
 #   tools/refuse_memory.sh
 #
 # The runs: `replay` of a SETUP, a tick, its PLAY, six packets and a second tick, which are lines of examples/session.script;
-# `stress` of 1000 made events; and the test of `serve` with two workers that play a recording together. A replay ends as with all
-# memory, or with status 70 and a beginning of its output, a stress run with status 70 and no output; a serve ends well, or with
-# status 70, or its desk had no memory. Of its last four requests each is a thread's: where one is refused its jobs run one after
-# another, as where no thread can be started, and the test, whose jobs wait for each other, is served, gives up or doesn't end.
-# Needs cc, crates/satip/out/satip (`cd crates/satip && rt run -- --version` builds it) and
+# `audit` of examples/session.journal; `stress` of 1000 made events; and the test of `serve` with two workers that play a recording
+# together. A replay ends as with all memory, or with status 70 and a beginning of its output, an audit and a stress run with status
+# 70 and no output; a serve ends well, or with status 70, or its desk had no memory. Of its last four requests each is a thread's:
+# where one is refused its jobs run one after another, as where no thread can be started, and the test, whose jobs wait for each
+# other, is served, gives up or doesn't end.
+# Needs cc (Debian package gcc), crates/satip/out/satip (`cd crates/satip && rt run -- --version` builds it) and
 # crates/satip_serve_tests/out/satip_serve_tests_tests (`cd crates/satip_serve_tests && rt test` builds it).
 set -eu
 top=$(cd "$(dirname "$0")/.." && pwd)
@@ -41,7 +42,7 @@ session() {
 }
 
 # Runs these words over an input, and then with each request refused. With status 70 the output is a beginning of that with all
-# memory; that of a stress run is empty.
+# memory; that of an audit and of a stress run is empty.
 each() {
     name=$1
     input=$2
@@ -58,8 +59,8 @@ each() {
         70) begins && wants=$((wants + 1)) || echo "$name, request $number: status 70 with another output" ;;
         *) echo "$name, request $number: status $status: $(head -1 "$folder/errors")" ;;
         esac
-        if [ "$name" = stress ] && [ "$status" = 70 ] && [ -s "$folder/output" ]; then
-            echo "stress, request $number: status 70 with an output"
+        if [ "$name" != replay ] && [ "$status" = 70 ] && [ -s "$folder/output" ]; then
+            echo "$name, request $number: status 70 with an output"
         fi
         number=$((number + 1))
     done
@@ -82,5 +83,6 @@ serve() {
 
 session > "$folder/script"
 each replay "$folder/script" "$top/crates/satip/out/satip" replay "$top/examples/satip.toml"
+each audit "$top/examples/session.journal" "$top/crates/satip/out/satip" audit "$top/examples/satip.toml"
 each stress /dev/null "$top/crates/satip/out/satip" stress 7 1000
 serve "together::two_workers_play_a_recording_together"
