@@ -1,5 +1,5 @@
 -- What each outcome tells.
-use Rattle.std.proofs.Common.{◌≡◌, ℕ, List, [], append-nil, refl, sym, ◌∙◌, ap, arith}
+use Rattle.std.proofs.Common.{◌≡◌, ℕ, [], append-nil, refl, sym, ◌∙◌, ap, arith}
 use Rattle.satip_base.specs.Streams.{Feed, Drain}
 use Rattle.satip_config.specs.declared.fault.ConfigFault.{ConfigFault}
 use Rattle.satip_replay.specs.Replays.{Replayed}

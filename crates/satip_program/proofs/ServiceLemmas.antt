@@ -1,5 +1,5 @@
 -- What the status of a service tells.
-use Rattle.std.proofs.Common.{◌≡◌, ℕ, ◌+◌, ◌-◌, ◌<◌, ◌≤◌, ◌⊎◌, ◌↔◌, inl, inr, false, List, Option, Some, None, IsSomeAnd, MatchOption, ⊎_elim, arith}
+use Rattle.std.proofs.Common.{◌≡◌, ℕ, ◌⊎◌, ◌↔◌, inl, inr, false, Option, Some, None, IsSomeAnd, MatchOption, ⊎_elim, arith}
 use Rattle.satip_base.specs.Streams.{Feed, Drain, Rose}
 use Rattle.satip_history.specs.Lists.{Has}
 use Rattle.satip_world.specs.Counts.{Rises}
