@@ -137,6 +137,9 @@ impl<'a> Pacer for LookingPacer<'a> {
     ghost pauses = { λ p. p.pauses };
 
     fn pause(&mut self) {
+        if self.pauses == 0 {
+            self.deeds.pause();
+        }
         self.look();
         thread::yield_now();
         self.pauses = self.pauses.saturating_add(1);

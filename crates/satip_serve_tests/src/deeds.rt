@@ -14,7 +14,7 @@ pub enum Place {
 
 /// What must have been done: so many replies on each connection, so many transport packets in
 /// datagrams, and so many readings of the clock; so many times the first connection was idle behind
-/// its second reply, and so many sends of frames on it behind that.
+/// its second reply, and so many sends of frames on it behind that; and so many jobs paused.
 #[derive(Clone, Copy, Debug, PartialEq, Eq)]
 pub struct Gate {
     pub first: u64,
@@ -23,6 +23,7 @@ pub struct Gate {
     pub readings: u64,
     pub idles: u64,
     pub frames: u64,
+    pub jobs: u64,
 }
 
 /// Nothing must have been done.
@@ -33,6 +34,7 @@ pub const OPEN: Gate = Gate {
     readings: 0,
     idles: 0,
     frames: 0,
+    jobs: 0,
 };
 
 /// What was done so far on all devices of a run.
@@ -44,6 +46,7 @@ pub struct Deeds {
     readings: AtomicU64,
     idles: AtomicU64,
     frames: AtomicU64,
+    jobs: AtomicU64,
     gave_up: AtomicBool,
 }
 
@@ -56,6 +59,7 @@ impl Deeds {
             readings: AtomicU64::new(0),
             idles: AtomicU64::new(0),
             frames: AtomicU64::new(0),
+            jobs: AtomicU64::new(0),
             gave_up: AtomicBool::new(false),
         }
     }
@@ -92,6 +96,11 @@ impl Deeds {
         self.readings.fetch_add(1, Ordering::SeqCst);
     }
 
+    /// A job paused for the first time.
+    pub fn pause(&self) {
+        self.jobs.fetch_add(1, Ordering::SeqCst);
+    }
+
     /// A connection waited in vain.
     pub fn give_up(&self) {
         self.gave_up.store(true, Ordering::SeqCst);
@@ -109,5 +118,6 @@ impl Deeds {
             && self.readings.load(Ordering::SeqCst) >= gate.readings
             && self.idles.load(Ordering::SeqCst) >= gate.idles
             && self.frames.load(Ordering::SeqCst) >= gate.frames
+            && self.jobs.load(Ordering::SeqCst) >= gate.jobs
     }
 }

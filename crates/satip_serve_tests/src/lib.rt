@@ -8,8 +8,6 @@ mod deeds;
 #[cfg(test)]
 mod faults;
 #[cfg(test)]
-mod meeting;
-#[cfg(test)]
 mod reel;
 #[cfg(test)]
 mod refused;

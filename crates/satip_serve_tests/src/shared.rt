@@ -1,20 +1,43 @@
-//! What the runs have in common: their words, the program's run over memory, and the kit of a
-//! worker.
+//! What the runs have in common: their words, the program's run over memory, and the kits of its
+//! jobs.
 
-ghost use Rattle.std.specs.Prelude.{◌≡◌, true, None, IfOk};
+ghost use Rattle.std.specs.Prelude.{◌≡◌, map, true, None, IfOk};
+ghost use Rattle.satip_history.specs.Lists.{Each};
+ghost use Rattle.satip_memory_desk.specs.Drawers.{AreNewKits};
+ghost use Rattle.satip_serve.specs.Fresh.{FreshWorker};
+ghost use Rattle.satip_serve.specs.Views.{worker_view};
 ghost use Rattle.satip_serving.specs.Handed.{nothing_handed};
-ghost use Rattle.satip_world.specs.Halls.{fresh_hall};
-ghost use Rattle.satip_world.specs.Outboxes.{fresh_outbox};
+ghost use Rattle.satip_world.specs.Halls.{Hall, fresh_hall};
+ghost use Rattle.satip_world.specs.Outboxes.{Outbox, fresh_outbox};
 
 use satip_base::{Peer, Text, Want};
-use satip_memory::{MemoryConn, MemoryDoors, MemoryOutlet, MemorySink, MemorySource};
-use satip_program::{Desk, Ended, satip};
+use satip_memory::{
+    MemoryClock, MemoryConn, MemoryDoors, MemoryOutlet, MemoryPacer, MemorySink, MemorySource,
+    MemoryStore,
+};
+use satip_memory_desk::{MemoryDesk, MemoryJobs};
+use satip_program::{Desk, Ended, Jobs, satip};
+use satip_pump::{PumpKit, TickKit};
 use satip_worker::WorkerKit;
-use satip_world::{ConnEnd, DoorKind, Pacer};
+use satip_world::{ConnEnd, DoorKind};
 use std::alloc::Global;
+use std::process::Abort;
 use std::sync::Wait;
 use std::test::Fail;
 use std::thread::Threads;
+
+/// A serve of c1.toml, of one connection a worker.
+pub const SERVE: &[&str] = &["serve", "c1.toml", "1"];
+
+/// The same with journals.
+pub const JOURNAL: &[&str] = &["journal", "c1.toml", "1"];
+
+/// The same through a tunnel.
+pub const TUNNEL: &[&str] = &["tunnel", "c1.toml", "1"];
+
+/// One worker and one front end.
+pub const ONE_WORKER: &[u8] =
+    b"address = \"192.168.1.10\"\nworkers = 1\n[[frontend]]\nsources = [1]\nsystems = [\"dvbs\", \"dvbs2\"]\n";
 
 /// A request of the options.
 pub const OPTIONS: &[u8] = b"OPTIONS * RTSP/1.0\r\nCSeq: 1\r\n\r\n";
@@ -22,20 +45,6 @@ pub const OPTIONS: &[u8] = b"OPTIONS * RTSP/1.0\r\nCSeq: 1\r\n\r\n";
 /// The reply to it.
 pub const OK: &[u8] =
     b"RTSP/1.0 200 OK\r\nCSeq: 1\r\nPublic: OPTIONS, DESCRIBE, SETUP, PLAY, TEARDOWN\r\n\r\n";
-
-/// The words of a command line.
-pub fn words_of(alloc: Global, names: &[&str]) -> Result<Vec<Text>, Fail> {
-    let mut words = Vec::new(alloc);
-    for name in names {
-        words.push(Text::of(alloc, name)?)?;
-    }
-    Ok(words)
-}
-
-/// A serve of c1.toml, of one connection a worker.
-pub fn words(alloc: Global) -> Result<Vec<Text>, Fail> {
-    words_of(alloc, &["serve", "c1.toml", "1"])
-}
 
 /// How the program ended, and what it wrote.
 pub struct Ran<K: Desk> {
@@ -54,20 +63,58 @@ impl<K: Desk> Drop for Ran<K> {
     }
 }
 
-/// Runs the program.
+impl<K: Desk> Ran<K> {
+    /// It ended with this status, with this told of errors and nothing written.
+    pub fn ends(&self, rt: &impl Abort, status: u8, errors: &[u8]) {
+        assert_eq!(rt; self.ended.status, status);
+        assert_eq!(rt; self.errors.sent(), errors);
+        assert_eq!(rt; self.output.sent(), b"".as_slice());
+    }
+
+    /// What is told of it, given what is told of the workers' kits if jobs began.
+    pub fn told(&self, served: Option<&'static str>) -> &'static str {
+        match (self.ended.status, served, &self.ended.unused) {
+            (0, Some(served), None) => served,
+            (70, None, Some(jobs)) if jobs.workers.len() == 2 => "no memory, kits unused",
+            (70, None, None) => "no memory, no kits given",
+            (5, None, None) => "the desk had no memory",
+            _ => "wrong",
+        }
+    }
+}
+
+fn texts(alloc: Global, words: &[&str]) -> Result<Vec<Text>, Fail> {
+    let mut texts = Vec::new(alloc);
+    for word in words {
+        texts.push(Text::of(alloc, word)?)?;
+    }
+    Ok(texts)
+}
+
+/// Runs the program with these words over an input.
 pub fn run<R: Threads + Wait + Sync, K: Desk>(
     rt: &R,
     alloc: Global,
-    words: &[Text],
-    input: &mut MemorySource,
+    words: &[&str],
+    input: &[u8],
     desk: &mut K,
 ) -> Result<Ran<K>, Fail>
     requires new { K.given desk.old ≡ None }
     requires client { K.handed desk.old ≡ nothing_handed }
 {
+    let words = texts(alloc, words)?;
+    let mut input = MemorySource::make(alloc, input, &[], &[])?;
     let mut output = MemorySink::make(alloc, &[], 0)?;
     let mut errors = MemorySink::make(alloc, &[], 0)?;
-    let ended = satip(rt, alloc, words, input, &mut output, &mut errors, desk);
+    let ended = satip(
+        rt,
+        alloc,
+        &words,
+        &mut input,
+        &mut output,
+        &mut errors,
+        desk,
+    );
     Ok(Ran {
         ended,
         output,
@@ -75,54 +122,92 @@ pub fn run<R: Threads + Wait + Sync, K: Desk>(
     })
 }
 
-// Doors by which one RTSP connection comes, with these pieces.
-fn doors(alloc: Global, accepts: u32, idle: &[u64], pieces: &[&[u8]]) -> Result<MemoryDoors, Want>
-    ensures fresh { IfOk result (λ doors. doors ≡ fresh_hall accepts true) }
-{
-    let mut doors = MemoryDoors::make(alloc, accepts, idle, &[])?;
-    let conn = MemoryConn::make(alloc, pieces, &[], &[], 0)?;
-    doors.add(DoorKind::Rtsp, Peer { ip: 0xc0a8_0114 }, conn)?;
-    Ok(doors)
-}
+/// The kit of a worker over memory.
+pub type MemoryWorker = WorkerKit<MemoryDoors, MemoryOutlet, MemoryPacer>;
 
-/// The kit of a worker to which one connection comes, with one message. Its doors are idle at the looks with these
-/// numbers.
-pub fn worker<P: Pacer + Drop>(
-    alloc: Global,
-    accepts: u32,
-    idle: &[u64],
-    pacer: P,
-) -> Result<WorkerKit<MemoryDoors, MemoryOutlet, P>, Want>
-    ensures hall { IfOk result (λ kit. kit.doors ≡ fresh_hall accepts true) }
-    ensures outbox { IfOk result (λ kit. kit.outlet ≡ fresh_outbox) }
-{
-    worker_of(alloc, accepts, idle, &[OPTIONS], pacer)
-}
-
-/// The kit of a worker to which one connection comes, with these pieces. Its doors are idle at the
-/// looks with these numbers.
-pub fn worker_of<P: Pacer + Drop>(
-    alloc: Global,
-    accepts: u32,
-    idle: &[u64],
-    pieces: &[&[u8]],
-    pacer: P,
-) -> Result<WorkerKit<MemoryDoors, MemoryOutlet, P>, Want>
-    ensures hall { IfOk result (λ kit. kit.doors ≡ fresh_hall accepts true) }
+/// The kit of a worker with these doors.
+pub fn worker_at(alloc: Global, doors: MemoryDoors) -> Result<MemoryWorker, Want>
+    requires fresh { doors ≡ fresh_hall 1 true }
+    ensures hall { IfOk result (λ kit. kit.doors ≡ fresh_hall 1 true) }
     ensures outbox { IfOk result (λ kit. kit.outlet ≡ fresh_outbox) }
 {
     Ok(WorkerKit {
-        doors: doors(alloc, accepts, idle, pieces)?,
+        doors,
         outlet: MemoryOutlet::make(alloc, &[])?,
-        pacer,
+        pacer: MemoryPacer::new(),
         key: [7; 32],
     })
 }
 
-/// Whether the one connection of a worker was served to its end.
-pub fn has_served<P: Pacer>(kit: &WorkerKit<MemoryDoors, MemoryOutlet, P>) -> bool {
-    match kit.doors.returned() {
+/// The kit of a worker to which one RTSP connection comes, with these pieces.
+pub fn worker(alloc: Global, pieces: &[&[u8]]) -> Result<MemoryWorker, Want>
+    ensures hall { IfOk result (λ kit. kit.doors ≡ fresh_hall 1 true) }
+    ensures outbox { IfOk result (λ kit. kit.outlet ≡ fresh_outbox) }
+{
+    let mut doors = MemoryDoors::make(alloc, 1, &[], &[])?;
+    let conn = MemoryConn::make(alloc, pieces, &[], &[], 0)?;
+    doors.add(DoorKind::Rtsp, Peer { ip: 0xc0a8_0114 }, conn)?;
+    worker_at(alloc, doors)
+}
+
+/// Kits of these workers, of one pump and of the ticker.
+pub fn kits(alloc: Global, workers: Vec<MemoryWorker>) -> Result<MemoryJobs, Fail>
+    requires fresh { Each (FreshWorker 1)
+        (map (worker_view (λ (h : Hall). h) (λ (o : Outbox). o)) workers.items) }
+    ensures new { IfOk result (AreNewKits 1) }
+{
+    let mut pumps = Vec::new(alloc);
+    pumps.push(PumpKit {
+        store: MemoryStore::make(alloc, &[])?,
+        outlet: MemoryOutlet::make(alloc, &[])?,
+        pacer: MemoryPacer::new(),
+    })?;
+    Ok(Jobs {
+        workers,
+        pumps,
+        tick: TickKit {
+            clock: MemoryClock::make(alloc, &[1000])?,
+            outlet: MemoryOutlet::make(alloc, &[])?,
+            pacer: MemoryPacer::new(),
+        },
+    })
+}
+
+/// A desk with this configuration as c1.toml, and without kits.
+pub fn bare_desk(alloc: Global, config: &[u8]) -> Result<MemoryDesk, Fail>
+    ensures new { IfOk result (λ desk. desk.given ≡ None) }
+    ensures client { IfOk result (λ desk. desk.handed ≡ nothing_handed) }
+{
+    let mut desk = MemoryDesk::make(alloc, 0);
+    desk.add("c1.toml", config, &[])?;
+    Ok(desk)
+}
+
+/// The same with these kits.
+pub fn desk(alloc: Global, config: &[u8], kits: MemoryJobs) -> Result<MemoryDesk, Fail>
+    requires fresh { AreNewKits 1 kits }
+    ensures new { IfOk result (λ desk. desk.given ≡ None) }
+    ensures client { IfOk result (λ desk. desk.handed ≡ nothing_handed) }
+{
+    let mut desk = bare_desk(alloc, config)?;
+    desk.lay(1, kits);
+    Ok(desk)
+}
+
+/// A desk with kits for one worker, to which one RTSP connection comes, with these pieces.
+pub fn desk_for_one(alloc: Global, pieces: &[&[u8]]) -> Result<MemoryDesk, Fail>
+    ensures new { IfOk result (λ desk. desk.given ≡ None) }
+    ensures client { IfOk result (λ desk. desk.handed ≡ nothing_handed) }
+{
+    let mut workers = Vec::new(alloc);
+    workers.push(worker(alloc, pieces)?)?;
+    desk(alloc, ONE_WORKER, kits(alloc, workers)?)
+}
+
+/// Whether the one connection of each worker was served to its end.
+pub fn have_served(workers: &[MemoryWorker]) -> bool {
+    workers.iter().all(|kit| match kit.doors.returned() {
         [handed] => handed.end == ConnEnd::Done && handed.conn.sent() == OK,
         _ => false,
-    }
+    })
 }

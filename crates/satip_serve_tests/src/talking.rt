@@ -1,8 +1,7 @@
 //! A talk of two requests, of which the second stands behind the longest head, and behind one that
 //! is too long.
 
-use crate::shared::{OK, OPTIONS, run, words_of};
-use satip_memory::MemorySource;
+use crate::shared::{OK, OPTIONS, run};
 use satip_memory_desk::MemoryDesk;
 use std::alloc::Global;
 use std::sync::Wait;
@@ -28,15 +27,9 @@ fn replies<R: Threads + Wait + Sync>(
     alloc: Global,
     head: usize,
 ) -> Result<Option<Vec<u8>>, Fail> {
-    let mut input = MemorySource::make(alloc, &two_requests(alloc, head)?, &[], &[])?;
     let mut desk = MemoryDesk::make(alloc, 0);
-    let ran = run(
-        rt,
-        alloc,
-        &words_of(alloc, &["talk"])?,
-        &mut input,
-        &mut desk,
-    )?;
+    let requests = two_requests(alloc, head)?;
+    let ran = run(rt, alloc, &["talk"], &requests, &mut desk)?;
     if ran.ended.status != 0 || !ran.errors.sent().is_empty() {
         return Ok(None);
     }

@@ -3,21 +3,21 @@
 //! were sent and the clock was read. Jobs that ran one after another would never get there.
 
 use crate::deeds::{Deeds, Gate, OPEN};
-use crate::shared::{OK, OPTIONS, Ran, run, words, words_of};
-use crate::waiting::{Piece, Served};
-use crate::waiting_desk::{Plan, WaitingDesk};
-use satip_memory::MemorySource;
-use satip_world::ConnEnd;
+use crate::shared::{JOURNAL, OK, OPTIONS, Ran, SERVE, run};
+use crate::waiting::Piece;
+use crate::waiting_desk::{Plan, WaitingDesk, WaitingWorker, run_plan};
 use std::alloc::Global;
 use std::test::Fail;
 
 const SETUP: &[u8] =
     b"SETUP rtsp://192.168.1.10/?src=1&freq=11361.75&pol=h&ro=0.35&msys=dvbs2&mtype=8psk&plts=on&sr=22000&fec=23&pids=0,16,17&x_pmt=100 RTSP/1.0\r\nCSeq: 1\r\nTransport: RTP/AVP;unicast;client_port=1400-1401\r\n\r\n";
 
-const PLAY: &[u8] =
+/// A PLAY of stream 1.
+pub const PLAY: &[u8] =
     b"PLAY rtsp://192.168.1.10/stream=1 RTSP/1.0\r\nCSeq: 1\r\nSession: 00000001d6df3fef\r\n\r\n";
 
-const TEARDOWN: &[u8] =
+/// A TEARDOWN of stream 1.
+pub const TEARDOWN: &[u8] =
     b"TEARDOWN rtsp://192.168.1.10/stream=1 RTSP/1.0\r\nCSeq: 1\r\nSession: 00000001d6df3fef\r\n\r\n";
 
 // The replies to these three. The first draw of a key of zeros for stream 1, that of the first
@@ -47,7 +47,8 @@ const FIRST: &[Piece] = &[
     },
 ];
 
-const SECOND: &[Piece] = &[Piece {
+/// The second client asks for the options.
+pub const SECOND: &[Piece] = &[Piece {
     text: OPTIONS,
     gate: OPEN,
 }];
@@ -60,42 +61,59 @@ const PLAN: Plan = Plan {
     pumps: Gate { first: 2, ..OPEN },
 };
 
-// Whether a connection was sent just these bytes, and its service ended well.
-fn is_done(served: Option<&Served>, sent: &[u8]) -> bool {
-    match served {
-        Some(served) => served.end == ConnEnd::Done && served.sent.as_slice() == sent,
-        None => false,
+// Each of the five jobs has paused.
+const MET: Gate = Gate { jobs: 5, ..OPEN };
+
+const MEETING: &[Piece] = &[Piece {
+    text: OPTIONS,
+    gate: MET,
+}];
+
+// Both clients, and the pumps, wait until each job has come to its first pause.
+const MEETING_PLAN: Plan = Plan {
+    first: MEETING,
+    second: MEETING,
+    port: 1,
+    pumps: MET,
+};
+
+// What is told of the kits of workers, the first of which sent these bytes.
+fn told_of(workers: &[WaitingWorker], sent: &[u8]) -> &'static str {
+    match workers {
+        [first, second] => {
+            if first.doors.have_sent(sent) && second.doors.have_sent(OK) {
+                "served"
+            } else {
+                "wrong replies"
+            }
+        }
+        _ => "wrong kits",
     }
 }
 
-// What is told of a run.
-fn told(ran: &Ran<WaitingDesk>) -> &'static str {
-    match (ran.ended.status, &ran.ended.last, &ran.ended.unused) {
-        (0, Some(last), None) => match last.jobs.workers.as_slice() {
-            [first, second] => {
-                if is_done(first.doors.served(), REPLIES) && is_done(second.doors.served(), OK) {
-                    "served"
-                } else {
-                    "wrong replies"
-                }
-            }
-            _ => "wrong kits",
-        },
-        (70, None, Some(jobs)) if jobs.workers.len() == 2 => "no memory, kits unused",
-        (70, None, None) => "no memory, no kits given",
-        (5, None, None) => "the desk had no memory",
-        _ => "wrong",
-    }
+// What is told of a run whose first client is sent these bytes.
+fn told(ran: &Ran<WaitingDesk>, sent: &[u8]) -> &'static str {
+    ran.told(match &ran.ended.last {
+        Some(last) => Some(told_of(&last.jobs.workers, sent)),
+        None => None,
+    })
+}
+
+// Jobs that ran one after another would never come together.
+#[test]
+fn all_jobs_of_a_serve_meet(rt: HostRuntime) -> Result<(), Fail> {
+    let deeds = Deeds::new();
+    let ran = run_plan(&rt, rt.alloc(), SERVE, MEETING_PLAN, &deeds)?;
+    assert!(rt; !deeds.gave_up());
+    assert_eq!(rt; told(&ran, OK), "served");
+    Ok(())
 }
 
 #[test]
 fn two_workers_play_a_recording_together(rt: HostRuntime) -> Result<(), Fail> {
-    let alloc = rt.alloc();
     let deeds = Deeds::new();
-    let mut desk = WaitingDesk::new(alloc, &deeds, PLAN);
-    let mut input = MemorySource::make(alloc, b"", &[], &[])?;
-    let ran = run(&rt, alloc, &words(alloc)?, &mut input, &mut desk)?;
-    let told = told(&ran);
+    let ran = run_plan(&rt, rt.alloc(), SERVE, PLAN, &deeds)?;
+    let told = told(&ran, REPLIES);
     println!(rt; "{told}")?;
     assert!(rt; !deeds.gave_up());
     assert_eq!(rt; told, "served");
@@ -115,17 +133,13 @@ fn joined(alloc: Global, ran: &Ran<WaitingDesk>) -> Result<Vec<u8>, Fail> {
 fn their_journals_are_one_history(rt: HostRuntime) -> Result<(), Fail> {
     let alloc = rt.alloc();
     let deeds = Deeds::new();
-    let mut desk = WaitingDesk::new(alloc, &deeds, PLAN);
-    let mut input = MemorySource::make(alloc, b"", &[], &[])?;
-    let names = words_of(alloc, &["journal", "c1.toml", "1"])?;
-    let ran = run(&rt, alloc, &names, &mut input, &mut desk)?;
+    let ran = run_plan(&rt, alloc, JOURNAL, PLAN, &deeds)?;
     assert!(rt; !deeds.gave_up());
-    assert_eq!(rt; told(&ran), "served");
+    assert_eq!(rt; told(&ran, REPLIES), "served");
     assert_eq!(rt; ran.ended.journals.len(), 6);
-    let mut journals = MemorySource::make(alloc, &joined(alloc, &ran)?, &[], &[])?;
-    let mut other = WaitingDesk::new(alloc, &deeds, PLAN);
-    let names = words_of(alloc, &["audit", "c1.toml"])?;
-    let audited = run(&rt, alloc, &names, &mut journals, &mut other)?;
+    let journals = joined(alloc, &ran)?;
+    let mut desk = WaitingDesk::new(alloc, &deeds, PLAN);
+    let audited = run(&rt, alloc, &["audit", "c1.toml"], &journals, &mut desk)?;
     assert_eq!(rt; audited.ended.status, 0);
     assert!(rt; audited.output.sent().starts_with(b"yes "));
     Ok(())

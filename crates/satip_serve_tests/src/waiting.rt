@@ -90,7 +90,7 @@ pub struct Served {
     pub end: ConnEnd,
 }
 
-/// Doors by which one RTSP connection comes.
+/// Doors by which one RTSP connection comes, behind a look that finds none.
 #[derive(Drop)]
 pub struct WaitingDoors<'a> {
     deeds: &'a Deeds,
@@ -99,6 +99,7 @@ pub struct WaitingDoors<'a> {
     limit: u32,
     count: u64,
     ended: bool,
+    idles: u64,
     room: Option<Vec<u8>>,
     served: Option<Served>,
 }
@@ -113,7 +114,7 @@ impl<'a> Model for WaitingDoors<'a> {
       limit = d.limit;
       count = d.count;
       ended = d.ended;
-      idles = 0;
+      idles = d.idles;
       faults = 0;
       told = false;
       given = [];
@@ -145,6 +146,7 @@ impl<'a> WaitingDoors<'a> {
             limit,
             count: 0,
             ended: false,
+            idles: 0,
             room: Some(room),
             served: None,
         })
@@ -153,6 +155,14 @@ impl<'a> WaitingDoors<'a> {
     /// The connection, if it was handed back.
     pub fn served(&self) -> Option<&Served> {
         self.served.as_ref()
+    }
+
+    /// Whether the connection was sent just these bytes, and its service ended well.
+    pub fn have_sent(&self, sent: &[u8]) -> bool {
+        match &self.served {
+            Some(served) => served.end == ConnEnd::Done && served.sent.as_slice() == sent,
+            None => false,
+        }
     }
 }
 
@@ -167,6 +177,10 @@ impl<'a> Doors for WaitingDoors<'a> {
         if self.ended || (self.limit != 0 && self.count >= self.limit as u64) {
             self.ended = true;
             return Door::End;
+        }
+        if self.idles == 0 {
+            self.idles = 1;
+            return Door::Idle;
         }
         let Some(sent) = self.room.take() else {
             self.ended = true;

@@ -10,6 +10,7 @@ ghost use Rattle.satip_memory.specs.Shelves.{empty_shelf};
 use crate::counting::{CountingOutlet, LookingPacer, StillClock};
 use crate::deeds::{Deeds, Gate, OPEN, Place};
 use crate::reel::ReelStore;
+use crate::shared::{Ran, run};
 use crate::waiting::{Piece, WaitingDoors};
 use satip_base::{Address, Failed, Text, Want};
 use satip_config::Config;
@@ -20,6 +21,9 @@ use satip_pump::{PumpKit, TickKit};
 use satip_worker::WorkerKit;
 use std::alloc::Global;
 use std::snapshot::Snapshot;
+use std::sync::Wait;
+use std::test::Fail;
+use std::thread::Threads;
 
 /// Two front ends, and two multiplexes that they receive.
 const C1: &[u8] = b"address = \"192.168.1.10\"
@@ -69,7 +73,8 @@ type WaitingJobs<'a> = Jobs<
     StillClock<'a>,
 >;
 
-type WaitingWorker<'a> = WorkerKit<WaitingDoors<'a>, CountingOutlet<'a>, LookingPacer<'a>>;
+/// The kit of a worker of such a desk.
+pub type WaitingWorker<'a> = WorkerKit<WaitingDoors<'a>, CountingOutlet<'a>, LookingPacer<'a>>;
 
 fn worker<'a>(
     alloc: Global,
@@ -258,4 +263,16 @@ impl<'a> Desk for WaitingDesk<'a> {
         self.faults = self.faults.saturating_add(1);
         Err(Failed)
     }
+}
+
+/// Runs the program with these words, without input, over a desk with this plan.
+pub fn run_plan<'a, R: Threads + Wait + Sync>(
+    rt: &R,
+    alloc: Global,
+    words: &[&str],
+    plan: Plan,
+    deeds: &'a Deeds,
+) -> Result<Ran<WaitingDesk<'a>>, Fail> {
+    let mut desk = WaitingDesk::new(alloc, deeds, plan);
+    run(rt, alloc, words, b"", &mut desk)
 }
