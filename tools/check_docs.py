@@ -5,7 +5,8 @@
 
 Each path between backticks is a file or a folder, from the top or from crates/; where a name stands
 before a path, as in `law_5`, `crates/satip_laws/src/theorems.rt`, the file has it; each crate
-`satip_..` is one of crates.txt. It prints what isn't there, one line each, and ends with status 1
+`satip_..` is one of crates.txt; what is quoted behind a path and a colon stands there word for
+word. It prints what isn't there, one line each, and ends with status 1
 where there is something. It needs python3 alone."""
 import os
 import re
@@ -13,11 +14,14 @@ import sys
 
 TOP = os.path.dirname(os.path.dirname(os.path.abspath(__file__)))
 PATH = re.compile(r"`((?:crates|satip_\w+|tools|bench|docs|examples)/[\w./-]+)`")
-NAMED = re.compile(r"`([\w:-]+)`, (?:by `[^`]*` of )?`((?:crates/)?satip_\w+/[\w./-]+\.(?:rt|antt|edit))`")
+NAMED = re.compile(
+    r"`([\w:-]+)`, (?:by `[^`]*` of )?`((?:crates/)?satip_\w+/[\w./-]+\.(?:rt|antt|edit))`"
+)
+QUOTE = re.compile(r"`(crates/[\w./-]+)`:\n\n```text\n(.*?)```", re.S)
 CRATE = re.compile(r"`(satip_\w+)(?:::[\w:]+)?`")
 
 
-def found(path):
+def place_of(path):
     """The file or folder of this name, or None."""
     places = (f"{TOP}/{path}", f"{TOP}/crates/{path}")
     return next((it for it in places if os.path.exists(it)), None)
@@ -38,9 +42,9 @@ def crates():
 def faults(text, names):
     """What a text names that isn't there."""
     paths = [it for it in PATH.findall(text) if not is_free(it)]
-    yield from (f"no file {it}" for it in paths if not found(it))
+    yield from (f"no file {it}" for it in paths if not place_of(it))
     for name, path in NAMED.findall(text):
-        place = found(path)
+        place = place_of(path)
         if place:
             with open(place, encoding="utf-8") as file:
                 if name.split("::")[-1] not in file.read():
@@ -49,16 +53,30 @@ def faults(text, names):
     yield from (f"no crate {it}" for it in kinds if it not in names)
 
 
+def misquoted(text):
+    """The quotes that a text says otherwise than the file."""
+    for path, quote in QUOTE.findall(text):
+        with open(f"{TOP}/{path}", encoding="utf-8") as file:
+            said = file.read()
+        for part in quote.strip("\n").split("\n\n"):
+            if part not in said:
+                yield f"{path} doesn't say: {part.splitlines()[0]}"
+
+
 def main():
     names, count = crates(), 0
     docs = [f"docs/{it}" for it in sorted(os.listdir(f"{TOP}/docs")) if it.endswith(".md")]
     for name in ["README.md", *docs]:
         with open(f"{TOP}/{name}", encoding="utf-8") as file:
-            for number, line in enumerate(file, 1):
-                for fault in faults(line, names):
-                    print(f"{name}:{number}: {fault}")
-                    count += 1
-    print(f"{count} names that aren't there")
+            text = file.read()
+        for number, line in enumerate(text.splitlines(), 1):
+            for fault in faults(line, names):
+                print(f"{name}:{number}: {fault}")
+                count += 1
+        for fault in misquoted(text):
+            print(f"{name}: {fault}")
+            count += 1
+    print(f"{count} things that aren't there")
     sys.exit(min(count, 1))
 
 
