@@ -8,8 +8,7 @@ use crate::aside::Spare;
 use crate::run::TunnelSpace;
 use satip_base::{Out, Want};
 use satip_crew::Space;
-use satip_pump::Batch;
-use satip_serve::PumpRoom;
+use satip_serve::{make_gears, make_pump_rooms, with_room};
 use satip_tunnel_worker::WorkerRoom;
 use std::alloc::Global;
 
@@ -22,17 +21,6 @@ pub(crate) struct Memory<X, D, O, P, M> {
     pub spare: Spare<D, O, P, M>,
 }
 
-// A list with memory for so many.
-fn with_room<T: Drop>(alloc: Global, count: usize) -> Result<Vec<T>, Want>
-    ensures empty { IfOk result (λ items. items.items ≡ []) }
-    ensures room { IfOk result (λ items. count ≤ vec_capacity items) }
-{
-    match Vec::with_capacity(alloc, count) {
-        Ok(items) => Ok(items),
-        Err(_) => Err(Want),
-    }
-}
-
 fn make_rooms(alloc: Global, count: usize) -> Result<Vec<WorkerRoom>, Want>
     ensures count { IfOk result (λ rooms. length rooms.items ≡ count) }
 {
@@ -41,29 +29,6 @@ fn make_rooms(alloc: Global, count: usize) -> Result<Vec<WorkerRoom>, Want>
         rooms.push_reserved(WorkerRoom::make(alloc)?);
     }
     Ok(rooms)
-}
-
-fn make_pump_rooms(alloc: Global, count: usize) -> Result<Vec<PumpRoom>, Want>
-    ensures count { IfOk result (λ rooms. length rooms.items ≡ count) }
-{
-    let mut rooms = with_room(alloc, count)?;
-    while rooms.len() < count {
-        let out = Out::make(alloc)?;
-        let batch = Batch::make(alloc)?;
-        rooms.push_reserved(PumpRoom { out, batch });
-    }
-    Ok(rooms)
-}
-
-// What the callers of so many jobs have beside the right to call, which is nothing.
-fn make_gears(alloc: Global, count: usize) -> Result<Vec<()>, Want>
-    ensures count { IfOk result (λ gears. length gears.items ≡ count) }
-{
-    let mut gears = with_room(alloc, count)?;
-    while gears.len() < count {
-        gears.push_reserved(());
-    }
-    Ok(gears)
 }
 
 fn take_spare<D: Drop, O: Drop, P: Drop, M: Drop>(
