@@ -1,6 +1,6 @@
 //! The callers of all jobs of a kind: they are split off, and joined again.
 
-ghost use Rattle.std.specs.Prelude.{◌≡◌, ◌+◌, ◌<◌, ◌≤◌, ◌++◌, [], ◌∷◌, map, vec_len, vec_capacity};
+ghost use Rattle.std.specs.Prelude.{◌≡◌, ◌+◌, ◌<◌, ◌≤◌, ◌++◌, [], map, vec_len, vec_capacity};
 ghost use Rattle.satip_history.specs.Lists.{Begins};
 ghost use Rattle.satip_turn.specs.Shown.{IsUnused, Knows, joined, newborn, with_made};
 ghost use Rattle.satip_crew.specs.Crews.{AreAlone, Begun, Joins, pass_numbers};

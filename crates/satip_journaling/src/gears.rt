@@ -4,6 +4,7 @@ ghost use Rattle.std.specs.Prelude.{◌≡◌, ◌+◌, ◌^◌, ◌<◌, ◌≤
 ghost use Rattle.satip_journaling.specs.Gears.{AreOpen, HasBegun, has_failed, others_of, sinks_of};
 
 use satip_base::Sink;
+use satip_jobs::{put_last, take_first};
 use satip_journal::JournalGear;
 use satip_records::LineRoom;
 
@@ -15,26 +16,6 @@ pub(crate) struct Gears<K> {
     pub workers: Vec<JournalGear<K>>,
     pub pumps: Vec<JournalGear<K>>,
     pub ticker: JournalGear<K>,
-}
-
-// Takes out the first of a list.
-fn take_first<T>(items: &mut Vec<T>) -> T
-    requires some { 0 < vec_len items.old }
-    ensures first { items.old.items ≡ result ∷ items.new.items }
-    ensures count { vec_len items.old ≡ vec_len items.new + 1 }
-    ensures capacity { vec_capacity items.new ≡ vec_capacity items.old }
-{
-    items.remove(0)
-}
-
-// Puts one behind a list that has the memory for it.
-fn put_last<T>(items: &mut Vec<T>, item: T)
-    requires space { vec_len items.old < vec_capacity items.old }
-    ensures last { items.new.items ≡ items.old.items ++ item ∷ [] }
-    ensures count { vec_len items.new ≡ vec_len items.old + 1 }
-    ensures capacity { vec_capacity items.new ≡ vec_capacity items.old }
-{
-    items.push_reserved(item);
 }
 
 // The journal of the job of this number, with the next sink.

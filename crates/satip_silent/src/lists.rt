@@ -1,32 +1,13 @@
 //! Lists of kits with outlets that send nothing, and with their own again.
 
-ghost use Rattle.std.specs.Prelude.{◌≡◌, ◌+◌, ◌<◌, ◌≤◌, ◌++◌, [], ◌∷◌, map, vec_len, vec_capacity};
+ghost use Rattle.std.specs.Prelude.{◌≡◌, ◌≤◌, [], map, vec_len, vec_capacity};
 ghost use Rattle.satip_silent.specs.Kits.{each_two, silent_worker, silent_pump, worker_with, pump_with};
 
 use crate::kits::{silence_pump, silence_worker, sound_pump, sound_worker};
 use crate::silent::Silent;
+use satip_jobs::{put_last, take_first};
 use satip_pump::PumpKit;
 use satip_worker::WorkerKit;
-
-// Takes out the first of a list.
-fn take_first<T>(items: &mut Vec<T>) -> T
-    requires some { 0 < vec_len items.old }
-    ensures first { items.old.items ≡ result ∷ items.new.items }
-    ensures count { vec_len items.old ≡ vec_len items.new + 1 }
-    ensures capacity { vec_capacity items.new ≡ vec_capacity items.old }
-{
-    items.remove(0)
-}
-
-// Puts one behind a list that has the memory for it.
-fn put_last<T>(items: &mut Vec<T>, item: T)
-    requires space { vec_len items.old < vec_capacity items.old }
-    ensures last { items.new.items ≡ items.old.items ++ item ∷ [] }
-    ensures count { vec_len items.new ≡ vec_len items.old + 1 }
-    ensures capacity { vec_capacity items.new ≡ vec_capacity items.old }
-{
-    items.push_reserved(item);
-}
 
 /// Takes the outlets of workers' kits out, in order, and puts such as send nothing in their place.
 pub fn silence_workers<D, O, P>(

@@ -6,10 +6,10 @@ ghost use Rattle.satip_worker.specs.Drawing.{before_draw, draw_at};
 ghost use Rattle.satip_tunnel_worker.specs.ConnRun.{ServesConn, conn_end};
 
 use crate::room::WorkerRoom;
-use crate::silence::Silenced;
 use satip_base::Peer;
 use satip_base::limits::LONGEST_HISTORY;
 use satip_interleave::{TunnelCaller, TunnelRoom};
+use satip_silent::Silent;
 use satip_tunneling::{TunnelEnd, serve_tunnel};
 use satip_worker::{Draws, Room, serve_connection};
 use satip_world::{Conn, ConnEnd, DoorKind, Pacer};
@@ -68,7 +68,7 @@ fn serve_http<R: Wait + Sync, C: Conn, P: Pacer>(
     ensures no_want { result ≢ ConnEnd.Want }
 {
     let rt = caller.rt;
-    let mut silence = Silenced::over(());
+    let mut silence = Silent::make();
     serve_connection(
         rt,
         caller,

@@ -5,10 +5,8 @@
 mod connection;
 mod room;
 mod rows;
-mod silence;
 mod worker;
 
 pub use room::WorkerRoom;
 pub use rows::worked_rows;
-pub use silence::Silenced;
 pub use worker::run_tunnel_worker;
