@@ -6,10 +6,8 @@ use Rattle.satip_world.specs.Recordings.{IsStarted}
 use Rattle.satip_config.specs.Configuration.{Configuration}
 use Rattle.satip_config.specs.declared.fault.ConfigFault.{ConfigFault}
 use Rattle.satip_history.specs.Lists.{Each, Has}
-use Rattle.satip_replay.specs.Ends.{Refused, ConfigurationEnds}
+use Rattle.satip_replay.specs.Ends.{Refused}
 use Rattle.satip_replay.specs.Replays.{Configured}
-use Rattle.satip_replay.specs.declared.ends.ReplayEnd.{ReplayEnd}
-use Rattle.satip_replay.specs.declared.ends.ReplayEnd.TheVariants as replays
 use Rattle.satip_crew.specs.declared.end.ServeEnd.{ServeEnd}
 use Rattle.satip_crew.specs.declared.end.ServeEnd.TheVariants as serves
 use Rattle.satip_serve.specs.ServeRuns.{HasFault, MatchEnd}
@@ -19,7 +17,7 @@ use Rattle.satip_serving.specs.declared.serving.ServingEnd.TheVariants.{Served, 
 use Rattle.satip_serving.specs.Ends.{ServingEnds}
 use Rattle.satip_serving.specs.Given.{JobsView, ComeUnused}
 use Rattle.satip_serving.specs.Ran.{JobsEnd}
-use Rattle.satip_serving.specs.Servings.{GivenFrom, EndsAs, end_of_run, IsServingOf, IsEndOfRun, AreUnused, IsOneOf, IsNeitherOf}
+use Rattle.satip_serving.specs.Servings.{GivenFrom, end_of_run, IsServingOf, IsEndOfRun, AreUnused, IsOneOf, IsNeitherOf}
 use Rattle.satip_serving.specs.Statuses.{serve_statuses, serving_status}
 
 -- how jobs ended, by the status
