@@ -1,5 +1,5 @@
--- How serving ends, by how the run of its jobs does, and the kits of a run that didn't begin.
-use Rattle.std.proofs.Common.{◌≡◌, true, refl, sym, ap, ◌∙◌, subst, ℕ, List, [], ◌∷◌, Option, map}
+-- The kits that jobs leave, and those of a run that didn't begin.
+use Rattle.std.proofs.Common.{◌≡◌, refl, sym, ap, ◌∙◌, subst, ℕ, List, [], ◌∷◌, Option, map}
 use Rattle.satip_world.specs.Recordings.{StoreView}
 use Rattle.satip_history.specs.Lists.{Each}
 use Rattle.satip_world.specs.Dials.{Dial, Reads}
@@ -12,14 +12,7 @@ use Rattle.satip_serve.specs.Fresh.{AreFresh, FreshWorker, FreshPump, Unused}
 use Rattle.satip_serve.specs.Views.{WorkerView, PumpView, worker_view, pump_view, tick_view}
 use Rattle.satip_serve.specs.declared.kits.Jobs.{Jobs}
 use Rattle.satip_serving.specs.Given.{jobs_view, ComeBack, ComeUnused}
-use Rattle.satip_crew.specs.declared.end.ServeEnd.{ServeEnd}
-use Rattle.satip_crew.specs.declared.end.ServeEnd.TheVariants as serves
-use Rattle.satip_plain.specs.Histories.{Item}
-use Rattle.satip_serve.specs.Done.{IsFull}
-use Rattle.satip_serve.specs.ServeRuns.{EndTells, HasFault}
-use Rattle.satip_serving.specs.declared.serving.ServingEnd.{ServingEnd}
-use Rattle.satip_serving.specs.declared.serving.ServingEnd.TheVariants as ends
-use Rattle.satip_serving.specs.Servings.{end_of_run, AreUnused}
+use Rattle.satip_serving.specs.Servings.{AreUnused}
 
 -- kits that are the same but for one reading of the clock, as they are seen
 pub unused_of : {D O P M C : Type 0} (hall : D → Hall) (outbox : O → Outbox) (shelf : M → StoreView) (dial : C → Dial) (accepts : ℕ)

@@ -1,5 +1,5 @@
 -- The kits that a desk gave, as they are seen, and how they come back.
-use Rattle.std.specs.Prelude.{◌≡◌, ℕ, List, Option, map}
+use Rattle.std.specs.Prelude.{◌≡◌, ℕ, List, map}
 use Rattle.satip_world.specs.Recordings.{StoreView}
 use Rattle.satip_world.specs.Dials.{Dial, Reads}
 use Rattle.satip_world.specs.Halls.{Hall}

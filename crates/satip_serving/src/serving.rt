@@ -1,7 +1,6 @@
 //! `serve`: a configuration is read, the desk gives the kits of all jobs, and the jobs serve.
 
 ghost use Rattle.std.specs.Prelude.{◌≡◌, ℕ, List, Option, Some, None, length, map, IfSome, MatchOption};
-ghost use Rattle.satip_config.specs.declared.fault.ConfigFault.{ConfigFault as Fault};
 ghost use Rattle.satip_fronts.specs.FrontEnds.{IsNumbered};
 ghost use Rattle.satip_reading.specs.Configurations.{IsServed};
 ghost use Rattle.satip_serve.specs.Fresh.{AreFresh};
