@@ -23,7 +23,8 @@ input-preserved g c = (
   c.in-All.ensures.goes_on refl,
   c.take_some.auto.buf ∙ c.input.invariant.1,
   goes_more _ _ _ _ _ _ _ _ _ _ _ _ _ _ _ c.input.invariant.2 c.in-Got.ensures.takes c.if-taken-gt-LIMIT.false
-      (c.in-All.ensures.hears _ _ (stands_got _ _ _ [] c.input.invariant.2.text c.input.conversation.framer.bytes (take c.in-Got.count c.take_some.new.buf) _ c.input.invariant.2.listens)),
+      (c.in-All.ensures.hears _ _ (stands_got _ _ _ [] c.input.invariant.2.text c.input.conversation.framer.bytes
+      (take c.in-Got.count c.take_some.new.buf) _ c.input.invariant.2.listens)),
   c.in-All.ensures.empty refl,
 )
 
@@ -31,13 +32,15 @@ pub returns-in-Closed : goal.returns-in-Closed
 returns-in-Closed g c = record {
   ends = ends_closed _ _ _ _ _ _ _ _ _ _ _ _ _ _ c.input.invariant.2 c.in-Got.ensures.takes c.if-taken-gt-LIMIT.false
       (omega (arith, c.in-Got.ensures.room, c.room_for.ensures.within))
-      (c.in-Closed.ensures.hears _ _ (stands_got _ _ _ [] c.input.invariant.2.text c.input.conversation.framer.bytes (take c.in-Got.count c.take_some.new.buf) _ c.input.invariant.2.listens));
+      (c.in-Closed.ensures.hears _ _ (stands_got _ _ _ [] c.input.invariant.2.text c.input.conversation.framer.bytes
+      (take c.in-Got.count c.take_some.new.buf) _ c.input.invariant.2.listens));
 }
 
 pub returns-in-Failed-hear : goal.returns-in-Failed-hear
 returns-in-Failed-hear g c = record {
   ends = ends_by_output _ _ _ _ _ _ _ _ _ _ _ _ _ c.input.invariant.2 c.in-Got.ensures.takes c.if-taken-gt-LIMIT.false
-      (c.in-Failed-hear.ensures.hears _ _ (stands_got _ _ _ [] c.input.invariant.2.text c.input.conversation.framer.bytes (take c.in-Got.count c.take_some.new.buf) _ c.input.invariant.2.listens));
+      (c.in-Failed-hear.ensures.hears _ _ (stands_got _ _ _ [] c.input.invariant.2.text c.input.conversation.framer.bytes
+      (take c.in-Got.count c.take_some.new.buf) _ c.input.invariant.2.listens));
 }
 
 pub returns-in-Failed : goal.returns-in-Failed
