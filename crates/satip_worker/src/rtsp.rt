@@ -45,7 +45,8 @@ fn turn<S: Service, C: Conn, O: Outlet>(
         (staged S.may_want S.known O.outbox service.old outlet.old)
         (staged S.may_want S.known O.outbox service.new outlet.new)
         (C.line conn.old) (C.line conn.new)
-        (Event.Request peer (draw_at key stream number) request.now) (closes request.now.refusal) result }
+        (Event.Request peer (draw_at key stream number) request.now)
+        (closes request.now.refusal) result }
 {
     let draw = draws.next();
     let event = Event::Request {

@@ -11,7 +11,8 @@ returns-in-Message-clause-hears g c = λ text before first.
 pub returns-in-Message-clause-fewer : goal.returns-in-Message-clause-fewer
 returns-in-Message-clause-fewer g c = λ _.
     fewer_wait _ _ _ (c.next.new.self.bytes ++ c.give.new.self) c.pieces.invariant.1 c.give.ensures.kept
-    (found_takes c.give.new.framer.bytes c.next.new.self.bytes c.give.new.self c.next.new.self.found (c.in-Message.ensures.told c.give.new.framer.bytes [] refl))
+    (found_takes c.give.new.framer.bytes c.next.new.self.bytes c.give.new.self c.next.new.self.found
+    (c.in-Message.ensures.told c.give.new.framer.bytes [] refl))
 
 pub returns-then-is_empty-clause-hears : goal.returns-then-is_empty-clause-hears
 returns-then-is_empty-clause-hears g c = λ text before first.
