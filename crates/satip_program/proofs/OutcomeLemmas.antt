@@ -6,7 +6,7 @@ use Rattle.satip_replay.specs.Replays.{Replayed}
 use Rattle.satip_replay.specs.Ends.{ReplayEnds, EndsByConfiguration, EndsByScript, EndsByInput as ReplayEndsByInput, EndsByOutput as ReplayEndsByOutput, EndsByLength as ReplayEndsByLength, EndsByWant}
 use Rattle.satip_replay.specs.declared.ends.ReplayEnd.{ReplayEnd}
 use Rattle.satip_replay.specs.declared.ends.ReplayEnd.TheVariants as ends
-use Rattle.satip_program.proofs.TalkLemmas.{part_of_first}
+use Rattle.satip_program.proofs.TalkLemmas.{part_of_none}
 use Rattle.satip_program.specs.declared.outcomes.Outcome.{Outcome}
 use Rattle.satip_program.specs.declared.outcomes.Outcome.TheVariants.{Done, Usage, Configuration, Script, InputFault, OutputFault, TooLong, OutOfMemory}
 use Rattle.satip_program.specs.Outcomes.{status_of, TalkRuns, EndsEarly, NothingDone}
@@ -19,7 +19,7 @@ early_from_nothing in_tells out_tells i j o n nothing = record {
     taken = ap (λ (f : Feed). f.taken) nothing.input ∙ omega arith;
     content = λ _. sym (ap (λ (f : Feed). f.left) nothing.input);
   };
-  part = part_of_first out_tells o.sent n.sent [] [] ([], refl) (λ _. record {
+  part = part_of_none out_tells o.sent n.sent (λ _. record {
     part = [];
     rest = [];
     whole = refl;

@@ -1,41 +1,33 @@
 -- The turns of a talk: what was read so far was answered.
-use Rattle.std.proofs.Common.{◌≡◌, ℕ, ◌+◌, ◌<◌, ◌≤◌, List, [], ◌++◌, length, take, map, append_assoc, append-nil, length-append, length-take, refl, sym, ◌∙◌, ap, subst, None, inl, inr, arith, zero, suc, lit<}
+use Rattle.std.proofs.Common.{◌≡◌, ℕ, ◌+◌, ◌<◌, ◌≤◌, List, [], ◌∷◌, ◌++◌, length, map, take, append_assoc, append-nil, length-append, length-take, refl, sym, ◌∙◌, ap, subst, inl, inr, arith}
 use Rattle.satip_base.specs.Streams.{Feed, Drain, TookBytes, MetEnd, FailedToTake}
-use Rattle.satip_frame.specs.Head.{HasNoEmptyLine}
-use Rattle.satip_frame.specs.Held.{Held, capacity, new_framer}
-use Rattle.satip_frame.specs.Stream.{Unfinished, Broken}
+use Rattle.satip_frame.specs.Held.{Held, new_framer}
+use Rattle.satip_frame.specs.Stream.{Broken}
 use Rattle.satip_frame.proofs.StreamLemmas.{broken_stays}
-use Rattle.satip_rtsp.specs.Asked.{asked}
+use Rattle.satip_rtsp.specs.declared.requests.Request.{Request}
+use Rattle.satip_rtsp.specs.Asked.{asked, broken}
+use Rattle.satip_hearing.proofs.TextLemmas.{nothing_asked, more_came, all_so_far}
 use Rattle.satip_program.specs.Talk.{replies_to, talk_replies, Answered}
 use Rattle.satip_program.specs.Talking.{HasAnswered}
 use Rattle.satip_program.specs.declared.talker.Talker.{Talker}
 use Rattle.satip_program.specs.Hearing.{Listens, HasClosed, HasFailed}
 use Rattle.satip_program.specs.Outcomes.{EndsWell, EndsByInput, EndsByOutput, EndsByLength, input_limit}
 use Rattle.satip_replay.specs.Reading.{Read}
-use Rattle.satip_program.proofs.TalkLemmas.{part_stays, part_of_stands}
+use Rattle.satip_program.proofs.TalkLemmas.{part_of_first}
 use Rattle.satip_program.proofs.GatherLemmas.{sent_nothing, sent_all}
 
--- the framer takes more
-pub record IsOpen (framer : Held) : Type 0 where
-  pub goes_on : framer.ended ≡ None
-  pub room : length framer.bytes < capacity
-
 -- what was taken so far was answered
-pub record Goes (in_tells out_tells : Type 0) (i j : Feed) (o n : Drain) (count : ℕ) (framer : Held) (talker : Talker) : Type 0 where
+pub record Goes (in_tells out_tells : Type 0) (i j : Feed) (o n : Drain) (count : ℕ) (held : List ℕ) (talker : Talker) : Type 0 where
   pub text : List ℕ
   pub read : Read in_tells i j text
   pub counted : length text ≡ count
   pub short : count ≤ input_limit
   pub in_faults : j.faults ≡ i.faults
-  pub listens : Listens out_tells o n [] text framer talker
-
-no_empty_line : HasNoEmptyLine 0 []
-no_empty_line zero within ends = cc ends
-no_empty_line (suc k) within ends = absurd (omega arith)
+  pub listens : Listens out_tells o n [] text held talker
 
 -- nothing was taken yet
 pub goes_from : (in_tells out_tells : Type 0) (i : Feed) (o : Drain) (framer : Held) (talker : Talker) → framer ≡ new_framer → HasAnswered talker []
-    → Goes in_tells out_tells i i o o 0 framer talker
+    → Goes in_tells out_tells i i o o 0 framer.bytes talker
 goes_from in_tells out_tells i o framer talker new_one begins = record {
   text = [];
   read = record { taken = omega arith; content = λ _. refl };
@@ -43,9 +35,9 @@ goes_from in_tells out_tells i o framer talker new_one begins = record {
   short = omega arith;
   in_faults = refl;
   listens = record {
-    messages = [];
-    stands = record { leads = rw new_one refl; answered = begins; faults = refl; sent = λ _. sent_nothing o.sent };
-    read = inl (lit< tt, no_empty_line);
+    requests = [];
+    heard = rw new_one (nothing_asked asked);
+    replied = record { answered = begins; faults = refl; sent = λ _. sent_nothing o.sent };
   };
 }
 
@@ -63,11 +55,11 @@ length-more : (text buf : List ℕ) (count : ℕ) → count ≤ length buf → l
 length-more text buf count within = omega (arith, length-append text (take count buf), length-take count buf)
 
 -- the piece was answered too
-pub goes_more : (in_tells out_tells : Type 0) (i j k : Feed) (o m n : Drain) (taken count : ℕ) (framer next : Held) (talker later : Talker) (buf : List ℕ)
-    → (goes : Goes in_tells out_tells i j o m taken framer talker) → TookBytes in_tells j k buf count → taken + count ≤ input_limit
+pub goes_more : (in_tells out_tells : Type 0) (i j k : Feed) (o m n : Drain) (taken count : ℕ) (held next : List ℕ) (talker later : Talker) (buf : List ℕ)
+    → (goes : Goes in_tells out_tells i j o m taken held talker) → TookBytes in_tells j k buf count → taken + count ≤ input_limit
     → Listens out_tells o n [] (goes.text ++ take count buf) next later
     → Goes in_tells out_tells i k o n (taken + count) next later
-goes_more in_tells out_tells i j k o m n taken count framer next talker later buf goes took short listens = record {
+goes_more in_tells out_tells i j k o m n taken count held next talker later buf goes took short listens = record {
   text = goes.text ++ take count buf;
   read = read_more in_tells i j k goes.text buf count goes.read took;
   counted = length-more goes.text buf count took.within ∙ ap (λ (c : ℕ). c + count) goes.counted;
@@ -77,21 +69,23 @@ goes_more in_tells out_tells i j k o m n taken count framer next talker later bu
 }
 
 -- all messages of the text were answered
-answered_all : (tells : Type 0) (o n : Drain) (text : List ℕ) (framer : Held) (talker : Talker) → Listens tells o n [] text framer talker
+answered_all : (tells : Type 0) (o n : Drain) (text held : List ℕ) (talker : Talker) → Listens tells o n [] text held talker
     → Answered tells o.sent n.sent text
-answered_all tells o n text framer talker listens = record {
-  messages = listens.messages;
-  tail = Unfinished;
-  read = listens.read;
-  sent = λ told. sent_all o.sent n.sent (replies_to (map asked listens.messages)) (listens.stands.sent told)
-      ∙ ap (λ (rs : List _). o.sent ++ replies_to rs) (sym (append-nil (map asked listens.messages)));
-}
+answered_all tells o n text held talker listens =
+    let all = all_so_far asked broken text listens.requests held listens.heard in
+    record {
+      messages = all.messages;
+      tail = all.tail;
+      read = all.read;
+      sent = λ told. sent_all o.sent n.sent (replies_to listens.requests) (listens.replied.sent told)
+          ∙ ap (λ (rs : List Request). o.sent ++ replies_to rs) all.requests;
+    }
 
 -- the input came to its end
-pub ends_at_end : (in_tells out_tells : Type 0) (i j k : Feed) (o n : Drain) (taken : ℕ) (framer : Held) (talker : Talker)
-    → Goes in_tells out_tells i j o n taken framer talker → MetEnd in_tells j k → EndsWell in_tells out_tells i k o n
-ends_at_end in_tells out_tells i j k o n taken framer talker goes met =
-    let answered = answered_all out_tells o n goes.text framer talker goes.listens in
+pub ends_at_end : (in_tells out_tells : Type 0) (i j k : Feed) (o n : Drain) (taken : ℕ) (held : List ℕ) (talker : Talker)
+    → Goes in_tells out_tells i j o n taken held talker → MetEnd in_tells j k → EndsWell in_tells out_tells i k o n
+ends_at_end in_tells out_tells i j k o n taken held talker goes met =
+    let answered = answered_all out_tells o n goes.text held talker goes.listens in
     let P : List ℕ → Type 0 = λ text. Answered out_tells o.sent n.sent text in
     record {
       text = goes.text;
@@ -101,7 +95,7 @@ ends_at_end in_tells out_tells i j k o n taken framer talker goes met =
       };
       short = omega (arith, goes.counted, goes.short);
       in_faults = met.faults ∙ goes.in_faults;
-      out_faults = goes.listens.stands.faults;
+      out_faults = goes.listens.replied.faults;
       answered = answered;
       whole = λ told. subst P (sym (goes.read.content told ∙ ap (λ (left : List ℕ). goes.text ++ left) (met.nothing_left told) ∙ append-nil goes.text)) answered;
       ending = inl met.after;
@@ -110,26 +104,31 @@ ends_at_end in_tells out_tells i j k o n taken framer talker goes met =
         piece = [];
         whole = sym (append-nil goes.text);
         short = omega arith;
-        messages = goes.listens.messages;
-        unbroken = goes.listens.read;
+        messages = goes.listens.heard.first.messages;
+        unbroken = goes.listens.heard.read;
       };
     }
 
 -- the last reply was a closing one
-pub ends_closed : (in_tells out_tells : Type 0) (i j k : Feed) (o m n : Drain) (taken count : ℕ) (framer : Held) (talker : Talker) (buf : List ℕ)
-    → (goes : Goes in_tells out_tells i j o m taken framer talker) → TookBytes in_tells j k buf count → taken + count ≤ input_limit → count ≤ 4096
-    → HasClosed out_tells o n [] (goes.text ++ take count buf) → EndsWell in_tells out_tells i k o n
-ends_closed in_tells out_tells i j k o m n taken count framer talker buf goes took short small closed =
+pub ends_closed : (in_tells out_tells : Type 0) (i j k : Feed) (o m n : Drain) (taken count : ℕ) (held : List ℕ) (talker later : Talker) (buf : List ℕ)
+    → (goes : Goes in_tells out_tells i j o m taken held talker) → TookBytes in_tells j k buf count → taken + count ≤ input_limit → count ≤ 4096
+    → HasClosed out_tells o n [] (goes.text ++ take count buf) later → EndsWell in_tells out_tells i k o n
+ends_closed in_tells out_tells i j k o m n taken count held talker later buf goes took short small closed =
     let text = goes.text ++ take count buf in
     let read = read_more in_tells i j k goes.text buf count goes.read took in
-    let replies = talk_replies closed.messages (Broken closed.cause) in
-    let sent : out_tells → n.sent ≡ o.sent ++ replies = λ told. sent_all o.sent n.sent replies (closed.sent told) in
+    let last = closed.last in
+    let all : closed.before ++ closed.request ∷ [] ≡ map asked last.messages ++ broken last.cause ∷ [] =
+    ap (λ (rs : List Request). rs ++ closed.request ∷ []) last.before_are
+    ∙ ap (λ (r : Request). map asked last.messages ++ r ∷ []) last.request_is in
+    let sent : out_tells → n.sent ≡ o.sent ++ talk_replies last.messages (Broken last.cause) = λ told.
+    sent_all o.sent n.sent (replies_to (closed.before ++ closed.request ∷ [])) (closed.replied.sent told)
+    ∙ ap (λ (rs : List Request). o.sent ++ replies_to rs) all in
     let answered : Answered out_tells o.sent n.sent text =
-    record { messages = closed.messages; tail = Broken closed.cause; read = closed.read; sent = sent } in
+    record { messages = last.messages; tail = Broken last.cause; read = last.read; sent = sent } in
     let longer : Answered out_tells o.sent n.sent (text ++ k.left) = record {
-      messages = closed.messages;
-      tail = Broken closed.cause;
-      read = broken_stays text k.left closed.messages closed.cause closed.read;
+      messages = last.messages;
+      tail = Broken last.cause;
+      read = broken_stays text k.left last.messages last.cause last.read;
       sent = sent;
     } in
     let P : List ℕ → Type 0 = λ t. Answered out_tells o.sent n.sent t in
@@ -138,25 +137,25 @@ ends_closed in_tells out_tells i j k o m n taken count framer talker buf goes to
       read = read;
       short = omega (arith, goes.counted, length-more goes.text buf count took.within);
       in_faults = took.faults ∙ goes.in_faults;
-      out_faults = closed.faults;
+      out_faults = closed.replied.faults;
       answered = answered;
       whole = λ told. subst P (sym (read.content told)) longer;
-      ending = inr (record { messages = closed.messages; cause = closed.cause; read = closed.read });
+      ending = inr (record { messages = last.messages; cause = last.cause; read = last.read });
       in_time = record {
         earlier = goes.text;
         piece = take count buf;
         whole = refl;
         short = omega (arith, length-take count buf, took.within);
-        messages = goes.listens.messages;
-        unbroken = goes.listens.read;
+        messages = goes.listens.heard.first.messages;
+        unbroken = goes.listens.heard.read;
       };
     }
 
 -- the output failed
-pub ends_by_output : (in_tells out_tells : Type 0) (i j k : Feed) (o m n : Drain) (taken count : ℕ) (framer : Held) (talker : Talker) (buf : List ℕ)
-    → (goes : Goes in_tells out_tells i j o m taken framer talker) → TookBytes in_tells j k buf count → taken + count ≤ input_limit
+pub ends_by_output : (in_tells out_tells : Type 0) (i j k : Feed) (o m n : Drain) (taken count : ℕ) (held : List ℕ) (talker : Talker) (buf : List ℕ)
+    → (goes : Goes in_tells out_tells i j o m taken held talker) → TookBytes in_tells j k buf count → taken + count ≤ input_limit
     → HasFailed out_tells o n (goes.text ++ take count buf) → EndsByOutput in_tells out_tells i k o n
-ends_by_output in_tells out_tells i j k o m n taken count framer talker buf goes took short failed = record {
+ends_by_output in_tells out_tells i j k o m n taken count held talker buf goes took short failed = record {
   early = record {
     text = goes.text ++ take count buf;
     read = read_more in_tells i j k goes.text buf count goes.read took;
@@ -168,32 +167,32 @@ ends_by_output in_tells out_tells i j k o m n taken count framer talker buf goes
 }
 
 -- the input failed
-pub ends_by_input : (in_tells out_tells : Type 0) (i j k : Feed) (o n : Drain) (taken : ℕ) (framer : Held) (talker : Talker)
-    → Goes in_tells out_tells i j o n taken framer talker → FailedToTake in_tells j k → EndsByInput in_tells out_tells i k o n
-ends_by_input in_tells out_tells i j k o n taken framer talker goes failed = record {
+pub ends_by_input : (in_tells out_tells : Type 0) (i j k : Feed) (o n : Drain) (taken : ℕ) (held : List ℕ) (talker : Talker)
+    → Goes in_tells out_tells i j o n taken held talker → FailedToTake in_tells j k → EndsByInput in_tells out_tells i k o n
+ends_by_input in_tells out_tells i j k o n taken held talker goes failed = record {
   early = record {
     text = goes.text;
     read = record {
       taken = failed.taken ∙ goes.read.taken;
       content = λ told. goes.read.content told ∙ ap (λ (left : List ℕ). goes.text ++ left) (sym (failed.content told));
     };
-    part = part_of_stands out_tells o n [] goes.text goes.listens.messages framer talker goes.listens.stands;
+    part = part_of_first out_tells o n [] goes.text held goes.listens.requests talker goes.listens.heard.first goes.listens.replied;
   };
   short = omega (arith, goes.counted, goes.short);
   rose = rw (← goes.in_faults) failed.faults;
-  out_faults = goes.listens.stands.faults;
+  out_faults = goes.listens.replied.faults;
 }
 
 -- one byte too many was taken
-pub ends_by_length : (in_tells out_tells : Type 0) (i j k : Feed) (o n : Drain) (taken count : ℕ) (framer : Held) (talker : Talker) (buf : List ℕ)
-    → Goes in_tells out_tells i j o n taken framer talker → TookBytes in_tells j k buf count → taken ≡ input_limit → taken + count ≡ input_limit + 1
+pub ends_by_length : (in_tells out_tells : Type 0) (i j k : Feed) (o n : Drain) (taken count : ℕ) (held : List ℕ) (talker : Talker) (buf : List ℕ)
+    → Goes in_tells out_tells i j o n taken held talker → TookBytes in_tells j k buf count → taken ≡ input_limit → taken + count ≡ input_limit + 1
     → EndsByLength in_tells out_tells i k o n
-ends_by_length in_tells out_tells i j k o n taken count framer talker buf goes took full long = record {
+ends_by_length in_tells out_tells i j k o n taken count held talker buf goes took full long = record {
   early = record {
     text = goes.text ++ take count buf;
     read = read_more in_tells i j k goes.text buf count goes.read took;
-    part = part_stays out_tells o.sent n.sent goes.text (take count buf)
-        (part_of_stands out_tells o n [] goes.text goes.listens.messages framer talker goes.listens.stands);
+    part = part_of_first out_tells o n [] (goes.text ++ take count buf) _ goes.listens.requests talker
+        (more_came asked goes.text (take count buf) held (take count buf) goes.listens.requests refl goes.listens.heard) goes.listens.replied;
   };
   long = length-more goes.text buf count took.within ∙ ap (λ (c : ℕ). c + count) goes.counted ∙ long;
   in_time = record {
@@ -201,12 +200,12 @@ ends_by_length in_tells out_tells i j k o n taken count framer talker buf goes t
     piece = take count buf;
     whole = refl;
     short = omega (arith, length-take count buf, took.within, full, long);
-    messages = goes.listens.messages;
-    unbroken = goes.listens.read;
+    messages = goes.listens.heard.first.messages;
+    unbroken = goes.listens.heard.read;
   };
   last = omega (arith, length-take count buf, took.within, full, long);
   in_faults = took.faults ∙ goes.in_faults;
-  out_faults = goes.listens.stands.faults;
+  out_faults = goes.listens.replied.faults;
 }
 
 -- a take can pass the limit only where all bytes before it were taken

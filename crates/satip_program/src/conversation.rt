@@ -1,18 +1,16 @@
 //! One RTSP connection: the bytes that come in are answered as they come.
 
-ghost use Rattle.std.specs.Prelude.{◌≡◌, ◌<◌, ℕ, List, [], ◌++◌, None, IsSome, IsSomeAnd, IfOk, length};
+ghost use Rattle.std.specs.Prelude.{◌≡◌, ℕ, List, [], ◌++◌, None, IfOk};
 ghost use Rattle.satip_base.specs.Streams.{Drain};
-ghost use Rattle.satip_frame.specs.Said.{Said};
-ghost use Rattle.satip_frame.specs.Stream.{Broken, Messages};
-ghost use Rattle.satip_frame.specs.Held.{capacity, new_framer};
-ghost use Rattle.satip_rtsp.specs.Asked.{asked};
+ghost use Rattle.satip_frame.specs.Held.{new_framer};
 ghost use Rattle.satip_program.specs.Talking.{HasAnswered};
-ghost use Rattle.satip_program.specs.Hearing.{Stands, Listens, Hears};
+ghost use Rattle.satip_program.specs.Hearing.{Stands, Hears};
 
 use crate::gathered::Gathered;
 use crate::talker::Talker;
 use satip_base::{Put, Sink, Want};
-use satip_frame::{Break, Framer, Step};
+use satip_frame::{Break, Framer};
+use satip_hearing::{Next, Piece, next_asked};
 use satip_rtsp::Request;
 use std::alloc::Global;
 
@@ -52,74 +50,34 @@ impl Conversation {
         })
     }
 
-    // Answers what is no message.
-    fn close<O: Sink>(&mut self, cause: Break, output: &mut O) -> Heard
-        ensures closes { (o : Drain) (text : List ℕ) (messages : List Said)
+    // Takes in a piece behind what came before, and answers all that is asked.
+    fn take_in<O: Sink>(&mut self, piece: &[u8], output: &mut O) -> Heard
+        requires goes_on { self.old.framer.ended ≡ None }
+        ensures hears { (o : Drain) (text : List ℕ)
             → Stands O.tells o (O.drain output.old)
-            self.old.gathered text messages self.old.framer self.old.talker
-            → Messages text messages (Broken cause)
+            self.old.gathered text (self.old.framer.bytes ++ piece.now) self.old.talker
             → Hears O.tells o (O.drain output.new)
-            self.new.gathered text self.new.framer self.new.talker result }
-        ensures over { result ≡ Heard.All → ⊥ }
-    {
-        match self
-            .talker
-            .reply(&Request::broken(cause), &mut self.gathered, output)
-        {
-            Put::Whole => Heard::Closed,
-            Put::Failed => Heard::Failed,
-        }
-    }
-
-    // Answers all whole messages that the framer holds.
-    fn answer<O: Sink>(&mut self, output: &mut O) -> Heard
-        ensures hears { (o : Drain) (text : List ℕ) (messages : List Said)
-            → Stands O.tells o (O.drain output.old)
-            self.old.gathered text messages self.old.framer self.old.talker
-            → Hears O.tells o (O.drain output.new)
-            self.new.gathered text self.new.framer self.new.talker result }
+            self.new.gathered text self.new.framer.bytes self.new.talker result }
         ensures goes_on { result ≡ Heard.All → self.new.framer.ended ≡ None }
-        ensures room { result ≡ Heard.All → length self.new.framer.bytes < capacity }
     {
-        'messages: loop {
-            match self.framer.next() {
-                Step::Message => {
-                    read_found(&self.framer, &mut self.request);
+        let mut rest = Piece::new(piece);
+        'requests: loop {
+            match next_asked(&mut self.framer, &mut rest, &mut self.request) {
+                Next::Asked => {
                     match self.talker.reply(&self.request, &mut self.gathered, output) {
                         Put::Whole => {}
                         Put::Failed => return Heard::Failed,
                     }
                 }
-                Step::More => return Heard::All,
-                Step::Bad => return self.close(Break::Bad, output),
-                Step::TooLong => return self.close(Break::TooLong, output),
+                Next::Last => {
+                    match self.talker.reply(&self.request, &mut self.gathered, output) {
+                        Put::Whole => return Heard::Closed,
+                        Put::Failed => return Heard::Failed,
+                    }
+                }
+                Next::Nothing => return Heard::All,
             }
         }
-    }
-
-    // Takes in bytes behind those that came before, and answers all whole messages.
-    fn take_in<O: Sink>(&mut self, piece: &[u8], output: &mut O) -> Heard
-        requires goes_on { self.old.framer.ended ≡ None }
-        requires room { length self.old.framer.bytes < capacity }
-        ensures hears { (o : Drain) (text : List ℕ)
-            → Listens O.tells o (O.drain output.old)
-            self.old.gathered text self.old.framer self.old.talker
-            → Hears O.tells o (O.drain output.new)
-            self.new.gathered (text ++ piece.now) self.new.framer self.new.talker result }
-        ensures goes_on { result ≡ Heard.All → self.new.framer.ended ≡ None }
-        ensures room { result ≡ Heard.All → length self.new.framer.bytes < capacity }
-    {
-        let mut rest = piece;
-        'piece: while !rest.is_empty() {
-            let count = self.framer.feed(rest);
-            rest = rest.split_at(count).1;
-            match self.answer(output) {
-                Heard::All => {}
-                Heard::Closed => return Heard::Closed,
-                Heard::Failed => return Heard::Failed,
-            }
-        }
-        Heard::All
     }
 
     // Sends the replies that wait; the last message was heard so.
@@ -127,9 +85,9 @@ impl Conversation {
         requires sound { heard ≡ Heard.Failed → ⊥ }
         ensures sends { (o : Drain) (text : List ℕ)
             → Hears O.tells o (O.drain output.old)
-            self.old.gathered text self.old.framer self.old.talker heard
+            self.old.gathered text self.old.framer.bytes self.old.talker heard
             → Hears O.tells o (O.drain output.new)
-            [] text self.new.framer self.new.talker result }
+            [] text self.new.framer.bytes self.new.talker result }
         ensures framer { self.new.framer ≡ self.old.framer }
         ensures empty { self.new.gathered ≡ [] }
         ensures all { result ≡ Heard.All → heard ≡ Heard.All }
@@ -140,19 +98,16 @@ impl Conversation {
         }
     }
 
-    /// Takes in bytes behind those that came before, answers all whole messages, and sends the
-    /// replies.
+    /// Takes in a piece behind what came before, answers all that is asked, and sends the replies.
     pub(crate) fn hear<O: Sink>(&mut self, piece: &[u8], output: &mut O) -> Heard
         requires goes_on { self.old.framer.ended ≡ None }
-        requires room { length self.old.framer.bytes < capacity }
         requires empty { self.old.gathered ≡ [] }
         ensures hears { (o : Drain) (text : List ℕ)
-            → Listens O.tells o (O.drain output.old)
-            [] text self.old.framer self.old.talker
+            → Stands O.tells o (O.drain output.old)
+            [] text (self.old.framer.bytes ++ piece.now) self.old.talker
             → Hears O.tells o (O.drain output.new)
-            [] (text ++ piece.now) self.new.framer self.new.talker result }
+            [] text self.new.framer.bytes self.new.talker result }
         ensures goes_on { result ≡ Heard.All → self.new.framer.ended ≡ None }
-        ensures room { result ≡ Heard.All → length self.new.framer.bytes < capacity }
         ensures empty { result ≡ Heard.All → self.new.gathered ≡ [] }
     {
         match self.take_in(piece, output) {
@@ -160,16 +115,5 @@ impl Conversation {
             Heard::Closed => self.send(Heard::Closed, output),
             Heard::Failed => Heard::Failed,
         }
-    }
-}
-
-// Reads the request of the message that was found.
-fn read_found(framer: &Framer, request: &mut Request)
-    requires { IsSome framer.now.found }
-    ensures asked { IsSomeAnd framer.now.found (λ message. request.new ≡ asked message) }
-{
-    match framer.message() {
-        Some(message) => request.read(&message),
-        None => unreachable!(),
     }
 }
