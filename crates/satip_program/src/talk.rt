@@ -1,9 +1,7 @@
 //! `talk`: one RTSP connection from the input to the output.
 
-ghost use Rattle.std.specs.Prelude.{◌≡◌, ◌<◌, ◌≤◌, ◌+◌, [], length};
-ghost use Rattle.satip_base.specs.Streams.{Takes};
+ghost use Rattle.std.specs.Prelude.{◌≡◌, ◌<◌, ◌≤◌, ◌+◌, []};
 ghost use Rattle.satip_frame.specs.Held.{new_framer};
-ghost use Rattle.satip_replay.specs.Reading.{GetsAtMost};
 ghost use Rattle.satip_program.specs.Talking.{HasAnswered};
 ghost use Rattle.satip_program.specs.Outcomes.{TalkRuns, input_limit};
 
@@ -11,6 +9,7 @@ use crate::conversation::{Conversation, Heard};
 use crate::outcomes::Outcome;
 use satip_base::limits::{INPUT, PIECE};
 use satip_base::{Sink, Source, Taken};
+use satip_reading::take_some;
 use std::alloc::Global;
 
 const LIMIT: u64 = INPUT as u64;
@@ -74,15 +73,4 @@ fn room_for(taken: u64) -> usize
 {
     let left = (LIMIT - taken).min(PIECE as u64) as usize;
     left.max(1)
-}
-
-fn take_some<I: Source>(input: &mut I, buf: &mut [u8], room: usize) -> Taken
-    requires some { 1 ≤ room }
-    requires within { room ≤ length buf.old }
-    ensures takes { Takes I.tells
-        (I.feed input.old) (I.feed input.new)
-        buf.new result }
-    ensures room { GetsAtMost room result }
-{
-    input.take(&mut buf[..room])
 }
