@@ -5,7 +5,7 @@ use Rattle.satip_history.specs.Lists.{Has}
 use Rattle.satip_world.specs.Counts.{Rises}
 use Rattle.satip_telling.specs.Lines.{Says}
 use Rattle.satip_program.specs.Commands.{Serving, is_journal, line_of}
-use Rattle.satip_program.specs.Ends.{serve_statuses}
+use Rattle.satip_serving.specs.Statuses.{serve_statuses}
 use Rattle.satip_program.specs.Journaling.{IsOfJournal}
 use Rattle.satip_program.specs.Runs.{StatusTells}
 use Rattle.satip_program.proofs.JournalLemmas.{input_of}
