@@ -1,4 +1,4 @@
 pub mod NumberLemmas
 pub mod TextLemmas
-pub mod OutLemmas
+pub mod DatagramLemmas
 pub mod Writing

@@ -2,8 +2,10 @@
 #![tactic(auto)]
 
 mod adapters;
+mod datagrams;
 mod identity;
 pub mod limits;
+mod lists;
 mod network;
 mod numbers;
 mod out;
@@ -14,7 +16,9 @@ mod tally;
 mod words;
 
 pub use adapters::{ReadSource, WriteSink};
+pub use datagrams::Datagrams;
 pub use identity::{Draw, SessionId};
+pub use lists::{append_reserved, with_room};
 pub use network::{Address, Peer, Ports};
 pub use numbers::{read_ip, read_number};
 pub use out::Out;

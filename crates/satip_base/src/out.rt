@@ -1,11 +1,13 @@
 //! What one event writes: a reply and datagrams.
 
-ghost use Rattle.std.specs.Prelude.{◌≡◌, ◌≢◌, ℕ, ◌+◌, ◌<◌, ◌≤◌, [], ◌++◌, length, vec_len, vec_capacity, decimal, IfOk, slice_get, slice_range};
+ghost use Rattle.std.specs.Prelude.{◌≡◌, ◌≢◌, ◌<◌, ◌≤◌, [], length, decimal, IfOk, slice_get};
 ghost use Rattle.satip_base.specs.Output.{empty, shown, IsWithinRoom, Wrote, Sends, Extended};
 ghost use Rattle.satip_base.specs.Texts.{address_text, id_text};
 
+use crate::datagrams::Datagrams;
 use crate::identity::SessionId;
 use crate::limits::{EVENT_BYTES, EVENT_DATAGRAMS, REPLY_BYTES};
+use crate::lists::{append_reserved, with_room};
 use crate::network::Address;
 use crate::outcomes::Want;
 use itoa::Buffer;
@@ -17,16 +19,7 @@ use std::marker::Model;
 #[derive(Drop)]
 pub struct Out {
     reply: Vec<u8>,
-    bytes: Vec<u8>,
-    heads: Vec<Head>,
-}
-
-// Where a datagram goes, and which of the bytes it has.
-#[derive(Clone, Copy, Debug, PartialEq, Eq)]
-struct Head {
-    to: Address,
-    start: usize,
-    end: usize,
+    datagrams: Datagrams,
 }
 
 impl Model for Out {
@@ -46,17 +39,9 @@ impl Out {
     pub fn make(alloc: Global) -> Result<Out, Want>
         ensures ok { IfOk result (λ out. out ≡ empty) }
     {
-        let (Ok(reply), Ok(bytes), Ok(heads)) = (
-            Vec::with_capacity(alloc, REPLY_BYTES),
-            Vec::with_capacity(alloc, EVENT_BYTES),
-            Vec::with_capacity(alloc, EVENT_DATAGRAMS),
-        ) else {
-            return Err(Want);
-        };
         Ok(Out {
-            reply,
-            bytes,
-            heads,
+            reply: with_room(alloc, REPLY_BYTES)?,
+            datagrams: Datagrams::make(alloc, EVENT_BYTES, EVENT_DATAGRAMS)?,
         })
     }
 
@@ -65,8 +50,7 @@ impl Out {
         ensures empty { self.new ≡ empty }
     {
         self.reply.clear();
-        self.bytes.clear();
-        self.heads.clear();
+        self.datagrams.clear();
     }
 
     /// The bytes of the reply; none where there is no reply.
@@ -81,14 +65,14 @@ impl Out {
         ensures count { result ≡ length self.now.datagrams }
         ensures room { IsWithinRoom self.now }
     {
-        self.heads.len()
+        self.datagrams.count()
     }
 
     /// How many more bytes of datagrams there is room for.
     pub fn room(&self) -> usize
         ensures room { result ≡ self.now.datagram_spare }
     {
-        EVENT_BYTES - self.bytes.len()
+        self.datagrams.byte_spare()
     }
 
     /// The datagram at a place, from 0, and where it goes; `None` where `place` isn't below the
@@ -96,11 +80,7 @@ impl Out {
     pub fn datagram(&self, place: usize) -> Option<(Address, &[u8])>
         ensures datagram { shown result ≡ slice_get self.now.datagrams place }
     {
-        if place >= self.heads.len() {
-            return None;
-        }
-        let head = self.heads[place];
-        Some((head.to, part(&self.bytes, head)))
+        self.datagrams.datagram(place)
     }
 
     /// Appends to the reply.
@@ -108,7 +88,7 @@ impl Out {
         requires room { length bytes.now ≤ self.old.reply_spare }
         ensures wrote { Wrote self.old bytes.now self.new }
     {
-        append(&mut self.reply, bytes);
+        append_reserved(&mut self.reply, bytes);
     }
 
     /// Appends a number to the reply, in decimal.
@@ -148,8 +128,7 @@ impl Out {
         requires room { length bytes.now ≤ self.old.datagram_spare }
         ensures sent { Sends self.old to bytes.now self.new }
     {
-        self.begin(to);
-        self.extend(bytes);
+        self.datagrams.append(to, bytes);
     }
 
     /// Begins an empty datagram.
@@ -157,12 +136,7 @@ impl Out {
         requires room { self.old.count_spare ≢ 0 }
         ensures begun { Sends self.old to [] self.new }
     {
-        let start = self.bytes.len();
-        self.heads.push_reserved(Head {
-            to,
-            start,
-            end: start,
-        });
+        self.datagrams.append(to, b"");
     }
 
     /// Appends to the last datagram.
@@ -171,27 +145,6 @@ impl Out {
         requires room { length bytes.now ≤ self.old.datagram_spare }
         ensures extended { Extended self.old bytes.now self.new }
     {
-        append(&mut self.bytes, bytes);
-        let last = self.heads.len() - 1;
-        let end = self.bytes.len();
-        self.heads[last].end = end;
+        self.datagrams.extend(bytes);
     }
-}
-
-// Appends within the memory that the list has.
-fn append(list: &mut Vec<u8>, bytes: &[u8])
-    requires room { vec_len list.old + length bytes.now ≤ vec_capacity list.old }
-    ensures items { list.new.items ≡ list.old.items ++ bytes.now }
-    ensures count { vec_len list.new ≡ vec_len list.old + length bytes.now }
-    ensures capacity { vec_capacity list.old ≤ vec_capacity list.new }
-{
-    list.extend_from_slice(bytes).unwrap();
-}
-
-fn part(bytes: &[u8], head: Head) -> &[u8]
-    requires ordered { head.start ≤ head.end }
-    requires within { head.end ≤ length bytes.now }
-    ensures part { result.now ≡ slice_range bytes.now head.start head.end }
-{
-    &bytes[head.start..head.end]
 }

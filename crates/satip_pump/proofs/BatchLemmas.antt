@@ -1,79 +1,12 @@
--- Datagrams that lie one behind the other in one list of bytes.
-use Rattle.std.proofs.Common.{◌≡◌, ℕ, ◌+◌, ◌-◌, ◌<◌, ◌≤◌, List, [], ◌∷◌, ◌++◌, length, map, take, drop, get_or, slice_range, length-append, append_assoc, append-nil, arith, refl, suc, zero, sym, ◌∙◌, ap, subst, Option, Some, None, IsSomeAnd, slice_get, Bool, true, false, ◌&&◌, nat_le}
-use Rattle.std.proofs.lemmas.List.{take-append-le, drop-append-le, take_all, drop_all, length-drop, length-map, get_or-map, take_more, map-append}
-use Rattle.std.proofs.lemmas.List.Sums.{sum_by-append, sum_by-cons}
-use Rattle.std.proofs.lemmas.Option.{slice_get-get_or, slice_get_within, get_or_from_slice_get}
-use Rattle.satip_base.specs.Output.{Datagram, datagram_bytes}
-use Rattle.satip_pump.specs.declared.batch.Head.{Head}
+-- Datagrams that are appended one after another, and the room for them.
+use Rattle.std.proofs.Common.{◌≡◌, ℕ, ◌+◌, ◌<◌, ◌≤◌, List, [], ◌∷◌, ◌++◌, length, take, length-append, append_assoc, append-nil, arith, refl, suc, zero, sym, ◌∙◌, ap, subst, Option, Some, None, IsSomeAnd, slice_get, Bool, true, false, ◌&&◌, nat_le}
 use Rattle.std.proofs.lemmas.Bool.Decides.{nat_tests}
-use Rattle.satip_pump.specs.Bundles.{Bundle, Bundled, has_room}
-use Rattle.satip_pump.specs.BatchFields.{cut_of, AreWithin}
-
--- what lies within some bytes lies within more
-pub within_more : (n m : ℕ) (heads : List Head) → AreWithin n heads → n ≤ m → AreWithin m heads
-within_more n m [] w more = tt
-within_more n m (h ∷ hs) w more = (w.0, omega (arith, w.1), within_more n m hs w.2 more)
-
-pub within_push : (n m : ℕ) (heads : List Head) (head : Head) → AreWithin n heads → n ≤ m → head.start ≤ head.end → head.end ≤ m
-    → AreWithin m (heads ++ head ∷ [])
-within_push n m [] head w more ordered ends = (ordered, ends, tt)
-within_push n m (h ∷ hs) head w more ordered ends = (w.0, omega (arith, w.1), within_push n m hs head w.2 more ordered ends)
-
--- a head's part is within the bytes
-pub record IsInside (n : ℕ) (head : Head) : Type 0 where
-  pub ordered : head.start ≤ head.end
-  pub ends : head.end ≤ n
-
-within_at : (n : ℕ) (heads : List Head) → AreWithin n heads → (k : ℕ) (d : Head) → k < length heads → IsInside n (get_or heads k d)
-within_at n [] w k d inside = absurd (omega arith)
-within_at n (h ∷ hs) w zero d inside = record { ordered = w.0; ends = w.1 }
-within_at n (h ∷ hs) w (suc k) d inside = within_at n hs w.2 k d (omega arith)
-
-pub within_read : (n : ℕ) (heads : List Head) → AreWithin n heads → (k : ℕ) (head : Head) → k < length heads
-    → head ≡ get_or heads k head → IsInside n head
-within_read n heads w k head inside is =
-    let P : Head → Type 0 = λ h. IsInside n h in
-    subst P (sym is) (within_at n heads w k head inside)
-
--- bytes behind a part don't change it
-cut_stays : (bytes more : List ℕ) (a b : ℕ) → a ≤ b → b ≤ length bytes → slice_range (bytes ++ more) a b ≡ slice_range bytes a b
-cut_stays bytes more a b ordered within =
-    let front : a ≤ length bytes = omega arith in
-    rw (drop-append-le a bytes more front) (take-append-le (b - a) (drop a bytes) more (omega (arith, length-drop {A = ℕ})))
-
--- bytes behind those of all parts change none of them
-cuts_stay : (bytes more : List ℕ) (heads : List Head) → AreWithin (length bytes) heads
-    → map (cut_of (bytes ++ more)) heads ≡ map (cut_of bytes) heads
-cuts_stay bytes more [] w = refl
-cuts_stay bytes more (h ∷ hs) w =
-    let cut = cut_stays bytes more h.start h.end w.0 w.1 in
-    rw (cut, cuts_stay bytes more hs w.2) refl
-
--- the bytes behind others, as a part
-cut_behind : (bytes more : List ℕ) → slice_range (bytes ++ more) (length bytes) (length bytes + length more) ≡ more
-cut_behind bytes more =
-    let none : drop (length bytes) bytes ≡ [] = drop_all (length bytes) bytes (omega arith) in
-    rw (drop-append-le (length bytes) bytes more (omega arith), none) (take_all (length bytes + length more - length bytes) more (omega arith))
-
--- one part more
-pub cuts_push : (bytes more : List ℕ) (n : ℕ) (heads : List Head) (head : Head) → AreWithin n heads → n ≤ length bytes
-    → head.start ≡ length bytes → head.end ≡ length bytes + length more
-    → map (cut_of (bytes ++ more)) (heads ++ head ∷ []) ≡ map (cut_of bytes) heads ++ record { to = head.to; bytes = more } ∷ []
-cuts_push bytes more n heads head inside short start end =
-    let w = within_more n (length bytes) heads inside short in
-    let last : cut_of (bytes ++ more) head ≡ record { to = head.to; bytes = more } =
-    rw (start, end) (ap (λ (bs : List ℕ). record { to = head.to; bytes = bs }) (cut_behind bytes more)) in
-    map-append (cut_of (bytes ++ more)) heads (head ∷ [])
-    ∙ ap (λ (ds : List Datagram). ds ++ cut_of (bytes ++ more) head ∷ []) (cuts_stay bytes more heads w)
-    ∙ ap (λ (d : Datagram). map (cut_of bytes) heads ++ d ∷ []) last
-
--- the datagram of a head
-pub slice_get-cuts : (bytes : List ℕ) (heads : List Head) (k : ℕ) (head : Head) → k < length heads → head ≡ get_or heads k head
-    → slice_get (map (cut_of bytes) heads) k ≡ Some (cut_of bytes head)
-slice_get-cuts bytes heads k head inside is =
-    let within : k < length (map (cut_of bytes) heads) = omega (arith, length-map heads (cut_of bytes)) in
-    slice_get-get_or (map (cut_of bytes) heads) k (cut_of bytes head) within
-    ∙ ap (λ (d : Datagram). Some d) (get_or-map (cut_of bytes) heads k head (cut_of bytes head) inside ∙ ap (cut_of bytes) (sym is))
+use Rattle.std.proofs.lemmas.List.{take_more}
+use Rattle.std.proofs.lemmas.List.Sums.{sum_by-append, sum_by-cons}
+use Rattle.std.proofs.lemmas.Option.{slice_get_within, get_or_from_slice_get}
+use Rattle.satip_base.specs.Output.{Datagram, datagram_bytes}
+use Rattle.satip_base.specs.Bundles.{Bundle, Bundled}
+use Rattle.satip_pump.specs.Bundles.{has_room}
 
 -- how much room there is
 pub record HasRoom (b : Bundle) : Type 0 where
@@ -94,7 +27,13 @@ room_of b is =
 
 -- nothing was appended
 pub bundled_none : (b : Bundle) → Bundled b [] b
-bundled_none b = record { datagrams_are = sym (append-nil b.datagrams); byte_spare = omega arith; count_spare = omega arith }
+bundled_none b = record {
+  datagrams_are = sym (append-nil b.datagrams);
+  byte_room = refl;
+  count_room = refl;
+  byte_spare = omega arith;
+  count_spare = omega arith;
+}
 
 pub bundled_then : (a b c : Bundle) (ds es : List Datagram) → Bundled a ds b → Bundled b es c → Bundled a (ds ++ es) c
 bundled_then a b c ds es first second =
@@ -102,6 +41,8 @@ bundled_then a b c ds es first second =
     let count : length (ds ++ es) ≡ length ds + length es = length-append ds es in
     record {
       datagrams_are = second.datagrams_are ∙ ap (λ (front : List Datagram). front ++ es) first.datagrams_are ∙ append_assoc a.datagrams ds es;
+      byte_room = second.byte_room ∙ first.byte_room;
+      count_room = second.count_room ∙ first.count_room;
       byte_spare = omega (arith, size, first.byte_spare, second.byte_spare);
       count_spare = omega (arith, count, first.count_spare, second.count_spare);
     }

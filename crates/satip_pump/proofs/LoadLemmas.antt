@@ -8,7 +8,8 @@ use Rattle.satip_plain.specs.declared.answers.Answer.{Answer}
 use Rattle.satip_plain.specs.declared.answers.Work.{Work}
 use Rattle.satip_plain.specs.declared.events.Event.{Event}
 use Rattle.satip_plain.specs.declared.events.Event.TheVariants.{Packet}
-use Rattle.satip_pump.specs.Bundles.{Bundle, has_room}
+use Rattle.satip_base.specs.Bundles.{Bundle}
+use Rattle.satip_pump.specs.Bundles.{has_room}
 use Rattle.satip_pump.specs.Loads.{Loaded, is_of, may_give, given_event, Gives, Took}
 use Rattle.satip_plain.specs.Pumping.{work_told}
 use Rattle.satip_plain.specs.Pumping.{rest_of}

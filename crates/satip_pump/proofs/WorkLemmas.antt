@@ -14,7 +14,8 @@ use Rattle.satip_world.specs.Deliveries.{Delivers}
 use Rattle.satip_world.specs.Outboxes.{Outbox, locked, unlocked}
 use Rattle.satip_world.proofs.DeliveryLemmas.{delivers_within, unsent_within}
 use Rattle.satip_pump.specs.Buffers.{Buffered}
-use Rattle.satip_pump.specs.Bundles.{Bundle, has_room}
+use Rattle.satip_base.specs.Bundles.{Bundle}
+use Rattle.satip_pump.specs.Bundles.{has_room}
 use Rattle.satip_pump.specs.Events.{Makes}
 use Rattle.satip_pump.specs.Loads.{Loaded, is_of, may_give, given_event, Gives, Took}
 use Rattle.satip_plain.specs.Pumping.{work_told}

@@ -2,7 +2,6 @@ pub mod Ends
 pub mod Events
 pub mod TickRuns
 pub mod Bundles
-pub mod BatchFields
 pub mod Buffers
 pub mod BufferFields
 pub mod PumpRuns

@@ -9,7 +9,8 @@ use Rattle.satip_plain.specs.declared.answers.Work.TheVariants.{Tune, Nothing, S
 use Rattle.satip_plain.specs.declared.events.Event.{Event}
 use Rattle.satip_plain.specs.declared.events.Event.TheVariants.{Packet}
 use Rattle.satip_pump.specs.Buffers.{Buffered}
-use Rattle.satip_pump.specs.Bundles.{Bundle, has_room}
+use Rattle.satip_base.specs.Bundles.{Bundle}
+use Rattle.satip_pump.specs.Bundles.{has_room}
 use Rattle.satip_plain.specs.Pumping.{work_told}
 
 -- a load: whose packets they are, what the last answer said, what is buffered with the packets that weren't taken, and

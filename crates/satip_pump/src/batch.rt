@@ -1,48 +1,35 @@
 //! The datagrams of a burst.
-ghost use Rattle.std.specs.Prelude.{◌≡◌, ◌+◌, ◌<◌, ◌≤◌, ◌++◌, true, [], ◌∷◌, length, vec_len, vec_capacity, IfOk, IsSomeAnd, slice_get, slice_range};
-ghost use Rattle.satip_base.specs.Output.{shown};
+ghost use Rattle.std.specs.Prelude.{◌≡◌, ◌<◌, ◌≤◌, true, [], ◌∷◌, length, IfOk, IsSomeAnd, slice_get};
+ghost use Rattle.satip_base.specs.Bundles.{Bundled};
 ghost use Rattle.satip_world.specs.Deliveries.{Delivers};
-ghost use Rattle.satip_pump.specs.Bundles.{empty_bundle, has_room, Bundled};
+ghost use Rattle.satip_pump.specs.Bundles.{empty_bundle, has_room};
 
-use satip_base::{Address, Out, Want};
+use satip_base::limits::{EVENT_BYTES, EVENT_DATAGRAMS};
+use satip_base::{Datagrams, Out, Want};
 use satip_world::Outlet;
 use std::alloc::Global;
 use std::marker::Model;
 
-const BYTES_ROOM: usize = 1310720;
+const BYTE_ROOM: usize = 1310720;
 
-const HEADS_ROOM: usize = 1024;
-
-// What the datagrams of one event take at most.
-const EVENT_BYTES: usize = 262144;
-
-const EVENT_HEADS: usize = 256;
+const COUNT_ROOM: usize = 1024;
 
 /// Datagrams that are sent later, with room for 1024 of them and for 1310720 bytes together. All
 /// memory is taken when it is made.
 #[derive(Drop)]
 pub struct Batch {
-    bytes: Vec<u8>,
-    heads: Vec<Head>,
-}
-
-// Where a datagram goes, and which of the bytes it has.
-#[derive(Clone, Copy, Debug, PartialEq, Eq)]
-struct Head {
-    to: Address,
-    start: usize,
-    end: usize,
+    datagrams: Datagrams,
 }
 
 impl Model for Batch {
-    ghost use Rattle.satip_pump.specs.Bundles.{Bundle};
-    ghost use Rattle.satip_pump.specs.BatchFields.{bundle_of, IsSound};
+    ghost use Rattle.std.specs.Prelude.{◌≡◌};
+    ghost use Rattle.satip_base.specs.Bundles.{Bundle};
 
     ghost Value = { Bundle };
 
-    ghost view = { bundle_of };
+    ghost view = { λ b. b.datagrams };
 
-    ghost invariant = { IsSound };
+    ghost invariant = { λ b. (b.datagrams.byte_room ≡ 1310720) × (b.datagrams.count_room ≡ 1024) };
 }
 
 impl Batch {
@@ -50,20 +37,16 @@ impl Batch {
     pub fn make(alloc: Global) -> Result<Batch, Want>
         ensures ok { IfOk result (λ batch. batch ≡ empty_bundle) }
     {
-        let (Ok(bytes), Ok(heads)) = (
-            Vec::with_capacity(alloc, BYTES_ROOM),
-            Vec::with_capacity(alloc, HEADS_ROOM),
-        ) else {
-            return Err(Want);
-        };
-        Ok(Batch { bytes, heads })
+        let datagrams = Datagrams::make(alloc, BYTE_ROOM, COUNT_ROOM)?;
+        Ok(Batch { datagrams })
     }
 
     /// Whether there is room for the datagrams of any event.
     pub fn has_room(&self) -> bool
         ensures room { result ≡ has_room self.now }
     {
-        self.bytes.len() <= BYTES_ROOM - EVENT_BYTES && self.heads.len() <= HEADS_ROOM - EVENT_HEADS
+        EVENT_BYTES <= self.datagrams.byte_spare()
+            && EVENT_DATAGRAMS <= self.datagrams.count_spare()
     }
 
     /// Appends the datagrams of an event.
@@ -85,20 +68,9 @@ impl Batch {
             (λ datagram. Bundled self.old (datagram ∷ []) self.new) }
     {
         match out.datagram(place) {
-            Some((to, bytes)) => self.push(to, bytes),
+            Some((to, bytes)) => self.datagrams.append(to, bytes),
             None => unreachable!(),
         }
-    }
-
-    fn push(&mut self, to: Address, bytes: &[u8])
-        requires count { 1 ≤ self.old.count_spare }
-        requires bytes { length bytes.now ≤ self.old.byte_spare }
-        ensures bundled { Bundled self.old (record { to = to; bytes = bytes.now } ∷ []) self.new }
-    {
-        let start = self.bytes.len();
-        append(&mut self.bytes, bytes);
-        let end = self.bytes.len();
-        self.heads.push_reserved(Head { to, start, end });
     }
 
     /// Sends the datagrams, in order. One that can't be sent is left out.
@@ -108,7 +80,7 @@ impl Batch {
         ensures delivers { Delivers O.tells (O.outbox outlet.old) (O.outbox outlet.new)
             self.now.datagrams }
     {
-        for place in 0..self.count() {
+        for place in 0..self.datagrams.count() {
             self.post_one(place, outlet);
         }
     }
@@ -121,7 +93,7 @@ impl Batch {
             (λ datagram. Delivers O.tells (O.outbox outlet.old) (O.outbox outlet.new)
             (datagram ∷ [])) }
     {
-        match self.datagram(place) {
+        match self.datagrams.datagram(place) {
             Some((to, bytes)) => {
                 outlet.send(to, bytes);
             }
@@ -129,48 +101,10 @@ impl Batch {
         }
     }
 
-    /// How many datagrams there are.
-    pub fn count(&self) -> usize
-        ensures count { result ≡ length self.now.datagrams }
-    {
-        self.heads.len()
-    }
-
-    /// The datagram at a place, from 0, and where it goes; `None` where `place` isn't below the
-    /// count.
-    pub fn datagram(&self, place: usize) -> Option<(Address, &[u8])>
-        ensures datagram { shown result ≡ slice_get self.now.datagrams place }
-    {
-        if place >= self.heads.len() {
-            return None;
-        }
-        let head = self.heads[place];
-        Some((head.to, part(&self.bytes, head)))
-    }
-
     /// Lets go of what it has.
     pub fn clear(&mut self)
         ensures empty { self.new ≡ empty_bundle }
     {
-        self.bytes.clear();
-        self.heads.clear();
+        self.datagrams.clear();
     }
-}
-
-// Appends within the memory that the list has.
-fn append(list: &mut Vec<u8>, bytes: &[u8])
-    requires room { vec_len list.old + length bytes.now ≤ vec_capacity list.old }
-    ensures items { list.new.items ≡ list.old.items ++ bytes.now }
-    ensures count { vec_len list.new ≡ vec_len list.old + length bytes.now }
-    ensures capacity { vec_capacity list.old ≤ vec_capacity list.new }
-{
-    list.extend_from_slice(bytes).unwrap();
-}
-
-fn part(bytes: &[u8], head: Head) -> &[u8]
-    requires ordered { head.start ≤ head.end }
-    requires within { head.end ≤ length bytes.now }
-    ensures part { result.now ≡ slice_range bytes.now head.start head.end }
-{
-    &bytes[head.start..head.end]
 }

@@ -1,6 +1,6 @@
 use Rattle.std.proofs.Common.{◌≡◌, refl, ap, rules}
 use Rattle.satip_world.proofs.DeliveryLemmas.{delivers_within}
-use Rattle.satip_pump.specs.Bundles.{Bundle}
+use Rattle.satip_base.specs.Bundles.{Bundle}
 use Rattle.satip_pump.specs.Loads.{Loaded}
 use Rattle.satip_pump.proofs.WorkLemmas.{given_is_of, gave_by, gave_fewer}
 use Rattle.satip_pump.proofs.works.give.Goals as goal

@@ -1,5 +1,5 @@
 use Rattle.std.proofs.Common.{take}
-use Rattle.satip_pump.specs.Bundles.{Bundled}
+use Rattle.satip_base.specs.Bundles.{Bundled}
 use Rattle.satip_pump.proofs.batch.Batch.append.Given as goal
 
 -- the datagrams so far were appended

@@ -5,5 +5,5 @@ use Rattle.satip_pump.proofs.batch.Batch.post_one.Goals as goal
 pub returns : goal.returns
 returns g c = record {
   held = posts_held _ _ _ _ _ _ c.send.ensures.posts ∙ c.requires.held;
-  delivers = rw (← c.in-Some.ensures.datagram) (delivers_one _ _ _ _ _ _ c.send.ensures.posts);
+  delivers = rw (← c.self.view_is, ← c.in-Some.ensures.datagram) (delivers_one _ _ _ _ _ _ c.send.ensures.posts);
 }

@@ -1,13 +1,13 @@
 -- Datagrams that lie one behind the other in one list of bytes.
 use Rattle.std.proofs.Common.{◌≡◌, ℕ, ◌+◌, ◌-◌, ◌<◌, ◌≤◌, List, [], ◌∷◌, ◌++◌, length, map, drop, get_or, set, slice_range, length-append, arith, refl, suc, zero, sym, ◌∙◌, ap, subst, Some}
 use Rattle.std.proofs.lemmas.Grind.{common_steps}
-use Rattle.std.proofs.lemmas.List.{take-append-le, drop-append-le, take_all, length-drop, length-map, get_or-map}
+use Rattle.std.proofs.lemmas.List.{take-append-le, drop-append-le, take_all, drop_all, length-drop, length-map, get_or-map, map-append}
 use Rattle.std.proofs.lemmas.Option.{slice_get-get_or}
 use Rattle.std.proofs.lemmas.List.Sums.{sum_by-cons}
 use Rattle.std.specs.Prelude.{slice_get}
-use Rattle.satip_base.specs.declared.out.Head.{Head}
+use Rattle.satip_base.specs.declared.datagrams.Head.{Head}
 use Rattle.satip_base.specs.Output.{Datagram, datagram_bytes, extended}
-use Rattle.satip_base.specs.OutFields.{Tiles, cut_of}
+use Rattle.satip_base.specs.DatagramFields.{Tiles, cut_of}
 
 -- parts that lie one behind the other end behind their start
 pub Tiles-le : (from to : ℕ) (heads : List Head) → Tiles from to heads → from ≤ to
@@ -64,11 +64,11 @@ Tiles-sum bytes from to (h ∷ hs) t within =
     let parts = sum_by-cons (λ (d : Datagram). length d.bytes) (cut_of bytes h) (map (cut_of bytes) hs) in
     omega (arith, t.0, t.1, rest, cut, parts)
 
--- an empty part at the end
-pub Tiles-push : (from to : ℕ) (heads : List Head) (head : Head) → Tiles from to heads → head.start ≡ to → head.end ≡ to
-    → Tiles from to (heads ++ head ∷ [])
-Tiles-push from to [] head t start end = (start ∙ sym t, omega (arith, t, end), end)
-Tiles-push from to (h ∷ hs) head t start end = (t.0, t.1, Tiles-push h.end to hs head t.2 start end)
+-- a part more at the end
+pub Tiles-push : (from to further : ℕ) (heads : List Head) (head : Head) → Tiles from to heads → head.start ≡ to → to ≤ head.end
+    → head.end ≡ further → Tiles from further (heads ++ head ∷ [])
+Tiles-push from to further [] head t start more end = (start ∙ sym t, omega (arith, t, more), end)
+Tiles-push from to further (h ∷ hs) head t start more end = (t.0, t.1, Tiles-push h.end to further hs head t.2 start more end)
 
 -- the last part, made longer
 pub Tiles-longer : (from to further : ℕ) (heads : List Head) (k : ℕ) (old head : Head) → Tiles from to heads → k + 1 ≡ length heads
@@ -88,6 +88,23 @@ cuts_stay bytes more from to (h ∷ hs) t within =
     let ends = Tiles-le h.end to hs t.2 in
     let cut = cut_stays bytes more h.start h.end (omega (arith, t.0, t.1)) (omega (arith, ends)) in
     rw (cut, cuts_stay bytes more h.end to hs t.2 within) refl
+
+-- the bytes behind others, as a part
+cut_behind : (bytes more : List ℕ) → slice_range (bytes ++ more) (length bytes) (length bytes + length more) ≡ more
+cut_behind bytes more =
+    let none : drop (length bytes) bytes ≡ [] = drop_all (length bytes) bytes (omega arith) in
+    rw (drop-append-le (length bytes) bytes more (omega arith), none) (take_all (length bytes + length more - length bytes) more (omega arith))
+
+-- one part more
+pub cuts_push : (bytes more : List ℕ) (from to : ℕ) (heads : List Head) (head : Head) → Tiles from to heads → to ≤ length bytes
+    → head.start ≡ length bytes → head.end ≡ length bytes + length more
+    → map (cut_of (bytes ++ more)) (heads ++ head ∷ []) ≡ map (cut_of bytes) heads ++ record { to = head.to; bytes = more } ∷ []
+cuts_push bytes more from to heads head t within start end =
+    let last : cut_of (bytes ++ more) head ≡ record { to = head.to; bytes = more } =
+    rw (start, end) (ap (λ (bs : List ℕ). record { to = head.to; bytes = bs }) (cut_behind bytes more)) in
+    map-append (cut_of (bytes ++ more)) heads (head ∷ [])
+    ∙ ap (λ (ds : List Datagram). ds ++ cut_of (bytes ++ more) head ∷ []) (cuts_stay bytes more from to heads t within)
+    ∙ ap (λ (d : Datagram). map (cut_of bytes) heads ++ d ∷ []) last
 
 -- bytes behind those of all parts, given to the last one
 pub cuts_extended : (bytes more : List ℕ) (from to : ℕ) (heads : List Head) (k : ℕ) (old head : Head) → Tiles from to heads
