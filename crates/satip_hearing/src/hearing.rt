@@ -41,6 +41,8 @@ pub fn next_asked<A: Asks>(framer: &mut Framer, piece: &mut Piece<'_>, request: 
         → Hears A.asked A.broken text before request.new framer.new piece.new result }
 
     ensures open { result ≢ Next.Last → framer.new.ended ≡ None }
+    ensures ended { result ≡ Next.Last → IsSome framer.new.ended }
+    ensures kept { result ≡ Next.Nothing → request.new ≡ request.old }
 
     // Each message takes some of the bytes that wait.
     ensures fewer { result ≡ Next.Asked

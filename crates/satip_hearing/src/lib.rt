@@ -5,7 +5,9 @@
 mod asking;
 mod hearing;
 mod pieces;
+mod rows;
 
 pub use asking::Asks;
 pub use hearing::{Next, next_asked};
 pub use pieces::Piece;
+pub use rows::worked_rows;

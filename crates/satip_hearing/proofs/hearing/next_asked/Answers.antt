@@ -23,6 +23,9 @@ returns-then-is_empty-clause-hears g c = λ text before first.
       none,
     )
 
+pub returns-then-is_empty-clause-kept : goal.returns-then-is_empty-clause-kept
+returns-then-is_empty-clause-kept g c = λ _. c.pieces.invariant.2
+
 pub pieces-smaller : goal.pieces-smaller
 pieces-smaller g c =
     turn_smaller c.pieces.framer.bytes c.give.new.framer.bytes _ c.pieces.piece _ c.give.ensures.kept c.in-More.ensures.shorter (c.in-More.ensures.room refl)
@@ -35,6 +38,7 @@ pieces-preserved g c = (
       still_first text ms c.give.new.framer.bytes c.next.new.self.bytes c.give.new.self
       (waits_same text ms _ _ c.give.ensures.kept (c.pieces.invariant.1 text ms leads))
       (c.in-More.ensures.told c.give.new.framer.bytes [] refl).1,
+  c.pieces.invariant.2,
 )
 
 pub returns-in-Bad-clause-hears : goal.returns-in-Bad-clause-hears

@@ -1,0 +1,33 @@
+//! Texts worked out by hand, as the contract of a function with an empty body.
+
+ghost use Rattle.std.specs.Prelude.{◌++◌, [], ◌∷◌, codes};
+ghost use Rattle.satip_frame.specs.declared.framing.Break.TheVariants.{Bad, TooLong};
+ghost use Rattle.satip_frame.specs.Held.{new_framer};
+ghost use Rattle.satip_hearing.specs.Asking.{AsksAll, AsksSoFar, Hears};
+ghost use Rattle.satip_hearing.specs.Rows.{bad, begun, options_1, too_long, whole};
+ghost use Rattle.satip_rtsp.specs.Asked.{asked, blank, broken};
+
+use crate::hearing::Next;
+
+/// What texts ask, and what is heard of one in two pieces.
+pub fn worked_rows()
+    // No text, a text without its last byte, a whole one, and both.
+    ensures nothing { AsksSoFar asked [] [] [] }
+    ensures begun { AsksSoFar asked begun [] begun }
+    ensures once { AsksSoFar asked whole (options_1 ∷ []) [] }
+    ensures once_and_begun { AsksSoFar asked (whole ++ begun) (options_1 ∷ []) begun }
+    ensures not_left { ¬ (AsksSoFar asked whole [] whole) }
+
+    // Nothing behind what is no message is heard.
+    ensures bad { AsksAll asked broken (bad ++ whole) (broken Bad ∷ []) }
+    ensures too_long { AsksAll asked broken (too_long ++ whole) (broken TooLong ∷ []) }
+    ensures whole_and_bad { AsksAll asked broken (whole ++ bad) (options_1 ∷ broken Bad ∷ []) }
+    ensures not_behind { ¬ (AsksAll asked broken (bad ++ whole) (broken Bad ∷ options_1 ∷ [])) }
+
+    // A piece that lacks the last byte, and the last byte.
+    ensures first_piece { Hears asked broken begun [] blank (record new_framer { bytes = begun })
+        [] Next.Nothing }
+    ensures second_piece { Hears asked broken whole [] options_1 new_framer [] Next.Asked }
+    ensures last { Hears asked broken (whole ++ bad) (options_1 ∷ []) (broken Bad) new_framer
+        [] Next.Last }
+{}
