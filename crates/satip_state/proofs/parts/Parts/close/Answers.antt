@@ -24,19 +24,22 @@ pub returns-then-not-seat-clause-answer : goal.returns-then-not-seat-clause-answ
 returns-then-not-seat-clause-answer c config st stands =
     let at : find (has_id c.args.id) c.args.self.now.table.seats ≡ Some c.in-Some.seat = search rules in
     let rtsp : c.in-Some.seat.session.http ≡ false = search rules in
-    sym (ap (λ (out : Outcome). out.answer) (close_gone st c.args.id (no_http config c.args.self.now st stands c.in-Some.ensures.table c.args.id c.in-Some.seat at rtsp)))
+    sym (ap (λ (out : Outcome). out.answer)
+    (close_gone st c.args.id (no_http config c.args.self.now st stands c.in-Some.ensures.table c.args.id c.in-Some.seat at rtsp)))
 
 pub returns-then-not-seat-clause-moved : goal.returns-then-not-seat-clause-moved
 returns-then-not-seat-clause-moved c config st stands =
     let at : find (has_id c.args.id) c.args.self.now.table.seats ≡ Some c.in-Some.seat = search rules in
     let rtsp : c.in-Some.seat.session.http ≡ false = search rules in
-    gone_moved config c.args.self.now c.args.out.now st stands _ (close_gone st c.args.id (no_http config c.args.self.now st stands c.in-Some.ensures.table c.args.id c.in-Some.seat at rtsp))
+    gone_moved config c.args.self.now c.args.out.now st stands _
+    (close_gone st c.args.id (no_http config c.args.self.now st stands c.in-Some.ensures.table c.args.id c.in-Some.seat at rtsp))
 
 pub returns-then-not-seat-clause-silent : goal.returns-then-not-seat-clause-silent
 returns-then-not-seat-clause-silent c config st stands =
     let at : find (has_id c.args.id) c.args.self.now.table.seats ≡ Some c.in-Some.seat = search rules in
     let rtsp : c.in-Some.seat.session.http ≡ false = search rules in
-    ap (λ (out : Outcome). out.sent) (close_gone st c.args.id (no_http config c.args.self.now st stands c.in-Some.ensures.table c.args.id c.in-Some.seat at rtsp))
+    ap (λ (out : Outcome). out.sent)
+    (close_gone st c.args.id (no_http config c.args.self.now st stands c.in-Some.ensures.table c.args.id c.in-Some.seat at rtsp))
 
 pub returns-clause-answer : goal.returns-clause-answer
 returns-clause-answer c config st stands =
@@ -50,11 +53,14 @@ returns-clause-moved c config st stands =
     let at : find (has_id c.args.id) c.args.self.now.table.seats ≡ Some c.in-Some.seat = search rules in
     let http : c.in-Some.seat.session.http ≡ true = search rules in
     let p = pulls config c.args.self.now st stands c.in-Some.ensures.table c.args.id c.in-Some.seat at http in
-    subst (λ (out : Outcome). Moved config c.end_session-lived.new.self c.args.out.now c.end_session-lived.new.out (record { state = out.state; sent = out.sent })) (sym (close_is config c.args.self.now st stands c.args.id c.in-Some.seat p)) (c.end_session-lived.ensures.moved config st stands)
+    subst (λ (out : Outcome). Moved config c.end_session-lived.new.self c.args.out.now c.end_session-lived.new.out
+    (record { state = out.state; sent = out.sent })) (sym (close_is config c.args.self.now st stands c.args.id c.in-Some.seat p))
+    (c.end_session-lived.ensures.moved config st stands)
 
 pub returns-clause-silent : goal.returns-clause-silent
 returns-clause-silent c config st stands =
     let at : find (has_id c.args.id) c.args.self.now.table.seats ≡ Some c.in-Some.seat = search rules in
     let http : c.in-Some.seat.session.http ≡ true = search rules in
     let p = pulls config c.args.self.now st stands c.in-Some.ensures.table c.args.id c.in-Some.seat at http in
-    ap (λ (out : Outcome). out.sent) (close_is config c.args.self.now st stands c.args.id c.in-Some.seat p) ∙ close_silent config c.args.self.now st stands c.args.id c.in-Some.seat p
+    ap (λ (out : Outcome). out.sent) (close_is config c.args.self.now st stands c.args.id c.in-Some.seat p)
+    ∙ close_silent config c.args.self.now st stands c.args.id c.in-Some.seat p

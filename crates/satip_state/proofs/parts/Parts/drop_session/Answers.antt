@@ -9,7 +9,8 @@ use Rattle.satip_state.proofs.parts.Parts.drop_session.Goals as goal
 pub returns-in_default-clause-ended : goal.returns-in_default-clause-ended
 returns-in_default-clause-ended c config st stands =
     let none : None ≡ find (has_id c.args.id) c.args.self.now.table.seats = search rules in
-    nobody_gone config c.args.self.now st stands c.in_default.ensures.table c.in_default.ensures.fronts c.args.id (sym (found_lives config c.args.self.now st stands c.args.id None none))
+    nobody_gone config c.args.self.now st stands c.in_default.ensures.table c.in_default.ensures.fronts c.args.id
+    (sym (found_lives config c.args.self.now st stands c.args.id None none))
 
 pub returns-in_default-clause-seats : goal.returns-in_default-clause-seats
 returns-in_default-clause-seats c =
@@ -24,7 +25,8 @@ returns-in_default-clause-fewer c lives =
 pub returns-clause-ended : goal.returns-clause-ended
 returns-clause-ended c config st stands =
     let found : find (has_id c.args.id) c.args.self.now.table.seats ≡ Some c.in-Some.seat = search rules in
-    seat_gone config c.args.self.now c.remove.new.self st stands c.in-Some.ensures.table c.in-Some.ensures.fronts c.args.id c.in-Some.seat found c.remove.ensures.removed
+    seat_gone config c.args.self.now c.remove.new.self st stands c.in-Some.ensures.table c.in-Some.ensures.fronts c.args.id c.in-Some.seat found
+    c.remove.ensures.removed
 
 pub returns-clause-fewer : goal.returns-clause-fewer
 returns-clause-fewer c lives =

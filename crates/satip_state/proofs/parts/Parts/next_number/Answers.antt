@@ -15,6 +15,7 @@ pub returns-in-Some : goal.returns-in-Some
 returns-in-Some c = record {
   number = λ cfg st stands.
       c.number_after.ensures.number
-      ∙ ap (λ (s : Option SenderState). kept_number s (Some c.in-Some.seat)) (c.state.ensures.state ∙ ap (λ (v : Kept). sender_in v (Some c.in-Some.seat)) c.self.view_is)
+      ∙ ap (λ (s : Option SenderState). kept_number s (Some c.in-Some.seat)) (c.state.ensures.state
+      ∙ ap (λ (v : Kept). sender_in v (Some c.in-Some.seat)) c.self.view_is)
       ∙ number_looked cfg c.args.self.now st c.args.id (Some c.in-Some.seat) stands c.in-Some.ensures.table c.in-Some.ensures.seat;
 }

@@ -25,7 +25,8 @@ returns-clause-moved c config st stands =
     } in
     let same : c.args.self.now ≡ inside = sym c.self.view_is in
     let current : c.is_current.result ≡ true = search rules in
-    current_moved config c.end_marked.new.self c.args.out.now c.packet-overrun.new.out st (is_current st c.args.front c.args.tune) (deliver c.args.front c.args.packet.now st)
+    current_moved config c.end_marked.new.self c.args.out.now c.packet-overrun.new.out st (is_current st c.args.front c.args.tune)
+    (deliver c.args.front c.args.packet.now st)
     (sym (c.is_current.ensures.current config st stands) ∙ current)
     (packet_moved config inside c.end_marked.new.self c.args.out.now c.packet-overrun.new.out st (subst (λ (v : Kept). StandsFor config v st) same stands)
     c.self.invariant.table c.self.invariant.fronts c.args.front c.args.packet.now
