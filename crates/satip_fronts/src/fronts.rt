@@ -48,6 +48,7 @@ impl Fronts {
         requires numbered { IsNumbered 1 fronts.items }
         requires received { vec_len muxes ≤ 256 }
         ensures free { result ≡ all_free fronts.items muxes.items }
+        ensures sound { Sound result }
     {
         let rows = new_rows(&fronts);
         let places = no_places();
@@ -58,13 +59,6 @@ impl Fronts {
             places,
             counts: [0; 16],
         }
-    }
-
-    /// Does nothing: tells a caller's proof what holds of the front ends at all times.
-    pub fn known(&self)
-        ensures sound { Sound self.now }
-    {
-        let _ = &self.rows;
     }
 
     /// What this front end is doing; None where no front end has that number.
@@ -123,6 +117,7 @@ impl Fronts {
         ensures none { is_some result ≡ not (blocked self.old stream tuning.now) }
         ensures moved { self.new ≡ taken self.old stream tuning.now }
         ensures unchanged { IfNone result (self.new ≡ self.old) }
+        ensures sound { Sound self.new }
     {
         let mux = mux_of(&self.muxes, tuning);
         match self.place_for(stream, mux, tuning) {
@@ -141,6 +136,7 @@ impl Fronts {
         requires from_one { 1 ≤ stream }
         requires to_64 { stream ≤ 64 }
         ensures left { self.new ≡ left self.old stream }
+        ensures sound { Sound self.new }
     {
         self.places[stream as usize - 1] = None;
         free_unserved(&mut self.rows, &self.places);
@@ -152,6 +148,7 @@ impl Fronts {
     pub fn end(&mut self, front: u16, tune: u64) -> bool
         ensures current { result ≡ is_current self.old front tune }
         ensures ended { self.new ≡ (if result then ended self.old front else self.old) }
+        ensures sound { Sound self.new }
     {
         let current = is_current_row(front, tune, &self.rows, &self.places);
         if current {

@@ -1,5 +1,6 @@
 -- The seated have slots and ids of their own.
-use Rattle.std.proofs.Common.{◌≡◌, ℕ, zero, suc, ◌<◌, ◌≤◌, ◌==◌, ◌&&◌, Bool, true, false, List, [], ◌∷◌, ◌++◌, length, map, Some, refl, sym, ap, subst, ◌∙◌, arith}
+use Rattle.std.proofs.Common.{◌≡◌, ℕ, zero, suc, ◌<◌, ◌≤◌, ◌==◌, ◌&&◌, Bool, true, false, List, [], ◌∷◌, ◌++◌, length, map, Some, refl, sym, ap, subst, ◌∙◌}
+use Rattle.std.proofs.Common.{arith}
 use Rattle.std.specs.List.{list_any, slice_get}
 use Rattle.std.proofs.lemmas.Bool.{or_from, and_left, and_parts, ne_eqb, eq-eqb, eqb-true, and_from}
 use Rattle.std.proofs.lemmas.Bool.Decides.{nat_tests}
@@ -45,7 +46,8 @@ abbrev pub Apart : List Seated → Type 0
 Apart [] = Unit {0}
 Apart (x ∷ xs) = (list_any (is_seat x.slot) xs ≡ false) × (list_any (has_session x.session.id) xs ≡ false) × Apart xs
 
-counts_above : (id : SessionId) (above last : ℕ) (xs : List Seated) → CountsRise above last (map seat_of xs) → id.count ≤ above → list_any (has_session id) xs ≡ false
+counts_above : (id : SessionId) (above last : ℕ) (xs : List Seated) → CountsRise above last (map seat_of xs) → id.count ≤ above
+    → list_any (has_session id) xs ≡ false
 unfolding row_of
 counts_above id above last [] rise below = refl
 counts_above id above last (x ∷ xs) rise below =

@@ -52,7 +52,8 @@ unfolding row_of
 row_told s t row = (ap (λ r. r.id) row, ap (λ r. r.http) row)
 
 -- whoever ends has a queue
-ender_http : (c : Config) (v : Kept) (st : State) (stands : StandsFor c v st) → Sound v.table → (packet : List ℕ) (ts : List Stream) (s : Session) → Has s st.sessions
+ender_http : (c : Config) (v : Kept) (st : State) (stands : StandsFor c v st) → Sound v.table → (packet : List ℕ) (ts : List Stream) (s : Session)
+    → Has s st.sessions
     → ends_by packet st ts s.id ≡ true → s.http ≡ true
 ender_http c v st stands sound packet ts s has ends =
     let r = has_get (sessions_of stands.seated) s (subst (λ ss. Has s ss) stands.sessions has) in
@@ -68,7 +69,8 @@ ender_http c v st stands sound packet ts s has ends =
 
 -- the marks of the flow are those of whoever ends
 marks_told : (c : Config) (v : Kept) (st : State) (stands : StandsFor c v st) → Sound v.table → (front : ℕ) (packet : List ℕ) (bits : ℕ)
-    → ((slot : ℕ) → bit_at bits slot ≡ cond (meets_in front packet v.flow slot) 1 0) → Each (IsMarked bits (ends_by packet st (served_by st front))) v.table.seats
+    → ((slot : ℕ) → bit_at bits slot ≡ cond (meets_in front packet v.flow slot) 1 0)
+    → Each (IsMarked bits (ends_by packet st (served_by st front))) v.table.seats
 marks_told c v st stands sound front packet bits law =
     each_has (IsMarked bits (ends_by packet st (served_by st front))) v.table.seats (λ seat has.
     let r = has_get v.table.seats seat has in
@@ -79,7 +81,8 @@ marks_told c v st stands sound front packet bits law =
     ∙ ap (λ i. cond (ends_by packet st (served_by st front) i) 1 0) (sym (id_at x.0))
     ∙ ap (λ (z : Seat). cond (ends_by packet st (served_by st front) z.session.id) 1 0) x.2)
 
-pub packet_moved : (c : Config) (v w : Kept) (o n : Output) (st : State) (stands : StandsFor c v st) → Sound v.table → FrontsSound v.fronts → (front : ℕ) (packet : List ℕ)
+pub packet_moved : (c : Config) (v w : Kept) (o n : Output) (st : State) (stands : StandsFor c v st) → Sound v.table → FrontsSound v.fronts
+    → (front : ℕ) (packet : List ℕ)
     → (flow : List Subscription) → flow ≡ map (fed_one front packet) v.flow → SendsAll o (flat_map (given_datagrams front packet v.clock) v.flow) n
     → (bits : ℕ) → ((slot : ℕ) → bit_at bits slot ≡ cond (meets_in front packet v.flow slot) 1 0)
     → ((st : State) (ends : SessionId → Bool) → EndedMarked c (record v { flow = flow }) st ends bits 0 → EndedMarked c w st ends bits 64)
@@ -94,7 +97,8 @@ packet_moved c v w o n st stands sound fronts front packet flow fed sends bits l
     let none : end_where (λ s. false) now ≡ record { state = now; sent = [] } =
     nobody_ends c (record v { flow = flow }) now given sound fronts (λ s. false) (none_false now.sessions) in
     let begun : EndedMarked c (record v { flow = flow }) now ends bits 0 =
-    nobody_yet c (record v { flow = flow }) now ends bits given (subst (λ (m : Move). StandsFor c (record v { flow = flow }) m.state) (sym none) given) (marks_told c v st stands sound front packet bits law) in
+    nobody_yet c (record v { flow = flow }) now ends bits given (subst (λ (m : Move). StandsFor c (record v { flow = flow }) m.state) (sym none) given)
+    (marks_told c v st stands sound front packet bits law) in
     let standing : StandsFor c w (end_where p now).state = all_marked c w now ends bits sound_after (ended now ends begun) in
     let quiet : (end_where p now).sent ≡ [] = quiet_ends p st.clock now.sessions (λ s has e.
     let r = has_map (give_one ts packet) st.sessions s has in
@@ -115,10 +119,12 @@ packet_moved c v w o n st stands sound fronts front packet flow fed sends bits l
     let moved : Moved c w o n (then_move (move_of now all) (end_where p)) = record { stands = standing; sent = subst (λ ds. SendsAll o ds n) sent sends } in
     subst (λ (m : Move). Moved c w o n (then_move m (end_where p))) (sym is) moved
 
-pub stale_moved : (c : Config) (v : Kept) (o : Output) (st : State) → StandsFor c v st → (current : Bool) (m : Move) → current ≡ false → Moved c v o o (cond current m (settle st))
+pub stale_moved : (c : Config) (v : Kept) (o : Output) (st : State) → StandsFor c v st → (current : Bool) (m : Move) → current ≡ false
+    → Moved c v o o (cond current m (settle st))
 stale_moved c v o st stands true m e = absurd (cc)
 stale_moved c v o st stands false m e = record { stands = stands; sent = nothing_sent o }
 
-pub current_moved : (c : Config) (w : Kept) (o n : Output) (st : State) (current : Bool) (m : Move) → current ≡ true → Moved c w o n m → Moved c w o n (cond current m (settle st))
+pub current_moved : (c : Config) (w : Kept) (o n : Output) (st : State) (current : Bool) (m : Move) → current ≡ true → Moved c w o n m
+    → Moved c w o n (cond current m (settle st))
 current_moved c w o n st true m e moved = moved
 current_moved c w o n st false m e moved = absurd (cc)

@@ -1,5 +1,6 @@
 -- A packet of a front end goes through the flow as it does through the plain server.
-use Rattle.std.proofs.Common.{◌≡◌, ℕ, ◌+◌, ◌<◌, ◌==◌, ◌&&◌, ◌||◌, Bool, true, false, cond, List, [], ◌∷◌, ◌++◌, map, filter, Option, Some, None, refl, sym, ap, subst, ◌∙◌, arith, inl, inr, append-nil, append_assoc}
+use Rattle.std.proofs.Common.{◌≡◌, ℕ, ◌+◌, ◌<◌, ◌==◌, ◌&&◌, ◌||◌, Bool, true, false, cond, List, [], ◌∷◌, ◌++◌, map, filter, Option, Some, None, refl, sym}
+use Rattle.std.proofs.Common.{ap, subst, ◌∙◌, arith, inl, inr, append-nil, append_assoc}
 use Rattle.std.specs.List.{list_any, filter_map, flat_map, cons_option}
 use Rattle.std.specs.Option.{option_map}
 use Rattle.std.proofs.lemmas.Bool.{or_parts, and_parts, eqb-true, ne_eqb}
@@ -60,7 +61,8 @@ module _ {X : Type 0} where
   any_filter p q [] = refl
   any_filter p q (x ∷ xs) = by (p x) (any_filter p q xs)
     where
-      by : (b : Bool) → list_any q (filter p xs) ≡ list_any (λ y. p y && q y) xs → list_any q (cond b (x ∷ filter p xs) (filter p xs)) ≡ ((b && q x) || list_any (λ y. p y && q y) xs)
+      by : (b : Bool) → list_any q (filter p xs) ≡ list_any (λ y. p y && q y) xs
+          → list_any q (cond b (x ∷ filter p xs) (filter p xs)) ≡ ((b && q x) || list_any (λ y. p y && q y) xs)
       by true rest = ap (λ c. q x || c) rest
       by false rest = rest
 
@@ -73,7 +75,8 @@ module _ {X : Type 0} where
   any_flat p f (y ∷ ys) = any_both p (f y) (flat_map f ys) ∙ ap (λ b. list_any p (f y) || b) (any_flat p f ys)
 
   -- a test of one who alone passes another
-  pub any_alone : (p r : X → Bool) (a : List X) (x : X) (b : List X) → list_any p a ≡ false → p x ≡ true → list_any p b ≡ false → list_any (λ y. r y && p y) (a ++ x ∷ b) ≡ r x
+  pub any_alone : (p r : X → Bool) (a : List X) (x : X) (b : List X) → list_any p a ≡ false → p x ≡ true → list_any p b ≡ false
+      → list_any (λ y. r y && p y) (a ++ x ∷ b) ≡ r x
   any_alone p r a x b before here behind =
       any_both (λ y. r y && p y) a (x ∷ b)
       ∙ ap (λ c. c || ((r x && p x) || list_any (λ y. r y && p y) b)) (none a before)
@@ -107,7 +110,8 @@ module _ {X : Type 0} where
       shared false b c = refl
 
 -- the one stream of a session decides
-pub one_stream : (p : Stream → Bool) (n above : ℕ) (ts : List Stream) (t : Stream) → Rising above ts → Has t ts → n ≡ t.number → ((u : Stream) → (n == u.number) ≡ false → p u ≡ false) → list_any p ts ≡ p t
+pub one_stream : (p : Stream → Bool) (n above : ℕ) (ts : List Stream) (t : Stream) → Rising above ts → Has t ts → n ≡ t.number
+    → ((u : Stream) → (n == u.number) ≡ false → p u ≡ false) → list_any p ts ≡ p t
 one_stream p n above [] t rise has at only = absurd has
 one_stream p n above (u ∷ us) t rise (inl same) at only =
     ap (λ b. p u || b) (later us u.number rise.1 (at ∙ ap (λ (z : Stream). z.number) same)) ∙ or_nothing (p u) ∙ ap p (sym same)
@@ -124,7 +128,8 @@ one_stream p n above (u ∷ us) t rise (inl same) at only =
     later : (vs : List Stream) (low : ℕ) → Rising low vs → n ≡ low → list_any p vs ≡ false
     later vs low r e = beyond vs low r (omega (arith, e))
 one_stream p n above (u ∷ us) t rise (inr has) at only =
-    ap (λ b. b || list_any p us) (only u (ne_eqb n u.number (λ e. differ us u.number rise.1 has (at ∙ refl) e))) ∙ one_stream p n u.number us t rise.1 has at only
+    ap (λ b. b || list_any p us) (only u (ne_eqb n u.number (λ e. differ us u.number rise.1 has (at ∙ refl) e)))
+    ∙ one_stream p n u.number us t rise.1 has at only
   where
     higher : (vs : List Stream) (low : ℕ) → Rising low vs → Has t vs → low < t.number
     higher [] low r h = absurd h
@@ -155,11 +160,14 @@ stands_same front None = refl
 stands_same front (Some f) = refl
 
 -- a session's subscription is given the packet as the session is
-give_listed : (front : ℕ) (packet : List ℕ) (above : ℕ) (ts : List Stream) → Rising above ts → (t : Stream) → Has t ts → (x : Seated) → IsKept x.session → (x.session.stream == t.number) ≡ true
+give_listed : (front : ℕ) (packet : List ℕ) (above : ℕ) (ts : List Stream) → Rising above ts → (t : Stream) → Has t ts → (x : Seated) → IsKept x.session
+    → (x.session.stream == t.number) ≡ true
     → option_map (fed_one front packet) (subscriber t x) ≡ subscriber t (give_seat (filter (at_front front) ts) packet x)
 give_listed front packet above ts rise t has x kept same =
     map_listed (fed_one front packet) t x
-    ∙ ap (λ b. cond x.session.playing (Some (cond (b && has_pid t.pids (pid_of packet)) (listed t x (fed packet (feed_of x.session))) (listed t x (feed_of x.session)))) None) (stands_same front t.front)
+    ∙ ap (λ b. cond x.session.playing
+    (Some (cond (b && has_pid t.pids (pid_of packet)) (listed t x (fed packet (feed_of x.session))) (listed t x (feed_of x.session)))) None)
+    (stands_same front t.front)
     ∙ playing x.session.playing refl (at_front front t) (has_pid t.pids (pid_of packet))
     (picked_is front packet x.session above ts t rise has (eqb-true x.session.stream t.number same)
     ∙ ap (λ b. at_front front t && (b && x.session.playing && has_pid t.pids (pid_of packet))) same)
@@ -190,7 +198,8 @@ give_listed front packet above ts rise t has x kept same =
     idle : x.session.playing ≡ false → (o : Option Subscription) → subscriber t y ≡ None
     idle e o = sym (listed_same t x y (feed_of y.session) refl row refl) ∙ ap (λ p. cond p (Some (listed t x (feed_of y.session))) None) e
 
-    playing : (p : Bool) → x.session.playing ≡ p → (a h : Bool) → picked_by (filter (at_front front) ts) packet x.session ≡ (a && (true && x.session.playing && h))
+    playing : (p : Bool) → x.session.playing ≡ p → (a h : Bool)
+        → picked_by (filter (at_front front) ts) packet x.session ≡ (a && (true && x.session.playing && h))
         → cond x.session.playing (Some (cond (a && h) (listed t x (fed packet (feed_of x.session))) (listed t x (feed_of x.session)))) None ≡ subscriber t y
     playing true e a h picked = chosen a h (picked ∙ plays_it x.session.playing a h e)
     playing false e a h picked =
@@ -228,9 +237,11 @@ one_sends false p true h ds sends same = refl
 one_sends false p false h ds sends same = refl
 
 flat_cons : (front : ℕ) (packet : List ℕ) (clock : ℕ) (o : Option Subscription) (ss : List Subscription)
-    → flat_map (given_datagrams front packet clock) (cons_option o ss) ≡ flat_map (given_datagrams front packet clock) (cons_option o []) ++ flat_map (given_datagrams front packet clock) ss
+    → flat_map (given_datagrams front packet clock) (cons_option o ss) ≡ flat_map (given_datagrams front packet clock) (cons_option o [])
+    ++ flat_map (given_datagrams front packet clock) ss
 flat_cons front packet clock None ss = refl
-flat_cons front packet clock (Some s) ss = ap (λ ds. ds ++ flat_map (given_datagrams front packet clock) ss) (sym (append-nil (given_datagrams front packet clock s)))
+flat_cons front packet clock (Some s) ss =
+    ap (λ ds. ds ++ flat_map (given_datagrams front packet clock) ss) (sym (append-nil (given_datagrams front packet clock s)))
 
 seat_sends : (front : ℕ) (packet : List ℕ) (clock : ℕ) (t : Stream) (x : Seated) → IsKept x.session
     → cond (x.session.stream == t.number) (flat_map (given_datagrams front packet clock) (cons_option (subscriber t x) [])) []
@@ -238,8 +249,11 @@ seat_sends : (front : ℕ) (packet : List ℕ) (clock : ℕ) (t : Stream) (x : S
 seat_sends front packet clock t x kept =
     ap (λ o. cond (x.session.stream == t.number) (flat_map (given_datagrams front packet clock) (cons_option o [])) []) (subscriber_is t x)
     ∙ ap (λ ds. cond (x.session.stream == t.number) ds []) (opened x.session.playing)
-    ∙ ap (λ b. cond (x.session.stream == t.number) (cond x.session.playing (cond (b && has_pid t.pids (pid_of packet)) (fed_datagrams packet clock (feed_of x.session)) [] ++ []) []) []) (stands_same front t.front)
-    ∙ one_sends (x.session.stream == t.number) x.session.playing (at_front front t) (has_pid t.pids (pid_of packet)) (fed_datagrams packet clock (feed_of x.session)) (given clock packet x.session).sends
+    ∙ ap (λ b. cond (x.session.stream == t.number)
+    (cond x.session.playing (cond (b && has_pid t.pids (pid_of packet)) (fed_datagrams packet clock (feed_of x.session)) [] ++ []) []) [])
+    (stands_same front t.front)
+    ∙ one_sends (x.session.stream == t.number) x.session.playing (at_front front t) (has_pid t.pids (pid_of packet))
+    (fed_datagrams packet clock (feed_of x.session)) (given clock packet x.session).sends
     (take_sends clock packet x.session kept)
   where
     opened : (p : Bool) → flat_map (given_datagrams front packet clock) (cons_option (cond p (Some (listed t x (feed_of x.session))) None) [])
@@ -248,7 +262,8 @@ seat_sends front packet clock t x kept =
     opened false = refl
 
 stream_datagrams : (front : ℕ) (packet : List ℕ) (clock : ℕ) (t : Stream) (xs : List Seated) → Each IsKept (sessions_of xs)
-    → flat_map (given_datagrams front packet clock) (filter_map (subscriber t) (seated_in t xs)) ≡ cond (at_front front t) (map datagram (stream_sends clock packet (sessions_of xs) t)) []
+    → flat_map (given_datagrams front packet clock) (filter_map (subscriber t) (seated_in t xs)) ≡ cond (at_front front t)
+    (map datagram (stream_sends clock packet (sessions_of xs) t)) []
 stream_datagrams front packet clock t [] kept = nothing (at_front front t)
   where
     nothing : (a : Bool) → ◌≡◌ {A = List Datagram} [] (cond a [] [])
@@ -257,11 +272,13 @@ stream_datagrams front packet clock t [] kept = nothing (at_front front t)
 stream_datagrams front packet clock t (x ∷ xs) kept =
     split (x.session.stream == t.number)
     ∙ ap (λ ds. ds ++ flat_map (given_datagrams front packet clock) (filter_map (subscriber t) (seated_in t xs))) (seat_sends front packet clock t x kept.0)
-    ∙ ap (λ ds. cond (at_front front t) (map datagram (cond (picks t packet x.session) (given clock packet x.session).sends [])) [] ++ ds) (stream_datagrams front packet clock t xs kept.1)
+    ∙ ap (λ ds. cond (at_front front t) (map datagram (cond (picks t packet x.session) (given clock packet x.session).sends [])) [] ++ ds)
+    (stream_datagrams front packet clock t xs kept.1)
     ∙ joined (at_front front t) (cond (picks t packet x.session) (given clock packet x.session).sends []) (stream_sends clock packet (sessions_of xs) t)
   where
     split : (b : Bool) → flat_map (given_datagrams front packet clock) (filter_map (subscriber t) (cond b (x ∷ seated_in t xs) (seated_in t xs)))
-        ≡ cond b (flat_map (given_datagrams front packet clock) (cons_option (subscriber t x) [])) [] ++ flat_map (given_datagrams front packet clock) (filter_map (subscriber t) (seated_in t xs))
+        ≡ cond b (flat_map (given_datagrams front packet clock) (cons_option (subscriber t x) [])) []
+        ++ flat_map (given_datagrams front packet clock) (filter_map (subscriber t) (seated_in t xs))
     split true = flat_cons front packet clock (subscriber t x) (filter_map (subscriber t) (seated_in t xs))
     split false = refl
 
@@ -270,19 +287,23 @@ stream_datagrams front packet clock t (x ∷ xs) kept =
     joined false one more = refl
 
 flat_both : (front : ℕ) (packet : List ℕ) (clock : ℕ) (xs ys : List Subscription)
-    → flat_map (given_datagrams front packet clock) (xs ++ ys) ≡ flat_map (given_datagrams front packet clock) xs ++ flat_map (given_datagrams front packet clock) ys
+    → flat_map (given_datagrams front packet clock) (xs ++ ys) ≡ flat_map (given_datagrams front packet clock) xs
+    ++ flat_map (given_datagrams front packet clock) ys
 flat_both front packet clock [] ys = refl
 flat_both front packet clock (x ∷ xs) ys =
     ap (λ ds. given_datagrams front packet clock x ++ ds) (flat_both front packet clock xs ys)
-    ∙ sym (append_assoc (given_datagrams front packet clock x) (flat_map (given_datagrams front packet clock) xs) (flat_map (given_datagrams front packet clock) ys))
+    ∙ sym (append_assoc (given_datagrams front packet clock x) (flat_map (given_datagrams front packet clock) xs)
+    (flat_map (given_datagrams front packet clock) ys))
 
 pub flow_sends : (front : ℕ) (packet : List ℕ) (clock : ℕ) (xs : List Seated) (ts : List Stream) → Each IsKept (sessions_of xs)
-    → flat_map (given_datagrams front packet clock) (subscribers xs ts) ≡ map datagram (flat_map (stream_sends clock packet (sessions_of xs)) (filter (at_front front) ts))
+    → flat_map (given_datagrams front packet clock) (subscribers xs ts) ≡ map datagram
+    (flat_map (stream_sends clock packet (sessions_of xs)) (filter (at_front front) ts))
 unfolding subscribers
 flow_sends front packet clock xs [] kept = refl
 flow_sends front packet clock xs (t ∷ ts) kept =
     flat_both front packet clock (filter_map (subscriber t) (seated_in t xs)) (flat_map (λ u. filter_map (subscriber u) (seated_in u xs)) ts)
-    ∙ ap (λ ds. ds ++ flat_map (given_datagrams front packet clock) (flat_map (λ u. filter_map (subscriber u) (seated_in u xs)) ts)) (stream_datagrams front packet clock t xs kept)
+    ∙ ap (λ ds. ds ++ flat_map (given_datagrams front packet clock) (flat_map (λ u. filter_map (subscriber u) (seated_in u xs)) ts))
+    (stream_datagrams front packet clock t xs kept)
     ∙ ap (λ ds. cond (at_front front t) (map datagram (stream_sends clock packet (sessions_of xs) t)) [] ++ ds) (flow_sends front packet clock xs ts kept)
     ∙ joined (at_front front t) (filter (at_front front) ts)
   where

@@ -1,5 +1,6 @@
 -- What the parts stand for once a session ended.
-use Rattle.std.proofs.Common.{◌≡◌, ℕ, ◌-◌, ◌==◌, ◌<◌, ◌≤◌, not, Bool, true, false, cond, List, [], ◌∷◌, ◌++◌, length, map, filter, find, set, Option, Some, None, refl, sym, ap, subst, ◌∙◌, arith, inl, inr, option_and_then, append-nil}
+use Rattle.std.proofs.Common.{◌≡◌, ℕ, ◌-◌, ◌==◌, ◌<◌, ◌≤◌, not, Bool, true, false, cond, List, [], ◌∷◌, ◌++◌, length, map, filter, find, set, Option, Some}
+use Rattle.std.proofs.Common.{None, refl, sym, ap, subst, ◌∙◌, arith, inl, inr, option_and_then, append-nil}
 use Rattle.std.specs.List.{list_any, slice_get, filter_map, flat_map, cons_option}
 use Rattle.std.specs.Option.{option_map, option_flatten}
 use Rattle.std.proofs.lemmas.Bool.{or_parts, eqb-true, eqb-false}
@@ -30,7 +31,8 @@ use Rattle.satip_state.proofs.Feeds.{feed_sends, queue_sends, idle_sends}
 use Rattle.satip_state.proofs.Apart.{Alone, has_session, slot_itself, id_itself}
 use Rattle.satip_state.proofs.Listed.{listed, subscriber_is, subscribers_find, subscribers_without}
 use Rattle.satip_state.proofs.Mapped.{sessions_of}
-use Rattle.satip_state.proofs.Swept.{any_place, find_kept, filter_all, each_filter, find_skip, any_skip, any_neither, get_set_same, get_set_other, get_within, filter-map, Rising, rising_of, AtPlaces, served_same, freed_same}
+use Rattle.satip_state.proofs.Swept.{any_place, find_kept, filter_all, each_filter, find_skip, any_skip, any_neither, get_set_same, get_set_other, get_within}
+use Rattle.satip_state.proofs.Swept.{filter-map, Rising, rising_of, AtPlaces, served_same, freed_same}
 
 -- whether a stream has one of these sessions
 abbrev pub lasting : List Session → Stream → Bool
@@ -47,13 +49,15 @@ owned_in seats row = refl
 
 owned_all : (seats : List Seat) (rows : List StreamRow) → map stream_in (map (re_owned seats) rows) ≡ map stream_in rows
 owned_all seats [] = refl
-owned_all seats (row ∷ rows) = ap (λ t. t ∷ map stream_in (map (re_owned seats) rows)) (owned_in seats row) ∙ ap (λ ts. stream_in row ∷ ts) (owned_all seats rows)
+owned_all seats (row ∷ rows) = ap (λ t. t ∷ map stream_in (map (re_owned seats) rows)) (owned_in seats row)
+    ∙ ap (λ ts. stream_in row ∷ ts) (owned_all seats rows)
 
 filter_same : {X : Type 0} (p q : X → Bool) (xs : List X) → ((x : X) → p x ≡ q x) → filter p xs ≡ filter q xs
 filter_same p q [] same = refl
 filter_same p q (x ∷ xs) same = ap (λ b. cond b (x ∷ filter p xs) (filter p xs)) (same x) ∙ ap (λ ys. cond (q x) (x ∷ ys) ys) (filter_same p q xs same)
 
-pub kept_in : (xs : List Seated) (rows : List StreamRow) → map stream_in (kept_streams (map seat_of xs) rows) ≡ filter (lasting (sessions_of xs)) (map stream_in rows)
+pub kept_in : (xs : List Seated) (rows : List StreamRow)
+    → map stream_in (kept_streams (map seat_of xs) rows) ≡ filter (lasting (sessions_of xs)) (map stream_in rows)
 unfolding kept_streams
 kept_in xs rows =
     owned_all (map seat_of xs) (filter (lasts (map seat_of xs)) rows)
@@ -84,7 +88,8 @@ rising c v st stands sound = subst (Rising 0) stands.streams (rising_of 0 v.tabl
 streams_last : (c : Config) (v : Kept) (st : State) (stands : StandsFor c v st) → Sound v.table → filter (lasting st.sessions) st.streams ≡ st.streams
 streams_last c v st stands sound =
     filter_all (lasting st.sessions) st.streams (λ t has.
-    ap (λ ss. lasting ss t) stands.sessions ∙ any-map (λ (x : Seated). x.session) (λ s. s.stream == t.number) stands.seated ∙ stream_used c v st stands sound t has)
+    ap (λ ss. lasting ss t) stands.sessions ∙ any-map (λ (x : Seated). x.session) (λ s. s.stream == t.number) stands.seated
+    ∙ stream_used c v st stands sound t has)
 
 rows_free : (c : Config) (v : Kept) (st : State) (stands : StandsFor c v st) → Sound v.table → FrontsSound v.fronts
     → change_where (λ r. not (list_any (λ (t : Stream). is_at t.front r.number) st.streams)) freed st.rows ≡ st.rows
@@ -97,7 +102,8 @@ rows_free c v st stands sound fronts =
 state_is : (st : State) (ss : List Session) (ts : List Stream) (rows : List Row) → ss ≡ st.sessions → ts ≡ st.streams → rows ≡ st.rows
     → ◌≡◌ {A = State} (record { clock = st.clock; made = st.made; stopped = st.stopped; sessions = ss; streams = ts; rows = rows }) st
 state_is st ss ts rows sessions streams same =
-    let make : List Session → List Stream → List Row → State = λ a b d. record { clock = st.clock; made = st.made; stopped = st.stopped; sessions = a; streams = b; rows = d } in
+    let make : List Session → List Stream → List Row → State =
+    λ a b d. record { clock = st.clock; made = st.made; stopped = st.stopped; sessions = a; streams = b; rows = d } in
     ap (λ a. make a ts rows) sessions ∙ ap (λ b. make st.sessions b rows) streams ∙ ap (make st.sessions st.streams) same
 
 pub swept_same : (c : Config) (v : Kept) (st : State) → StandsFor c v st → Sound v.table → FrontsSound v.fronts → sweep st ≡ st
@@ -124,7 +130,8 @@ nothing_ends : (p : Session → Bool) (clock : ℕ) (ss : List Session) → list
 nothing_ends p clock [] none = refl
 nothing_ends p clock (s ∷ ss) none =
     let parts = or_parts (p s) (list_any p ss) none in
-    ap (λ b. (cond b (part clock s) (record { sends = []; after = Some s })).sends ++ flat_map (λ x. (ending p clock x).sends) ss) parts.0 ∙ nothing_ends p clock ss parts.1
+    ap (λ b. (cond b (part clock s) (record { sends = []; after = Some s })).sends ++ flat_map (λ x. (ending p clock x).sends) ss) parts.0
+    ∙ nothing_ends p clock ss parts.1
 
 pub one_ends : (p : Session → Bool) (clock : ℕ) (a : List Session) (s : Session) (b : List Session) → list_any p a ≡ false → p s ≡ true → list_any p b ≡ false
     → flat_map (λ x. (ending p clock x).sends) (a ++ s ∷ b) ≡ (part clock s).sends
@@ -147,10 +154,12 @@ abbrev pub move_of : State → List Sent → Move
 move_of now ds = record { state = now; sent = ds }
 
 -- nobody ends
-pub nobody_ends : (c : Config) (v : Kept) (st : State) → StandsFor c v st → Sound v.table → FrontsSound v.fronts → (p : Session → Bool) → list_any p st.sessions ≡ false
+pub nobody_ends : (c : Config) (v : Kept) (st : State) → StandsFor c v st → Sound v.table → FrontsSound v.fronts → (p : Session → Bool)
+    → list_any p st.sessions ≡ false
     → end_where p st ≡ record { state = st; sent = [] }
 nobody_ends c v st stands sound fronts p none =
-    let stay : filter_map (λ s. (ending p st.clock s).after) st.sessions ≡ st.sessions = ended_sessions p st.clock st.sessions ∙ filter_lacks p st.sessions none in
+    let stay : filter_map (λ s. (ending p st.clock s).after) st.sessions ≡ st.sessions = ended_sessions p st.clock st.sessions
+    ∙ filter_lacks p st.sessions none in
     ap (λ (ss : List Session). move_of (sweep (record st { sessions = ss })) (flat_map (λ s. (ending p st.clock s).sends) st.sessions)) stay
     ∙ ap (λ (now : State). move_of now (flat_map (λ s. (ending p st.clock s).sends) st.sessions)) (swept_same c v st stands sound fronts)
     ∙ ap (λ (ds : List Sent). move_of st ds) (nothing_ends p st.clock st.sessions none)
@@ -166,7 +175,9 @@ dues_left c v st stands x alone n below = by (x.slot == n) refl
         let its : slice_get v.dues x.slot ≡ Some (due_of v.timeout stands.seated x.slot) = stands.dues x.slot (subst (λ m. m < 64) (sym same) below) in
         ap (slice_get (set v.dues x.slot None)) (sym same)
         ∙ get_set_same v.dues x.slot (due_of v.timeout stands.seated x.slot) None its
-        ∙ ap (λ o. Some (option_map (end_of v.timeout) o)) (sym (find_none (is_seat x.slot) (alone.before ++ alone.behind) (any_neither (is_seat x.slot) alone.before alone.behind alone.slot_before alone.slot_behind)))
+        ∙ ap (λ o. Some (option_map (end_of v.timeout) o))
+        (sym (find_none (is_seat x.slot) (alone.before ++ alone.behind)
+        (any_neither (is_seat x.slot) alone.before alone.behind alone.slot_before alone.slot_behind)))
         ∙ ap (λ m. Some (due_of v.timeout (alone.before ++ alone.behind) m)) same
     by false e =
         get_set_other v.dues x.slot n None (λ same. eqb-false x.slot n e (sym same))
@@ -175,17 +186,20 @@ dues_left c v st stands x alone n below = by (x.slot == n) refl
         ∙ ap (λ o. Some (option_map (end_of v.timeout) o)) (find_skip (is_seat n) alone.before x alone.behind e)
 
 -- the streams that last are those of others
-others_last : (c : Config) (v : Kept) (st : State) (stands : StandsFor c v st) → Sound v.table → (x : Seated) (alone : Alone stands.seated x) (t : Stream) → Has t st.streams
+others_last : (c : Config) (v : Kept) (st : State) (stands : StandsFor c v st) → Sound v.table → (x : Seated) (alone : Alone stands.seated x) (t : Stream)
+    → Has t st.streams
     → (x.session.stream == t.number) ≡ false → lasting (sessions_of (alone.before ++ alone.behind)) t ≡ true
 others_last c v st stands sound x alone t has differ =
     any-map (λ (y : Seated). y.session) (λ s. s.stream == t.number) (alone.before ++ alone.behind)
-    ∙ sym (ap (list_any (λ (y : Seated). y.session.stream == t.number)) alone.whole ∙ any_skip (λ (y : Seated). y.session.stream == t.number) alone.before x alone.behind differ)
+    ∙ sym (ap (list_any (λ (y : Seated). y.session.stream == t.number)) alone.whole
+    ∙ any_skip (λ (y : Seated). y.session.stream == t.number) alone.before x alone.behind differ)
     ∙ stream_used c v st stands sound t has
 
 -- which front end each stream is at, once one session ended
 find_last : (c : Config) (v : Kept) (st : State) (stands : StandsFor c v st) → Sound v.table → (x : Seated) (alone : Alone stands.seated x) (n : ℕ)
     → (x.session.stream == n) ≡ false
-    → find (λ (t : Stream). t.number == n) (filter (lasting (sessions_of (alone.before ++ alone.behind))) st.streams) ≡ find (λ (t : Stream). t.number == n) st.streams
+    → find (λ (t : Stream). t.number == n) (filter (lasting (sessions_of (alone.before ++ alone.behind))) st.streams) ≡ find
+    (λ (t : Stream). t.number == n) st.streams
 find_last c v st stands sound x alone n differ =
     find_kept (λ (t : Stream). t.number == n) (lasting (sessions_of (alone.before ++ alone.behind))) st.streams
     (λ t has e. others_last c v st stands sound x alone t has (ap (λ m. x.session.stream == m) (eqb-true t.number n e) ∙ differ))
@@ -211,7 +225,8 @@ left_elsewhere : (places : List (Option ℕ)) (m n : ℕ) → 1 ≤ m → (m == 
 unfolding front_of
 left_elsewhere places m n low differ = by (n == 0) refl
   where
-    by : (b : Bool) → (n == 0) ≡ b → cond b None (option_flatten (slice_get (set places (m - 1) None) (n - 1))) ≡ cond b None (option_flatten (slice_get places (n - 1)))
+    by : (b : Bool) → (n == 0) ≡ b → cond b None (option_flatten (slice_get (set places (m - 1) None) (n - 1))) ≡ cond b None
+        (option_flatten (slice_get places (n - 1)))
     by true e = refl
     by false e =
         let apart : n - 1 ≡ m - 1 → ⊥ = λ same. eqb-false m n differ (omega (arith, same, low, eqb-false n 0 e)) in
@@ -233,13 +248,16 @@ pub places_stay : (c : Config) (v : Kept) (st : State) (stands : StandsFor c v s
 places_stay c v st stands sound x alone lives n = stands.places n ∙ ap (option_and_then (λ (t : Stream). t.front)) (sym (by (x.session.stream == n) refl))
   where
     by : (b : Bool) → (x.session.stream == n) ≡ b
-        → find (λ (t : Stream). t.number == n) (filter (lasting (sessions_of (alone.before ++ alone.behind))) st.streams) ≡ find (λ (t : Stream). t.number == n) st.streams
+        → find (λ (t : Stream). t.number == n) (filter (lasting (sessions_of (alone.before ++ alone.behind))) st.streams) ≡ find
+        (λ (t : Stream). t.number == n) st.streams
     by true e =
         find_living (sessions_of (alone.before ++ alone.behind)) st.streams n
-        (ap (λ m. list_any (λ (t : Stream). t.number == m) (filter (lasting (sessions_of (alone.before ++ alone.behind))) st.streams)) (sym (eqb-true x.session.stream n e)) ∙ lives)
+        (ap (λ m. list_any (λ (t : Stream). t.number == m) (filter (lasting (sessions_of (alone.before ++ alone.behind))) st.streams))
+        (sym (eqb-true x.session.stream n e)) ∙ lives)
     by false e = find_last c v st stands sound x alone n e
 
-pub places_left : (c : Config) (v : Kept) (st : State) (stands : StandsFor c v st) → Sound v.table → FrontsSound v.fronts → (x : Seated) (alone : Alone stands.seated x)
+pub places_left : (c : Config) (v : Kept) (st : State) (stands : StandsFor c v st) → Sound v.table → FrontsSound v.fronts
+    → (x : Seated) (alone : Alone stands.seated x)
     → x.session.stream ≤ 64 → 1 ≤ x.session.stream
     → list_any (λ (t : Stream). t.number == x.session.stream) (filter (lasting (sessions_of (alone.before ++ alone.behind))) st.streams) ≡ false
     → AtPlaces (placed_at v.fronts.places x.session.stream None) (filter (lasting (sessions_of (alone.before ++ alone.behind))) st.streams)
@@ -280,10 +298,12 @@ without_changed slot change keeps [] = refl
 without_changed slot change keeps (s ∷ ss) = by (has_slot slot s) refl (without_changed slot change keeps ss)
   where
     by : (b : Bool) → has_slot slot s ≡ b → without_slot slot (change_slot slot change ss) ≡ without_slot slot ss
-        → cond (not (has_slot slot (cond b (change s) s))) (cond b (change s) s ∷ without_slot slot (change_slot slot change ss)) (without_slot slot (change_slot slot change ss))
+        → cond (not (has_slot slot (cond b (change s) s))) (cond b (change s) s ∷ without_slot slot (change_slot slot change ss))
+        (without_slot slot (change_slot slot change ss))
         ≡ cond (not b) (s ∷ without_slot slot ss) (without_slot slot ss)
     by true e rest =
-        ap (λ place. cond (not (place.slot == slot)) (change s ∷ without_slot slot (change_slot slot change ss)) (without_slot slot (change_slot slot change ss))) (keeps s)
+        ap (λ place. cond (not (place.slot == slot)) (change s ∷ without_slot slot (change_slot slot change ss))
+        (without_slot slot (change_slot slot change ss))) (keeps s)
         ∙ ap (λ t. cond (not t) (change s ∷ without_slot slot (change_slot slot change ss)) (without_slot slot (change_slot slot change ss))) e
         ∙ rest
     by false e rest =
@@ -303,7 +323,8 @@ unused_streams xs [] = refl
 unused_streams xs (t ∷ ts) = by (lasting (sessions_of xs) t) refl (unused_streams xs ts)
   where
     by : (b : Bool) → lasting (sessions_of xs) t ≡ b
-        → flat_map (λ u. filter_map (subscriber u) (seated_in u xs)) (filter (lasting (sessions_of xs)) ts) ≡ flat_map (λ u. filter_map (subscriber u) (seated_in u xs)) ts
+        → flat_map (λ u. filter_map (subscriber u) (seated_in u xs)) (filter (lasting (sessions_of xs)) ts) ≡ flat_map
+        (λ u. filter_map (subscriber u) (seated_in u xs)) ts
         → flat_map (λ u. filter_map (subscriber u) (seated_in u xs)) (cond b (t ∷ filter (lasting (sessions_of xs)) ts) (filter (lasting (sessions_of xs)) ts))
         ≡ filter_map (subscriber t) (seated_in t xs) ++ flat_map (λ u. filter_map (subscriber u) (seated_in u xs)) ts
     by true e rest = ap (λ ss. filter_map (subscriber t) (seated_in t xs) ++ ss) rest
@@ -313,14 +334,16 @@ unused_streams xs (t ∷ ts) = by (lasting (sessions_of xs) t) refl (unused_stre
         (filter_nobody (λ (x : Seated). x.session.stream == t.number) xs (sym (any-map (λ (x : Seated). x.session) (λ s. s.stream == t.number) xs) ∙ e)))
 
 -- the seats and the sessions of the others
-pub others_seats : (seated : List Seated) (x : Seated) (alone : Alone seated x) → without x.session.id (map seat_of seated) ≡ map seat_of (alone.before ++ alone.behind)
+pub others_seats : (seated : List Seated) (x : Seated) (alone : Alone seated x)
+    → without x.session.id (map seat_of seated) ≡ map seat_of (alone.before ++ alone.behind)
 unfolding row_of
 others_seats seated x alone =
     filter-map seat_of (λ seat. not (has_id x.session.id seat)) seated
     ∙ ap (λ xs. map seat_of (filter (λ y. not (has_session x.session.id y)) xs)) alone.whole
     ∙ ap (map seat_of) (filter_one (has_session x.session.id) alone.before x alone.behind alone.id_before (id_itself x.session.id) alone.id_behind)
 
-pub others_sessions : (seated : List Seated) (x : Seated) (alone : Alone seated x) → filter (λ s. not (is_session x.session.id s)) (sessions_of seated) ≡ sessions_of (alone.before ++ alone.behind)
+pub others_sessions : (seated : List Seated) (x : Seated) (alone : Alone seated x)
+    → filter (λ s. not (is_session x.session.id s)) (sessions_of seated) ≡ sessions_of (alone.before ++ alone.behind)
 others_sessions seated x alone =
     filter-map (λ (y : Seated). y.session) (λ s. not (is_session x.session.id s)) seated
     ∙ ap (λ xs. sessions_of (filter (λ y. not (has_session x.session.id y)) xs)) alone.whole
@@ -338,7 +361,8 @@ pub stands_ended : (c : Config) (v : Kept) (st : State) (stands : StandsFor c v 
     → (flow : List Subscription) → flow ≡ without_slot x.slot v.flow
     → (fronts : FrontEnds) → fronts.fronts ≡ v.fronts.fronts → fronts.muxes ≡ v.fronts.muxes → fronts.rows ≡ map (freed_at fronts.places) v.fronts.rows
     → AtPlaces fronts.places (filter (lasting (sessions_of (alone.before ++ alone.behind))) st.streams)
-    → StandsFor c (record v { table = table; dues = dues; fronts = fronts; flow = flow }) (sweep (record st { sessions = sessions_of (alone.before ++ alone.behind) }))
+    → StandsFor c (record v { table = table; dues = dues; fronts = fronts; flow = flow })
+    (sweep (record st { sessions = sessions_of (alone.before ++ alone.behind) }))
 stands_ended c v st stands sound x alone table seats streams made dues due flow listed fronts same_fronts same_muxes rows at =
     let others : List Seated = alone.before ++ alone.behind in
     let kept : List Stream = filter (lasting (sessions_of others)) st.streams in
@@ -362,7 +386,8 @@ stands_ended c v st stands sound x alone table seats streams made dues due flow 
       front_ends = same_fronts ∙ stands.front_ends;
       muxes = same_muxes ∙ stands.muxes;
       rows = ap (map row_in) rows
-          ∙ freed_same fronts.places kept (served_same fronts.places kept (rising_filter (lasting (sessions_of others)) 0 st.streams (rising c v st stands sound)) at) v.fronts.rows
+          ∙ freed_same fronts.places kept
+          (served_same fronts.places kept (rising_filter (lasting (sessions_of others)) 0 st.streams (rising c v st stands sound)) at) v.fronts.rows
           ∙ ap (change_where (λ r. not (list_any (λ (t : Stream). is_at t.front r.number) kept)) freed) stands.rows;
       places = at;
       flow = listed
@@ -379,7 +404,8 @@ part_sends clock t x kept =
     ap (λ o. flushed_datagrams clock (option_map (λ (s : Subscription). s.feed) o)) (subscriber_is t x) ∙ by x.session.playing x.session.http refl refl
   where
     by : (b h : Bool) → x.session.playing ≡ b → x.session.http ≡ h
-        → flushed_datagrams clock (option_map (λ (s : Subscription). s.feed) (cond b (Some (listed t x (feed_of x.session))) None)) ≡ map datagram (cond h [] (let_go true clock x.session).sends)
+        → flushed_datagrams clock (option_map (λ (s : Subscription). s.feed) (cond b (Some (listed t x (feed_of x.session))) None)) ≡ map datagram
+        (cond h [] (let_go true clock x.session).sends)
     by true true e http = queue_sends clock x.session http
     by true false e rtsp = feed_sends clock x.session kept.within rtsp
     by false true e http = refl
@@ -397,12 +423,18 @@ ending_sends clock v seated x streams t alone flow found kept =
 
 -- the move of one session's end
 pub end_is : (st : State) (seated : List Seated) (x : Seated) (alone : Alone seated x) → st.sessions ≡ sessions_of seated
-    → end_where (is_session x.session.id) st ≡ record { state = sweep (record st { sessions = sessions_of (alone.before ++ alone.behind) }); sent = (part st.clock x.session).sends }
+    → end_where (is_session x.session.id) st ≡ record {
+      state = sweep (record st { sessions = sessions_of (alone.before ++ alone.behind) });
+      sent =
+          (part st.clock x.session).sends;
+    }
 end_is st seated x alone same =
     let p : Session → Bool = is_session x.session.id in
     ap (λ (ss : List Session). move_of (sweep (record st { sessions = ss })) (flat_map (λ s. (ending p st.clock s).sends) st.sessions))
     (ended_sessions p st.clock st.sessions ∙ ap (filter (λ s. not (p s))) same ∙ others_sessions seated x alone)
     ∙ ap (λ (ds : List Sent). move_of (sweep (record st { sessions = sessions_of (alone.before ++ alone.behind) })) ds)
-    (ap (flat_map (λ s. (ending p st.clock s).sends)) (same ∙ ap sessions_of alone.whole ∙ map-append (λ (y : Seated). y.session) alone.before (x ∷ alone.behind))
+    (ap (flat_map (λ s. (ending p st.clock s).sends)) (same ∙ ap sessions_of alone.whole
+    ∙ map-append (λ (y : Seated). y.session) alone.before (x ∷ alone.behind))
     ∙ one_ends p st.clock (sessions_of alone.before) x.session (sessions_of alone.behind)
-    (any-map (λ (y : Seated). y.session) p alone.before ∙ alone.id_before) (id_itself x.session.id) (any-map (λ (y : Seated). y.session) p alone.behind ∙ alone.id_behind))
+    (any-map (λ (y : Seated). y.session) p alone.before ∙ alone.id_before) (id_itself x.session.id) (any-map (λ (y : Seated). y.session) p alone.behind
+    ∙ alone.id_behind))

@@ -41,7 +41,8 @@ module _ {X : Type 0} where
       more true b c keeps e = refl
       more false b c keeps e = keeps e
 
-      by : (b : Bool) → list_any q (cond b (x ∷ filter p xs) (filter p xs)) ≡ true → (list_any q (filter p xs) ≡ true → list_any q xs ≡ true) → (q x || list_any q xs) ≡ true
+      by : (b : Bool) → list_any q (cond b (x ∷ filter p xs) (filter p xs)) ≡ true → (list_any q (filter p xs) ≡ true → list_any q xs ≡ true)
+          → (q x || list_any q xs) ≡ true
       by true e rest = more (q x) (list_any q (filter p xs)) (list_any q xs) rest e
       by false e rest = more (q x) true (list_any q xs) (λ _. rest e) (or_true (q x))
         where
@@ -67,14 +68,16 @@ abbrev pub free_rows : List Stream → List Row → List Row
 free_rows ts rows = change_where (λ r. not (serves ts r.number)) freed rows
 
 -- fewer streams free the same front ends and more
-freed_twice : (ts us : List Stream) → ((number : ℕ) → serves us number ≡ true → serves ts number ≡ true) → (rows : List Row) → free_rows us (free_rows ts rows) ≡ free_rows us rows
+freed_twice : (ts us : List Stream) → ((number : ℕ) → serves us number ≡ true → serves ts number ≡ true) → (rows : List Row)
+    → free_rows us (free_rows ts rows) ≡ free_rows us rows
 freed_twice ts us fewer [] = refl
 freed_twice ts us fewer (r ∷ rows) =
     ap (λ (x : Row). x ∷ free_rows us (free_rows ts rows)) (by (serves ts r.number) (serves us r.number) refl refl)
     ∙ ap (λ xs. cond (not (serves us r.number)) (freed r) r ∷ xs) (freed_twice ts us fewer rows)
   where
     by : (a b : Bool) → serves ts r.number ≡ a → serves us r.number ≡ b
-        → cond (not (serves us (cond (not a) (freed r) r).number)) (freed (cond (not a) (freed r) r)) (cond (not a) (freed r) r) ≡ cond (not (serves us r.number)) (freed r) r
+        → cond (not (serves us (cond (not a) (freed r) r).number)) (freed (cond (not a) (freed r) r)) (cond (not a) (freed r) r) ≡ cond
+        (not (serves us r.number)) (freed r) r
     by true b e f = refl
     by false true e f = absurd (true≢false (sym (fewer r.number f) ∙ e))
     by false false e f = ap (λ c. cond (not c) (freed r) (freed r)) f ∙ sym (ap (λ c. cond (not c) (freed r) r) f)
@@ -100,10 +103,12 @@ lose_then p r st =
 
 pub lose_same : (p q : Session → Bool) (st : State) → ((s : Session) → Has s st.sessions → p s ≡ q s) → lose p st ≡ lose q st
 lose_same p q st same =
-    ap (λ (ss : List Session). sweep (record st { sessions = ss })) (filter_members (λ s. not (p s)) (λ s. not (q s)) st.sessions (λ s has. ap not (same s has)))
+    ap (λ (ss : List Session). sweep (record st { sessions = ss }))
+    (filter_members (λ s. not (p s)) (λ s. not (q s)) st.sessions (λ s has. ap not (same s has)))
 
 -- ends that send nothing
-pub quiet_ends : (p : Session → Bool) (clock : ℕ) (ss : List Session) → ((s : Session) → Has s ss → p s ≡ true → (part clock s).sends ≡ []) → flat_map (λ s. (ending p clock s).sends) ss ≡ []
+pub quiet_ends : (p : Session → Bool) (clock : ℕ) (ss : List Session) → ((s : Session) → Has s ss → p s ≡ true → (part clock s).sends ≡ [])
+    → flat_map (λ s. (ending p clock s).sends) ss ≡ []
 quiet_ends p clock [] quiet = refl
 quiet_ends p clock (s ∷ ss) quiet =
     ap (λ (ds : List Sent). ds ++ flat_map (λ x. (ending p clock x).sends) ss) (by (p s) refl) ∙ quiet_ends p clock ss (λ x has. quiet x (inr has))

@@ -1,5 +1,6 @@
 -- Sessions end that weren't heard of for the timeout, one after the other.
-use Rattle.std.proofs.Common.{◌≡◌, ℕ, zero, suc, ◌+◌, ◌*◌, ◌<◌, ◌≤◌, ◌&&◌, ◌||◌, not, Bool, true, false, cond, List, [], ◌∷◌, ◌++◌, length, filter, find, Option, Some, None, refl, sym, ap, subst, ◌∙◌, arith, inl, inr}
+use Rattle.std.proofs.Common.{◌≡◌, ℕ, zero, suc, ◌+◌, ◌*◌, ◌<◌, ◌≤◌, ◌&&◌, ◌||◌, not, Bool, true, false, cond, List, [], ◌∷◌, ◌++◌, length, filter, find}
+use Rattle.std.proofs.Common.{Option, Some, None, refl, sym, ap, subst, ◌∙◌, arith, inl, inr}
 use Rattle.std.specs.List.{list_any, slice_get}
 use Rattle.std.specs.Option.{option_map}
 use Rattle.std.proofs.lemmas.Bool.{or_parts, or_cases, and_parts, eqb-true, true≢false, le-leb, lt-leb, cases_Bool, and_from}
@@ -36,7 +37,8 @@ module _ {X : Type 0} where
   lacks p (y ∷ ys) x none (inr has) = let parts = or_parts (p y) (list_any p ys) none in lacks p ys x parts.1 has
 
   -- of a list with one of which p holds, between others, that one alone
-  pub only_one : (p : X → Bool) (a : List X) (x : X) (b : List X) (y : X) → list_any p a ≡ false → list_any p b ≡ false → Has y (a ++ x ∷ b) → p y ≡ true → y ≡ x
+  pub only_one : (p : X → Bool) (a : List X) (x : X) (b : List X) (y : X) → list_any p a ≡ false → list_any p b ≡ false → Has y (a ++ x ∷ b) → p y ≡ true
+      → y ≡ x
   only_one p [] x b y before behind (inl same) e = same
   only_one p [] x b y before behind (inr has) e = absurd (true≢false (sym e ∙ lacks p b y behind has))
   only_one p (z ∷ a) x b y before behind (inl same) e =
@@ -64,9 +66,11 @@ slot_low [] k seat apart got = absurd (cc)
 slot_low (y ∷ ys) zero seat apart got = subst (λ (z : Seat). z.slot < 64) (some_same y seat got) apart.0
 slot_low (y ∷ ys) (suc k) seat apart got = slot_low ys k seat apart.2 got
 
-pub low_slot : (c : Config) (v : Kept) (st : State) (stands : StandsFor c v st) → Sound v.table → (k : ℕ) (x : Seated) → slice_get stands.seated k ≡ Some x → x.slot < 64
+pub low_slot : (c : Config) (v : Kept) (st : State) (stands : StandsFor c v st) → Sound v.table → (k : ℕ) (x : Seated) → slice_get stands.seated k ≡ Some x
+    → x.slot < 64
 low_slot c v st stands sound k x got =
-    slot_low v.table.seats k (seat_of x) sound.slots (ap (λ seats. slice_get seats k) stands.seats ∙ get-map seat_of stands.seated k ∙ ap (option_map seat_of) got)
+    slot_low v.table.seats k (seat_of x) sound.slots (ap (λ seats. slice_get seats k) stands.seats ∙ get-map seat_of stands.seated k
+    ∙ ap (option_map seat_of) got)
 
 -- the deadline of a session that is seated
 pub deadline : (c : Config) (v : Kept) (st : State) (stands : StandsFor c v st) → Sound v.table → (k : ℕ) (x : Seated) → slice_get stands.seated k ≡ Some x
@@ -89,11 +93,13 @@ none_yet c v st stands sound fronts =
     record {
       who = λ s. false;
       some = λ s e. absurd (true≢false (sym e));
-      stands = subst (λ now. StandsFor c v now) (sym (ap (λ (ss : List Session). sweep (record st { sessions = ss })) all ∙ swept_same c v st stands sound fronts)) stands;
+      stands = subst (λ now. StandsFor c v now)
+          (sym (ap (λ (ss : List Session). sweep (record st { sessions = ss })) all ∙ swept_same c v st stands sound fronts)) stands;
     }
 
 -- who has the slot of a seat that was found
-slot_seat : (slot : ℕ) (v : Kept) (seat : Seat) → find (has_slot slot) v.table.seats ≡ Some seat → (place : ℕ) × (slice_get v.table.seats place ≡ Some seat) × (has_slot slot seat ≡ true)
+slot_seat : (slot : ℕ) (v : Kept) (seat : Seat) → find (has_slot slot) v.table.seats ≡ Some seat
+    → (place : ℕ) × (slice_get v.table.seats place ≡ Some seat) × (has_slot slot seat ≡ true)
 slot_seat slot v seat found = find_place (has_slot slot) v.table.seats seat found
 
 pub id_at : (x : Seated) → (seat_of x).session.id ≡ x.session.id
@@ -101,7 +107,8 @@ unfolding row_of
 id_at x = refl
 
 -- one more ended, whose deadline passed
-pub one_more_ended : (c : Config) (v w : Kept) (st : State) → Sound v.table → (e : EndedSome c v st) (slot : ℕ) (seat : Seat) → find (has_slot slot) v.table.seats ≡ Some seat
+pub one_more_ended : (c : Config) (v w : Kept) (st : State) → Sound v.table → (e : EndedSome c v st) (slot : ℕ) (seat : Seat)
+    → find (has_slot slot) v.table.seats ≡ Some seat
     → IsNextDue v.clock v.dues slot
     → StandsFor c w (end_where (is_session seat.session.id) (lose e.who st)).state → EndedSome c w st
 one_more_ended c v w st sound e slot seat found next after =
@@ -112,9 +119,14 @@ one_more_ended c v w st sound e slot seat found next after =
     let at : AloneAt e.stands.seated p.0 x = alone_at e.stands.seated p.0 x (stands_apart c v now e.stands sound) r.1 in
     let id : seat.session.id ≡ x.session.id = ap (λ (z : Seat). z.session.id) (sym r.2) ∙ id_at x in
     let own : x.slot ≡ slot = ap (λ (z : Seat). z.slot) r.2 ∙ eqb-true seat.slot slot p.2 in
-    let due : HasDeadline v.dues slot (x.session.heard + v.timeout * 1000) = subst (λ k. HasDeadline v.dues k (x.session.heard + v.timeout * 1000)) own (deadline c v now e.stands sound p.0 x r.1) in
-    let moment : next.moment ≡ x.session.heard + v.timeout * 1000 = some_same next.moment (x.session.heard + v.timeout * 1000) (some_same (Some next.moment) (Some (x.session.heard + v.timeout * 1000)) (sym next.its ∙ due)) in
-    let early : x.session.heard + c.timeout * 1000 ≤ st.clock = subst (λ k. k ≤ st.clock) (ap (λ t. x.session.heard + t * 1000) e.stands.timeout) (subst (λ k. x.session.heard + v.timeout * 1000 ≤ k) e.stands.clock (subst (λ k. k ≤ v.clock) moment next.passed)) in
+    let due : HasDeadline v.dues slot (x.session.heard + v.timeout * 1000) =
+    subst (λ k. HasDeadline v.dues k (x.session.heard + v.timeout * 1000)) own (deadline c v now e.stands sound p.0 x r.1) in
+    let moment : next.moment ≡ x.session.heard + v.timeout * 1000 =
+    some_same next.moment (x.session.heard + v.timeout * 1000)
+    (some_same (Some next.moment) (Some (x.session.heard + v.timeout * 1000)) (sym next.its ∙ due)) in
+    let early : x.session.heard + c.timeout * 1000 ≤ st.clock =
+    subst (λ k. k ≤ st.clock) (ap (λ t. x.session.heard + t * 1000) e.stands.timeout)
+    (subst (λ k. x.session.heard + v.timeout * 1000 ≤ k) e.stands.clock (subst (λ k. k ≤ v.clock) moment next.passed)) in
     let expired : is_expired c st.clock x.session ≡ true = le-leb (x.session.heard + c.timeout * 1000) st.clock early in
     let ends : Session → Bool = λ s. is_session x.session.id s && is_expired c st.clock s in
     let same : (s : Session) → Has s now.sessions → is_session x.session.id s ≡ ends s = λ s has.
@@ -129,29 +141,41 @@ one_more_ended c v w st sound e slot seat found next after =
     ] in
     record {
       who = λ s. e.who s || ends s;
-      some = λ s h. elim (or_cases (e.who s) (ends s) h) [ inl one ↦ e.some s one | inr other ↦ (and_parts (is_session x.session.id s) (is_expired c st.clock s) other).1 ];
+      some = λ s h. elim (or_cases (e.who s) (ends s) h) [
+        | inl one ↦ e.some s one
+        | inr other ↦
+            (and_parts (is_session x.session.id s) (is_expired c st.clock s) other).1
+      ];
       stands = subst (λ z. StandsFor c w z)
-          (ap (λ i. (end_where (is_session i) now).state) id ∙ end_loses (is_session x.session.id) now ∙ lose_same (is_session x.session.id) ends now same ∙ lose_then e.who ends st)
+          (ap (λ i. (end_where (is_session i) now).state) id ∙ end_loses (is_session x.session.id) now ∙ lose_same (is_session x.session.id) ends now same
+          ∙ lose_then e.who ends st)
           after;
     }
 
 -- a due slot has a session
-pub due_seated : (c : Config) (v : Kept) (st : State) → (e : EndedSome c v st) (slot : ℕ) → slot < 64 → IsNextDue v.clock v.dues slot → None ≡ find (has_slot slot) v.table.seats → ⊥
+pub due_seated : (c : Config) (v : Kept) (st : State) → (e : EndedSome c v st) (slot : ℕ) → slot < 64 → IsNextDue v.clock v.dues slot
+    → None ≡ find (has_slot slot) v.table.seats → ⊥
 due_seated c v st e slot low next none =
-    let nobody : find (is_seat slot) e.stands.seated ≡ None = map_nothing seat_of (find (is_seat slot) e.stands.seated) (sym (find-map seat_of (has_slot slot) e.stands.seated) ∙ ap (find (has_slot slot)) (sym e.stands.seats) ∙ sym none) in
+    let nobody : find (is_seat slot) e.stands.seated ≡ None =
+    map_nothing seat_of (find (is_seat slot) e.stands.seated) (sym (find-map seat_of (has_slot slot) e.stands.seated)
+    ∙ ap (find (has_slot slot)) (sym e.stands.seats) ∙ sym none) in
     let due : Some (Some next.moment) ≡ Some None = sym next.its ∙ e.stands.dues slot low ∙ ap (λ o. Some (option_map (end_of v.timeout) o)) nobody in
     let apart : Some next.moment ≡ None = some_same (Some next.moment) None due in
     cc
 
 -- where no deadline passed, all ended that were to end
-pub all_ended : (c : Config) (v : Kept) (st : State) → Sound v.table → (e : EndedSome c v st) → NoneDue v.clock v.dues → StandsFor c v (end_where (is_expired c st.clock) st).state
+pub all_ended : (c : Config) (v : Kept) (st : State) → Sound v.table → (e : EndedSome c v st) → NoneDue v.clock v.dues
+    → StandsFor c v (end_where (is_expired c st.clock) st).state
 all_ended c v st sound e none =
     let now : State = lose e.who st in
     let fresh : (s : Session) → Has s now.sessions → is_expired c st.clock s ≡ false = λ s has.
     let r = has_get (sessions_of e.stands.seated) s (subst (λ ss. Has s ss) e.stands.sessions has) in
     let y = map_some (λ (x : Seated). x.session) (slice_get e.stands.seated r.0) s (sym (get-map (λ (x : Seated). x.session) e.stands.seated r.0) ∙ r.1) in
-    let later : v.clock < y.0.session.heard + v.timeout * 1000 = none y.0.slot (y.0.session.heard + v.timeout * 1000) (deadline c v now e.stands sound r.0 y.0 y.1) in
-    let late : st.clock < y.0.session.heard + c.timeout * 1000 = subst (λ k. st.clock < k) (ap (λ t. y.0.session.heard + t * 1000) e.stands.timeout) (subst (λ k. k < y.0.session.heard + v.timeout * 1000) e.stands.clock later) in
+    let later : v.clock < y.0.session.heard + v.timeout * 1000 =
+    none y.0.slot (y.0.session.heard + v.timeout * 1000) (deadline c v now e.stands sound r.0 y.0 y.1) in
+    let late : st.clock < y.0.session.heard + c.timeout * 1000 =
+    subst (λ k. st.clock < k) (ap (λ t. y.0.session.heard + t * 1000) e.stands.timeout)
+    (subst (λ k. k < y.0.session.heard + v.timeout * 1000) e.stands.clock later) in
     ap (is_expired c st.clock) (sym y.2) ∙ lt-leb (y.0.session.heard + c.timeout * 1000) st.clock late in
     let same : (s : Session) → Has s st.sessions → e.who s ≡ is_expired c st.clock s = λ s has.
     elim (cases_Bool (e.who s)) [

@@ -80,7 +80,8 @@ slot_sends clock t x kept rtsp =
     ap (λ o. flushed_datagrams clock (option_map (λ (s : Subscription). s.feed) o)) (subscriber_is t x) ∙ by x.session.playing refl
   where
     by : (b : Bool) → x.session.playing ≡ b
-        → flushed_datagrams clock (option_map (λ (s : Subscription). s.feed) (cond b (Some (listed t x (feed_of x.session))) None)) ≡ map datagram (let_go true clock x.session).sends
+        → flushed_datagrams clock (option_map (λ (s : Subscription). s.feed) (cond b (Some (listed t x (feed_of x.session))) None)) ≡ map datagram
+        (let_go true clock x.session).sends
     by true e = feed_sends clock x.session kept.within rtsp
     by false e = ap (map datagram) (sym (idle_sends true clock x.session kept e))
 
@@ -99,7 +100,8 @@ flushed_rtsp None stream http e = not-true http e
 flushed_rtsp (Some number) stream http e = not-true http (and_parts (stream == number) (not http) e).1
 
 -- the sessions of those who are seated, with one between others
-pub between : (seated : List Seated) (x : Seated) (alone : Alone seated x) → sessions_of seated ≡ sessions_of alone.before ++ x.session ∷ sessions_of alone.behind
+pub between : (seated : List Seated) (x : Seated) (alone : Alone seated x)
+    → sessions_of seated ≡ sessions_of alone.before ++ x.session ∷ sessions_of alone.behind
 between seated x alone = ap sessions_of alone.whole ∙ map-append (λ (y : Seated). y.session) alone.before (x ∷ alone.behind)
 
 pub changed_between : (f : Seated → Seated) (seated : List Seated) (x : Seated) (alone : Alone seated x)
@@ -110,11 +112,16 @@ changed_between f seated x alone =
     ∙ map-append (λ (y : Seated). y.session) alone.before (f x ∷ alone.behind)
 
 -- the turn of the session at a place
-pub turn_at : (turn : Session → Turn) (st : State) (seated : List Seated) (place : ℕ) (x : Seated) (at : AloneAt seated place x) → st.sessions ≡ sessions_of seated
-    → turn_of place turn st.sessions ≡ record { sessions = sessions_of at.alone.before ++ cons_option (turn x.session).after (sessions_of at.alone.behind); sent = (turn x.session).sends }
+pub turn_at : (turn : Session → Turn) (st : State) (seated : List Seated) (place : ℕ) (x : Seated) (at : AloneAt seated place x)
+    → st.sessions ≡ sessions_of seated
+    → turn_of place turn st.sessions ≡ record {
+      sessions = sessions_of at.alone.before ++ cons_option (turn x.session).after (sessions_of at.alone.behind);
+      sent = (turn x.session).sends;
+    }
 turn_at turn st seated place x at same =
     ap (turn_of place turn) (same ∙ between seated x at.alone)
-    ∙ ap (λ k. turn_of k turn (sessions_of at.alone.before ++ x.session ∷ sessions_of at.alone.behind)) (sym (length-map at.alone.before (λ (y : Seated). y.session) ∙ at.place))
+    ∙ ap (λ k. turn_of k turn (sessions_of at.alone.before ++ x.session ∷ sessions_of at.alone.behind))
+    (sym (length-map at.alone.before (λ (y : Seated). y.session) ∙ at.place))
     ∙ turn_here turn (sessions_of at.alone.before) x.session (sessions_of at.alone.behind)
 
 pub flush_seated : (c : Config) (v : Kept) (o n : Output) (st : State) (stands : StandsFor c v st) → Sound v.table → (only : Option ℕ) (place : ℕ) (x : Seated)
@@ -129,7 +136,11 @@ flush_seated c v o n st stands sound only place x got wanted flow changed sends 
     let lives = stream_lives c v st stands sound place x got in
     let turn : Session → Turn = flush_turn only st.clock in
     let turned : turn s ≡ let_go true st.clock s = ap (λ b. cond b (let_go true st.clock s) (record { sends = []; after = Some s })) wanted in
-    let round : Round = record { sessions = sessions_of at.alone.before ++ cut_off true s ∷ sessions_of at.alone.behind; sent = (let_go true st.clock s).sends } in
+    let round : Round = record {
+      sessions = sessions_of at.alone.before ++ cut_off true s ∷ sessions_of at.alone.behind;
+      sent =
+          (let_go true st.clock s).sends;
+    } in
     let is_round : turn_of place turn st.sessions ≡ round =
     turn_at turn st stands.seated place x at stands.sessions
     ∙ ap (λ (t : Turn). record { sessions = sessions_of at.alone.before ++ cons_option t.after (sessions_of at.alone.behind); sent = t.sends }) turned in
@@ -158,15 +169,19 @@ unmoved c v o st stands r same =
 pub flush_nowhere : (c : Config) (v : Kept) (o : Output) (st : State) (stands : StandsFor c v st) (only : Option ℕ) (place : ℕ)
     → slice_get v.table.seats place ≡ None → Moved c v o o (after_round st (turn_of place (flush_turn only st.clock) st.sessions))
 flush_nowhere c v o st stands only place none =
-    let nobody : slice_get stands.seated place ≡ None = map_nothing seat_of (slice_get stands.seated place) (sym (get-map seat_of stands.seated place) ∙ ap (λ seats. slice_get seats place) (sym stands.seats) ∙ none) in
-    let gone : slice_get st.sessions place ≡ None = ap (λ ss. slice_get ss place) stands.sessions ∙ get-map (λ (y : Seated). y.session) stands.seated place ∙ ap (option_map (λ (y : Seated). y.session)) nobody in
+    let nobody : slice_get stands.seated place ≡ None =
+    map_nothing seat_of (slice_get stands.seated place) (sym (get-map seat_of stands.seated place)
+    ∙ ap (λ seats. slice_get seats place) (sym stands.seats) ∙ none) in
+    let gone : slice_get st.sessions place ≡ None = ap (λ ss. slice_get ss place) stands.sessions ∙ get-map (λ (y : Seated). y.session) stands.seated place
+    ∙ ap (option_map (λ (y : Seated). y.session)) nobody in
     unmoved c v o st stands (turn_of place (flush_turn only st.clock) st.sessions) (turn_nowhere (flush_turn only st.clock) place st.sessions gone)
 
 pub flush_unwanted : (c : Config) (v : Kept) (o : Output) (st : State) (stands : StandsFor c v st) (only : Option ℕ) (place : ℕ) (x : Seated)
     → slice_get stands.seated place ≡ Some x → is_flushed only x.session.stream x.session.http ≡ false
     → Moved c v o o (after_round st (turn_of place (flush_turn only st.clock) st.sessions))
 flush_unwanted c v o st stands only place x got unwanted =
-    let its : slice_get st.sessions place ≡ Some x.session = ap (λ ss. slice_get ss place) stands.sessions ∙ get-map (λ (y : Seated). y.session) stands.seated place ∙ ap (option_map (λ (y : Seated). y.session)) got in
+    let its : slice_get st.sessions place ≡ Some x.session = ap (λ ss. slice_get ss place) stands.sessions
+    ∙ get-map (λ (y : Seated). y.session) stands.seated place ∙ ap (option_map (λ (y : Seated). y.session)) got in
     unmoved c v o st stands (turn_of place (flush_turn only st.clock) st.sessions)
     (turn_idle (flush_turn only st.clock) place st.sessions x.session its
     (ap (λ b. cond b (let_go true st.clock x.session) (record { sends = []; after = Some x.session })) unwanted))
@@ -175,9 +190,11 @@ flush_unwanted c v o st stands only place x got unwanted =
 pub seated_at : (c : Config) (v : Kept) (st : State) (stands : StandsFor c v st) (place : ℕ) (seat : Seat) → slice_get v.table.seats place ≡ Some seat
     → (x : Seated) × (slice_get stands.seated place ≡ Some x) × (seat_of x ≡ seat)
 seated_at c v st stands place seat got =
-    map_some seat_of (slice_get stands.seated place) seat (sym (get-map seat_of stands.seated place) ∙ ap (λ seats. slice_get seats place) (sym stands.seats) ∙ got)
+    map_some seat_of (slice_get stands.seated place) seat (sym (get-map seat_of stands.seated place) ∙ ap (λ seats. slice_get seats place) (sym stands.seats)
+    ∙ got)
 
-row_flushed : (only : Option ℕ) (x : Seated) → is_flushed only (seat_of x).session.stream (seat_of x).session.http ≡ is_flushed only x.session.stream x.session.http
+row_flushed : (only : Option ℕ) (x : Seated)
+    → is_flushed only (seat_of x).session.stream (seat_of x).session.http ≡ is_flushed only x.session.stream x.session.http
 unfolding row_of
 row_flushed only x = refl
 

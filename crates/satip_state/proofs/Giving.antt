@@ -1,5 +1,6 @@
 -- A packet is given to a session.
-use Rattle.std.proofs.Common.{◌≡◌, ℕ, ◌<◌, ◌≤◌, ◌==◌, ◌&&◌, nat_lt, not, Bool, true, false, cond, List, [], ◌∷◌, ◌++◌, length, map, sum, Some, refl, sym, ap, subst, ◌∙◌, arith, length-append}
+use Rattle.std.proofs.Common.{◌≡◌, ℕ, ◌<◌, ◌≤◌, ◌==◌, ◌&&◌, nat_lt, not, Bool, true, false, cond, List, [], ◌∷◌, ◌++◌, length, map, sum, Some, refl, sym, ap}
+use Rattle.std.proofs.Common.{subst, ◌∙◌, arith, length-append}
 use Rattle.std.proofs.lemmas.Bool.{true≢false}
 use Rattle.std.proofs.lemmas.Bool.Decides.{nat_tests}
 use Rattle.std.proofs.lemmas.List.{drop-append-le}
@@ -24,7 +25,8 @@ take_in packet s = cond s.http (cond (is_overrun s) s (with_packet packet s)) (c
 pub given_after : (clock : ℕ) (packet : List ℕ) (s : Session) → (given clock packet s).after ≡ Some (take_in packet s)
 given_after clock packet s = by s.http
   where
-    by : (b : Bool) → (cond {A = Turn} b (record { sends = []; after = Some (cond (is_overrun s) s (with_packet packet s)) }) (let_go false clock (with_packet packet s))).after
+    by : (b : Bool) → (cond {A = Turn} b (record { sends = []; after = Some (cond (is_overrun s) s (with_packet packet s)) })
+        (let_go false clock (with_packet packet s))).after
         ≡ Some (cond b (cond (is_overrun s) s (with_packet packet s)) (cut_off false (with_packet packet s)))
     by true = refl
     by false = refl
@@ -44,7 +46,8 @@ push_keeps : (packet : List ℕ) (s : Session) → sum s.sizes ≤ length s.pick
     → Keeps s.first s.ssrc (picked_of (cut_off false (with_packet packet s))) (after_cut false (holding (packing_of s) packet))
 push_keeps packet s within = (each_call_cuts s.first s.ssrc (picked_of s) (packing_of s) (Push packet 0 (address_of s)) (keeps_of s within)).0
 
-packer_fed : (packet : List ℕ) (s : Session) → sum s.sizes ≤ length s.picked → s.http ≡ false → fed packet (feed_of s) ≡ feed_of (cut_off false (with_packet packet s))
+packer_fed : (packet : List ℕ) (s : Session) → sum s.sizes ≤ length s.picked → s.http ≡ false
+    → fed packet (feed_of s) ≡ feed_of (cut_off false (with_packet packet s))
 unfolding feed_of
 packer_fed packet s within rtsp =
     let t : Session = cut_off false (with_packet packet s) in
@@ -85,11 +88,13 @@ queue_fed packet s kept http =
     ∙ by (is_overrun s)
   where
     by : (o : Bool) → ToQueue (cond (not o) (held s ++ packet ∷ []) (held s))
-        ≡ cond (cond o s (with_packet packet s)).http (ToQueue (held (cond o s (with_packet packet s)))) (ToAddress (address_of (cond o s (with_packet packet s))) (packing_of (cond o s (with_packet packet s))))
+        ≡ cond (cond o s (with_packet packet s)).http (ToQueue (held (cond o s (with_packet packet s))))
+        (ToAddress (address_of (cond o s (with_packet packet s))) (packing_of (cond o s (with_packet packet s))))
     by true = sym (ap (λ b. cond b (ToQueue (held s)) (ToAddress (address_of s) (packing_of s))) http)
     by false =
         ap ToQueue (sym (more_held packet s kept.within))
-        ∙ sym (ap (λ b. cond b (ToQueue (held (with_packet packet s))) (ToAddress (address_of (with_packet packet s)) (packing_of (with_packet packet s)))) http)
+        ∙ sym (ap (λ b. cond b (ToQueue (held (with_packet packet s))) (ToAddress (address_of (with_packet packet s)) (packing_of (with_packet packet s))))
+        http)
 
 queue_silent : (clock : ℕ) (packet : List ℕ) (s : Session) → s.http ≡ true → fed_datagrams packet clock (feed_of s) ≡ []
 unfolding feed_of
@@ -99,7 +104,8 @@ queue_silent clock packet s http = ap (λ b. fed_datagrams packet clock (cond b 
 pub take_feed : (packet : List ℕ) (s : Session) → IsKept s → fed packet (feed_of s) ≡ feed_of (take_in packet s)
 take_feed packet s kept = by s.http refl
   where
-    by : (b : Bool) → s.http ≡ b → fed packet (feed_of s) ≡ feed_of (cond b (cond (is_overrun s) s (with_packet packet s)) (cut_off false (with_packet packet s)))
+    by : (b : Bool) → s.http ≡ b → fed packet (feed_of s) ≡ feed_of
+        (cond b (cond (is_overrun s) s (with_packet packet s)) (cut_off false (with_packet packet s)))
     by true http = queue_fed packet s kept http
     by false rtsp = packer_fed packet s kept.within rtsp
 
@@ -107,7 +113,8 @@ pub take_sends : (clock : ℕ) (packet : List ℕ) (s : Session) → IsKept s �
 take_sends clock packet s kept = by s.http refl
   where
     by : (b : Bool) → s.http ≡ b → fed_datagrams packet clock (feed_of s)
-        ≡ map datagram (cond {A = Turn} b (record { sends = []; after = Some (cond (is_overrun s) s (with_packet packet s)) }) (let_go false clock (with_packet packet s))).sends
+        ≡ map datagram (cond {A = Turn} b (record { sends = []; after = Some (cond (is_overrun s) s (with_packet packet s)) })
+        (let_go false clock (with_packet packet s))).sends
     by true http = queue_silent clock packet s http
     by false rtsp = packer_sends clock packet s kept.within rtsp
 
@@ -131,7 +138,8 @@ more_kept packet s kept plays http room = record {
   reported = kept.reported;
   first = kept.first;
   within = omega (arith, kept.within, length-append s.picked (packet ∷ []));
-  few = subst (λ b. length (held (with_packet packet s)) ≤ cond b 4096 6) (sym http) (subst (λ xs. length xs ≤ 4096) (sym (more_held packet s kept.within)) few);
+  few = subst (λ b. length (held (with_packet packet s)) ≤ cond b 4096 6) (sym http)
+      (subst (λ xs. length xs ≤ 4096) (sym (more_held packet s kept.within)) few);
   http = kept.http;
   idle_picked = λ idle. absurd (true≢false (sym plays ∙ idle));
   idle_sizes = λ idle. absurd (true≢false (sym plays ∙ idle));

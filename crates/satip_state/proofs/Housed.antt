@@ -11,7 +11,8 @@ use Rattle.satip_state.specs.Standing.{StandsFor}
 use Rattle.satip_state.proofs.Mapped.{sessions_of, stream_lives}
 
 -- a test that holds at each place holds of all
-all_places : (p : Session → Bool) (xs : List Seated) → ((k : ℕ) (x : Seated) → slice_get xs k ≡ Some x → p x.session ≡ true) → list_all p (sessions_of xs) ≡ true
+all_places : (p : Session → Bool) (xs : List Seated) → ((k : ℕ) (x : Seated) → slice_get xs k ≡ Some x → p x.session ≡ true)
+    → list_all p (sessions_of xs) ≡ true
 all_places p [] each = refl
 all_places p (x ∷ xs) each = and_from _ _ (each zero x refl) (all_places p xs (λ k y got. each (suc k) y got))
 

@@ -1,5 +1,6 @@
 -- A session leaves the parts.
-use Rattle.std.proofs.Common.{◌≡◌, inl, inr, ◌++◌, ℕ, ◌==◌, ◌<◌, ◌≤◌, Bool, true, false, List, map, filter, find, set, is_some, Option, Some, None, refl, sym, ap, subst, ◌∙◌, arith}
+use Rattle.std.proofs.Common.{◌≡◌, inl, inr, ◌++◌, ℕ, ◌==◌, ◌<◌, ◌≤◌, Bool, true, false, List, map, filter, find, set, is_some, Option, Some, None, refl, sym}
+use Rattle.std.proofs.Common.{ap, subst, ◌∙◌, arith}
 use Rattle.std.specs.List.{list_any, slice_get}
 use Rattle.std.proofs.lemmas.Bool.{eqb-true, cases_Bool}
 use Rattle.satip_base.specs.Output.{Output}
@@ -31,21 +32,24 @@ use Rattle.satip_state.proofs.Apart.{Alone, AloneAt, alone_at, has_session, same
 use Rattle.satip_state.proofs.Mapped.{sessions_of, seated_kept, stands_apart, stream_lives, all_kept, lives_in}
 use Rattle.satip_state.proofs.Flushes.{seated_at}
 use Rattle.satip_state.proofs.Swept.{rising_at}
-use Rattle.satip_state.proofs.Ended.{lasting, rising, stands_ended, ending_sends, end_is, kept_in, places_stay, places_left, others_seats, nobody_ends, without_changed}
+use Rattle.satip_state.proofs.Ended.{lasting, rising, stands_ended, ending_sends, end_is, kept_in, places_stay, places_left, others_seats, nobody_ends}
+use Rattle.satip_state.proofs.Ended.{without_changed}
 
 -- an id lives in the table where it does in the plain state
 row_has : (id : SessionId) (xs : List Seated) → list_any (has_id id) (map seat_of xs) ≡ list_any (has_session id) xs
 unfolding row_of
 row_has id xs = any-map seat_of (has_id id) xs
 
-pub lives_same : (c : Config) (v : Kept) (st : State) → StandsFor c v st → (id : SessionId) → list_any (has_id id) v.table.seats ≡ list_any (is_session id) st.sessions
+pub lives_same : (c : Config) (v : Kept) (st : State) → StandsFor c v st → (id : SessionId)
+    → list_any (has_id id) v.table.seats ≡ list_any (is_session id) st.sessions
 lives_same c v st stands id =
     ap (list_any (has_id id)) stands.seats
     ∙ row_has id stands.seated
     ∙ sym (any-map (λ (y : Seated). y.session) (is_session id) stands.seated)
     ∙ ap (list_any (is_session id)) (sym stands.sessions)
 
-pub found_lives : (c : Config) (v : Kept) (st : State) → StandsFor c v st → (id : SessionId) (o : Option Seat) → o ≡ find (has_id id) v.table.seats → is_some o ≡ list_any (is_session id) st.sessions
+pub found_lives : (c : Config) (v : Kept) (st : State) → StandsFor c v st → (id : SessionId) (o : Option Seat) → o ≡ find (has_id id) v.table.seats
+    → is_some o ≡ list_any (is_session id) st.sessions
 found_lives c v st stands id o found = ap is_some found ∙ find_any (has_id id) v.table.seats ∙ lives_same c v st stands id
 
 -- what goes with a session at a place
@@ -62,9 +66,19 @@ pub record Gone (x : Seated) (v w : Kept) : Type 0 where
   pub fronts_left : is_live w.table.streams x.session.stream ≡ false → 1 ≤ x.session.stream → x.session.stream ≤ 64 → w.fronts ≡ left v.fronts x.session.stream
 
 abbrev pub kept_of : Kept → ℕ → Bool → ℕ → FrontEnds → Kept
-kept_of w clock stopped timeout fronts = record { clock = clock; stopped = stopped; timeout = timeout; table = w.table; dues = w.dues; fronts = fronts; flow = w.flow }
+kept_of w clock stopped timeout fronts = record {
+  clock = clock;
+  stopped = stopped;
+  timeout = timeout;
+  table = w.table;
+  dues = w.dues;
+  fronts = fronts;
+  flow =
+      w.flow;
+}
 
-kept_is : (x : Seated) (v w : Kept) (fronts : FrontEnds) → Gone x v w → w.fronts ≡ fronts → w ≡ record v { table = w.table; dues = w.dues; flow = w.flow; fronts = fronts }
+kept_is : (x : Seated) (v w : Kept) (fronts : FrontEnds) → Gone x v w → w.fronts ≡ fronts
+    → w ≡ record v { table = w.table; dues = w.dues; flow = w.flow; fronts = fronts }
 kept_is x v w fronts gone same =
     ap (λ n. kept_of w n w.stopped w.timeout w.fronts) gone.clock
     ∙ ap (λ b. kept_of w v.clock b w.timeout w.fronts) gone.stopped
@@ -83,7 +97,9 @@ session_gone c v w st stands sound fronts place x got gone =
     let lives = stream_lives c v st stands sound place x got in
     let where_it_is = find_place (λ (u : Stream). u.number == x.session.stream) st.streams lives.0 lives.1 in
     let number : lives.0.number ≡ x.session.stream = eqb-true lives.0.number x.session.stream where_it_is.2 in
-    let high : x.session.stream ≤ 64 = subst (λ m. m ≤ 64) number (each_at (λ (t : Stream). t.number ≤ 64) st.streams lives.0 stands.numbers (get_has st.streams where_it_is.0 lives.0 where_it_is.1)) in
+    let high : x.session.stream ≤ 64 =
+    subst (λ m. m ≤ 64) number (each_at (λ (t : Stream). t.number ≤ 64) st.streams lives.0 stands.numbers
+    (get_has st.streams where_it_is.0 lives.0 where_it_is.1)) in
     let above : 0 < lives.0.number = rising_at 0 st.streams where_it_is.0 lives.0 (rising c v st stands sound) where_it_is.1 in
     let low : 1 ≤ x.session.stream = omega (arith, above, number) in
     let end_state : State = sweep (record st { sessions = sessions_of others }) in
@@ -96,10 +112,12 @@ session_gone c v w st stands sound fronts place x got gone =
     ap (list_any (λ (t : Stream). t.number == x.session.stream)) (sym streams_are) ∙ lives_in w.table.streams x.session.stream in
     let standing : StandsFor c w end_state = elim (cases_Bool (is_live w.table.streams x.session.stream)) [
       | inl e ↦ subst (λ (u : Kept). StandsFor c u end_state) (sym (kept_is x v w v.fronts gone (gone.fronts_stay e)))
-          (stands_ended c v st stands sound x alone w.table gone.seats gone.streams gone.made w.dues gone.dues w.flow gone.flow v.fronts refl refl (sym fronts.free)
+          (stands_ended c v st stands sound x alone w.table gone.seats gone.streams gone.made w.dues gone.dues w.flow gone.flow v.fronts refl refl
+          (sym fronts.free)
           (places_stay c v st stands sound x alone (after ∙ e)))
       | inr e ↦ subst (λ (u : Kept). StandsFor c u end_state) (sym (kept_is x v w (left v.fronts x.session.stream) gone (gone.fronts_left e low high)))
-          (stands_ended c v st stands sound x alone w.table gone.seats gone.streams gone.made w.dues gone.dues w.flow gone.flow (left v.fronts x.session.stream) refl refl refl
+          (stands_ended c v st stands sound x alone w.table gone.seats gone.streams gone.made w.dues gone.dues w.flow gone.flow
+          (left v.fronts x.session.stream) refl refl refl
           (places_left c v st stands sound fronts x alone high low (after ∙ e)))
     ] in
     subst (λ (m : Move). StandsFor c w m.state) (sym (end_is st stands.seated x alone stands.sessions)) standing
@@ -122,7 +140,8 @@ pub record Found (c : Config) (v : Kept) (st : State) (stands : StandsFor c v st
   pub stream_is : seat.session.stream ≡ who.session.stream
   pub seat_is : seat ≡ seat_of who
 
-pub found : (c : Config) (v : Kept) (st : State) (stands : StandsFor c v st) (id : SessionId) (seat : Seat) → find (has_id id) v.table.seats ≡ Some seat → Found c v st stands id seat
+pub found : (c : Config) (v : Kept) (st : State) (stands : StandsFor c v st) (id : SessionId) (seat : Seat) → find (has_id id) v.table.seats ≡ Some seat
+    → Found c v st stands id seat
 found c v st stands id seat at =
     let p = find_place (has_id id) v.table.seats seat at in
     let r = seated_at c v st stands p.0 seat p.1 in
@@ -137,7 +156,8 @@ found c v st stands id seat at =
       seat_is = back;
     }
 
-gone_of : (id : SessionId) (seat : Seat) (v w : Kept) (x : Seated) → id ≡ x.session.id → seat.slot ≡ x.slot → seat.session.stream ≡ x.session.stream → Removed id seat v w → Gone x v w
+gone_of : (id : SessionId) (seat : Seat) (v w : Kept) (x : Seated) → id ≡ x.session.id → seat.slot ≡ x.slot → seat.session.stream ≡ x.session.stream
+    → Removed id seat v w → Gone x v w
 gone_of id seat v w x id_is slot_is stream_is r = record {
   clock = r.clock;
   stopped = r.stopped;
@@ -154,7 +174,8 @@ gone_of id seat v w x id_is slot_is stream_is r = record {
 }
 
 -- the same told of the seat that the id has
-pub seat_gone : (c : Config) (v w : Kept) (st : State) → StandsFor c v st → Sound v.table → FrontsSound v.fronts → (id : SessionId) (seat : Seat) → find (has_id id) v.table.seats ≡ Some seat
+pub seat_gone : (c : Config) (v w : Kept) (st : State) → StandsFor c v st → Sound v.table → FrontsSound v.fronts → (id : SessionId) (seat : Seat)
+    → find (has_id id) v.table.seats ≡ Some seat
     → Removed id seat v w → StandsFor c w (end_where (is_session id) st).state
 seat_gone c v w st stands sound fronts id seat at removed =
     let f = found c v st stands id seat at in
@@ -162,7 +183,8 @@ seat_gone c v w st stands sound fronts id seat at removed =
     (session_gone c v w st stands sound fronts f.place f.who f.got (gone_of id seat v w f.who f.id_is f.slot_is f.stream_is removed))
 
 -- and what left before it was gone
-seat_sends : (c : Config) (v : Kept) (st : State) → StandsFor c v st → Sound v.table → (id : SessionId) (seat : Seat) → find (has_id id) v.table.seats ≡ Some seat
+seat_sends : (c : Config) (v : Kept) (st : State) → StandsFor c v st → Sound v.table → (id : SessionId) (seat : Seat)
+    → find (has_id id) v.table.seats ≡ Some seat
     → flushed_datagrams v.clock (feed_of_slot seat.slot v.flow) ≡ map datagram (end_where (is_session id) st).sent
 seat_sends c v st stands sound id seat at =
     let f = found c v st stands id seat at in
@@ -191,7 +213,8 @@ flush_before id seat v w r = record {
 }
 
 pub seat_left : (c : Config) (v w : Kept) (o n : Output) (st : State) → StandsFor c v st → Sound v.table → FrontsSound v.fronts → (id : SessionId) (seat : Seat)
-    → find (has_id id) v.table.seats ≡ Some seat → (flow : List Subscription) → flow ≡ change_slot seat.slot flushed v.flow → Removed id seat (record v { flow = flow }) w
+    → find (has_id id) v.table.seats ≡ Some seat → (flow : List Subscription) → flow ≡ change_slot seat.slot flushed v.flow
+    → Removed id seat (record v { flow = flow }) w
     → SendsAll o (flushed_datagrams v.clock (feed_of_slot seat.slot v.flow)) n → Moved c w o n (end_where (is_session id) st)
 seat_left c v w o n st stands sound fronts id seat at flow same removed sends = record {
   stands = seat_gone c v w st stands sound fronts id seat at
@@ -202,7 +225,8 @@ seat_left c v w o n st stands sound fronts id seat at flow same removed sends = 
 pub nobody_left : (c : Config) (v : Kept) (o : Output) (st : State) → StandsFor c v st → Sound v.table → FrontsSound v.fronts → (id : SessionId)
     → list_any (is_session id) st.sessions ≡ false → Moved c v o o (end_where (is_session id) st)
 nobody_left c v o st stands sound fronts id none =
-    subst (λ (m : Move). Moved c v o o m) (sym (nobody_ends c v st stands sound fronts (is_session id) none)) (record { stands = stands; sent = nothing_sent o })
+    subst (λ (m : Move). Moved c v o o m) (sym (nobody_ends c v st stands sound fronts (is_session id) none))
+    (record { stands = stands; sent = nothing_sent o })
 
 pub nobody_gone : (c : Config) (v : Kept) (st : State) → StandsFor c v st → Sound v.table → FrontsSound v.fronts → (id : SessionId)
     → list_any (is_session id) st.sessions ≡ false → StandsFor c v (end_where (is_session id) st).state

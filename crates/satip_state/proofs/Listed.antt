@@ -1,5 +1,6 @@
 -- The list of subscribers as sessions change, end and are looked up.
-use Rattle.std.proofs.Common.{◌≡◌, ℕ, ◌==◌, not, Bool, true, false, cond, inl, inr, List, [], ◌∷◌, ◌++◌, map, filter, find, Option, Some, None, refl, sym, ap, ◌∙◌}
+use Rattle.std.proofs.Common.{◌≡◌, ℕ, ◌==◌, not, Bool, true, false, cond, inl, inr, List, [], ◌∷◌, ◌++◌, map, filter, find, Option, Some, None, refl, sym, ap}
+use Rattle.std.proofs.Common.{◌∙◌}
 use Rattle.std.specs.List.{list_any, filter_map, flat_map, cons_option}
 use Rattle.std.specs.Option.{option_map, option_or}
 use Rattle.std.proofs.lemmas.Bool.{or_parts}
@@ -29,8 +30,22 @@ pub listed_same : (t : Stream) (x y : Seated) (feed : Feed) → y.slot ≡ x.slo
     → cond x.session.playing (Some (listed t x feed)) None ≡ subscriber t y
 unfolding row_of
 listed_same t x y feed slot row fed =
-    let with_slot : ℕ → Option Subscription = λ n. cond x.session.playing (Some (record { place = record { slot = n; stream = t.number; count = x.session.id.count }; front = t.front; pids = t.pids; feed = feed })) None in
-    let with_count : ℕ → Option Subscription = λ n. cond x.session.playing (Some (record { place = record { slot = y.slot; stream = t.number; count = n }; front = t.front; pids = t.pids; feed = feed })) None in
+    let with_slot : ℕ → Option Subscription =
+    λ n. cond x.session.playing (Some (record {
+      place = record { slot = n; stream = t.number; count = x.session.id.count };
+      front = t.front;
+      pids =
+          t.pids;
+      feed = feed;
+    })) None in
+    let with_count : ℕ → Option Subscription =
+    λ n. cond x.session.playing (Some (record {
+      place = record { slot = y.slot; stream = t.number; count = n };
+      front = t.front;
+      pids = t.pids;
+      feed =
+          feed;
+    })) None in
     ap with_slot (sym slot)
     ∙ ap with_count (sym (ap (λ r. r.id.count) row))
     ∙ ap (λ b. cond b (Some (listed t y feed)) None) (sym (ap (λ r. r.playing) row))
@@ -57,7 +72,8 @@ in_map change f t all (x ∷ xs) stream same =
     (in_map change f t all xs stream (λ y has. same y (inr has)))
     ∙ ap (λ n. filter_map (subscriber t) (cond (n == t.number) (f x ∷ seated_in t (map f xs)) (seated_in t (map f xs)))) (sym (stream x))
   where
-    cons_same : (o p : Option Subscription) (ss ts : List Subscription) → option_map change o ≡ p → map change ss ≡ ts → map change (cons_option o ss) ≡ cons_option p ts
+    cons_same : (o p : Option Subscription) (ss ts : List Subscription) → option_map change o ≡ p → map change ss ≡ ts
+        → map change (cons_option o ss) ≡ cons_option p ts
     cons_same None p ss ts one rest = ap (λ q. cons_option q (map change ss)) one ∙ ap (cons_option p) rest
     cons_same (Some s) p ss ts one rest = ap (λ q. cons_option q (map change ss)) one ∙ ap (cons_option p) rest
 
@@ -65,7 +81,8 @@ in_map change f t all (x ∷ xs) stream same =
         → map change (filter_map (subscriber t) (seated_in t xs)) ≡ filter_map (subscriber t) (seated_in t (map f xs))
         → map change (filter_map (subscriber t) (cond b (x ∷ seated_in t xs) (seated_in t xs)))
         ≡ filter_map (subscriber t) (cond b (f x ∷ seated_in t (map f xs)) (seated_in t (map f xs)))
-    by true e rest = cons_same (subscriber t x) (subscriber t (f x)) (filter_map (subscriber t) (seated_in t xs)) (filter_map (subscriber t) (seated_in t (map f xs))) (same x (inl refl) e) rest
+    by true e rest = cons_same (subscriber t x) (subscriber t (f x)) (filter_map (subscriber t) (seated_in t xs))
+        (filter_map (subscriber t) (seated_in t (map f xs))) (same x (inl refl) e) rest
     by false e rest = rest
 
 streams_map : (change : Subscription → Subscription) (f : Seated → Seated) (xs : List Seated) (ts : List Stream)
@@ -104,7 +121,8 @@ slot_listed slot t x b e =
         nothing true = refl
         nothing false = refl
 
-find_cons : (p : Subscription → Bool) (o : Option Subscription) (ss : List Subscription) → find p (cons_option o ss) ≡ option_or (find p (cons_option o [])) (find p ss)
+find_cons : (p : Subscription → Bool) (o : Option Subscription) (ss : List Subscription)
+    → find p (cons_option o ss) ≡ option_or (find p (cons_option o [])) (find p ss)
 find_cons p None ss = refl
 find_cons p (Some s) ss = by (p s)
   where
@@ -113,7 +131,8 @@ find_cons p (Some s) ss = by (p s)
     by false = refl
 
 -- no one of a list has the slot
-none_listed : (slot : ℕ) (t : Stream) (xs : List Seated) → list_any (is_seat slot) xs ≡ false → find (has_slot slot) (filter_map (subscriber t) (seated_in t xs)) ≡ None
+none_listed : (slot : ℕ) (t : Stream) (xs : List Seated) → list_any (is_seat slot) xs ≡ false
+    → find (has_slot slot) (filter_map (subscriber t) (seated_in t xs)) ≡ None
 none_listed slot t [] none = refl
 none_listed slot t (x ∷ xs) none =
     let parts = or_parts (is_seat slot x) (list_any (is_seat slot) xs) none in
@@ -150,7 +169,8 @@ one_listed slot t (y ∷ a) x b before here behind =
   where
     by : (c : Bool) → is_seat slot y ≡ false
         → find (has_slot slot) (filter_map (subscriber t) (seated_in t (a ++ x ∷ b))) ≡ cond (x.session.stream == t.number) (subscriber t x) None
-        → find (has_slot slot) (filter_map (subscriber t) (cond c (y ∷ seated_in t (a ++ x ∷ b)) (seated_in t (a ++ x ∷ b)))) ≡ cond (x.session.stream == t.number) (subscriber t x) None
+        → find (has_slot slot) (filter_map (subscriber t) (cond c (y ∷ seated_in t (a ++ x ∷ b)) (seated_in t (a ++ x ∷ b)))) ≡ cond
+        (x.session.stream == t.number) (subscriber t x) None
     by true other rest =
         find_cons (has_slot slot) (subscriber t y) (filter_map (subscriber t) (seated_in t (a ++ x ∷ b)))
         ∙ ap (λ o. option_or o (find (has_slot slot) (filter_map (subscriber t) (seated_in t (a ++ x ∷ b))))) (slot_listed slot t y false other)
@@ -161,7 +181,8 @@ find_both : (p : Subscription → Bool) (xs ys : List Subscription) → find p (
 find_both p [] ys = refl
 find_both p (x ∷ xs) ys = by (p x) (find_both p xs ys)
   where
-    by : (b : Bool) → find p (xs ++ ys) ≡ option_or (find p xs) (find p ys) → cond b (Some x) (find p (xs ++ ys)) ≡ option_or (cond b (Some x) (find p xs)) (find p ys)
+    by : (b : Bool) → find p (xs ++ ys) ≡ option_or (find p xs) (find p ys)
+        → cond b (Some x) (find p (xs ++ ys)) ≡ option_or (cond b (Some x) (find p xs)) (find p ys)
     by true rest = refl
     by false rest = rest
 
@@ -176,18 +197,21 @@ streams_idle slot a x b [] before here behind idle = refl
 streams_idle slot a x b (u ∷ us) before here behind idle =
     find_both (has_slot slot) (filter_map (subscriber u) (seated_in u (a ++ x ∷ b))) (flat_map (λ v. filter_map (subscriber v) (seated_in v (a ++ x ∷ b))) us)
     ∙ ap (λ o. option_or o (find (has_slot slot) (flat_map (λ v. filter_map (subscriber v) (seated_in v (a ++ x ∷ b))) us)))
-    (one_listed slot u a x b before here behind ∙ ap (λ o. cond (x.session.stream == u.number) o None) (idle_none u x idle) ∙ nothing (x.session.stream == u.number))
+    (one_listed slot u a x b before here behind ∙ ap (λ o. cond (x.session.stream == u.number) o None) (idle_none u x idle)
+    ∙ nothing (x.session.stream == u.number))
     ∙ streams_idle slot a x b us before here behind idle
   where
     nothing : (c : Bool) → ◌≡◌ {A = Option Subscription} (cond c None None) None
     nothing true = refl
     nothing false = refl
 
-or_itself : (t : Stream) (x : Seated) (rest : Option Subscription) → (x.session.playing ≡ false → rest ≡ None) → option_or (subscriber t x) rest ≡ subscriber t x
+or_itself : (t : Stream) (x : Seated) (rest : Option Subscription) → (x.session.playing ≡ false → rest ≡ None)
+    → option_or (subscriber t x) rest ≡ subscriber t x
 or_itself t x rest idle =
     ap (λ o. option_or o rest) (subscriber_is t x) ∙ by x.session.playing refl ∙ sym (subscriber_is t x)
   where
-    by : (p : Bool) → x.session.playing ≡ p → option_or (cond p (Some (listed t x (feed_of x.session))) None) rest ≡ cond p (Some (listed t x (feed_of x.session))) None
+    by : (p : Bool) → x.session.playing ≡ p → option_or (cond p (Some (listed t x (feed_of x.session))) None) rest ≡ cond p
+        (Some (listed t x (feed_of x.session))) None
     by true e = refl
     by false e = idle e
 
@@ -245,7 +269,8 @@ drop_cons slot (Some s) ss ts false its rest = by (has_slot slot s) its
     by false e = ap (λ zs. s ∷ zs) rest
 
 in_without : (slot : ℕ) (t : Stream) (xs : List Seated)
-    → filter (λ s. not (has_slot slot s)) (filter_map (subscriber t) (seated_in t xs)) ≡ filter_map (subscriber t) (seated_in t (filter (λ x. not (is_seat slot x)) xs))
+    → filter (λ s. not (has_slot slot s)) (filter_map (subscriber t) (seated_in t xs)) ≡ filter_map (subscriber t)
+    (seated_in t (filter (λ x. not (is_seat slot x)) xs))
 in_without slot t [] = refl
 in_without slot t (x ∷ xs) = by (x.session.stream == t.number) (is_seat slot x) refl refl (in_without slot t xs)
   where
@@ -256,9 +281,11 @@ in_without slot t (x ∷ xs) = by (x.session.stream == t.number) (is_seat slot x
         → filter (λ s. not (has_slot slot s)) (filter_map (subscriber t) (seated_in t xs)) ≡ filter_map (subscriber t) (seated_in t others)
         → filter (λ s. not (has_slot slot s)) (filter_map (subscriber t) (cond b (x ∷ seated_in t xs) (seated_in t xs)))
         ≡ filter_map (subscriber t) (seated_in t (cond (not c) (x ∷ others) others))
-    by true true at here rest = drop_cons slot (subscriber t x) (filter_map (subscriber t) (seated_in t xs)) (filter_map (subscriber t) (seated_in t others)) true (slot_listed slot t x true here) rest
+    by true true at here rest = drop_cons slot (subscriber t x) (filter_map (subscriber t) (seated_in t xs))
+        (filter_map (subscriber t) (seated_in t others)) true (slot_listed slot t x true here) rest
     by true false at other rest =
-        drop_cons slot (subscriber t x) (filter_map (subscriber t) (seated_in t xs)) (filter_map (subscriber t) (seated_in t others)) false (slot_listed slot t x false other) rest
+        drop_cons slot (subscriber t x) (filter_map (subscriber t) (seated_in t xs)) (filter_map (subscriber t) (seated_in t others)) false
+        (slot_listed slot t x false other) rest
         ∙ ap (λ d. filter_map (subscriber t) (cond d (x ∷ seated_in t others) (seated_in t others))) (sym at)
     by false true at here rest = rest
     by false false at other rest = rest ∙ ap (λ d. filter_map (subscriber t) (cond d (x ∷ seated_in t others) (seated_in t others))) (sym at)
@@ -267,7 +294,8 @@ filter_both : (p : Subscription → Bool) (xs ys : List Subscription) → filter
 filter_both p [] ys = refl
 filter_both p (x ∷ xs) ys = by (p x) (filter_both p xs ys)
   where
-    by : (b : Bool) → filter p (xs ++ ys) ≡ filter p xs ++ filter p ys → cond b (x ∷ filter p (xs ++ ys)) (filter p (xs ++ ys)) ≡ cond b (x ∷ filter p xs) (filter p xs) ++ filter p ys
+    by : (b : Bool) → filter p (xs ++ ys) ≡ filter p xs ++ filter p ys
+        → cond b (x ∷ filter p (xs ++ ys)) (filter p (xs ++ ys)) ≡ cond b (x ∷ filter p xs) (filter p xs) ++ filter p ys
     by true rest = ap (λ zs. x ∷ zs) rest
     by false rest = rest
 

@@ -36,7 +36,8 @@ pub stream_same : (s t : Session) → row_of t ≡ row_of s → t.stream ≡ s.s
 unfolding row_of
 stream_same s t row = ap (λ (r : Row). r.stream) row
 
-due_same : (timeout : ℕ) (f : Seated → Seated) → ((x : Seated) → (f x).slot ≡ x.slot) → ((x : Seated) → row_of (f x).session ≡ row_of x.session) → (xs : List Seated) (n : ℕ)
+due_same : (timeout : ℕ) (f : Seated → Seated) → ((x : Seated) → (f x).slot ≡ x.slot) → ((x : Seated) → row_of (f x).session ≡ row_of x.session)
+    → (xs : List Seated) (n : ℕ)
     → due_of timeout (map f xs) n ≡ due_of timeout xs n
 due_same timeout f slot row [] n = refl
 due_same timeout f slot row (x ∷ xs) n =
@@ -75,7 +76,8 @@ stands_mapped c v st stands f slot row kept flow listed = record {
 }
 
 -- what holds of each goes on to hold
-pub each_mapped : (f : Seated → Seated) (xs : List Seated) → ((x : Seated) → IsKept x.session → IsKept (f x).session) → Each IsKept (sessions_of xs) → Each IsKept (sessions_of (map f xs))
+pub each_mapped : (f : Seated → Seated) (xs : List Seated) → ((x : Seated) → IsKept x.session → IsKept (f x).session) → Each IsKept (sessions_of xs)
+    → Each IsKept (sessions_of (map f xs))
 each_mapped f [] keeps each = tt
 each_mapped f (x ∷ xs) keeps each = (keeps x each.0, each_mapped f xs keeps each.1)
 
@@ -100,12 +102,15 @@ row_stream : (s : Session) → (row_of s).stream ≡ s.stream
 unfolding row_of
 row_stream s = refl
 
-pub stream_lives : (c : Config) (v : Kept) (st : State) (stands : StandsFor c v st) → Sound v.table → (place : ℕ) (x : Seated) → slice_get stands.seated place ≡ Some x
+pub stream_lives : (c : Config) (v : Kept) (st : State) (stands : StandsFor c v st) → Sound v.table → (place : ℕ) (x : Seated)
+    → slice_get stands.seated place ≡ Some x
     → (t : Stream) × (stream_of st x.session.stream ≡ Some t)
 stream_lives c v st stands sound place x got =
-    let at : slice_get v.table.seats place ≡ Some (seat_of x) = ap (λ seats. slice_get seats place) stands.seats ∙ get-map seat_of stands.seated place ∙ ap (option_map seat_of) got in
+    let at : slice_get v.table.seats place ≡ Some (seat_of x) = ap (λ seats. slice_get seats place) stands.seats ∙ get-map seat_of stands.seated place
+    ∙ ap (option_map seat_of) got in
     let live : is_live v.table.streams x.session.stream ≡ true =
-    ap (is_live v.table.streams) (sym (row_stream x.session)) ∙ all_get (λ seat. is_live v.table.streams seat.session.stream) v.table.seats place (seat_of x) sound.housed at in
+    ap (is_live v.table.streams) (sym (row_stream x.session))
+    ∙ all_get (λ seat. is_live v.table.streams seat.session.stream) v.table.seats place (seat_of x) sound.housed at in
     let any : list_any (λ (t : Stream). t.number == x.session.stream) st.streams ≡ true =
     ap (list_any (λ (t : Stream). t.number == x.session.stream)) (sym stands.streams) ∙ lives_in v.table.streams x.session.stream ∙ live in
     find_some (λ (t : Stream). t.number == x.session.stream) st.streams any

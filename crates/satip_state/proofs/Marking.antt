@@ -1,5 +1,6 @@
 -- Sessions of marked slots end, one slot after the other.
-use Rattle.std.proofs.Common.{◌≡◌, ℕ, ◌+◌, ◌<◌, ◌==◌, ◌&&◌, ◌||◌, not, Bool, true, false, cond, ◌⊎◌, List, [], ◌∷◌, map, filter, find, Some, None, refl, sym, ap, subst, ◌∙◌, arith, inl, inr}
+use Rattle.std.proofs.Common.{◌≡◌, ℕ, ◌+◌, ◌<◌, ◌==◌, ◌&&◌, ◌||◌, not, Bool, true, false, cond, ◌⊎◌, List, [], ◌∷◌, map, filter, find, Some, None, refl, sym}
+use Rattle.std.proofs.Common.{ap, subst, ◌∙◌, arith, inl, inr}
 use Rattle.std.specs.Int.{bit_at}
 use Rattle.std.specs.List.{slice_get}
 use Rattle.std.specs.Option.{option_map}
@@ -55,7 +56,8 @@ bit_set : (n : ℕ) (b : Bool) → (n == 1) ≡ true → n ≡ cond b 1 0 → b 
 bit_set n true e same = refl
 bit_set n false e same = absurd (omega (arith, eqb-true n 1 e, same))
 
-pub unmarked : (c : Config) (v : Kept) (st : State) (ends : SessionId → Bool) (marks slot : ℕ) → EndedMarked c v st ends marks slot → (bit_at marks slot == 1) ≡ false
+pub unmarked : (c : Config) (v : Kept) (st : State) (ends : SessionId → Bool) (marks slot : ℕ) → EndedMarked c v st ends marks slot
+    → (bit_at marks slot == 1) ≡ false
     → EndedMarked c v st ends marks (slot + 1)
 unmarked c v st ends marks slot e bit = record {
   who = e.who;
@@ -70,12 +72,14 @@ none_has : (slot : ℕ) (seats : List Seat) (seat : Seat) → None ≡ find (has
 none_has slot [] seat none has same = has
 none_has slot (y ∷ ys) seat none has same = by (has_slot slot y) refl none has (λ n h. none_has slot ys seat n h same)
   where
-    by : (b : Bool) → has_slot slot y ≡ b → None ≡ cond b (Some y) (find (has_slot slot) ys) → (seat ≡ y) ⊎ Has seat ys → (None ≡ find (has_slot slot) ys → Has seat ys → ⊥) → ⊥
+    by : (b : Bool) → has_slot slot y ≡ b → None ≡ cond b (Some y) (find (has_slot slot) ys) → (seat ≡ y) ⊎ Has seat ys
+        → (None ≡ find (has_slot slot) ys → Has seat ys → ⊥) → ⊥
     by true e n h rest = absurd (cc)
     by false e n (inl it) rest = true≢false (sym (eq-eqb y.slot slot (ap (λ (z : Seat). z.slot) (sym it) ∙ same)) ∙ e)
     by false e n (inr h) rest = rest n h
 
-pub nobody_marked : (c : Config) (v : Kept) (st : State) (ends : SessionId → Bool) (marks slot : ℕ) → EndedMarked c v st ends marks slot → None ≡ find (has_slot slot) v.table.seats
+pub nobody_marked : (c : Config) (v : Kept) (st : State) (ends : SessionId → Bool) (marks slot : ℕ) → EndedMarked c v st ends marks slot
+    → None ≡ find (has_slot slot) v.table.seats
     → EndedMarked c v st ends marks (slot + 1)
 nobody_marked c v st ends marks slot e none = record {
   who = e.who;
@@ -86,7 +90,8 @@ nobody_marked c v st ends marks slot e none = record {
 }
 
 -- where no slot is marked, nobody is left to end
-pub none_marked : (c : Config) (v : Kept) (st : State) (ends : SessionId → Bool) (marks slot : ℕ) → marks ≡ 0 → EndedMarked c v st ends marks slot → EndedMarked c v st ends marks 64
+pub none_marked : (c : Config) (v : Kept) (st : State) (ends : SessionId → Bool) (marks slot : ℕ) → marks ≡ 0 → EndedMarked c v st ends marks slot
+    → EndedMarked c v st ends marks 64
 none_marked c v st ends marks slot none e = record {
   who = e.who;
   some = e.some;
@@ -99,7 +104,8 @@ none_marked c v st ends marks slot none e = record {
 }
 
 -- who has a slot is alone with it
-slots_once : (seats : List Seat) (slot : ℕ) (seat other : Seat) → SlotsApart seats → find (has_slot slot) seats ≡ Some seat → Has other seats → other.slot ≡ slot → other ≡ seat
+slots_once : (seats : List Seat) (slot : ℕ) (seat other : Seat) → SlotsApart seats → find (has_slot slot) seats ≡ Some seat → Has other seats
+    → other.slot ≡ slot → other ≡ seat
 slots_once [] slot seat other apart found has same = absurd has
 slots_once (y ∷ ys) slot seat other apart found has same = by (has_slot slot y) refl found has (λ f h. slots_once ys slot seat other apart.2 f h same)
   where
@@ -112,7 +118,8 @@ slots_once (y ∷ ys) slot seat other apart found has same = by (has_slot slot y
     by false e f (inl it) rest = absurd (true≢false (sym (eq-eqb y.slot slot (ap (λ (z : Seat). z.slot) (sym it) ∙ same)) ∙ e))
     by false e f (inr h) rest = rest f h
 
-pub marked_ended : (c : Config) (v w : Kept) (st : State) (ends : SessionId → Bool) (marks slot : ℕ) (e : EndedMarked c v st ends marks slot) → Sound v.table → (seat : Seat)
+pub marked_ended : (c : Config) (v w : Kept) (st : State) (ends : SessionId → Bool) (marks slot : ℕ) (e : EndedMarked c v st ends marks slot) → Sound v.table
+    → (seat : Seat)
     → find (has_slot slot) v.table.seats ≡ Some seat → (bit_at marks slot == 1) ≡ true
     → StandsFor c w (end_where (is_session seat.session.id) (end_where e.who st).state).state → w.table.seats ≡ without seat.session.id v.table.seats
     → EndedMarked c w st ends marks (slot + 1)
@@ -121,7 +128,8 @@ marked_ended c v w st ends marks slot e sound seat found bit after seats =
     let id : SessionId = seat.session.id in
     let p = find_place (has_slot slot) v.table.seats seat found in
     let own : seat.slot ≡ slot = eqb-true seat.slot slot p.2 in
-    let its : ends id ≡ true = bit_set (bit_at marks slot) (ends id) bit (ap (bit_at marks) (sym own) ∙ each_at (IsMarked marks ends) v.table.seats seat e.marked (get_has v.table.seats p.0 seat p.1)) in
+    let its : ends id ≡ true = bit_set (bit_at marks slot) (ends id) bit (ap (bit_at marks) (sym own)
+    ∙ each_at (IsMarked marks ends) v.table.seats seat e.marked (get_has v.table.seats p.0 seat p.1)) in
     let one : Session → Bool = λ s. is_session id s && ends s.id in
     let same : (s : Session) → Has s (lose e.who st).sessions → is_session id s ≡ one s = λ s has.
     elim (cases_Bool (is_session id s)) [
@@ -141,7 +149,8 @@ marked_ended c v w st ends marks slot e sound seat found bit after seats =
       stands = subst (λ z. StandsFor c w z) is_state after;
       marked = subst (Each (IsMarked marks ends)) (sym seats) (each_filter (IsMarked marks ends) (λ z. not (has_id id z)) v.table.seats e.marked);
       clear = subst (Each (λ z. z.slot < slot + 1 → ends z.session.id ≡ false)) (sym seats)
-          (next_clear (without id v.table.seats) ends slot (each_filter (λ z. z.slot < slot → ends z.session.id ≡ false) (λ z. not (has_id id z)) v.table.seats e.clear)
+          (next_clear (without id v.table.seats) ends slot
+          (each_filter (λ z. z.slot < slot → ends z.session.id ≡ false) (λ z. not (has_id id z)) v.table.seats e.clear)
           (λ other has at.
           let it : other ≡ seat = slots_once v.table.seats slot seat other sound.slots found (filter_in (λ z. not (has_id id z)) v.table.seats other has) at in
           let not_it : has_id id other ≡ false = not-true (has_id id other) (filter_passing (λ z. not (has_id id z)) v.table.seats other has) in
@@ -157,8 +166,11 @@ all_marked c w st ends marks sound e =
     let now : StandsFor c w (lose e.who st) = subst (λ z. StandsFor c w z) (end_loses e.who st) e.stands in
     let r = has_get (map (λ (x : Seated). x.session) now.seated) s (subst (λ ss. Has s ss) now.sessions has) in
     let y = map_some (λ (x : Seated). x.session) (slice_get now.seated r.0) s (sym (get-map (λ (x : Seated). x.session) now.seated r.0) ∙ r.1) in
-    let at : slice_get w.table.seats r.0 ≡ Some (seat_of y.0) = ap (λ ss. slice_get ss r.0) now.seats ∙ get-map seat_of now.seated r.0 ∙ ap (option_map seat_of) y.1 in
-    let clear : ends (seat_of y.0).session.id ≡ false = each_at (λ z. z.slot < 64 → ends z.session.id ≡ false) w.table.seats (seat_of y.0) e.clear (get_has w.table.seats r.0 (seat_of y.0) at) (low r.0 (seat_of y.0) at) in
+    let at : slice_get w.table.seats r.0 ≡ Some (seat_of y.0) = ap (λ ss. slice_get ss r.0) now.seats ∙ get-map seat_of now.seated r.0
+    ∙ ap (option_map seat_of) y.1 in
+    let clear : ends (seat_of y.0).session.id ≡ false =
+    each_at (λ z. z.slot < 64 → ends z.session.id ≡ false) w.table.seats (seat_of y.0) e.clear (get_has w.table.seats r.0 (seat_of y.0) at)
+    (low r.0 (seat_of y.0) at) in
     ap (λ (x : Session). ends x.id) (sym y.2) ∙ ap ends (sym (id_at y.0)) ∙ clear in
     let same : (s : Session) → Has s st.sessions → e.who s ≡ ends s.id = λ s has.
     elim (cases_Bool (e.who s)) [

@@ -24,7 +24,8 @@ pub moved_then : (c : Config) (v w : Kept) (o m n : Output) (a b : Move) → Mov
 moved_then c v w o m n a b first second = record { stands = second.stands; sent = sent_then o m n a.sent b.sent first.sent second.sent }
 
 round_is : (r : Round) (ss : List Session) (ds : List Sent) → r.sessions ≡ ss → r.sent ≡ ds → r ≡ record { sessions = ss; sent = ds }
-round_is r ss ds sessions sent = ap (λ (x : List Session). record { sessions = x; sent = r.sent }) sessions ∙ ap (λ (y : List Sent). record { sessions = ss; sent = y }) sent
+round_is r ss ds sessions sent = ap (λ (x : List Session). record { sessions = x; sent = r.sent }) sessions
+    ∙ ap (λ (y : List Sent). record { sessions = ss; sent = y }) sent
 
 -- a flush ends no session
 flush_stays : (only : Option ℕ) (clock : ℕ) → Stays (flush_turn only clock) (λ s. cond (is_flushed only s.stream s.http) (cut_off true s) s)
@@ -37,7 +38,8 @@ flush_stays only clock s = by (is_flushed only s.stream s.http)
 -- one more session had its turn
 pub turned_more : (c : Config) (v w : Kept) (o m n : Output) (st : State) (turn : Session → Turn) (f : Session → Session) → Stays turn f → (k : ℕ)
     → Moved c v o m (after_round st (first_turns k turn st.sessions))
-    → Moved c w m n (after_round (record st { sessions = (first_turns k turn st.sessions).sessions }) (turn_of k turn (first_turns k turn st.sessions).sessions))
+    → Moved c w m n (after_round (record st { sessions = (first_turns k turn st.sessions).sessions })
+    (turn_of k turn (first_turns k turn st.sessions).sessions))
     → Moved c w o n (after_round st (first_turns (k + 1) turn st.sessions))
 turned_more c v w o m n st turn f stays k first second =
     let old : Round = first_turns k turn st.sessions in

@@ -24,11 +24,13 @@ use Rattle.satip_state.proofs.Mapped.{seated_kept, stands_apart, stream_lives, a
 abbrev sender_at : Option Subscription → Option SenderState
 sender_at found = sender_state (option_and_then packing_in (option_map (λ (s : Subscription). s.feed) found))
 
-sender_playing : (x : Seated) (t : Stream) → x.session.playing ≡ true → x.session.http ≡ false → option_map_or (λ (s : SenderState). s.next) (sender_at (subscriber t x)) x.session.first ≡ next_number x.session
+sender_playing : (x : Seated) (t : Stream) → x.session.playing ≡ true → x.session.http ≡ false
+    → option_map_or (λ (s : SenderState). s.next) (sender_at (subscriber t x)) x.session.first ≡ next_number x.session
 unfolding subscriber feed_of packing_of
 sender_playing x t p h = rw (p, h) refl
 
-sender_idle : (x : Seated) (t : Stream) → x.session.playing ≡ false → option_map_or (λ (s : SenderState). s.next) (sender_at (subscriber t x)) x.session.first ≡ x.session.first
+sender_idle : (x : Seated) (t : Stream) → x.session.playing ≡ false
+    → option_map_or (λ (s : SenderState). s.next) (sender_at (subscriber t x)) x.session.first ≡ x.session.first
 unfolding subscriber
 sender_idle x t p = rw p refl
 
@@ -38,7 +40,8 @@ number_is : (x : Seated) (t : Stream) (subs : List Subscription) → IsKept x.se
 unfolding row_of
 number_is x t subs kept found = by x.session.http x.session.playing refl refl
   where
-    at : option_map_or (λ (s : SenderState). s.next) (sender_state (packing_of_slot x.slot subs)) x.session.first ≡ option_map_or (λ (s : SenderState). s.next) (sender_at (subscriber t x)) x.session.first
+    at : option_map_or (λ (s : SenderState). s.next) (sender_state (packing_of_slot x.slot subs)) x.session.first ≡ option_map_or
+        (λ (s : SenderState). s.next) (sender_at (subscriber t x)) x.session.first
     at = ap (λ o. option_map_or (λ (s : SenderState). s.next) (sender_at o) x.session.first) found
 
     by : (h p : Bool) → x.session.http ≡ h → x.session.playing ≡ p
@@ -55,14 +58,16 @@ unfolding row_of
 seat_found id xs = find-map seat_of (has_id id) xs
 
 -- the next number of the session of a seat
-pub number_looked : (c : Config) (v : Kept) (st : State) (id : SessionId) (seat : Option Seat) → StandsFor c v st → Sound v.table → seat ≡ find (has_id id) v.table.seats
+pub number_looked : (c : Config) (v : Kept) (st : State) (id : SessionId) (seat : Option Seat) → StandsFor c v st → Sound v.table
+    → seat ≡ find (has_id id) v.table.seats
     → kept_number (sender_in v seat) seat ≡ rtsp_number (find (is_session id) st.sessions)
 number_looked c v st id seat stands sound is =
     let kept = is ∙ ap (find (has_id id)) stands.seats ∙ seat_found id stands.seated in
     let known = ap (find (is_session id)) stands.sessions ∙ find-map (λ (x : Seated). x.session) (is_session id) stands.seated in
     ap (λ s. kept_number (sender_in v s) s) kept ∙ by (find (has_session id) stands.seated) refl ∙ ap rtsp_number (sym known)
   where
-    by : (o : Option Seated) → find (has_session id) stands.seated ≡ o → kept_number (sender_in v (option_map seat_of o)) (option_map seat_of o) ≡ rtsp_number (option_map (λ (x : Seated). x.session) o)
+    by : (o : Option Seated) → find (has_session id) stands.seated ≡ o
+        → kept_number (sender_in v (option_map seat_of o)) (option_map seat_of o) ≡ rtsp_number (option_map (λ (x : Seated). x.session) o)
     by None found = refl
     by (Some x) found =
         let place = find_place (has_session id) stands.seated x found in
@@ -71,4 +76,5 @@ number_looked c v st id seat stands sound is =
         let kept = seated_kept stands.seated x (all_kept c v st stands) (get_has stands.seated place.0 x place.1) in
         let whole = stands.flow ∙ ap (λ xs. subscribers xs st.streams) at.alone.whole in
         number_is x lives.0 v.flow kept
-        (ap (find (has_slot x.slot)) whole ∙ subscribers_find x.slot at.alone.before x at.alone.behind st.streams at.alone.slot_before (slot_itself x) at.alone.slot_behind lives.0 lives.1)
+        (ap (find (has_slot x.slot)) whole ∙ subscribers_find x.slot at.alone.before x at.alone.behind st.streams at.alone.slot_before
+        (slot_itself x) at.alone.slot_behind lives.0 lives.1)

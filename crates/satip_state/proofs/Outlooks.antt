@@ -1,5 +1,6 @@
 -- What is looked at to choose a front end is the same in the parts as in the plain state.
-use Rattle.std.proofs.Common.{◌≡◌, ◌≢◌, ◌∙◌, ℕ, zero, suc, ◌+◌, ◌-◌, ◌<◌, ◌≤◌, ◌==◌, ◌&&◌, ◌||◌, not, nat_le, Bool, true, false, cond, List, [], ◌∷◌, length, map, find, filter, Option, Some, None, refl, ap, sym, subst, arith, slice_get, slice_set}
+use Rattle.std.proofs.Common.{◌≡◌, ◌≢◌, ◌∙◌, ℕ, zero, suc, ◌+◌, ◌-◌, ◌<◌, ◌≤◌, ◌==◌, ◌&&◌, ◌||◌, not, nat_le, Bool, true, false, cond, List, [], ◌∷◌, length}
+use Rattle.std.proofs.Common.{map, find, filter, Option, Some, None, refl, ap, sym, subst, arith, slice_get, slice_set}
 use Rattle.std.proofs.Math.Path.{fun_ext}
 use Rattle.std.specs.List.{list_any}
 use Rattle.std.specs.Option.{option_and_then, option_flatten}
@@ -40,7 +41,8 @@ placed_some : (f : ℕ) (ps : List (Option ℕ)) → list_any (is_placed f) ps �
 placed_some f [] e = cc
 placed_some f (p ∷ ps) e = by (is_placed f p) refl e (placed_some f ps)
   where
-    by : (b : Bool) → is_placed f p ≡ b → (b || list_any (is_placed f) ps) ≡ true → (list_any (is_placed f) ps ≡ true → (i : ℕ) × (slice_get ps i ≡ Some (Some f))) → (i : ℕ) × (slice_get (p ∷ ps) i ≡ Some (Some f))
+    by : (b : Bool) → is_placed f p ≡ b → (b || list_any (is_placed f) ps) ≡ true
+        → (list_any (is_placed f) ps ≡ true → (i : ℕ) × (slice_get ps i ≡ Some (Some f))) → (i : ℕ) × (slice_get (p ∷ ps) i ≡ Some (Some f))
     by true same _ rest = (zero, ap Some (is_placed_some f p same))
     by false _ later rest = let r = rest later in (suc r.0, r.1)
 
@@ -111,11 +113,13 @@ stream_serves n m f [] e apart = cc
 stream_serves n m f (t ∷ ts) e apart = by (t.number == m) refl e (λ later. stream_serves n m f ts later apart)
   where
     by : (b : Bool) → (t.number == m) ≡ b → option_and_then (λ t. t.front) (cond b (Some t) (find (λ t. t.number == m) ts)) ≡ Some f
-        → (option_and_then (λ t. t.front) (find (λ t. t.number == m) ts) ≡ Some f → list_any (λ t. not (t.number == n)) (filter (λ t. is_at t.front f) ts) ≡ true)
+        → (option_and_then (λ t. t.front) (find (λ t. t.number == m) ts) ≡ Some f
+        → list_any (λ t. not (t.number == n)) (filter (λ t. is_at t.front f) ts) ≡ true)
         → list_any (λ t. not (t.number == n)) (cond (is_at t.front f) (t ∷ filter (λ t. is_at t.front f) ts) (filter (λ t. is_at t.front f) ts)) ≡ true
     by true same here rest =
         let number : t.number ≡ m = eqb-true t.number m same in
-        ap (λ b. list_any (λ t. not (t.number == n)) (cond b (t ∷ filter (λ t. is_at t.front f) ts) (filter (λ t. is_at t.front f) ts))) (is_at_some t.front f here)
+        ap (λ b. list_any (λ t. not (t.number == n)) (cond b (t ∷ filter (λ t. is_at t.front f) ts) (filter (λ t. is_at t.front f) ts)))
+        (is_at_some t.front f here)
         ∙ or_left _ _ (ap not (ap (λ k. k == n) number ∙ ne_eqb m n apart))
     by false same later rest = any_behind (is_at t.front f) (λ t. not (t.number == n)) t (filter (λ t. is_at t.front f) ts) (rest later)
 
@@ -138,9 +142,11 @@ serves_behind above n f t ts more r =
     let passed : (t.number == r.0) ≡ false = ne_eqb t.number r.0 (λ s. omega (arith, s, r.1)) in
     (r.0, omega (arith, more, r.1), r.2, ap (λ b. option_and_then (λ (u : Stream). u.front) (cond b (Some t) (find (λ u. u.number == r.0) ts))) passed ∙ r.3)
 
-serves_stream : (n f above : ℕ) (ts : List Stream) → Rise above ts → list_any (λ t. not (t.number == n)) (filter (λ t. is_at t.front f) ts) ≡ true → Serving above n f ts
+serves_stream : (n f above : ℕ) (ts : List Stream) → Rise above ts → list_any (λ t. not (t.number == n)) (filter (λ t. is_at t.front f) ts) ≡ true
+    → Serving above n f ts
 serves_stream n f above [] rise e = cc
-serves_stream n f above (t ∷ ts) rise e = by (is_at t.front f) (t.number == n) refl refl e (λ later. serves_behind above n f t ts rise.0 (serves_stream n f t.number ts rise.1 later))
+serves_stream n f above (t ∷ ts) rise e =
+    by (is_at t.front f) (t.number == n) refl refl e (λ later. serves_behind above n f t ts rise.0 (serves_stream n f t.number ts rise.1 later))
   where
     by : (b d : Bool) → is_at t.front f ≡ b → (t.number == n) ≡ d
         → list_any (λ u. not (u.number == n)) (cond b (t ∷ filter (λ u. is_at u.front f) ts) (filter (λ u. is_at u.front f) ts)) ≡ true
@@ -149,7 +155,8 @@ serves_stream n f above (t ∷ ts) rise e = by (is_at t.front f) (t.number == n)
       t.number,
       rise.0,
       (λ s. false≢true (sym other ∙ eq-eqb t.number n s)),
-      ap (λ b. option_and_then (λ (u : Stream). u.front) (cond b (Some t) (find (λ u. u.number == t.number) ts))) (eq-eqb t.number t.number refl) ∙ some_at t.front f at,
+      ap (λ b. option_and_then (λ (u : Stream). u.front) (cond b (Some t) (find (λ u. u.number == t.number) ts))) (eq-eqb t.number t.number refl)
+          ∙ some_at t.front f at,
     )
     by true true at same e rest = rest (sym (ap (λ d. not d || list_any (λ u. not (u.number == n)) (filter (λ u. is_at u.front f) ts)) same) ∙ e)
     by false d at other e rest = rest e
@@ -191,17 +198,21 @@ unfolding mux_at row_in
 rows_mux f [] = refl
 rows_mux f (r ∷ rs) = by (r.number == f) (rows_mux f rs)
   where
-    by : (b : Bool) → option_and_then (λ (row : FrontRow). row.mux) (find (is_row f) rs) ≡ option_and_then (λ (r : Row). r.mux) (find (λ r. r.number == f) (map row_in rs))
-        → option_and_then (λ (row : FrontRow). row.mux) (cond b (Some r) (find (is_row f) rs)) ≡ option_and_then (λ (r : Row). r.mux) (cond b (Some (row_in r)) (find (λ r. r.number == f) (map row_in rs)))
+    by : (b : Bool) → option_and_then (λ (row : FrontRow). row.mux) (find (is_row f) rs) ≡ option_and_then (λ (r : Row). r.mux)
+        (find (λ r. r.number == f) (map row_in rs))
+        → option_and_then (λ (row : FrontRow). row.mux) (cond b (Some r) (find (is_row f) rs)) ≡ option_and_then (λ (r : Row). r.mux)
+        (cond b (Some (row_in r)) (find (λ r. r.number == f) (map row_in rs)))
     by true rest = refl
     by false rest = rest
 
 an_outlook : List Front → (ℕ → Option ℕ) → Option ℕ → (ℕ → Bool) → Outlook
 an_outlook fronts mux_at own shared = record { fronts = fronts; mux_at = mux_at; own = own; shared = shared }
 
-same_outlook : (fs gs : List Front) (m k : ℕ → Option ℕ) (a b : Option ℕ) (s t : ℕ → Bool) → fs ≡ gs → ((f : ℕ) → m f ≡ k f) → a ≡ b → ((f : ℕ) → s f ≡ t f) → an_outlook fs m a s ≡ an_outlook gs k b t
+same_outlook : (fs gs : List Front) (m k : ℕ → Option ℕ) (a b : Option ℕ) (s t : ℕ → Bool) → fs ≡ gs → ((f : ℕ) → m f ≡ k f) → a ≡ b → ((f : ℕ) → s f ≡ t f)
+    → an_outlook fs m a s ≡ an_outlook gs k b t
 same_outlook fs gs m k a b s t e f g h =
-    ap (λ x. an_outlook x m a s) e ∙ ap (λ x. an_outlook gs x a s) (fun_ext (λ n. f n)) ∙ ap (λ x. an_outlook gs k x s) g ∙ ap (λ x. an_outlook gs k b x) (fun_ext (λ n. h n))
+    ap (λ x. an_outlook x m a s) e ∙ ap (λ x. an_outlook gs x a s) (fun_ext (λ n. f n)) ∙ ap (λ x. an_outlook gs k x s) g
+    ∙ ap (λ x. an_outlook gs k b x) (fun_ext (λ n. h n))
 
 muxes_same : (c : Config) (v : Kept) (st : State) (f : ℕ) → StandsFor c v st → mux_at v.fronts.rows f ≡ option_and_then (λ (r : Row). r.mux) (row_of st f)
 muxes_same c v st f stands =
@@ -211,7 +222,8 @@ streams_rise : (c : Config) (v : Kept) (st : State) → StandsFor c v st → Sou
 streams_rise c v st stands sound = subst (Rise 0) stands.streams (rise_of 0 v.table.streams sound.numbers)
 
 -- what is looked at for a stream that lives
-pub outlook_same : (c : Config) (v : Kept) (st : State) (number : ℕ) → StandsFor c v st → Sound v.table → 1 ≤ number → outlook v.fronts number ≡ outlook_of c st number
+pub outlook_same : (c : Config) (v : Kept) (st : State) (number : ℕ) → StandsFor c v st → Sound v.table → 1 ≤ number
+    → outlook v.fronts number ≡ outlook_of c st number
 unfolding outlook an_outlook Agree
 outlook_same c v st number stands sound some =
     same_outlook v.fronts.fronts c.fronts (mux_at v.fronts.rows) (λ f. option_and_then (λ (r : Row). r.mux) (row_of st f))
@@ -230,12 +242,14 @@ new_outlook_same c v st stands sound =
     stands.front_ends (λ f. muxes_same c v st f stands) refl
     (λ f. all_shared v.fronts.places st.streams f (streams_rise c v st stands sound) stands.places)
 
-outlooks_same : (c : Config) (v : Kept) (st : State) (stream : Option ℕ) → StandsFor c v st → Sound v.table → IsStreamOrNone stream → outlook_of_fronts v.fronts stream ≡ outlook_for c st stream
+outlooks_same : (c : Config) (v : Kept) (st : State) (stream : Option ℕ) → StandsFor c v st → Sound v.table → IsStreamOrNone stream
+    → outlook_of_fronts v.fronts stream ≡ outlook_for c st stream
 outlooks_same c v st None stands sound known = new_outlook_same c v st stands sound
 outlooks_same c v st (Some number) stands sound known = outlook_same c v st number stands sound known.0
 
 -- whether no front end is to be had
-pub blocked_same : (c : Config) (v : Kept) (st : State) (stream : Option ℕ) (tuning : Tuning) → StandsFor c v st → Sound v.table → IsStreamOrNone stream → blocked_for v.fronts stream tuning ≡ is_blocked c st stream tuning
+pub blocked_same : (c : Config) (v : Kept) (st : State) (stream : Option ℕ) (tuning : Tuning) → StandsFor c v st → Sound v.table → IsStreamOrNone stream
+    → blocked_for v.fronts stream tuning ≡ is_blocked c st stream tuning
 unfolding blocked_for
 blocked_same c v st stream tuning stands sound known =
     ap (λ (o : Outlook). blocked o (mux_of v.fronts.muxes tuning) tuning) (outlooks_same c v st stream stands sound known)
@@ -251,26 +265,33 @@ none_excluded above n f (t ∷ ts) rise few apart =
     is : not (t.number == n) ≡ not (t.number == 0)
     is = ap not (ne_eqb t.number n (apart t.number rise.0 few.0)) ∙ ap not (sym (ne_eqb t.number 0 (λ s. omega (arith, s, rise.0))))
 
-    by : (b : Bool) → list_any (λ u. not (u.number == n)) (filter (λ u. is_at u.front f) ts) ≡ list_any (λ u. not (u.number == 0)) (filter (λ u. is_at u.front f) ts)
-        → list_any (λ u. not (u.number == n)) (cond b (t ∷ filter (λ u. is_at u.front f) ts) (filter (λ u. is_at u.front f) ts)) ≡ list_any (λ u. not (u.number == 0)) (cond b (t ∷ filter (λ u. is_at u.front f) ts) (filter (λ u. is_at u.front f) ts))
+    by : (b : Bool) → list_any (λ u. not (u.number == n)) (filter (λ u. is_at u.front f) ts) ≡ list_any (λ u. not (u.number == 0))
+        (filter (λ u. is_at u.front f) ts)
+        → list_any (λ u. not (u.number == n)) (cond b (t ∷ filter (λ u. is_at u.front f) ts) (filter (λ u. is_at u.front f) ts)) ≡ list_any
+        (λ u. not (u.number == 0)) (cond b (t ∷ filter (λ u. is_at u.front f) ts) (filter (λ u. is_at u.front f) ts))
     by true rest = ap (λ b. b || list_any (λ u. not (u.number == n)) (filter (λ u. is_at u.front f) ts)) is ∙ ap (λ b. not (t.number == 0) || b) rest
     by false rest = rest
 
 -- a number that is none of a stream is looked at as none
-unnumbered_same : (c : Config) (v : Kept) (st : State) (number : ℕ) (tuning : Tuning) → StandsFor c v st → Sound v.table → ((m : ℕ) → 0 < m → m ≤ 64 → m ≢ number) → is_blocked c st None tuning ≡ is_blocked c st (Some number) tuning
+unnumbered_same : (c : Config) (v : Kept) (st : State) (number : ℕ) (tuning : Tuning) → StandsFor c v st → Sound v.table
+    → ((m : ℕ) → 0 < m → m ≤ 64 → m ≢ number) → is_blocked c st None tuning ≡ is_blocked c st (Some number) tuning
 unfolding blocked
 unnumbered_same c v st number tuning stands sound apart =
     ap (λ (shared : ℕ → Bool). blocked (record (new_outlook_of c st) { shared = shared }) (mux_of c.muxes tuning) tuning)
     (sym (fun_ext (λ f. none_excluded 0 number f st.streams (streams_rise c v st stands sound) stands.numbers apart)))
 
-pub blocked_looked : (c : Config) (v : Kept) (st : State) (stream : Option ℕ) (tuning : Tuning) → StandsFor c v st → Sound v.table → blocked_for v.fronts (numbered stream) tuning ≡ is_blocked c st stream tuning
+pub blocked_looked : (c : Config) (v : Kept) (st : State) (stream : Option ℕ) (tuning : Tuning) → StandsFor c v st → Sound v.table
+    → blocked_for v.fronts (numbered stream) tuning ≡ is_blocked c st stream tuning
 blocked_looked c v st None tuning stands sound = blocked_same c v st None tuning stands sound tt
 blocked_looked c v st (Some number) tuning stands sound = by (nat_le 1 number) (nat_le number 64) refl refl
   where
-    by : (a b : Bool) → nat_le 1 number ≡ a → nat_le number 64 ≡ b → blocked_for v.fronts (cond (a && b) (Some number) None) tuning ≡ is_blocked c st (Some number) tuning
+    by : (a b : Bool) → nat_le 1 number ≡ a → nat_le number 64 ≡ b
+        → blocked_for v.fronts (cond (a && b) (Some number) None) tuning ≡ is_blocked c st (Some number) tuning
     by true true low high = blocked_same c v st (Some number) tuning stands sound (leb-true 1 number low, leb-true number 64 high)
-    by true false low high = let over = leb-false number 64 high in blocked_same c v st None tuning stands sound tt ∙ unnumbered_same c v st number tuning stands sound (λ m some most same. omega (arith, most, same, over))
-    by false b low high = let none = leb-false 1 number low in blocked_same c v st None tuning stands sound tt ∙ unnumbered_same c v st number tuning stands sound (λ m some most same. omega (arith, some, same, none))
+    by true false low high = let over = leb-false number 64 high in blocked_same c v st None tuning stands sound tt
+        ∙ unnumbered_same c v st number tuning stands sound (λ m some most same. omega (arith, most, same, over))
+    by false b low high = let none = leb-false 1 number low in blocked_same c v st None tuning stands sound tt
+        ∙ unnumbered_same c v st number tuning stands sound (λ m some most same. omega (arith, some, same, none))
 
 -- at most so many streams live
 few_above : (above : ℕ) (ts : List Stream) → Rise above ts → Each (λ (t : Stream). t.number ≤ 64) ts → above ≤ 64 → length ts + above ≤ 64

@@ -33,10 +33,12 @@ pub ends_is : (packet : List ℕ) (st : State) (seated : List Seated) (ts : List
     → ends_by packet st ts x.session.id ≡ (picked_by ts packet x.session && is_overrun x.session)
 ends_is packet st seated ts x alone same =
     any_flat (λ y. same_id y.id x.session.id) (λ t. filter (λ s. picks t packet s && is_overrun s) st.sessions) ts
-    ∙ any_agree (λ t. list_any (λ y. same_id y.id x.session.id) (filter (λ s. picks t packet s && is_overrun s) st.sessions)) (λ t. picks t packet x.session && is_overrun x.session) ts (λ t. one t)
+    ∙ any_agree (λ t. list_any (λ y. same_id y.id x.session.id) (filter (λ s. picks t packet s && is_overrun s) st.sessions))
+    (λ t. picks t packet x.session && is_overrun x.session) ts (λ t. one t)
     ∙ any_and (λ t. picks t packet x.session) (is_overrun x.session) ts
   where
-    one : (t : Stream) → list_any (λ y. same_id y.id x.session.id) (filter (λ s. picks t packet s && is_overrun s) st.sessions) ≡ (picks t packet x.session && is_overrun x.session)
+    one : (t : Stream) → list_any (λ y. same_id y.id x.session.id) (filter (λ s. picks t packet s && is_overrun s) st.sessions) ≡ (picks t packet x.session
+        && is_overrun x.session)
     one t =
         any_filter (λ s. picks t packet s && is_overrun s) (λ y. same_id y.id x.session.id) st.sessions
         ∙ ap (list_any (λ s. (picks t packet s && is_overrun s) && same_id s.id x.session.id)) (same ∙ between seated x alone)
@@ -45,7 +47,8 @@ ends_is packet st seated ts x alone same =
         (any-map (λ (y : Seated). y.session) (λ s. same_id s.id x.session.id) alone.behind ∙ alone.id_behind)
 
 -- in the flow
-met_cons : (p : Subscription → Bool) (o : Option Subscription) (ss : List Subscription) → list_any p (cons_option o ss) ≡ (list_any p (cons_option o []) || list_any p ss)
+met_cons : (p : Subscription → Bool) (o : Option Subscription) (ss : List Subscription)
+    → list_any p (cons_option o ss) ≡ (list_any p (cons_option o []) || list_any p ss)
 met_cons p None ss = refl
 met_cons p (Some s) ss = by (p s)
   where
@@ -54,7 +57,8 @@ met_cons p (Some s) ss = by (p s)
     by false = refl
 
 one_met : (front : ℕ) (packet : List ℕ) (slot : ℕ) (t : Stream) (x : Seated) (e : Bool) → is_seat slot x ≡ e
-    → list_any (meets_full front packet slot) (cons_option (subscriber t x) []) ≡ (e && (x.session.playing && (stands_at front t.front && has_pid t.pids (pid_of packet) && is_full (feed_of x.session))))
+    → list_any (meets_full front packet slot) (cons_option (subscriber t x) []) ≡ (e
+    && (x.session.playing && (stands_at front t.front && has_pid t.pids (pid_of packet) && is_full (feed_of x.session))))
 one_met front packet slot t x e same = ap (λ o. list_any (meets_full front packet slot) (cons_option o [])) (subscriber_is t x) ∙ opened x.session.playing
   where
     r : Bool
@@ -74,7 +78,8 @@ one_met front packet slot t x e same = ap (λ o. list_any (meets_full front pack
     opened true = ap (λ b. (r && b) || false) same ∙ turned r e
     opened false = never e
 
-none_met : (front : ℕ) (packet : List ℕ) (slot : ℕ) (t : Stream) (xs : List Seated) → list_any (is_seat slot) xs ≡ false → list_any (meets_full front packet slot) (filter_map (subscriber t) (seated_in t xs)) ≡ false
+none_met : (front : ℕ) (packet : List ℕ) (slot : ℕ) (t : Stream) (xs : List Seated) → list_any (is_seat slot) xs ≡ false
+    → list_any (meets_full front packet slot) (filter_map (subscriber t) (seated_in t xs)) ≡ false
 none_met front packet slot t [] none = refl
 none_met front packet slot t (x ∷ xs) none =
     let parts = or_parts (is_seat slot x) (list_any (is_seat slot) xs) none in
@@ -118,7 +123,8 @@ stream_met front packet slot t (y ∷ a) x b before here behind =
         → list_any (meets_full front packet slot) (filter_map (subscriber t) (cond c (y ∷ seated_in t (a ++ x ∷ b)) (seated_in t (a ++ x ∷ b)))) ≡ result
     by true other rest =
         met_cons (meets_full front packet slot) (subscriber t y) (filter_map (subscriber t) (seated_in t (a ++ x ∷ b)))
-        ∙ ap (λ d. d || list_any (meets_full front packet slot) (filter_map (subscriber t) (seated_in t (a ++ x ∷ b)))) (one_met front packet slot t y false other)
+        ∙ ap (λ d. d || list_any (meets_full front packet slot) (filter_map (subscriber t) (seated_in t (a ++ x ∷ b))))
+        (one_met front packet slot t y false other)
         ∙ rest
     by false other rest = rest
 
@@ -145,12 +151,14 @@ flow_met front packet seated ts x alone kept =
         ≡ ((at_front front t && picks t packet x.session) && is_overrun x.session)
     one t =
         stream_met front packet x.slot t alone.before x alone.behind alone.slot_before (slot_itself x) alone.slot_behind
-        ∙ ap (λ a. x.session.stream == t.number && (x.session.playing && (a && has_pid t.pids (pid_of packet) && is_full (feed_of x.session)))) (stands_same front t.front)
+        ∙ ap (λ a. x.session.stream == t.number && (x.session.playing && (a && has_pid t.pids (pid_of packet) && is_full (feed_of x.session))))
+        (stands_same front t.front)
         ∙ ap (λ f. x.session.stream == t.number && (x.session.playing && (at_front front t && has_pid t.pids (pid_of packet) && f))) (full_feed x.session kept)
         ∙ reordered (x.session.stream == t.number) x.session.playing (at_front front t) (has_pid t.pids (pid_of packet)) (is_overrun x.session)
 
 -- both tell the same
-pub met_ends : (c : Config) (v : Kept) (st : State) (stands : StandsFor c v st) → Sound v.table → (front : ℕ) (packet : List ℕ) (place : ℕ) (x : Seated) → slice_get stands.seated place ≡ Some x
+pub met_ends : (c : Config) (v : Kept) (st : State) (stands : StandsFor c v st) → Sound v.table → (front : ℕ) (packet : List ℕ) (place : ℕ) (x : Seated)
+    → slice_get stands.seated place ≡ Some x
     → meets_in front packet v.flow x.slot ≡ ends_by packet st (served_by st front) x.session.id
 met_ends c v st stands sound front packet place x got =
     let at : AloneAt stands.seated place x = alone_at stands.seated place x (stands_apart c v st stands sound) got in

@@ -1,5 +1,6 @@
 -- HTTP sessions pull and are closed.
-use Rattle.std.proofs.Common.{◌≡◌, ℕ, ◌-◌, ◌*◌, ◌==◌, ◌≤◌, ◌&&◌, Bool, true, false, cond, List, [], ◌∷◌, ◌++◌, length, map, find, sum, take, drop, Option, Some, None, refl, sym, ap, subst, ◌∙◌, arith, append-nil, length-append, option_and_then}
+use Rattle.std.proofs.Common.{◌≡◌, ℕ, ◌-◌, ◌*◌, ◌==◌, ◌≤◌, ◌&&◌, Bool, true, false, cond, List, [], ◌∷◌, ◌++◌, length, map, find, sum, take, drop, Option}
+use Rattle.std.proofs.Common.{Some, None, refl, sym, ap, subst, ◌∙◌, arith, append-nil, length-append, option_and_then}
 use Rattle.std.specs.List.{list_any, concat}
 use Rattle.std.specs.Option.{option_map, option_map_or}
 use Rattle.std.proofs.lemmas.Bool.{or_parts, true≢false, ne_eqb}
@@ -74,9 +75,11 @@ queue_pulled s within http =
     ∙ ap ToQueue (more_held s within (held s) refl).0
     ∙ sym (still (held s))
   where
-    still : (packets : List (List ℕ)) → cond (pull_more s packets).http (ToQueue (held (pull_more s packets))) (ToAddress (address_of (pull_more s packets)) (packing_of (pull_more s packets))) ≡ ToQueue (held (pull_more s packets))
+    still : (packets : List (List ℕ)) → cond (pull_more s packets).http (ToQueue (held (pull_more s packets)))
+        (ToAddress (address_of (pull_more s packets)) (packing_of (pull_more s packets))) ≡ ToQueue (held (pull_more s packets))
     still [] = ap (λ b. cond b (ToQueue (held s)) (ToAddress (address_of s) (packing_of s))) http
-    still (p ∷ ps) = ap (λ b. cond b (ToQueue (held (pull_more s (p ∷ ps)))) (ToAddress (address_of (pull_more s (p ∷ ps))) (packing_of (pull_more s (p ∷ ps))))) http
+    still (p ∷ ps) = ap (λ b. cond b (ToQueue (held (pull_more s (p ∷ ps))))
+        (ToAddress (address_of (pull_more s (p ∷ ps))) (packing_of (pull_more s (p ∷ ps))))) http
 
 packer_pulled : (s : Session) → s.http ≡ false → pulled_feed (feed_of s) ≡ feed_of s
 unfolding feed_of
@@ -143,7 +146,8 @@ pull_slot_kept slot x kept = by (is_seat slot x)
     by true = pull_kept x.session kept
     by false = kept
 
-pull_slot_listed : (slot : ℕ) (t : Stream) (x : Seated) → IsKept x.session → option_map (λ s. cond (has_slot slot s) (pulled s) s) (subscriber t x) ≡ subscriber t (pull_slot slot x)
+pull_slot_listed : (slot : ℕ) (t : Stream) (x : Seated) → IsKept x.session
+    → option_map (λ s. cond (has_slot slot s) (pulled s) s) (subscriber t x) ≡ subscriber t (pull_slot slot x)
 pull_slot_listed slot t x kept = map_listed (λ s. cond (has_slot slot s) (pulled s) s) t x ∙ by (is_seat slot x)
   where
     here : Subscription
@@ -189,7 +193,8 @@ find_nobody p r (y ∷ ys) e =
     let parts = or_parts (p y) (list_any p ys) e in
     ap (λ c. cond (c && r y) (Some y) (find (λ z. p z && r z) ys)) parts.0 ∙ find_nobody p r ys parts.1
 
-pub http_is : (st : State) (seated : List Seated) (x : Seated) (alone : Alone seated x) → st.sessions ≡ sessions_of seated → http_session st x.session.id ≡ cond x.session.http (Some x.session) None
+pub http_is : (st : State) (seated : List Seated) (x : Seated) (alone : Alone seated x) → st.sessions ≡ sessions_of seated
+    → http_session st x.session.id ≡ cond x.session.http (Some x.session) None
 http_is st seated x alone same =
     ap (find (λ s. same_id s.id x.session.id && s.http)) (same ∙ between seated x alone)
     ∙ find_such (is_session x.session.id) (λ s. s.http) (sessions_of alone.before) x.session (sessions_of alone.behind)
@@ -204,7 +209,8 @@ unfolding row_of
 row_http x = refl
 
 -- none where the id's session has another kind, or nobody has it
-pub no_http : (c : Config) (v : Kept) (st : State) → StandsFor c v st → Sound v.table → (id : SessionId) (seat : Seat) → find (has_id id) v.table.seats ≡ Some seat → seat.session.http ≡ false
+pub no_http : (c : Config) (v : Kept) (st : State) → StandsFor c v st → Sound v.table → (id : SessionId) (seat : Seat)
+    → find (has_id id) v.table.seats ≡ Some seat → seat.session.http ≡ false
     → http_session st id ≡ None
 no_http c v st stands sound id seat at rtsp =
     let f = found c v st stands id seat at in
@@ -219,12 +225,19 @@ abbrev pub pull_with : State → Option Session → Outcome
 pull_with st o = option_map_or (λ s. pull_some st s (held s)) o (record { state = st; answer = PulledIs Gone; reply = []; sent = [] })
 
 abbrev pub close_with : State → SessionId → Option Session → Outcome
-close_with st id o = option_map_or (λ s. record { state = (end_where (is_session id) st).state; answer = ClosedIs Yes; reply = []; sent = (end_where (is_session id) st).sent }) o (record { state = st; answer = ClosedIs ClosedGone; reply = []; sent = [] })
+close_with st id o = option_map_or (λ s. record {
+  state = (end_where (is_session id) st).state;
+  answer = ClosedIs Yes;
+  reply = [];
+  sent =
+      (end_where (is_session id) st).sent;
+}) o (record { state = st; answer = ClosedIs ClosedGone; reply = []; sent = [] })
 
 pub pull_gone : (st : State) (id : SessionId) → http_session st id ≡ None → on_pull id st ≡ record { state = st; answer = PulledIs Gone; reply = []; sent = [] }
 pull_gone st id none = ap (pull_with st) none
 
-pub close_gone : (st : State) (id : SessionId) → http_session st id ≡ None → on_close id st ≡ record { state = st; answer = ClosedIs ClosedGone; reply = []; sent = [] }
+pub close_gone : (st : State) (id : SessionId) → http_session st id ≡ None
+    → on_close id st ≡ record { state = st; answer = ClosedIs ClosedGone; reply = []; sent = [] }
 close_gone st id none = ap (close_with st id) none
 
 pub nothing_written : (o : Output) → Wrote o [] o
@@ -251,7 +264,8 @@ pub record Pulls (c : Config) (v : Kept) (st : State) (stands : StandsFor c v st
   pub session : http_session st id ≡ Some who.session
   pub queue : queue_of_slot seat.slot v.flow ≡ Some (held who.session)
 
-pub pulls : (c : Config) (v : Kept) (st : State) (stands : StandsFor c v st) → Sound v.table → (id : SessionId) (seat : Seat) → find (has_id id) v.table.seats ≡ Some seat → seat.session.http ≡ true
+pub pulls : (c : Config) (v : Kept) (st : State) (stands : StandsFor c v st) → Sound v.table → (id : SessionId) (seat : Seat)
+    → find (has_id id) v.table.seats ≡ Some seat → seat.session.http ≡ true
     → Pulls c v st stands id seat
 pulls c v st stands sound id seat at is_http =
     let f = found c v st stands id seat at in
@@ -283,19 +297,22 @@ wrote_some : (o n : Output) (st : State) (s : Session) (packets : List (List ℕ
 wrote_some o n st s [] wrote = wrote
 wrote_some o n st s (p ∷ ps) wrote = wrote
 
-pub pull_wrote : (c : Config) (v : Kept) (o n : Output) (st : State) (stands : StandsFor c v st) (id : SessionId) (seat : Seat) (p : Pulls c v st stands id seat)
+pub pull_wrote : (c : Config) (v : Kept) (o n : Output) (st : State) (stands : StandsFor c v st) (id : SessionId) (seat : Seat)
+    (p : Pulls c v st stands id seat)
     → WrotePulled (queue_of_slot seat.slot v.flow) o n → Wrote o (on_pull id st).reply n
 pull_wrote c v o n st stands id seat p wrote =
     subst (λ (out : Outcome). Wrote o out.reply n) (sym (ap (pull_with st) p.session))
     (wrote_some o n st p.who.session (held p.who.session) (subst (λ q. WrotePulled q o n) p.queue wrote))
 
-answered_some : (st : State) (s : Session) (packets : List (List ℕ)) (bytes : ℕ) → bytes ≡ length (concat (take 64 packets)) → PulledIs (pulled_is (pulled_bytes (Some packets)) bytes) ≡ (pull_some st s packets).answer
+answered_some : (st : State) (s : Session) (packets : List (List ℕ)) (bytes : ℕ) → bytes ≡ length (concat (take 64 packets))
+    → PulledIs (pulled_is (pulled_bytes (Some packets)) bytes) ≡ (pull_some st s packets).answer
 answered_some st s [] bytes same = refl
 answered_some st s (p ∷ ps) bytes same =
     let some : (188 * length (take 64 (p ∷ ps)) == 0) ≡ false = ne_eqb (188 * length (take 64 (p ∷ ps))) 0 (λ e. omega (arith, e)) in
     ap (λ b. PulledIs (cond b Empty (Bytes bytes))) some ∙ ap (λ k. PulledIs (Bytes k)) same
 
-pub pull_answered : (c : Config) (v : Kept) (o n : Output) (st : State) (stands : StandsFor c v st) (id : SessionId) (seat : Seat) (p : Pulls c v st stands id seat)
+pub pull_answered : (c : Config) (v : Kept) (o n : Output) (st : State) (stands : StandsFor c v st) (id : SessionId) (seat : Seat)
+    (p : Pulls c v st stands id seat)
     → WrotePulled (queue_of_slot seat.slot v.flow) o n → (moved : Option ℕ) → moved ≡ pulled_bytes (queue_of_slot seat.slot v.flow)
     → PulledIs (pulled_is moved (length n.reply - length o.reply)) ≡ (on_pull id st).answer
 pull_answered c v o n st stands id seat p wrote moved same =
@@ -307,25 +324,35 @@ pull_answered c v o n st stands id seat p wrote moved same =
     ∙ sym (ap (λ (out : Outcome). out.answer) (ap (pull_with st) p.session))
 
 -- the session was heard of, and its packets are gone
-heard_between : (st : State) (clock : ℕ) (id : SessionId) (a : List Session) (s : Session) (b : List Session) (change : Session → Session) → list_any (is_session id) a ≡ false → is_session id s ≡ true → list_any (is_session id) b ≡ false
+heard_between : (st : State) (clock : ℕ) (id : SessionId) (a : List Session) (s : Session) (b : List Session) (change : Session → Session)
+    → list_any (is_session id) a ≡ false → is_session id s ≡ true → list_any (is_session id) b ≡ false
     → ◌≡◌ {A = State} (record st { sessions = map (λ x. cond (is_session id x) (change x) x) (a ++ s ∷ b) }) (record st { sessions = a ++ change s ∷ b })
-heard_between st clock id a s b change before here behind = ap (λ (ss : List Session). record st { sessions = ss }) (map_one (is_session id) change a s b before here behind)
+heard_between st clock id a s b change before here behind =
+    ap (λ (ss : List Session). record st { sessions = ss }) (map_one (is_session id) change a s b before here behind)
 
-state_some : (st : State) (s : Session) (a b : List Session) → st.sessions ≡ a ++ s ∷ b → list_any (is_session s.id) a ≡ false → list_any (is_session s.id) b ≡ false → (packets : List (List ℕ))
+state_some : (st : State) (s : Session) (a b : List Session) → st.sessions ≡ a ++ s ∷ b → list_any (is_session s.id) a ≡ false
+    → list_any (is_session s.id) b ≡ false → (packets : List (List ℕ))
     → hear s.id (record st { sessions = a ++ pull_more s packets ∷ b }) ≡ (pull_some st s packets).state
 state_some st s a b same before behind [] = ap (λ (ss : List Session). hear s.id (record st { sessions = ss })) (sym same)
 state_some st s a b same before behind (p ∷ ps) =
     heard_between st st.clock s.id a (pull_more s (p ∷ ps)) b (λ x. record x { heard = st.clock }) before (id_itself s.id) behind
-    ∙ sym (heard_between st st.clock s.id a s b (λ x. record x { heard = st.clock; sizes = x.sizes ++ length (take 64 (p ∷ ps)) ∷ [] }) before (id_itself s.id) behind)
-    ∙ ap (λ (ss : List Session). record st { sessions = map (λ x. cond (is_session s.id x) (record x { heard = st.clock; sizes = x.sizes ++ length (take 64 (p ∷ ps)) ∷ [] }) x) ss }) (sym same)
+    ∙ sym (heard_between st st.clock s.id a s b (λ x. record x { heard = st.clock; sizes = x.sizes ++ length (take 64 (p ∷ ps)) ∷ [] }) before
+    (id_itself s.id) behind)
+    ∙ ap (λ (ss : List Session). record st {
+      sessions =
+          map (λ x. cond (is_session s.id x) (record x { heard = st.clock; sizes = x.sizes ++ length (take 64 (p ∷ ps)) ∷ [] }) x) ss;
+    }) (sym same)
 
-pub pull_stands : (c : Config) (v w : Kept) (st : State) (stands : StandsFor c v st) (id : SessionId) (seat : Seat) (p : Pulls c v st stands id seat) (flow : List Subscription)
-    → flow ≡ change_slot seat.slot pulled v.flow → ((now : State) → StandsFor c (record v { flow = flow }) now → StandsFor c w (hear id now)) → StandsFor c w (on_pull id st).state
+pub pull_stands : (c : Config) (v w : Kept) (st : State) (stands : StandsFor c v st) (id : SessionId) (seat : Seat) (p : Pulls c v st stands id seat)
+    (flow : List Subscription)
+    → flow ≡ change_slot seat.slot pulled v.flow → ((now : State) → StandsFor c (record v { flow = flow }) now → StandsFor c w (hear id now))
+    → StandsFor c w (on_pull id st).state
 pull_stands c v w st stands id seat p flow changed heard =
     let x : Seated = p.who in
     let a : List Session = sessions_of p.alone.before in
     let b : List Session = sessions_of p.alone.behind in
-    let now : StandsFor c (record v { flow = flow }) (pulled_state st stands.seated x p.alone) = stands_pulled c v st stands x p.alone flow (changed ∙ ap (λ k. change_slot k pulled v.flow) p.slot_is) in
+    let now : StandsFor c (record v { flow = flow }) (pulled_state st stands.seated x p.alone) =
+    stands_pulled c v st stands x p.alone flow (changed ∙ ap (λ k. change_slot k pulled v.flow) p.slot_is) in
     let is : pull_one x.session ≡ pull_more x.session (held x.session) = ap (λ h. cond h (pull_more x.session (held x.session)) x.session) p.http in
     let state : hear id (pulled_state st stands.seated x p.alone) ≡ (on_pull id st).state =
     ap (λ i. hear i (pulled_state st stands.seated x p.alone)) p.id_is
@@ -341,12 +368,15 @@ pub close_is : (c : Config) (v : Kept) (st : State) (stands : StandsFor c v st) 
     → on_close id st ≡ record { state = (end_where (is_session id) st).state; answer = ClosedIs Yes; reply = []; sent = (end_where (is_session id) st).sent }
 close_is c v st stands id seat p = ap (close_with st id) p.session
 
-pub close_silent : (c : Config) (v : Kept) (st : State) (stands : StandsFor c v st) (id : SessionId) (seat : Seat) (p : Pulls c v st stands id seat) → (end_where (is_session id) st).sent ≡ []
+pub close_silent : (c : Config) (v : Kept) (st : State) (stands : StandsFor c v st) (id : SessionId) (seat : Seat) (p : Pulls c v st stands id seat)
+    → (end_where (is_session id) st).sent ≡ []
 close_silent c v st stands id seat p =
     ap (λ i. (end_where (is_session i) st).sent) p.id_is
     ∙ ap (λ (m : Move). m.sent) (end_is st stands.seated p.who p.alone stands.sessions)
     ∙ ap (λ b. cond b [] (let_go true st.clock p.who.session).sends) p.http
 
-pub gone_moved : (c : Config) (v : Kept) (o : Output) (st : State) → StandsFor c v st → (out : Outcome) → out ≡ record { state = st; answer = ClosedIs ClosedGone; reply = []; sent = [] }
+pub gone_moved : (c : Config) (v : Kept) (o : Output) (st : State) → StandsFor c v st → (out : Outcome)
+    → out ≡ record { state = st; answer = ClosedIs ClosedGone; reply = []; sent = [] }
     → Moved c v o o (record { state = out.state; sent = out.sent })
-gone_moved c v o st stands out same = subst (λ (z : Outcome). Moved c v o o (record { state = z.state; sent = z.sent })) (sym same) (record { stands = stands; sent = nothing_sent o })
+gone_moved c v o st stands out same = subst (λ (z : Outcome). Moved c v o o (record { state = z.state; sent = z.sent })) (sym same)
+    (record { stands = stands; sent = nothing_sent o })

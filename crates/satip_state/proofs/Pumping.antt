@@ -1,5 +1,6 @@
 -- What a front end is doing, as the plain server tells it.
-use Rattle.std.proofs.Common.{◌≡◌, ℕ, ◌+◌, ◌==◌, ◌&&◌, ◌||◌, nat_lt, Bool, true, false, cond, List, [], ◌∷◌, map, find, Option, Some, None, refl, sym, ap, ◌∙◌, arith, count_by}
+use Rattle.std.proofs.Common.{◌≡◌, ℕ, ◌+◌, ◌==◌, ◌&&◌, ◌||◌, nat_lt, Bool, true, false, cond, List, [], ◌∷◌, map, find, Option, Some, None, refl, sym, ap}
+use Rattle.std.proofs.Common.{◌∙◌, arith, count_by}
 use Rattle.std.specs.List.{list_any}
 use Rattle.std.specs.Option.{option_map, option_map_or}
 use Rattle.std.proofs.lemmas.Bool.{lt-ltb}
@@ -41,13 +42,15 @@ row_same c v st stands front = ap (find (λ (r : Row). r.number == front)) (sym 
 
 -- whether a front end serves a stream
 serves_plain : (st : State) (front : ℕ) → list_any (λ (t : Stream). true) (served_by st front) ≡ list_any (λ (t : Stream). is_at t.front front) st.streams
-serves_plain st front = any_filter (λ (t : Stream). is_at t.front front) (λ t. true) st.streams ∙ any_agree (λ (t : Stream). is_at t.front front && true) (λ t. is_at t.front front) st.streams (λ t. whole (is_at t.front front))
+serves_plain st front = any_filter (λ (t : Stream). is_at t.front front) (λ t. true) st.streams
+    ∙ any_agree (λ (t : Stream). is_at t.front front && true) (λ t. is_at t.front front) st.streams (λ t. whole (is_at t.front front))
   where
     whole : (b : Bool) → (b && true) ≡ b
     whole true = refl
     whole false = refl
 
-pub serves_same : (c : Config) (v : Kept) (st : State) → StandsFor c v st → Sound v.table → (front : ℕ) → list_any (stands_at front) v.fronts.places ≡ list_any (λ (t : Stream). true) (served_by st front)
+pub serves_same : (c : Config) (v : Kept) (st : State) → StandsFor c v st → Sound v.table → (front : ℕ)
+    → list_any (stands_at front) v.fronts.places ≡ list_any (λ (t : Stream). true) (served_by st front)
 serves_same c v st stands sound front = served_same v.fronts.places st.streams (rising c v st stands sound) stands.places front ∙ sym (serves_plain st front)
 
 state_none : (v : FrontEnds) (front : ℕ) → None ≡ state_of v front → find (is_row front) v.rows ≡ None
@@ -80,12 +83,14 @@ row_tune : (row : FrontRow) → ((row_in row).tune ≡ row.tune) × ((row_in row
 unfolding row_in
 row_tune row = (refl, refl, refl)
 
-pub no_front_current : (c : Config) (v : Kept) (st : State) → StandsFor c v st → (front tune : ℕ) → None ≡ state_of v.fronts front → false ≡ is_current st front tune
+pub no_front_current : (c : Config) (v : Kept) (st : State) → StandsFor c v st → (front tune : ℕ) → None ≡ state_of v.fronts front
+    → false ≡ is_current st front tune
 no_front_current c v st stands front tune none =
     ap (λ o. option_map_or (λ (r : Row). r.tune == tune) o false && list_any (λ (t : Stream). true) (served_by st front))
     (sym (row_same c v st stands front ∙ ap (option_map row_in) (state_none v.fronts front none)))
 
-pub front_current : (c : Config) (v : Kept) (st : State) → StandsFor c v st → Sound v.table → (front tune : ℕ) (state : FrontState) → Some state ≡ state_of v.fronts front
+pub front_current : (c : Config) (v : Kept) (st : State) → StandsFor c v st → Sound v.table → (front tune : ℕ) (state : FrontState)
+    → Some state ≡ state_of v.fronts front
     → (state.tune == tune && nat_lt 0 state.streams) ≡ is_current st front tune
 front_current c v st stands sound front tune state told =
     let t = state_told v.fronts front state told in
@@ -100,9 +105,11 @@ works_on : (st : State) (front : ℕ) → st.stopped ≡ false → (o : Option R
     → cond (list_any (λ (t : Stream). true) (served_by st front)) (option_map_or work_of_row o Nothing) Nothing ≡ work st front
 works_on st front on o found =
     ap (λ q. cond (list_any (λ (t : Stream). true) (served_by st front)) (option_map_or work_of_row q Nothing) Nothing) (sym found)
-    ∙ sym (ap (λ b. cond b Stopping (cond (list_any (λ (t : Stream). true) (served_by st front)) (option_map_or work_of_row (row_of st front) Nothing) Nothing)) on)
+    ∙ sym (ap (λ b. cond b Stopping (cond (list_any (λ (t : Stream). true) (served_by st front))
+    (option_map_or work_of_row (row_of st front) Nothing) Nothing)) on)
 
-pub no_front_works : (c : Config) (v : Kept) (st : State) → StandsFor c v st → v.stopped ≡ false → (front : ℕ) → None ≡ state_of v.fronts front → Nothing ≡ work st front
+pub no_front_works : (c : Config) (v : Kept) (st : State) → StandsFor c v st → v.stopped ≡ false → (front : ℕ) → None ≡ state_of v.fronts front
+    → Nothing ≡ work st front
 no_front_works c v st stands on front none =
     nothing (list_any (λ (t : Stream). true) (served_by st front))
     ∙ works_on st front (sym stands.stopped ∙ on) None (row_same c v st stands front ∙ ap (option_map row_in) (state_none v.fronts front none))
@@ -119,7 +126,8 @@ told_work row = by row.mux
     by None = refl
     by (Some mux) = refl
 
-pub front_works : (c : Config) (v : Kept) (st : State) → StandsFor c v st → Sound v.table → v.stopped ≡ false → (front : ℕ) (state : FrontState) → Some state ≡ state_of v.fronts front
+pub front_works : (c : Config) (v : Kept) (st : State) → StandsFor c v st → Sound v.table → v.stopped ≡ false → (front : ℕ) (state : FrontState)
+    → Some state ≡ state_of v.fronts front
     → cond (nat_lt 0 state.streams) (work_of_told state.mux state.tune state.ended) Nothing ≡ work st front
 front_works c v st stands sound on front state told =
     let t = state_told v.fronts front state told in
@@ -131,11 +139,13 @@ front_works c v st stands sound on front state told =
     ∙ works_on st front (sym stands.stopped ∙ on) (Some (row_in t.row)) (row_same c v st stands front ∙ ap (option_map row_in) t.found)
 
 -- the end of a recording
-current_same : (c : Config) (v : Kept) (st : State) → StandsFor c v st → Sound v.table → (front tune : ℕ) → is_current_at v.fronts front tune ≡ is_current st front tune
+current_same : (c : Config) (v : Kept) (st : State) → StandsFor c v st → Sound v.table → (front tune : ℕ)
+    → is_current_at v.fronts front tune ≡ is_current st front tune
 current_same c v st stands sound front tune =
     ap (λ b. b && has_tune tune (find (is_row front) v.fronts.rows)) (serves_same c v st stands sound front)
     ∙ turned (list_any (λ (u : Stream). true) (served_by st front)) (has_tune tune (find (is_row front) v.fronts.rows))
-    ∙ ap (λ b. b && list_any (λ (u : Stream). true) (served_by st front)) (tuned (find (is_row front) v.fronts.rows) ∙ ap (λ o. option_map_or (λ (r : Row). r.tune == tune) o false) (sym (row_same c v st stands front)))
+    ∙ ap (λ b. b && list_any (λ (u : Stream). true) (served_by st front)) (tuned (find (is_row front) v.fronts.rows)
+    ∙ ap (λ o. option_map_or (λ (r : Row). r.tune == tune) o false) (sym (row_same c v st stands front)))
   where
     turned : (a b : Bool) → (a && b) ≡ (b && a)
     turned true true = refl
@@ -147,7 +157,8 @@ current_same c v st stands sound front tune =
     tuned None = refl
     tuned (Some row) = ap (λ n. n == tune) (sym (row_tune row).0)
 
-ended_row : (front : ℕ) (row : FrontRow) → row_in (ended_at front row) ≡ cond (true && (row_in row).number == front) (record (row_in row) { ended = true }) (row_in row)
+ended_row : (front : ℕ) (row : FrontRow) → row_in (ended_at front row) ≡ cond (true && (row_in row).number == front) (record (row_in row) { ended = true })
+    (row_in row)
 unfolding ended_at row_in
 ended_row front row = by (row.number == front)
   where
@@ -155,9 +166,11 @@ ended_row front row = by (row.number == front)
     by true = refl
     by false = refl
 
-ended_rows : (front : ℕ) (rows : List FrontRow) → map row_in (map (ended_at front) rows) ≡ change_where (λ (r : Row). true && r.number == front) (λ r. record r { ended = true }) (map row_in rows)
+ended_rows : (front : ℕ) (rows : List FrontRow)
+    → map row_in (map (ended_at front) rows) ≡ change_where (λ (r : Row). true && r.number == front) (λ r. record r { ended = true }) (map row_in rows)
 ended_rows front [] = refl
-ended_rows front (row ∷ rows) = ap (λ (r : Row). r ∷ map row_in (map (ended_at front) rows)) (ended_row front row) ∙ ap (λ rs. cond (true && (row_in row).number == front) (record (row_in row) { ended = true }) (row_in row) ∷ rs) (ended_rows front rows)
+ended_rows front (row ∷ rows) = ap (λ (r : Row). r ∷ map row_in (map (ended_at front) rows)) (ended_row front row)
+    ∙ ap (λ rs. cond (true && (row_in row).number == front) (record (row_in row) { ended = true }) (row_in row) ∷ rs) (ended_rows front rows)
 
 abbrev pub rows_ended : Bool → ℕ → List Row → List Row
 rows_ended ending front rows = change_where (λ (r : Row). ending && r.number == front) (λ r. record r { ended = true }) rows
@@ -166,7 +179,8 @@ rows_stay : (front : ℕ) (rows : List Row) → rows ≡ rows_ended false front 
 rows_stay front [] = refl
 rows_stay front (r ∷ rows) = ap (λ rs. r ∷ rs) (rows_stay front rows)
 
-stands_fronts : (c : Config) (v : Kept) (st : State) → StandsFor c v st → (fronts : FrontEnds) (rows : List Row) → fronts.fronts ≡ v.fronts.fronts → fronts.muxes ≡ v.fronts.muxes → fronts.places ≡ v.fronts.places
+stands_fronts : (c : Config) (v : Kept) (st : State) → StandsFor c v st → (fronts : FrontEnds) (rows : List Row) → fronts.fronts ≡ v.fronts.fronts
+    → fronts.muxes ≡ v.fronts.muxes → fronts.places ≡ v.fronts.places
     → map row_in fronts.rows ≡ rows → StandsFor c (record v { fronts = fronts }) (record st { rows = rows })
 stands_fronts c v st stands fronts rows same muxes places row = record {
   seated = stands.seated;
@@ -188,16 +202,19 @@ stands_fronts c v st stands fronts rows same muxes places row = record {
   flow = stands.flow;
 }
 
-ended_fields : (v : FrontEnds) (front : ℕ) → ((ended v front).fronts ≡ v.fronts) × ((ended v front).muxes ≡ v.muxes) × ((ended v front).places ≡ v.places) × ((ended v front).rows ≡ map (ended_at front) v.rows)
+ended_fields : (v : FrontEnds) (front : ℕ) → ((ended v front).fronts ≡ v.fronts) × ((ended v front).muxes ≡ v.muxes) × ((ended v front).places ≡ v.places)
+    × ((ended v front).rows ≡ map (ended_at front) v.rows)
 unfolding ended
 ended_fields v front = (refl, refl, refl, refl)
 
-pub stands_recording : (c : Config) (v : Kept) (st : State) → StandsFor c v st → Sound v.table → (front tune : ℕ) (current : Bool) (fronts : FrontEnds) → current ≡ is_current_at v.fronts front tune
+pub stands_recording : (c : Config) (v : Kept) (st : State) → StandsFor c v st → Sound v.table → (front tune : ℕ) (current : Bool) (fronts : FrontEnds)
+    → current ≡ is_current_at v.fronts front tune
     → fronts ≡ cond current (ended v.fronts front) v.fronts → StandsFor c (record v { fronts = fronts }) (on_ended front tune st).state
 stands_recording c v st stands sound front tune current fronts is new =
     by current (is ∙ current_same c v st stands sound front tune) new
   where
-    by : (b : Bool) → b ≡ is_current st front tune → fronts ≡ cond b (ended v.fronts front) v.fronts → StandsFor c (record v { fronts = fronts }) (record st { rows = rows_ended (is_current st front tune) front st.rows })
+    by : (b : Bool) → b ≡ is_current st front tune → fronts ≡ cond b (ended v.fronts front) v.fronts
+        → StandsFor c (record v { fronts = fronts }) (record st { rows = rows_ended (is_current st front tune) front st.rows })
     by true e same =
         let fields = ended_fields v.fronts front in
         stands_fronts c v st stands fronts (rows_ended (is_current st front tune) front st.rows)

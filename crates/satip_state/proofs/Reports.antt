@@ -1,5 +1,6 @@
 -- Reports leave, one session after another.
-use Rattle.std.proofs.Common.{◌≡◌, ℕ, zero, suc, ◌+◌, ◌*◌, ◌%◌, ◌≤◌, ◌==◌, ◌&&◌, ◌||◌, nat_le, not, Bool, true, false, cond, List, [], ◌∷◌, ◌++◌, length, map, find, Option, Some, None, refl, sym, ap, subst, ◌∙◌, arith, option_and_then}
+use Rattle.std.proofs.Common.{◌≡◌, ℕ, zero, suc, ◌+◌, ◌*◌, ◌%◌, ◌≤◌, ◌==◌, ◌&&◌, ◌||◌, nat_le, not, Bool, true, false, cond, List, [], ◌∷◌, ◌++◌, length, map}
+use Rattle.std.proofs.Common.{find, Option, Some, None, refl, sym, ap, subst, ◌∙◌, arith, option_and_then}
 use Rattle.std.specs.List.{list_any, slice_get, cons_option}
 use Rattle.std.specs.Option.{option_map, option_map_or}
 use Rattle.std.proofs.lemmas.Bool.{and_parts, not-true}
@@ -40,7 +41,8 @@ use Rattle.satip_state.proofs.Viewing.{any-filter}
 use Rattle.satip_state.proofs.Moving.{turned_more}
 
 -- rows of the table change, and no slot, no moment and no subscriber
-due_kept : (timeout : ℕ) (f : Seated → Seated) → ((x : Seated) → (f x).slot ≡ x.slot) → ((x : Seated) → (f x).session.heard ≡ x.session.heard) → (xs : List Seated) (n : ℕ)
+due_kept : (timeout : ℕ) (f : Seated → Seated) → ((x : Seated) → (f x).slot ≡ x.slot) → ((x : Seated) → (f x).session.heard ≡ x.session.heard)
+    → (xs : List Seated) (n : ℕ)
     → due_of timeout (map f xs) n ≡ due_of timeout xs n
 due_kept timeout f slot heard [] n = refl
 due_kept timeout f slot heard (x ∷ xs) n =
@@ -140,17 +142,20 @@ report_kept id clock early x kept = by (has_session id x)
     }
     by false = kept
 
-report_seats : (id : SessionId) (clock : ℕ) (xs : List Seated) → with_session id (reported_at clock) (map seat_of xs) ≡ map seat_of (map (report_id id clock) xs)
+report_seats : (id : SessionId) (clock : ℕ) (xs : List Seated)
+    → with_session id (reported_at clock) (map seat_of xs) ≡ map seat_of (map (report_id id clock) xs)
 unfolding changed_where reported_at row_of
 report_seats id clock [] = refl
-report_seats id clock (x ∷ xs) = ap (λ (s : Seat). s ∷ with_session id (reported_at clock) (map seat_of xs)) (by (has_session id x)) ∙ ap (λ ss. seat_of (report_id id clock x) ∷ ss) (report_seats id clock xs)
+report_seats id clock (x ∷ xs) = ap (λ (s : Seat). s ∷ with_session id (reported_at clock) (map seat_of xs)) (by (has_session id x))
+    ∙ ap (λ ss. seat_of (report_id id clock x) ∷ ss) (report_seats id clock xs)
   where
     by : (b : Bool) → cond b (record (seat_of x) { session = reported_at clock (row_of x.session) }) (seat_of x) ≡ seat_of (cond b (reported_seat clock x) x)
     by true = refl
     by false = refl
 
 pub stands_reported : (c : Config) (v : Kept) (st : State) (stands : StandsFor c v st) (id : SessionId) (clock : ℕ) → clock ≤ last_moment
-    → StandsFor c (record v { table = record v.table { seats = with_session id (reported_at clock) v.table.seats } }) (record st { sessions = sessions_of (map (report_id id clock) stands.seated) })
+    → StandsFor c (record v { table = record v.table { seats = with_session id (reported_at clock) v.table.seats } })
+    (record st { sessions = sessions_of (map (report_id id clock) stands.seated) })
 stands_reported c v st stands id clock early =
     stands_rows c v st stands (report_id id clock) (report_slot id clock) (report_stream id clock) (report_heard id clock) (report_listed id clock)
     (each_mapped (report_id id clock) stands.seated (report_kept id clock early) (all_kept c v st stands))
@@ -185,7 +190,8 @@ feed_told : (s : Session) → s.http ≡ false → packer_of (feed_of s) ≡ Som
 unfolding feed_of
 feed_told s rtsp = ap (λ b. packer_of (cond b (ToQueue (held s)) (ToAddress (address_of s) (packing_of s)))) rtsp
 
-pub packer_told : (c : Config) (v : Kept) (st : State) (stands : StandsFor c v st) → Sound v.table → (place : ℕ) (x : Seated) → slice_get stands.seated place ≡ Some x
+pub packer_told : (c : Config) (v : Kept) (st : State) (stands : StandsFor c v st) → Sound v.table → (place : ℕ) (x : Seated)
+    → slice_get stands.seated place ≡ Some x
     → x.session.playing ≡ true → x.session.http ≡ false → sender_state (packing_of_slot x.slot v.flow) ≡ Some (told_of x.session)
 packer_told c v st stands sound place x got plays rtsp =
     let at : AloneAt stands.seated place x = alone_at stands.seated place x (stands_apart c v st stands sound) got in
@@ -232,13 +238,15 @@ sender_same c st x sender told is to ssrc clock datagrams octets address =
     (octets ∙ ap (λ (t : SenderState). t.octets) is)
     address
 
-pub report_seated : (c : Config) (v : Kept) (o n : Output) (st : State) (stands : StandsFor c v st) → Sound v.table → (place : ℕ) (x : Seated) → slice_get stands.seated place ≡ Some x
+pub report_seated : (c : Config) (v : Kept) (o n : Output) (st : State) (stands : StandsFor c v st) → Sound v.table → (place : ℕ) (x : Seated)
+    → slice_get stands.seated place ≡ Some x
     → is_due st.clock x.session ≡ true → (view : StreamView) → Some view ≡ option_map (view_of st) (stream_of st x.session.stream)
     → (told : SenderState) → Some told ≡ sender_state (packing_of_slot x.slot v.flow)
     → (sender : Sender) → sender.to ≡ record { ip = x.session.peer.ip; port = x.session.ports.rtcp } → sender.ssrc ≡ x.session.ssrc → sender.clock ≡ v.clock
     → sender.datagrams ≡ told.datagrams → sender.octets ≡ told.octets → sender.address ≡ c.address
     → Sends o sender.to (report view sender) n
-    → Moved c (record v { table = record v.table { seats = with_session x.session.id (reported_at v.clock) v.table.seats } }) o n (after_round st (turn_of place (report_turn c st) st.sessions))
+    → Moved c (record v { table = record v.table { seats = with_session x.session.id (reported_at v.clock) v.table.seats } }) o n
+    (after_round st (turn_of place (report_turn c st) st.sessions))
 report_seated c v o n st stands sound place x got due view viewed told tells sender to ssrc clock datagrams octets address sends =
     let s : Session = x.session in
     let at : AloneAt stands.seated place x = alone_at stands.seated place x (stands_apart c v st stands sound) got in
@@ -265,10 +273,12 @@ report_seated c v o n st stands sound place x got due view viewed told tells sen
     ∙ map-append (λ (y : Seated). y.session) alone.before (reported_seat st.clock x ∷ alone.behind) in
     let new : Kept = record v { table = record v.table { seats = with_session s.id (reported_at v.clock) v.table.seats } } in
     let early : v.clock ≤ last_moment = subst (λ k. k ≤ last_moment) (sym stands.clock) stands.moment in
-    let standing : StandsFor c new (record st { sessions = sessions_of (map (report_id s.id v.clock) stands.seated) }) = stands_reported c v st stands s.id v.clock early in
+    let standing : StandsFor c new (record st { sessions = sessions_of (map (report_id s.id v.clock) stands.seated) }) =
+    stands_reported c v st stands s.id v.clock early in
     let one : SendsAll o (record { to = sender.to; bytes = report view sender } ∷ []) n = sends_one o n sender.to (report view sender) sends in
     let same_sent : record { to = sender.to; bytes = report view sender } ∷ [] ≡ map datagram sent =
-    ap (λ (w : StreamView). one_datagram sender.to (report w sender)) view_is ∙ ap (λ (z : Sender). one_datagram z.to (report (view_of st lives.0) z)) sender_is in
+    ap (λ (w : StreamView). one_datagram sender.to (report w sender)) view_is
+    ∙ ap (λ (z : Sender). one_datagram z.to (report (view_of st lives.0) z)) sender_is in
     subst (λ r. Moved c new o n (after_round st r)) (sym is_round)
     (record {
       stands = subst (λ (ss : List Session). StandsFor c new (record st { sessions = ss })) sessions standing;
@@ -282,15 +292,26 @@ row_due clock x = refl
 abbrev pub fields_of : SessionRow → Address × ℕ × ℕ × SessionId
 fields_of row = (record { ip = row.peer.ip; port = row.ports.rtcp }, row.ssrc, row.stream, row.id)
 
-row_fields : (x : Seated) → fields_of (seat_of x).session ≡ (record { ip = x.session.peer.ip; port = x.session.ports.rtcp }, x.session.ssrc, x.session.stream, x.session.id)
+row_fields : (x : Seated) → fields_of (seat_of x).session ≡ (
+  record {
+    ip = x.session.peer.ip;
+    port =
+        x.session.ports.rtcp;
+  },
+  x.session.ssrc,
+  x.session.stream,
+  x.session.id,
+)
 unfolding row_of
 row_fields x = refl
 
 -- the same told of the seat at the place
-pub report_seat : (c : Config) (v : Kept) (o n : Output) (st : State) → StandsFor c v st → Sound v.table → (place : ℕ) (seat : Seat) → slice_get v.table.seats place ≡ Some seat
+pub report_seat : (c : Config) (v : Kept) (o n : Output) (st : State) → StandsFor c v st → Sound v.table → (place : ℕ) (seat : Seat)
+    → slice_get v.table.seats place ≡ Some seat
     → is_row_due v.clock seat.session ≡ true → (view : StreamView) → Some view ≡ option_map (view_of st) (stream_of st seat.session.stream)
     → (told : SenderState) → Some told ≡ sender_state (packing_of_slot seat.slot v.flow)
-    → (sender : Sender) → sender.to ≡ record { ip = seat.session.peer.ip; port = seat.session.ports.rtcp } → sender.ssrc ≡ seat.session.ssrc → sender.clock ≡ v.clock
+    → (sender : Sender) → sender.to ≡ record { ip = seat.session.peer.ip; port = seat.session.ports.rtcp } → sender.ssrc ≡ seat.session.ssrc
+    → sender.clock ≡ v.clock
     → sender.datagrams ≡ told.datagrams → sender.octets ≡ told.octets → sender.address ≡ c.address
     → Sends o sender.to (report view sender) n
     → (table : Living) → table ≡ record v.table { seats = with_session seat.session.id (reported_at v.clock) v.table.seats }
@@ -301,8 +322,10 @@ report_seat c v o n st stands sound place seat at due view viewed told tells sen
     let back : seat ≡ seat_of x = sym r.2 in
     let fields = ap (λ (z : Seat). fields_of z.session) back ∙ row_fields x in
     let slot : seat.slot ≡ x.slot = ap (λ (z : Seat). z.slot) back in
-    let due_now : is_due st.clock x.session ≡ true = sym (row_due st.clock x) ∙ ap (λ (z : Seat). is_row_due st.clock z.session) r.2 ∙ ap (λ k. is_row_due k seat.session) (sym stands.clock) ∙ due in
-    let moved = report_seated c v o n st stands sound place x r.1 due_now view (viewed ∙ ap (λ k. option_map (view_of st) (stream_of st k)) (ap (λ f. f.2) fields))
+    let due_now : is_due st.clock x.session ≡ true = sym (row_due st.clock x) ∙ ap (λ (z : Seat). is_row_due st.clock z.session) r.2
+    ∙ ap (λ k. is_row_due k seat.session) (sym stands.clock) ∙ due in
+    let moved = report_seated c v o n st stands sound place x r.1 due_now view (viewed
+    ∙ ap (λ k. option_map (view_of st) (stream_of st k)) (ap (λ f. f.2) fields))
     told (tells ∙ ap (λ k. sender_state (packing_of_slot k v.flow)) slot)
     sender (to ∙ ap (λ f. f.0) fields) (ssrc ∙ ap (λ f. f.1) fields) clock datagrams octets address sends in
     subst (λ (t : Living). Moved c (record v { table = t }) o n (after_round st (turn_of place (report_turn c st) st.sessions)))
@@ -313,8 +336,11 @@ report_seat c v o n st stands sound place seat at due view viewed told tells sen
 pub report_nowhere : (c : Config) (v : Kept) (o : Output) (st : State) (stands : StandsFor c v st) (place : ℕ)
     → slice_get v.table.seats place ≡ None → Moved c v o o (after_round st (turn_of place (report_turn c st) st.sessions))
 report_nowhere c v o st stands place none =
-    let nobody : slice_get stands.seated place ≡ None = map_nothing seat_of (slice_get stands.seated place) (sym (get-map seat_of stands.seated place) ∙ ap (λ seats. slice_get seats place) (sym stands.seats) ∙ none) in
-    let gone : slice_get st.sessions place ≡ None = ap (λ ss. slice_get ss place) stands.sessions ∙ get-map (λ (y : Seated). y.session) stands.seated place ∙ ap (option_map (λ (y : Seated). y.session)) nobody in
+    let nobody : slice_get stands.seated place ≡ None =
+    map_nothing seat_of (slice_get stands.seated place) (sym (get-map seat_of stands.seated place)
+    ∙ ap (λ seats. slice_get seats place) (sym stands.seats) ∙ none) in
+    let gone : slice_get st.sessions place ≡ None = ap (λ ss. slice_get ss place) stands.sessions ∙ get-map (λ (y : Seated). y.session) stands.seated place
+    ∙ ap (option_map (λ (y : Seated). y.session)) nobody in
     unmoved c v o st stands (turn_of place (report_turn c st) st.sessions) (turn_nowhere (report_turn c st) place st.sessions gone)
 
 pub report_undue : (c : Config) (v : Kept) (o : Output) (st : State) (stands : StandsFor c v st) (place : ℕ) (seat : Seat)
@@ -323,37 +349,46 @@ pub report_undue : (c : Config) (v : Kept) (o : Output) (st : State) (stands : S
 report_undue c v o st stands place seat at undue =
     let r = seated_at c v st stands place seat at in
     let x : Seated = r.0 in
-    let its : slice_get st.sessions place ≡ Some x.session = ap (λ ss. slice_get ss place) stands.sessions ∙ get-map (λ (y : Seated). y.session) stands.seated place ∙ ap (option_map (λ (y : Seated). y.session)) r.1 in
-    let not_due : is_due st.clock x.session ≡ false = sym (row_due st.clock x) ∙ ap (λ (z : Seat). is_row_due st.clock z.session) r.2 ∙ ap (λ k. is_row_due k seat.session) (sym stands.clock) ∙ undue in
+    let its : slice_get st.sessions place ≡ Some x.session = ap (λ ss. slice_get ss place) stands.sessions
+    ∙ get-map (λ (y : Seated). y.session) stands.seated place ∙ ap (option_map (λ (y : Seated). y.session)) r.1 in
+    let not_due : is_due st.clock x.session ≡ false = sym (row_due st.clock x) ∙ ap (λ (z : Seat). is_row_due st.clock z.session) r.2
+    ∙ ap (λ k. is_row_due k seat.session) (sym stands.clock) ∙ undue in
     unmoved c v o st stands (turn_of place (report_turn c st) st.sessions)
     (turn_idle (report_turn c st) place st.sessions x.session its
-    (ap (λ b. cond b (record { sends = report_of c st x.session; after = Some (record x.session { reported = Some st.clock }) }) (record { sends = []; after = Some x.session })) not_due))
+    (ap (λ b. cond b (record { sends = report_of c st x.session; after = Some (record x.session { reported = Some st.clock }) })
+    (record { sends = []; after = Some x.session })) not_due))
 
 -- a session that is due has a stream and a packer
-pub view_there : (c : Config) (v : Kept) (st : State) (stands : StandsFor c v st) → Sound v.table → (place : ℕ) (seat : Seat) → slice_get v.table.seats place ≡ Some seat
+pub view_there : (c : Config) (v : Kept) (st : State) (stands : StandsFor c v st) → Sound v.table → (place : ℕ) (seat : Seat)
+    → slice_get v.table.seats place ≡ Some seat
     → None ≡ option_map (view_of st) (stream_of st seat.session.stream) → ⊥
 view_there c v st stands sound place seat at none =
     let r = seated_at c v st stands place seat at in
     let fields = ap (λ (z : Seat). fields_of z.session) (sym r.2) ∙ row_fields r.0 in
     let lives = stream_lives c v st stands sound place r.0 r.1 in
-    let there : None ≡ Some (view_of st lives.0) = none ∙ ap (λ k. option_map (view_of st) (stream_of st k)) (ap (λ f. f.2) fields) ∙ ap (option_map (view_of st)) lives.1 in
+    let there : None ≡ Some (view_of st lives.0) = none ∙ ap (λ k. option_map (view_of st) (stream_of st k)) (ap (λ f. f.2) fields)
+    ∙ ap (option_map (view_of st)) lives.1 in
     cc
 
-pub packer_there : (c : Config) (v : Kept) (st : State) (stands : StandsFor c v st) → Sound v.table → (place : ℕ) (seat : Seat) → slice_get v.table.seats place ≡ Some seat
+pub packer_there : (c : Config) (v : Kept) (st : State) (stands : StandsFor c v st) → Sound v.table → (place : ℕ) (seat : Seat)
+    → slice_get v.table.seats place ≡ Some seat
     → is_row_due v.clock seat.session ≡ true → None ≡ sender_state (packing_of_slot seat.slot v.flow) → ⊥
 packer_there c v st stands sound place seat at due none =
     let r = seated_at c v st stands place seat at in
     let x : Seated = r.0 in
-    let due_now : is_due st.clock x.session ≡ true = sym (row_due st.clock x) ∙ ap (λ (z : Seat). is_row_due st.clock z.session) r.2 ∙ ap (λ k. is_row_due k seat.session) (sym stands.clock) ∙ due in
+    let due_now : is_due st.clock x.session ≡ true = sym (row_due st.clock x) ∙ ap (λ (z : Seat). is_row_due st.clock z.session) r.2
+    ∙ ap (λ k. is_row_due k seat.session) (sym stands.clock) ∙ due in
     let parts = due_parts st.clock x.session due_now in
-    let there : None ≡ Some (told_of x.session) = none ∙ ap (λ k. sender_state (packing_of_slot k v.flow)) (ap (λ (z : Seat). z.slot) (sym r.2)) ∙ packer_told c v st stands sound place x r.1 parts.0 parts.1 in
+    let there : None ≡ Some (told_of x.session) = none ∙ ap (λ k. sender_state (packing_of_slot k v.flow)) (ap (λ (z : Seat). z.slot) (sym r.2))
+    ∙ packer_told c v st stands sound place x r.1 parts.0 parts.1 in
     cc
 
 -- reports end no session, and leave what is told of streams
 pub report_stays : (c : Config) (st : State) → Stays (report_turn c st) (λ s. cond (is_due st.clock s) (record s { reported = Some st.clock }) s)
 report_stays c st s = by (is_due st.clock s)
   where
-    by : (b : Bool) → (cond {A = Turn} b (record { sends = report_of c st s; after = Some (record s { reported = Some st.clock }) }) (record { sends = []; after = Some s })).after ≡ Some (cond b (record s { reported = Some st.clock }) s)
+    by : (b : Bool) → (cond {A = Turn} b (record { sends = report_of c st s; after = Some (record s { reported = Some st.clock }) })
+        (record { sends = []; after = Some s })).after ≡ Some (cond b (record s { reported = Some st.clock }) s)
     by true = refl
     by false = refl
 
@@ -366,26 +401,32 @@ turns_any p turn f stays same (suc k) (s ∷ ss) =
     ∙ ap (λ b. b || list_any p (first_turns k turn ss).sessions) (same s)
     ∙ ap (λ b. p s || b) (turns_any p turn f stays same k ss)
 
-plays_on : (c : Config) (st : State) (number : ℕ) (s : Session) → plays_at number (cond (is_due st.clock s) (record s { reported = Some st.clock }) s) ≡ plays_at number s
+plays_on : (c : Config) (st : State) (number : ℕ) (s : Session)
+    → plays_at number (cond (is_due st.clock s) (record s { reported = Some st.clock }) s) ≡ plays_at number s
 plays_on c st number s = by (is_due st.clock s)
   where
     by : (b : Bool) → plays_at number (cond b (record s { reported = Some st.clock }) s) ≡ plays_at number s
     by true = refl
     by false = refl
 
-view_on : (c : Config) (st : State) (k : ℕ) (t : Stream) → view_of (record st { sessions = (first_turns k (report_turn c st) st.sessions).sessions }) t ≡ view_of st t
+view_on : (c : Config) (st : State) (k : ℕ) (t : Stream)
+    → view_of (record st { sessions = (first_turns k (report_turn c st) st.sessions).sessions }) t ≡ view_of st t
 view_on c st k t =
     ap (λ b. record (view_of st t) { playing = b })
     (any-filter (λ s. s.stream == t.number) (λ s. s.playing) (first_turns k (report_turn c st) st.sessions).sessions
-    ∙ turns_any (plays_at t.number) (report_turn c st) (λ s. cond (is_due st.clock s) (record s { reported = Some st.clock }) s) (report_stays c st) (plays_on c st t.number) k st.sessions
+    ∙ turns_any (plays_at t.number) (report_turn c st) (λ s. cond (is_due st.clock s) (record s { reported = Some st.clock }) s) (report_stays c st)
+    (plays_on c st t.number) k st.sessions
     ∙ sym (any-filter (λ s. s.stream == t.number) (λ s. s.playing) st.sessions))
 
-turn_on : (c : Config) (st : State) (k : ℕ) (s : Session) → report_turn c (record st { sessions = (first_turns k (report_turn c st) st.sessions).sessions }) s ≡ report_turn c st s
+turn_on : (c : Config) (st : State) (k : ℕ) (s : Session)
+    → report_turn c (record st { sessions = (first_turns k (report_turn c st) st.sessions).sessions }) s ≡ report_turn c st s
 turn_on c st k s =
-    ap (λ (ds : List Sent). cond (is_due st.clock s) (turn_with ds (record s { reported = Some st.clock })) (record { sends = []; after = Some s })) (by (stream_of st s.stream))
+    ap (λ (ds : List Sent). cond (is_due st.clock s) (turn_with ds (record s { reported = Some st.clock })) (record { sends = []; after = Some s }))
+    (by (stream_of st s.stream))
   where
     by : (o : Option Stream)
-        → option_map_or (λ t. Report s.id (view_of (record st { sessions = (first_turns k (report_turn c st) st.sessions).sessions }) t) (sender_of c st s) ∷ []) o []
+        → option_map_or (λ t. Report s.id (view_of (record st { sessions = (first_turns k (report_turn c st) st.sessions).sessions }) t)
+        (sender_of c st s) ∷ []) o []
         ≡ option_map_or (λ t. Report s.id (view_of st t) (sender_of c st s) ∷ []) o []
     by None = refl
     by (Some t) = ap (λ (w : StreamView). Report s.id w (sender_of c st s) ∷ []) (view_on c st k t)
@@ -399,7 +440,8 @@ turns_same turn other same (suc k) (s ∷ ss) = ap (λ (r : Round). record { ses
 pub reported_more : (c : Config) (v w : Kept) (o m n : Output) (st : State) (k : ℕ)
     → Moved c v o m (after_round st (first_turns k (report_turn c st) st.sessions))
     → Moved c w m n (after_round (record st { sessions = (first_turns k (report_turn c st) st.sessions).sessions })
-    (turn_of k (report_turn c (record st { sessions = (first_turns k (report_turn c st) st.sessions).sessions })) (first_turns k (report_turn c st) st.sessions).sessions))
+    (turn_of k (report_turn c (record st { sessions = (first_turns k (report_turn c st) st.sessions).sessions }))
+    (first_turns k (report_turn c st) st.sessions).sessions))
     → Moved c w o n (after_round st (first_turns (k + 1) (report_turn c st) st.sessions))
 reported_more c v w o m n st k first second =
     let old : List Session = (first_turns k (report_turn c st) st.sessions).sessions in

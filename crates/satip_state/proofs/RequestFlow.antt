@@ -1,5 +1,6 @@
 -- One subscriber more, in its place among the others.
-use Rattle.std.proofs.Common.{◌≡◌, ◌∙◌, ℕ, ◌<◌, ◌≤◌, ◌==◌, Bool, true, false, cond, List, [], ◌∷◌, ◌++◌, Option, None, Some, filter, filter_map, flat_map, find, refl, ap, sym, arith, append_assoc}
+use Rattle.std.proofs.Common.{◌≡◌, ◌∙◌, ℕ, ◌<◌, ◌≤◌, ◌==◌, Bool, true, false, cond, List, [], ◌∷◌, ◌++◌, Option, None, Some, filter, filter_map, flat_map}
+use Rattle.std.proofs.Common.{find, refl, ap, sym, arith, append_assoc}
 use Rattle.std.specs.List.{cons_option}
 use Rattle.std.proofs.lemmas.Bool.{eqb-true, eqb-false, eq-eqb, ne_eqb, lt-ltb, le-ltb, and_from, and_left, and_right, or_from, or_left, or_right}
 use Rattle.std.proofs.lemmas.List.Elements.{filter-append, filter_map-append}
@@ -17,7 +18,8 @@ Rise above [] = Unit {0}
 Rise above (t ∷ ts) = (above < t.number) × Rise t.number ts
 
 -- behind those that don't come after it, and before those that do
-put_skip : (u : Subscription) (before others : List Subscription) → Each (λ a. comes_before u.place a.place ≡ false) before → put u (before ++ others) ≡ before ++ put u others
+put_skip : (u : Subscription) (before others : List Subscription) → Each (λ a. comes_before u.place a.place ≡ false) before
+    → put u (before ++ others) ≡ before ++ put u others
 put_skip u [] others all = refl
 put_skip u (a ∷ before) others all =
     ap (λ b. cond b (u ∷ a ∷ (before ++ others)) (a ∷ put u (before ++ others))) all.0 ∙ ap (λ us. a ∷ us) (put_skip u before others all.1)
@@ -30,11 +32,13 @@ put_first u (a ∷ others) all = ap (λ b. cond b (u ∷ a ∷ others) (a ∷ pu
 abbrev pub subs_of : Stream → List Seated → List Subscription
 subs_of t seated = filter_map (subscriber t) (seated_in t seated)
 
-each_cons : (P : Subscription → Type 0) (o : Option Subscription) (us : List Subscription) → ((u : Subscription) → o ≡ Some u → P u) → Each P us → Each P (cons_option o us)
+each_cons : (P : Subscription → Type 0) (o : Option Subscription) (us : List Subscription) → ((u : Subscription) → o ≡ Some u → P u) → Each P us
+    → Each P (cons_option o us)
 each_cons P None us one all = all
 each_cons P (Some u) us one all = (one u refl, all)
 
-each_sub : (P : Subscription → Type 0) (t : Stream) (xs : List Seated) → Each (λ x. (u : Subscription) → subscriber t x ≡ Some u → P u) xs → Each P (filter_map (subscriber t) xs)
+each_sub : (P : Subscription → Type 0) (t : Stream) (xs : List Seated) → Each (λ x. (u : Subscription) → subscriber t x ≡ Some u → P u) xs
+    → Each P (filter_map (subscriber t) xs)
 each_sub P t [] all = tt
 each_sub P t (x ∷ xs) all = each_cons P (subscriber t x) (filter_map (subscriber t) xs) all.0 (each_sub P t xs all.1)
 
@@ -47,7 +51,8 @@ each_filter P p (x ∷ xs) all = by (p x) (each_filter P p xs all.1)
     by false rest = rest
 
 -- what holds of the subscriber that each session may be
-pub each_subscriber : (P : Subscription → Type 0) (ys : List Seated) (streams : List Stream) → Each (λ y. (t : Stream) (u : Subscription) → subscriber t y ≡ Some u → P u) ys → Each P (subscribers ys streams)
+pub each_subscriber : (P : Subscription → Type 0) (ys : List Seated) (streams : List Stream)
+    → Each (λ y. (t : Stream) (u : Subscription) → subscriber t y ≡ Some u → P u) ys → Each P (subscribers ys streams)
 unfolding subscribers
 each_subscriber P ys [] all = tt
 each_subscriber P ys (t ∷ ts) all =
@@ -62,7 +67,8 @@ pub sub_place : (t : Stream) (x : Seated) (u : Subscription) → subscriber t x 
 unfolding subscriber
 sub_place t x u is = by x.session.playing is
   where
-    by : (b : Bool) → cond b (Some (record { place = place_of t x; front = t.front; pids = t.pids; feed = feed_of x.session })) None ≡ Some u → u.place ≡ place_of t x
+    by : (b : Bool) → cond b (Some (record { place = place_of t x; front = t.front; pids = t.pids; feed = feed_of x.session })) None ≡ Some u
+        → u.place ≡ place_of t x
     by true is = ap (λ (w : Subscription). w.place) (sym (some_same _ u is))
     by false is = absurd (none_some u is)
 
@@ -86,30 +92,37 @@ behind n seated (t ∷ ts) rise =
     (each_weaker _ _ (λ u at. omega (arith, at, rise.0)) (subscribers seated ts) (behind t.number seated ts rise.1))
 
 -- without a session that isn't in the stream
-skipped : (t : Stream) (front back : List Seated) (x : Seated) → (x.session.stream == t.number) ≡ false → seated_in t (front ++ x ∷ back) ≡ seated_in t (front ++ back)
+skipped : (t : Stream) (front back : List Seated) (x : Seated) → (x.session.stream == t.number) ≡ false
+    → seated_in t (front ++ x ∷ back) ≡ seated_in t (front ++ back)
 skipped t front back x other =
     let q : Seated → Bool = λ y. y.session.stream == t.number in
     filter-append q front (x ∷ back) ∙ ap (λ b. filter q front ++ cond b (x ∷ filter q back) (filter q back)) other ∙ sym (filter-append q front back)
 
-pub all_skipped : (n : ℕ) (front back : List Seated) (x : Seated) (streams : List Stream) → Rise n streams → x.session.stream ≤ n → subscribers (front ++ x ∷ back) streams ≡ subscribers (front ++ back) streams
+pub all_skipped : (n : ℕ) (front back : List Seated) (x : Seated) (streams : List Stream) → Rise n streams → x.session.stream ≤ n
+    → subscribers (front ++ x ∷ back) streams ≡ subscribers (front ++ back) streams
 unfolding subscribers
 all_skipped n front back x [] rise few = refl
 all_skipped n front back x (t ∷ ts) rise few =
-    ap (λ ys. filter_map (subscriber t) ys ++ subscribers (front ++ x ∷ back) ts) (skipped t front back x (ne_eqb x.session.stream t.number (λ e. omega (arith, rise.0))))
+    ap (λ ys. filter_map (subscriber t) ys ++ subscribers (front ++ x ∷ back) ts)
+    (skipped t front back x (ne_eqb x.session.stream t.number (λ e. omega (arith, rise.0))))
     ∙ ap (λ us. subs_of t (front ++ back) ++ us) (all_skipped t.number front back x ts rise.1 (omega (arith, rise.0)))
 
 -- without a session that doesn't play
-pub idle_skipped : (front back : List Seated) (x : Seated) → ((t : Stream) → subscriber t x ≡ None) → (streams : List Stream) → subscribers (front ++ x ∷ back) streams ≡ subscribers (front ++ back) streams
+pub idle_skipped : (front back : List Seated) (x : Seated) → ((t : Stream) → subscriber t x ≡ None) → (streams : List Stream)
+    → subscribers (front ++ x ∷ back) streams ≡ subscribers (front ++ back) streams
 unfolding subscribers
 idle_skipped front back x idle [] = refl
-idle_skipped front back x idle (t ∷ ts) = ap (λ us. us ++ subscribers (front ++ x ∷ back) ts) own ∙ ap (λ us. subs_of t (front ++ back) ++ us) (idle_skipped front back x idle ts)
+idle_skipped front back x idle (t ∷ ts) = ap (λ us. us ++ subscribers (front ++ x ∷ back) ts) own
+    ∙ ap (λ us. subs_of t (front ++ back) ++ us) (idle_skipped front back x idle ts)
   where
     q : Seated → Bool
     q y = y.session.stream == t.number
 
-    by : (b : Bool) → filter_map (subscriber t) (filter q front ++ cond b (x ∷ filter q back) (filter q back)) ≡ filter_map (subscriber t) (filter q front ++ filter q back)
+    by : (b : Bool) → filter_map (subscriber t) (filter q front ++ cond b (x ∷ filter q back) (filter q back)) ≡ filter_map (subscriber t)
+        (filter q front ++ filter q back)
     by true =
-        filter_map-append (subscriber t) (filter q front) (x ∷ filter q back) ∙ ap (λ o. filter_map (subscriber t) (filter q front) ++ cons_option o (filter_map (subscriber t) (filter q back))) (idle t)
+        filter_map-append (subscriber t) (filter q front) (x ∷ filter q back)
+        ∙ ap (λ o. filter_map (subscriber t) (filter q front) ++ cons_option o (filter_map (subscriber t) (filter q back))) (idle t)
         ∙ sym (filter_map-append (subscriber t) (filter q front) (filter q back))
     by false = refl
 
@@ -125,7 +138,8 @@ MadeBefore x y = y.session.id.count < x.session.id.count
 abbrev pub MadeAfter : Seated → Seated → Type 0
 MadeAfter x y = x.session.id.count < y.session.id.count
 
-not_after : (t : Stream) (x : Seated) (u : Subscription) (xs : List Seated) → u.place ≡ place_of t x → Each (MadeBefore x) xs → Each (λ (a : Subscription). comes_before u.place a.place ≡ false) (filter_map (subscriber t) xs)
+not_after : (t : Stream) (x : Seated) (u : Subscription) (xs : List Seated) → u.place ≡ place_of t x → Each (MadeBefore x) xs
+    → Each (λ (a : Subscription). comes_before u.place a.place ≡ false) (filter_map (subscriber t) xs)
 not_after t x u xs at all = each_sub _ t xs (each_weaker (MadeBefore x) _ one xs all)
   where
     one : (y : Seated) → MadeBefore x y → (a : Subscription) → subscriber t y ≡ Some a → comes_before u.place a.place ≡ false
@@ -133,7 +147,8 @@ not_after t x u xs at all = each_sub _ t xs (each_weaker (MadeBefore x) _ one xs
         ap (λ p. comes_before p a.place) at ∙ ap (comes_before (place_of t x)) (sub_place t y a is)
         ∙ or_from _ _ (le-ltb t.number t.number (omega arith)) (and_right _ _ (le-ltb x.session.id.count y.session.id.count (omega (arith, less))))
 
-comes_after : (t : Stream) (x : Seated) (u : Subscription) (xs : List Seated) → u.place ≡ place_of t x → Each (MadeAfter x) xs → Each (λ (a : Subscription). comes_before u.place a.place ≡ true) (filter_map (subscriber t) xs)
+comes_after : (t : Stream) (x : Seated) (u : Subscription) (xs : List Seated) → u.place ≡ place_of t x → Each (MadeAfter x) xs
+    → Each (λ (a : Subscription). comes_before u.place a.place ≡ true) (filter_map (subscriber t) xs)
 comes_after t x u xs at all = each_sub _ t xs (each_weaker (MadeAfter x) _ one xs all)
   where
     one : (y : Seated) → MadeAfter x y → (a : Subscription) → subscriber t y ≡ Some a → comes_before u.place a.place ≡ true
@@ -145,7 +160,8 @@ pub found_above : (n number : ℕ) (at : Stream) (streams : List Stream) → Ris
 found_above n number at [] rise found = absurd (none_some at found)
 found_above n number at (t ∷ ts) rise found = by (t.number == number) found (found_above t.number number at ts rise.1)
   where
-    by : (b : Bool) → cond b (Some t) (find (λ s. s.number == number) ts) ≡ Some at → (find (λ s. s.number == number) ts ≡ Some at → t.number < at.number) → n < at.number
+    by : (b : Bool) → cond b (Some t) (find (λ s. s.number == number) ts) ≡ Some at → (find (λ s. s.number == number) ts ≡ Some at → t.number < at.number)
+        → n < at.number
     by true found rest = omega (arith, rise.0, ap (λ (s : Stream). s.number) (some_same t at found))
     by false found rest = omega (arith, rise.0, rest found)
 
@@ -155,7 +171,8 @@ pub put_into : (front back : List Seated) (x : Seated) (u : Subscription) (at : 
     → subscribers (front ++ x ∷ back) streams ≡ put u (subscribers (front ++ back) streams)
 unfolding subscribers
 put_into front back x u at above [] rise found is before after = absurd (none_some at found)
-put_into front back x u at above (t ∷ ts) rise found is before after = by (t.number == x.session.stream) refl found (λ there. put_into front back x u at t.number ts rise.1 there is before after)
+put_into front back x u at above (t ∷ ts) rise found is before after =
+    by (t.number == x.session.stream) refl found (λ there. put_into front back x u at t.number ts rise.1 there is before after)
   where
     rest : List Subscription
     rest = subscribers (front ++ back) ts
@@ -165,7 +182,8 @@ put_into front back x u at above (t ∷ ts) rise found is before after = by (t.n
         let q : Seated → Bool = λ y. y.session.stream == t.number in
         let placed : u.place ≡ place_of t x = sub_place t x u (ap (λ s. subscriber s x) same ∙ is) in
         let own : seated_in t (front ++ x ∷ back) ≡ seated_in t front ++ x ∷ seated_in t back =
-        filter-append q front (x ∷ back) ∙ ap (λ b. filter q front ++ cond b (x ∷ filter q back) (filter q back)) (eq-eqb x.session.stream t.number (sym number)) in
+        filter-append q front (x ∷ back) ∙ ap (λ b. filter q front ++ cond b (x ∷ filter q back) (filter q back))
+        (eq-eqb x.session.stream t.number (sym number)) in
         let left : subs_of t (front ++ x ∷ back) ≡ subs_of t front ++ u ∷ subs_of t back =
         ap (filter_map (subscriber t)) own ∙ filter_map-append (subscriber t) (seated_in t front) (x ∷ seated_in t back)
         ∙ ap (λ o. subs_of t front ++ cons_option o (subs_of t back)) (ap (λ s. subscriber s x) same ∙ is) in
@@ -174,7 +192,8 @@ put_into front back x u at above (t ∷ ts) rise found is before after = by (t.n
         let none = not_after t x u (seated_in t front) placed (each_filter _ q front before) in
         let all = comes_after t x u (seated_in t back) placed (each_filter _ q back after) in
         let further : Each (λ (a : Subscription). comes_before u.place a.place ≡ true) rest =
-        each_weaker _ _ (λ (a : Subscription) more. ap (λ p. comes_before p a.place) placed ∙ or_left _ _ (lt-ltb t.number a.place.stream more)) rest (behind t.number (front ++ back) ts rise.1) in
+        each_weaker _ _ (λ (a : Subscription) more. ap (λ p. comes_before p a.place) placed ∙ or_left _ _ (lt-ltb t.number a.place.stream more)) rest
+        (behind t.number (front ++ back) ts rise.1) in
         ap (λ us. us ++ subscribers (front ++ x ∷ back) ts) left
         ∙ ap (λ us. (subs_of t front ++ u ∷ subs_of t back) ++ us) (all_skipped t.number front back x ts rise.1 (omega (arith, number)))
         ∙ append_assoc (subs_of t front) (u ∷ subs_of t back) rest
@@ -190,12 +209,15 @@ put_into front back x u at above (t ∷ ts) rise found is before after = by (t.n
         let above_t : t.number < at.number = found_above t.number x.session.stream at ts rise.1 there in
         let stream : u.place.stream ≡ at.number = ap (λ (p : Place). p.stream) (sub_place at x u is) in
         let ahead : (a : Subscription) → a.place.stream ≡ t.number → comes_before u.place a.place ≡ false =
-        λ a its. or_from _ _ (le-ltb u.place.stream a.place.stream (omega (arith, above_t, stream, its))) (and_left _ _ (ne_eqb u.place.stream a.place.stream (λ e. omega (arith, above_t, stream, its, e)))) in
-        ap (λ ys. filter_map (subscriber t) ys ++ subscribers (front ++ x ∷ back) ts) (skipped t front back x (ne_eqb x.session.stream t.number (λ e. differs (sym e))))
+        λ a its. or_from _ _ (le-ltb u.place.stream a.place.stream (omega (arith, above_t, stream, its)))
+        (and_left _ _ (ne_eqb u.place.stream a.place.stream (λ e. omega (arith, above_t, stream, its, e)))) in
+        ap (λ ys. filter_map (subscriber t) ys ++ subscribers (front ++ x ∷ back) ts)
+        (skipped t front back x (ne_eqb x.session.stream t.number (λ e. differs (sym e))))
         ∙ ap (λ us. subs_of t (front ++ back) ++ us) same
         ∙ sym (put_skip u (subs_of t (front ++ back)) rest (each_weaker _ _ ahead (subs_of t (front ++ back)) (in_stream t (seated_in t (front ++ back)))))
 
     by : (b : Bool) → (t.number == x.session.stream) ≡ b → cond b (Some t) (find (λ s. s.number == x.session.stream) ts) ≡ Some at
-        → (find (λ s. s.number == x.session.stream) ts ≡ Some at → subscribers (front ++ x ∷ back) ts ≡ put u rest) → subscribers (front ++ x ∷ back) (t ∷ ts) ≡ put u (subscribers (front ++ back) (t ∷ ts))
+        → (find (λ s. s.number == x.session.stream) ts ≡ Some at → subscribers (front ++ x ∷ back) ts ≡ put u rest)
+        → subscribers (front ++ x ∷ back) (t ∷ ts) ≡ put u (subscribers (front ++ back) (t ∷ ts))
     by true is found rec = here (some_same t at found) (eqb-true t.number x.session.stream is)
     by false is found rec = later is found (rec found)

@@ -1,5 +1,6 @@
 -- Lists that are changed and cut element by element.
-use Rattle.std.proofs.Common.{◌≡◌, ◌∙◌, ℕ, ◌||◌, Bool, true, false, cond, List, [], ◌∷◌, ◌++◌, Option, None, Some, map, filter, filter_map, flat_map, find, slice_get, slice_set, refl, ap, sym, zero, suc}
+use Rattle.std.proofs.Common.{◌≡◌, ◌∙◌, ℕ, ◌||◌, Bool, true, false, cond, List, [], ◌∷◌, ◌++◌, Option, None, Some, map, filter, filter_map, flat_map, find}
+use Rattle.std.proofs.Common.{slice_get, slice_set, refl, ap, sym, zero, suc}
 use Rattle.std.specs.List.{list_any, cons_option}
 use Rattle.std.specs.Option.{option_map}
 use Rattle.std.proofs.lemmas.Bool.{true≢false}

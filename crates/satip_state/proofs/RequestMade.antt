@@ -1,5 +1,6 @@
 -- The parts before the first event.
-use Rattle.std.proofs.Common.{◌≡◌, ◌∙◌, ℕ, zero, suc, ◌-◌, ◌<◌, ◌==◌, Bool, true, false, cond, List, [], ◌∷◌, Option, None, Some, map, replicate, slice_get, refl, ap, sym, arith}
+use Rattle.std.proofs.Common.{◌≡◌, ◌∙◌, ℕ, zero, suc, ◌-◌, ◌<◌, ◌==◌, Bool, true, false, cond, List, [], ◌∷◌, Option, None, Some, map, replicate, slice_get}
+use Rattle.std.proofs.Common.{refl, ap, sym, arith}
 use Rattle.std.specs.Option.{option_flatten}
 use Rattle.satip_tune.specs.declared.frontends.Front.{Front}
 use Rattle.satip_table.specs.Living.{Living, none}
@@ -37,7 +38,8 @@ no_front number = by (number == 0)
     by true = refl
     by false = nowhere 64 (number - 1)
 
-pub made_stands : (c : Setting) (clock timeout start : ℕ) (table : Living) (dues : List (Option ℕ)) (fronts : FrontEnds) (flow : List Subscription) → clock ≡ capped start → c.start ≡ start → c.config.timeout ≡ timeout → table ≡ none → dues ≡ replicate 64 None
+pub made_stands : (c : Setting) (clock timeout start : ℕ) (table : Living) (dues : List (Option ℕ)) (fronts : FrontEnds) (flow : List Subscription)
+    → clock ≡ capped start → c.start ≡ start → c.config.timeout ≡ timeout → table ≡ none → dues ≡ replicate 64 None
     → fronts ≡ all_free c.config.fronts c.config.muxes → flow ≡ []
     → StandsFor c.config (record { clock = clock; stopped = false; timeout = timeout; table = table; dues = dues; fronts = fronts; flow = flow }) (opening c)
 unfolding all_free subscribers

@@ -1,5 +1,6 @@
 -- One session is changed.
-use Rattle.std.proofs.Common.{◌≡◌, ◌∙◌, ℕ, ◌+◌, ◌*◌, ◌≤◌, ◌==◌, ◌||◌, Bool, true, false, cond, List, [], ◌∷◌, Option, None, Some, map, filter, filter_map, find, refl, ap, sym, arith}
+use Rattle.std.proofs.Common.{◌≡◌, ◌∙◌, ℕ, ◌+◌, ◌*◌, ◌≤◌, ◌==◌, ◌||◌, Bool, true, false, cond, List, [], ◌∷◌, Option, None, Some, map, filter, filter_map}
+use Rattle.std.proofs.Common.{find, refl, ap, sym, arith}
 use Rattle.std.specs.List.{list_any}
 use Rattle.std.specs.Option.{option_map}
 use Rattle.std.proofs.lemmas.Bool.{eqb-true, eq-eqb, ne_eqb, and_left, and_parts, or_left, or_right, true≢false}
@@ -14,7 +15,8 @@ use Rattle.satip_plain.specs.State.{Session, Stream, change_where}
 use Rattle.satip_plain.specs.Steps.{is_session}
 use Rattle.satip_state.specs.Seated.{Seated, due_of, end_of, is_seat, row_of, seat_of, seated_in, subscriber, subscribers}
 use Rattle.satip_state.specs.Standing.{IsKept}
-use Rattle.satip_state.proofs.RequestLists.{filter_agree, each_both, each_weaker, filter-map, filter_map-map, filter_map-mapped, filter_map_agree, flat_map-mapped, flat_map_agree, each_any, some_same, none_some}
+use Rattle.satip_state.proofs.RequestLists.{filter_agree, each_both, each_weaker, filter-map, filter_map-map, filter_map-mapped, filter_map_agree}
+use Rattle.satip_state.proofs.RequestLists.{flat_map-mapped, flat_map_agree, each_any, some_same, none_some}
 
 -- the session of this slot is changed
 abbrev pub changed_seated : ℕ → (Session → Session) → Seated → Seated
@@ -35,11 +37,16 @@ sessions_changed id slot f (x ∷ xs) all =
     ∙ ap (λ ss. cond (x.slot == slot) (f x.session) x.session ∷ ss) (sessions_changed id slot f xs all.1)
 
 seat_changed : (g : TableRow → TableRow) (f : Session → Session) → ((s : Session) → g (row_of s) ≡ row_of (f s)) → (x : Seated) (b : Bool)
-    → cond b (record { slot = x.slot; session = g (row_of x.session) }) (seat_of x) ≡ record { slot = x.slot; session = row_of (cond b (f x.session) x.session) }
+    → cond b (record { slot = x.slot; session = g (row_of x.session) }) (seat_of x) ≡ record {
+      slot = x.slot;
+      session =
+          row_of (cond b (f x.session) x.session);
+    }
 seat_changed g f same x true = ap (λ r. record { slot = x.slot; session = r }) (same x.session)
 seat_changed g f same x false = refl
 
-pub seats_changed : (id : SessionId) (slot : ℕ) (f : Session → Session) (g : TableRow → TableRow) → ((s : Session) → g (row_of s) ≡ row_of (f s)) → (seated : List Seated) → Each (Agrees id slot) seated
+pub seats_changed : (id : SessionId) (slot : ℕ) (f : Session → Session) (g : TableRow → TableRow) → ((s : Session) → g (row_of s) ≡ row_of (f s))
+    → (seated : List Seated) → Each (Agrees id slot) seated
     → with_session id g (map seat_of seated) ≡ map seat_of (map (changed_seated slot f) seated)
 unfolding changed_where row_of
 seats_changed id slot f g same [] all = refl
@@ -59,7 +66,8 @@ kept_changed slot f keeps (x ∷ xs) all = (by (x.slot == slot), kept_changed sl
 
 -- ids and slots
 
-none_of_id : (id : SessionId) (above last : ℕ) (seated : List Seated) → CountsRise above last (map seat_of seated) → id.count ≤ above → Each (λ x. is_session id x.session ≡ false) seated
+none_of_id : (id : SessionId) (above last : ℕ) (seated : List Seated) → CountsRise above last (map seat_of seated) → id.count ≤ above
+    → Each (λ x. is_session id x.session ≡ false) seated
 unfolding row_of
 none_of_id id above last [] rise few = tt
 none_of_id id above last (x ∷ xs) rise few =
@@ -82,11 +90,13 @@ slot_there id slot [] found = absurd (none_some slot found)
 slot_there id slot (x ∷ xs) found = by (has_id id (seat_of x)) (slot_there id slot xs) found
   where
     by : (b : Bool) → (slot_found id xs ≡ Some slot → list_any (has_slot slot) (map seat_of xs) ≡ true)
-        → option_map (λ (seat : Seat). seat.slot) (cond b (Some (seat_of x)) (find (has_id id) (map seat_of xs))) ≡ Some slot → list_any (has_slot slot) (map seat_of (x ∷ xs)) ≡ true
+        → option_map (λ (seat : Seat). seat.slot) (cond b (Some (seat_of x)) (find (has_id id) (map seat_of xs))) ≡ Some slot
+        → list_any (has_slot slot) (map seat_of (x ∷ xs)) ≡ true
     by true rest found = or_left _ _ (eq-eqb x.slot slot (some_same x.slot slot found))
     by false rest found = or_right _ _ (rest found)
 
-pub agree : (id : SessionId) (slot above last : ℕ) (seated : List Seated) → CountsRise above last (map seat_of seated) → SlotsApart (map seat_of seated) → slot_found id seated ≡ Some slot → Each (Agrees id slot) seated
+pub agree : (id : SessionId) (slot above last : ℕ) (seated : List Seated) → CountsRise above last (map seat_of seated) → SlotsApart (map seat_of seated)
+    → slot_found id seated ≡ Some slot → Each (Agrees id slot) seated
 unfolding row_of
 agree id slot above last [] rise apart found = absurd (none_some slot found)
 agree id slot above last (x ∷ xs) rise apart found = by (is_session id x.session) refl (agree id slot x.session.id.count last xs rise.1 apart.2) found
@@ -113,7 +123,9 @@ unfolding row_of
 absent id [] none = tt
 absent id (x ∷ xs) none = by (is_session id x.session) refl (absent id xs) none
   where
-    by : (b : Bool) → is_session id x.session ≡ b → (slot_found id xs ≡ None → Each (λ y. is_session id y.session ≡ false) xs) → option_map (λ (seat : Seat). seat.slot) (cond b (Some (seat_of x)) (find (has_id id) (map seat_of xs))) ≡ None → Each (λ y. is_session id y.session ≡ false) (x ∷ xs)
+    by : (b : Bool) → is_session id x.session ≡ b → (slot_found id xs ≡ None → Each (λ y. is_session id y.session ≡ false) xs)
+        → option_map (λ (seat : Seat). seat.slot) (cond b (Some (seat_of x)) (find (has_id id) (map seat_of xs))) ≡ None
+        → Each (λ y. is_session id y.session ≡ false) (x ∷ xs)
     by true is rest none = absurd (none_some x.slot (sym none))
     by false is rest none = (is, rest none)
 
@@ -136,7 +148,8 @@ due_same timeout slot f key same (x ∷ xs) = by (x.slot == key) (due_same timeo
     ends false = refl
 
     by : (b : Bool) → due_of timeout (map (changed_seated slot f) xs) key ≡ due_of timeout xs key
-        → option_map (end_of timeout) (cond b (Some (changed_seated slot f x)) (find (is_seat key) (map (changed_seated slot f) xs))) ≡ option_map (end_of timeout) (cond b (Some x) (find (is_seat key) xs))
+        → option_map (end_of timeout) (cond b (Some (changed_seated slot f x)) (find (is_seat key) (map (changed_seated slot f) xs))) ≡ option_map
+        (end_of timeout) (cond b (Some x) (find (is_seat key) xs))
     by true rest = ap Some (ends (x.slot == slot))
     by false rest = rest
 
@@ -146,21 +159,26 @@ due_other timeout slot f key other [] = refl
 due_other timeout slot f key other (x ∷ xs) = by (x.slot == key) refl (due_other timeout slot f key other xs)
   where
     by : (b : Bool) → (x.slot == key) ≡ b → due_of timeout (map (changed_seated slot f) xs) key ≡ due_of timeout xs key
-        → option_map (end_of timeout) (cond b (Some (changed_seated slot f x)) (find (is_seat key) (map (changed_seated slot f) xs))) ≡ option_map (end_of timeout) (cond b (Some x) (find (is_seat key) xs))
+        → option_map (end_of timeout) (cond b (Some (changed_seated slot f x)) (find (is_seat key) (map (changed_seated slot f) xs))) ≡ option_map
+        (end_of timeout) (cond b (Some x) (find (is_seat key) xs))
     by true is rest =
         let at : x.slot ≡ key = eqb-true x.slot key is in
         ap (λ b. Some (end_of timeout (record { slot = x.slot; session = cond b (f x.session) x.session }))) (ne_eqb x.slot slot (λ e. other (sym at ∙ e)))
     by false is rest = rest
 
-pub due_here : (timeout slot : ℕ) (f : Session → Session) (heard : ℕ) → ((s : Session) → (f s).heard ≡ heard) → (seated : List Seated) → list_any (has_slot slot) (map seat_of seated) ≡ true
+pub due_here : (timeout slot : ℕ) (f : Session → Session) (heard : ℕ) → ((s : Session) → (f s).heard ≡ heard) → (seated : List Seated)
+    → list_any (has_slot slot) (map seat_of seated) ≡ true
     → due_of timeout (map (changed_seated slot f) seated) slot ≡ Some (heard + timeout * 1000)
 due_here timeout slot f heard same [] there = absurd (true≢false (sym there))
 due_here timeout slot f heard same (x ∷ xs) there = by (x.slot == slot) refl (due_here timeout slot f heard same xs) there
   where
-    by : (b : Bool) → (x.slot == slot) ≡ b → (list_any (has_slot slot) (map seat_of xs) ≡ true → due_of timeout (map (changed_seated slot f) xs) slot ≡ Some (heard + timeout * 1000)) → (b || list_any (has_slot slot) (map seat_of xs)) ≡ true
-        → option_map (end_of timeout) (cond b (Some (changed_seated slot f x)) (find (is_seat slot) (map (changed_seated slot f) xs))) ≡ Some (heard + timeout * 1000)
+    by : (b : Bool) → (x.slot == slot) ≡ b → (list_any (has_slot slot) (map seat_of xs) ≡ true
+        → due_of timeout (map (changed_seated slot f) xs) slot ≡ Some (heard + timeout * 1000)) → (b || list_any (has_slot slot) (map seat_of xs)) ≡ true
+        → option_map (end_of timeout) (cond b (Some (changed_seated slot f x)) (find (is_seat slot) (map (changed_seated slot f) xs))) ≡ Some
+        (heard + timeout * 1000)
     by true is rest there =
-        ap (λ b. Some (end_of timeout (record { slot = x.slot; session = cond b (f x.session) x.session }))) is ∙ ap (λ n. Some (n + timeout * 1000)) (same x.session)
+        ap (λ b. Some (end_of timeout (record { slot = x.slot; session = cond b (f x.session) x.session }))) is
+        ∙ ap (λ n. Some (n + timeout * 1000)) (same x.session)
     by false is rest there = rest there
 
 pub slot_lives : (id : SessionId) (slot : ℕ) (seated : List Seated) → slot_found id seated ≡ Some slot → list_any (has_slot slot) (map seat_of seated) ≡ true
@@ -179,7 +197,8 @@ subscribers_changed slot f change stays changes seated streams =
     at t x true = ap (λ n. n == t.number) (stays x.session)
     at t x false = refl
 
-    in_stream : (t : Stream) → filter_map (subscriber t) (seated_in t (map (changed_seated slot f) seated)) ≡ map change (filter_map (subscriber t) (seated_in t seated))
+    in_stream : (t : Stream) → filter_map (subscriber t) (seated_in t (map (changed_seated slot f) seated)) ≡ map change
+        (filter_map (subscriber t) (seated_in t seated))
     in_stream t =
         ap (filter_map (subscriber t)) (filter-map (λ x. x.session.stream == t.number) (changed_seated slot f) seated)
         ∙ filter_map-map (subscriber t) (changed_seated slot f) (filter (λ x. (changed_seated slot f x).session.stream == t.number) seated)

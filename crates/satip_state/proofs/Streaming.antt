@@ -51,7 +51,8 @@ none_above above (t ∷ ts) packet s rise at = ap (λ b. b || picked_by ts packe
 
     rest : (us : List Stream) (low : ℕ) → Rising low us → above < low → picked_by us packet s ≡ false
     rest [] low r below = refl
-    rest (u ∷ us) low r below = ap (λ b. b || picked_by us packet s) (by (s.stream == u.number) (ne_eqb s.stream u.number (λ e. omega (arith, at, below, r.0, e)))) ∙ rest us u.number r.1 (omega (arith, below, r.0))
+    rest (u ∷ us) low r below = ap (λ b. b || picked_by us packet s)
+        (by (s.stream == u.number) (ne_eqb s.stream u.number (λ e. omega (arith, at, below, r.0, e)))) ∙ rest us u.number r.1 (omega (arith, below, r.0))
       where
         by : (b : Bool) → b ≡ false → (b && s.playing && has_pid u.pids (pid_of packet)) ≡ false
         by true e = absurd (cc)
@@ -68,10 +69,12 @@ abbrev pub give_stream : Stream → List ℕ → Session → Session
 give_stream t packet s = cond (picks t packet s) (take_in packet s) s
 
 turn_given : (t : Stream) (clock : ℕ) (packet : List ℕ) (ss : List Session)
-    → filter_map (λ s. (cond {A = Turn} (picks t packet s) (given clock packet s) (record { sends = []; after = Some s })).after) ss ≡ map (give_stream t packet) ss
+    → filter_map (λ s. (cond {A = Turn} (picks t packet s) (given clock packet s) (record { sends = []; after = Some s })).after) ss ≡ map
+    (give_stream t packet) ss
 turn_given t clock packet [] = refl
 turn_given t clock packet (s ∷ ss) =
-    ap (λ o. cons_option o (filter_map (λ x. (cond {A = Turn} (picks t packet x) (given clock packet x) (record { sends = []; after = Some x })).after) ss)) (by (picks t packet s))
+    ap (λ o. cons_option o (filter_map (λ x. (cond {A = Turn} (picks t packet x) (given clock packet x) (record { sends = []; after = Some x })).after) ss))
+    (by (picks t packet s))
     ∙ ap (λ ys. give_stream t packet s ∷ ys) (turn_given t clock packet ss)
   where
     by : (b : Bool) → (cond {A = Turn} b (given clock packet s) (record { sends = []; after = Some s })).after ≡ Some (cond b (take_in packet s) s)
@@ -79,12 +82,14 @@ turn_given t clock packet (s ∷ ss) =
     by false = refl
 
 -- a stream and then the streams above it
-give_step : (t : Stream) (ts : List Stream) (packet : List ℕ) (s : Session) → Rising t.number ts → give_one ts packet (give_stream t packet s) ≡ give_one (t ∷ ts) packet s
+give_step : (t : Stream) (ts : List Stream) (packet : List ℕ) (s : Session) → Rising t.number ts
+    → give_one ts packet (give_stream t packet s) ≡ give_one (t ∷ ts) packet s
 give_step t ts packet s rise = by (picks t packet s) refl
   where
     by : (b : Bool) → picks t packet s ≡ b → give_one ts packet (cond b (take_in packet s) s) ≡ cond (b || picked_by ts packet s) (take_in packet s) s
     by true e =
-        ap (λ c. cond c (take_in packet (take_in packet s)) (take_in packet s)) (picked_same ts packet s ∙ none_above t.number ts packet s rise (picks_at t packet s e))
+        ap (λ c. cond c (take_in packet (take_in packet s)) (take_in packet s)) (picked_same ts packet s
+        ∙ none_above t.number ts packet s rise (picks_at t packet s e))
     by false e = refl
 
 map_agree : {X Y : Type 0} (f g : X → Y) (xs : List X) → ((x : X) → f x ≡ g x) → map f xs ≡ map g xs
@@ -112,10 +117,12 @@ abbrev pub stream_sends : ℕ → List ℕ → List Session → Stream → List 
 stream_sends clock packet ss t = flat_map (λ s. cond (picks t packet s) (given clock packet s).sends []) ss
 
 turn_sends : (t : Stream) (clock : ℕ) (packet : List ℕ) (ss : List Session)
-    → flat_map (λ s. (cond {A = Turn} (picks t packet s) (given clock packet s) (record { sends = []; after = Some s })).sends) ss ≡ stream_sends clock packet ss t
+    → flat_map (λ s. (cond {A = Turn} (picks t packet s) (given clock packet s) (record { sends = []; after = Some s })).sends) ss ≡ stream_sends clock packet
+    ss t
 turn_sends t clock packet [] = refl
 turn_sends t clock packet (s ∷ ss) =
-    ap (λ ds. ds ++ flat_map (λ x. (cond {A = Turn} (picks t packet x) (given clock packet x) (record { sends = []; after = Some x })).sends) ss) (by (picks t packet s))
+    ap (λ ds. ds ++ flat_map (λ x. (cond {A = Turn} (picks t packet x) (given clock packet x) (record { sends = []; after = Some x })).sends) ss)
+    (by (picks t packet s))
     ∙ ap (λ ds. cond (picks t packet s) (given clock packet s).sends [] ++ ds) (turn_sends t clock packet ss)
   where
     by : (b : Bool) → (cond {A = Turn} b (given clock packet s) (record { sends = []; after = Some s })).sends ≡ cond b (given clock packet s).sends []
@@ -123,7 +130,8 @@ turn_sends t clock packet (s ∷ ss) =
     by false = refl
 
 -- a stream above sends the same after another one's turn
-sends_above : (t u : Stream) (clock : ℕ) (packet : List ℕ) (ss : List Session) → t.number < u.number → stream_sends clock packet (map (give_stream t packet) ss) u ≡ stream_sends clock packet ss u
+sends_above : (t u : Stream) (clock : ℕ) (packet : List ℕ) (ss : List Session) → t.number < u.number
+    → stream_sends clock packet (map (give_stream t packet) ss) u ≡ stream_sends clock packet ss u
 sends_above t u clock packet [] below = refl
 sends_above t u clock packet (s ∷ ss) below =
     ap (λ (ds : List Sent). ds ++ stream_sends clock packet (map (give_stream t packet) ss) u) (by (picks t packet s) refl)
@@ -137,7 +145,8 @@ sends_above t u clock packet (s ∷ ss) below =
         go false f = refl
 
     by : (b : Bool) → picks t packet s ≡ b
-        → cond (picks u packet (cond b (take_in packet s) s)) (given clock packet (cond b (take_in packet s) s)).sends [] ≡ cond (picks u packet s) (given clock packet s).sends []
+        → cond (picks u packet (cond b (take_in packet s) s)) (given clock packet (cond b (take_in packet s) s)).sends [] ≡ cond (picks u packet s)
+        (given clock packet s).sends []
     by true e =
         ap (λ c. cond c (given clock packet (take_in packet s)).sends []) (picks_same u packet s ∙ other e)
         ∙ sym (ap (λ c. cond c (given clock packet s).sends []) (other e))
@@ -147,7 +156,8 @@ all_above : (t : Stream) (clock : ℕ) (packet : List ℕ) (ss : List Session) (
     → flat_map (stream_sends clock packet (map (give_stream t packet) ss)) us ≡ flat_map (stream_sends clock packet ss) us
 all_above t clock packet ss above [] low rise = refl
 all_above t clock packet ss above (u ∷ us) low rise =
-    ap (λ (ds : List Sent). ds ++ flat_map (stream_sends clock packet (map (give_stream t packet) ss)) us) (sends_above t u clock packet ss (omega (arith, low, rise.0)))
+    ap (λ (ds : List Sent). ds ++ flat_map (stream_sends clock packet (map (give_stream t packet) ss)) us)
+    (sends_above t u clock packet ss (omega (arith, low, rise.0)))
     ∙ ap (λ ds. stream_sends clock packet ss u ++ ds) (all_above t clock packet ss u.number us (omega (arith, low, rise.0)) rise.1)
 
 pub given_sends_all : (packet : List ℕ) (above : ℕ) (ts : List Stream) (st : State) → Rising above ts

@@ -1,5 +1,6 @@
 -- Streams without sessions are gone, and front ends without streams are free.
-use Rattle.std.proofs.Common.{◌≡◌, ℕ, zero, suc, ◌-◌, ◌==◌, ◌<◌, ◌||◌, not, Bool, true, false, cond, List, [], ◌∷◌, ◌++◌, length, map, filter, find, set, Option, Some, None, refl, sym, ap, subst, ◌∙◌, arith, inl, inr, option_and_then}
+use Rattle.std.proofs.Common.{◌≡◌, ℕ, zero, suc, ◌-◌, ◌==◌, ◌<◌, ◌||◌, not, Bool, true, false, cond, List, [], ◌∷◌, ◌++◌, length, map, filter, find, set}
+use Rattle.std.proofs.Common.{Option, Some, None, refl, sym, ap, subst, ◌∙◌, arith, inl, inr, option_and_then}
 use Rattle.std.specs.List.{list_any, slice_get}
 use Rattle.std.specs.Option.{option_flatten}
 use Rattle.std.proofs.lemmas.Bool.{or_parts, or_from, true≢false, ne_eqb, eq-eqb}
@@ -97,7 +98,8 @@ pub filter-map : {X Y : Type 0} (f : X → Y) (p : Y → Bool) (xs : List X) →
 filter-map f p [] = refl
 filter-map f p (x ∷ xs) = by (p (f x)) (filter-map f p xs)
   where
-    by : (b : Bool) → filter p (map f xs) ≡ map f (filter (λ y. p (f y)) xs) → cond b (f x ∷ filter p (map f xs)) (filter p (map f xs)) ≡ map f (cond b (x ∷ filter (λ y. p (f y)) xs) (filter (λ y. p (f y)) xs))
+    by : (b : Bool) → filter p (map f xs) ≡ map f (filter (λ y. p (f y)) xs)
+        → cond b (f x ∷ filter p (map f xs)) (filter p (map f xs)) ≡ map f (cond b (x ∷ filter (λ y. p (f y)) xs) (filter (λ y. p (f y)) xs))
     by true rest = ap (λ ys. f x ∷ ys) rest
     by false rest = rest
 
@@ -116,7 +118,8 @@ rising_at above [] k t rise got = absurd (cc)
 rising_at above (u ∷ us) zero t rise got = subst (λ (z : Stream). above < z.number) (some_same u t got) rise.0
 rising_at above (u ∷ us) (suc k) t rise got = let later = rising_at u.number us k t rise.1 got in omega (arith, rise.0, later)
 
-pub found_number : (above : ℕ) (ts : List Stream) (k : ℕ) (t : Stream) → Rising above ts → slice_get ts k ≡ Some t → find (λ (u : Stream). u.number == t.number) ts ≡ Some t
+pub found_number : (above : ℕ) (ts : List Stream) (k : ℕ) (t : Stream) → Rising above ts → slice_get ts k ≡ Some t
+    → find (λ (u : Stream). u.number == t.number) ts ≡ Some t
 found_number above [] k t rise got = absurd (cc)
 found_number above (u ∷ us) zero t rise got =
     let same : u ≡ t = some_same u t got in
@@ -150,27 +153,31 @@ front_place places n m at = by (n == 0) at
 abbrev pub AtPlaces : List (Option ℕ) → List Stream → Type 0
 AtPlaces places ts = (n : ℕ) → front_of places n ≡ option_and_then (λ (t : Stream). t.front) (find (λ (t : Stream). t.number == n) ts)
 
-served_found : (ts : List Stream) (f m n : ℕ) (o : Option Stream) → find (λ (t : Stream). t.number == n) ts ≡ o → option_and_then (λ (t : Stream). t.front) o ≡ Some m → (m == f) ≡ true
+served_found : (ts : List Stream) (f m n : ℕ) (o : Option Stream) → find (λ (t : Stream). t.number == n) ts ≡ o
+    → option_and_then (λ (t : Stream). t.front) o ≡ Some m → (m == f) ≡ true
     → list_any (λ (t : Stream). is_at t.front f) ts ≡ true
 served_found ts f m n None is front e = absurd (cc)
 served_found ts f m n (Some t) is front e =
     let p = find_place (λ (u : Stream). u.number == n) ts t is in
     any_from_get (λ (u : Stream). is_at u.front f) ts p.0 t p.1 (ap (λ o. is_at o f) front ∙ e)
 
-served_by_place : (places : List (Option ℕ)) (ts : List Stream) → AtPlaces places ts → (f k : ℕ) (o : Option ℕ) → slice_get places k ≡ Some o → stands_at f o ≡ true
+served_by_place : (places : List (Option ℕ)) (ts : List Stream) → AtPlaces places ts → (f k : ℕ) (o : Option ℕ) → slice_get places k ≡ Some o
+    → stands_at f o ≡ true
     → list_any (λ (t : Stream). is_at t.front f) ts ≡ true
 served_by_place places ts at f k None got e = absurd (cc)
 served_by_place places ts at f k (Some m) got e =
     served_found ts f m (suc k) (find (λ (t : Stream). t.number == suc k) ts) refl (sym (at (suc k)) ∙ front_at places k (Some m) got) e
 
-place_by_served : (places : List (Option ℕ)) (ts : List Stream) → AtPlaces places ts → (f k : ℕ) (t : Stream) → find (λ (u : Stream). u.number == t.number) ts ≡ Some t
+place_by_served : (places : List (Option ℕ)) (ts : List Stream) → AtPlaces places ts → (f k : ℕ) (t : Stream)
+    → find (λ (u : Stream). u.number == t.number) ts ≡ Some t
     → (o : Option ℕ) → t.front ≡ o → is_at o f ≡ true → list_any (stands_at f) places ≡ true
 place_by_served places ts at f k t found None front e = absurd (cc)
 place_by_served places ts at f k t found (Some m) front e =
     any_from_get (stands_at f) places (t.number - 1) (Some m)
     (front_place places t.number m (at t.number ∙ ap (option_and_then (λ (u : Stream). u.front)) found ∙ front)) e
 
-pub served_same : (places : List (Option ℕ)) (ts : List Stream) → Rising 0 ts → AtPlaces places ts → (f : ℕ) → list_any (stands_at f) places ≡ list_any (λ (t : Stream). is_at t.front f) ts
+pub served_same : (places : List (Option ℕ)) (ts : List Stream) → Rising 0 ts → AtPlaces places ts → (f : ℕ)
+    → list_any (stands_at f) places ≡ list_any (λ (t : Stream). is_at t.front f) ts
 served_same places ts rise at f =
     same_tests (list_any (stands_at f) places) (list_any (λ (t : Stream). is_at t.front f) ts)
     (λ any. let r = any_place (stands_at f) places any in served_by_place places ts at f r.0 r.1 r.2 r.3)
@@ -178,7 +185,8 @@ served_same places ts rise at f =
     let r = any_place (λ (t : Stream). is_at t.front f) ts any in
     place_by_served places ts at f r.0 r.1 (found_number 0 ts r.0 r.1 rise r.2) r.1.front refl r.3)
 
-pub freed_same : (places : List (Option ℕ)) (ts : List Stream) → ((f : ℕ) → list_any (stands_at f) places ≡ list_any (λ (t : Stream). is_at t.front f) ts) → (rows : List FrontRow)
+pub freed_same : (places : List (Option ℕ)) (ts : List Stream) → ((f : ℕ) → list_any (stands_at f) places ≡ list_any (λ (t : Stream). is_at t.front f) ts)
+    → (rows : List FrontRow)
     → map row_in (map (freed_at places) rows) ≡ change_where (λ r. not (list_any (λ (t : Stream). is_at t.front r.number) ts)) freed (map row_in rows)
 unfolding row_in freed_at free_row
 freed_same places ts same [] = refl

@@ -35,7 +35,8 @@ quiet_ending p clock s quiet = by (p s)
     by false = refl
 
 flushed_quiet : (p : Session → Bool) (clock : ℕ) (ss : List Session) → Each IsKept ss
-    → flat_map (λ s. (ending p clock s).sends) (filter_map (λ s. (cond {A = Turn} (not s.http) (let_go true clock s) (record { sends = []; after = Some s })).after) ss) ≡ []
+    → flat_map (λ s. (ending p clock s).sends)
+    (filter_map (λ s. (cond {A = Turn} (not s.http) (let_go true clock s) (record { sends = []; after = Some s })).after) ss) ≡ []
 flushed_quiet p clock [] kept = refl
 flushed_quiet p clock (s ∷ ss) kept = by s.http refl (flushed_quiet p clock ss kept.1)
   where
@@ -43,16 +44,20 @@ flushed_quiet p clock (s ∷ ss) kept = by s.http refl (flushed_quiet p clock ss
     rest = filter_map (λ x. (cond {A = Turn} (not x.http) (let_go true clock x) (record { sends = []; after = Some x })).after) ss
 
     by : (b : Bool) → s.http ≡ b → flat_map (λ x. (ending p clock x).sends) rest ≡ []
-        → flat_map (λ x. (ending p clock x).sends) (cons_option (cond {A = Turn} (not b) (let_go true clock s) (record { sends = []; after = Some s })).after rest) ≡ []
+        → flat_map (λ x. (ending p clock x).sends)
+        (cons_option (cond {A = Turn} (not b) (let_go true clock s) (record { sends = []; after = Some s })).after rest) ≡ []
     by true http quiet = ap (λ ds. ds ++ flat_map (λ x. (ending p clock x).sends) rest) (quiet_ending p clock s (quiet_queue clock s http)) ∙ quiet
     by false rtsp quiet =
-        ap (λ ds. ds ++ flat_map (λ x. (ending p clock x).sends) rest) (quiet_ending p clock (cut_off true s) (quiet_part clock (cut_off true s) (held_gone s kept.0))) ∙ quiet
+        ap (λ ds. ds ++ flat_map (λ x. (ending p clock x).sends) rest)
+        (quiet_ending p clock (cut_off true s) (quiet_part clock (cut_off true s) (held_gone s kept.0))) ∙ quiet
 
 pub tick_moved : (c : Config) (v u w x : Kept) (o m n : Output) (st : State) (now : ℕ)
     → StandsFor c v (record st { clock = max st.clock (capped now) })
     → Moved c u o m (each_of (λ s. not s.http) (let_go true (max st.clock (capped now))) (record st { clock = max st.clock (capped now) }))
-    → StandsFor c w (end_where (is_expired c (max st.clock (capped now))) (each_of (λ s. not s.http) (let_go true (max st.clock (capped now))) (record st { clock = max st.clock (capped now) })).state).state
-    → Moved c x m n (send_reports c (end_where (is_expired c (max st.clock (capped now))) (each_of (λ s. not s.http) (let_go true (max st.clock (capped now))) (record st { clock = max st.clock (capped now) })).state).state)
+    → StandsFor c w (end_where (is_expired c (max st.clock (capped now)))
+    (each_of (λ s. not s.http) (let_go true (max st.clock (capped now))) (record st { clock = max st.clock (capped now) })).state).state
+    → Moved c x m n (send_reports c (end_where (is_expired c (max st.clock (capped now)))
+    (each_of (λ s. not s.http) (let_go true (max st.clock (capped now))) (record st { clock = max st.clock (capped now) })).state).state)
     → Moved c x o n (tick c now st)
 tick_moved c v u w x o m n st now on flushed ended reports =
     let clock : ℕ = max st.clock (capped now) in

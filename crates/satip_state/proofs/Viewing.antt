@@ -1,5 +1,6 @@
 -- A stream is shown as the plain server shows it.
-use Rattle.std.proofs.Common.{◌≡◌, ℕ, zero, suc, ◌+◌, ◌==◌, ◌&&◌, ◌||◌, Bool, true, false, cond, List, [], ◌∷◌, map, filter, find, drop, Option, Some, None, refl, sym, ap, ◌∙◌, arith, unwrap_or, is_some, option_and_then}
+use Rattle.std.proofs.Common.{◌≡◌, ℕ, zero, suc, ◌+◌, ◌==◌, ◌&&◌, ◌||◌, Bool, true, false, cond, List, [], ◌∷◌, map, filter, find, drop, Option, Some, None}
+use Rattle.std.proofs.Common.{refl, sym, ap, ◌∙◌, arith, unwrap_or, is_some, option_and_then}
 use Rattle.std.specs.List.{list_any, slice_get}
 use Rattle.std.specs.Option.{option_map}
 use Rattle.satip_table.specs.declared.session.Seat.{Seat}
@@ -33,16 +34,19 @@ drop_nowhere [] (suc k) none = refl
 drop_nowhere (y ∷ xs) zero none = absurd (cc)
 drop_nowhere (y ∷ xs) (suc k) none = drop_nowhere xs k none
 
-pub plays_none : (number : ℕ) (seats : List Seat) (k : ℕ) → list_any (plays_in number) (drop k seats) ≡ list_any (plays_in number) seats → slice_get seats k ≡ None
+pub plays_none : (number : ℕ) (seats : List Seat) (k : ℕ) → list_any (plays_in number) (drop k seats) ≡ list_any (plays_in number) seats
+    → slice_get seats k ≡ None
     → false ≡ list_any (plays_in number) seats
 plays_none number seats k so_far none = ap (list_any (plays_in number)) (sym (drop_nowhere seats k none)) ∙ so_far
 
-pub plays_here : (number : ℕ) (seats : List Seat) (k : ℕ) (seat : Seat) → list_any (plays_in number) (drop k seats) ≡ list_any (plays_in number) seats → slice_get seats k ≡ Some seat
+pub plays_here : (number : ℕ) (seats : List Seat) (k : ℕ) (seat : Seat) → list_any (plays_in number) (drop k seats) ≡ list_any (plays_in number) seats
+    → slice_get seats k ≡ Some seat
     → plays_in number seat ≡ true → true ≡ list_any (plays_in number) seats
 plays_here number seats k seat so_far got plays =
     ap (λ b. b || list_any (plays_in number) (drop (k + 1) seats)) (sym plays) ∙ ap (list_any (plays_in number)) (sym (drop_here seats k seat got)) ∙ so_far
 
-pub plays_further : (number : ℕ) (seats : List Seat) (k : ℕ) (seat : Seat) → list_any (plays_in number) (drop k seats) ≡ list_any (plays_in number) seats → slice_get seats k ≡ Some seat
+pub plays_further : (number : ℕ) (seats : List Seat) (k : ℕ) (seat : Seat) → list_any (plays_in number) (drop k seats) ≡ list_any (plays_in number) seats
+    → slice_get seats k ≡ Some seat
     → plays_in number seat ≡ false → list_any (plays_in number) (drop (k + 1) seats) ≡ list_any (plays_in number) seats
 plays_further number seats k seat so_far got idle =
     ap (λ b. b || list_any (plays_in number) (drop (k + 1) seats)) (sym idle) ∙ ap (list_any (plays_in number)) (sym (drop_here seats k seat got)) ∙ so_far
@@ -52,11 +56,14 @@ pub any-filter : (p q : Session → Bool) (xs : List Session) → list_any q (fi
 any-filter p q [] = refl
 any-filter p q (x ∷ xs) = by (p x) (any-filter p q xs)
   where
-    by : (b : Bool) → list_any q (filter p xs) ≡ list_any (λ y. p y && q y) xs → list_any q (cond b (x ∷ filter p xs) (filter p xs)) ≡ ((b && q x) || list_any (λ y. p y && q y) xs)
+    by : (b : Bool) → list_any q (filter p xs) ≡ list_any (λ y. p y && q y) xs
+        → list_any q (cond b (x ∷ filter p xs) (filter p xs)) ≡ ((b && q x) || list_any (λ y. p y && q y) xs)
     by true rest = ap (λ c. q x || c) rest
     by false rest = rest
 
-plays_same : (number : ℕ) (xs : List Seated) → list_any (plays_in number) (map seat_of xs) ≡ list_any (λ (s : Session). s.playing) (filter (λ (s : Session). s.stream == number) (map (λ (x : Seated). x.session) xs))
+plays_same : (number : ℕ) (xs : List Seated)
+    → list_any (plays_in number) (map seat_of xs) ≡ list_any (λ (s : Session). s.playing)
+    (filter (λ (s : Session). s.stream == number) (map (λ (x : Seated). x.session) xs))
 unfolding table_row
 plays_same number xs =
     any-map seat_of (plays_in number) xs
@@ -64,7 +71,8 @@ plays_same number xs =
     ∙ sym (any-filter (λ s. s.stream == number) (λ s. s.playing) (map (λ (x : Seated). x.session) xs))
 
 -- the multiplex of a front end
-mux_same : (rows : List FrontRow) (front : ℕ) → mux_at rows front ≡ option_and_then (λ (r : Row). r.mux) (find (λ (r : Row). r.number == front) (map row_in rows))
+mux_same : (rows : List FrontRow) (front : ℕ)
+    → mux_at rows front ≡ option_and_then (λ (r : Row). r.mux) (find (λ (r : Row). r.number == front) (map row_in rows))
 unfolding mux_at row_in
 mux_same rows front = by (find (is_row front) rows) ∙ ap (option_and_then (λ (r : Row). r.mux)) (sym (find-map row_in (λ (r : Row). r.number == front) rows))
   where
@@ -80,16 +88,26 @@ locked_same st rows same (Some front) = mux_same rows front ∙ ap (λ rs. optio
 pub view_same : (c : Config) (v : Kept) (st : State) → StandsFor c v st → (row : StreamRow) → kept_view v row ≡ view_of st (stream_in row)
 unfolding stream_in
 view_same c v st stands row =
-    let make : Bool → Bool → StreamView = λ locked playing. record { number = row.number; tuning = row.tuning; front = unwrap_or row.front 0; locked = locked; pids = row.pids; playing = playing } in
+    let make : Bool → Bool → StreamView = λ locked playing. record {
+      number = row.number;
+      tuning = row.tuning;
+      front = unwrap_or row.front 0;
+      locked = locked;
+      pids = row.pids;
+      playing = playing;
+    } in
     ap (λ b. make b (list_any (plays_in row.number) v.table.seats)) (ap is_some (locked_same st v.fronts.rows stands.rows row.front))
     ∙ ap (make (is_some (option_and_then (λ (r : Row). r.mux) (option_and_then (row_of st) row.front))))
-    (ap (list_any (plays_in row.number)) stands.seats ∙ plays_same row.number stands.seated ∙ ap (λ ss. list_any (λ (s : Session). s.playing) (filter (λ (s : Session). s.stream == row.number) ss)) (sym stands.sessions))
+    (ap (list_any (plays_in row.number)) stands.seats ∙ plays_same row.number stands.seated
+    ∙ ap (λ ss. list_any (λ (s : Session). s.playing) (filter (λ (s : Session). s.stream == row.number) ss)) (sym stands.sessions))
 
-view_map : (c : Config) (v : Kept) (st : State) → StandsFor c v st → (o : Option StreamRow) → option_map (kept_view v) o ≡ option_map (view_of st) (option_map stream_in o)
+view_map : (c : Config) (v : Kept) (st : State) → StandsFor c v st → (o : Option StreamRow)
+    → option_map (kept_view v) o ≡ option_map (view_of st) (option_map stream_in o)
 view_map c v st stands None = refl
 view_map c v st stands (Some row) = ap Some (view_same c v st stands row)
 
-number_in : (rows : List StreamRow) (number : ℕ) → option_map stream_in (find (has_number number) rows) ≡ find (λ (t : Stream). t.number == number) (map stream_in rows)
+number_in : (rows : List StreamRow) (number : ℕ)
+    → option_map stream_in (find (has_number number) rows) ≡ find (λ (t : Stream). t.number == number) (map stream_in rows)
 unfolding stream_in
 number_in rows number = sym (find-map stream_in (λ (t : Stream). t.number == number) rows)
 

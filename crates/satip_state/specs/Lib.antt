@@ -1,4 +1,5 @@
 pub mod Kept
+pub mod Stored
 pub mod Seated
 pub mod Standing
 pub mod Subscribing

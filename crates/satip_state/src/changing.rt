@@ -19,7 +19,6 @@ impl Parts {
         ensures heard { (c : Config) (st : State) → StandsFor c self.old st
             → StandsFor c self.new (heard_in id st) }
     {
-        self.table.known();
         let Some(slot) = self.table.slot(id) else {
             return;
         };
@@ -35,7 +34,6 @@ impl Parts {
             → StandsFor c self.new (change_session id (λ s. record s { peer = peer; ports = ports })
             st) }
     {
-        self.table.known();
         let Some(slot) = self.table.slot(id) else {
             return;
         };
@@ -54,8 +52,6 @@ impl Parts {
         ensures plays { (c : Config) (st : State) → StandsFor c self.old st
             → StandsFor c self.new (change_session id (λ s. record s { playing = true }) st) }
     {
-        self.table.known();
-        self.fronts.known();
         let Some(slot) = self.table.slot(id) else {
             return;
         };
@@ -78,8 +74,6 @@ impl Parts {
         ensures changed { (c : Config) (st : State) → StandsFor c self.old st
             → StandsFor c self.new (change_stream number (λ t. record t { pids = pids.now }) st) }
     {
-        self.table.known();
-        self.fronts.known();
         let Some(stream) = self.table.find_stream(number) else {
             return;
         };

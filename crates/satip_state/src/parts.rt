@@ -23,6 +23,8 @@ impl Model for Parts {
 
     ghost Value = { Kept };
 
+    ghost use Rattle.satip_state.specs.Stored.{Stored};
+
     ghost view = { λ p. record {
       clock = p.clock;
       stopped = p.stopped;
@@ -32,4 +34,6 @@ impl Model for Parts {
       fronts = p.fronts;
       flow = p.flow;
     } };
+
+    ghost invariant = { Stored };
 }

@@ -27,7 +27,6 @@ impl Parts {
         ensures wrote { (c : Config) (st : State) → StandsFor c self.old st
             → Wrote out.old (on_pull id st).reply out.new }
     {
-        self.table.known();
         let Some(seat) = self.seat_of(id) else {
             return Pulled::Gone;
         };
@@ -53,7 +52,6 @@ impl Parts {
         ensures silent { (c : Config) (st : State) → StandsFor c self.old st
             → (on_close id st).sent ≡ [] }
     {
-        self.table.known();
         let Some(seat) = self.seat_of(id) else {
             return Closed::Gone;
         };

@@ -42,8 +42,6 @@ impl Parts {
             → is_some (stream_of st number) ≡ true
             → StandsFor c self.new (placed_in c number tuning.now st) }
     {
-        self.table.known();
-        self.fronts.known();
         let Some(stream) = self.table.find_stream(number) else {
             return;
         };
@@ -57,8 +55,6 @@ impl Parts {
         self.table
             .change(number, Some(*tuning), Some(front), pids.copy());
         self.flow.change(number, Some(front), &pids);
-        self.table.known();
-        self.fronts.known();
     }
 
     /// Changes a living stream by a query: its tuning first, then its PIDs. Where the query gives
@@ -108,7 +104,6 @@ impl Parts {
         if !asks_pids(query) {
             return;
         }
-        self.table.known();
         let Some(stream) = self.table.find_stream(number) else {
             return;
         };

@@ -2,6 +2,8 @@
 
 ghost use Rattle.std.specs.Prelude.{◌≡◌, ◌<◌, find, slice_get, IfSome};
 ghost use Rattle.satip_table.specs.Sessions.{has_id, has_slot};
+ghost use Rattle.satip_table.specs.Living.{Sound};
+ghost use Rattle.satip_fronts.specs.FrontEnds.{Sound as FrontsSound};
 
 use crate::parts::Parts;
 use satip_base::SessionId;
@@ -21,6 +23,8 @@ impl Parts {
     pub(crate) fn seat_of(&self, id: SessionId) -> Option<Seat>
         ensures seat { result ≡ find (has_id id) self.now.table.seats }
         ensures within { IfSome result (λ seat. seat.slot < SESSIONS) }
+        ensures table { Sound self.now.table }
+        ensures fronts { FrontsSound self.now.fronts }
     {
         self.table.seat_of(id).copied()
     }
@@ -29,6 +33,7 @@ impl Parts {
     pub(crate) fn seat_at(&self, slot: u16) -> Option<Seat>
         ensures seat { result ≡ find (has_slot slot) self.now.table.seats }
         ensures within { IfSome result (λ seat. seat.slot < SESSIONS) }
+        ensures table { Sound self.now.table }
     {
         self.table.seat_at(slot).copied()
     }

@@ -50,7 +50,6 @@ impl Parts {
         ensures bytes_spare { out.old.datagram_spare ≤ out.new.datagram_spare + DATAGRAMS }
         ensures count_spare { out.old.count_spare ≤ out.new.count_spare + SESSIONS }
     {
-        self.table.known();
         for place in 0..self.table.count() {
             self.flush_place(place, only, out);
         }
@@ -66,7 +65,6 @@ impl Parts {
         ensures bytes_spare { out.old.datagram_spare ≤ out.new.datagram_spare + DATAGRAM }
         ensures count_spare { out.old.count_spare ≤ out.new.count_spare + 1 }
     {
-        self.table.known();
         let Some(seat) = self.seat(place) else {
             return;
         };

@@ -50,16 +50,13 @@ impl Parts {
         ensures ended { (c : Config) (st : State) → StandsFor c self.old st
             → StandsFor c self.new (end_where (is_expired c st.clock) st).state }
     {
-        self.table.known();
-        self.fronts.known();
-        while let Some(slot) = self.timer.due(self.clock) {
-            self.table.known();
+        let now = self.clock;
+        while let Some(slot) = self.timer.due(now) {
             let Some(seat) = self.seat_at(slot) else {
                 return;
             };
             let _lived = self.drop_session(seat.session.id);
         }
-        self.table.known();
     }
 
     // Each session that is due gets a report.
@@ -71,7 +68,6 @@ impl Parts {
         ensures bytes_spare { out.old.datagram_spare ≤ out.new.datagram_spare + REPORTS }
         ensures count_spare { out.old.count_spare ≤ out.new.count_spare + SESSIONS }
     {
-        self.table.known();
         for place in 0..self.table.count() {
             self.report_place(place, address, out);
         }
@@ -87,7 +83,6 @@ impl Parts {
         ensures bytes_spare { out.old.datagram_spare ≤ out.new.datagram_spare + REPORT }
         ensures count_spare { out.old.count_spare ≤ out.new.count_spare + 1 }
     {
-        self.table.known();
         let Some(seat) = self.seat(place) else {
             return;
         };
@@ -112,7 +107,6 @@ impl Parts {
         ensures bytes_spare { out.old.datagram_spare ≤ out.new.datagram_spare + REPORT }
         ensures count_spare { out.old.count_spare ≤ out.new.count_spare + 1 }
     {
-        self.table.known();
         let Some(stream) = self.table.find_stream(seat.session.stream) else {
             return;
         };

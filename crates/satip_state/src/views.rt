@@ -71,7 +71,6 @@ impl Parts {
     fn is_playing(&self, number: u16) -> bool
         ensures plays { result ≡ list_any (plays_in number) self.now.table.seats }
     {
-        self.table.known();
         for place in 0..SESSIONS {
             let Some(session) = self.table.session(place) else {
                 return false;

@@ -46,6 +46,7 @@ impl Table {
     /// where it was refused.
     pub fn make(alloc: Global) -> Result<Table, Want>
         ensures empty { IfOk result (λ t. t ≡ none) }
+        ensures sound { IfOk result Sound }
     {
         let seats = Seats::make(alloc)?;
         let streams = Streams::make(alloc)?;
@@ -54,13 +55,6 @@ impl Table {
             streams,
             made: 0,
         })
-    }
-
-    /// Does nothing: tells a caller's proof what holds of a table at all times.
-    pub fn known(&self)
-        ensures sound { Sound self.now }
-    {
-        let _ = &self.seats;
     }
 
     /// How many sessions live.
@@ -88,6 +82,7 @@ impl Table {
             self.new.seats }
         ensures streams { self.new.streams ≡ put_stream (fresh result.1 result.0) self.old.streams }
         ensures made { self.new.made ≡ self.old.made + 1 }
+        ensures sound { Sound self.new }
     {
         let number = self.streams.free_number();
         let session = new_session(self.made, &session, number);
@@ -106,6 +101,7 @@ impl Table {
             self.new.seats }
         ensures streams { self.new.streams ≡ self.old.streams }
         ensures made { self.new.made ≡ self.old.made + 1 }
+        ensures sound { Sound self.new }
     {
         let session = new_session(self.made, &session, stream);
         self.seats.add(session);
@@ -121,6 +117,7 @@ impl Table {
         ensures streams { self.new.streams ≡ kept_streams self.new.seats self.old.streams }
         ensures made { self.new.made ≡ self.old.made }
         ensures unchanged { OnFalse result (self.new ≡ self.old) }
+        ensures sound { Sound self.new }
     {
         let Some(stream) = self.seats.remove(id) else {
             return false;
@@ -222,6 +219,7 @@ impl Table {
           seats = with_session id (heard_at now)
               self.old.seats;
         } }
+        ensures sound { Sound self.new }
     {
         self.seats.change(id, Change::Heard(now))
     }
@@ -233,6 +231,7 @@ impl Table {
           seats = with_session id played
               self.old.seats;
         } }
+        ensures sound { Sound self.new }
     {
         self.seats.change(id, Change::Playing)
     }
@@ -244,6 +243,7 @@ impl Table {
           seats = with_session id (moved_to peer ports)
               self.old.seats;
         } }
+        ensures sound { Sound self.new }
     {
         self.seats.change(id, Change::Address(peer, ports))
     }
@@ -255,6 +255,7 @@ impl Table {
           seats = with_session id (reported_at now)
               self.old.seats;
         } }
+        ensures sound { Sound self.new }
     {
         self.seats.change(id, Change::Reported(now))
     }
@@ -270,6 +271,7 @@ impl Table {
         ensures lives { result ≡ is_live self.old.streams number }
         ensures changed { self.new
             ≡ record self.old { streams = with_stream number tuning front pids self.old.streams } }
+        ensures sound { Sound self.new }
     {
         self.streams.change(number, tuning, front, pids)
     }

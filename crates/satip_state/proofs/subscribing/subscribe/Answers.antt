@@ -12,12 +12,14 @@ add_rtp-requires-clause-free c = ap (list_any (has_slot c.args.slot)) c.end.ensu
 
 pub returns-then-session : goal.returns-then-session
 returns-then-session c = record {
-  added = λ known. subscribed_queue c.args.slot c.args.session.now c.args.stream.now c.known_front-front.result c.args.flow.now c.end.new.self c.add_http.new.self
+  added = λ known. subscribed_queue c.args.slot c.args.session.now c.args.stream.now c.known_front-front.result c.args.flow.now c.end.new.self
+      c.add_http.new.self
       c.if-session.true (c.known_front-front.ensures.same known) c.end.ensures.gone c.add_http.ensures.added;
 }
 
 pub returns-else-session : goal.returns-else-session
 returns-else-session c = record {
-  added = λ known. subscribed_address c.args.slot c.args.session.now c.args.stream.now c.known_front-front.result c.args.flow.now c.end.new.self c.add_rtp.new.self
+  added = λ known. subscribed_address c.args.slot c.args.session.now c.args.stream.now c.known_front-front.result c.args.flow.now c.end.new.self
+      c.add_rtp.new.self
       c.if-session.false (c.known_front-front.ensures.same known) c.end.ensures.gone c.add_rtp.ensures.added;
 }

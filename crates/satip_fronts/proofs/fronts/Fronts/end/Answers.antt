@@ -27,3 +27,6 @@ invariant_of-self c =
 pub returns-then-current-clause-ended : goal.returns-then-current-clause-ended
 returns-then-current-clause-ended c =
     fields c ∙ ap (λ b. cond b (ended c.args.self.now c.args.front) c.args.self.now) (sym c.if-current.true)
+
+pub returns-then-current-clause-sound : goal.returns-then-current-clause-sound
+returns-then-current-clause-sound c = (invariant_of-self c).sound

@@ -20,4 +20,4 @@ invariant_of-self c = record {
 }
 
 pub returns : goal.returns
-returns c = record { left = fields c }
+returns c = record { left = fields c; sound = (invariant_of-self c).sound }

@@ -17,4 +17,5 @@ invariant_of-result c =
 pub returns : goal.returns
 returns c = record {
   free = all_free-made c.args.fronts.items c.args.muxes.items c.deref.result.now c.new_rows-rows.result.items c.no_places-places.result c.deref.ensures.value c.new_rows-rows.ensures.rows c.no_places-places.ensures.places;
+  sound = (invariant_of-result c).sound;
 }

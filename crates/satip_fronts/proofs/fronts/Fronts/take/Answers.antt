@@ -53,3 +53,6 @@ returns-in-Some-clause-none c = some_unless_blocked c.args.self.now c.args.strea
 
 pub returns-in-Some-clause-moved : goal.returns-in-Some-clause-moved
 returns-in-Some-clause-moved c = fields c ∙ taken_some c.args.self.now c.args.stream c.args.tuning.now c.in-Some.place (place_chosen c)
+
+pub returns-in-Some-clause-sound : goal.returns-in-Some-clause-sound
+returns-in-Some-clause-sound c = (invariant_of-self c).sound

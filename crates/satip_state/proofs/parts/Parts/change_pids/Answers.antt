@@ -15,7 +15,9 @@ pub returns : goal.returns
 returns c = record {
   changed = λ g st s.
       let was = subst (λ v. StandsFor g v st) (sym c.self.view_is) s in
-      let front = front_known g (the_view c.self.inside) st was c.known-2.ensures.sound c.args.number c.in-Some.stream.now (sym c.in-Some.ensures.found) in
-      pids_stand g (the_view c.self.inside) st was c.args.number c.in-Some.stream.now c.args.pids.now c.change.new.self c.change-2.new.self c.known.ensures.sound (sym c.in-Some.ensures.found)
-      (rw c.copy.ensures.same at c.change.ensures.changed) (c.change-2.ensures.changed ∙ ap (λ f. map (changed c.args.number f c.args.pids.now) c.self.inside.flow) (c.known_front.ensures.same front));
+      let front = front_known g (the_view c.self.inside) st was c.self.invariant.fronts c.args.number c.in-Some.stream.now (sym c.in-Some.ensures.found) in
+      pids_stand g (the_view c.self.inside) st was c.args.number c.in-Some.stream.now c.args.pids.now c.change.new.self c.change-2.new.self
+      c.self.invariant.table (sym c.in-Some.ensures.found)
+      (rw c.copy.ensures.same at c.change.ensures.changed) (c.change-2.ensures.changed
+      ∙ ap (λ f. map (changed c.args.number f c.args.pids.now) c.self.inside.flow) (c.known_front.ensures.same front));
 }

@@ -1,9 +1,7 @@
 use Rattle.std.proofs.Common.{◌≡◌, true, false, Some, None, find, sym, ap, subst, ◌∙◌, rules}
 use Rattle.satip_table.specs.Sessions.{has_id}
-use Rattle.satip_table.specs.Living.{Sound}
 use Rattle.satip_plain.specs.Steps.{Outcome}
-use Rattle.satip_state.specs.Kept.{Kept}
-use Rattle.satip_state.specs.Standing.{StandsFor, Moved}
+use Rattle.satip_state.specs.Standing.{Moved}
 use Rattle.satip_state.proofs.Pulls.{no_session, no_http, close_gone, gone_moved, pulls, close_is, close_silent}
 use Rattle.satip_state.proofs.parts.Parts.close.Goals as goal
 
@@ -25,77 +23,44 @@ returns-in_default-clause-silent c config st stands =
 pub returns-then-not-seat-clause-answer : goal.returns-then-not-seat-clause-answer
 returns-then-not-seat-clause-answer c config st stands =
     let at : find (has_id c.args.id) c.args.self.now.table.seats ≡ Some c.in-Some.seat = search rules in
-    let sound : Sound c.args.self.now.table = subst (λ (v : Kept). Sound v.table) c.self.view_is c.known.ensures.sound in
     let rtsp : c.in-Some.seat.session.http ≡ false = search rules in
-    sym (ap (λ (out : Outcome). out.answer) (close_gone st c.args.id (no_http config c.args.self.now st stands sound c.args.id c.in-Some.seat at rtsp)))
+    sym (ap (λ (out : Outcome). out.answer)
+    (close_gone st c.args.id (no_http config c.args.self.now st stands c.in-Some.ensures.table c.args.id c.in-Some.seat at rtsp)))
 
 pub returns-then-not-seat-clause-moved : goal.returns-then-not-seat-clause-moved
 returns-then-not-seat-clause-moved c config st stands =
     let at : find (has_id c.args.id) c.args.self.now.table.seats ≡ Some c.in-Some.seat = search rules in
-    let sound : Sound c.args.self.now.table = subst (λ (v : Kept). Sound v.table) c.self.view_is c.known.ensures.sound in
     let rtsp : c.in-Some.seat.session.http ≡ false = search rules in
-    gone_moved config c.args.self.now c.args.out.now st stands _ (close_gone st c.args.id (no_http config c.args.self.now st stands sound c.args.id c.in-Some.seat at rtsp))
+    gone_moved config c.args.self.now c.args.out.now st stands _
+    (close_gone st c.args.id (no_http config c.args.self.now st stands c.in-Some.ensures.table c.args.id c.in-Some.seat at rtsp))
 
 pub returns-then-not-seat-clause-silent : goal.returns-then-not-seat-clause-silent
 returns-then-not-seat-clause-silent c config st stands =
     let at : find (has_id c.args.id) c.args.self.now.table.seats ≡ Some c.in-Some.seat = search rules in
-    let sound : Sound c.args.self.now.table = subst (λ (v : Kept). Sound v.table) c.self.view_is c.known.ensures.sound in
     let rtsp : c.in-Some.seat.session.http ≡ false = search rules in
-    ap (λ (out : Outcome). out.sent) (close_gone st c.args.id (no_http config c.args.self.now st stands sound c.args.id c.in-Some.seat at rtsp))
+    ap (λ (out : Outcome). out.sent)
+    (close_gone st c.args.id (no_http config c.args.self.now st stands c.in-Some.ensures.table c.args.id c.in-Some.seat at rtsp))
 
 pub returns-clause-answer : goal.returns-clause-answer
 returns-clause-answer c config st stands =
-    let inside : Kept = record {
-      clock = c.self.inside.clock;
-      stopped = c.self.inside.stopped;
-      timeout = c.self.inside.timeout;
-      table = c.self.inside.table;
-      dues = c.self.inside.timer;
-      fronts = c.self.inside.fronts;
-      flow = c.self.inside.flow;
-    } in
-    let same : c.args.self.now ≡ inside = sym c.self.view_is in
-    let now : StandsFor config inside st = subst (λ (v : Kept). StandsFor config v st) same stands in
     let at : find (has_id c.args.id) c.args.self.now.table.seats ≡ Some c.in-Some.seat = search rules in
-    let there : find (has_id c.args.id) inside.table.seats ≡ Some c.in-Some.seat = subst (λ (v : Kept). find (has_id c.args.id) v.table.seats ≡ Some c.in-Some.seat) same at in
     let http : c.in-Some.seat.session.http ≡ true = search rules in
-    let p = pulls config inside st now c.known.ensures.sound c.args.id c.in-Some.seat there http in
-    sym (ap (λ (out : Outcome). out.answer) (close_is config inside st now c.args.id c.in-Some.seat p))
+    let p = pulls config c.args.self.now st stands c.in-Some.ensures.table c.args.id c.in-Some.seat at http in
+    sym (ap (λ (out : Outcome). out.answer) (close_is config c.args.self.now st stands c.args.id c.in-Some.seat p))
 
 pub returns-clause-moved : goal.returns-clause-moved
 returns-clause-moved c config st stands =
-    let inside : Kept = record {
-      clock = c.self.inside.clock;
-      stopped = c.self.inside.stopped;
-      timeout = c.self.inside.timeout;
-      table = c.self.inside.table;
-      dues = c.self.inside.timer;
-      fronts = c.self.inside.fronts;
-      flow = c.self.inside.flow;
-    } in
-    let same : c.args.self.now ≡ inside = sym c.self.view_is in
-    let now : StandsFor config inside st = subst (λ (v : Kept). StandsFor config v st) same stands in
     let at : find (has_id c.args.id) c.args.self.now.table.seats ≡ Some c.in-Some.seat = search rules in
-    let there : find (has_id c.args.id) inside.table.seats ≡ Some c.in-Some.seat = subst (λ (v : Kept). find (has_id c.args.id) v.table.seats ≡ Some c.in-Some.seat) same at in
     let http : c.in-Some.seat.session.http ≡ true = search rules in
-    let p = pulls config inside st now c.known.ensures.sound c.args.id c.in-Some.seat there http in
-    subst (λ (out : Outcome). Moved config c.end_session-lived.new.self c.args.out.now c.end_session-lived.new.out (record { state = out.state; sent = out.sent })) (sym (close_is config inside st now c.args.id c.in-Some.seat p)) (c.end_session-lived.ensures.moved config st stands)
+    let p = pulls config c.args.self.now st stands c.in-Some.ensures.table c.args.id c.in-Some.seat at http in
+    subst (λ (out : Outcome). Moved config c.end_session-lived.new.self c.args.out.now c.end_session-lived.new.out
+    (record { state = out.state; sent = out.sent })) (sym (close_is config c.args.self.now st stands c.args.id c.in-Some.seat p))
+    (c.end_session-lived.ensures.moved config st stands)
 
 pub returns-clause-silent : goal.returns-clause-silent
 returns-clause-silent c config st stands =
-    let inside : Kept = record {
-      clock = c.self.inside.clock;
-      stopped = c.self.inside.stopped;
-      timeout = c.self.inside.timeout;
-      table = c.self.inside.table;
-      dues = c.self.inside.timer;
-      fronts = c.self.inside.fronts;
-      flow = c.self.inside.flow;
-    } in
-    let same : c.args.self.now ≡ inside = sym c.self.view_is in
-    let now : StandsFor config inside st = subst (λ (v : Kept). StandsFor config v st) same stands in
     let at : find (has_id c.args.id) c.args.self.now.table.seats ≡ Some c.in-Some.seat = search rules in
-    let there : find (has_id c.args.id) inside.table.seats ≡ Some c.in-Some.seat = subst (λ (v : Kept). find (has_id c.args.id) v.table.seats ≡ Some c.in-Some.seat) same at in
     let http : c.in-Some.seat.session.http ≡ true = search rules in
-    let p = pulls config inside st now c.known.ensures.sound c.args.id c.in-Some.seat there http in
-    ap (λ (out : Outcome). out.sent) (close_is config inside st now c.args.id c.in-Some.seat p) ∙ close_silent config inside st now c.args.id c.in-Some.seat p
+    let p = pulls config c.args.self.now st stands c.in-Some.ensures.table c.args.id c.in-Some.seat at http in
+    ap (λ (out : Outcome). out.sent) (close_is config c.args.self.now st stands c.args.id c.in-Some.seat p)
+    ∙ close_silent config c.args.self.now st stands c.args.id c.in-Some.seat p

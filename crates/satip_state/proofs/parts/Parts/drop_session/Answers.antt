@@ -1,20 +1,16 @@
-use Rattle.std.proofs.Common.{◌≡◌, List, length, Some, None, find, is_some, sym, ap, subst, ◌∙◌, rules, arith}
+use Rattle.std.proofs.Common.{◌≡◌, List, length, Some, None, find, is_some, sym, ap, ◌∙◌, rules, arith}
 use Rattle.satip_table.specs.declared.session.Seat.{Seat}
 use Rattle.satip_table.specs.Sessions.{has_id}
-use Rattle.satip_table.specs.Living.{Sound}
 use Rattle.satip_table.proofs.Listing.{find_any, filter_none, length-filter-lt}
-use Rattle.satip_fronts.specs.FrontEnds.{Sound as FrontsSound}
 use Rattle.std.proofs.lemmas.Bool.{false≢true}
-use Rattle.satip_state.specs.Kept.{Kept}
 use Rattle.satip_state.proofs.Leaving.{found_lives, seat_gone, nobody_gone}
 use Rattle.satip_state.proofs.parts.Parts.drop_session.Goals as goal
 
 pub returns-in_default-clause-ended : goal.returns-in_default-clause-ended
 returns-in_default-clause-ended c config st stands =
     let none : None ≡ find (has_id c.args.id) c.args.self.now.table.seats = search rules in
-    let sound : Sound c.args.self.now.table = subst (λ (v : Kept). Sound v.table) c.self.view_is c.known.ensures.sound in
-    let fronts : FrontsSound c.args.self.now.fronts = subst (λ (v : Kept). FrontsSound v.fronts) c.self.view_is c.known-2.ensures.sound in
-    nobody_gone config c.args.self.now st stands sound fronts c.args.id (sym (found_lives config c.args.self.now st stands c.args.id None none))
+    nobody_gone config c.args.self.now st stands c.in_default.ensures.table c.in_default.ensures.fronts c.args.id
+    (sym (found_lives config c.args.self.now st stands c.args.id None none))
 
 pub returns-in_default-clause-seats : goal.returns-in_default-clause-seats
 returns-in_default-clause-seats c =
@@ -29,9 +25,8 @@ returns-in_default-clause-fewer c lives =
 pub returns-clause-ended : goal.returns-clause-ended
 returns-clause-ended c config st stands =
     let found : find (has_id c.args.id) c.args.self.now.table.seats ≡ Some c.in-Some.seat = search rules in
-    let sound : Sound c.args.self.now.table = subst (λ (v : Kept). Sound v.table) c.self.view_is c.known.ensures.sound in
-    let fronts : FrontsSound c.args.self.now.fronts = subst (λ (v : Kept). FrontsSound v.fronts) c.self.view_is c.known-2.ensures.sound in
-    seat_gone config c.args.self.now c.remove.new.self st stands sound fronts c.args.id c.in-Some.seat found c.remove.ensures.removed
+    seat_gone config c.args.self.now c.remove.new.self st stands c.in-Some.ensures.table c.in-Some.ensures.fronts c.args.id c.in-Some.seat found
+    c.remove.ensures.removed
 
 pub returns-clause-fewer : goal.returns-clause-fewer
 returns-clause-fewer c lives =

@@ -1,8 +1,6 @@
-use Rattle.std.proofs.Common.{◌≡◌, ◌==◌, true, false, Some, None, find, subst, rules}
+use Rattle.std.proofs.Common.{◌≡◌, ◌==◌, true, false, Some, None, find, rules}
 use Rattle.std.specs.Int.{bit_at}
 use Rattle.satip_table.specs.Sessions.{has_slot}
-use Rattle.satip_table.specs.Living.{Sound}
-use Rattle.satip_state.specs.Kept.{Kept}
 use Rattle.satip_state.proofs.Marking.{unmarked, nobody_marked, marked_ended}
 use Rattle.satip_state.proofs.parts.Parts.end_slot.Goals as goal
 
@@ -25,7 +23,6 @@ returns c = record {
   ended = λ config st ends e.
       let found : find (has_slot c.args.slot) c.args.self.now.table.seats ≡ Some c.in-Some.seat = search rules in
       let set : (bit_at c.args.marks c.args.slot == 1) ≡ true = search rules in
-      let sound : Sound c.args.self.now.table = subst (λ (v : Kept). Sound v.table) c.self.view_is c.known.ensures.sound in
-      marked_ended config c.args.self.now c.drop_session-lived.new.self st ends c.args.marks c.args.slot e sound c.in-Some.seat found set
+      marked_ended config c.args.self.now c.drop_session-lived.new.self st ends c.args.marks c.args.slot e c.in-Some.ensures.table c.in-Some.seat found set
       (c.drop_session-lived.ensures.ended config _ e.stands) c.drop_session-lived.ensures.seats;
 }

@@ -17,6 +17,6 @@ returns c = record {
         flow = c.self.inside.flow;
       } in
       let same : c.args.self.now ≡ inside = sym c.self.view_is in
-      stands_recording config inside st (subst (λ (v : Kept). StandsFor config v st) same stands) c.known.ensures.sound c.args.front c.args.tune
+      stands_recording config inside st (subst (λ (v : Kept). StandsFor config v st) same stands) c.self.invariant.table c.args.front c.args.tune
       c.end-current.result c.end-current.new.self c.end-current.ensures.current c.end-current.ensures.ended;
 }

@@ -31,7 +31,7 @@ returns-clause-moved c config st stands =
     let same : c.args.self.now ≡ inside = sym c.self.view_is in
     let got : slice_get c.args.self.now.table.seats c.args.place ≡ Some c.in-Some.seat = search rules in
     let wanted : is_flushed c.args.only c.in-Some.seat.session.stream c.in-Some.seat.session.http ≡ true = search rules in
-    flush_seat config inside c.args.out.now c.flush-sent.new.out st (subst (λ (v : Kept). StandsFor config v st) same stands) c.known.ensures.sound
+    flush_seat config inside c.args.out.now c.flush-sent.new.out st (subst (λ (v : Kept). StandsFor config v st) same stands) c.self.invariant.table
     c.args.only c.args.place c.in-Some.seat
     (subst (λ (v : Kept). slice_get v.table.seats c.args.place ≡ Some c.in-Some.seat) same got) wanted
     c.flush-sent.new.self c.flush-sent.ensures.flushed c.flush-sent.ensures.sent

@@ -15,18 +15,22 @@ pub returns-clause-made : goal.returns-clause-made
 returns-clause-made c = λ g st s.
     let v = the_view c.self.inside in
     let was = subst (λ k. StandsFor g k st) (sym c.self.view_is) s in
-    let full : is_full st ≡ false = sym (full_looked g v st was c.known.ensures.sound) ∙ sym c.if-full.ensures.full in
+    let full : is_full st ≡ false = sym (full_looked g v st was c.self.invariant.table) ∙ sym c.if-full.ensures.full in
     let id : c.found-number.result.0 ≡ next_id st c.args.draw = id_is g v st was (new_of c) c.found-number.result.0 c.found-number.ensures.id in
     let number : c.found-number.result.1 ≡ least_free st.streams =
-    sym (least_is v.table st.streams c.found-number.result.1 c.known.ensures.sound was.streams (free_number v.table c.found-number.result.1 c.known.ensures.sound (sym c.if-full.ensures.full) c.found-number.ensures.number)) in
-    ap (λ i. Some (i, c.found-number.result.1)) id ∙ ap (λ n. Some (next_id st c.args.draw, n)) number ∙ ap (λ b. cond b None (Some (next_id st c.args.draw, least_free st.streams))) (sym full)
+    sym (least_is v.table st.streams c.found-number.result.1 c.self.invariant.table was.streams
+    (free_number v.table c.found-number.result.1 c.self.invariant.table (sym c.if-full.ensures.full) c.found-number.ensures.number)) in
+    ap (λ i. Some (i, c.found-number.result.1)) id ∙ ap (λ n. Some (next_id st c.args.draw, n)) number
+    ∙ ap (λ b. cond b None (Some (next_id st c.args.draw, least_free st.streams))) (sym full)
 
 pub returns-clause-founded : goal.returns-clause-founded
 returns-clause-founded c = λ g st s.
     let v = the_view c.self.inside in
     let was = subst (λ k. StandsFor g k st) (sym c.self.view_is) s in
-    let full : is_full st ≡ false = sym (full_looked g v st was c.known.ensures.sound) ∙ sym c.if-full.ensures.full in
+    let full : is_full st ≡ false = sym (full_looked g v st was c.self.invariant.table) ∙ sym c.if-full.ensures.full in
     let first : c.args.draw.first < 65536 = search rules in
     subst (λ b. StandsFor g c.begin.new.self (cond b st (found c.args.http c.args.peer c.args.draw c.args.ports st))) (sym full)
-    (found_stands g v c.begin.new.self st was (new_of c) c.found-number.result.0 c.found-number.result.1 c.found-number.new.self c.known.ensures.sound c.known-2.ensures.sound (sym c.if-full.ensures.full) c.begin.ensures.short first refl
-    c.found-number.ensures.id c.found-number.ensures.number c.found-number.ensures.within c.found-number.ensures.sessions c.found-number.ensures.streams c.found-number.ensures.made c.begin.ensures.begun)
+    (found_stands g v c.begin.new.self st was (new_of c) c.found-number.result.0 c.found-number.result.1 c.found-number.new.self c.self.invariant.table
+    c.found-number.ensures.sound (sym c.if-full.ensures.full) c.begin.ensures.short first refl
+    c.found-number.ensures.id c.found-number.ensures.number c.found-number.ensures.within c.found-number.ensures.sessions c.found-number.ensures.streams
+    c.found-number.ensures.made c.begin.ensures.begun)

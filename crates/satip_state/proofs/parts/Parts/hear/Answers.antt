@@ -12,5 +12,6 @@ returns-in_default c = record {
 pub returns : goal.returns
 returns c = record {
   heard = λ g st s. heard_stands g (the_view c.self.inside) st c.args.id c.in-Some.slot c.heard.new.self c.set.new.self c.saturating_add-end.result
-      (subst (λ v. StandsFor g v st) (sym c.self.view_is) s) c.known.ensures.sound (sym c.in-Some.ensures.slot) c.in-Some.ensures.within (search rules) c.saturating_add-end.ensures c.heard.ensures.heard c.set.ensures.replaced;
+      (subst (λ v. StandsFor g v st) (sym c.self.view_is) s) c.self.invariant.table (sym c.in-Some.ensures.slot) c.in-Some.ensures.within
+      (search rules) c.saturating_add-end.ensures c.heard.ensures.heard c.set.ensures.replaced;
 }

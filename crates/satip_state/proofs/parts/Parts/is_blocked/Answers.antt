@@ -10,5 +10,5 @@ returns c = record {
       let at = subst (λ v. StandsFor cfg v st) (sym c.self.view_is) stands in
       c.is_blocked.ensures.blocked
       ∙ ap (λ (stream : Option ℕ). blocked_for c.self.inside.fronts stream c.args.tuning.now) c.number_of.ensures.number
-      ∙ blocked_looked cfg _ st c.args.stream c.args.tuning.now at c.known.ensures.sound;
+      ∙ blocked_looked cfg _ st c.args.stream c.args.tuning.now at c.self.invariant.table;
 }

@@ -15,7 +15,7 @@ returns-in-None c = record {
 pub returns-in-Some : goal.returns-in-Some
 returns-in-Some c = record {
   current = λ config st stands.
-      let sound : Sound c.args.self.now.table = subst (λ (v : Kept). Sound v.table) c.self.view_is c.known.ensures.sound in
+      let sound : Sound c.args.self.now.table = subst (λ (v : Kept). Sound v.table) c.self.view_is c.self.invariant.table in
       let told = subst (λ (v : Kept). Some c.in-Some.state ≡ state_of v.fronts c.args.front) c.self.view_is c.in-Some.ensures.state in
       c.serves_tune.ensures.serves ∙ front_current config c.args.self.now st stands sound c.args.front c.args.tune c.in-Some.state told;
 }

@@ -17,7 +17,8 @@ returns-in_default c =
 
 pub returns-then-is_player : goal.returns-then-is_player
 returns-then-is_player c =
-    let told : Some c.in-Some.session.now ≡ option_map (λ (seat : Seat). seat.session) (slice_get c.args.self.now.table.seats c.loop-place.place) = search rules in
+    let told : Some c.in-Some.session.now ≡ option_map (λ (seat : Seat). seat.session) (slice_get c.args.self.now.table.seats c.loop-place.place) =
+    search rules in
     let r = seat_there c.args.self.now.table.seats c.loop-place.place c.in-Some.session.now told in
     let plays : (c.in-Some.session.now.stream == c.args.number && c.in-Some.session.now.playing) ≡ true = search rules in
     record {
@@ -27,7 +28,8 @@ returns-then-is_player c =
 
 pub loop-place-preserved : goal.loop-place-preserved
 loop-place-preserved c =
-    let told : Some c.in-Some.session.now ≡ option_map (λ (seat : Seat). seat.session) (slice_get c.args.self.now.table.seats c.loop-place.place) = search rules in
+    let told : Some c.in-Some.session.now ≡ option_map (λ (seat : Seat). seat.session) (slice_get c.args.self.now.table.seats c.loop-place.place) =
+    search rules in
     let r = seat_there c.args.self.now.table.seats c.loop-place.place c.in-Some.session.now told in
     let idle : (c.in-Some.session.now.stream == c.args.number && c.in-Some.session.now.playing) ≡ false = search rules in
     plays_further c.args.number c.args.self.now.table.seats c.loop-place.place r.0 c.loop-place.invariant r.1

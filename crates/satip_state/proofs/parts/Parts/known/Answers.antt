@@ -6,6 +6,6 @@ use Rattle.satip_state.proofs.parts.Parts.known.Goals as goal
 
 pub returns : goal.returns
 returns c = record {
-  few = λ cfg st stands. few_streams cfg _ st (subst (λ v. StandsFor cfg v st) (sym c.self.view_is) stands) c.known.ensures.sound;
-  housed = λ cfg st stands. all_housed cfg _ st (subst (λ v. StandsFor cfg v st) (sym c.self.view_is) stands) c.known.ensures.sound;
+  few = λ cfg st stands. few_streams cfg _ st (subst (λ v. StandsFor cfg v st) (sym c.self.view_is) stands) c.self.invariant.table;
+  housed = λ cfg st stands. all_housed cfg _ st (subst (λ v. StandsFor cfg v st) (sym c.self.view_is) stands) c.self.invariant.table;
 }

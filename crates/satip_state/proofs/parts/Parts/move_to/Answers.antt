@@ -12,5 +12,6 @@ returns-in_default c = record {
 pub returns : goal.returns
 returns c = record {
   moved = λ g st s. moved_stands g (the_view c.self.inside) st c.args.id c.in-Some.slot c.args.peer c.args.ports c.move_to.new.self c.address.new.self
-      (subst (λ v. StandsFor g v st) (sym c.self.view_is) s) c.known.ensures.sound (sym c.in-Some.ensures.slot) c.move_to.ensures.moved c.address.ensures.readdressed;
+      (subst (λ v. StandsFor g v st) (sym c.self.view_is) s) c.self.invariant.table
+      (sym c.in-Some.ensures.slot) c.move_to.ensures.moved c.address.ensures.readdressed;
 }

@@ -7,12 +7,12 @@ pub returns-in-None : goal.returns-in-None
 returns-in-None c = record {
   owner = λ cfg st stands.
       let at = subst (λ v. StandsFor cfg v st) (sym c.self.view_is) stands in
-      owner_looked cfg _ st c.args.number None at c.known.ensures.sound c.in-None.ensures.found;
+      owner_looked cfg _ st c.args.number None at c.self.invariant.table c.in-None.ensures.found;
 }
 
 pub returns-in-Some : goal.returns-in-Some
 returns-in-Some c = record {
   owner = λ cfg st stands.
       let at = subst (λ v. StandsFor cfg v st) (sym c.self.view_is) stands in
-      owner_looked cfg _ st c.args.number (Some c.in-Some.stream.now) at c.known.ensures.sound c.in-Some.ensures.found;
+      owner_looked cfg _ st c.args.number (Some c.in-Some.stream.now) at c.self.invariant.table c.in-Some.ensures.found;
 }

@@ -25,11 +25,12 @@ returns-clause-moved c config st stands =
     } in
     let same : c.args.self.now ≡ inside = sym c.self.view_is in
     let current : c.is_current.result ≡ true = search rules in
-    current_moved config c.end_marked.new.self c.args.out.now c.packet-overrun.new.out st (is_current st c.args.front c.args.tune) (deliver c.args.front c.args.packet.now st)
+    current_moved config c.end_marked.new.self c.args.out.now c.packet-overrun.new.out st (is_current st c.args.front c.args.tune)
+    (deliver c.args.front c.args.packet.now st)
     (sym (c.is_current.ensures.current config st stands) ∙ current)
     (packet_moved config inside c.end_marked.new.self c.args.out.now c.packet-overrun.new.out st (subst (λ (v : Kept). StandsFor config v st) same stands)
-    c.known.ensures.sound c.known-2.ensures.sound c.args.front c.args.packet.now
+    c.self.invariant.table c.self.invariant.fronts c.args.front c.args.packet.now
     c.packet-overrun.new.self c.packet-overrun.ensures.given c.packet-overrun.ensures.sent
     c.packet-overrun.result c.packet-overrun.ensures.overrun
     (λ now ends e. c.end_marked.ensures.ended config now ends e)
-    (subst (λ (v : Kept). Sound v.table) c.self-2.view_is c.known-3.ensures.sound))
+    (subst (λ (v : Kept). Sound v.table) c.self-2.view_is c.self-2.invariant.table))

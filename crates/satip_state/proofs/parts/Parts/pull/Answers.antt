@@ -1,7 +1,6 @@
 use Rattle.std.proofs.Common.{◌≡◌, ℕ, ◌-◌, length, true, false, List, Some, None, find, sym, ap, subst, ◌∙◌, rules}
 use Rattle.satip_base.specs.Output.{Wrote}
 use Rattle.satip_table.specs.Sessions.{has_id}
-use Rattle.satip_table.specs.Living.{Sound}
 use Rattle.satip_plain.specs.Steps.{Outcome}
 use Rattle.satip_plain.specs.declared.answers.Answer.TheVariants.{Pulled as PulledIs}
 use Rattle.satip_state.specs.Pulling.{pulled_is}
@@ -18,33 +17,36 @@ returns-in_default-clause-answer c config st stands =
 pub returns-in_default-clause-stands : goal.returns-in_default-clause-stands
 returns-in_default-clause-stands c config st stands =
     let none : None ≡ find (has_id c.args.id) c.args.self.now.table.seats = search rules in
-    subst (λ (out : Outcome). StandsFor config c.args.self.now out.state) (sym (pull_gone st c.args.id (no_session config c.args.self.now st stands c.args.id none))) stands
+    subst (λ (out : Outcome). StandsFor config c.args.self.now out.state)
+    (sym (pull_gone st c.args.id (no_session config c.args.self.now st stands c.args.id none))) stands
 
 pub returns-in_default-clause-wrote : goal.returns-in_default-clause-wrote
 returns-in_default-clause-wrote c config st stands =
     let none : None ≡ find (has_id c.args.id) c.args.self.now.table.seats = search rules in
-    subst (λ (out : Outcome). Wrote c.args.out.now out.reply c.args.out.now) (sym (pull_gone st c.args.id (no_session config c.args.self.now st stands c.args.id none))) (nothing_written c.args.out.now)
+    subst (λ (out : Outcome). Wrote c.args.out.now out.reply c.args.out.now)
+    (sym (pull_gone st c.args.id (no_session config c.args.self.now st stands c.args.id none))) (nothing_written c.args.out.now)
 
 pub returns-then-not-seat-clause-answer : goal.returns-then-not-seat-clause-answer
 returns-then-not-seat-clause-answer c config st stands =
     let at : find (has_id c.args.id) c.args.self.now.table.seats ≡ Some c.in-Some.seat = search rules in
-    let sound : Sound c.args.self.now.table = subst (λ (v : Kept). Sound v.table) c.self.view_is c.known.ensures.sound in
     let rtsp : c.in-Some.seat.session.http ≡ false = search rules in
-    sym (ap (λ (out : Outcome). out.answer) (pull_gone st c.args.id (no_http config c.args.self.now st stands sound c.args.id c.in-Some.seat at rtsp)))
+    sym (ap (λ (out : Outcome). out.answer)
+    (pull_gone st c.args.id (no_http config c.args.self.now st stands c.in-Some.ensures.table c.args.id c.in-Some.seat at rtsp)))
 
 pub returns-then-not-seat-clause-stands : goal.returns-then-not-seat-clause-stands
 returns-then-not-seat-clause-stands c config st stands =
     let at : find (has_id c.args.id) c.args.self.now.table.seats ≡ Some c.in-Some.seat = search rules in
-    let sound : Sound c.args.self.now.table = subst (λ (v : Kept). Sound v.table) c.self.view_is c.known.ensures.sound in
     let rtsp : c.in-Some.seat.session.http ≡ false = search rules in
-    subst (λ (out : Outcome). StandsFor config c.args.self.now out.state) (sym (pull_gone st c.args.id (no_http config c.args.self.now st stands sound c.args.id c.in-Some.seat at rtsp))) stands
+    subst (λ (out : Outcome). StandsFor config c.args.self.now out.state)
+    (sym (pull_gone st c.args.id (no_http config c.args.self.now st stands c.in-Some.ensures.table c.args.id c.in-Some.seat at rtsp))) stands
 
 pub returns-then-not-seat-clause-wrote : goal.returns-then-not-seat-clause-wrote
 returns-then-not-seat-clause-wrote c config st stands =
     let at : find (has_id c.args.id) c.args.self.now.table.seats ≡ Some c.in-Some.seat = search rules in
-    let sound : Sound c.args.self.now.table = subst (λ (v : Kept). Sound v.table) c.self.view_is c.known.ensures.sound in
     let rtsp : c.in-Some.seat.session.http ≡ false = search rules in
-    subst (λ (out : Outcome). Wrote c.args.out.now out.reply c.args.out.now) (sym (pull_gone st c.args.id (no_http config c.args.self.now st stands sound c.args.id c.in-Some.seat at rtsp))) (nothing_written c.args.out.now)
+    subst (λ (out : Outcome). Wrote c.args.out.now out.reply c.args.out.now)
+    (sym (pull_gone st c.args.id (no_http config c.args.self.now st stands c.in-Some.ensures.table c.args.id c.in-Some.seat at rtsp)))
+    (nothing_written c.args.out.now)
 
 pub returns-clause-answer : goal.returns-clause-answer
 returns-clause-answer c config st stands =
@@ -60,14 +62,17 @@ returns-clause-answer c config st stands =
     let same : c.args.self.now ≡ inside = sym c.self.view_is in
     let now : StandsFor config inside st = subst (λ (v : Kept). StandsFor config v st) same stands in
     let at : find (has_id c.args.id) c.args.self.now.table.seats ≡ Some c.in-Some.seat = search rules in
-    let there : find (has_id c.args.id) inside.table.seats ≡ Some c.in-Some.seat = subst (λ (v : Kept). find (has_id c.args.id) v.table.seats ≡ Some c.in-Some.seat) same at in
+    let there : find (has_id c.args.id) inside.table.seats ≡ Some c.in-Some.seat =
+    subst (λ (v : Kept). find (has_id c.args.id) v.table.seats ≡ Some c.in-Some.seat) same at in
     let http : c.in-Some.seat.session.http ≡ true = search rules in
-    let p = pulls config inside st now c.known.ensures.sound c.args.id c.in-Some.seat there http in
+    let p = pulls config inside st now c.self.invariant.table c.args.id c.in-Some.seat there http in
     let bytes : c.saturating_sub.result ≡ length c.pull-moved.new.out.reply - length c.args.out.now.reply =
     c.saturating_sub.ensures
     ∙ ap (λ (xs : List ℕ). length xs - length c.reply-before.result.now) c.reply.ensures.reply
     ∙ ap (λ (xs : List ℕ). length c.pull-moved.new.out.reply - length xs) c.reply-before.ensures.reply in
-    ap (λ w. PulledIs w) (c.pulled_of.ensures.pulled ∙ ap (pulled_is c.pull-moved.result) bytes) ∙ pull_answered config inside c.args.out.now c.pull-moved.new.out st now c.args.id c.in-Some.seat p c.pull-moved.ensures.wrote c.pull-moved.result c.pull-moved.ensures.bytes
+    ap (λ w. PulledIs w) (c.pulled_of.ensures.pulled ∙ ap (pulled_is c.pull-moved.result) bytes)
+    ∙ pull_answered config inside c.args.out.now c.pull-moved.new.out st now c.args.id c.in-Some.seat p c.pull-moved.ensures.wrote c.pull-moved.result
+    c.pull-moved.ensures.bytes
 
 pub returns-clause-stands : goal.returns-clause-stands
 returns-clause-stands c config st stands =
@@ -83,10 +88,12 @@ returns-clause-stands c config st stands =
     let same : c.args.self.now ≡ inside = sym c.self.view_is in
     let now : StandsFor config inside st = subst (λ (v : Kept). StandsFor config v st) same stands in
     let at : find (has_id c.args.id) c.args.self.now.table.seats ≡ Some c.in-Some.seat = search rules in
-    let there : find (has_id c.args.id) inside.table.seats ≡ Some c.in-Some.seat = subst (λ (v : Kept). find (has_id c.args.id) v.table.seats ≡ Some c.in-Some.seat) same at in
+    let there : find (has_id c.args.id) inside.table.seats ≡ Some c.in-Some.seat =
+    subst (λ (v : Kept). find (has_id c.args.id) v.table.seats ≡ Some c.in-Some.seat) same at in
     let http : c.in-Some.seat.session.http ≡ true = search rules in
-    let p = pulls config inside st now c.known.ensures.sound c.args.id c.in-Some.seat there http in
-    pull_stands config inside c.hear.new.self st now c.args.id c.in-Some.seat p c.pull-moved.new.self c.pull-moved.ensures.pulled (λ later after. c.hear.ensures.heard config later after)
+    let p = pulls config inside st now c.self.invariant.table c.args.id c.in-Some.seat there http in
+    pull_stands config inside c.hear.new.self st now c.args.id c.in-Some.seat p c.pull-moved.new.self c.pull-moved.ensures.pulled
+    (λ later after. c.hear.ensures.heard config later after)
 
 pub returns-clause-wrote : goal.returns-clause-wrote
 returns-clause-wrote c config st stands =
@@ -102,7 +109,8 @@ returns-clause-wrote c config st stands =
     let same : c.args.self.now ≡ inside = sym c.self.view_is in
     let now : StandsFor config inside st = subst (λ (v : Kept). StandsFor config v st) same stands in
     let at : find (has_id c.args.id) c.args.self.now.table.seats ≡ Some c.in-Some.seat = search rules in
-    let there : find (has_id c.args.id) inside.table.seats ≡ Some c.in-Some.seat = subst (λ (v : Kept). find (has_id c.args.id) v.table.seats ≡ Some c.in-Some.seat) same at in
+    let there : find (has_id c.args.id) inside.table.seats ≡ Some c.in-Some.seat =
+    subst (λ (v : Kept). find (has_id c.args.id) v.table.seats ≡ Some c.in-Some.seat) same at in
     let http : c.in-Some.seat.session.http ≡ true = search rules in
-    let p = pulls config inside st now c.known.ensures.sound c.args.id c.in-Some.seat there http in
+    let p = pulls config inside st now c.self.invariant.table c.args.id c.in-Some.seat there http in
     pull_wrote config inside c.args.out.now c.pull-moved.new.out st now c.args.id c.in-Some.seat p c.pull-moved.ensures.wrote

@@ -15,7 +15,7 @@ use Rattle.satip_state.proofs.parts.Parts.report.Goals as goal
 
 pub returns-in_default-clause-moved : goal.returns-in_default-clause-moved
 returns-in_default-clause-moved c config st place stands same got due =
-    let sound : Sound c.args.self.now.table = subst (λ (v : Kept). Sound v.table) c.self.view_is c.known.ensures.sound in
+    let sound : Sound c.args.self.now.table = subst (λ (v : Kept). Sound v.table) c.self.view_is c.self.invariant.table in
     let number = c.args.seat.now.session.stream in
     let found : None ≡ find (has_number number) c.args.self.now.table.streams = search rules in
     let none = ap (option_map (kept_view c.args.self.now)) found ∙ view_numbered config c.args.self.now st stands number in
@@ -23,7 +23,7 @@ returns-in_default-clause-moved c config st place stands same got due =
 
 pub returns-in_default-state-clause-moved : goal.returns-in_default-state-clause-moved
 returns-in_default-state-clause-moved c config st place stands same got due =
-    let sound : Sound c.args.self.now.table = subst (λ (v : Kept). Sound v.table) c.self.view_is c.known.ensures.sound in
+    let sound : Sound c.args.self.now.table = subst (λ (v : Kept). Sound v.table) c.self.view_is c.self.invariant.table in
     let none : None ≡ sender_state (packing_of_slot c.args.seat.now.slot c.self.inside.flow) = c.in_default-state.ensures.state in
     absurd (packer_there config c.args.self.now st stands sound place c.args.seat.now got due
     (none ∙ ap (λ (v : Kept). sender_state (packing_of_slot c.args.seat.now.slot v.flow)) c.self.view_is))
@@ -43,7 +43,7 @@ returns-clause-moved c config st place stands same got due =
     let number = c.args.seat.now.session.stream in
     let found : Some c.in-Some.stream.now ≡ find (has_number number) c.args.self.now.table.streams = search rules in
     let view = ap Some c.shown-view.ensures.view ∙ ap (option_map (kept_view c.args.self.now)) found ∙ view_numbered config c.args.self.now st stands number in
-    report_seat config inside c.args.out.now c.write_report.new.out st (subst (λ (v : Kept). StandsFor config v st) is stands) c.known.ensures.sound
+    report_seat config inside c.args.out.now c.write_report.new.out st (subst (λ (v : Kept). StandsFor config v st) is stands) c.self.invariant.table
     place c.args.seat.now (subst (λ (v : Kept). slice_get v.table.seats place ≡ Some c.args.seat.now) is got)
     (subst (λ (v : Kept). is_row_due v.clock c.args.seat.now.session ≡ true) is due)
     c.shown-view.result view

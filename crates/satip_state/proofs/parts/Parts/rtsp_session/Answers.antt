@@ -6,12 +6,12 @@ use Rattle.satip_state.proofs.parts.Parts.rtsp_session.Goals as goal
 pub returns-in-None-clause-session : goal.returns-in-None-clause-session
 returns-in-None-clause-session c = λ cfg st stands.
     let at = subst (λ v. StandsFor cfg v st) (sym c.self.view_is) stands in
-    rtsp_looked cfg _ st c.args.id None at c.known.ensures.sound c.in-None.ensures.found
+    rtsp_looked cfg _ st c.args.id None at c.self.invariant.table c.in-None.ensures.found
 
 pub returns-in-Some-clause-session : goal.returns-in-Some-clause-session
 returns-in-Some-clause-session c = λ cfg st stands.
     let at = subst (λ v. StandsFor cfg v st) (sym c.self.view_is) stands in
-    c.only_rtsp.ensures.rtsp ∙ rtsp_looked cfg _ st c.args.id (Some c.in-Some.session.now) at c.known.ensures.sound c.in-Some.ensures.found
+    c.only_rtsp.ensures.rtsp ∙ rtsp_looked cfg _ st c.args.id (Some c.in-Some.session.now) at c.self.invariant.table c.in-Some.ensures.found
 
 pub returns-in-Some-clause-rtsp : goal.returns-in-Some-clause-rtsp
 returns-in-Some-clause-rtsp c = λ cfg st stands.

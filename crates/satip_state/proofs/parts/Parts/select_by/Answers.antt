@@ -17,6 +17,7 @@ returns-in_default c = record {
 
 pub returns : goal.returns
 returns c = record {
-  selected = λ g st s. selected_by g (the_view c.self.inside) c.change_pids.new.self st (subst (λ v. StandsFor g v st) (sym c.self.view_is) s) c.args.number c.in-Some.stream.now c.put_asked.new.pids c.args.query.now
-      c.known.ensures.sound (sym c.in-Some.ensures.found) c.put_asked.ensures.pids (c.change_pids.ensures.changed g st s);
+  selected = λ g st s. selected_by g (the_view c.self.inside) c.change_pids.new.self st
+      (subst (λ v. StandsFor g v st) (sym c.self.view_is) s) c.args.number c.in-Some.stream.now c.put_asked.new.pids c.args.query.now
+      c.self.invariant.table (sym c.in-Some.ensures.found) c.put_asked.ensures.pids (c.change_pids.ensures.changed g st s);
 }

@@ -18,6 +18,8 @@ loop-place-preserved c = record {
 pub returns-clause-moved : goal.returns-clause-moved
 returns-clause-moved c config st stands same =
     let many : length st.sessions ≡ length c.args.self.now.table.seats = as_many config c.args.self.now st stands in
-    let counted : c.count-place-end.result ≡ length c.args.self.now.table.seats = subst (λ (v : Kept). c.count-place-end.result ≡ length v.table.seats) c.self.view_is c.count-place-end.ensures.count in
+    let counted : c.count-place-end.result ≡ length c.args.self.now.table.seats =
+    subst (λ (v : Kept). c.count-place-end.result ≡ length v.table.seats) c.self.view_is c.count-place-end.ensures.count in
     let over : length st.sessions ≤ c.loop-place.place = omega (arith, many, counted) in
-    turned_all config c.loop-place.self c.args.out.now c.loop-place.out st (report_turn config st) c.loop-place.place over (c.loop-place.invariant.moved config st stands same)
+    turned_all config c.loop-place.self c.args.out.now c.loop-place.out st (report_turn config st) c.loop-place.place over
+    (c.loop-place.invariant.moved config st stands same)

@@ -10,10 +10,12 @@ returns-in_default-clause-moved c = λ g st s lives.
 
 pub returns-in_default-to_set-clause-moved : goal.returns-in_default-to_set-clause-moved
 returns-in_default-to_set-clause-moved c = λ g st s lives.
-    tuned_by g (the_view c.self.inside) c.args.self.now c.args.out.now c.args.out.now st (subst (λ v. StandsFor g v st) (sym c.self.view_is) s) c.args.number c.in-Some.stream.now c.args.change.now None
+    tuned_by g (the_view c.self.inside) c.args.self.now c.args.out.now c.args.out.now st
+    (subst (λ v. StandsFor g v st) (sym c.self.view_is) s) c.args.number c.in-Some.stream.now c.args.change.now None
     (sym c.in-Some.ensures.found) c.in_default-to_set.ensures.to_set (stays g c.args.self.now c.args.out.now st s)
 
 pub returns-clause-moved : goal.returns-clause-moved
 returns-clause-moved c = λ g st s lives.
-    tuned_by g (the_view c.self.inside) c.retune.new.self c.args.out.now c.retune.new.out st (subst (λ v. StandsFor g v st) (sym c.self.view_is) s) c.args.number c.in-Some.stream.now c.args.change.now (Some c.in-Some-to_set.tuning)
+    tuned_by g (the_view c.self.inside) c.retune.new.self c.args.out.now c.retune.new.out st
+    (subst (λ v. StandsFor g v st) (sym c.self.view_is) s) c.args.number c.in-Some.stream.now c.args.change.now (Some c.in-Some-to_set.tuning)
     (sym c.in-Some.ensures.found) c.in-Some-to_set.ensures.to_set (c.retune.ensures.moved g st s lives)

@@ -16,7 +16,7 @@ returns-in-None c = record {
 pub returns-in-Some : goal.returns-in-Some
 returns-in-Some c = record {
   work = λ config st stands.
-      let sound : Sound c.args.self.now.table = subst (λ (v : Kept). Sound v.table) c.self.view_is c.known.ensures.sound in
+      let sound : Sound c.args.self.now.table = subst (λ (v : Kept). Sound v.table) c.self.view_is c.self.invariant.table in
       let on = subst (λ (v : Kept). v.stopped ≡ false) c.self.view_is c.if-self.false in
       let told = subst (λ (v : Kept). Some c.in-Some.state ≡ state_of v.fronts c.args.front) c.self.view_is c.in-Some.ensures.state in
       c.work_of.ensures.work ∙ front_works config c.args.self.now st stands sound on c.args.front c.in-Some.state told;

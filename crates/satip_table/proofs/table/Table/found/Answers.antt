@@ -47,3 +47,6 @@ pub returns-clause-within : goal.returns-clause-within
 returns-clause-within c =
     let room : is_full (living c.self.inside) ≡ false = ap is_full c.self.view_is ∙ c.requires.room in
     number_within (living c.self.inside) c.free_number-number.result c.self.invariant.sound room c.free_number-number.ensures.number
+
+pub returns-clause-sound : goal.returns-clause-sound
+returns-clause-sound c = (invariant_of-self c).sound

@@ -23,3 +23,6 @@ invariant_of-self c =
 pub returns-clause-id : goal.returns-clause-id
 returns-clause-id c =
     ap (λ (s : Session). s.id) c.new_session-session.ensures.session ∙ session_id c.self.inside.made c.args.session c.args.stream ∙ ap (λ (v : Living). next_id v.made c.args.session) c.self.view_is
+
+pub returns-clause-sound : goal.returns-clause-sound
+returns-clause-sound c = (invariant_of-self c).sound

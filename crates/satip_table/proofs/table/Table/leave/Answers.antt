@@ -40,3 +40,6 @@ returns-clause-streams c =
     c.hand_on.ensures.handed ∙ ap (λ o. handed c.in-Some.stream o c.self.inside.streams) first ∙ handed_on v c.args.id c.in-Some.stream c.self.invariant.sound was
     ∙ ap (λ ss. kept_streams ss c.self.inside.streams) (sym removed) in
     kept ∙ ap (λ (w : Living). kept_streams c.remove.new.self w.streams) c.self.view_is
+
+pub returns-clause-sound : goal.returns-clause-sound
+returns-clause-sound c = (invariant_of-self-2 c).sound

@@ -8,3 +8,6 @@ change-requires c = record { rising = (c.self.inside.made, c.self.invariant.soun
 
 pub invariant_of-self : goal.invariant_of-self
 invariant_of-self c = record { sound = sound_set (living c.self.inside) c.args.id (Address c.args.peer c.args.ports) c.change.new.self c.self.invariant.sound c.change.ensures.changed }
+
+pub returns-clause-sound : goal.returns-clause-sound
+returns-clause-sound c = (invariant_of-self c).sound
