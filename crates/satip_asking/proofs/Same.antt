@@ -24,7 +24,8 @@ by_text text named printed x y = (
 )
 
 -- values without fields
-same_word : (D : Declared) → Bare D.parts → (text : D.D → List ℕ) (named : List ℕ → Option D.D) → ((x : D.D) → named (text x) ≡ Some x) → (x y : D.D) → sameb D x y ≡ same_by text x y
+same_word : (D : Declared) → Bare D.parts → (text : D.D → List ℕ) (named : List ℕ → Option D.D) → ((x : D.D) → named (text x) ≡ Some x) → (x y : D.D)
+    → sameb D x y ≡ same_by text x y
 same_word D bare text named printed x y = one_answer _ _ (same_true D bare x y, true_same D x y) (by_text text named printed x y)
 
 same_pilots : (x y : Bool) → beq x y ≡ same_by pilots_text x y
@@ -46,10 +47,12 @@ assoc : (a b c : Bool) → (a && (b && c)) ≡ ((a && b) && c)
 assoc true b c = refl
 assoc false b c = refl
 
-regroup : (a b c d e f g h i j : Bool) → (a && (b && (c && (d && (e && (f && (g && (h && (i && j))))))))) ≡ (((((((((a && b) && c) && d) && e) && f) && g) && h) && i) && j)
+regroup : (a b c d e f g h i j : Bool) → (a && (b && (c && (d && (e && (f && (g && (h && (i && j)))))))))
+    ≡ (((((((((a && b) && c) && d) && e) && f) && g) && h) && i) && j)
 regroup a b c d e f g h i j =
     assoc a b _ ∙ assoc (a && b) c _ ∙ assoc ((a && b) && c) d _ ∙ assoc (((a && b) && c) && d) e _ ∙ assoc ((((a && b) && c) && d) && e) f _
-    ∙ assoc (((((a && b) && c) && d) && e) && f) g _ ∙ assoc ((((((a && b) && c) && d) && e) && f) && g) h _ ∙ assoc (((((((a && b) && c) && d) && e) && f) && g) && h) i j
+    ∙ assoc (((((a && b) && c) && d) && e) && f) g _ ∙ assoc ((((((a && b) && c) && d) && e) && f) && g) h _
+    ∙ assoc (((((((a && b) && c) && d) && e) && f) && g) && h) i j
 
 each_same : (a b c d e f g h i j : Bool) (d2 e2 f2 g2 h2 j2 : Bool) → d ≡ d2 → e ≡ e2 → f ≡ f2 → g ≡ g2 → h ≡ h2 → j ≡ j2
     → (((((((((a && b) && c) && d) && e) && f) && g) && h) && i) && j) ≡ (((((((((a && b) && c) && d2) && e2) && f2) && g2) && h2) && i) && j2)
@@ -77,8 +80,10 @@ derived_same a b =
     (a.sr == b.sr) (option_eq (λ x y. sameb fec.the_type x y) a.fec b.fec)
     ∙ each_same (option_eq nat_eq a.fe b.fe) (a.src == b.src) (a.freq == b.freq) _ _ _ _ _ (a.sr == b.sr) _ _ _ _ _ _ _
     (same_word pol.the_type tt pol_text pol_named pol_printed a.pol b.pol)
-    (same_given (λ x y. sameb roll_off.the_type x y) (same_by roll_off_text) (same_word roll_off.the_type tt roll_off_text roll_off_named roll_off_printed) a.ro b.ro)
+    (same_given (λ x y. sameb roll_off.the_type x y) (same_by roll_off_text)
+    (same_word roll_off.the_type tt roll_off_text roll_off_named roll_off_printed) a.ro b.ro)
     (same_word system.the_type tt system_text system_named system_printed a.msys b.msys)
-    (same_given (λ x y. sameb modulation.the_type x y) (same_by modulation_text) (same_word modulation.the_type tt modulation_text modulation_named modulation_printed) a.mtype b.mtype)
+    (same_given (λ x y. sameb modulation.the_type x y) (same_by modulation_text)
+    (same_word modulation.the_type tt modulation_text modulation_named modulation_printed) a.mtype b.mtype)
     (same_given beq (same_by pilots_text) same_pilots a.plts b.plts)
     (same_given (λ x y. sameb fec.the_type x y) (same_by fec_text) (same_word fec.the_type tt fec_text fec_named fec_printed) a.fec b.fec)

@@ -72,7 +72,8 @@ ends_wanting TooLong is = absurd (omega (arith, is))
 ends_wanting OutOfMemory is = refl
 
 fault_told : (Line : List ℕ → Type 0) (Cause : ConfigFault → Type 0) (end : AuditEnd) → Line (audit_line end)
-    → ((fault : ConfigFault) → end ≡ Configuration fault → Cause fault) → audit_status end ≡ 3 → (fault : ConfigFault) × Line (configuration_line fault) × Cause fault
+    → ((fault : ConfigFault) → end ≡ Configuration fault → Cause fault) → audit_status end ≡ 3
+    → (fault : ConfigFault) × Line (configuration_line fault) × Cause fault
 fault_told Line Cause Done line cause is = absurd (omega (arith, is))
 fault_told Line Cause (Configuration fault) line cause is = (fault, line, cause fault refl)
 fault_told Line Cause (Journal number) line cause is = absurd (omega (arith, is))

@@ -3,6 +3,16 @@
 #![tactic(auto)]
 
 mod laws;
+#[rattlefmt::skip]
+#[tactic(auto, unfolding(
+    satip_rtp::specs::Bytes::rtp_header,
+    satip_rtp::specs::Bytes::rtp_datagram,
+    satip_fronts::specs::Choice::choose,
+    satip_fronts::specs::Choice::blocked,
+    satip_fronts::specs::Choice::least,
+    satip_fronts::specs::Choice::placed,
+    satip_fronts::specs::Choice::may_take,
+))]
 mod rows;
 
 pub use laws::channels_carry_payload;

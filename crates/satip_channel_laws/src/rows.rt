@@ -9,7 +9,6 @@ ghost use Rattle.satip_channel_laws.specs.Rows.{count_on, pids_on_0, pids_sent, 
 /// A session is set up from the connection of lane 1 with channels 0 and 1 and plays: its packets
 /// are in the frames of channel 0, and a report is in one of channel 1. Where another lane's
 /// connection sets it up, lane 1 has no frame of it.
-#[tactic(auto, unfolding(satip_rtp::specs::Bytes::rtp_header, satip_rtp::specs::Bytes::rtp_datagram, satip_fronts::specs::Choice::choose, satip_fronts::specs::Choice::blocked, satip_fronts::specs::Choice::least, satip_fronts::specs::Choice::placed, satip_fronts::specs::Choice::may_take))]
 pub fn worked_rows()
     ensures on_channel_0 { pids_on_0 (setup_from 1 ∷ play ∷ packet 16 ∷ packet 17 ∷ Tick 40 ∷ [])
         ≡ 16 ∷ 17 ∷ [] }

@@ -114,7 +114,8 @@ length-turned_line-le line = by (begins_with ports_name line) refl
     of_ports (Some ports) within long = omega (arith, long, length-channel_line-le ports within)
 
     by : (b : Bool) → begins_with ports_name line ≡ b
-        → length (option_map_or channel_line (option_and_then ports_between (option_and_then without_return (cond b (Some (drop 39 line)) None))) line) ≤ 2 * length line
+        → length (option_map_or channel_line (option_and_then ports_between (option_and_then without_return (cond b (Some (drop 39 line)) None))) line)
+        ≤ 2 * length line
     by true is = of_ports _ (between_within (without_return (drop 39 line))) (named_long line is)
     by false is = omega arith
 
@@ -123,7 +124,8 @@ twice_front : (line : List ℕ) (parts turned_parts : List (List ℕ)) (b : Bool
     → length (join_with_byte 10 (cond b (line ∷ parts) (turned_line line ∷ turned_parts))) ≤ 2 * length (join_with_byte 10 (line ∷ parts))
 twice_front line parts turned_parts true some turned_some rest = omega arith
 twice_front line parts turned_parts false some turned_some rest =
-    let new : length (join_with_byte 10 (turned_line line ∷ turned_parts)) ≡ length (turned_line line ++ 10 ∷ join_with_byte 10 turned_parts) = ap length (join_front 10 (turned_line line) turned_parts turned_some) in
+    let new : length (join_with_byte 10 (turned_line line ∷ turned_parts)) ≡ length (turned_line line ++ 10 ∷ join_with_byte 10 turned_parts) =
+    ap length (join_front 10 (turned_line line) turned_parts turned_some) in
     let old : length (join_with_byte 10 (line ∷ parts)) ≡ length (line ++ 10 ∷ join_with_byte 10 parts) = ap length (join_front 10 line parts some) in
     omega (
       arith,
@@ -139,13 +141,15 @@ twice_lines : (parts : List (List ℕ)) → length (join_with_byte 10 (turned_li
 twice_lines [] = omega arith
 twice_lines (last ∷ []) = omega arith
 twice_lines (line ∷ next ∷ others) =
-    twice_front line (next ∷ others) (turned_lines (next ∷ others)) (is_empty_line line) (omega arith) (omega (arith, length-turned_lines (next ∷ others))) (twice_lines (next ∷ others))
+    twice_front line (next ∷ others) (turned_lines (next ∷ others)) (is_empty_line line) (omega arith) (omega (arith, length-turned_lines (next ∷ others)))
+    (twice_lines (next ∷ others))
 
 pub length-turned-le : (reply : List ℕ) → length (turned reply) ≤ 2 * length reply
 unfolding turned
 length-turned-le reply =
     let same : join_with_byte 10 (slice_split (is_byte 10) reply) ≡ reply = join_with_byte-slice_split 10 reply in
-    subst (λ text. length (join_with_byte 10 (turned_lines (slice_split (is_byte 10) reply))) ≤ 2 * length text) same (twice_lines (slice_split (is_byte 10) reply))
+    subst (λ text. length (join_with_byte 10 (turned_lines (slice_split (is_byte 10) reply))) ≤ 2 * length text) same
+    (twice_lines (slice_split (is_byte 10) reply))
 
 -- there is room for what is to come
 pub begun_room : (reply left items : List ℕ) (room : ℕ) → turned reply ≡ items ++ turned left → length reply ≤ 131072 → 262144 ≤ room

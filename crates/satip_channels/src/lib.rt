@@ -7,6 +7,19 @@
 
 mod replies;
 mod requests;
+#[rattlefmt::skip]
+#[tactic(auto, unfolding(
+    crate::specs::Channels::interleaved,
+    crate::specs::Channels::channels_of,
+    crate::specs::Channels::channels_in,
+    crate::specs::Channels::gives_channels,
+    crate::specs::Channels::is_tcp,
+    satip_base::specs::Numbers::number_of,
+    satip_rtsp::specs::Blanks::trimmed,
+    crate::specs::Turned::turned,
+    crate::specs::Turned::ports_told,
+    crate::specs::Turned::channel_line,
+))]
 mod rows;
 mod texts;
 mod transports;

@@ -6,7 +6,6 @@ ghost use Rattle.satip_channels.specs.Turned.{turned};
 ghost use Rattle.satip_rtsp.specs.Replies.{line_end};
 
 /// Which transports are acceptable, and what channels they give.
-#[tactic(auto, unfolding(crate::specs::Channels::interleaved, crate::specs::Channels::channels_of, crate::specs::Channels::channels_in, crate::specs::Channels::gives_channels, crate::specs::Channels::is_tcp, satip_base::specs::Numbers::number_of, satip_rtsp::specs::Blanks::trimmed))]
 pub fn worked_transports()
     ensures both { channels (codes "RTP/AVP/TCP;interleaved=0-1")
         ≡ Some (record { rtp = 1; rtcp = 2 }) }
@@ -31,7 +30,6 @@ pub fn worked_transports()
 {}
 
 /// How replies are turned: the transport of a SETUP, and nothing else.
-#[tactic(auto, unfolding(crate::specs::Turned::turned, crate::specs::Turned::ports_told, crate::specs::Turned::channel_line, satip_base::specs::Numbers::number_of))]
 pub fn worked_replies()
     ensures setup { turned (setup_with (codes "Transport: RTP/AVP;unicast;client_port=1-2"))
         ≡ setup_with (codes "Transport: RTP/AVP/TCP;unicast;interleaved=0-1") }

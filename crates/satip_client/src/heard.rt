@@ -66,7 +66,8 @@ impl Heard {
     /// Receives once.
     pub(crate) fn take_in<W: Conn>(&mut self, wire: &mut W) -> Received
         requires room { length self.old < 12288 }
-        ensures takes { TakesIn W.tells (W.line wire.old) (W.line wire.new) self.old self.new result }
+        ensures takes { TakesIn W.tells (W.line wire.old) (W.line wire.new) self.old self.new
+            result }
     {
         let mut piece = [0; PIECE];
         let most = (ROOM - self.count).min(PIECE);

@@ -36,19 +36,28 @@ file = \"b.ts\"
 ";
 
 const SETUP: &[u8] =
-    b"SETUP rtsp://192.168.1.10/?src=1&freq=11361.75&pol=h&ro=0.35&msys=dvbs2&mtype=8psk&plts=on&sr=22000&fec=23&pids=0,16,17&x_pmt=100 RTSP/1.0\r\nCSeq: 1\r\nTransport: RTP/AVP;unicast;client_port=1400-1401\r\n\r\n";
+    b"SETUP rtsp://192.168.1.10/?src=1&freq=11361.75&pol=h&ro=0.35&msys=dvbs2&mtype=8psk&plts=on\
+    &sr=22000&fec=23&pids=0,16,17&x_pmt=100 RTSP/1.0\r\n\
+    CSeq: 1\r\n\
+    Transport: RTP/AVP;unicast;client_port=1400-1401\r\n\r\n";
 
-const FOUNDED: &[u8] =
-    b"RTSP/1.0 200 OK\r\nCSeq: 1\r\nSession: 000000010000000a;timeout=60\r\nTransport: RTP/AVP;unicast;client_port=1400-1401\r\ncom.ses.streamID: 1\r\n\r\n";
+const FOUNDED: &[u8] = b"RTSP/1.0 200 OK\r\n\
+    CSeq: 1\r\n\
+    Session: 000000010000000a;timeout=60\r\n\
+    Transport: RTP/AVP;unicast;client_port=1400-1401\r\n\
+    com.ses.streamID: 1\r\n\r\n";
 
 const PLAY: &[u8] =
     b"PLAY rtsp://192.168.1.10/stream=1 RTSP/1.0\r\nCSeq: 2\r\nSession: 000000010000000a\r\n\r\n";
 
-const PLAYS: &[u8] =
-    b"RTSP/1.0 200 OK\r\nCSeq: 2\r\nSession: 000000010000000a\r\nRTP-Info: url=rtsp://192.168.1.10/stream=1;seq=65535\r\n\r\n";
+const PLAYS: &[u8] = b"RTSP/1.0 200 OK\r\n\
+    CSeq: 2\r\n\
+    Session: 000000010000000a\r\n\
+    RTP-Info: url=rtsp://192.168.1.10/stream=1;seq=65535\r\n\r\n";
 
-const TEARDOWN: &[u8] =
-    b"TEARDOWN rtsp://192.168.1.10/stream=1 RTSP/1.0\r\nCSeq: 1\r\nSession: 000000010000000a\r\n\r\n";
+const TEARDOWN: &[u8] = b"TEARDOWN rtsp://192.168.1.10/stream=1 RTSP/1.0\r\n\
+    CSeq: 1\r\n\
+    Session: 000000010000000a\r\n\r\n";
 
 const TORN_DOWN: &[u8] = b"RTSP/1.0 200 OK\r\nCSeq: 1\r\n\r\n";
 
@@ -67,8 +76,11 @@ fn replays_are_printed()
 {}
 
 // The sender report and the SES1 text of a stream that sent six packets.
-const REPORT: &[u8] =
-    b"datagram 192.168.1.20:1401 80c800061122334483aa7e810a3d70a300016da0000000010000046881ca000511223344010c3139322e3136382e312e3130000080cc00181122334453455331000000527665723d312e303b7372633d313b74756e65723d312c3234302c312c31352c31313336312e37352c682c64766273322c3870736b2c6f6e2c302e33352c32323030302c32333b706964733d302c31362c31370000\n";
+const REPORT: &[u8] = b"datagram 192.168.1.20:1401 \
+    80c800061122334483aa7e810a3d70a300016da0000000010000046881ca000511223344010c3139322e3136382e31\
+    2e3130000080cc00181122334453455331000000527665723d312e303b7372633d313b74756e65723d312c3234302c\
+    312c31352c31313336312e37352c682c64766273322c3870736b2c6f6e2c302e33352c32323030302c32333b706964\
+    733d302c31362c31370000\n";
 
 // A worked row: its script, and what is to be printed.
 #[derive(Drop)]
@@ -263,8 +275,8 @@ fn worked_rows_are_replayed(rt: HostRuntime) -> Result<(), Fail> {
     Ok(())
 }
 
-// Whether a replay by a configuration of these parts, each so often, is refused with this fault, and
-// writes nothing.
+// Whether a replay by a configuration of these parts, each so often, is refused with this fault,
+// and writes nothing.
 fn is_refused(alloc: Global, parts: &[(&[u8], usize)], fault: ConfigFault) -> Result<bool, Fail> {
     let mut config = Vec::new(alloc);
     for (part, times) in parts {

@@ -84,7 +84,10 @@ fn answers_are_printed()
 const OPTIONS: &[u8] = b"OPTIONS * RTSP/1.0\r\nCSeq: 1\r\n\r\n";
 
 const SETUP: &[u8] =
-    b"SETUP rtsp://192.168.1.10/?src=1&freq=11361.75&pol=h&ro=0.35&msys=dvbs2&mtype=8psk&plts=on&sr=22000&fec=23&pids=0,16,17&x_pmt=100 RTSP/1.0\r\nCSeq: 1\r\nTransport: RTP/AVP;unicast;client_port=1400-1401\r\n\r\n";
+    b"SETUP rtsp://192.168.1.10/?src=1&freq=11361.75&pol=h&ro=0.35&msys=dvbs2&mtype=8psk&plts=on\
+    &sr=22000&fec=23&pids=0,16,17&x_pmt=100 RTSP/1.0\r\n\
+    CSeq: 1\r\n\
+    Transport: RTP/AVP;unicast;client_port=1400-1401\r\n\r\n";
 
 const GET: &[u8] =
     b"GET /?src=1&freq=12402&pol=v&msys=dvbs&sr=27500&fec=34&pids=all HTTP/1.1\r\n\r\n";
@@ -301,8 +304,9 @@ fn requests_of_the_worked_rows_are_read(rt: HostRuntime) -> Result<(), Fail> {
         rtcp: 1401,
     };
     assert!(rt; is_setup(&setup, 1, ports, 11361750));
-    let play =
-        b"PLAY rtsp://192.168.1.10/stream=1 RTSP/1.0\r\nCSeq: 2\r\nSession: 000000010000000a\r\n\r\n";
+    let play = b"PLAY rtsp://192.168.1.10/stream=1 RTSP/1.0\r\n\
+        CSeq: 2\r\n\
+        Session: 000000010000000a\r\n\r\n";
     let play = request_in(rt.alloc(), play)?.ok_or("play")?;
     assert!(rt; is_play(&play, 1, SessionId { count: 1, word: 10 }));
     let get = get_in(rt.alloc(), GET)?.ok_or("get")?;
@@ -618,8 +622,9 @@ fn is_same_short(parts: &EventParts, line: Line) -> bool {
     }
 }
 
-const ADDING: &[u8] =
-    b"PLAY rtsp://192.168.1.10/stream=1?addpids=100,200&delpids=16 RTSP/1.0\r\nCSeq: 9\r\nSession: 000000010000000a\r\n\r\n";
+const ADDING: &[u8] = b"PLAY rtsp://192.168.1.10/stream=1?addpids=100,200&delpids=16 RTSP/1.0\r\n\
+    CSeq: 9\r\n\
+    Session: 000000010000000a\r\n\r\n";
 
 const SAME: &[&[u8]] = &[
     b"",

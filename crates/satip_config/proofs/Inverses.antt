@@ -45,27 +45,33 @@ unfolding number_at
 number_at-range least most n key table h =
     bound (required key table) _ n h (λ d is read. number-range least most n key d read)
 
-number_unless_missing-range : (default least most n : ℕ) (key : ConfigKey) (o : Option Data) → IsWithin least most default → number_unless_missing default least most key o ≡ Ok n → IsWithin least most n
+number_unless_missing-range : (default least most n : ℕ) (key : ConfigKey) (o : Option Data) → IsWithin least most default
+    → number_unless_missing default least most key o ≡ Ok n → IsWithin least most n
 number_unless_missing-range default least most n key None fine h = subst (IsWithin least most) (same_Ok default n h) fine
 number_unless_missing-range default least most n key (Some d) fine h = number-range least most n key d h
 
-pub number_or-range : (default least most n : ℕ) (key : ConfigKey) (table : Members) → IsWithin least most default → number_or default least most key table ≡ Ok n → IsWithin least most n
+pub number_or-range : (default least most n : ℕ) (key : ConfigKey) (table : Members) → IsWithin least most default
+    → number_or default least most key table ≡ Ok n → IsWithin least most n
 unfolding number_or
 number_or-range default least most n key table fine h = number_unless_missing-range default least most n key (value_at key table) fine h
 
 -- what the word was read from
-pub word_at-read : {A : Type 0} (read : List ℕ → Option A) (key : ConfigKey) (table : Members) (x : A) → word_at read key table ≡ Ok x → (text : List ℕ) × (read text ≡ Some x)
+pub word_at-read : {A : Type 0} (read : List ℕ → Option A) (key : ConfigKey) (table : Members) (x : A) → word_at read key table ≡ Ok x
+    → (text : List ℕ) × (read text ≡ Some x)
 unfolding word_at
 word_at-read read key table x h = bound (text_at key table) _ x h (λ text is found. (text, some_from_ok_or _ _ x found))
 
-counted_or_none : {A : Type 0} (b : Bool) (least most : ℕ) (xs ys : List A) → is_within least most (length xs) ≡ b → cond b (Some xs) None ≡ Some ys → IsWithin least most (length ys)
-counted_or_none true least most xs ys is h = let same : xs ≡ ys = cc in subst (λ zs. IsWithin least most (length zs)) same (is_within-parts least most (length xs) is)
+counted_or_none : {A : Type 0} (b : Bool) (least most : ℕ) (xs ys : List A) → is_within least most (length xs) ≡ b → cond b (Some xs) None ≡ Some ys
+    → IsWithin least most (length ys)
+counted_or_none true least most xs ys is h = let same : xs ≡ ys = cc in
+    subst (λ zs. IsWithin least most (length zs)) same (is_within-parts least most (length xs) is)
 counted_or_none false least most xs ys is h = absurd cc
 
 pub counted-range : {A : Type 0} (least most : ℕ) (xs ys : List A) → counted least most xs ≡ Some ys → IsWithin least most (length ys)
 counted-range least most xs ys h = counted_or_none (is_within least most (length xs)) least most xs ys refl h
 
-pub tables_in-range : (least most : ℕ) (key : ConfigKey) (values : List Data) (tables : List Members) → tables_in least most key values ≡ Ok tables → IsWithin least most (length tables)
+pub tables_in-range : (least most : ℕ) (key : ConfigKey) (values : List Data) (tables : List Members) → tables_in least most key values ≡ Ok tables
+    → IsWithin least most (length tables)
 unfolding tables_in
 tables_in-range least most key values tables h =
     bound (all_of _ key values) _ tables h (λ all is found. counted-range least most all tables (some_from_ok_or _ _ tables found))

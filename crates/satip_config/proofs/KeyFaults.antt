@@ -71,7 +71,8 @@ array_at-key : (key : ConfigKey) (table : Members) → FailsAtKey (array_at key 
 unfolding array_at
 array_at-key key table = then (required key table) _ (of_kind-key key (value_at key table)) (array-key key)
 
-list_in-key : {A B : Type 0} (kind : Data → Option A) (most : ℕ) (read : A → Option B) (key : ConfigKey) (values : List Data) → FailsAtKey (list_in kind most read key values)
+list_in-key : {A B : Type 0} (kind : Data → Option A) (most : ℕ) (read : A → Option B) (key : ConfigKey) (values : List Data)
+    → FailsAtKey (list_in kind most read key values)
 unfolding list_in
 list_in-key kind most read key values =
     then (all_of kind key values) _ (of_kind-key key (whole kind values)) (λ items.
@@ -108,7 +109,8 @@ mux_at-key n table =
     then (number_at 1 99999 (mux_key n names.Sr) table) _ (number_at-key 1 99999 _ table) (λ sr.
     then (word_at (counted 1 255) (mux_key n names.File) table) _ (word_at-key (counted 1 255) _ table) (λ file. tt))))))
 
-entries-key : {A : Type 0} (entry_at : ℕ → Members → Reading A) → ((n : ℕ) (table : Members) → FailsAtKey (entry_at n table)) → (n : ℕ) (tables : List Members) → FailsAtKey (entries entry_at n tables)
+entries-key : {A : Type 0} (entry_at : ℕ → Members → Reading A) → ((n : ℕ) (table : Members) → FailsAtKey (entry_at n table)) → (n : ℕ) (tables : List Members)
+    → FailsAtKey (entries entry_at n tables)
 unfolding entries
 entries-key entry_at each n [] = tt
 entries-key entry_at each n (table ∷ tables) =
@@ -152,7 +154,8 @@ pub configuration_of-Err : (table : Members) (e : ConfigFault) → configuration
 configuration_of-Err table e is = same_fault (configuration_of table) e (configuration_of-key table) is
 
 -- an answer from a document is no fault but of its keys, or of memory
-pub answer-key : (table : Members) (answer : Result Configuration ConfigFault) (e : ConfigFault) → Reads answer (configuration_of table) → answer ≡ Err e → e ≢ Want → IsKeyFault e
+pub answer-key : (table : Members) (answer : Result Configuration ConfigFault) (e : ConfigFault) → Reads answer (configuration_of table) → answer ≡ Err e
+    → e ≢ Want → IsKeyFault e
 answer-key table (Ok c) e h is other = absurd cc
 answer-key table (Err fault) e h is other =
     let same : fault ≡ e = cc in

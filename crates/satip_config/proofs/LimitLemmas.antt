@@ -43,7 +43,8 @@ abbrev systems_at : ℕ → Members → Reading (List Bool)
 systems_at n table = array_at (front_key n names.Systems) table >>= systems_in (front_key n names.Systems)
 
 front_at-parts : {P : Type 0} (n : ℕ) (table : Members) (front : Front) → front_at n table ≡ Ok front
-    → ((sources systems : List Bool) → sources_at n table ≡ Ok sources → systems_at n table ≡ Ok systems → record { number = n; sources = sources; systems = systems } ≡ front → P) → P
+    → ((sources systems : List Bool) → sources_at n table ≡ Ok sources → systems_at n table ≡ Ok systems
+    → record { number = n; sources = sources; systems = systems } ≡ front → P) → P
 unfolding front_at
 front_at-parts n table front h use_them =
     bound (sources_at n table) _ front h (λ sources read more.
@@ -124,11 +125,13 @@ recordings_in-facts values found h =
     bound (tables_in 0 256 (top_key names.Mux) values) _ found h (λ tables read more.
     bound (entries mux_at 1 tables) _ found more (λ each each_read is.
     subst MuxFacts (same_Ok (apart each) found is)
-    (apart-facts each (omega (arith, tables_in-range 0 256 _ values tables read, entries-length mux_at 1 tables each each_read)) (entries-All mux_at IsRecording mux_at-allowed 1 tables each each_read))))
+    (apart-facts each (omega (arith, tables_in-range 0 256 _ values tables read, entries-length mux_at 1 tables each each_read))
+    (entries-All mux_at IsRecording mux_at-allowed 1 tables each each_read))))
 
 recordings_unless_missing-facts : (o : Option Data) (found : List Mux × List (List ℕ)) → recordings_unless_missing o ≡ Ok found → MuxFacts found
 recordings_unless_missing-facts None found h = subst MuxFacts (same_Ok ([], []) found h) no_muxes
-recordings_unless_missing-facts (Some value) found h = bound (array (top_key names.Mux) value) _ found h (λ values read more. recordings_in-facts values found more)
+recordings_unless_missing-facts (Some value) found h =
+    bound (array (top_key names.Mux) value) _ found h (λ values read more. recordings_in-facts values found more)
 
 recordings_of-facts : (table : Members) (found : List Mux × List (List ℕ)) → recordings_of table ≡ Ok found → MuxFacts found
 unfolding recordings_of

@@ -32,7 +32,8 @@ module _ {A B : Type 0} (kind : Data → Option A) (most : ℕ) (read : A → Op
 
   list_in-taken : list_all (λ v. is_some (kind (view v))) vs ≡ true
       → list_in kind most read key (map view vs)
-      ≡ taken key (is_within 1 most (length vs) && list_all (λ v. is_some (option_and_then read (kind (view v)))) vs) (filter_map (λ v. option_and_then read (kind (view v))) vs)
+      ≡ taken key (is_within 1 most (length vs) && list_all (λ v. is_some (option_and_then read (kind (view v)))) vs)
+      (filter_map (λ v. option_and_then read (kind (view v))) vs)
   unfolding list_in
   list_in-taken same =
       let kinds : List A = filter_map (λ v. kind (view v)) vs in

@@ -47,7 +47,8 @@ octet_of-range bytes n h =
     let (digits, small) = and_parts (are_digits 3 bytes) (nat_le (digits_value 10 bytes) 255) fine in
     rw (← is) (leb-true _ _ small)
 
-ip_from-range : (a b c d : Option ℕ) (n : ℕ) → ((x : ℕ) → a ≡ Some x → x ≤ 255) → ((x : ℕ) → b ≡ Some x → x ≤ 255) → ((x : ℕ) → c ≡ Some x → x ≤ 255) → ((x : ℕ) → d ≡ Some x → x ≤ 255)
+ip_from-range : (a b c d : Option ℕ) (n : ℕ) → ((x : ℕ) → a ≡ Some x → x ≤ 255) → ((x : ℕ) → b ≡ Some x → x ≤ 255) → ((x : ℕ) → c ≡ Some x → x ≤ 255)
+    → ((x : ℕ) → d ≡ Some x → x ≤ 255)
     → ip_from a b c d ≡ Some n → n < 4294967296
 ip_from-range (Some a) (Some b) (Some c) (Some d) n ha hb hc hd h =
     let is : a * 16777216 + b * 65536 + c * 256 + d ≡ n = same_Some _ _ h in
@@ -58,7 +59,8 @@ ip_from-range (Some a) (Some b) None d n ha hb hc hd h = absurd cc
 ip_from-range (Some a) (Some b) (Some c) None n ha hb hc hd h = absurd cc
 
 ip_of_parts-range : (parts : List (List ℕ)) (n : ℕ) → ip_of_parts parts ≡ Some n → n < 4294967296
-ip_of_parts-range (a ∷ b ∷ c ∷ d ∷ []) n h = ip_from-range (octet_of a) (octet_of b) (octet_of c) (octet_of d) n (octet_of-range a) (octet_of-range b) (octet_of-range c) (octet_of-range d) h
+ip_of_parts-range (a ∷ b ∷ c ∷ d ∷ []) n h = ip_from-range (octet_of a) (octet_of b) (octet_of c) (octet_of d) n (octet_of-range a) (octet_of-range b)
+    (octet_of-range c) (octet_of-range d) h
 ip_of_parts-range [] n h = absurd cc
 ip_of_parts-range (a ∷ []) n h = absurd cc
 ip_of_parts-range (a ∷ b ∷ []) n h = absurd cc

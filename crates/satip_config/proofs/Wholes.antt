@@ -4,12 +4,14 @@ use Rattle.std.specs.List.{list_all, list_any, filter_map, cons_option}
 use Rattle.std.specs.Option.{option_map_or}
 use Rattle.std.proofs.lemmas.Bool.{false≢true}
 
-all_step : {A B : Type 0} (g : A → Option B) (o : Option A) (ys : List A) (rest same : Bool) → (is_some o && rest) ≡ true → (rest ≡ true → list_all (λ y. is_some (g y)) ys ≡ same)
+all_step : {A B : Type 0} (g : A → Option B) (o : Option A) (ys : List A) (rest same : Bool) → (is_some o && rest) ≡ true
+    → (rest ≡ true → list_all (λ y. is_some (g y)) ys ≡ same)
     → list_all (λ y. is_some (g y)) (cons_option o ys) ≡ (is_some (option_and_then g o) && same)
 all_step g None ys rest same h more = absurd (false≢true h)
 all_step g (Some y) ys rest same h more = ap (λ b. is_some (g y) && b) (more h)
 
-length_step : {A : Type 0} (o : Option A) (ys : List A) (n : ℕ) (rest : Bool) → (is_some o && rest) ≡ true → (rest ≡ true → length ys ≡ n) → length (cons_option o ys) ≡ suc n
+length_step : {A : Type 0} (o : Option A) (ys : List A) (n : ℕ) (rest : Bool) → (is_some o && rest) ≡ true → (rest ≡ true → length ys ≡ n)
+    → length (cons_option o ys) ≡ suc n
 length_step None ys n rest h more = absurd (false≢true h)
 length_step (Some y) ys n rest h more = ap suc (more h)
 

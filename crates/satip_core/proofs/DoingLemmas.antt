@@ -12,7 +12,8 @@ use Rattle.satip_state.specs.Standing.{StandsFor, Moved}
 use Rattle.satip_core.specs.Doing.{Did}
 
 -- nothing is written
-pub did_nothing : (c : Config) (v : Kept) (o : Output) (st : State) (said answer : Answer) → o ≡ empty → said ≡ answer → StandsFor c v st → Did c v said o (outcome (settle st) answer [])
+pub did_nothing : (c : Config) (v : Kept) (o : Output) (st : State) (said answer : Answer) → o ≡ empty → said ≡ answer → StandsFor c v st
+    → Did c v said o (outcome (settle st) answer [])
 did_nothing c v o st said answer cleared same stands = record {
   stands = stands;
   answer = same;
@@ -21,7 +22,8 @@ did_nothing c v o st said answer cleared same stands = record {
 }
 
 -- a reply alone
-pub did_reply : (c : Config) (v : Kept) (o n : Output) (st : State) (said answer : Answer) (reply : List ℕ) → o ≡ empty → said ≡ answer → StandsFor c v st → Wrote o reply n → Did c v said n (outcome (settle st) answer reply)
+pub did_reply : (c : Config) (v : Kept) (o n : Output) (st : State) (said answer : Answer) (reply : List ℕ) → o ≡ empty → said ≡ answer → StandsFor c v st
+    → Wrote o reply n → Did c v said n (outcome (settle st) answer reply)
 did_reply c v o n st said answer reply cleared same stands wrote = record {
   stands = stands;
   answer = same;
@@ -30,7 +32,8 @@ did_reply c v o n st said answer reply cleared same stands wrote = record {
 }
 
 -- a move alone
-pub did_move : (c : Config) (v : Kept) (o n : Output) (m : Move) (said answer : Answer) → o ≡ empty → said ≡ answer → Moved c v o n m → Did c v said n (outcome m answer [])
+pub did_move : (c : Config) (v : Kept) (o n : Output) (m : Move) (said answer : Answer) → o ≡ empty → said ≡ answer → Moved c v o n m
+    → Did c v said n (outcome m answer [])
 did_move c v o n m said answer cleared same moved = record {
   stands = moved.stands;
   answer = same;
@@ -39,7 +42,8 @@ did_move c v o n m said answer cleared same moved = record {
 }
 
 -- a reply, and a move behind it
-pub did_reply_move : (c : Config) (v : Kept) (o p n : Output) (m : Move) (said answer : Answer) (reply : List ℕ) → o ≡ empty → said ≡ answer → Wrote o reply p → Moved c v p n m → Did c v said n (outcome m answer reply)
+pub did_reply_move : (c : Config) (v : Kept) (o p n : Output) (m : Move) (said answer : Answer) (reply : List ℕ) → o ≡ empty → said ≡ answer → Wrote o reply p
+    → Moved c v p n m → Did c v said n (outcome m answer reply)
 did_reply_move c v o p n m said answer reply cleared same wrote moved = record {
   stands = moved.stands;
   answer = same;
@@ -48,7 +52,8 @@ did_reply_move c v o p n m said answer reply cleared same wrote moved = record {
 }
 
 -- a move, and the reply behind it
-pub did_move_reply : (c : Config) (v : Kept) (o p n : Output) (m : Move) (said answer : Answer) (reply : List ℕ) → o ≡ empty → said ≡ answer → Moved c v o p m → Wrote p reply n → Did c v said n (outcome m answer reply)
+pub did_move_reply : (c : Config) (v : Kept) (o p n : Output) (m : Move) (said answer : Answer) (reply : List ℕ) → o ≡ empty → said ≡ answer → Moved c v o p m
+    → Wrote p reply n → Did c v said n (outcome m answer reply)
 did_move_reply c v o p n m said answer reply cleared same moved wrote = record {
   stands = moved.stands;
   answer = same;

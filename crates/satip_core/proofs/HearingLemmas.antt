@@ -16,12 +16,14 @@ id_row None = refl
 id_row (Some s) = refl
 
 -- the session is heard of, by its id
-pub heard_as : (b : Bool) (o : Option Session) (st : State) → option_map_or (λ id. hear id st) (cond b (option_map (λ (s : Session). s.id) o) None) st ≡ option_map_or (λ (s : Session). cond b (hear s.id st) st) o st
+pub heard_as : (b : Bool) (o : Option Session) (st : State)
+    → option_map_or (λ id. hear id st) (cond b (option_map (λ (s : Session). s.id) o) None) st ≡ option_map_or (λ (s : Session). cond b (hear s.id st) st) o st
 heard_as true None st = refl
 heard_as false None st = refl
 heard_as true (Some s) st = refl
 heard_as false (Some s) st = refl
 
-pub torn_down_as : (r : Request) (st : State) (o : Option Session) → torn_down r.cseq st (option_map (λ (s : Session). s.id) o) ≡ option_map_or (teardown_of r st) o (accepted (settle st) [])
+pub torn_down_as : (r : Request) (st : State) (o : Option Session)
+    → torn_down r.cseq st (option_map (λ (s : Session). s.id) o) ≡ option_map_or (teardown_of r st) o (accepted (settle st) [])
 torn_down_as r st None = refl
 torn_down_as r st (Some s) = refl

@@ -15,7 +15,8 @@ use Rattle.satip_plain.specs.Steps.{is_session}
 abbrev pub kind : SessionId → List Session → Option Bool
 kind id ss = option_map (λ (s : Session). s.http) (find (is_session id) ss)
 
-kind_cons : (b : Bool) (y s : Session) (o p : Option Session) → y.http ≡ s.http → option_map (λ (x : Session). x.http) o ≡ option_map (λ (x : Session). x.http) p
+kind_cons : (b : Bool) (y s : Session) (o p : Option Session) → y.http ≡ s.http
+    → option_map (λ (x : Session). x.http) o ≡ option_map (λ (x : Session). x.http) p
     → option_map (λ (x : Session). x.http) (cond b (Some y) o) ≡ option_map (λ (x : Session). x.http) (cond b (Some s) p)
 kind_cons true y s o p same rest = ap Some same
 kind_cons false y s o p same rest = rest
@@ -29,7 +30,8 @@ kind_turned id p clock [] = refl
 kind_turned id p clock (s ∷ ss) = by (p s) (kind_turned id p clock ss)
   where
     by : (b : Bool) → kind id (filter_map (λ x. (turned p clock x).after) ss) ≡ kind id ss
-        → kind id (cons_option (cond b (let_go true clock s) (record { sends = []; after = Some s })).after (filter_map (λ x. (turned p clock x).after) ss)) ≡ kind id (s ∷ ss)
+        → kind id (cons_option (cond b (let_go true clock s) (record { sends = []; after = Some s })).after (filter_map (λ x. (turned p clock x).after) ss))
+        ≡ kind id (s ∷ ss)
     by true rest = kind_cons (is_session id s) _ s _ _ refl rest
     by false rest = kind_cons (is_session id s) s s _ _ refl rest
 
@@ -55,6 +57,8 @@ kind_retune c n st tuning id =
 pub kind_changed : (c : Config) (n : ℕ) (q : Query) (st : State) (id : SessionId) → kind id (change_by c n q st).state.sessions ≡ kind id st.sessions
 kind_changed c n q st id = by (to_set (option_and_then (λ t. t.tuning) (stream_of st n)) q.change)
   where
-    by : (o : Option Tuning) → kind id (then_move (option_map_or (retune c n st) o (settle st)) (λ now. settle (change_stream n (λ t. record t { pids = new_pids t.pids q }) now))).state.sessions ≡ kind id st.sessions
+    by : (o : Option Tuning) → kind id
+        (then_move (option_map_or (retune c n st) o (settle st))
+        (λ now. settle (change_stream n (λ t. record t { pids = new_pids t.pids q }) now))).state.sessions ≡ kind id st.sessions
     by None = refl
     by (Some tuning) = kind_retune c n st tuning id

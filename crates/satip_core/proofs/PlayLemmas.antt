@@ -36,12 +36,14 @@ all_found p q (x ∷ ss) s all e =
     by false f rest = rest f
 
 -- the stream of a session that is named lives
-named_in : (st : State) (name : SessionName) (s : Session) → list_all (λ s. is_some (stream_of st s.stream)) st.sessions ≡ true → session_named st name ≡ Some s → is_some (stream_of st s.stream) ≡ true
+named_in : (st : State) (name : SessionName) (s : Session) → list_all (λ s. is_some (stream_of st s.stream)) st.sessions ≡ true → session_named st name ≡ Some s
+    → is_some (stream_of st s.stream) ≡ true
 named_in st Absent s all e = absurd (cc)
 named_in st (Named id) s all e = all_found (λ s. is_some (stream_of st s.stream)) (λ s. same_id s.id id && not s.http) st.sessions s all e
 named_in st Other s all e = absurd (cc)
 
-pub named_lives : (st : State) (name : SessionName) (row : Row) → list_all (λ s. is_some (stream_of st s.stream)) st.sessions ≡ true → Some row ≡ option_map row_of (session_named st name) → is_some (stream_of st row.stream) ≡ true
+pub named_lives : (st : State) (name : SessionName) (row : Row) → list_all (λ s. is_some (stream_of st s.stream)) st.sessions ≡ true
+    → Some row ≡ option_map row_of (session_named st name) → is_some (stream_of st row.stream) ≡ true
 unfolding row_of
 named_lives st name row all named =
     let m = map_some row_of (session_named st name) row (sym named) in
@@ -63,8 +65,10 @@ play_at c r st id number =
 pub did_play : (c : Config) (v w : Kept) (o p n : Output) (r : Request) (st : State) (row : Row) (address seq : ℕ) (said : Answer)
     → o ≡ empty → said ≡ Replied (record { status = 200; closing = false })
     → Some row ≡ option_map row_of (session_named st r.session) → kind row.id st.sessions ≡ Some false
-    → Moved c v o p (change_by c row.stream r.query st) → StandsFor c w (change_session row.id (λ x. record x { playing = true }) (change_by c row.stream r.query st).state)
-    → seq ≡ rtsp_number (find (is_session row.id) (change_session row.id (λ x. record x { playing = true }) (change_by c row.stream r.query st).state).sessions) → address ≡ c.address
+    → Moved c v o p (change_by c row.stream r.query st)
+    → StandsFor c w (change_session row.id (λ x. record x { playing = true }) (change_by c row.stream r.query st).state)
+    → seq ≡ rtsp_number (find (is_session row.id) (change_session row.id (λ x. record x { playing = true }) (change_by c row.stream r.query st).state).sessions)
+    → address ≡ c.address
     → Wrote p (play_reply r.cseq row.id address row.stream seq) n
     → Did c w said n (option_map_or (play_of c r st) (session_named st r.session) (accepted (settle st) []))
 unfolding row_of
@@ -78,8 +82,11 @@ did_play c v w o p n r st row address seq said cleared same named kinded moved s
     let did : Did c w said n (play_at c r st row.id row.stream) = record {
       stands = stands;
       answer = same;
-      reply = wrote.reply ∙ ap (λ (bs : List ℕ). bs ++ play_reply r.cseq row.id address row.stream seq) (moved.sent.reply ∙ ap (λ (x : Output). x.reply) cleared)
+      reply = wrote.reply ∙ ap (λ (bs : List ℕ). bs ++ play_reply r.cseq row.id address row.stream seq)
+          (moved.sent.reply ∙ ap (λ (x : Output). x.reply) cleared)
           ∙ ap (λ (a : ℕ). play_reply r.cseq row.id a row.stream seq) at ∙ ap (λ (s : ℕ). play_reply r.cseq row.id c.address row.stream s) next;
-      datagrams = wrote.datagrams ∙ moved.sent.datagrams ∙ ap (λ (x : Output). x.datagrams ++ map datagram changed.sent) cleared ∙ ap (map datagram) (sym (append-nil changed.sent));
+      datagrams = wrote.datagrams ∙ moved.sent.datagrams ∙ ap (λ (x : Output). x.datagrams ++ map datagram changed.sent) cleared
+          ∙ ap (map datagram) (sym (append-nil changed.sent));
     } in
-    subst (Did c w said n) (ap (λ (x : Row). play_at c r st x.id x.stream) (sym m.2) ∙ ap (λ (o : Option Session). option_map_or (play_of c r st) o (accepted (settle st) [])) (sym m.1)) did
+    subst (Did c w said n) (ap (λ (x : Row). play_at c r st x.id x.stream) (sym m.2)
+    ∙ ap (λ (o : Option Session). option_map_or (play_of c r st) o (accepted (settle st) [])) (sym m.1)) did

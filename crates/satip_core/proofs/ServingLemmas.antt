@@ -34,7 +34,8 @@ pull_silent id st = by (http_session st id)
 pub close_quiet : (id : SessionId) (st : State) → (on_close id st).reply ≡ []
 close_quiet id st = by (http_session st id)
   where
-    by : (o : Option Session) → (option_map_or (λ (s : Session). outcome (end_where (is_session id) st) (Closed Yes) []) o (outcome (settle st) (Closed ClosedGone) [])).reply ≡ []
+    by : (o : Option Session)
+        → (option_map_or (λ (s : Session). outcome (end_where (is_session id) st) (Closed Yes) []) o (outcome (settle st) (Closed ClosedGone) [])).reply ≡ []
     by None = refl
     by (Some s) = refl
 
@@ -42,14 +43,17 @@ close_quiet id st = by (http_session st id)
 pub steps_of : (fields old : Held) (v : Kept) (event : Event) (said : Answer) (out : Output) → fields ≡ old
     → ((st : State) → Stands fields st → Did fields.setting.config v said out (step fields.setting.config st event))
     → (st : State) → Stands old st → Did old.setting.config v said out (step old.setting.config st event)
-steps_of fields old v event said out is did = subst (λ (s : Held). (st : State) → Stands s st → Did s.setting.config v said out (step s.setting.config st event)) is did
+steps_of fields old v event said out is did =
+    subst (λ (s : Held). (st : State) → Stands s st → Did s.setting.config v said out (step s.setting.config st event)) is did
 
 -- an event that leaves this state
-pub rests : (c : Config) (v : Kept) (said : Answer) (out : Output) (o : Outcome) (st : State) → Did c v said out o → Leaves o st → StandsFor c v st × (out.datagrams ≡ [])
+pub rests : (c : Config) (v : Kept) (said : Answer) (out : Output) (o : Outcome) (st : State) → Did c v said out o → Leaves o st
+    → StandsFor c v st × (out.datagrams ≡ [])
 rests c v said out o st did leaves = (subst (StandsFor c v) leaves.state did.stands, did.datagrams ∙ ap (map datagram) leaves.sent)
 
 -- nothing is written, and nothing is sent
-pub did_quietly : (c : Config) (v : Kept) (o : Output) (said : Answer) (done : Outcome) → o ≡ empty → StandsFor c v done.state → said ≡ done.answer → done.reply ≡ [] → done.sent ≡ [] → Did c v said o done
+pub did_quietly : (c : Config) (v : Kept) (o : Output) (said : Answer) (done : Outcome) → o ≡ empty → StandsFor c v done.state → said ≡ done.answer
+    → done.reply ≡ [] → done.sent ≡ [] → Did c v said o done
 did_quietly c v o said done cleared stands answer quiet silent = record {
   stands = stands;
   answer = answer;

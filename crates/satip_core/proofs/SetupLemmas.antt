@@ -42,11 +42,16 @@ record Passed (c : Config) (st : State) (r : Request) : Type 0 where
 passed : (c : Config) (st : State) (r : Request) → decide c st r ≡ None → Passed c st r
 passed c st r e =
     let message = given_none (option_map of_message r.refusal) (of_names c st r) e in
-    let session = given_none (where_true (session_missing st r) (plainly 454)) (where_true (stream_missing st r) (plainly 404) ∷ where_true (stream_of_another st r) (plainly 454) ∷ where_true (not_owner st r) (telling 403 NotOwner) ∷ of_setup c st r) message.1 in
-    let stream = given_none (where_true (stream_missing st r) (plainly 404)) (where_true (stream_of_another st r) (plainly 454) ∷ where_true (not_owner st r) (telling 403 NotOwner) ∷ of_setup c st r) session.1 in
-    let another = given_none (where_true (stream_of_another st r) (plainly 454)) (where_true (not_owner st r) (telling 403 NotOwner) ∷ of_setup c st r) stream.1 in
+    let session = given_none (where_true (session_missing st r) (plainly 454))
+    (where_true (stream_missing st r) (plainly 404) ∷ where_true (stream_of_another st r) (plainly 454) ∷ where_true (not_owner st r) (telling 403 NotOwner)
+    ∷ of_setup c st r) message.1 in
+    let stream = given_none (where_true (stream_missing st r) (plainly 404))
+    (where_true (stream_of_another st r) (plainly 454) ∷ where_true (not_owner st r) (telling 403 NotOwner) ∷ of_setup c st r) session.1 in
+    let another = given_none (where_true (stream_of_another st r) (plainly 454))
+    (where_true (not_owner st r) (telling 403 NotOwner) ∷ of_setup c st r) stream.1 in
     let owner = given_none (where_true (not_owner st r) (telling 403 NotOwner)) (of_setup c st r) another.1 in
-    let placed = given_none (where_true (is_setup r.method && not (names_none r.session) && is_none r.stream) (plainly 455)) (where_true (is_setup r.method && is_none r.ports) (plainly 461) ∷ of_asked c st r) owner.1 in
+    let placed = given_none (where_true (is_setup r.method && not (names_none r.session) && is_none r.stream) (plainly 455))
+    (where_true (is_setup r.method && is_none r.ports) (plainly 461) ∷ of_asked c st r) owner.1 in
     let ports = given_none (where_true (is_setup r.method && is_none r.ports) (plainly 461)) (of_asked c st r) placed.1 in
     record {
       session = where_none (session_missing st r) (plainly 454) session.0;
@@ -70,22 +75,29 @@ heard_full r st = by (session_named st r.session) (is_none r.refusal)
   where
     by : (o : Option Session) (b : Bool) → is_full (option_map_or (λ (s : Session). cond b (hear s.id st) st) o st) ≡ is_full st
     by None b = refl
-    by (Some s) true = ap (λ n. nat_le most_sessions n || nat_le most_made st.made) (length-map st.sessions (λ (x : Session). cond (is_session s.id x) (record x { heard = st.clock }) x))
+    by (Some s) true = ap (λ n. nat_le most_sessions n || nat_le most_made st.made)
+        (length-map st.sessions (λ (x : Session). cond (is_session s.id x) (record x { heard = st.clock }) x))
     by (Some s) false = refl
 
 cons_none : (b : Bool) (y : Session) (o : Option Session) → cond b (Some y) o ≡ None → (b ≡ false) × (o ≡ None)
 cons_none true y o e = absurd (cc)
 cons_none false y o e = (refl, e)
 
-none_heard : (id own : SessionId) (clock : ℕ) (ss : List Session) → find (λ s. same_id s.id id && not s.http) (change_where (is_session own) (λ x. record x { heard = clock }) ss) ≡ None → find (λ s. same_id s.id id && not s.http) ss ≡ None
+none_heard : (id own : SessionId) (clock : ℕ) (ss : List Session)
+    → find (λ s. same_id s.id id && not s.http) (change_where (is_session own) (λ x. record x { heard = clock }) ss) ≡ None
+    → find (λ s. same_id s.id id && not s.http) ss ≡ None
 none_heard id own clock [] e = refl
 none_heard id own clock (s ∷ ss) e = by (is_session own s) e (none_heard id own clock ss)
   where
-    by : (b : Bool) → find (λ s. same_id s.id id && not s.http) (cond b (record s { heard = clock }) s ∷ change_where (is_session own) (λ x. record x { heard = clock }) ss) ≡ None
-        → (find (λ s. same_id s.id id && not s.http) (change_where (is_session own) (λ x. record x { heard = clock }) ss) ≡ None → find (λ s. same_id s.id id && not s.http) ss ≡ None)
+    by : (b : Bool) → find (λ s. same_id s.id id && not s.http)
+        (cond b (record s { heard = clock }) s ∷ change_where (is_session own) (λ x. record x { heard = clock }) ss) ≡ None
+        → (find (λ s. same_id s.id id && not s.http) (change_where (is_session own) (λ x. record x { heard = clock }) ss) ≡ None
+        → find (λ s. same_id s.id id && not s.http) ss ≡ None)
         → find (λ s. same_id s.id id && not s.http) (s ∷ ss) ≡ None
-    by true f rest = let r = cons_none (same_id s.id id && not s.http) _ _ f in ap (λ b. cond b (Some s) (find (λ s. same_id s.id id && not s.http) ss)) r.0 ∙ rest r.1
-    by false f rest = let r = cons_none (same_id s.id id && not s.http) _ _ f in ap (λ b. cond b (Some s) (find (λ s. same_id s.id id && not s.http) ss)) r.0 ∙ rest r.1
+    by true f rest = let r = cons_none (same_id s.id id && not s.http) _ _ f in
+        ap (λ b. cond b (Some s) (find (λ s. same_id s.id id && not s.http) ss)) r.0 ∙ rest r.1
+    by false f rest = let r = cons_none (same_id s.id id && not s.http) _ _ f in
+        ap (λ b. cond b (Some s) (find (λ s. same_id s.id id && not s.http) ss)) r.0 ∙ rest r.1
 
 heard_none : (own : SessionId) (st : State) (name : SessionName) → session_named (hear own st) name ≡ None → session_named st name ≡ None
 heard_none own st Absent e = refl
@@ -95,7 +107,8 @@ heard_none own st Other e = refl
 heard_named : (r : Request) (st : State) → session_named (heard_by r st) r.session ≡ None → session_named st r.session ≡ None
 heard_named r st e = by (session_named st r.session) (is_none r.refusal) e
   where
-    by : (o : Option Session) (b : Bool) → session_named (option_map_or (λ (s : Session). cond b (hear s.id st) st) o st) r.session ≡ None → session_named st r.session ≡ None
+    by : (o : Option Session) (b : Bool) → session_named (option_map_or (λ (s : Session). cond b (hear s.id st) st) o st) r.session ≡ None
+        → session_named st r.session ≡ None
     by None b f = f
     by (Some s) true f = heard_none s.id st r.session f
     by (Some s) false f = f
@@ -111,22 +124,26 @@ names_of : (n x : Bool) (o : Option Session) → o ≡ None → cond n x (is_non
 names_of true x o none e = refl
 names_of false x o none e = absurd (false≢true (sym e ∙ ap is_none none))
 
-third_none : (a b : Option Refused) (x : Bool) (refused : Refused) (more : List (Option Refused)) → first_given (a ∷ b ∷ where_true x refused ∷ more) ≡ None → x ≡ false
+third_none : (a b : Option Refused) (x : Bool) (refused : Refused) (more : List (Option Refused))
+    → first_given (a ∷ b ∷ where_true x refused ∷ more) ≡ None → x ≡ false
 third_none a b x refused more e =
     let first = given_none a (b ∷ where_true x refused ∷ more) e in
     let second = given_none b (where_true x refused ∷ more) first.1 in
     where_none x refused (given_none (where_true x refused) more second.1).0
 
 -- that there is room for a session is looked at for each change that makes one
-change_room : (c : Config) (st : State) (o : Outlook) (tuning : Option Tuning) (pids : Pids) (makes : Bool) (q : Query) → first_given (of_change c st o tuning pids makes q) ≡ None → (makes && is_full st) ≡ false
+change_room : (c : Config) (st : State) (o : Outlook) (tuning : Option Tuning) (pids : Pids) (makes : Bool) (q : Query)
+    → first_given (of_change c st o tuning pids makes q) ≡ None → (makes && is_full st) ≡ false
 change_room c st o tuning pids makes q e =
-    third_none (key_missing tuning q.change) (of_pids (asked_pids pids q)) (makes && is_full st) (telling 503 NoMoreSessions) (where_true (front_missing c o tuning q.change) (telling 503 NoMoreFrontends) ∷ []) e
+    third_none (key_missing tuning q.change) (of_pids (asked_pids pids q)) (makes && is_full st) (telling 503 NoMoreSessions)
+    (where_true (front_missing c o tuning q.change) (telling 503 NoMoreFrontends) ∷ []) e
 
 full_of : (c : Config) (st : State) (r : Request) (o : Option Stream) → first_given (of_query c st r o) ≡ None → (makes_session r && is_full st) ≡ false
 full_of c st r None e = change_room c st (new_outlook c st) None (Only []) (makes_session r) r.query e
 full_of c st r (Some t) e = change_room c st (outlook_of c st t.number) t.tuning t.pids (makes_session r) r.query e
 
-lives_of : (r : Request) (st : State) (o : Option ℕ) (d : Bool) → option_map_or (λ n. is_none (stream_of st n)) o d ≡ false → IfSome o (λ n. is_none (stream_of (heard_by r st) n) ≡ false)
+lives_of : (r : Request) (st : State) (o : Option ℕ) (d : Bool) → option_map_or (λ n. is_none (stream_of st n)) o d ≡ false
+    → IfSome o (λ n. is_none (stream_of (heard_by r st) n) ≡ false)
 lives_of r st None d e = tt
 lives_of r st (Some n) d e = ap (λ (ts : List Stream). is_none (find (λ t. t.number == n) ts)) (heard_streams r st) ∙ e
 
@@ -137,11 +154,13 @@ may_heard c st r p m =
       lives = lives_of r st r.stream (is_describe r.method && length st.streams == 0) (sym (ap (λ (k : Method). looks_at_stream k && lacks) m) ∙ p.stream);
       moves = λ s e.
           let names = named_some (heard_by r st) r.session s e in
-          sym (ap (λ (k : Method). is_setup k && not (names_none r.session) && is_none r.stream) m ∙ ap (λ (n : Bool). not n && is_none r.stream) names) ∙ p.placed;
+          sym (ap (λ (k : Method). is_setup k && not (names_none r.session) && is_none r.stream) m ∙ ap (λ (n : Bool). not n && is_none r.stream) names)
+          ∙ p.placed;
       makes = λ e.
           let named = heard_named r st e in
           let names = names_of (names_none r.session) (needs_session r.method) (session_named st r.session) named p.session in
-          let asked = full_of c st r (stream_meant st r) (sym (ap (λ (k : Method). first_given (cond (changes k) (of_query c st r (stream_meant st r)) [])) m) ∙ p.asked) in
+          let asked = full_of c st r (stream_meant st r)
+          (sym (ap (λ (k : Method). first_given (cond (changes k) (of_query c st r (stream_meant st r)) [])) m) ∙ p.asked) in
           heard_full r st ∙ sym (ap (λ (k : Method). (is_setup k && names_none r.session) && is_full st) m ∙ ap (λ (n : Bool). n && is_full st) names) ∙ asked;
     }
 
@@ -151,7 +170,8 @@ may_set_up c st r a m = subst (λ (s : State). MaySetUp s r) (sym a.heard) (may_
 -- a GET that isn't refused
 pub get_room : (c : Config) (st : State) (r : HttpRequest) → decide_get c st r ≡ None → is_full st ≡ false
 get_room c st r e =
-    let message = given_none (option_map of_http_message r.refusal) (of_tuning (changed_tuning None r.query.change) ∷ of_change c st (new_outlook c st) None (Only []) true r.query) e in
+    let message = given_none (option_map of_http_message r.refusal)
+    (of_tuning (changed_tuning None r.query.change) ∷ of_change c st (new_outlook c st) None (Only []) true r.query) e in
     let tuning = given_none (of_tuning (changed_tuning None r.query.change)) (of_change c st (new_outlook c st) None (Only []) true r.query) message.1 in
     change_room c st (new_outlook c st) None (Only []) true r.query tuning.1
 
@@ -161,7 +181,8 @@ none_some : {X : Type 0} (o : Option X) → is_none o ≡ false → is_some o �
 none_some None e = absurd (false≢true (sym e))
 none_some (Some x) e = refl
 
-pub founded_lives : (http : Bool) (peer : Peer) (draw : Draw) (ports : Ports) (st : State) → is_some (stream_of (found http peer draw ports st) (least_free st.streams)) ≡ true
+pub founded_lives : (http : Bool) (peer : Peer) (draw : Draw) (ports : Ports) (st : State)
+    → is_some (stream_of (found http peer draw ports st) (least_free st.streams)) ≡ true
 founded_lives http peer draw ports st =
     let number : ℕ = least_free st.streams in
     let is : Stream → Bool = λ t. t.number == number in
@@ -170,14 +191,16 @@ founded_lives http peer draw ports st =
     ∙ list_any-append is (filter (λ t. nat_le t.number number) st.streams) (new ∷ filter (λ t. not (nat_le t.number number)) st.streams)
     ∙ or_right _ _ (or_left _ _ (eq-eqb number number refl))
 
-pub set_up_lives : (peer : Peer) (draw : Draw) (ports : Ports) (r : Request) (st : State) → MaySetUp st r → is_some (stream_of (set_up peer draw ports r st) (setup_number r st)) ≡ true
+pub set_up_lives : (peer : Peer) (draw : Draw) (ports : Ports) (r : Request) (st : State) → MaySetUp st r
+    → is_some (stream_of (set_up peer draw ports r st) (setup_number r st)) ≡ true
 set_up_lives peer draw ports r st may = by (session_named st r.session) r.stream refl refl
   where
     lives : (n : ℕ) → r.stream ≡ Some n → is_some (stream_of st n) ≡ true
     lives n e = none_some (stream_of st n) (subst (λ (o : Option ℕ). IfSome o (λ k. is_none (stream_of st k) ≡ false)) e may.lives)
 
     by : (o : Option Session) (q : Option ℕ) → session_named st r.session ≡ o → r.stream ≡ q
-        → is_some (stream_of (option_map_or (λ (s : Session). change_session s.id (λ x. record x { peer = peer; ports = ports }) st) o (option_map_or (λ number. join false peer draw ports number st) q (found false peer draw ports st))) (unwrap_or q (least_free st.streams))) ≡ true
+        → is_some (stream_of (option_map_or (λ (s : Session). change_session s.id (λ x. record x { peer = peer; ports = ports }) st) o
+        (option_map_or (λ number. join false peer draw ports number st) q (found false peer draw ports st))) (unwrap_or q (least_free st.streams))) ≡ true
     by (Some s) (Some n) e f = lives n f
     by (Some s) None e f = absurd (false≢true (sym (may.moves s e) ∙ ap is_none f))
     by None (Some n) e f = lives n f
@@ -194,45 +217,57 @@ number_is : (q : Option ℕ) (id : SessionId) (d : ℕ) → is_none q ≡ false 
 number_is None id d e = absurd (false≢true (sym e))
 number_is (Some n) id d e = refl
 
-moves_of : (st : State) (r : Request) (o : Option Session) (id : SessionId) → MaySetUp st r → session_named st r.session ≡ o → Some id ≡ option_map (λ (s : Session). s.id) o → is_none r.stream ≡ false
+moves_of : (st : State) (r : Request) (o : Option Session) (id : SessionId) → MaySetUp st r → session_named st r.session ≡ o
+    → Some id ≡ option_map (λ (s : Session). s.id) o → is_none r.stream ≡ false
 moves_of st r None id may is e = absurd (cc)
 moves_of st r (Some s) id may is e = may.moves s is
 
-moved_is : (o : Option Session) (id : SessionId) (f : Session → Session) (st d : State) → Some id ≡ option_map (λ (s : Session). s.id) o → change_session id f st ≡ option_map_or (λ (s : Session). change_session s.id f st) o d
+moved_is : (o : Option Session) (id : SessionId) (f : Session → Session) (st d : State) → Some id ≡ option_map (λ (s : Session). s.id) o
+    → change_session id f st ≡ option_map_or (λ (s : Session). change_session s.id f st) o d
 moved_is None id f st d e = absurd (cc)
 moved_is (Some s) id f st d e = ap (λ (i : SessionId). change_session i f st) (some_same id s.id e)
 
 -- a session moves
-pub placed_moved : (c : Config) (v : Kept) (peer : Peer) (draw : Draw) (ports : Ports) (r : Request) (st : State) (id : SessionId) (given : Option (SessionId × ℕ)) → MaySetUp st r
+pub placed_moved : (c : Config) (v : Kept) (peer : Peer) (draw : Draw) (ports : Ports) (r : Request) (st : State) (id : SessionId)
+    (given : Option (SessionId × ℕ)) → MaySetUp st r
     → Some id ≡ option_map (λ (s : Session). s.id) (session_named st r.session) → given ≡ option_map (pair id) r.stream
     → StandsFor c v (change_session id (λ x. record x { peer = peer; ports = ports }) st) → SetUpAs c v peer draw ports r st given
 placed_moved c v peer draw ports r st id given may named is stands =
     let placed = moves_of st r (session_named st r.session) id may refl named in
     record {
-      made = is ∙ number_is r.stream id (least_free st.streams) placed ∙ ap (λ (i : SessionId). Some (pair i (setup_number r st))) (id_is (session_named st r.session) id (next_id st draw) named);
+      made = is ∙ number_is r.stream id (least_free st.streams) placed
+          ∙ ap (λ (i : SessionId). Some (pair i (setup_number r st))) (id_is (session_named st r.session) id (next_id st draw) named);
       stands = subst (StandsFor c v) (moved_is (session_named st r.session) id (λ x. record x { peer = peer; ports = ports }) st _ named) stands;
     }
 
 -- a session is made
 pub placed_made : (c : Config) (v : Kept) (peer : Peer) (draw : Draw) (ports : Ports) (r : Request) (st : State) (given : Option (SessionId × ℕ))
-    → None ≡ option_map (λ (s : Session). s.id) (session_named st r.session) → given ≡ Some (pair (next_id st draw) (unwrap_or r.stream (least_free st.streams)))
-    → StandsFor c v (option_map_or (λ number. join false peer draw ports number st) r.stream (found false peer draw ports st)) → SetUpAs c v peer draw ports r st given
+    → None ≡ option_map (λ (s : Session). s.id) (session_named st r.session)
+    → given ≡ Some (pair (next_id st draw) (unwrap_or r.stream (least_free st.streams)))
+    → StandsFor c v (option_map_or (λ number. join false peer draw ports number st) r.stream (found false peer draw ports st))
+    → SetUpAs c v peer draw ports r st given
 placed_made c v peer draw ports r st given named is stands =
     let none = sym (map_nothing (λ (s : Session). s.id) (session_named st r.session) (sym named)) in
     let made : State = option_map_or (λ number. join false peer draw ports number st) r.stream (found false peer draw ports st) in
     record {
       made = is ∙ ap (λ (o : Option Session). Some (pair (option_map_or (λ (s : Session). s.id) o (next_id st draw)) (setup_number r st))) none;
-      stands = subst (StandsFor c v) (ap (λ (o : Option Session). option_map_or (λ (s : Session). change_session s.id (λ x. record x { peer = peer; ports = ports }) st) o made) none) stands;
+      stands = subst (StandsFor c v)
+          (ap (λ (o : Option Session). option_map_or (λ (s : Session). change_session s.id (λ x. record x { peer = peer; ports = ports }) st) o made) none)
+          stands;
     }
 
 -- the outcome, with what it is made of
-pub setup_as : (c : Config) (peer : Peer) (draw : Draw) (r : Request) (st : State) (ports : Ports) (id : SessionId) (number timeout : ℕ) → ports ≡ unwrap_or r.ports no_ports → id ≡ setup_session draw r st → number ≡ setup_number r st → timeout ≡ c.timeout
+pub setup_as : (c : Config) (peer : Peer) (draw : Draw) (r : Request) (st : State) (ports : Ports) (id : SessionId) (number timeout : ℕ)
+    → ports ≡ unwrap_or r.ports no_ports → id ≡ setup_session draw r st → number ≡ setup_number r st → timeout ≡ c.timeout
     → accepted (change_by c number r.query (set_up peer draw ports r st)) (setup_reply r.cseq id timeout ports number) ≡ setup c peer draw r st
 setup_as c peer draw r st ports id number timeout p i n t =
     ap (λ (x : Ports). accepted (change_by c number r.query (set_up peer draw x r st)) (setup_reply r.cseq id timeout x number)) p
-    ∙ ap (λ (x : SessionId). accepted (change_by c number r.query (set_up peer draw (unwrap_or r.ports no_ports) r st)) (setup_reply r.cseq x timeout (unwrap_or r.ports no_ports) number)) i
-    ∙ ap (λ (x : ℕ). accepted (change_by c x r.query (set_up peer draw (unwrap_or r.ports no_ports) r st)) (setup_reply r.cseq (setup_session draw r st) timeout (unwrap_or r.ports no_ports) x)) n
-    ∙ ap (λ (x : ℕ). accepted (change_by c (setup_number r st) r.query (set_up peer draw (unwrap_or r.ports no_ports) r st)) (setup_reply r.cseq (setup_session draw r st) x (unwrap_or r.ports no_ports) (setup_number r st))) t
+    ∙ ap (λ (x : SessionId). accepted (change_by c number r.query (set_up peer draw (unwrap_or r.ports no_ports) r st))
+    (setup_reply r.cseq x timeout (unwrap_or r.ports no_ports) number)) i
+    ∙ ap (λ (x : ℕ). accepted (change_by c x r.query (set_up peer draw (unwrap_or r.ports no_ports) r st))
+    (setup_reply r.cseq (setup_session draw r st) timeout (unwrap_or r.ports no_ports) x)) n
+    ∙ ap (λ (x : ℕ). accepted (change_by c (setup_number r st) r.query (set_up peer draw (unwrap_or r.ports no_ports) r st))
+    (setup_reply r.cseq (setup_session draw r st) x (unwrap_or r.ports no_ports) (setup_number r st))) t
 
 pub both_same : (a b : SessionId) (m n : ℕ) → Some (pair a m) ≡ Some (pair b n) → (a ≡ b) × (m ≡ n)
 both_same a b m n e =

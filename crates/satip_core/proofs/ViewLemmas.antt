@@ -27,7 +27,8 @@ wanted_one st named (Some t) = by (is_wanted named t.number)
     by false = refl
 
 -- one stream more
-pub more_views : (st : State) (named : Option ℕ) (n : ℕ) (ts : List Stream) → views_of st named (take n ts) ++ if_wanted named (option_map (view_of st) (slice_get ts n)) ≡ views_of st named (take (n + 1) ts)
+pub more_views : (st : State) (named : Option ℕ) (n : ℕ) (ts : List Stream)
+    → views_of st named (take n ts) ++ if_wanted named (option_map (view_of st) (slice_get ts n)) ≡ views_of st named (take (n + 1) ts)
 more_views st named n ts =
     let wanted : Stream → Bool = λ t. is_wanted named t.number in
     let next : n + 1 ≡ suc n = omega arith in

@@ -233,7 +233,8 @@ fn play(config: &Config, parts: &mut Parts, request: &Request, out: &mut Out) ->
     requires standing { Standing config.now parts.old }
     ensures did { (st : State) → StandsFor config.now parts.old st
         → Did config.now parts.new (AnswerReplied result) out.new
-        (option_map_or (play_of config.now request.now st) (session_named_by st request.now.session) (accepted_of (settle st) [])) }
+        (option_map_or (play_of config.now request.now st)
+        (session_named_by st request.now.session) (accepted_of (settle st) [])) }
 {
     parts.known();
     match session_named(parts, request.session) {

@@ -31,16 +31,19 @@ both_as P Q follows (x ∷ xs) [] both = absurd both
 both_as P Q follows (x ∷ xs) (y ∷ ys) both = (follows x y both.0, both_as P Q follows xs ys both.1)
 
 -- work on a seat leaves the job there
-pub same_seat : {X E A K M F : Type 0} (cell : X → Cell Setting) (pass : X → PassOf E A) (g : Shared F (MutBor (Seat X K M) × Unit {0}) (Unit {0} × (MutBor (Seat X K M) × Unit {0}))) (f : F)
+pub same_seat : {X E A K M F : Type 0} (cell : X → Cell Setting) (pass : X → PassOf E A)
+    (g : Shared F (MutBor (Seat X K M) × Unit {0}) (Unit {0} × (MutBor (Seat X K M) × Unit {0}))) (f : F)
     → IsWork cell pass g f → (x y : Seat X K M) → Worked g f x y → IsSameSeat cell pass x y
 same_seat cell pass g f is x y w = worked_as g f (λ a b. IsSameSeat cell pass a b) is.same x y w
 
 -- a caller that was new and did its job is alone still
-pub still_alone : {X E A K M : Type 0} (cell : X → Cell Setting) (pass : X → PassOf E A) (x y : Seat X K M) → IsSameSeat cell pass x y → IsAlone (pass x.caller) → IsAlone (pass y.caller)
+pub still_alone : {X E A K M : Type 0} (cell : X → Cell Setting) (pass : X → PassOf E A) (x y : Seat X K M) → IsSameSeat cell pass x y → IsAlone (pass x.caller)
+    → IsAlone (pass y.caller)
 still_alone cell pass x y same alone = record { kept = same.keeps.kept ∙ alone.kept; made = same.keeps.made ∙ alone.made }
 
 pub alone_after : {X E A K M : Type 0} (cell : X → Cell Setting) (pass : X → PassOf E A) (k : Cell Setting) (did : Seat X K M → Seat X K M → Type 0)
-    → ((x y : Seat X K M) → did x y → IsSameSeat cell pass x y) → (before after : List (Seat X K M)) → Both did before after → AreNew cell pass k before → AreAlone cell pass k after
+    → ((x y : Seat X K M) → did x y → IsSameSeat cell pass x y) → (before after : List (Seat X K M)) → Both did before after → AreNew cell pass k before
+    → AreAlone cell pass k after
 alone_after cell pass k did same [] [] both new = tt
 alone_after cell pass k did same [] (y ∷ ys) both new = absurd both
 alone_after cell pass k did same (x ∷ xs) [] both new = absurd both

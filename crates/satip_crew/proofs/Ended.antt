@@ -15,7 +15,8 @@ use Rattle.satip_crew.specs.Runs.{HasOne, MatchEnd}
 use Rattle.satip_crew.proofs.WholeRuns.{fills, from_stop, pumps_begin, ticker_begins, workers_begin}
 
 -- of two ends
-both_ends : (x y : ServeEnd) (all all' some some' full : Type 0) → MatchEnd x all some full → MatchEnd y all' some' full → MatchEnd (worse x y) (all × all') (some ⊎ some') full
+both_ends : (x y : ServeEnd) (all all' some some' full : Type 0) → MatchEnd x all some full → MatchEnd y all' some' full
+    → MatchEnd (worse x y) (all × all') (some ⊎ some') full
 both_ends Served Served all all' some some' full a b = (a, b)
 both_ends Served DoorsFault all all' some some' full a b = inr b
 both_ends Served HistoryFull all all' some some' full a b = b
@@ -41,9 +42,11 @@ stop_tells is_stop full Served p q stops fills = tt
 stop_tells is_stop full DoorsFault p q stops fills = absurd stops
 stop_tells is_stop full HistoryFull p q stops fills = fills stops.full
 
-workers_tell : {X E A K M V : Type 0} (pass : X → PassOf E A) (did : Seat X K M → Seat X K M → Type 0) (fresh : Seat X K M → Type 0) (full : Type 0) (seen : List (ItemOf E A))
+workers_tell : {X E A K M V : Type 0} (pass : X → PassOf E A) (did : Seat X K M → Seat X K M → Type 0) (fresh : Seat X K M → Type 0) (full : Type 0)
+    (seen : List (ItemOf E A))
     (view : Seat X K M → V) (all some : V → Type 0)
-    → ((x y : Seat X K M) → did x y → fresh x → (length (pass y.caller).seen ≡ 18446744073709551615 → full) → MatchEnd y.end (all (view y)) (some (view y)) full)
+    → ((x y : Seat X K M) → did x y → fresh x → (length (pass y.caller).seen ≡ 18446744073709551615 → full)
+    → MatchEnd y.end (all (view y)) (some (view y)) full)
     → ((p : PassOf E A) → Begins p.seen seen → length p.seen ≡ 18446744073709551615 → full) → (xs ys : List (Seat X K M)) → Both did xs ys
     → Each fresh xs → Each (λ s. Begins (pass s.caller).seen seen) ys
     → MatchEnd (worst (map (λ s. s.end) ys)) (Each all (map view ys)) (HasOne some (map view ys)) full
@@ -74,8 +77,10 @@ module _ {X E A G : Type 0} (cell : X → Cell Setting) (pass : X → PassOf E A
   pub end_over : {V : Type 0} (worker_of : Seat X W L → V) (all some : V → Type 0) (fresh : Seat X W L → Type 0)
       → ((x y : Seat X W L) → worked x y → fresh x → (length (pass y.caller).seen ≡ 18446744073709551615 → IsFull (pass n).seen)
       → MatchEnd y.end (all (worker_of y)) (some (worker_of y)) (IsFull (pass n).seen))
-      → ((x y : Seat X P M) → pumped x y → (length (pass y.caller).seen ≡ 18446744073709551615 → IsFull (pass n).seen) → MatchEnd y.end (Unit {0}) ⊥ (IsFull (pass n).seen))
-      → ((x y : Seat X T N) → ticked x y → (length (pass y.caller).seen ≡ 18446744073709551615 → IsFull (pass n).seen) → MatchEnd y.end (Unit {0}) ⊥ (IsFull (pass n).seen))
+      → ((x y : Seat X P M) → pumped x y → (length (pass y.caller).seen ≡ 18446744073709551615 → IsFull (pass n).seen)
+      → MatchEnd y.end (Unit {0}) ⊥ (IsFull (pass n).seen))
+      → ((x y : Seat X T N) → ticked x y → (length (pass y.caller).seen ≡ 18446744073709551615 → IsFull (pass n).seen)
+      → MatchEnd y.end (Unit {0}) ⊥ (IsFull (pass n).seen))
       → Knows (legal (cell o).setting) (pass n) → Each fresh run.first
       → MatchEnd end (Each all (map worker_of run.front.ended)) (HasOne some (map worker_of run.front.ended)) (IsFull (pass n).seen)
   end_over worker_of all some fresh worker_tells pump_tells ticker_tells knows workers_fresh =

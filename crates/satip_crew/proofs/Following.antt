@@ -25,13 +25,15 @@ module _ {X E A G : Type 0} (cell : X → Cell Setting) (pass : X → PassOf E A
     (pumped : Seat X P M → Seat X P M → Type 0) (ticked : Seat X T N → Seat X T N → Type 0) (o : X) (before : Posts W P T G) (n : X) (after : Posts W P T G)
     (end : ServeEnd) (run : RunDid cell pass gear legal is_stop goes_on worked pumped ticked o before n after end) where
   -- of the workers of a run, and of its pumps
-  pub workers_keep : {S : Type 0} (part : W → S) → ((x y : Seat X W L) → worked x y → part y.kit ≡ part x.kit) → map part after.workers.items ≡ map part before.workers.items
+  pub workers_keep : {S : Type 0} (part : W → S) → ((x y : Seat X W L) → worked x y → part y.kit ≡ part x.kit)
+      → map part after.workers.items ≡ map part before.workers.items
   workers_keep part keeps =
       ap (λ (ws : List W). map part ws) run.front.kits_are
       ∙ kept_by_all worked part keeps run.first run.front.ended run.front.done
       ∙ ap (λ (ws : List W). map part ws) run.first_begun.kits_are
 
-  pub pumps_keep : {S : Type 0} (part : P → S) → ((x y : Seat X P M) → pumped x y → part y.kit ≡ part x.kit) → map part after.pumps.items ≡ map part before.pumps.items
+  pub pumps_keep : {S : Type 0} (part : P → S) → ((x y : Seat X P M) → pumped x y → part y.kit ≡ part x.kit)
+      → map part after.pumps.items ≡ map part before.pumps.items
   pumps_keep part keeps =
       ap (λ (ps : List P). map part ps) run.pumps_are
       ∙ kept_by_all pumped part keeps run.second run.second_ended run.second_done
@@ -43,7 +45,8 @@ module _ {X E A G : Type 0} (cell : X → Cell Setting) (pass : X → PassOf E A
       → RunDid cell pass gear legal is_stop goes_on worked' pumped' ticked' o before n after end
   run_as worked' pumped' ticked' works pumps ticks =
       let front = run.front in
-      let front' : FrontDid cell pass gear legal is_stop goes_on worked' run.begun run.first run.stopped after.workers.items after.worker_gears.items run.worst_front = record {
+      let front' : FrontDid cell pass gear legal is_stop goes_on worked' run.begun run.first run.stopped after.workers.items after.worker_gears.items
+      run.worst_front = record {
         ended = front.ended;
         done = both_as worked worked' works run.first front.ended front.done;
         joined = front.joined;

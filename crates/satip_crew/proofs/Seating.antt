@@ -22,7 +22,8 @@ new_born {E} {A} p q young = record {
 }
 
 -- these kits have callers, and the others are left
-pub record Seated {X E A G K M : Type 0} (cell : X → Cell Setting) (pass : X → PassOf E A) (gear : X → G) (before now : X) (kits left : List K) (gears unused : List G)
+pub record Seated {X E A G K M : Type 0} (cell : X → Cell Setting) (pass : X → PassOf E A) (gear : X → G) (before now : X) (kits left : List K)
+    (gears unused : List G)
     (seats : List (Seat X K M)) : Type 0 where
   pub cell_is : cell now ≡ cell before
   pub gear_is : gear now ≡ gear before
@@ -55,7 +56,8 @@ numbered_more n m [] numbered is = (omega (arith, is), tt)
 numbered_more n m (k ∷ ks) numbered is = (numbered.0, numbered_more (n + 1) m ks numbered.1 (omega (arith, is)))
 
 -- a part of each seat, with that of the next behind
-part_more : {S T : Type 0} (part : S → T) (all left after : List T) (seats : List S) (seat : S) (it : T) → all ≡ map part seats ++ left → left ≡ it ∷ after → part seat ≡ it
+part_more : {S T : Type 0} (part : S → T) (all left after : List T) (seats : List S) (seat : S) (it : T) → all ≡ map part seats ++ left → left ≡ it ∷ after
+    → part seat ≡ it
     → all ≡ map part (seats ++ seat ∷ []) ++ after
 part_more {S} {T} part all left after seats seat it before first is =
     before
@@ -64,12 +66,14 @@ part_more {S} {T} part all left after seats seat it before first is =
     ∙ ap (λ (ts : List T). ts ++ after) (sym (map-append part seats (seat ∷ [])))
 
 -- the next kit has a caller too
-pub seated_more : {X E A G K M : Type 0} (cell : X → Cell Setting) (pass : X → PassOf E A) (gear : X → G) (p q r : X) (kits left after : List K) (gears unused behind : List G)
+pub seated_more : {X E A G K M : Type 0} (cell : X → Cell Setting) (pass : X → PassOf E A) (gear : X → G) (p q r : X) (kits left after : List K)
+    (gears unused behind : List G)
     (kit : K) (tool : G) (seats : List (Seat X K M)) (seat : Seat X K M)
     → Seated cell pass gear p q kits left gears unused seats → left ≡ kit ∷ after → unused ≡ tool ∷ behind → cell r ≡ cell q → gear r ≡ gear q
     → cell seat.caller ≡ cell q → pass seat.caller ≡ newborn (pass q) (pass seat.caller).number → pass r ≡ with_made (pass q) (pass seat.caller).number
     → seat.kit ≡ kit → gear seat.caller ≡ tool → seat.number ≡ length seats + 1 → Seated cell pass gear p r kits after gears behind (seats ++ seat ∷ [])
-seated_more {X} {E} {A} {G} {K} {M} cell pass gear p q r kits left after gears unused behind kit tool seats seat seated first next same_cell same_gear at young old with_kit with_gear number =
+seated_more {X} {E} {A} {G} {K} {M} cell pass gear p q r kits left after gears unused behind kit tool seats seat seated first next same_cell same_gear at young
+    old with_kit with_gear number =
     let numbers : length (map (λ (s : Seat X K M). s.number) seats) ≡ length seats = length-map seats (λ (s : Seat X K M). s.number) in
     let one_more : seat.number ≡ 1 + length (map (λ (s : Seat X K M). s.number) seats) = omega (arith, number, numbers) in
     record {
@@ -91,7 +95,8 @@ seated_more {X} {E} {A} {G} {K} {M} cell pass gear p q r kits left after gears u
     }
 
 -- the passes of these jobs were joined, and those of the others are left
-pub record Joined {X E A G K M : Type 0} (cell : X → Cell Setting) (pass : X → PassOf E A) (gear : X → G) (before now : X) (all done left : List (Seat X K M)) (kits : List K)
+pub record Joined {X E A G K M : Type 0} (cell : X → Cell Setting) (pass : X → PassOf E A) (gear : X → G) (before now : X) (all done left : List (Seat X K M))
+    (kits : List K)
     (gears : List G) (end : ServeEnd) : Type 0 where
   pub cell_is : cell now ≡ cell before
   pub gear_is : gear now ≡ gear before
@@ -136,14 +141,16 @@ worst_more [] end = worse_served end
 worst_more (e ∷ ends) end = ap (λ (w : ServeEnd). worse e w) (worst_more ends end) ∙ worse_then e (worst ends) end
 
 callers_more : {X E A K M : Type 0} (pass : X → PassOf E A) (seats : List (Seat X K M)) (seat : Seat X K M)
-    → callers_of (map (λ s. pass s.caller) (seats ++ seat ∷ [])) ≡ callers_of (map (λ s. pass s.caller) seats) ++ row (pass seat.caller).number (pass seat.caller).own ∷ []
+    → callers_of (map (λ s. pass s.caller) (seats ++ seat ∷ []))
+    ≡ callers_of (map (λ s. pass s.caller) seats) ++ row (pass seat.caller).number (pass seat.caller).own ∷ []
 callers_more {X} {E} {A} {K} {M} pass seats seat =
     ap callers_of (map-append (λ (s : Seat X K M). pass s.caller) seats (seat ∷ []))
     ∙ map-append (λ (s : PassOf E A). row s.number s.own) (map (λ (s : Seat X K M). pass s.caller) seats) (pass seat.caller ∷ [])
 
 -- one pass more into which none was joined and from which none was split off
 pub joins_more : {X E A K M : Type 0} (pass : X → PassOf E A) (p q r : PassOf E A) (seats : List (Seat X K M)) (seat : Seat X K M) → Joins pass p q seats
-    → r ≡ joined q (pass seat.caller) → IsAlone (pass seat.caller) → Begins q.seen r.seen → Begins (pass seat.caller).seen r.seen → Joins pass p r (seats ++ seat ∷ [])
+    → r ≡ joined q (pass seat.caller) → IsAlone (pass seat.caller) → Begins q.seen r.seen → Begins (pass seat.caller).seen r.seen
+    → Joins pass p r (seats ++ seat ∷ [])
 joins_more {X} {E} {A} {K} {M} pass p q r seats seat joins is alone mine theirs =
     let s = pass seat.caller in
     record {
@@ -163,18 +170,23 @@ joins_more {X} {E} {A} {K} {M} pass p q r seats seat joins is alone mine theirs 
     }
 
 -- the next is joined too
-pub joined_more : {X E A G K M : Type 0} (cell : X → Cell Setting) (pass : X → PassOf E A) (gear : X → G) (p q r : X) (all done left after : List (Seat X K M)) (seat : Seat X K M)
+pub joined_more : {X E A G K M : Type 0} (cell : X → Cell Setting) (pass : X → PassOf E A) (gear : X → G) (p q r : X) (all done left after : List (Seat X K M))
+    (seat : Seat X K M)
     (kits more : List K) (gears tools : List G) (end end' : ServeEnd)
-    → Joined cell pass gear p q all done left kits gears end → left ≡ seat ∷ after → cell r ≡ cell q → gear r ≡ gear q → Joins pass (pass p) (pass r) (done ++ seat ∷ [])
-    → more ≡ kits ++ seat.kit ∷ [] → tools ≡ gears ++ gear seat.caller ∷ [] → end' ≡ worse end seat.end → Joined cell pass gear p r all (done ++ seat ∷ []) after more tools end'
-joined_more {X} {E} {A} {G} {K} {M} cell pass gear p q r all done left after seat kits more gears tools end end' before first same_cell same_gear joins kits_are gears_are end_is = record {
-  cell_is = same_cell ∙ before.cell_is;
-  gear_is = same_gear ∙ before.gear_is;
-  all_are = before.all_are ∙ ap (λ (ss : List (Seat X K M)). done ++ ss) first ∙ sym (append_assoc done (seat ∷ []) after);
-  joins = joins;
-  kits_are = kits_are ∙ ap (λ (ks : List K). ks ++ seat.kit ∷ []) before.kits_are ∙ sym (map-append (λ (s : Seat X K M). s.kit) done (seat ∷ []));
-  gears_are = gears_are ∙ ap (λ (gs : List G). gs ++ gear seat.caller ∷ []) before.gears_are ∙ sym (map-append (λ (s : Seat X K M). gear s.caller) done (seat ∷ []));
-  end_is = end_is ∙ ap (λ (e : ServeEnd). worse e seat.end) before.end_is
-      ∙ sym (worst_more (map (λ (s : Seat X K M). s.end) done) seat.end)
-      ∙ ap worst (sym (map-append (λ (s : Seat X K M). s.end) done (seat ∷ [])));
-}
+    → Joined cell pass gear p q all done left kits gears end → left ≡ seat ∷ after → cell r ≡ cell q → gear r ≡ gear q
+    → Joins pass (pass p) (pass r) (done ++ seat ∷ [])
+    → more ≡ kits ++ seat.kit ∷ [] → tools ≡ gears ++ gear seat.caller ∷ [] → end' ≡ worse end seat.end
+    → Joined cell pass gear p r all (done ++ seat ∷ []) after more tools end'
+joined_more {X} {E} {A} {G} {K} {M} cell pass gear p q r all done left after seat kits more gears tools end end' before first same_cell same_gear joins kits_are
+    gears_are end_is = record {
+      cell_is = same_cell ∙ before.cell_is;
+      gear_is = same_gear ∙ before.gear_is;
+      all_are = before.all_are ∙ ap (λ (ss : List (Seat X K M)). done ++ ss) first ∙ sym (append_assoc done (seat ∷ []) after);
+      joins = joins;
+      kits_are = kits_are ∙ ap (λ (ks : List K). ks ++ seat.kit ∷ []) before.kits_are ∙ sym (map-append (λ (s : Seat X K M). s.kit) done (seat ∷ []));
+      gears_are = gears_are ∙ ap (λ (gs : List G). gs ++ gear seat.caller ∷ []) before.gears_are
+          ∙ sym (map-append (λ (s : Seat X K M). gear s.caller) done (seat ∷ []));
+      end_is = end_is ∙ ap (λ (e : ServeEnd). worse e seat.end) before.end_is
+          ∙ sym (worst_more (map (λ (s : Seat X K M). s.end) done) seat.end)
+          ∙ ap worst (sym (map-append (λ (s : Seat X K M). s.end) done (seat ∷ [])));
+    }

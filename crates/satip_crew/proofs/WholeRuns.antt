@@ -26,9 +26,11 @@ abbrev caller_at : {X E A K M : Type 0} → (X → PassOf E A) → Seat X K M �
 caller_at pass s = row (pass s.caller).number (pass s.caller).own
 
 -- what each job did to its fresh kit is what it has done
-along_done : {X E A K M V : Type 0} (cell : X → Cell Setting) (pass : X → PassOf E A) (did : Seat X K M → Seat X K M → Type 0) (fresh : Seat X K M → Type 0) (full : Type 0)
+along_done : {X E A K M V : Type 0} (cell : X → Cell Setting) (pass : X → PassOf E A) (did : Seat X K M → Seat X K M → Type 0) (fresh : Seat X K M → Type 0)
+    (full : Type 0)
     (seen : List (ItemOf E A)) (done : ℕ → V → CallerOf E A → Type 0) (view : Seat X K M → V)
-    → ((x y : Seat X K M) → did x y → fresh x → (pass x.caller).own ≡ [] → (length (pass y.caller).seen ≡ 18446744073709551615 → full) → done x.number (view y) (caller_at pass y))
+    → ((x y : Seat X K M) → did x y → fresh x → (pass x.caller).own ≡ [] → (length (pass y.caller).seen ≡ 18446744073709551615 → full)
+    → done x.number (view y) (caller_at pass y))
     → ((p : PassOf E A) → Begins p.seen seen → length p.seen ≡ 18446744073709551615 → full)
     → (from : ℕ) (k : Cell Setting) (xs ys : List (Seat X K M)) → Both did xs ys → AreNumbered from (map (λ s. s.number) xs) → AreNew cell pass k xs
     → Each fresh xs → Each (λ s. Begins (pass s.caller).seen seen) ys
@@ -69,7 +71,8 @@ last_nothing : {T : Type 0} (xs ys : List T) → [] ≡ xs ++ ys → ys ≡ []
 last_nothing xs ys is = no_items ys (omega (arith, ap length is, length-append xs ys))
 
 -- a caller that had made all its entries before made none behind
-none_behind : {E A : Type 0} (n : ℕ) (before between after : List (ItemOf E A)) (stop : ItemOf E A) → own_of n (before ++ (between ++ stop ∷ after)) ≡ own_of n before → own_of n after ≡ []
+none_behind : {E A : Type 0} (n : ℕ) (before between after : List (ItemOf E A)) (stop : ItemOf E A)
+    → own_of n (before ++ (between ++ stop ∷ after)) ≡ own_of n before → own_of n after ≡ []
 none_behind n before between after stop all =
     let rest : own_of n (between ++ stop ∷ after) ≡ [] =
     adds_nothing (own_of n before) (own_of n (between ++ stop ∷ after)) (sym all ∙ own_of-append n before (between ++ stop ∷ after)) in
@@ -78,7 +81,8 @@ none_behind n before between after stop all =
     last_nothing (own_of n (stop ∷ [])) (own_of n after) (sym behind ∙ own_of-append n (stop ∷ []) after)
 
 -- of callers whose entries are the same in both
-each_behind : {E A : Type 0} (before between after h : List (ItemOf E A)) (stop : ItemOf E A) (callers : List (CallerOf E A)) → h ≡ before ++ (between ++ stop ∷ after)
+each_behind : {E A : Type 0} (before between after h : List (ItemOf E A)) (stop : ItemOf E A) (callers : List (CallerOf E A))
+    → h ≡ before ++ (between ++ stop ∷ after)
     → Each (λ r. own_of r.number before ≡ r.own) callers → Each (λ r. own_of r.number h ≡ r.own) callers → Each (λ r. own_of r.number after ≡ []) callers
 each_behind before between after h stop [] are first last = tt
 each_behind before between after h stop (r ∷ rs) are first last = (
@@ -87,7 +91,8 @@ each_behind before between after h stop (r ∷ rs) are first last = (
 )
 
 pub stop_begins : {E A : Type 0} (is_stop : ItemOf E A → Type 0) (end : ServeEnd) (p q : PassOf E A) → Stops is_stop end p q → Begins p.seen q.seen
-stop_begins is_stop Served p q stops = record { rest = stops.between ++ stops.stop ∷ []; whole = stops.seen ∙ append_assoc p.seen stops.between (stops.stop ∷ []) }
+stop_begins is_stop Served p q stops =
+    record { rest = stops.between ++ stops.stop ∷ []; whole = stops.seen ∙ append_assoc p.seen stops.between (stops.stop ∷ []) }
 stop_begins is_stop DoorsFault p q stops = absurd stops
 stop_begins is_stop HistoryFull p q stops = stops.begins
 
@@ -134,18 +139,23 @@ module _ {X E A G : Type 0} (cell : X → Cell Setting) (pass : X → PassOf E A
 
   -- so is what each job saw
   pub workers_begin : Each (λ s. Begins (pass s.caller).seen (pass n).seen) run.front.ended
-  workers_begin = each_follows (λ (s : Seat X W L). Begins (pass s.caller).seen (pass run.front.joined).seen) (λ (s : Seat X W L). Begins (pass s.caller).seen (pass n).seen)
-      (λ (s : Seat X W L) begins. begins_trans (pass s.caller).seen (pass run.front.joined).seen (pass n).seen begins from_joined) run.front.ended run.front.joins.theirs
+  workers_begin = each_follows (λ (s : Seat X W L). Begins (pass s.caller).seen (pass run.front.joined).seen)
+      (λ (s : Seat X W L). Begins (pass s.caller).seen (pass n).seen)
+      (λ (s : Seat X W L) begins. begins_trans (pass s.caller).seen (pass run.front.joined).seen (pass n).seen begins from_joined) run.front.ended
+      run.front.joins.theirs
 
   pub pumps_begin : Each (λ s. Begins (pass s.caller).seen (pass n).seen) run.second_ended
-  pumps_begin = each_follows (λ (s : Seat X P M). Begins (pass s.caller).seen (pass run.joined).seen) (λ (s : Seat X P M). Begins (pass s.caller).seen (pass n).seen)
-      (λ (s : Seat X P M) begins. begins_trans (pass s.caller).seen (pass run.joined).seen (pass n).seen begins run.third_joins.mine) run.second_ended run.second_joins.theirs
+  pumps_begin = each_follows (λ (s : Seat X P M). Begins (pass s.caller).seen (pass run.joined).seen)
+      (λ (s : Seat X P M). Begins (pass s.caller).seen (pass n).seen)
+      (λ (s : Seat X P M) begins. begins_trans (pass s.caller).seen (pass run.joined).seen (pass n).seen begins run.third_joins.mine) run.second_ended
+      run.second_joins.theirs
 
   pub ticker_begins : Begins (pass run.third_ended.caller).seen (pass n).seen
   ticker_begins = run.third_joins.theirs.0
 
   -- where a job saw a full history, it is full at the end
-  pub fills : Knows (legal (cell o).setting) (pass n) → (s : PassOf E A) → Begins s.seen (pass n).seen → length s.seen ≡ 18446744073709551615 → IsFull (pass n).seen
+  pub fills : Knows (legal (cell o).setting) (pass n) → (s : PassOf E A) → Begins s.seen (pass n).seen → length s.seen ≡ 18446744073709551615
+      → IsFull (pass n).seen
   fills knows s begins is = omega (arith, begins_length s.seen (pass n).seen begins, is, knows.short)
 
   -- the callers of jobs, in their order
@@ -192,14 +202,18 @@ module _ {X E A G : Type 0} (cell : X → Cell Setting) (pass : X → PassOf E A
 
   -- all jobs that caller 0 split off, ran and joined again made a run. What each kind of job has done follows from what it
   -- did to its fresh kit, where it had no entry before
-  pub run_over : {W' P' T' : Type 0} (worker_of : Seat X W L → W') (pump_of : Seat X P M → P') (ticker_of : Seat X T N → T') (fresh_worker : Seat X W L → Type 0)
-      (fresh_pump : Seat X P M → Type 0) (fresh_ticker : Seat X T N → Type 0) (WorkerOk : ℕ → W' → CallerOf E A → Type 0) (PumpOk : ℕ → P' → CallerOf E A → Type 0)
+  pub run_over : {W' P' T' : Type 0} (worker_of : Seat X W L → W') (pump_of : Seat X P M → P') (ticker_of : Seat X T N → T')
+      (fresh_worker : Seat X W L → Type 0)
+      (fresh_pump : Seat X P M → Type 0) (fresh_ticker : Seat X T N → Type 0) (WorkerOk : ℕ → W' → CallerOf E A → Type 0)
+      (PumpOk : ℕ → P' → CallerOf E A → Type 0)
       (TickerOk : T' → CallerOf E A → Type 0)
-      → ((x y : Seat X W L) → worked x y → fresh_worker x → (pass x.caller).own ≡ [] → (length (pass y.caller).seen ≡ 18446744073709551615 → IsFull (pass n).seen)
+      → ((x y : Seat X W L) → worked x y → fresh_worker x → (pass x.caller).own ≡ []
+      → (length (pass y.caller).seen ≡ 18446744073709551615 → IsFull (pass n).seen)
       → WorkerOk x.number (worker_of y) (row (pass y.caller).number (pass y.caller).own))
       → ((x y : Seat X P M) → pumped x y → fresh_pump x → (pass x.caller).own ≡ [] → (length (pass y.caller).seen ≡ 18446744073709551615 → IsFull (pass n).seen)
       → PumpOk x.number (pump_of y) (row (pass y.caller).number (pass y.caller).own))
-      → ((x y : Seat X T N) → ticked x y → fresh_ticker x → (pass x.caller).own ≡ [] → (length (pass y.caller).seen ≡ 18446744073709551615 → IsFull (pass n).seen)
+      → ((x y : Seat X T N) → ticked x y → fresh_ticker x → (pass x.caller).own ≡ []
+      → (length (pass y.caller).seen ≡ 18446744073709551615 → IsFull (pass n).seen)
       → TickerOk (ticker_of y) (row (pass y.caller).number (pass y.caller).own))
       → ((x y : Seat X W L) → worked x y → IsSameSeat cell pass x y) → ((x y : Seat X P M) → pumped x y → IsSameSeat cell pass x y)
       → ((x y : Seat X T N) → ticked x y → IsSameSeat cell pass x y)
@@ -208,14 +222,16 @@ module _ {X E A G : Type 0} (cell : X → Cell Setting) (pass : X → PassOf E A
       → length before.workers.items ≡ (cell o).setting.config.workers → length before.pumps.items ≡ length (cell o).setting.config.fronts
       → Run (cell o).setting legal is_stop WorkerOk PumpOk TickerOk (pass n).seen (pass n).kept (map worker_of run.front.ended) (map pump_of run.second_ended)
       (ticker_of run.third_ended)
-  run_over worker_of pump_of ticker_of fresh_worker fresh_pump fresh_ticker WorkerOk PumpOk TickerOk worker_done pump_done ticker_done same_worker same_pump same_ticker
+  run_over worker_of pump_of ticker_of fresh_worker fresh_pump fresh_ticker WorkerOk PumpOk TickerOk worker_done pump_done ticker_done same_worker
+      same_pump same_ticker
       number own kept made knows workers_fresh pumps_fresh ticker_fresh worker_count pump_count =
       let full : Type 0 = IsFull (pass n).seen in
       let is_zero : (pass n).number ≡ 0 = number_is ∙ number in
       let own_is : own_of 0 (pass n).seen ≡ (pass run.stopped).own =
       subst (λ (i : ℕ). own_of i (pass n).seen ≡ (pass n).own) is_zero knows.own_is ∙ run.third_joins.own ∙ run.second_joins.own in
       let first_own : Each (λ (r : CallerOf E A). own_of r.number (pass run.front.joined).seen ≡ r.own) of_workers =
-      subst (λ (rs : List (CallerOf E A)). Each (λ (r : CallerOf E A). own_of r.number (pass run.front.joined).seen ≡ r.own) rs) (first_kept kept) run.front.knew.kept_are in
+      subst (λ (rs : List (CallerOf E A)). Each (λ (r : CallerOf E A). own_of r.number (pass run.front.joined).seen ≡ r.own) rs) (first_kept kept)
+      run.front.knew.kept_are in
       let entries : Each (λ (r : CallerOf E A). own_of r.number (pass n).seen ≡ r.own) ((of_workers ++ of_pumps) ++ of_ticker ∷ []) =
       subst (λ (rs : List (CallerOf E A)). Each (λ (r : CallerOf E A). own_of r.number (pass n).seen ≡ r.own) rs) (all_kept kept) knows.kept_are in
       let last_own : Each (λ (r : CallerOf E A). own_of r.number (pass n).seen ≡ r.own) of_workers =
@@ -230,13 +246,17 @@ module _ {X E A G : Type 0} (cell : X → Cell Setting) (pass : X → PassOf E A
         pump_count = ended_count pumped pump_of before.pumps.items run.second run.second_ended run.second_done run.second_begun.kits_are ∙ pump_count;
         entries = knows.kept_are;
         lawful = knows.lawful;
-        worked = along_done cell pass worked fresh_worker full (pass n).seen WorkerOk worker_of worker_done (fills knows) 1 (cell o) run.first run.front.ended run.front.done
+        worked = along_done cell pass worked fresh_worker full (pass n).seen WorkerOk worker_of worker_done (fills knows) 1 (cell o) run.first run.front.ended
+            run.front.done
             run.first_begun.numbered run.first_begun.new workers_fresh workers_begin;
-        pumped = along_done cell pass pumped fresh_pump full (pass n).seen PumpOk pump_of pump_done (fills knows) 1 (cell o) run.second run.second_ended run.second_done
+        pumped = along_done cell pass pumped fresh_pump full (pass n).seen PumpOk pump_of pump_done (fills knows) 1 (cell o) run.second run.second_ended
+            run.second_done
             run.second_begun.numbered run.second_begun.new pumps_fresh pumps_begin;
-        ticked = ticker_done run.third run.third_ended run.third_done ticker_fresh run.third_begun.new.0.1.own (fills knows (pass run.third_ended.caller) ticker_begins);
+        ticked = ticker_done run.third run.third_ended run.third_done ticker_fresh run.third_begun.new.0.1.own
+            (fills knows (pass run.third_ended.caller) ticker_begins);
         stopped = stop_stands is_stop run.front.stop (pass run.front.joined) (pass run.stopped) (pass n).seen of_workers run.front.stops from_stop
             (run.front.joins.own ∙ run.own ∙ own) own_is (fills knows (pass run.stopped) from_stop) first_own last_own;
-        covered = knows.covered is_zero (subst (λ (ns : List ℕ). Each (λ (i : ℕ). Has i (numbers_of (pass n).kept)) ns) (sym (made_is same_worker same_pump same_ticker kept made))
+        covered = knows.covered is_zero
+            (subst (λ (ns : List ℕ). Each (λ (i : ℕ). Has i (numbers_of (pass n).kept)) ns) (sym (made_is same_worker same_pump same_ticker kept made))
             (each_own (numbers_of (pass n).kept)));
       }

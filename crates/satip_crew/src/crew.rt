@@ -11,8 +11,8 @@ ghost use Rattle.satip_crew.specs.Passes.{Stops};
 use crate::end::ServeEnd;
 use satip_base::Out;
 
-/// A caller of a value that many share, by a pass of its turn cell. Other callers are split off from
-/// it and joined into it again.
+/// A caller of a value that many share, by a pass of its turn cell. Other callers are split off
+/// from it and joined into it again.
 pub trait Crew {
     /// The events of the value's history.
     type Asks;

@@ -1,5 +1,5 @@
-//! Jobs beside each other, each of which is a caller of its own of one value that all share: callers
-//! are split off from one, do their jobs, and are joined into it again.
+//! Jobs beside each other, each of which is a caller of its own of one value that all share:
+//! callers are split off from one, do their jobs, and are joined into it again.
 #![tactic(auto)]
 
 mod callers;

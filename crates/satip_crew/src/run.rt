@@ -169,10 +169,10 @@ fn run_both<
     );
 }
 
-/// Runs workers, pumps and a ticker beside each other, each by one closure for its kind. A caller is
-/// split off from `root` for each job, in order, with the job's gear. When all workers have ended
-/// their callers are joined, and `root` makes the one stop, while pumps and ticker still run; when
-/// these have ended they are joined too, in order. Kits and gears come back in their order.
+/// Runs workers, pumps and a ticker beside each other, each by one closure for its kind. A caller
+/// is split off from `root` for each job, in order, with the job's gear. When all workers have
+/// ended their callers are joined, and `root` makes the one stop, while pumps and ticker still run;
+/// when these have ended they are joined too, in order. Kits and gears come back in their order.
 pub fn run_jobs<
     R: Threads + Sync,
     X: Crew + Send + Drop,

@@ -164,13 +164,15 @@ no_odd_read s odd = rw (decode_of-odd s (omega arith)) refl
 pub ruleset digit_tests = (digits_read, no_digits_read, no_odd_read)
 
 -- a beginning and an end of digits that read
-pub front_reads : (digits piece : List ℕ) (count : ℕ) → IsOk (decode_of digits) → 2 * count ≤ length digits → piece ≡ take (2 * count) digits → IsOk (decode_of piece)
+pub front_reads : (digits piece : List ℕ) (count : ℕ) → IsOk (decode_of digits) → 2 * count ≤ length digits → piece ≡ take (2 * count) digits
+    → IsOk (decode_of piece)
 front_reads digits piece count ok within e =
     let r = read_bytes (decode_of digits) ok in
     let len = length-digits digits r.0 r.1 in
     subst (λ s. IsOk (decode_of s)) (sym e) (is_read _ _ (taken count digits r.0 r.1 (omega (arith, len, within))))
 
-pub back_reads : (digits piece : List ℕ) (count : ℕ) → IsOk (decode_of digits) → 2 * count ≤ length digits → piece ≡ drop (2 * count) digits → IsOk (decode_of piece)
+pub back_reads : (digits piece : List ℕ) (count : ℕ) → IsOk (decode_of digits) → 2 * count ≤ length digits → piece ≡ drop (2 * count) digits
+    → IsOk (decode_of piece)
 back_reads digits piece count ok within e =
     let r = read_bytes (decode_of digits) ok in
     let len = length-digits digits r.0 r.1 in

@@ -1,5 +1,5 @@
-//! The adapters to the system and the kits of all jobs, over loopback, files and the system's clocks.
-//! It has nothing but tests.
+//! The adapters to the system and the kits of all jobs, over loopback, files and the system's
+//! clocks. It has nothing but tests.
 #![tactic(auto)]
 
 #[cfg(test)]

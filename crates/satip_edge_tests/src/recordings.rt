@@ -314,8 +314,8 @@ fn start(rt: HostRuntime) -> Result<Start, Fail> {
     Ok(Start::counting(&starts)?)
 }
 
-// The milliseconds that ten bursts of a recording take, with a reference each `step` ticks, and those
-// of a pause behind them, in which nothing is read.
+// The milliseconds that ten bursts of a recording take, with a reference each `step` ticks, and
+// those of a pause behind them, in which nothing is read.
 fn time_recording(rt: HostRuntime, word: &str, step: u64) -> Result<(u64, u64), Fail> {
     let file = scratch_file(rt, word, &clocked(rt, 640, step)?)?;
     let progress = Arc::new(rt.alloc(), Progress::new())?;

@@ -59,7 +59,8 @@ pub record IsGivenTo (front : ℕ) (packet : List ℕ) (clock : ℕ) (subscriber
   pub overrun : (slot : ℕ) → bit_at marked slot ≡ cond (list_any (meets_full front packet slot) (take at subscribers)) 1 0
 
 -- those who select nothing are passed over
-pub passed : (front : ℕ) (packet : List ℕ) (clock : ℕ) (xs : List Subscription) (before : Output) (from to : ℕ) (now : List Subscription) (out : Output) (overrun : ℕ)
+pub passed : (front : ℕ) (packet : List ℕ) (clock : ℕ) (xs : List Subscription) (before : Output) (from to : ℕ) (now : List Subscription)
+    (out : Output) (overrun : ℕ)
     → from ≤ to → ((i : ℕ) → from ≤ i → i < to → (d : Subscription) → i < length xs → selects front packet (get_or xs i d) ≡ false)
     → IsGivenTo front packet clock xs before from now out overrun → IsGivenTo front packet clock xs before to now out overrun
 passed front packet clock xs before from to now out overrun h none given_to = record {
@@ -67,14 +68,16 @@ passed front packet clock xs before from to now out overrun h none given_to = re
       let s = get_or xs i d in
       ap (λ t. cond t (record s { feed = fed packet s.feed }) s) (none i le lt d inside))));
   sent = subst (λ ds. SendsAll before ds out)
-      (sym (steady_to (λ n. flat_map (given_datagrams front packet clock) (take n xs)) from to h (λ i le lt. gives_same (given_datagrams front packet clock) i xs (λ d inside.
+      (sym (steady_to (λ n. flat_map (given_datagrams front packet clock) (take n xs)) from to h
+      (λ i le lt. gives_same (given_datagrams front packet clock) i xs (λ d inside.
       let s = get_or xs i d in
       ap (λ t. cond t (fed_datagrams packet clock s.feed) []) (none i le lt d inside)))))
       given_to.sent;
   bytes = omega (arith, h, given_to.bytes);
   count = omega (arith, h, given_to.count);
   overrun = λ slot. given_to.overrun slot
-      ∙ ap (λ t. cond t 1 0) (sym (steady_to (λ n. list_any (meets_full front packet slot) (take n xs)) from to h (λ i le lt. fails_same (meets_full front packet slot) i xs (λ d inside.
+      ∙ ap (λ t. cond t 1 0) (sym (steady_to (λ n. list_any (meets_full front packet slot) (take n xs)) from to h
+      (λ i le lt. fails_same (meets_full front packet slot) i xs (λ d inside.
       let s = get_or xs i d in
       ap (λ t. (t && is_full s.feed) && has_slot slot s) (none i le lt d inside)))));
 }
@@ -95,7 +98,8 @@ given_none front packet clock xs before = record {
 }
 
 -- the next one is given it
-pub given_more : (front : ℕ) (packet : List ℕ) (clock : ℕ) (xs : List Subscription) (before : Output) (at : ℕ) (now : List Subscription) (out : Output) (overrun : ℕ)
+pub given_more : (front : ℕ) (packet : List ℕ) (clock : ℕ) (xs : List Subscription) (before : Output) (at : ℕ) (now : List Subscription)
+    (out : Output) (overrun : ℕ)
     (new : List Subscription) (after : Output) (marked : ℕ) → at < length xs → IsGivenTo front packet clock xs before at now out overrun
     → ChangesAt now at (given front packet) new → HoldsOfAt now at (λ s. SendsAll out (given_datagrams front packet clock s) after)
     → HoldsOfAt now at (λ s. (slot : ℕ) → bit_at marked slot ≡ cond (meets_full front packet slot s) 1 0)
@@ -124,7 +128,8 @@ given_more front packet clock xs before at now out overrun new after marked insi
     }
 
 -- at last all were
-pub given_all : (front : ℕ) (packet : List ℕ) (clock : ℕ) (xs : List Subscription) (before : Output) (at : ℕ) (now : List Subscription) (out : Output) (overrun : ℕ)
+pub given_all : (front : ℕ) (packet : List ℕ) (clock : ℕ) (xs : List Subscription) (before : Output) (at : ℕ) (now : List Subscription)
+    (out : Output) (overrun : ℕ)
     → length xs ≤ at → IsGivenTo front packet clock xs before at now out overrun
     → (now ≡ map (given front packet) xs) × SendsAll before (flat_map (given_datagrams front packet clock) xs) out
     × ((slot : ℕ) → bit_at overrun slot ≡ cond (list_any (meets_full front packet slot) xs) 1 0)
@@ -135,6 +140,7 @@ given_all front packet clock xs before at now out overrun all given_to = (
 )
 
 -- so long as it is given there are as many
-pub still_all : (front : ℕ) (packet : List ℕ) (clock : ℕ) (xs : List Subscription) (before : Output) (at : ℕ) (now : List Subscription) (out : Output) (overrun : ℕ)
+pub still_all : (front : ℕ) (packet : List ℕ) (clock : ℕ) (xs : List Subscription) (before : Output) (at : ℕ) (now : List Subscription)
+    (out : Output) (overrun : ℕ)
     → IsGivenTo front packet clock xs before at now out overrun → length now ≡ length xs
 still_all front packet clock xs before at now out overrun given_to = ap length given_to.swept ∙ length-sweep (given front packet) at xs

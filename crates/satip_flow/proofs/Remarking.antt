@@ -26,7 +26,8 @@ is_true true e = refl
 is_true false e = absurd (omega (arith, e))
 
 -- sets with the same word select the same of its PIDs
-pub same_pid : (at a b pid : ℕ) (old new : Pids) → ShowsPids at a new → ShowsPids at b old → a ≡ b → pid / 64 ≡ at → has_pid new pid ≡ true → has_pid old pid ≡ true
+pub same_pid : (at a b pid : ℕ) (old new : Pids) → ShowsPids at a new → ShowsPids at b old → a ≡ b → pid / 64 ≡ at → has_pid new pid ≡ true
+    → has_pid old pid ≡ true
 same_pid at a b pid old new shows_new shows_old same is has =
     let one : bit (has_pid new pid) ≡ 1 = ap bit has in
     let read : bit_at a (pid % 64) ≡ bit (has_pid new pid) = bit_of at a pid new shows_new is in
@@ -50,7 +51,8 @@ abbrev pub ElseSame : ℕ → List ℕ → List ℕ → Type 0
 ElseSame at a b = (place : ℕ) → place ≢ at → get_or b place 0 ≡ get_or a place 0
 
 pub marked_more : (n start slot : ℕ) (a b : List ℕ) (old new : Pids) → MarkedTo n a start slot new → MarkedFrom n a start slot old
-    → ((pid : ℕ) → pid / 64 ≡ n → (has_pid old pid ≡ true → bit_at (get_or a (start + n) 0) slot ≡ 1) → has_pid new pid ≡ true → bit_at (get_or b (start + n) 0) slot ≡ 1)
+    → ((pid : ℕ) → pid / 64 ≡ n → (has_pid old pid ≡ true → bit_at (get_or a (start + n) 0) slot ≡ 1) → has_pid new pid ≡ true
+    → bit_at (get_or b (start + n) 0) slot ≡ 1)
     → ElseSame (start + n) a b → MarkedTo (n + 1) b start slot new
 marked_more n start slot a b old new marked left word else_same = λ pid lt below has.
     elim (cases_eq (pid / 64) n) [

@@ -30,7 +30,8 @@ keeps_marked slot other old new own pids keeps below differs marked = λ front p
     each (suc front) pid h = keeps (128 * front + pid / 64) other below differs ∙ h
 
 -- a subscriber of another slot stays marked
-keeps_shown : (slot : ℕ) (old new : List ℕ) (s : Subscription) → KeepsOthers slot old new → s.place.slot < 64 → has_slot slot s ≡ false → IsShown old s → IsShown new s
+keeps_shown : (slot : ℕ) (old new : List ℕ) (s : Subscription) → KeepsOthers slot old new → s.place.slot < 64 → has_slot slot s ≡ false → IsShown old s
+    → IsShown new s
 keeps_shown slot old new s keeps below lacks shown =
     let differs : s.place.slot ≢ slot = grind (arith, nat_tests, lacks) in
     record {
@@ -66,7 +67,8 @@ shown_added old new xs s place front pids feed is within marked keeps apart free
     (shown_put old new (subscription place front pids feed) xs keeps apart free (record { front = within; marked = marked }) shown)
 
 -- one is gone
-pub shown_without : (slot : ℕ) (old new : List ℕ) (xs : List Subscription) → KeepsOthers slot old new → SlotsApart xs → AllShown old xs → AllShown new (without slot xs)
+pub shown_without : (slot : ℕ) (old new : List ℕ) (xs : List Subscription) → KeepsOthers slot old new → SlotsApart xs → AllShown old xs
+    → AllShown new (without slot xs)
 shown_without slot old new [] keeps apart shown = tt
 shown_without slot old new (x ∷ xs) keeps (below, apart, rest) (one, others) = each (has_slot slot x) refl (shown_without slot old new xs keeps rest others)
   where
@@ -81,7 +83,8 @@ any-set slot [] i d y same h = absurd (omega (arith, h))
 any-set slot (x ∷ xs) zero d y same h = ap (λ place. eqb place.slot slot || list_any (has_slot slot) xs) same
 any-set slot (x ∷ xs) (suc i) d y same h = ap (λ t. has_slot slot x || t) (any-set slot xs i d y same (omega (arith, h)))
 
-pub apart-set : (xs : List Subscription) (i : ℕ) (d y : Subscription) → y.place ≡ (get_or xs i d).place → i < length xs → SlotsApart xs → SlotsApart (set xs i y)
+pub apart-set : (xs : List Subscription) (i : ℕ) (d y : Subscription) → y.place ≡ (get_or xs i d).place → i < length xs → SlotsApart xs
+    → SlotsApart (set xs i y)
 apart-set [] i d y same h apart = absurd (omega (arith, h))
 apart-set (x ∷ xs) zero d y same h (below, apart, rest) =
     (subst (λ place. place.slot < 64) (sym same) below, ap (λ place. list_any (has_slot place.slot) xs) same ∙ apart, rest)
@@ -156,7 +159,8 @@ unchanged_at stream front pids xs at d other =
     let s = get_or xs at d in
     sym (ap (λ t. set xs at (cond t (record s { front = front; pids = pids }) s)) other ∙ set-get_or xs at d)
 
-pub shown_changed : (a b c : List ℕ) (xs : List Subscription) (at : ℕ) (d : Subscription) (stream : ℕ) (front : Option ℕ) (pids : Pids) (slot : ℕ) → at < length xs
+pub shown_changed : (a b c : List ℕ) (xs : List Subscription) (at : ℕ) (d : Subscription) (stream : ℕ) (front : Option ℕ) (pids : Pids) (slot : ℕ)
+    → at < length xs
     → SlotsApart xs → is_of stream (get_or xs at d) ≡ true → slot ≡ (get_or xs at d).place.slot → KeepsOthers slot a b → KeepsOthers slot b c
     → IsFrontOrNone front → IsMarked c slot front pids → AllShown a xs → AllShown c (set xs at (changed stream front pids (get_or xs at d)))
 shown_changed a b c xs at d stream front pids slot within apart is same first second front_within marked shown =
@@ -286,7 +290,8 @@ one_takes rows s front pid none shown below = each (is_at front s.front) (has_pi
         let zero_there = ap (λ word. bit_at word s.place.slot) (marks_none rows front pid none) ∙ bit_at-zero s.place.slot in
         absurd (omega (arith, one, zero_there))
 
-pub none_takes : (rows : List ℕ) (xs : List Subscription) → NoneMarked rows → AllShown rows xs → (front pid : ℕ) → pid < 8192 → list_any (takes front pid) xs ≡ false
+pub none_takes : (rows : List ℕ) (xs : List Subscription) → NoneMarked rows → AllShown rows xs → (front pid : ℕ) → pid < 8192
+    → list_any (takes front pid) xs ≡ false
 none_takes rows [] none shown front pid below = refl
 none_takes rows (x ∷ xs) none (one, others) front pid below =
     ap (λ t. t || list_any (takes front pid) xs) (one_takes rows x front pid none one below) ∙ none_takes rows xs none others front pid below

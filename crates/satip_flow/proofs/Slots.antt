@@ -99,7 +99,8 @@ any-map slot f keeps (x ∷ xs) =
     ap (λ place. eqb place.slot slot || list_any (has_slot slot) (map f xs)) (keeps x)
     ∙ ap (λ others. has_slot slot x || others) (any-map slot f keeps xs)
 
-pub apart-map : (f : Subscription → Subscription) → ((s : Subscription) → (f s).place ≡ s.place) → (xs : List Subscription) → SlotsApart xs → SlotsApart (map f xs)
+pub apart-map : (f : Subscription → Subscription) → ((s : Subscription) → (f s).place ≡ s.place) → (xs : List Subscription) → SlotsApart xs
+    → SlotsApart (map f xs)
 apart-map f keeps [] apart = tt
 apart-map f keeps (x ∷ xs) (below, apart, rest) = (
   subst (λ place. place.slot < 64) (sym (keeps x)) below,
@@ -146,7 +147,8 @@ pub apart-put : (s : Subscription) (xs : List Subscription) → s.place.slot < 6
 apart-put s [] inside none apart = (inside, refl, tt)
 apart-put s (x ∷ xs) inside none (below, apart, rest) =
     let (other, others) = or_false (has_slot s.place.slot x) (list_any (has_slot s.place.slot) xs) none in
-    each (comes_before s.place x.place) none (any-put x.place.slot s xs (slots_differ x.place.slot s.place.slot other) apart) (apart-put s xs inside others rest)
+    each (comes_before s.place x.place) none (any-put x.place.slot s xs (slots_differ x.place.slot s.place.slot other) apart)
+    (apart-put s xs inside others rest)
   where
     each : (t : Bool) → list_any (has_slot s.place.slot) (x ∷ xs) ≡ false → list_any (has_slot x.place.slot) (put s xs) ≡ false → SlotsApart (put s xs)
         → SlotsApart (cond t (s ∷ x ∷ xs) (x ∷ put s xs))
@@ -154,7 +156,8 @@ apart-put s (x ∷ xs) inside none (below, apart, rest) =
     each false none rest_none rest_apart = (below, rest_none, rest_apart)
 
 -- so there are at most 64, and fewer where a slot is free
-distinct_from : (slot : ℕ) (xs : List Subscription) → list_any (has_slot slot) xs ≡ false → AllByRecursion (λ y. eqb slot y ≡ false) (map (λ s. s.place.slot) xs)
+distinct_from : (slot : ℕ) (xs : List Subscription) → list_any (has_slot slot) xs ≡ false
+    → AllByRecursion (λ y. eqb slot y ≡ false) (map (λ s. s.place.slot) xs)
 distinct_from slot [] h = tt
 distinct_from slot (x ∷ xs) h =
     let (lacks, none) = or_false (has_slot slot x) (list_any (has_slot slot) xs) h in

@@ -44,5 +44,6 @@ module _ {X Y : Type 0} where
       ap (λ t. g x ++ t) (flat_map-suc g n xs d (omega (arith, h))) ∙ sym (append_assoc (g x) (flat_map g (take n xs)) (g (get_or xs n d)))
 
   -- what the first elements gave, and one more
-  pub flat_map-more : (g : X → List Y) (n : ℕ) (xs : List X) (d : X) → n < length xs → flat_map g (take (n + 1) xs) ≡ flat_map g (take n xs) ++ g (get_or xs n d)
+  pub flat_map-more : (g : X → List Y) (n : ℕ) (xs : List X) (d : X) → n < length xs
+      → flat_map g (take (n + 1) xs) ≡ flat_map g (take n xs) ++ g (get_or xs n d)
   flat_map-more g n xs d h = ap (λ m. flat_map g (take m xs)) (add-one n) ∙ flat_map-suc g n xs d h

@@ -55,13 +55,15 @@ module _ {items : List ℕ} {start next : ℕ} {headers : List HeaderSpan} {foun
   pub whole_told : (held : List ℕ) → drop start items ≡ held → (text : List ℕ) (ms : List Said) → Leads text ms held
       → Leads text (ms ++ said_in items headers (record { at = next; found = found }) ∷ []) (drop (next + found.len) items)
   whole_told held e text ms leads =
-      leads_more text ms held _ _ leads (subst (λ b. Begins (skip_newlines b) (said_in items headers (record { at = next; found = found })) (drop (next + found.len) items)) e whole_begins)
+      leads_more text ms held _ _ leads
+      (subst (λ b. Begins (skip_newlines b) (said_in items headers (record { at = next; found = found })) (drop (next + found.len) items)) e whole_begins)
 
   -- and no text ends there
   pub whole_exact : (held : List ℕ) → drop start items ≡ held → (text : List ℕ) (ms : List Said) (tail : Tail) → Leads text ms held
       → Messages text ms tail → ⊥
   whole_exact held e text ms tail leads messages =
-      begins_and_ends tail (subst (λ b. Begins (skip_newlines b) (said_in items headers (record { at = next; found = found })) (drop (next + found.len) items)) e whole_begins)
+      begins_and_ends tail (subst (λ b. Begins (skip_newlines b) (said_in items headers (record { at = next; found = found })) (drop (next + found.len) items))
+      e whole_begins)
       (rest_ends text ms held tail leads messages)
 
 -- behind the line ends at start the text ends at next, with this tail
@@ -116,7 +118,8 @@ ended_exact bytes cause step e ends text ms tail leads messages =
 
 pub ended_here : {items : List ℕ} {start next : ℕ} {tail : Tail} → StandsAtEnd items start next tail → Ends (skip_newlines (drop next items)) tail
 ended_here {items} {start} {next} {tail} here =
-    let same : drop next items ≡ skip_newlines (drop next items) = here.skipped ∙ sym (skip_newlines_again (drop start items)) ∙ ap skip_newlines (sym here.skipped) in
+    let same : drop next items ≡ skip_newlines (drop next items) =
+    here.skipped ∙ sym (skip_newlines_again (drop start items)) ∙ ap skip_newlines (sym here.skipped) in
     subst (λ b. Ends b tail) same here.ends
 
 -- what is held gets no longer

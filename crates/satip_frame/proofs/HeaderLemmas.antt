@@ -23,7 +23,9 @@ filter_either false x xs = refl
 -- the values of a name, from the header at i on
 values_of-drop : (name head : List ℕ) (hs : List HeaderSpan) (i : ℕ) → i < length hs
     → values_of name (map (header_bytes head) (drop i hs))
-    ≡ cond (is_named name (header_bytes head (get_or hs i no_header))) ((header_bytes head (get_or hs i no_header)).1 ∷ values_of name (map (header_bytes head) (drop (i + 1) hs))) (values_of name (map (header_bytes head) (drop (i + 1) hs)))
+    ≡ cond (is_named name (header_bytes head (get_or hs i no_header)))
+    ((header_bytes head (get_or hs i no_header)).1 ∷ values_of name (map (header_bytes head) (drop (i + 1) hs)))
+    (values_of name (map (header_bytes head) (drop (i + 1) hs)))
 values_of-drop name head hs i h =
     ap (λ t. values_of name (map (header_bytes head) t)) (drop_more hs i no_header h)
     ∙ filter_either (is_named name (header_bytes head (get_or hs i no_header))) _ _
@@ -37,7 +39,8 @@ values_named name head bytes hs i r inside is tested named =
     let e : is_named name (header_bytes head (get_or hs i no_header)) ≡ true =
     ap (λ t. str_eq_ignore_ascii_case t name) (sym is) ∙ sym tested ∙ named in
     values_of-drop name head hs i inside
-    ∙ ap (λ b. cond b ((header_bytes head (get_or hs i no_header)).1 ∷ values_of name (map (header_bytes head) (drop (i + 1) hs))) (values_of name (map (header_bytes head) (drop (i + 1) hs)))) e
+    ∙ ap (λ b. cond b ((header_bytes head (get_or hs i no_header)).1 ∷ values_of name (map (header_bytes head) (drop (i + 1) hs)))
+    (values_of name (map (header_bytes head) (drop (i + 1) hs)))) e
 
 -- the header at i has another name
 pub values_passed : (name head bytes : List ℕ) (hs : List HeaderSpan) (i : ℕ) (r : Bool) → i < length hs
@@ -47,7 +50,8 @@ values_passed name head bytes hs i r inside is tested passed =
     let e : is_named name (header_bytes head (get_or hs i no_header)) ≡ false =
     ap (λ t. str_eq_ignore_ascii_case t name) (sym is) ∙ sym tested ∙ passed in
     values_of-drop name head hs i inside
-    ∙ ap (λ b. cond b ((header_bytes head (get_or hs i no_header)).1 ∷ values_of name (map (header_bytes head) (drop (i + 1) hs))) (values_of name (map (header_bytes head) (drop (i + 1) hs)))) e
+    ∙ ap (λ b. cond b ((header_bytes head (get_or hs i no_header)).1 ∷ values_of name (map (header_bytes head) (drop (i + 1) hs)))
+    (values_of name (map (header_bytes head) (drop (i + 1) hs)))) e
 
 -- two values give no length
 pub length_of_two : (headers : List Header) (said : Option (Bor (List ℕ))) (w : List ℕ) (ws : List (List ℕ)) → is_some said ≡ true
@@ -58,11 +62,13 @@ length_of_two headers (Some v) w ws some e = ap length_from e
 
 -- the length that one value gives, or none
 pub length_of_all : (headers : List Header) (head : List ℕ) (hs : List HeaderSpan) (i : ℕ) (said : Option (Bor (List ℕ))) → length hs ≤ i
-    → values_of (codes "Content-Length") headers ≡ option_to_list (option_copied said) ++ values_of (codes "Content-Length") (map (header_bytes head) (drop i hs))
+    → values_of (codes "Content-Length") headers ≡ option_to_list (option_copied said)
+    ++ values_of (codes "Content-Length") (map (header_bytes head) (drop i hs))
     → body_length headers ≡ length_from (option_to_list (option_copied said))
 unfolding body_length
 length_of_all headers head hs i said past e =
-    ap length_from (e ∙ ap (λ t. option_to_list (option_copied said) ++ values_of (codes "Content-Length") (map (header_bytes head) t)) (drop_all i hs past) ∙ nil said)
+    ap length_from (e ∙ ap (λ t. option_to_list (option_copied said) ++ values_of (codes "Content-Length") (map (header_bytes head) t)) (drop_all i hs past)
+    ∙ nil said)
   where
     nil : (said : Option (Bor (List ℕ))) → option_to_list (option_copied said) ++ [] ≡ option_to_list (option_copied said)
     nil None = refl

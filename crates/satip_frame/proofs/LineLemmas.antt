@@ -86,7 +86,13 @@ LastWord_deterministic = record {
       (Stops-print_end is_ascii_graphic refl refl b.1 q) (sym x.3 ∙ y.3) in
       let ends = print_end_unique a.1 b.1 r q same.1 in
       (λ i. (same.0 i, ends.0 i), ends.1);
-  append = λ a text r more x. (x.0, x.1, x.2, front-append text a.0 (print_end a.1 ++ r) more x.3 ∙ ap (λ t. a.0 ++ t) (front-append _ (print_end a.1) r more refl));
+  append = λ a text r more x. (
+    x.0,
+    x.1,
+    x.2,
+    front-append text a.0 (print_end a.1 ++ r) more x.3
+        ∙ ap (λ t. a.0 ++ t) (front-append _ (print_end a.1) r more refl),
+  );
 }
 
 pub Method_deterministic : IsDeterministic (Word is_token_byte space)
@@ -110,5 +116,6 @@ pub no_version : (head m t r q : List ℕ) → Word is_token_byte space m head r
     → (Begins LastWord q → ⊥) → Begins Line head → ⊥
 no_version head m t r q method target none line =
     let first = Method_deterministic.unique m line.0.0 head r line.2.0 method line.2.1 in
-    let second = Target_deterministic.unique t line.0.1.0 r q line.2.2.0 target (subst (λ x. Word is_ascii_graphic space line.0.1.0 x line.2.2.0) (sym first.1) line.2.2.1) in
+    let second = Target_deterministic.unique t line.0.1.0 r q line.2.2.0 target
+    (subst (λ x. Word is_ascii_graphic space line.0.1.0 x line.2.2.0) (sym first.1) line.2.2.1) in
     none (subst (Begins LastWord) (sym second.1) (line.0.1.1, line.1, line.2.2.2))

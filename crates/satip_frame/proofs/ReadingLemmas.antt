@@ -234,7 +234,8 @@ with_block : (head : List ℕ) (m t v : List ℕ) (e : LineEnd) (block : List �
     → IsGood head ⊎ (IsGood head → ⊥)
 with_block head m t v e block line (fields, last, section) =
     ⊎_elim (λ many. inr λ x.
-    let same = Line_deterministic.unique (x.0.method, (x.0.target, (x.0.version, x.2.reads.line_end))) (m, (t, (v, e))) head x.2.reads.block block (line_of_head x.2.reads) line in
+    let same = Line_deterministic.unique (x.0.method, (x.0.target, (x.0.version, x.2.reads.line_end))) (m, (t, (v, e))) head x.2.reads.block block
+    (line_of_head x.2.reads) line in
     let fields_same = (section_unique block x.2.reads.fields fields x.2.reads.last last [] []
     (subst (λ b. ReadsSection b x.2.reads.fields x.2.reads.last []) same.1 x.2.reads.section) section).0 in
     omega (arith, x.2.reads.few, ap length fields_same))
@@ -262,7 +263,8 @@ good_told head =
     ⊎_elim (λ line.
     ⊎_elim (λ block. with_block head line.0.0 line.0.1.0 line.0.1.1.0 line.0.1.1.1 line.1 line.2 block)
     (λ none. inr λ x.
-    let same = Line_deterministic.unique (x.0.method, (x.0.target, (x.0.version, x.2.reads.line_end))) line.0 head x.2.reads.block line.1 (line_of_head x.2.reads) line.2 in
+    let same = Line_deterministic.unique (x.0.method, (x.0.target, (x.0.version, x.2.reads.line_end))) line.0 head x.2.reads.block line.1
+    (line_of_head x.2.reads) line.2 in
     none (x.2.reads.fields, x.2.reads.last, subst (λ b. ReadsSection b x.2.reads.fields x.2.reads.last []) same.1 x.2.reads.section))
     (block_told line.1))
     (λ none. inr λ x. none (_, _, line_of_head x.2.reads))

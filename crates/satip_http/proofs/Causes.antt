@@ -45,7 +45,8 @@ path_place path =
 rest_place : (rest : List ℕ) → 4 ≤ place (with_rest rest).refusal
 unfolding with_rest
 rest_place rest =
-    either 4 (starts_with nat_eq rest (codes "?")) (with_query (query_of (drop 1 rest))) (with_path rest) (query_place (query_of (drop 1 rest))) (path_place rest)
+    either 4 (starts_with nat_eq rest (codes "?")) (with_query (query_of (drop 1 rest))) (with_path rest) (query_place (query_of (drop 1 rest)))
+    (path_place rest)
 
 -- a refusal that comes later is another one
 later : (a : Option HttpRefusal) (b : HttpRefusal) (k : ℕ) → k ≤ place a → place (Some b) < k → a ≡ Some b → ⊥
@@ -57,7 +58,8 @@ chosen served get r = cond served (cond get r (refused Method)) (refused Version
 
 -- what a target, once its beginnings were looked at, makes of the request
 abbrev pub chosen_rest : Bool → Bool → Bool → Result Query QueryFault → Result Query QueryFault → HttpRequest
-chosen_rest asks slash_asks slash behind_mark behind_path = cond asks (with_query behind_mark) (cond slash_asks (with_query behind_path) (cond slash (refused NotFound) (refused Target)))
+chosen_rest asks slash_asks slash behind_mark behind_path =
+    cond asks (with_query behind_mark) (cond slash_asks (with_query behind_path) (cond slash (refused NotFound) (refused Target)))
 
 -- the query so found
 abbrev pub chosen_query : Bool → Bool → List ℕ → List ℕ → Option (List ℕ)
@@ -117,7 +119,8 @@ no_get m refusal low never = record {
 
 of_get : (m : Said) → IsGet m → TargetCauses m (with_rest (rest_of m.target)).refusal
 of_get m is =
-    let found : RestCauses (is_path (rest_of m.target)) (query_in (rest_of m.target)) (with_rest (rest_of m.target)).refusal = causes_of_rest (rest_of m.target) in
+    let found : RestCauses (is_path (rest_of m.target)) (query_in (rest_of m.target)) (with_rest (rest_of m.target)).refusal =
+    causes_of_rest (rest_of m.target) in
     record {
       target = (λ e. (is, (found.target.0 e).0, (found.target.0 e).1), λ e. found.target.1 (e.1, e.2));
       not_found = (λ e. (is, (found.not_found.0 e).0, (found.not_found.0 e).1), λ e. found.not_found.1 (e.1, e.2));

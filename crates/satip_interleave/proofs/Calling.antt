@@ -103,7 +103,8 @@ same_burst k p q made same has_taken keeps bursts =
     same_turned k p q (entries p.number bursts.taken) keeps bursts.turned (no_outers p.number bursts.taken bursts.has.1)
 
 -- a burst of the cell is a burst of its caller
-pub bursts_by : (c : Setting) (p q : ShownPass) (made : ℕ) (ended : Bool) (given : Option Event) (same : Type 0) (has_taken : List (Taken Event Answer Output) → Type 0) (result : Result (Unit {0}) ServiceFault)
+pub bursts_by : (c : Setting) (p q : ShownPass) (made : ℕ) (ended : Bool) (given : Option Event) (same : Type 0)
+    (has_taken : List (Taken Event Answer Output) → Type 0) (result : Result (Unit {0}) ServiceFault)
     → TunnelLegal c q.seen → made ≤ 64 → CellBursts (FedFrom same has_taken) p q made
     → BurstEnds false (known_by q) ended given made result
     → Bursts false (known_by p) (known_by q) ended given has_taken result
@@ -155,12 +156,14 @@ pub ends_well : (q : ShownPass) (made : ℕ) (ended spent : Bool) (given : Optio
 ends_well q made ended spent given unspent most few is =
     let not : (spent ≡ true) → ⊥ = λ e. absurd (cc (e, unspent)) in (
       not_some given (λ some. not (is.1 (given_some given some))),
-      ⊎_elim (λ (e : made ≡ 64). inr e) (λ (lt : made < 64). ⊎_elim (λ (e : ended ≡ true). inl e) (λ (e : spent ≡ true). absurd (not e)) (few lt)) (eq-or-lt_of_le most),
+      ⊎_elim (λ (e : made ≡ 64). inr e) (λ (lt : made < 64). ⊎_elim (λ (e : ended ≡ true). inl e) (λ (e : spent ≡ true). absurd (not e)) (few lt))
+          (eq-or-lt_of_le most),
     )
 
 -- and one that left one
 pub ends_spent : (q : ShownPass) (made : ℕ) (ended spent : Bool) (given : Option Event) → spent ≡ true
-    → (IsTrue spent ↔ IsSome (option_map Inner given)) → (spent ≡ true → length q.seen ≡ 18446744073709551615) → BurstEnds false (known_by q) ended given made (Err Spent)
+    → (IsTrue spent ↔ IsSome (option_map Inner given)) → (spent ≡ true → length q.seen ≡ 18446744073709551615)
+    → BurstEnds false (known_by q) ended given made (Err Spent)
 ends_spent q made ended spent given full is length_is = (some_given given (is.0 full), length_is full)
 
 -- what holds of the lot behind the reference holds of it at last

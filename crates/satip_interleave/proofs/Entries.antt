@@ -38,13 +38,15 @@ pub last_answered : (c : Setting) (h : List TunnelItem) (n : ℕ) (event : Event
     → TunnelLegal c (h ++ entry n (Inner event) answer out ∷ []) → IsInner answer
 last_answered c h n event answer out legal = (lanes_behind no_lanes h (entry n (Inner event) answer out ∷ []) legal.lanes).0
 
-answered_inner : (lanes : PlainLanes) (event : TunnelEvent) (answer : TunnelAnswer) (out : Output) → IsInnerEvent event → IsAnswered lanes event answer out → IsInner answer
+answered_inner : (lanes : PlainLanes) (event : TunnelEvent) (answer : TunnelAnswer) (out : Output) → IsInnerEvent event → IsAnswered lanes event answer out
+    → IsInner answer
 answered_inner lanes (Inner event) answer out is answered = answered
 answered_inner lanes Enter answer out is answered = absurd is
 answered_inner lanes (Drain lane) answer out is answered = absurd is
 answered_inner lanes (Leave lane) answer out is answered = absurd is
 
-all_answered_from : (lanes : PlainLanes) (n : ℕ) (ts : List TunnelTaken) → Each (λ (t : TunnelTaken). IsInnerEvent t.event) ts → LanesFrom lanes (entries n ts) → AreAnswered ts
+all_answered_from : (lanes : PlainLanes) (n : ℕ) (ts : List TunnelTaken) → Each (λ (t : TunnelTaken). IsInnerEvent t.event) ts → LanesFrom lanes (entries n ts)
+    → AreAnswered ts
 all_answered_from lanes n [] events all = tt
 all_answered_from lanes n (t ∷ ts) events all =
     (answered_inner lanes t.event t.answer t.out events.0 all.0, all_answered_from (moved lanes (entry n t.event t.answer t.out)) n ts events.1 all.1)

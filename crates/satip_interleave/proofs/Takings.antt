@@ -38,7 +38,8 @@ all_events ts given e answer out was events =
     Each-append (λ (t : TunnelTaken). IsInnerEvent t.event) ts (taken e answer out ∷ []) events (subst IsInnerEvent (sym was.is) tt, tt)
 
 -- an answer of the server is told to the lot; no legal history has another
-pub fed_more : (same : Type 0) (before after : List (Taken Event Answer Output) → Type 0) (given : Option Event) (answer : TunnelAnswer) (told : Answer) (out : Output)
+pub fed_more : (same : Type 0) (before after : List (Taken Event Answer Output) → Type 0) (given : Option Event) (answer : TunnelAnswer) (told : Answer)
+    (out : Output)
     → (IsInner answer → answer ≡ InnerAnswer told)
     → ((us : List (Taken Event Answer Output)) (event : Event) → given ≡ Some event → before us → after (us ++ taken event told out ∷ []))
     → (ts : List TunnelTaken) (e : TunnelEvent) → option_map Inner given ≡ Some e → FedFrom same before ts

@@ -24,7 +24,8 @@ pub struct TunnelCaller<'a, R: Wait + Sync> {
     pub server: &'a SharedTunnel,
     pub pass: TunnelPass,
     pub ghost of: { IsOf pass server.now } by { of_prop pass server.now },
-    pub ghost lawful: { Legal server.now.setting (inners pass.seen) } by { legal_prop server.now.setting (inners pass.seen) },
+    pub ghost lawful: { Legal server.now.setting (inners pass.seen) } by { legal_prop
+        server.now.setting (inners pass.seen) },
     pub ghost short: { length pass.seen < 2 ^ 64 },
 }
 

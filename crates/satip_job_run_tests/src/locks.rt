@@ -15,8 +15,9 @@ use std::sync::Wait;
 use std::sync::atomic::{AtomicU64, Ordering};
 use std::test::Fail;
 
-const TEARDOWN: &[u8] =
-    b"TEARDOWN rtsp://192.168.1.10/stream=1 RTSP/1.0\r\nCSeq: 3\r\nSession: 000000010000000a\r\n\r\n";
+const TEARDOWN: &[u8] = b"TEARDOWN rtsp://192.168.1.10/stream=1 RTSP/1.0\r\n\
+    CSeq: 3\r\n\
+    Session: 000000010000000a\r\n\r\n";
 
 // How often the outlets of one socket were locked and unlocked, how many datagrams they were given,
 // and how many of them while not exactly one lock was held.

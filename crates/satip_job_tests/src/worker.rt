@@ -18,7 +18,9 @@ const KEY: [u8; 32] = [7; 32];
 const NO_PULLS: [u8; 4] = [0; 4];
 
 const SETUP: &[u8] =
-    b"SETUP rtsp://192.168.1.10/?src=1&freq=12402&pol=v&msys=dvbs&sr=27500 RTSP/1.0\r\nCSeq: 1\r\nTransport: RTP/AVP;unicast;client_port=1400-1401\r\n\r\n";
+    b"SETUP rtsp://192.168.1.10/?src=1&freq=12402&pol=v&msys=dvbs&sr=27500 RTSP/1.0\r\n\
+    CSeq: 1\r\n\
+    Transport: RTP/AVP;unicast;client_port=1400-1401\r\n\r\n";
 
 const PLAY: &[u8] =
     b"PLAY rtsp://192.168.1.10/stream=1 RTSP/1.0\r\nCSeq: 2\r\nSession: 0000000100000007\r\n\r\n";
@@ -33,11 +35,11 @@ const BAD: &[u8] = b"RTSP/1.0 400 Bad Request\r\n\r\n";
 
 const HEAD: &[u8] = b"HTTP/1.1 200 OK\r\n";
 
-// A connection over a scripted service, and what serving it is to come to. It receives so many bytes
-// of noise and then these pieces, each alone or all at once; receives, sends and posts of these numbers fail, and of a failing
-// send so many bytes are passed. The service starts a session at a GET or refuses it, answers pulls
-// so, sends a datagram at each call or none, and has room for so many entries. The number of the
-// pauses, datagrams and draws is looked at where it is given.
+// A connection over a scripted service, and what serving it is to come to. It receives so many
+// bytes of noise and then these pieces, each alone or all at once; receives, sends and posts of
+// these numbers fail, and of a failing send so many bytes are passed. The service starts a session
+// at a GET or refuses it, answers pulls so, sends a datagram at each call or none, and has room for
+// so many entries. The number of the pauses, datagrams and draws is looked at where it is given.
 #[derive(Clone, Copy)]
 struct Row {
     name: &'static str,
@@ -358,7 +360,8 @@ fn connections_come_to_what_their_rows_say(rt: HostRuntime) -> Result<(), Fail> 
     Ok(())
 }
 
-// What a worker came to, and the connections that it handed back, with what was sent on all of them.
+// What a worker came to, and the connections that it handed back, with what was sent on all of
+// them.
 #[derive(Drop)]
 struct Shift {
     end: WorkerEnd,

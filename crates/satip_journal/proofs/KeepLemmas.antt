@@ -22,11 +22,13 @@ use Rattle.satip_journal.specs.Keeping.{Kept, SameJournal}
 use Rattle.satip_journal.proofs.PlaceLemmas.{lines_of_one, own_at_none, between_others}
 
 -- the number of the entries of the pass that come with one more own entry
-pub turned_between : (p q : ServerPass) (e : Item) → e.caller ≡ p.number → KnowsOwn p → own_of p.number q.seen ≡ q.own → (turned : Turned p q (e ∷ [])) → own_of p.number turned.between ≡ []
+pub turned_between : (p q : ServerPass) (e : Item) → e.caller ≡ p.number → KnowsOwn p → own_of p.number q.seen ≡ q.own → (turned : Turned p q (e ∷ []))
+    → own_of p.number turned.between ≡ []
 turned_between p q e is before after turned =
     let n = p.number in
     let seen : q.seen ≡ (p.seen ++ turned.between) ++ e ∷ [] = turned.seen ∙ ap (λ (h : List Item). h ++ e ∷ []) turned.looked in
-    between_others n p.seen turned.between (e ∷ []) p.own before (ap (λ (h : List Item). own_of n h) (sym seen) ∙ after ∙ turned.own) (own_of-cons_same n e [] is)
+    between_others n p.seen turned.between (e ∷ []) p.own before (ap (λ (h : List Item). own_of n h) (sym seen) ∙ after ∙ turned.own)
+    (own_of-cons_same n e [] is)
 
 pub looked_between : (p q : ServerPass) → KnowsOwn p → own_of p.number q.seen ≡ q.own → (looked : Looked p q) → own_of p.number looked.between ≡ []
 looked_between p q before after looked =
@@ -42,7 +44,8 @@ typed_one n others e is none typed =
     subst (λ (es : List Item). Each IsTyped es) (sym one) (typed, tt)
 
 -- an own entry was made, and its line was put unless a put had failed
-pub entered : (tells : Type 0) (k l : Kept) (place : ℕ) (event : Event) (answer : Answer) (out : Output) → SameCaller k.server k.pass l.server l.pass → l.number ≡ k.number
+pub entered : (tells : Type 0) (k l : Kept) (place : ℕ) (event : Event) (answer : Answer) (out : Output) → SameCaller k.server k.pass l.server l.pass
+    → l.number ≡ k.number
     → KnowsOwn k.pass → KnowsOwn l.pass → Turned k.pass l.pass (entry k.pass.number event answer out ∷ []) → place ≡ length l.pass.seen - 1
     → Logs tells k.drain l.drain k.failed l.failed (entry_line place k.number event answer out.reply out.datagrams)
     → IsTyped (entry k.pass.number event answer out) → SameJournal tells k l
@@ -68,7 +71,8 @@ entered tells k l place event answer out same same_number before after turned at
     }
 
 -- no own entry was made, and nothing was put
-pub not_entered : (tells : Type 0) (k l : Kept) → SameCaller k.server k.pass l.server l.pass → l.number ≡ k.number → KnowsOwn k.pass → KnowsOwn l.pass → Looked k.pass l.pass
+pub not_entered : (tells : Type 0) (k l : Kept) → SameCaller k.server k.pass l.server l.pass → l.number ≡ k.number → KnowsOwn k.pass → KnowsOwn l.pass
+    → Looked k.pass l.pass
     → Logs tells k.drain l.drain k.failed l.failed [] → SameJournal tells k l
 not_entered tells k l same same_number before after looked logs =
     let p = k.pass in let q = l.pass in
@@ -85,7 +89,8 @@ not_entered tells k l same same_number before after looked logs =
     }
 
 -- what the caller knows grew by its entry
-pub adds_turned : (p q : ServerPass) (caller : ℕ) (event : Event) (answer : Answer) (out : Output) → p.number ≡ caller → Turned p q (entry p.number event answer out ∷ [])
+pub adds_turned : (p q : ServerPass) (caller : ℕ) (event : Event) (answer : Answer) (out : Output) → p.number ≡ caller
+    → Turned p q (entry p.number event answer out ∷ [])
     → Adds (known_by p) (known_by q) (entry caller event answer out)
 adds_turned p q caller event answer out is turned =
     let A : ℕ → Type 0 = λ n. Adds (known_by p) (known_by q) (entry n event answer out) in
@@ -96,7 +101,8 @@ adds_turned p q caller event answer out is turned =
     })
 
 -- no further event was made
-pub under_way_still : (caller : ℕ) (k l m : Known) (before after : List (Taken Event Answer Output) → Type 0) (made : ℕ) → UnderWay caller k l before made → AddsNone l m
+pub under_way_still : (caller : ℕ) (k l m : Known) (before after : List (Taken Event Answer Output) → Type 0) (made : ℕ) → UnderWay caller k l before made
+    → AddsNone l m
     → ((ts : List (Taken Event Answer Output)) → before ts → after ts) → UnderWay caller k m after made
 under_way_still caller k l m before after made way none takes =
     let P : List Item → Type 0 = λ es. AddsAll k m es in

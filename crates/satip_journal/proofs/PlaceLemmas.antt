@@ -9,7 +9,8 @@ use Rattle.satip_plain.specs.Histories.{Item}
 use Rattle.satip_journal.specs.Places.{Placed, placed, own_at, line_of, lines_of}
 use Rattle.satip_journal.specs.Continuing.{own_at-append}
 
-length-kept_if : {S T : Type 0} (b : Bool) (x : S) (y : T) (xs : List S) (ys : List T) → length xs ≡ length ys → length (kept_if b x xs) ≡ length (kept_if b y ys)
+length-kept_if : {S T : Type 0} (b : Bool) (x : S) (y : T) (xs : List S) (ys : List T) → length xs ≡ length ys
+    → length (kept_if b x xs) ≡ length (kept_if b y ys)
 length-kept_if true x y xs ys e = omega (arith, e)
 length-kept_if false x y xs ys e = e
 
@@ -35,7 +36,8 @@ lines_of_one job place n others e is none =
     ∙ append-nil (line_of job (placed (place + length others) e))
 
 -- what came between is of others where the own entries grew by those behind it alone
-pub between_others : (n : ℕ) (seen between new own : List Item) → own_of n seen ≡ own → own_of n ((seen ++ between) ++ new) ≡ own ++ new → own_of n new ≡ new → own_of n between ≡ []
+pub between_others : (n : ℕ) (seen between new own : List Item) → own_of n seen ≡ own → own_of n ((seen ++ between) ++ new) ≡ own ++ new → own_of n new ≡ new
+    → own_of n between ≡ []
 between_others n seen between new own before after all =
     let cut : own_of n ((seen ++ between) ++ new) ≡ (own_of n seen ++ own_of n between) ++ own_of n new =
     own_of-append n (seen ++ between) new ∙ ap (λ (h : List Item). h ++ own_of n new) (own_of-append n seen between) in

@@ -16,8 +16,8 @@ use satip_service::Service;
 use satip_shared::Caller;
 use std::sync::Wait;
 
-/// What a job's journal has beside its caller: the job's number, the sink and the room of its lines,
-/// and whether a put failed.
+/// What a job's journal has beside its caller: the job's number, the sink and the room of its
+/// lines, and whether a put failed.
 #[derive(Drop)]
 pub struct JournalGear<K> {
     pub number: u64,

@@ -95,20 +95,26 @@ never_begun : (before now : ℕ) (end : JournalEnd) → IsUnusedEnd before now e
 never_begun before now Served ends is = absurd ends
 never_begun before now (Configuration fault) ends is = absurd ends
 never_begun before now InputFault ends is = absurd ends
-never_begun before now JournalFault ends is = ⊎_elim (λ (a : journal_status JournalFault ≡ 0). omega (arith, a)) (λ (b : journal_status JournalFault ≡ 9). omega (arith, b)) is
+never_begun before now JournalFault ends is =
+    ⊎_elim (λ (a : journal_status JournalFault ≡ 0). omega (arith, a)) (λ (b : journal_status JournalFault ≡ 9). omega (arith, b)) is
 never_begun before now DoorsFault ends is = absurd ends
 never_begun before now HistoryFull ends is = absurd ends
-never_begun before now OutOfMemory ends is = ⊎_elim (λ (a : journal_status OutOfMemory ≡ 0). omega (arith, a)) (λ (b : journal_status OutOfMemory ≡ 9). omega (arith, b)) is
+never_begun before now OutOfMemory ends is = ⊎_elim (λ (a : journal_status OutOfMemory ≡ 0). omega (arith, a))
+    (λ (b : journal_status OutOfMemory ≡ 9). omega (arith, b)) is
 
 never_ready : {V : Type 0} (before now : ℕ) (given : Option V) (end : JournalEnd) → IsUnready before now given end
     → (journal_status end ≡ 0) ⊎ (journal_status end ≡ 9) → ⊥
 never_ready before now given Served ends is = absurd ends
-never_ready before now given (Configuration fault) ends is = ⊎_elim (λ (a : journal_status (Configuration fault) ≡ 0). omega (arith, a)) (λ (b : journal_status (Configuration fault) ≡ 9). omega (arith, b)) is
-never_ready before now given InputFault ends is = ⊎_elim (λ (a : journal_status InputFault ≡ 0). omega (arith, a)) (λ (b : journal_status InputFault ≡ 9). omega (arith, b)) is
+never_ready before now given (Configuration fault) ends is =
+    ⊎_elim (λ (a : journal_status (Configuration fault) ≡ 0). omega (arith, a)) (λ (b : journal_status (Configuration fault) ≡ 9). omega (arith, b)) is
+never_ready before now given InputFault ends is =
+    ⊎_elim (λ (a : journal_status InputFault ≡ 0). omega (arith, a)) (λ (b : journal_status InputFault ≡ 9). omega (arith, b)) is
 never_ready before now given JournalFault ends is = absurd ends
-never_ready before now given DoorsFault ends is = ⊎_elim (λ (a : journal_status DoorsFault ≡ 0). omega (arith, a)) (λ (b : journal_status DoorsFault ≡ 9). omega (arith, b)) is
+never_ready before now given DoorsFault ends is =
+    ⊎_elim (λ (a : journal_status DoorsFault ≡ 0). omega (arith, a)) (λ (b : journal_status DoorsFault ≡ 9). omega (arith, b)) is
 never_ready before now given HistoryFull ends is = absurd ends
-never_ready before now given OutOfMemory ends is = ⊎_elim (λ (a : journal_status OutOfMemory ≡ 0). omega (arith, a)) (λ (b : journal_status OutOfMemory ≡ 9). omega (arith, b)) is
+never_ready before now given OutOfMemory ends is =
+    ⊎_elim (λ (a : journal_status OutOfMemory ≡ 0). omega (arith, a)) (λ (b : journal_status OutOfMemory ≡ 9). omega (arith, b)) is
 
 unready_journals : {V : Type 0} (before now : ℕ) (given : Option V) (end : JournalEnd) → IsUnready before now given end → journal_status end ≡ 6 → ⊥
 unready_journals before now given Served ends is = absurd ends
@@ -144,32 +150,38 @@ pub record IsLeft {L J V : Type 0} (before now : ℕ) (given : Option V) (last :
   pub unused_end : IfSome unused (λ _. IsUnusedEnd before now end)
   pub not_begun : IsNone last → IsNone unused → IsUnready before now given end
 
-pub faults_told : {L J V : Type 0} (before now : ℕ) (given : Option V) (last : Option L) (unused : Option J) (end : JournalEnd) → IsLeft before now given last unused end
+pub faults_told : {L J V : Type 0} (before now : ℕ) (given : Option V) (last : Option L) (unused : Option J) (end : JournalEnd)
+    → IsLeft before now given last unused end
     → (now ≡ before) ⊎ (((journal_status end ≡ 6) ⊎ (journal_status end ≡ 7)) × IsNone last)
 faults_told before now given (Some l) unused end left = inl left.no_fault
 faults_told before now given None (Some k) end left =
-    ⊎_elim (λ (same : now ≡ before). inl same) (λ (is : (journal_status end ≡ 6) ⊎ (journal_status end ≡ 7)). inr (is, refl)) (unused_faults before now end left.unused_end)
+    ⊎_elim (λ (same : now ≡ before). inl same) (λ (is : (journal_status end ≡ 6) ⊎ (journal_status end ≡ 7)). inr (is, refl))
+    (unused_faults before now end left.unused_end)
 faults_told before now given None None end left =
     ⊎_elim (λ (same : now ≡ before). inl same) (λ (is : (journal_status end ≡ 6) ⊎ (journal_status end ≡ 7)). inr (is, refl))
     (unready_faults before now given end (left.not_begun refl refl))
 
-pub unused_told : {L J V : Type 0} (before now : ℕ) (given : Option V) (last : Option L) (unused : Option J) (end : JournalEnd) → IsLeft before now given last unused end
+pub unused_told : {L J V : Type 0} (before now : ℕ) (given : Option V) (last : Option L) (unused : Option J) (end : JournalEnd)
+    → IsLeft before now given last unused end
     → IfSome unused (λ _. (journal_status end ≡ 6) ⊎ (journal_status end ≡ 70))
 unused_told before now given last None end left = tt
 unused_told before now given last (Some k) end left = unused_status before now end left.unused_end
 
-pub begun_told : {L J V : Type 0} (before now : ℕ) (given : Option V) (last : Option L) (unused : Option J) (end : JournalEnd) → IsLeft before now given last unused end
+pub begun_told : {L J V : Type 0} (before now : ℕ) (given : Option V) (last : Option L) (unused : Option J) (end : JournalEnd)
+    → IsLeft before now given last unused end
     → (journal_status end ≡ 0) ⊎ (journal_status end ≡ 9) → IsSome last
 begun_told before now given (Some l) unused end left is = refl
 begun_told before now given None (Some k) end left is = absurd (never_begun before now end left.unused_end is)
 begun_told before now given None None end left is = absurd (never_ready before now given end (left.not_begun refl refl) is)
 
-pub journals_told : {L J V : Type 0} (before now : ℕ) (given : Option V) (last : Option L) (unused : Option J) (end : JournalEnd) → IsLeft before now given last unused end
+pub journals_told : {L J V : Type 0} (before now : ℕ) (given : Option V) (last : Option L) (unused : Option J) (end : JournalEnd)
+    → IsLeft before now given last unused end
     → journal_status end ≡ 6 → IsNone last → IsSome unused × Rises before now
 journals_told before now given last (Some k) end left is none = (refl, unused_rises before now end left.unused_end is)
 journals_told before now given last None end left is none = absurd (unready_journals before now given end (left.not_begun none refl) is)
 
-pub doors_told : {L J V : Type 0} (before now : ℕ) (given : Option V) (last : Option L) (unused : Option J) (end : JournalEnd) → IsLeft before now given last unused end
+pub doors_told : {L J V : Type 0} (before now : ℕ) (given : Option V) (last : Option L) (unused : Option J) (end : JournalEnd)
+    → IsLeft before now given last unused end
     → journal_status end ≡ 7 → IsNone last → (given ≡ None) × Rises before now
 doors_told before now given last (Some k) end left is none = absurd (unused_doors before now end left.unused_end is)
 doors_told before now given last None end left is none = unready_doors before now given end (left.not_begun none refl) is
@@ -183,7 +195,8 @@ pub input_told : (a b : Feed) (end : JournalEnd) → a.faults ≡ 0 → (end ≡
     → ((end ≡ InputFault → ⊥) → b.faults ≡ a.faults) → (journal_status end ≡ 5) ↔ Rose 0 b.faults
 input_told a b end new input read = (
   (λ is. let R : ℕ → Type 0 = λ k. Rose k b.faults in subst R new (input (ends_input end is))),
-  λ failed. ⊎_elim (λ (is : end ≡ InputFault). ap journal_status is) (λ (other : end ≡ InputFault → ⊥). absurd (never_failed b.faults (read other ∙ new) failed)) (is_input end),
+  λ failed. ⊎_elim (λ (is : end ≡ InputFault). ap journal_status is)
+      (λ (other : end ≡ InputFault → ⊥). absurd (never_failed b.faults (read other ∙ new) failed)) (is_input end),
 )
 
 -- the configuration is that of the desk's text

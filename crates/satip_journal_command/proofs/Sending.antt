@@ -32,7 +32,8 @@ whole_sent tells (o ∷ os) [] (t ∷ ts) whole = absurd whole
 whole_sent tells (o ∷ os) (n ∷ ns) [] whole = absurd whole
 whole_sent tells (o ∷ os) (n ∷ ns) (t ∷ ts) whole = (inl whole.0, whole_sent tells os ns ts whole.1)
 
-pub written_sent : (tells : Type 0) (failed : Bool) (os ns : List Drain) (texts : List (List ℕ)) → AreWritten tells failed os ns texts → AreSent tells os ns texts
+pub written_sent : (tells : Type 0) (failed : Bool) (os ns : List Drain) (texts : List (List ℕ)) → AreWritten tells failed os ns texts
+    → AreSent tells os ns texts
 written_sent tells false os ns texts written = whole_sent tells os ns texts written
 written_sent tells true os ns texts written = written.0
 
@@ -59,7 +60,8 @@ were_new tells (o ∷ os) (n ∷ ns) [] new sent = absurd sent
 were_new tells (o ∷ os) (n ∷ ns) (t ∷ ts) new sent = λ i. new.0 i ∷ were_new tells os ns ts new.1 sent.1 i
 
 -- whole journals that tell their bytes are their texts
-pub texts_are : (tells : Type 0) (ns : List Drain) (texts : List (List ℕ)) → AreWhole tells (new_journals ns) ns texts → tells → map (λ (d : Drain). d.sent) ns ≡ texts
+pub texts_are : (tells : Type 0) (ns : List Drain) (texts : List (List ℕ)) → AreWhole tells (new_journals ns) ns texts → tells
+    → map (λ (d : Drain). d.sent) ns ≡ texts
 texts_are tells [] [] whole told = refl
 texts_are tells [] (t ∷ ts) whole told = absurd whole
 texts_are tells (n ∷ ns) [] whole told = absurd whole

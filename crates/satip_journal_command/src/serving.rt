@@ -1,5 +1,5 @@
-//! `journal`: a configuration is read, the desk gives the kits and the journals of all jobs, and the
-//! jobs serve.
+//! `journal`: a configuration is read, the desk gives the kits and the journals of all jobs, and
+//! the jobs serve.
 
 ghost use Rattle.std.specs.Prelude.{◌≡◌, ℕ, ◌⊎◌, ◌+◌, ◌++◌, List, Some, None, length, map, IfSome, IsNone, IsSomeAnd, MatchOption};
 ghost use Rattle.satip_base.specs.Streams.{Rose, fresh_drain};

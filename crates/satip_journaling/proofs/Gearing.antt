@@ -18,7 +18,8 @@ are_append n m [] hs a b is =
 are_append n m (g ∷ gs) hs a b is = (a.0, a.1, are_append (n + 1) m gs hs a.2 b (omega (arith, is)))
 
 -- the sinks of journals behind others, when one of them came back
-pub back_sink : {K : Type 0} (old sinks more : List K) (all left after : List (JournalGear K)) (g : JournalGear K) → sinks ++ sinks_of left ≡ old ++ sinks_of all
+pub back_sink : {K : Type 0} (old sinks more : List K) (all left after : List (JournalGear K)) (g : JournalGear K)
+    → sinks ++ sinks_of left ≡ old ++ sinks_of all
     → left ≡ g ∷ after → more ≡ sinks ++ g.sink ∷ [] → more ++ sinks_of after ≡ old ++ sinks_of all
 back_sink {K} old sinks more all left after g are next is =
     ap (λ (l : List K). l ++ sinks_of after) is ∙ append_assoc sinks (g.sink ∷ []) (sinks_of after)
@@ -66,7 +67,8 @@ all_sinks {K} whole behind rest last none bare ws ps ticker a b c d e =
     let outer : behind ≡ sinks_of (ws ++ (ps ++ ticker ∷ [])) = b ∙ (λ i. sinks_of ws ++ inner i) ∙ sym (sinks_append ws (ps ++ ticker ∷ [])) in
     a ∙ ap (λ (l : List K). bare ∷ l) outer
 
-pub all_back : {K : Type 0} (old one two three four : List K) (root ticker : JournalGear K) (ws ps : List (JournalGear K)) → old ≡ [] → one ≡ old ++ root.sink ∷ []
+pub all_back : {K : Type 0} (old one two three four : List K) (root ticker : JournalGear K) (ws ps : List (JournalGear K)) → old ≡ []
+    → one ≡ old ++ root.sink ∷ []
     → two ≡ one ++ sinks_of ws → three ≡ two ++ sinks_of ps → four ≡ three ++ ticker.sink ∷ []
     → four ≡ sinks_of (root ∷ (ws ++ (ps ++ ticker ∷ [])))
 all_back {K} old one two three four root ticker ws ps none a b c d =

@@ -16,7 +16,8 @@ one_of : (a b : Bool) → (a || b) ≡ true → (a ≡ true) ⊎ (b ≡ true)
 one_of true b e = inl refl
 one_of false b e = inr e
 
-one_sent : (tells : Type 0) (o n : Drain) (failed : Bool) (text : List ℕ) → Logs tells o n false failed text → PutAll tells o n text ⊎ FailedToPut tells o n text
+one_sent : (tells : Type 0) (o n : Drain) (failed : Bool) (text : List ℕ) → Logs tells o n false failed text
+    → PutAll tells o n text ⊎ FailedToPut tells o n text
 one_sent tells o n false text logs = inl logs
 one_sent tells o n true text logs = inr logs
 
@@ -40,7 +41,8 @@ module _ {K : Type 0} (tells : Type 0) (drain : K → Drain) where
   sent (o ∷ os) (g ∷ gs) [] h = absurd h
   sent (o ∷ os) (g ∷ gs) (t ∷ ts) h = (one_sent tells o (drain g.sink) g.failed t h.0, sent os gs ts h.1)
 
-  whole : (os : List Drain) (gs : List (JournalGear K)) (ts : List (List ℕ)) → has_failed gs ≡ false → AreLogged tells drain os gs ts → AreWhole tells os (drains gs) ts
+  whole : (os : List Drain) (gs : List (JournalGear K)) (ts : List (List ℕ)) → has_failed gs ≡ false → AreLogged tells drain os gs ts
+      → AreWhole tells os (drains gs) ts
   whole [] [] [] unfailed h = tt
   whole [] [] (t ∷ ts) unfailed h = absurd h
   whole [] (g ∷ gs) ts unfailed h = absurd h
@@ -64,7 +66,8 @@ module _ {K : Type 0} (tells : Type 0) (drain : K → Drain) where
   by_test os gs ts false is h = whole os gs ts is h
   by_test os gs ts true is h = (sent os gs ts h, risen os gs ts is h)
 
-  pub written : (os : List Drain) (gs : List (JournalGear K)) (ts : List (List ℕ)) → AreLogged tells drain os gs ts → AreWritten tells (has_failed gs) os (drains gs) ts
+  pub written : (os : List Drain) (gs : List (JournalGear K)) (ts : List (List ℕ)) → AreLogged tells drain os gs ts
+      → AreWritten tells (has_failed gs) os (drains gs) ts
   written os gs ts h = by_test os gs ts (has_failed gs) refl h
 
 drains_of : {K : Type 0} (drain : K → Drain) (gs : List (JournalGear K)) → map drain (sinks_of gs) ≡ map (λ g. drain g.sink) gs

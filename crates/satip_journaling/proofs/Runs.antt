@@ -104,7 +104,8 @@ module _ {X K W L P M T N : Type 0} {cell : X → Cell Setting} {pass : X → Se
     same_jobs : Both Same began ended
     same_jobs =
         both_append Same (callers_at run.first) (callers_at run.second ++ run.third.caller ∷ []) (callers_at run.front.ended)
-        (callers_at run.second_ended ++ run.third_ended.caller ∷ []) (both_at Same worked (λ s t did. (works s t did).0) run.first run.front.ended run.front.done)
+        (callers_at run.second_ended ++ run.third_ended.caller ∷ [])
+        (both_at Same worked (λ s t did. (works s t did).0) run.first run.front.ended run.front.done)
         (both_append Same (callers_at run.second) (run.third.caller ∷ []) (callers_at run.second_ended) (run.third_ended.caller ∷ [])
         (both_at Same pumped (λ s t did. (pumps s t did).0) run.second run.second_ended run.second_done)
         ((ticks run.third run.third_ended run.third_done).0, tt))
@@ -266,8 +267,11 @@ module _ {X K W L P M T N : Type 0} {cell : X → Cell Setting} {pass : X → Se
         let two : Q (map (λ (g : JournalGear K). drain g.sink) given) came_back (map (λ y. (pass y).number) ended) =
         subst (λ (gs : List (JournalGear K)). Q (map (λ (g : JournalGear K). drain g.sink) given) gs (map (λ y. (pass y).number) ended)) back_is one in
         let three = subst (λ (ms : List ℕ). Q (map (λ (g : JournalGear K). drain g.sink) given) came_back ms) numbers two in
-        let mine = subst (λ (i : ℕ). Logs tells (drain (gear o).sink) (drain (gear n).sink) (gear o).failed (gear n).failed (journal_of i 0 h)) number root.0 in
-        (logs_then tells bare (drain (gear o).sink) (drain (gear n).sink) false (gear o).failed (gear n).failed (start_line start) (journal_of 0 0 h) begun mine, three)
+        let mine = subst (λ (i : ℕ). Logs tells (drain (gear o).sink) (drain (gear n).sink) (gear o).failed (gear n).failed (journal_of i 0 h))
+        number root.0 in
+        let both = logs_then tells bare (drain (gear o).sink) (drain (gear n).sink) false (gear o).failed (gear n).failed (start_line start)
+        (journal_of 0 0 h) begun mine in
+        (both, three)
       where
         map_map : (xs : List X) → map (λ x. drain (gear x).sink) xs ≡ map (λ (g : JournalGear K). drain g.sink) (map gear xs)
         map_map [] = refl

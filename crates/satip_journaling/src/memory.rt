@@ -10,8 +10,8 @@ use satip_serve::{ServeSpace, take_space, with_room};
 use std::alloc::Global;
 use std::sync::Wait;
 
-/// What all jobs work with beside their kits, the room for a line of each, and lists with memory for
-/// what the journals have beside their callers.
+/// What all jobs work with beside their kits, the room for a line of each, and lists with memory
+/// for what the journals have beside their callers.
 #[derive(Drop)]
 pub(crate) struct Memory<'a, R: Wait + Sync, D, O, P, M, K: Sink> {
     pub space: ServeSpace<Journal<'a, R, K>, D, O, P, M>,

@@ -222,9 +222,9 @@ fn serve_all<
 
 /// Serves as `serve` does, and writes a journal for each job: one for caller 0, which makes the
 /// stop, then for the workers, the pumps in the order of front ends, and the ticker. Each has the
-/// lines of its job's entries, in order, with the places in the history and the job's number in that
-/// order, from 0; job 0's has the start line before them. Behind a put that failed nothing more is
-/// put on that sink; the jobs go on.
+/// lines of its job's entries, in order, with the places in the history and the job's number in
+/// that order, from 0; job 0's has the start line before them. Behind a put that failed nothing
+/// more is put on that sink; the jobs go on.
 ///
 /// All memory is taken before any job begins: where it was refused the kits come back, of which the
 /// clock alone was used, once, and the sinks as they were. It waits.
@@ -269,7 +269,8 @@ pub fn serve_journaled<
         (tick_view C.dial O.outbox jobs.tick)
         → ServeRun D.Conn.tells O.tells served.0.server.setting accepts served.0.pass.seen
         served.0.pass.kept
-        (map (worker_view D.hall O.outbox) served.0.jobs.workers.items) (map (pump_view M.shelf O.outbox) served.0.jobs.pumps.items)
+        (map (worker_view D.hall O.outbox) served.0.jobs.workers.items)
+        (map (pump_view M.shelf O.outbox) served.0.jobs.pumps.items)
         (tick_view C.dial O.outbox served.0.jobs.tick)) }
     // why it ended so: all doors ended, or those of a worker failed, or the history is full
     ensures ended { IfOk result (λ served. (accepts : _)

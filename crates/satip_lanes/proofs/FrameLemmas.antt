@@ -163,7 +163,8 @@ first_size_more room bytes front fits =
 pub first_size_over : (room : ℕ) (bytes : List ℕ) → IsFront bytes → room < frame_size bytes → first_size room bytes ≡ 0
 first_size_over room bytes front over =
     ap (λ fs. length (concat (first_frames room fs))) front.is
-    ∙ no_more room (take (frame_size bytes) bytes) (frames_of (drop (frame_size bytes) bytes)) (omega (arith, over, length-take-le (frame_size bytes) bytes front.within))
+    ∙ no_more room (take (frame_size bytes) bytes) (frames_of (drop (frame_size bytes) bytes))
+    (omega (arith, over, length-take-le (frame_size bytes) bytes front.within))
 
 pub first_size_none : (room : ℕ) (bytes : List ℕ) → length bytes ≡ 0 → first_size room bytes ≡ 0
 first_size_none room bytes none =

@@ -94,5 +94,6 @@ sound_changed old new at lane items capacity spare sound = record {
   room = omega (arith, capacity, sound.room);
   queue_room = subst (λ s. 64 ≤ vec_capacity s) (sym spare) sound.queue_room;
   queues = subst (λ s. All (λ queue. queue ≡ []) s.items) (sym spare) sound.queues;
-  all_queues = ap (λ s. vec_len s + vec_len new.held) spare ∙ omega (arith, sound.all_queues, new.held.ok.0, old.held.ok.0, ap length items, length-set old.held.items at lane);
+  all_queues = ap (λ s. vec_len s + vec_len new.held) spare
+      ∙ omega (arith, sound.all_queues, new.held.ok.0, old.held.ok.0, ap length items, length-set old.held.items at lane);
 }

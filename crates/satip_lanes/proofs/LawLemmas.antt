@@ -146,7 +146,8 @@ record CameThen (lane next : Lane) (came : List (List ℕ)) (turns : List Turn) 
   none_lost : (lane_after next turns).broken ≡ false → lost ≡ []
 
 came_then : (port : ℕ) (bytes : List ℕ) (turns : List Turn) (lane : Lane) → lane.broken ≡ false
-    → ((l : Lane) → l.broken ≡ false → KeepsOrder l turns) → CameThen lane (put_in port bytes lane) (cond (is_channel_port port) (frame (port - 1) bytes ∷ []) []) turns
+    → ((l : Lane) → l.broken ≡ false → KeepsOrder l turns)
+    → CameThen lane (put_in port bytes lane) (cond (is_channel_port port) (frame (port - 1) bytes ∷ []) []) turns
 came_then port bytes turns lane sound rest = each (is_channel_port port) lane.broken sound (fits_behind lane.frames bytes)
   where
     f : List ℕ

@@ -39,8 +39,16 @@ is_setting = record {
   workers = omega arith;
   fronts = (record { number = omega arith; sources = refl; systems = refl }, (record { number = omega arith; sources = refl; systems = refl }, tt));
   muxes = (record { src = omega arith; freq = omega arith; sr = omega arith }, (record { src = omega arith; freq = omega arith; sr = omega arith }, tt));
-  files = (name 97 46 116 115 (omega arith) (omega arith) (omega arith) (omega arith), (name 98 46 116 115 (omega arith) (omega arith) (omega arith) (omega arith), tt));
+  files = (
+    name 97 46 116 115 (omega arith) (omega arith) (omega arith) (omega arith),
+    (name 98 46 116 115 (omega arith) (omega arith) (omega arith) (omega arith), tt),
+  );
 }
 
 pub runs_are_legal : RunsAreLegal
-runs_are_legal es each = record { servable = is_servable; setting = is_setting; events = events_from es (opening setting) each; entries = legal_from es (opening setting) }
+runs_are_legal es each = record {
+  servable = is_servable;
+  setting = is_setting;
+  events = events_from es (opening setting) each;
+  entries = legal_from es (opening setting);
+}

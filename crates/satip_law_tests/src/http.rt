@@ -7,7 +7,6 @@ ghost use Rattle.satip_readings.specs.Rows.{ends_session};
 ghost use Rattle.satip_law_tests.specs.Rows.{answer_to_get, ends_behind, get_finds_none, get_unknown, is_near, viewer};
 
 // A close ends the HTTP session that it names, and no RTSP session.
-#[tactic(auto, unfolding(satip_fronts::specs::Choice::choose, satip_fronts::specs::Choice::blocked, satip_fronts::specs::Choice::least, satip_fronts::specs::Choice::placed, satip_fronts::specs::Choice::may_take))]
 fn close_ends_an_http_session()
     ensures named { ends_session (get_second ∷ []) (Close viewer) viewer ≡ true }
     ensures another { ends_session (get_second ∷ []) (Close (id_of 2 10)) viewer ≡ false }
@@ -15,7 +14,6 @@ fn close_ends_an_http_session()
 {}
 
 // A packet that is selected for an HTTP session ends it where 4096 packets wait to be pulled.
-#[tactic(auto, unfolding(satip_fronts::specs::Choice::choose, satip_fronts::specs::Choice::blocked, satip_fronts::specs::Choice::least, satip_fronts::specs::Choice::placed, satip_fronts::specs::Choice::may_take))]
 fn full_queue_ends_an_http_session()
     ensures full { ends_behind 4096 0 (packet_on 1 1 400) ≡ true }
     ensures one_place { ends_behind 4095 0 (packet_on 1 1 400) ≡ false }
@@ -34,7 +32,6 @@ fn pulls_are_near()
 {}
 
 // A GET finds no front end for a third tuning, until one is given back.
-#[tactic(auto, unfolding(satip_fronts::specs::Choice::choose, satip_fronts::specs::Choice::blocked, satip_fronts::specs::Choice::least, satip_fronts::specs::Choice::placed, satip_fronts::specs::Choice::may_take))]
 fn third_tuning_blocks_a_get()
     ensures blocked { get_finds_none (setup ∷ setup_with (with_change to_second) ∷ []) ≡ true }
     ensures given_back { get_finds_none (setup ∷ setup_with (with_change to_second) ∷ teardown_in
@@ -43,7 +40,6 @@ fn third_tuning_blocks_a_get()
 {}
 
 // And it is told so.
-#[tactic(auto, unfolding(satip_fronts::specs::Choice::choose, satip_fronts::specs::Choice::blocked, satip_fronts::specs::Choice::least, satip_fronts::specs::Choice::placed, satip_fronts::specs::Choice::may_take))]
 fn blocked_get_is_told()
     ensures told { IsToldBusy get_unknown (answer_to_get
         (setup ∷ setup_with (with_change to_second) ∷ [])) }

@@ -9,7 +9,6 @@ ghost use Rattle.satip_laws.specs.Examples.{current_pids, due_after, flow, flow_
 ghost use Rattle.satip_plain.specs.Pumping.{Asking, Feeding, Finished, fresh};
 
 // A packet counts once its PID was added; it is held until the tick.
-#[tactic(auto, unfolding(satip_fronts::specs::Choice::choose, satip_fronts::specs::Choice::blocked, satip_fronts::specs::Choice::least, satip_fronts::specs::Choice::placed, satip_fronts::specs::Choice::may_take))]
 fn pids_added_count_from_then_on()
     ensures held { flow_of (setup ∷ play ∷ packet 100 ∷ play_in (id_of 1 10) 1
         (added_pids (100 ∷ [])) ∷ packet 100 ∷ []) (id_of 1 10) ≡ flow (100 ∷ []) [] (100 ∷ []) [] }
@@ -19,7 +18,6 @@ fn pids_added_count_from_then_on()
 {}
 
 // Seven packets leave at once, and what is held leaves as the session ends.
-#[tactic(auto, unfolding(satip_fronts::specs::Choice::choose, satip_fronts::specs::Choice::blocked, satip_fronts::specs::Choice::least, satip_fronts::specs::Choice::placed, satip_fronts::specs::Choice::may_take))]
 fn sevens_leave_at_once()
     ensures seven { flow_of (setup ∷ play ∷ packets 8 16) (id_of 1 10)
         ≡ flow (16 ∷ 16 ∷ 16 ∷ 16 ∷ 16 ∷ 16 ∷ 16 ∷ 16 ∷ []) (16 ∷ 16 ∷ 16 ∷ 16 ∷ 16 ∷ 16 ∷ 16 ∷ [])
@@ -29,7 +27,6 @@ fn sevens_leave_at_once()
 {}
 
 // What is held leaves where the stream is retuned; a packet of the old tuning is given to nobody.
-#[tactic(auto, unfolding(satip_fronts::specs::Choice::choose, satip_fronts::specs::Choice::blocked, satip_fronts::specs::Choice::least, satip_fronts::specs::Choice::placed, satip_fronts::specs::Choice::may_take, satip_tune::specs::Words::pol_text, satip_tune::specs::Words::system_text, satip_tune::specs::Words::modulation_text, satip_tune::specs::Words::roll_off_text, satip_tune::specs::Words::fec_text, satip_tune::specs::Words::pilots_text))]
 fn packet_across_a_retune_is_dropped()
     ensures retuned { flow_of (setup ∷ play ∷ packet 16 ∷ play_in (id_of 1 10) 1
         (with_change to_second) ∷ packet 17 ∷ []) (id_of 1 10) ≡ flow (16 ∷ []) (16 ∷ []) [] [] }
@@ -39,7 +36,6 @@ fn packet_across_a_retune_is_dropped()
 {}
 
 // A packet is given to each session of a stream that plays, and to each stream at the front end.
-#[tactic(auto, unfolding(satip_fronts::specs::Choice::choose, satip_fronts::specs::Choice::blocked, satip_fronts::specs::Choice::least, satip_fronts::specs::Choice::placed, satip_fronts::specs::Choice::may_take))]
 fn each_playing_session_is_given_the_packet()
     ensures joined { flow_of (setup ∷ play ∷ join_of 1 ∷ packet 16 ∷ play_of_two 1 new_query ∷
         packet 17 ∷ []) (id_of 2 11) ≡ flow (17 ∷ []) [] (17 ∷ []) [] }
@@ -50,7 +46,6 @@ fn each_playing_session_is_given_the_packet()
 {}
 
 // An HTTP session plays from the start; a pull takes what is queued, and a close drops it.
-#[tactic(auto, unfolding(satip_fronts::specs::Choice::choose, satip_fronts::specs::Choice::blocked, satip_fronts::specs::Choice::least, satip_fronts::specs::Choice::placed, satip_fronts::specs::Choice::may_take))]
 fn queue_is_pulled()
     ensures pulled { flow_of (get_second ∷ packet_on 1 1 400 ∷ packet_on 1 1 401 ∷ Pull (id_of 1 10)
         ∷ packet_on 1 1 402 ∷ []) (id_of 1 10) ≡ flow (400 ∷ 401 ∷ 402 ∷ []) [] (402 ∷ [])
@@ -61,7 +56,6 @@ fn queue_is_pulled()
 
 // Sessions are made by accepted requests alone, each with its count, its stream and the number of
 // its draw.
-#[tactic(auto, unfolding(satip_fronts::specs::Choice::choose, satip_fronts::specs::Choice::blocked, satip_fronts::specs::Choice::least, satip_fronts::specs::Choice::placed, satip_fronts::specs::Choice::may_take))]
 fn sessions_are_made()
     ensures made { newcomers (setup ∷ join_of 1 ∷ join_of 7 ∷ get_second ∷ [])
         ≡ newcomer 1 false 1 65535 ∷ newcomer 2 false 1 0 ∷ newcomer 3 true 2 65535 ∷ [] }
@@ -69,7 +63,6 @@ fn sessions_are_made()
 {}
 
 // A stream is retuned by its owner with another tuning, and as it is founded with one.
-#[tactic(auto, unfolding(satip_fronts::specs::Choice::choose, satip_fronts::specs::Choice::blocked, satip_fronts::specs::Choice::least, satip_fronts::specs::Choice::placed, satip_fronts::specs::Choice::may_take))]
 fn retunings_are_told()
     ensures another { gives_next (setup ∷ play ∷ [])
         (play_in (id_of 1 10) 1 (with_change to_second)) (id_of 1 10) ≡ true }
@@ -94,7 +87,6 @@ fn bytes_are_read()
 {}
 
 // What left for a session is read from the bytes of its own RTP datagrams, and not from reports.
-#[tactic(auto, unfolding(satip_rtp::specs::Bytes::rtp_header, satip_rtp::specs::Bytes::rtp_datagram, satip_fronts::specs::Choice::choose, satip_fronts::specs::Choice::blocked, satip_fronts::specs::Choice::least, satip_fronts::specs::Choice::placed, satip_fronts::specs::Choice::may_take))]
 fn payload_is_read_from_bytes()
     ensures sent { left_pids (setup ∷ play ∷ packet 16 ∷ packet 17 ∷ Tick 40 ∷ packet 16 ∷ [])
         (id_of 1 10) ≡ 16 ∷ 17 ∷ [] }
@@ -103,7 +95,6 @@ fn payload_is_read_from_bytes()
 {}
 
 // Numbers go on from the draw's, and wrap after 65535; two draws have two SSRCs.
-#[tactic(auto, unfolding(satip_fronts::specs::Choice::choose, satip_fronts::specs::Choice::blocked, satip_fronts::specs::Choice::least, satip_fronts::specs::Choice::placed, satip_fronts::specs::Choice::may_take))]
 fn numbers_and_marks()
     ensures wraps { numbers_of (setup ∷ play ∷ packet 16 ∷ Tick 40 ∷ packet 16 ∷ Tick 80 ∷ packet 16
         ∷ Tick 120 ∷ []) (id_of 1 10) ≡ 65535 ∷ 0 ∷ 1 ∷ [] }
@@ -112,7 +103,6 @@ fn numbers_and_marks()
 {}
 
 // A packet is current for the tuning number that its front end has while it serves a stream.
-#[tactic(auto, unfolding(satip_fronts::specs::Choice::choose, satip_fronts::specs::Choice::blocked, satip_fronts::specs::Choice::least, satip_fronts::specs::Choice::placed, satip_fronts::specs::Choice::may_take))]
 fn stale_packets_are_left_out()
     ensures first { current_pids (packet 15 ∷ setup ∷ packet 16 ∷ play_in (id_of 1 10) 1
         (with_change to_second) ∷ packet 17 ∷ packet_on 1 2 18 ∷ []) 1 1 ≡ 16 ∷ [] }

@@ -6,7 +6,6 @@ ghost use Rattle.satip_plain.specs.Examples.{added_pids, id_of, join_of, packet,
 ghost use Rattle.satip_readings.specs.Rows.{RunsAreLegal, given_pids, ends_session, asks_as_owner, is_about, finds_none};
 
 // A session is given what it selects while it plays, of its stream's tuning alone.
-#[tactic(auto, unfolding(satip_fronts::specs::Choice::choose, satip_fronts::specs::Choice::blocked, satip_fronts::specs::Choice::least, satip_fronts::specs::Choice::placed, satip_fronts::specs::Choice::may_take))]
 fn playing_session_is_given_its_packets()
     ensures from_then_on { given_pids (setup ∷ play ∷ packet 100 ∷ play_in (id_of 1 10) 1
         (added_pids (100 ∷ [])) ∷ packet 100 ∷ packet 16 ∷ []) (id_of 1 10) ≡ 100 ∷ 16 ∷ [] }
@@ -17,7 +16,6 @@ fn playing_session_is_given_its_packets()
 {}
 
 // A tick too late for it and a TEARDOWN that names it end a session.
-#[tactic(auto, unfolding(satip_fronts::specs::Choice::choose, satip_fronts::specs::Choice::blocked, satip_fronts::specs::Choice::least, satip_fronts::specs::Choice::placed, satip_fronts::specs::Choice::may_take))]
 fn session_ends_by_a_cause()
     ensures too_late { ends_session (setup ∷ Tick 59999 ∷ []) (Tick 60000) (id_of 1 10) ≡ true }
     ensures in_time { ends_session (setup ∷ []) (Tick 59999) (id_of 1 10) ≡ false }
@@ -28,7 +26,6 @@ fn session_ends_by_a_cause()
 {}
 
 // The earliest session of a stream owns it, and the next one once it ended.
-#[tactic(auto, unfolding(satip_fronts::specs::Choice::choose, satip_fronts::specs::Choice::blocked, satip_fronts::specs::Choice::least, satip_fronts::specs::Choice::placed, satip_fronts::specs::Choice::may_take))]
 fn owner_asks_for_a_change()
     ensures owner { asks_as_owner (setup ∷ join_of 1 ∷ []) play (id_of 1 10) ≡ true }
     ensures joined { asks_as_owner (setup ∷ join_of 1 ∷ []) (play_of_two 1 new_query) (id_of 1 10)
@@ -41,7 +38,6 @@ fn owner_asks_for_a_change()
 
 // A third tuning finds no front end, until one is given back; a request is about the stream that it
 // names or would found.
-#[tactic(auto, unfolding(satip_fronts::specs::Choice::choose, satip_fronts::specs::Choice::blocked, satip_fronts::specs::Choice::least, satip_fronts::specs::Choice::placed, satip_fronts::specs::Choice::may_take))]
 fn third_tuning_is_blocked()
     ensures blocked { finds_none (setup ∷ setup_with (with_change to_second) ∷ [])
         (setup_with (with_change to_unknown)) ≡ true }

@@ -43,11 +43,15 @@ tuning_here : (c : Config) (st : State) (g : Readings) → Agrees c st g → (m 
 tuning_here c st g agrees m lives = ap (λ o. option_and_then (λ t. t.tuning) o) (stream_here c st g agrees m lives)
 
 -- a stream that is founded
-tuning_new : (c : Config) (st : State) (g : Readings) → Agrees c st g → (id : SessionId) → length g.made < id.count → tuning_of st (least_free st.streams) ≡ g.tuned id
+tuning_new : (c : Config) (st : State) (g : Readings) → Agrees c st g → (id : SessionId) → length g.made < id.count
+    → tuning_of st (least_free st.streams) ≡ g.tuned id
 tuning_new c st g agrees id above =
-    ap (λ o. option_and_then (λ t. t.tuning) o) (none_of (least_free st.streams) st.streams (least_is_free st.streams)) ∙ sym (agrees.loosely.told.unmade id above).tuned
+    ap (λ o. option_and_then (λ t. t.tuning) o) (none_of (least_free st.streams) st.streams (least_is_free st.streams))
+    ∙ sym (agrees.loosely.told.unmade id above).tuned
 
-number_new : (c : Config) (st : State) (g : Readings) → Agrees c st g → (http : Bool) (draw : Draw) → least_free st.streams ≡ numbered g (Some (record { id = next_made g draw.word; http = http; home = next_made g draw.word; draw = draw })) (next_made g draw.word)
+number_new : (c : Config) (st : State) (g : Readings) → Agrees c st g → (http : Bool) (draw : Draw)
+    → least_free st.streams ≡ numbered g (Some (record { id = next_made g draw.word; http = http; home = next_made g draw.word; draw = draw }))
+    (next_made g draw.word)
 number_new c st g agrees http draw =
     let id : SessionId = next_made g draw.word in
     sym (number_is_free c st g agrees) ∙ put_here id (id_itself id) (number_free g)
@@ -55,14 +59,17 @@ number_new c st g agrees http draw =
     put_here : (id : SessionId) → same_id id id ≡ true → (n : ℕ) → n ≡ (if same_id id id then put id n g.number else g.number) id
     put_here id e n = rw (e, e) refl
 
-number_joined : (g : Readings) (http : Bool) (draw : Draw) (m : Made) (home : SessionId) → home.count ≤ length g.made → g.number home ≡ numbered g (Some (record { id = next_made g draw.word; http = http; home = home; draw = draw })) home
+number_joined : (g : Readings) (http : Bool) (draw : Draw) (m : Made) (home : SessionId) → home.count ≤ length g.made
+    → g.number home ≡ numbered g (Some (record { id = next_made g draw.word; http = http; home = home; draw = draw })) home
 number_joined g http draw m home few =
-    let other : same_id home (next_made g draw.word) ≡ false = id_other home (next_made g draw.word) (λ e. let same : home.count ≡ length g.made + 1 = ap (λ i. i.count) e in omega (arith, few, same)) in
+    let other : same_id home (next_made g draw.word) ≡ false =
+    id_other home (next_made g draw.word) (λ e. let same : home.count ≡ length g.made + 1 = ap (λ i. i.count) e in omega (arith, few, same)) in
     rw other refl
 
 -- requests
 
-module _ (c : Config) (st : State) (g : Readings) (agrees : Agrees c st g) (caller : ℕ) (peer : Peer) (draw : Draw) (r : Request) (answer : Answer) (out : Output) (a : Readings.Asking) where
+module _ (c : Config) (st : State) (g : Readings) (agrees : Agrees c st g) (caller : ℕ) (peer : Peer) (draw : Draw) (r : Request) (answer : Answer)
+    (out : Output) (a : Readings.Asking) where
   abbrev event : Event
   event = Asked peer draw r
 
@@ -75,7 +82,8 @@ module _ (c : Config) (st : State) (g : Readings) (agrees : Agrees c st g) (call
       ap (λ b. if b && is_none (decide c st r) then it else None) change ∙ ap (λ o. if is_none o then it else None) none
 
   -- put together
-  is_asked : (home : SessionId) (n : ℕ) → changes r.method ≡ true → decide c st r ≡ None → number_asked r.method st r ≡ n → n ≡ numbered g (makes g entry) home → tuning_of st n ≡ g.tuned home
+  is_asked : (home : SessionId) (n : ℕ) → changes r.method ≡ true → decide c st r ≡ None → number_asked r.method st r ≡ n → n ≡ numbered g (makes g entry) home
+      → tuning_of st n ≡ g.tuned home
       → record { home = home; query = r.query } ≡ a → IsAsked c st g entry a
   is_asked home n change none number read tuning is = subst (λ (x : Readings.Asking). IsAsked c st g entry x) is (record {
     number = number_asked r.method st r;
@@ -96,12 +104,15 @@ module _ (c : Config) (st : State) (g : Readings) (agrees : Agrees c st g) (call
   makes_none false e = refl
 
   -- in a session that is named
-  named_asks : is_accepted answer ≡ true → Passes c st r → decide c st r ≡ None → changes r.method ≡ true → Readings.made_by g event ≡ None → (o : Option Made) → named_in g r.session ≡ o
-      → ((m : Made) (s : Session) → named_in g r.session ≡ Some m → Has m (living g) → session_named st r.session ≡ Some s → Same g m s → number_asked r.method st r ≡ g.number m.home)
+  named_asks : is_accepted answer ≡ true → Passes c st r → decide c st r ≡ None → changes r.method ≡ true → Readings.made_by g event ≡ None → (o : Option Made)
+      → named_in g r.session ≡ o
+      → ((m : Made) (s : Session) → named_in g r.session ≡ Some m → Has m (living g) → session_named st r.session ≡ Some s → Same g m s
+      → number_asked r.method st r ≡ g.number m.home)
       → asks o true ≡ Some a → IsAsked c st g entry a
   named_asks acc p none change unmade None named number e = cc
   named_asks acc p none change unmade (Some m) named number e =
-      is_asked m.home (g.number m.home) change none (by (session_named st r.session) refl (subst (λ o. Matched g o (session_named st r.session)) named (named_match c st g agrees r.session)))
+      is_asked m.home (g.number m.home) change none
+      (by (session_named st r.session) refl (subst (λ o. Matched g o (session_named st r.session)) named (named_match c st g agrees r.session)))
       (ap (λ o. numbered g o m.home) (sym (makes_none (is_accepted answer) unmade)))
       (tuning_here c st g agrees m lives) is
     where
@@ -123,11 +134,13 @@ module _ (c : Config) (st : State) (g : Readings) (agrees : Agrees c st g) (call
   setup_asked method = ap (λ x. number_asked x st r) method
 
   -- SETUP in a session that is named
-  setup_number_named : is_accepted answer ≡ true → Passes c st r → r.method ≡ Setup → names_none r.session ≡ false → (m : Made) → named_in g r.session ≡ Some m → number_asked r.method st r ≡ g.number m.home
+  setup_number_named : is_accepted answer ≡ true → Passes c st r → r.method ≡ Setup → names_none r.session ≡ false → (m : Made) → named_in g r.session ≡ Some m
+      → number_asked r.method st r ≡ g.number m.home
   setup_number_named acc p method no_name m named = setup_asked method ∙ by r.stream refl
     where
       complete : is_none r.stream ≡ false
-      complete = sym (ap (λ b. b && not (names_none r.session) && is_none r.stream) (ap is_setup method) ∙ ap (λ b. not b && is_none r.stream) no_name) ∙ p.complete
+      complete = sym (ap (λ b. b && not (names_none r.session) && is_none r.stream) (ap is_setup method) ∙ ap (λ b. not b && is_none r.stream) no_name)
+          ∙ p.complete
 
       by : (o : Option ℕ) → r.stream ≡ o → unwrap_or o (least_free st.streams) ≡ g.number m.home
       by None f = let no_way : is_none r.stream ≡ true = ap is_none f in cc
@@ -137,46 +150,56 @@ module _ (c : Config) (st : State) (g : Readings) (agrees : Agrees c st g) (call
   abbrev new_at : SessionId → Made
   new_at home = record { id = next_made g draw.word; http = false; home = home; draw = draw }
 
-  made_is : r.method ≡ Setup → names_none r.session ≡ true → Readings.made_by g event ≡ Some (new_at (unwrap_or (option_and_then (home_of_number g) r.stream) (next_made g draw.word)))
+  made_is : r.method ≡ Setup → names_none r.session ≡ true
+      → Readings.made_by g event ≡ Some (new_at (unwrap_or (option_and_then (home_of_number g) r.stream) (next_made g draw.word)))
   made_is method none =
       let it : Option Made = Some (new_at (unwrap_or (option_and_then (home_of_number g) r.stream) (next_made g draw.word))) in
       ap (λ b. if b && names_none r.session then it else None) (ap is_setup method) ∙ ap (λ b. if b then it else None) none
 
-  setup_new : is_accepted answer ≡ true → Passes c st r → decide c st r ≡ None → r.method ≡ Setup → names_none r.session ≡ true → asks (Readings.made_by g event) true ≡ Some a → IsAsked c st g entry a
+  setup_new : is_accepted answer ≡ true → Passes c st r → decide c st r ≡ None → r.method ≡ Setup → names_none r.session ≡ true
+      → asks (Readings.made_by g event) true ≡ Some a → IsAsked c st g entry a
   setup_new acc p none method unnamed e = by r.stream refl
     where
       change : changes r.method ≡ true
       change = ap changes method
 
-      made_here : (home : SessionId) → unwrap_or (option_and_then (home_of_number g) r.stream) (next_made g draw.word) ≡ home → Readings.made_by g event ≡ Some (new_at home)
+      made_here : (home : SessionId) → unwrap_or (option_and_then (home_of_number g) r.stream) (next_made g draw.word) ≡ home
+          → Readings.made_by g event ≡ Some (new_at home)
       made_here home f = made_is method unnamed ∙ ap (λ h. Some (new_at h)) f
 
-      makes_here : (home : SessionId) → unwrap_or (option_and_then (home_of_number g) r.stream) (next_made g draw.word) ≡ home → makes g entry ≡ Some (new_at home)
+      makes_here : (home : SessionId) → unwrap_or (option_and_then (home_of_number g) r.stream) (next_made g draw.word) ≡ home
+          → makes g entry ≡ Some (new_at home)
       makes_here home f = ap (λ b. if b then Readings.made_by g event else None) acc ∙ made_here home f
 
-      asks_here : (home : SessionId) → unwrap_or (option_and_then (home_of_number g) r.stream) (next_made g draw.word) ≡ home → record { home = home; query = r.query } ≡ a
+      asks_here : (home : SessionId) → unwrap_or (option_and_then (home_of_number g) r.stream) (next_made g draw.word) ≡ home
+          → record { home = home; query = r.query } ≡ a
       asks_here home f = let asked : Some (record { home = home; query = r.query }) ≡ Some a = sym (ap (λ o. asks o true) (made_here home f)) ∙ e in cc
 
-      at : (home : SessionId) (n : ℕ) → unwrap_or (option_and_then (home_of_number g) r.stream) (next_made g draw.word) ≡ home → setup_number r st ≡ n → n ≡ numbered g (Some (new_at home)) home → tuning_of st n ≡ g.tuned home → IsAsked c st g entry a
+      at : (home : SessionId) (n : ℕ) → unwrap_or (option_and_then (home_of_number g) r.stream) (next_made g draw.word) ≡ home → setup_number r st ≡ n
+          → n ≡ numbered g (Some (new_at home)) home → tuning_of st n ≡ g.tuned home → IsAsked c st g entry a
       at home n f number read tuning =
           is_asked home n change none (setup_asked method ∙ number) (read ∙ ap (λ o. numbered g o home) (sym (makes_here home f))) tuning (asks_here home f)
 
       there : (n : ℕ) → r.stream ≡ Some n → is_none (stream_of st n) ≡ false
-      there n is = sym (ap (λ x. looks_at_stream x && option_map_or (λ number. is_none (stream_of st number)) r.stream (is_describe x && length st.streams == 0)) method
+      there n is = sym (ap (λ x. looks_at_stream x && option_map_or (λ number. is_none (stream_of st number)) r.stream
+          (is_describe x && length st.streams == 0)) method
           ∙ ap (λ o. option_map_or (λ number. is_none (stream_of st number)) o (false && length st.streams == 0)) is) ∙ p.there
 
-      joined : (n : ℕ) → r.stream ≡ Some n → (o : Option SessionId) → home_of_number g n ≡ o → is_none (option_map (stream_told g) o) ≡ false → IsAsked c st g entry a
+      joined : (n : ℕ) → r.stream ≡ Some n → (o : Option SessionId) → home_of_number g n ≡ o → is_none (option_map (stream_told g) o) ≡ false
+          → IsAsked c st g entry a
       joined n is None f missing = cc
       joined n is (Some home) f missing =
           let m = home_has g agrees.loosely.told n home f in
           let number : g.number home ≡ n = ap g.number (sym m.2) ∙ m.3 in
           let few : home.count ≤ length g.made = subst (λ (h : SessionId). h.count ≤ length g.made) m.2 (agrees.loosely.told.homes m.0 m.1) in
-          let tuning : tuning_of st (g.number home) ≡ g.tuned home = subst (λ (h : SessionId). tuning_of st (g.number h) ≡ g.tuned h) m.2 (tuning_here c st g agrees m.0 m.1) in
+          let tuning : tuning_of st (g.number home) ≡ g.tuned home =
+          subst (λ (h : SessionId). tuning_of st (g.number h) ≡ g.tuned h) m.2 (tuning_here c st g agrees m.0 m.1) in
           at home n (ap (λ o. unwrap_or (option_and_then (home_of_number g) o) (next_made g draw.word)) is ∙ ap (λ o. unwrap_or o (next_made g draw.word)) f)
           (ap (λ o. unwrap_or o (least_free st.streams)) is) (sym number ∙ number_joined g false draw m.0 home few) (ap (tuning_of st) (sym number) ∙ tuning)
 
       by : (o : Option ℕ) → r.stream ≡ o → IsAsked c st g entry a
-      by None is = at (next_made g draw.word) (least_free st.streams) (ap (λ o. unwrap_or (option_and_then (home_of_number g) o) (next_made g draw.word)) is) (ap (λ o. unwrap_or o (least_free st.streams)) is)
+      by None is = at (next_made g draw.word) (least_free st.streams) (ap (λ o. unwrap_or (option_and_then (home_of_number g) o) (next_made g draw.word)) is)
+          (ap (λ o. unwrap_or o (least_free st.streams)) is)
           (number_new c st g agrees false draw) (tuning_new c st g agrees (next_made g draw.word) (omega arith))
       by (Some n) is = joined n is (home_of_number g n) refl (ap is_none (sym (agrees.streams n)) ∙ there n is)
 
@@ -193,24 +216,30 @@ module _ (c : Config) (st : State) (g : Readings) (agrees : Agrees c st g) (call
           asks_by m method = ap (λ x. asks (session_in g event) (changes x)) (sym method) ∙ f
 
           unmade_by : (m : Method) → r.method ≡ m → is_setup m ≡ false → Readings.made_by g event ≡ None
-          unmade_by m method no_setup = ap (λ b. if b && names_none r.session then Some (new_at (unwrap_or (option_and_then (home_of_number g) r.stream) (next_made g draw.word))) else None) (ap is_setup method ∙ no_setup)
+          unmade_by m method no_setup =
+              ap (λ b. if b && names_none r.session then Some (new_at (unwrap_or (option_and_then (home_of_number g) r.stream) (next_made g draw.word)))
+              else None) (ap is_setup method ∙ no_setup)
 
           unmade_named : names_none r.session ≡ false → Readings.made_by g event ≡ None
-          unmade_named named = ap (λ b. if is_setup r.method && b then Some (new_at (unwrap_or (option_and_then (home_of_number g) r.stream) (next_made g draw.word))) else None) named ∙ never (is_setup r.method)
+          unmade_named named = ap (λ b. if is_setup r.method && b
+              then Some (new_at (unwrap_or (option_and_then (home_of_number g) r.stream) (next_made g draw.word))) else None) named ∙ never (is_setup r.method)
             where
-              never : (b : Bool) → (if b && false then Some (new_at (unwrap_or (option_and_then (home_of_number g) r.stream) (next_made g draw.word))) else None) ≡ None
+              never : (b : Bool) → (if b && false then Some (new_at (unwrap_or (option_and_then (home_of_number g) r.stream) (next_made g draw.word)))
+                  else None) ≡ None
               never true = refl
               never false = refl
 
           in_session : (b : Bool) → names_none r.session ≡ b → session_in g event ≡ (if b then Readings.made_by g event else named_in g r.session)
           in_session b named = ap (λ x. if x then Readings.made_by g event else named_in g r.session) named
 
-          play : r.method ≡ Play → (b : Bool) → names_none r.session ≡ b → asks (if b then Readings.made_by g event else named_in g r.session) true ≡ Some a → IsAsked c st g entry a
+          play : r.method ≡ Play → (b : Bool) → names_none r.session ≡ b → asks (if b then Readings.made_by g event else named_in g r.session) true ≡ Some a
+              → IsAsked c st g entry a
           play method true named k = let no_one : asks None true ≡ Some a = ap (λ o. asks o true) (sym (unmade_by Play method refl)) ∙ k in cc
           play method false named k = named_asks acc p none (ap changes method) (unmade_by Play method refl) (named_in g r.session) refl
               (λ m s is lives found same. play_number m s method found same) k
 
-          set_up : r.method ≡ Setup → (b : Bool) → names_none r.session ≡ b → asks (if b then Readings.made_by g event else named_in g r.session) true ≡ Some a → IsAsked c st g entry a
+          set_up : r.method ≡ Setup → (b : Bool) → names_none r.session ≡ b → asks (if b then Readings.made_by g event else named_in g r.session) true ≡ Some a
+              → IsAsked c st g entry a
           set_up method true named k = setup_new acc p none method named k
           set_up method false named k = named_asks acc p none (ap changes method) (unmade_named named) (named_in g r.session) refl
               (λ m s is lives found same. setup_number_named acc p method named m is) k
@@ -232,8 +261,10 @@ module _ (c : Config) (st : State) (g : Readings) (agrees : Agrees c st g) (call
       by true acc None d = accepted acc d (sym (ap (λ b. if b then asks (session_in g event) (changes r.method) else None) acc) ∙ e)
 
 -- GET
-pub get_asked : (c : Config) (st : State) (g : Readings) → Agrees c st g → (caller : ℕ) (peer : Peer) (draw : Draw) (r : HttpRequest) (answer : Answer) (out : Output) (a : Readings.Asking)
-    → answer ≡ (step c st (Got peer draw r)).answer → asking g (item caller (Got peer draw r) answer out) ≡ Some a → IsAsked c st g (item caller (Got peer draw r) answer out) a
+pub get_asked : (c : Config) (st : State) (g : Readings) → Agrees c st g
+    → (caller : ℕ) (peer : Peer) (draw : Draw) (r : HttpRequest) (answer : Answer) (out : Output) (a : Readings.Asking)
+    → answer ≡ (step c st (Got peer draw r)).answer → asking g (item caller (Got peer draw r) answer out) ≡ Some a
+    → IsAsked c st g (item caller (Got peer draw r) answer out) a
 get_asked c st g agrees caller peer draw r answer out a answered e = by (is_accepted answer) refl (decide_get c st r) refl
   where
     id : SessionId
@@ -243,14 +274,17 @@ get_asked c st g agrees caller peer draw r answer out a answered e = by (is_acce
     new = record { id = id; http = true; home = id; draw = draw }
 
     by : (b : Bool) → is_accepted answer ≡ b → (o : Option Refused) → decide_get c st r ≡ o → IsAsked c st g (item caller (Got peer draw r) answer out) a
-    by false acc o d = let no_one : asking g (item caller (Got peer draw r) answer out) ≡ None = ap (λ b. if b then Some (record { home = id; query = r.query }) else None) acc in cc
+    by false acc o d = let no_one : asking g (item caller (Got peer draw r) answer out) ≡ None =
+        ap (λ b. if b then Some (record { home = id; query = r.query }) else None) acc in cc
     by true acc (Some x) d =
         let answer_is : answer ≡ Get (GetRefused x.status) =
-        answered ∙ ap (λ o. (option_map_or (λ refused. Steps.outcome (settle st) (Get (GetRefused refused.status)) (http_refusal refused.status refused.body)) o (Steps.start c peer draw r st)).answer) d in
+        answered ∙ ap (λ o. (option_map_or (λ refused. Steps.outcome (settle st) (Get (GetRefused refused.status)) (http_refusal refused.status refused.body)) o
+        (Steps.start c peer draw r st)).answer) d in
         let not_acc : is_accepted answer ≡ false = ap is_accepted answer_is in
         cc
     by true acc None d =
-        let asked : Some (record { home = id; query = r.query }) ≡ Some a = sym (ap (λ b. if b then Some (record { home = id; query = r.query }) else None) acc) ∙ e in
+        let asked : Some (record { home = id; query = r.query }) ≡ Some a =
+        sym (ap (λ b. if b then Some (record { home = id; query = r.query }) else None) acc) ∙ e in
         let is : record { home = id; query = r.query } ≡ a = cc in
         subst (λ (x : Readings.Asking). IsAsked c st g (item caller (Got peer draw r) answer out) x) is (record {
           number = least_free st.streams;
@@ -275,5 +309,6 @@ event_asked c st g agrees caller (Pull id) answer out a answered e = absurd (ask
 event_asked c st g agrees caller (Close id) answer out a answered e = absurd (asks_never (is_accepted answer) a e)
 event_asked c st g agrees caller Stop answer out a answered e = absurd (asks_never (is_accepted answer) a e)
 
-pub entry_asked : (c : Config) (st : State) (g : Readings) → Agrees c st g → (e : Item) (a : Readings.Asking) → e.answer ≡ (step c st e.event).answer → asking g e ≡ Some a → IsAsked c st g e a
+pub entry_asked : (c : Config) (st : State) (g : Readings) → Agrees c st g → (e : Item) (a : Readings.Asking) → e.answer ≡ (step c st e.event).answer
+    → asking g e ≡ Some a → IsAsked c st g e a
 entry_asked c st g agrees e a answered asks = event_asked c st g agrees e.caller e.event e.answer e.out a answered asks

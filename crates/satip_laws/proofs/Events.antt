@@ -63,7 +63,8 @@ pub record Adds (st st' : State) (new : Session) : Type 0 where
   pub fine : Fine new
   pub single : Single st'.streams
 
-fine_append : (xs : List Session) (new : Session) → ((s : SessionId) (x : Session) → look s xs ≡ Some x → Fine x) → Fine new → (s : SessionId) (x : Session) → look s (xs ++ new ∷ []) ≡ Some x → Fine x
+fine_append : (xs : List Session) (new : Session) → ((s : SessionId) (x : Session) → look s xs ≡ Some x → Fine x) → Fine new → (s : SessionId) (x : Session)
+    → look s (xs ++ new ∷ []) ≡ Some x → Fine x
 fine_append xs new fine own s x e = by (look s xs) refl (sym (look_append s xs (new ∷ [])) ∙ e)
   where
     at : (b : Bool) → (if b then Some new else None) ≡ Some x → Fine x
@@ -83,7 +84,8 @@ adds_sound st st' new sound adds = record {
 }
 
 -- an event that makes a session and changes its stream
-making_step : (st start : State) (o : Outcome) (new : Session) → Adds st start new → Goes start (move_of o) nothing nothing → StepOf st o (Some new) nothing nothing
+making_step : (st start : State) (o : Outcome) (new : Session) → Adds st start new → Goes start (move_of o) nothing nothing
+    → StepOf st o (Some new) nothing nothing
 making_step st start o new adds goes = record {
   runs = λ s. rw (look_append s st.sessions (new ∷ [])) at (rw adds.sessions at (goes.runs s));
   sound = goes.sound;
@@ -99,7 +101,8 @@ fine_new st http peer draw ports number = record { within = omega arith; few = b
 
 join_adds : (http : Bool) (peer : Peer) (draw : Draw) (ports : Ports) (number : ℕ) (st : State) → IsSound st
     → Adds st (join http peer draw ports number st) (new_session st http peer draw ports number)
-join_adds http peer draw ports number st sound = record { sessions = refl; made = refl; count = refl; fine = fine_new st http peer draw ports number; single = sound.single }
+join_adds http peer draw ports number st sound =
+    record { sessions = refl; made = refl; count = refl; fine = fine_new st http peer draw ports number; single = sound.single }
 
 pub found_adds : (http : Bool) (peer : Peer) (draw : Draw) (ports : Ports) (st : State) → IsSound st
     → Adds st (found http peer draw ports st) (new_session st http peer draw ports (least_free st.streams))
@@ -129,7 +132,8 @@ find_map : (p : Session → Bool) (f : Session → Session) → ((x : Session) �
 find_map p f same [] = refl
 find_map p f same (x ∷ xs) = rw (same x) (by (p x) (find_map p f same xs))
   where
-    by : (b : Bool) → find p (map f xs) ≡ option_map f (find p xs) → (if b then Some (f x) else find p (map f xs)) ≡ option_map f (if b then Some x else find p xs)
+    by : (b : Bool) → find p (map f xs) ≡ option_map f (find p xs)
+        → (if b then Some (f x) else find p (map f xs)) ≡ option_map f (if b then Some x else find p xs)
     by true e = refl
     by false e = e
 
@@ -143,7 +147,8 @@ named_heard st r x e = rw e (by (is_none r.refusal))
     keeps : (id : SessionId) (z : Session) → (same_id (f z).id id && not (f z).http) ≡ (same_id z.id id && not z.http)
     keeps id z = at (is_session x.id z)
       where
-        at : (b : Bool) → (same_id (if b then record z { heard = st.clock } else z).id id && not (if b then record z { heard = st.clock } else z).http) ≡ (same_id z.id id && not z.http)
+        at : (b : Bool) → (same_id (if b then record z { heard = st.clock } else z).id id && not (if b then record z { heard = st.clock } else z).http)
+            ≡ (same_id z.id id && not z.http)
         at true = refl
         at false = refl
 
@@ -178,7 +183,8 @@ none_named st (Named id) e = cc
 none_named st Other e = cc
 
 -- a session that is moved, or made
-pub moved_from : (peer : Peer) (draw : Draw) (ports : Ports) (r : Request) (st : State) → IsSound st → is_some (session_named st r.session) ≡ true → Goes st (settle (set_up peer draw ports r st)) nothing nothing
+pub moved_from : (peer : Peer) (draw : Draw) (ports : Ports) (r : Request) (st : State) → IsSound st → is_some (session_named st r.session) ≡ true
+    → Goes st (settle (set_up peer draw ports r st)) nothing nothing
 moved_from peer draw ports r st sound e = at (session_named st r.session) e
   where
     at : (o : Option Session) → is_some o ≡ true → Goes st (settle (option_map_or (λ s. change_session s.id (λ x. record x { peer = peer; ports = ports }) st) o
@@ -191,7 +197,8 @@ pub made_from_none : (peer : Peer) (draw : Draw) (ports : Ports) (r : Request) (
     → Adds st (set_up peer draw ports r st) (new_session st false peer draw ports (setup_number r st))
 made_from_none peer draw ports r st sound e = rw e (by r.stream)
   where
-    by : (o : Option ℕ) → Adds st (option_map_or (λ number. join false peer draw ports number st) o (found false peer draw ports st)) (new_session st false peer draw ports (unwrap_or o (least_free st.streams)))
+    by : (o : Option ℕ) → Adds st (option_map_or (λ number. join false peer draw ports number st) o (found false peer draw ports st))
+        (new_session st false peer draw ports (unwrap_or o (least_free st.streams)))
     by None = found_adds false peer draw ports st sound
     by (Some number) = join_adds false peer draw ports number st sound
 
@@ -201,7 +208,8 @@ setup_makes peer draw r st = new_session st false peer draw (unwrap_or r.ports n
 heard_none : (r : Request) (st : State) → session_named st r.session ≡ None → heard_by r st ≡ st
 heard_none r st e = rw e refl
 
-setup_step : (c : Config) (peer : Peer) (draw : Draw) (r : Request) (st : State) → IsSound st → (b : Bool) → names_none r.session ≡ b → (if b then needs_session r.method else is_none (session_named st r.session)) ≡ false
+setup_step : (c : Config) (peer : Peer) (draw : Draw) (r : Request) (st : State) → IsSound st → (b : Bool) → names_none r.session ≡ b
+    → (if b then needs_session r.method else is_none (session_named st r.session)) ≡ false
     → StepOf st (Steps.setup c peer draw r (heard_by r st)) (if b then Some (setup_makes peer draw r st) else None) nothing nothing
 setup_step c peer draw r st sound true e missing =
     let none : session_named st r.session ≡ None = none_named st r.session e in
@@ -219,14 +227,16 @@ setup_step c peer draw r st sound false e missing =
     let third = goes_change_by c (setup_number r heard) r.query (set_up peer draw ports r heard) second.sound in
     let rest : Goes heard (change_by c (setup_number r heard) r.query (set_up peer draw ports r heard)) nothing nothing =
     goes_on heard (settle (set_up peer draw ports r heard)) (change_by c (setup_number r heard) r.query) second third in
-    plain_step st (Steps.setup c peer draw r heard) nothing nothing (goes_on st (settle heard) (λ x. change_by c (setup_number r heard) r.query (set_up peer draw ports r heard)) first rest)
+    plain_step st (Steps.setup c peer draw r heard) nothing nothing
+    (goes_on st (settle heard) (λ x. change_by c (setup_number r heard) r.query (set_up peer draw ports r heard)) first rest)
   where
     by : (o : Option Session) → session_named st r.session ≡ o → is_none o ≡ false → is_some (session_named (heard_by r st) r.session) ≡ true
     by None f g = cc
     by (Some x) f g = let still = named_heard st r x f in rw still.1 refl
 
 -- an event in which a session is heard of first
-heard_step : (r : Request) (st : State) (o : Outcome) → IsSound st → (IsSound (heard_by r st) → Goes (heard_by r st) (move_of o) nothing nothing) → StepOf st o None nothing nothing
+heard_step : (r : Request) (st : State) (o : Outcome) → IsSound st → (IsSound (heard_by r st) → Goes (heard_by r st) (move_of o) nothing nothing)
+    → StepOf st o None nothing nothing
 heard_step r st o sound goes =
     let first : Goes st (settle (heard_by r st)) nothing nothing = goes_heard r st sound in
     plain_step st o nothing nothing (goes_on st (settle (heard_by r st)) (λ x. move_of o) first (goes first.sound))
@@ -235,22 +245,30 @@ play_goes : (c : Config) (r : Request) (st : State) (s : Session) → IsSound st
 play_goes c r st s sound =
     let m : Move = change_by c s.stream r.query st in
     let first : Goes st m nothing nothing = goes_change_by c s.stream r.query st sound in
-    let second = goes_change m.state s.id (λ x. record x { playing = true }) (λ x. quiet x (record x { playing = true }) (record { id = refl; http = refl; stream = refl; ssrc = refl; first = refl }) refl refl) first.sound in
+    let second = goes_change m.state s.id (λ x. record x { playing = true })
+    (λ x. quiet x (record x { playing = true }) (record { id = refl; http = refl; stream = refl; ssrc = refl; first = refl }) refl refl) first.sound in
     goes_on st m (λ now. settle (change_session s.id (λ x. record x { playing = true }) now)) first second
 
 done_step : (m : Method) (c : Config) (peer : Peer) (draw : Draw) (r : Request) (st : State) → IsSound st → session_missing st r ≡ false
-    → StepOf st (done_by m c peer draw r (heard_by r st)) (if is_setup m && names_none r.session then Some (setup_makes peer draw r st) else None) nothing nothing
-done_step Options c peer draw r st sound missing = heard_step r st (done_by Options c peer draw r (heard_by r st)) sound (λ s. goes_same _ _ s refl refl s.single)
-done_step Describe c peer draw r st sound missing = heard_step r st (done_by Describe c peer draw r (heard_by r st)) sound (λ s. goes_same _ _ s refl refl s.single)
+    → StepOf st (done_by m c peer draw r (heard_by r st)) (if is_setup m && names_none r.session then Some (setup_makes peer draw r st) else None)
+    nothing nothing
+done_step Options c peer draw r st sound missing =
+    heard_step r st (done_by Options c peer draw r (heard_by r st)) sound (λ s. goes_same _ _ s refl refl s.single)
+done_step Describe c peer draw r st sound missing =
+    heard_step r st (done_by Describe c peer draw r (heard_by r st)) sound (λ s. goes_same _ _ s refl refl s.single)
 done_step Setup c peer draw r st sound missing = setup_step c peer draw r st sound (names_none r.session) refl missing
-done_step Play c peer draw r st sound missing = heard_step r st (done_by Play c peer draw r (heard_by r st)) sound (at (session_named (heard_by r st) r.session))
+done_step Play c peer draw r st sound missing =
+    heard_step r st (done_by Play c peer draw r (heard_by r st)) sound (at (session_named (heard_by r st) r.session))
   where
-    at : (o : Option Session) → IsSound (heard_by r st) → Goes (heard_by r st) (move_of (option_map_or (play_of c r (heard_by r st)) o (Steps.accepted (settle (heard_by r st)) []))) nothing nothing
+    at : (o : Option Session) → IsSound (heard_by r st)
+        → Goes (heard_by r st) (move_of (option_map_or (play_of c r (heard_by r st)) o (Steps.accepted (settle (heard_by r st)) []))) nothing nothing
     at None s = goes_same _ _ s refl refl s.single
     at (Some x) s = play_goes c r (heard_by r st) x s
-done_step Teardown c peer draw r st sound missing = heard_step r st (done_by Teardown c peer draw r (heard_by r st)) sound (at (session_named (heard_by r st) r.session))
+done_step Teardown c peer draw r st sound missing =
+    heard_step r st (done_by Teardown c peer draw r (heard_by r st)) sound (at (session_named (heard_by r st) r.session))
   where
-    at : (o : Option Session) → IsSound (heard_by r st) → Goes (heard_by r st) (move_of (option_map_or (teardown_of r (heard_by r st)) o (Steps.accepted (settle (heard_by r st)) []))) nothing nothing
+    at : (o : Option Session) → IsSound (heard_by r st)
+        → Goes (heard_by r st) (move_of (option_map_or (teardown_of r (heard_by r st)) o (Steps.accepted (settle (heard_by r st)) []))) nothing nothing
     at None s = goes_same _ _ s refl refl s.single
     at (Some x) s = goes_end (heard_by r st) (is_session x.id) s
 
@@ -258,7 +276,8 @@ request_step : (c : Config) (peer : Peer) (draw : Draw) (r : Request) (st : Stat
     → StepOf st (Steps.on_request c peer draw r st) (made_by c st (Asked peer draw r)) nothing nothing
 request_step c peer draw r st sound = at (decide c st r) refl
   where
-    refused : (b : Bool) (x : Refused) → StepOf st (Steps.refuse r (heard_by r st) x) (if b && false then Some (setup_makes peer draw r st) else None) nothing nothing
+    refused : (b : Bool) (x : Refused) → StepOf st (Steps.refuse r (heard_by r st) x) (if b && false then Some (setup_makes peer draw r st) else None)
+        nothing nothing
     refused true x = heard_step r st (Steps.refuse r (heard_by r st) x) sound (λ s. goes_same _ _ s refl refl s.single)
     refused false x = heard_step r st (Steps.refuse r (heard_by r st) x) sound (λ s. goes_same _ _ s refl refl s.single)
 
@@ -267,7 +286,8 @@ request_step c peer draw r st sound = at (decide c st r) refl
     accepted true s = s
     accepted false s = s
 
-    at : (o : Option Refused) → decide c st r ≡ o → StepOf st (option_map_or (Steps.refuse r (heard_by r st)) o (done_by r.method c peer draw r (heard_by r st)))
+    at : (o : Option Refused) → decide c st r ≡ o
+        → StepOf st (option_map_or (Steps.refuse r (heard_by r st)) o (done_by r.method c peer draw r (heard_by r st)))
         (if makes_session r && is_none o then Some (setup_makes peer draw r st) else None) nothing nothing
     at None e = accepted (makes_session r) (done_step r.method c peer draw r st sound (not_missing c st r e))
     at (Some x) e = refused (makes_session r) x
@@ -285,9 +305,12 @@ get_step c peer draw r st sound = at (decide_get c st r)
     adds : Adds st start new
     adds = found_adds true peer draw no_ports st sound
 
-    at : (o : Option Refused) → StepOf st (option_map_or (λ refused. Steps.outcome (settle st) (Get (GetRefused refused.status)) (http_refusal refused.status refused.body)) o (Steps.start c peer draw r st))
+    at : (o : Option Refused)
+        → StepOf st (option_map_or (λ refused. Steps.outcome (settle st) (Get (GetRefused refused.status)) (http_refusal refused.status refused.body)) o
+        (Steps.start c peer draw r st))
         (if is_none o then Some new else None) nothing nothing
-    at None = making_step st start (Steps.start c peer draw r st) new adds (goes_change_by c (least_free st.streams) r.query start (adds_sound st start new sound adds))
+    at None = making_step st start (Steps.start c peer draw r st) new adds
+        (goes_change_by c (least_free st.streams) r.query start (adds_sound st start new sound adds))
     at (Some x) = stays st _ sound refl
 
 -- pulls
@@ -305,14 +328,17 @@ pulled_becomes : (clock n : ℕ) (x : Session) → Becomes x [] (take n (held x)
 pulled_becomes clock n x =
     let took : List (List ℕ) = take n (held x) in
     let total : sum (x.sizes ++ length took ∷ []) ≡ sum x.sizes + length took = sum-append x.sizes (length took ∷ []) ∙ omega arith in
-    let hold : held (pulled clock took x) ≡ drop (length took) (held x) = ap (λ m. drop m x.picked) total ∙ sym (drop-drop (length took) (sum x.sizes) x.picked) in
-    let long : length (held x) ≡ length took + length (held (pulled clock took x)) = ap length (sym (take_drop n (held x))) ∙ length-append took (drop (length took) (held x)) ∙ ap (λ l. length took + length l) (sym hold) in
+    let hold : held (pulled clock took x) ≡ drop (length took) (held x) =
+    ap (λ m. drop m x.picked) total ∙ sym (drop-drop (length took) (sum x.sizes) x.picked) in
+    let long : length (held x) ≡ length took + length (held (pulled clock took x)) =
+    ap length (sym (take_drop n (held x))) ∙ length-append took (drop (length took) (held x)) ∙ ap (λ l. length took + length l) (sym hold) in
     record {
       kept = record { id = refl; http = refl; stream = refl; ssrc = refl; first = refl };
       picked = sym (append-nil x.picked);
       sizes = refl;
       fine = λ f. record { within = omega (arith, total, long, f.within, length-drop (sum x.sizes) x.picked); few = omega (arith, f.few, long) };
-      whole = λ f. append-nil (held x) ∙ sym (take_drop n (held x)) ∙ ap (λ l. took ++ l) (sym hold) ∙ ap (λ l. l ++ held (pulled clock took x)) (sym (append-nil took));
+      whole = λ f. append-nil (held x) ∙ sym (take_drop n (held x)) ∙ ap (λ l. took ++ l) (sym hold)
+          ∙ ap (λ l. l ++ held (pulled clock took x)) (sym (append-nil took));
     }
 
 pulled_evolves : (clock n : ℕ) (x : Session) → x.http ≡ true → Evolves x [] [] (take n (held x)) (Some (pulled clock (take n (held x)) x))
@@ -350,7 +376,8 @@ http_found st id x apart e = by (look id st.sessions) (sym (look_where id (λ s.
 
 -- a pull that finds packets
 goes_pull : (st : State) (x : Session) → IsSound st → look x.id st.sessions ≡ Some x → x.http ≡ true
-    → Goes st (settle (change_session x.id (pulled st.clock (take most_pulled (held x))) st)) nothing (λ s. if same_id x.id s then take most_pulled (held x) else [])
+    → Goes st (settle (change_session x.id (pulled st.clock (take most_pulled (held x))) st)) nothing
+    (λ s. if same_id x.id s then take most_pulled (held x) else [])
 goes_pull st x sound e http = record {
   runs = runs;
   sound = record {
@@ -401,29 +428,38 @@ goes_pull st x sound e http = record {
             absent false h = refl
         by (Some z) g = one s z g (is_session x.id z) refl
 
-pull_goes : (id : SessionId) (st : State) (x : Session) → IsSound st → look id st.sessions ≡ Some x → x.http ≡ true → (packets : List (List ℕ)) → held x ≡ packets
+pull_goes : (id : SessionId) (st : State) (x : Session) → IsSound st → look id st.sessions ≡ Some x → x.http ≡ true → (packets : List (List ℕ))
+    → held x ≡ packets
     → Goes st (move_of (pull_some st x packets)) nothing (λ s. if same_id id s then take most_pulled packets else [])
-pull_goes id st x sound e http [] none = goes_took st (move_of (pull_some st x [])) nothing nothing (λ s. if same_id id s then [] else []) (λ s. if_none (same_id id s)) (goes_hear x.id st sound)
+pull_goes id st x sound e http [] none = goes_took st (move_of (pull_some st x [])) nothing nothing (λ s. if same_id id s then [] else [])
+    (λ s. if_none (same_id id s)) (goes_hear x.id st sound)
 pull_goes id st x sound e http (p ∷ ps) some =
     let same : x.id ≡ id = found_id id st.sessions x e in
-    subst (λ (l : List (List ℕ)). Goes st (settle (change_session x.id (pulled st.clock (take most_pulled l)) st)) nothing (λ s. if same_id id s then take most_pulled l else [])) some
-    (subst (λ (i : SessionId). Goes st (settle (change_session x.id (pulled st.clock (take most_pulled (held x))) st)) nothing (λ s. if same_id i s then take most_pulled (held x) else [])) same
+    subst (λ (l : List (List ℕ)). Goes st (settle (change_session x.id (pulled st.clock (take most_pulled l)) st)) nothing
+    (λ s. if same_id id s then take most_pulled l else [])) some
+    (subst (λ (i : SessionId). Goes st (settle (change_session x.id (pulled st.clock (take most_pulled (held x))) st)) nothing
+    (λ s. if same_id i s then take most_pulled (held x) else [])) same
     (goes_pull st x sound (ap (λ i. look i st.sessions) same ∙ e) http))
 
 pull_step : (id : SessionId) (st : State) → IsSound st → StepOf st (Steps.on_pull id st) None nothing (taken_in st (Pull id))
 pull_step id st sound = at (http_session st id) refl
   where
-    at : (o : Option Session) → http_session st id ≡ o → StepOf st (option_map_or (λ s. pull_some st s (held s)) o (Steps.outcome (settle st) (Pulled PulledGone) [])) None nothing
+    at : (o : Option Session) → http_session st id ≡ o
+        → StepOf st (option_map_or (λ s. pull_some st s (held s)) o (Steps.outcome (settle st) (Pulled PulledGone) [])) None nothing
         (λ s. if same_id id s then option_map_or (λ x. take most_pulled (held x)) o [] else [])
     at None e = plain_step st (Steps.outcome (settle st) (Pulled PulledGone) []) nothing (λ s. if same_id id s then [] else [])
-        (goes_took st (settle st) nothing nothing (λ s. if same_id id s then [] else []) (λ s. if_none (same_id id s)) (goes_same st st sound refl refl sound.single))
+        (goes_took st (settle st) nothing nothing (λ s. if same_id id s then [] else []) (λ s. if_none (same_id id s))
+        (goes_same st st sound refl refl sound.single))
     at (Some x) e = let there = http_found st id x sound.apart e in
-        plain_step st (pull_some st x (held x)) nothing (λ s. if same_id id s then take most_pulled (held x) else []) (pull_goes id st x sound there.0 there.1 (held x) refl)
+        plain_step st (pull_some st x (held x)) nothing (λ s. if same_id id s then take most_pulled (held x) else [])
+        (pull_goes id st x sound there.0 there.1 (held x) refl)
 
 close_step : (id : SessionId) (st : State) → IsSound st → StepOf st (Steps.on_close id st) None nothing nothing
 close_step id st sound = at (http_session st id)
   where
-    at : (o : Option Session) → StepOf st (option_map_or (λ s. Steps.outcome (end_where (is_session id) st) (Closed Yes) []) o (Steps.outcome (settle st) (Closed ClosedGone) [])) None nothing nothing
+    at : (o : Option Session)
+        → StepOf st (option_map_or (λ s. Steps.outcome (end_where (is_session id) st) (Closed Yes) []) o (Steps.outcome (settle st) (Closed ClosedGone) []))
+        None nothing nothing
     at None = stays st (Steps.outcome (settle st) (Closed ClosedGone) []) sound refl
     at (Some x) = plain_step st (Steps.outcome (end_where (is_session id) st) (Closed Yes) []) nothing nothing (goes_end st (is_session id) sound)
 
@@ -440,19 +476,23 @@ any_never (t ∷ ts) = any_never ts
 meant_is : (packet : List ℕ) (ts : List Stream) (xs : List Session) (s : SessionId) → Apart xs
     → meant_at packet ts (look s xs) ≡ (if list_any (λ t. list_any (λ x. same_id x.id s && picks t packet x) xs) ts then packet ∷ [] else [])
 meant_is packet ts xs s apart =
-    rw (any_agree (λ t. list_any (λ x. same_id x.id s && picks t packet x) xs) (λ t. option_map_or (picks t packet) (look s xs) false) (λ t. any_of_id s (picks t packet) xs apart) ts) (by (look s xs))
+    rw (any_agree (λ t. list_any (λ x. same_id x.id s && picks t packet x) xs) (λ t. option_map_or (picks t packet) (look s xs) false)
+    (λ t. any_of_id s (picks t packet) xs apart) ts) (by (look s xs))
   where
     by : (o : Option Session) → meant_at packet ts o ≡ (if list_any (λ t. option_map_or (picks t packet) o false) ts then packet ∷ [] else [])
     by None = rw (any_never ts) refl
     by (Some x) = refl
 
-packet_step : (front tune : ℕ) (packet : List ℕ) (st : State) → IsSound st → StepOf st (Steps.on_packet front tune packet st) None (given_in st (Packet front tune packet)) nothing
+packet_step : (front tune : ℕ) (packet : List ℕ) (st : State) → IsSound st
+    → StepOf st (Steps.on_packet front tune packet st) None (given_in st (Packet front tune packet)) nothing
 packet_step front tune packet st sound = by (is_current st front tune)
   where
     by : (b : Bool) → StepOf st (Steps.worked front (if b then deliver front packet st else settle st)) None
         (λ s. if b && list_any (λ t. list_any (λ x. same_id x.id s && picks t packet x) st.sessions) (served_by st front) then packet ∷ [] else []) nothing
-    by true = plain_step st (Steps.worked front (deliver front packet st)) (λ s. if list_any (λ t. list_any (λ x. same_id x.id s && picks t packet x) st.sessions) (served_by st front) then packet ∷ [] else []) nothing
-        (goes_got st (deliver front packet st) (λ s. meant_at packet (served_by st front) (look s st.sessions)) (λ s. if list_any (λ t. list_any (λ x. same_id x.id s && picks t packet x) st.sessions) (served_by st front) then packet ∷ [] else []) nothing
+    by true = plain_step st (Steps.worked front (deliver front packet st))
+        (λ s. if list_any (λ t. list_any (λ x. same_id x.id s && picks t packet x) st.sessions) (served_by st front) then packet ∷ [] else []) nothing
+        (goes_got st (deliver front packet st) (λ s. meant_at packet (served_by st front) (look s st.sessions))
+        (λ s. if list_any (λ t. list_any (λ x. same_id x.id s && picks t packet x) st.sessions) (served_by st front) then packet ∷ [] else []) nothing
         (λ s. meant_is packet (served_by st front) st.sessions s sound.apart) (goes_deliver front packet st sound))
     by false = stays st (Steps.worked front (settle st)) sound refl
 
@@ -461,7 +501,8 @@ a_step c st (Asked peer draw r) sound = request_step c peer draw r st sound
 a_step c st (Got peer draw r) sound = get_step c peer draw r st sound
 a_step c st (Tick now) sound = plain_step st (step c st (Tick now)) nothing nothing (goes_tick c now st sound)
 a_step c st (Packet front tune packet) sound = packet_step front tune packet st sound
-a_step c st (Ended front tune) sound = plain_step st (step c st (Ended front tune)) nothing nothing (goes_same st (step c st (Ended front tune)).state sound refl refl sound.single)
+a_step c st (Ended front tune) sound = plain_step st (step c st (Ended front tune)) nothing nothing
+    (goes_same st (step c st (Ended front tune)).state sound refl refl sound.single)
 a_step c st (Ask front) sound = stays st (step c st (Ask front)) sound refl
 a_step c st (Pull id) sound = pull_step id st sound
 a_step c st (Close id) sound = close_step id st sound

@@ -69,16 +69,19 @@ becomes_then : (x : Session) (g : List (List ℕ)) (gs : List (List (List ℕ)))
 becomes_then x g gs y h hs z p q = record {
   kept = kept_then x y z p.kept q.kept;
   picked = q.picked ∙ ap (λ l. l ++ h) p.picked ∙ append_assoc x.picked g h;
-  sizes = q.sizes ∙ ap (λ l. l ++ map length hs) p.sizes ∙ append_assoc x.sizes (map length gs) (map length hs) ∙ ap (λ l. x.sizes ++ l) (sym (map-append length gs hs));
+  sizes = q.sizes ∙ ap (λ l. l ++ map length hs) p.sizes ∙ append_assoc x.sizes (map length gs) (map length hs)
+      ∙ ap (λ l. x.sizes ++ l) (sym (map-append length gs hs));
   fine = λ f. q.fine (p.fine f);
-  whole = λ f. whole_then (held x) g h (all_of gs) (held y) (all_of hs) (held z) (p.whole f) (q.whole (p.fine f)) ∙ ap (λ l. l ++ held z) (sym (all_of-append gs hs));
+  whole = λ f. whole_then (held x) g h (all_of gs) (held y) (all_of hs) (held z) (p.whole f) (q.whole (p.fine f))
+      ∙ ap (λ l. l ++ held z) (sym (all_of-append gs hs));
 }
 
 ends_then : (x : Session) (g : List (List ℕ)) (gs : List (List (List ℕ))) (y : Session) (h : List (List ℕ)) (hs : List (List (List ℕ)))
     → Becomes x g gs y → Ends y h hs → Ends x (g ++ h) (gs ++ hs)
 ends_then x g gs y h hs p q = record {
   rest = q.rest;
-  whole = λ f. whole_then (held x) g h (all_of gs) (held y) (all_of hs) q.rest (p.whole f) (q.whole (p.fine f)) ∙ ap (λ l. l ++ q.rest) (sym (all_of-append gs hs));
+  whole = λ f. whole_then (held x) g h (all_of gs) (held y) (all_of hs) q.rest (p.whole f) (q.whole (p.fine f))
+      ∙ ap (λ l. l ++ q.rest) (sym (all_of-append gs hs));
   none = λ e. q.none (p.kept.http ∙ e);
 }
 
@@ -95,7 +98,8 @@ told_then false first ssrc n m gs hs e = rw e (told_of-append first ssrc n gs hs
 told_by_then : (x y : Session) (g : List (List ℕ)) (gs hs : List (List (List ℕ))) → Becomes x g gs y → told_by x gs ++ told_by y hs ≡ told_by x (gs ++ hs)
 told_by_then x y g gs hs p =
     let k : IsKept x y = p.kept in
-    let many : length y.sizes ≡ length x.sizes + length gs = ap length p.sizes ∙ length-append x.sizes (map length gs) ∙ ap (λ n. length x.sizes + n) (length-map gs length) in
+    let many : length y.sizes ≡ length x.sizes + length gs =
+    ap length p.sizes ∙ length-append x.sizes (map length gs) ∙ ap (λ n. length x.sizes + n) (length-map gs length) in
     let same : told_by y hs ≡ (if x.http then [] else told_of x.first x.ssrc (length y.sizes) hs) = rw (k.http, k.first, k.ssrc) refl in
     ap (λ l. told_by x gs ++ l) same ∙ told_then x.http x.first x.ssrc (length x.sizes) (length y.sizes) gs hs many
 
@@ -145,7 +149,8 @@ runs_still None = (refl, refl, refl, refl)
 runs_still (Some x) = evolves_same x x (kept_same x) refl refl
 
 -- whoever evolves stays within its limits
-pub runs_fine : (o : Option Session) (ts : List Told) (g t : List (List ℕ)) (o' : Option Session) (y : Session) → Runs o ts g t o' → ((x : Session) → o ≡ Some x → Fine x) → o' ≡ Some y → Fine y
+pub runs_fine : (o : Option Session) (ts : List Told) (g t : List (List ℕ)) (o' : Option Session) (y : Session) → Runs o ts g t o'
+    → ((x : Session) → o ≡ Some x → Fine x) → o' ≡ Some y → Fine y
 runs_fine None ts g t o' y r fine e = cc
 runs_fine (Some x) ts g t None y r fine e = cc
 runs_fine (Some x) ts g t (Some z) y r fine e = subst Fine (some_is z y e) (r.follows.fine (fine x refl))

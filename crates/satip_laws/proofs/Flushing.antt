@@ -37,7 +37,8 @@ record IsEmpty (p : Session → Bool) (st : State) : Type 0 where
   none : (s : SessionId) (y : Session) → look s st.sessions ≡ Some y → y.http ≡ false → p y ≡ true → held y ≡ []
 
 -- a round in which those of which p holds let go of all
-flush_empties : (st : State) (p : Session → Bool) (clock : ℕ) → ((x : Session) → p x ≡ true → x.http ≡ false) → ((x : Session) → p (gone_by true x) ≡ p x) → IsSound st
+flush_empties : (st : State) (p : Session → Bool) (clock : ℕ) → ((x : Session) → p x ≡ true → x.http ≡ false)
+    → ((x : Session) → p (gone_by true x) ≡ p x) → IsSound st
     → IsEmpty p (each_of p (let_go true clock) st).state
 flush_empties st p clock rtsp same sound = record { none = λ s y e http here. by s y (look s st.sessions) refl (sym (found s) ∙ e) here }
   where
@@ -47,11 +48,13 @@ flush_empties st p clock rtsp same sound = record { none = λ s y e http here. b
     found : (s : SessionId) → look s (after_of turn st.sessions) ≡ option_and_then (λ x. (turn x).after) (look s st.sessions)
     found s = (round s turn (λ x. (some_turn p (let_go true clock) x (λ e. let_go_takes true clock x (rtsp x e))).own) st.sessions sound.apart).found
 
-    at : (s : SessionId) (x y : Session) → Fine x → (b : Bool) → p x ≡ b → (if b then let_go true clock x else record { sends = []; after = Some x }).after ≡ Some y → p y ≡ true → held y ≡ []
+    at : (s : SessionId) (x y : Session) → Fine x → (b : Bool) → p x ≡ b
+        → (if b then let_go true clock x else record { sends = []; after = Some x }).after ≡ Some y → p y ≡ true → held y ≡ []
     at s x y fine true e f here = let same : gone_by true x ≡ y = cc in ap held (sym same) ∙ (lets_go true x fine.within).none refl
     at s x y fine false e f here = let same : x ≡ y = cc in let no_one : p x ≡ true = ap p same ∙ here in cc
 
-    by : (s : SessionId) (y : Session) (o : Option Session) → look s st.sessions ≡ o → option_and_then (λ x. (turn x).after) o ≡ Some y → p y ≡ true → held y ≡ []
+    by : (s : SessionId) (y : Session) (o : Option Session) → look s st.sessions ≡ o → option_and_then (λ x. (turn x).after) o ≡ Some y
+        → p y ≡ true → held y ≡ []
     by s y None e f here = cc
     by s y (Some x) e f here = at s x y (sound.fine s x e) (p x) refl f here
 
@@ -63,10 +66,13 @@ empty_append (x ∷ a) b e = cc
 still_empty : (x y : Session) (groups : List (List (List ℕ))) → Becomes x [] groups y → Fine x → held x ≡ [] → held y ≡ []
 still_empty x y groups becomes fine none = empty_append (all_of groups) (held y) (sym (becomes.whole fine) ∙ (rw none refl))
 
-stays_empty : (p : Session → Bool) (st : State) (m : Move) → ((x y : Session) → y.http ≡ x.http → y.stream ≡ x.stream → p y ≡ p x) → IsSound st → IsEmpty p st → Goes st m nothing nothing → IsEmpty p m.state
-stays_empty p st m same sound empty goes = record { none = λ s y e http here. by s y (look s st.sessions) (look s m.state.sessions) refl e (goes.runs s) http here }
+stays_empty : (p : Session → Bool) (st : State) (m : Move) → ((x y : Session) → y.http ≡ x.http → y.stream ≡ x.stream → p y ≡ p x) → IsSound st → IsEmpty p st
+    → Goes st m nothing nothing → IsEmpty p m.state
+stays_empty p st m same sound empty goes =
+    record { none = λ s y e http here. by s y (look s st.sessions) (look s m.state.sessions) refl e (goes.runs s) http here }
   where
-    by : (s : SessionId) (y : Session) (o o' : Option Session) → look s st.sessions ≡ o → o' ≡ Some y → Runs o (told s m.sent) [] [] o' → y.http ≡ false → p y ≡ true → held y ≡ []
+    by : (s : SessionId) (y : Session) (o o' : Option Session) → look s st.sessions ≡ o → o' ≡ Some y → Runs o (told s m.sent) [] [] o' → y.http ≡ false
+        → p y ≡ true → held y ≡ []
     by s y None o' e f run http here = cc
     by s y (Some x) None e f run http here = cc
     by s y (Some x) (Some z) e f run http here =
@@ -82,7 +88,8 @@ tick_empties : (c : Config) (now : ℕ) (st : State) → IsSound st → IsEmpty 
 tick_empties c now st sound =
     let first : State = (flushed (tick_clock now st) st).state in
     let goes = goes_flushed (tick_clock now st) st sound in
-    let sound1 : IsSound (record st { clock = tick_clock now st }) = record { apart = sound.apart; below = sound.below; single = sound.single; fine = sound.fine } in
+    let sound1 : IsSound (record st { clock = tick_clock now st }) =
+    record { apart = sound.apart; below = sound.below; single = sound.single; fine = sound.fine } in
     stays_empty (λ s. not s.http) first (after_flush c first) (λ x y http stream. ap not http) goes.sound
     (flush_empties (record st { clock = tick_clock now st }) (λ s. not s.http) (tick_clock now st) (λ x e. not_true x.http e) (λ x. refl) sound1)
     (goes_after_flush c first goes.sound)
@@ -113,7 +120,8 @@ retune_empties c number st tuning sound =
     placed now empty None = empty
     placed now empty (Some place) = record { none = empty.none }
 
-change_empties : (c : Config) (number : ℕ) (query : Query) (st : State) → IsSound st → is_some (to_set (tuning_of st number) query.change) ≡ true → IsEmpty (of_stream number) (change_by c number query st).state
+change_empties : (c : Config) (number : ℕ) (query : Query) (st : State) → IsSound st → is_some (to_set (tuning_of st number) query.change) ≡ true
+    → IsEmpty (of_stream number) (change_by c number query st).state
 change_empties c number query st sound some = record { none = (by (to_set (tuning_of st number) query.change) some).none }
   where
     by : (o : Option Tuning) → is_some o ≡ true → IsEmpty (of_stream number) (option_map_or (retune c number st) o (settle st)).state
@@ -137,40 +145,49 @@ pub none_of : (n : ℕ) (ts : List Stream) → many n ts ≡ 0 → find (λ t. t
 none_of n [] e = refl
 none_of n (t ∷ ts) e = by (t.number == n) e (λ f. none_of n ts f)
   where
-    by : (b : Bool) → length (cond b (t ∷ filter (has_number n) ts) (filter (has_number n) ts)) ≡ 0 → (many n ts ≡ 0 → find (λ t. t.number == n) ts ≡ None) → (if b then Some t else find (λ t. t.number == n) ts) ≡ None
+    by : (b : Bool) → length (cond b (t ∷ filter (has_number n) ts) (filter (has_number n) ts)) ≡ 0 → (many n ts ≡ 0 → find (λ t. t.number == n) ts ≡ None)
+        → (if b then Some t else find (λ t. t.number == n) ts) ≡ None
     by true f rest = cc
     by false f rest = rest f
 
 -- a new stream of a free number is found behind any others
-new_found : (n : ℕ) (new : Stream) (p : Stream → Bool) (ts us : List Stream) → new.number ≡ n → many n ts ≡ 0 → find (λ t. t.number == n) (filter p ts ++ new ∷ us) ≡ Some new
+new_found : (n : ℕ) (new : Stream) (p : Stream → Bool) (ts us : List Stream) → new.number ≡ n → many n ts ≡ 0
+    → find (λ t. t.number == n) (filter p ts ++ new ∷ us) ≡ Some new
 new_found n new p [] us e none = rw (e, eq-eqb n n refl) refl
 new_found n new p (t ∷ ts) us e none = by (t.number == n) refl none (λ f. new_found n new p ts us e f)
   where
     by : (b : Bool) → (t.number == n) ≡ b → length (cond b (t ∷ filter (has_number n) ts) (filter (has_number n) ts)) ≡ 0
-        → (many n ts ≡ 0 → find (λ t. t.number == n) (filter p ts ++ new ∷ us) ≡ Some new) → find (λ t. t.number == n) (filter p (t ∷ ts) ++ new ∷ us) ≡ Some new
+        → (many n ts ≡ 0 → find (λ t. t.number == n) (filter p ts ++ new ∷ us) ≡ Some new)
+        → find (λ t. t.number == n) (filter p (t ∷ ts) ++ new ∷ us) ≡ Some new
     by true f none rest = cc
     by false f none rest = at (p t) (rest none)
       where
-        at : (b : Bool) → find (λ t. t.number == n) (filter p ts ++ new ∷ us) ≡ Some new → find (λ t. t.number == n) (cond b (t ∷ filter p ts) (filter p ts) ++ new ∷ us) ≡ Some new
+        at : (b : Bool) → find (λ t. t.number == n) (filter p ts ++ new ∷ us) ≡ Some new
+            → find (λ t. t.number == n) (cond b (t ∷ filter p ts) (filter p ts) ++ new ∷ us) ≡ Some new
         at true g = rw f g
         at false g = g
 
 -- a founded stream has no tuning, before and after
-tuning_founded : (http : Bool) (peer : Peer) (draw : Draw) (ports : Ports) (st : State) → tuning_of (found http peer draw ports st) (least_free st.streams) ≡ tuning_of st (least_free st.streams)
+tuning_founded : (http : Bool) (peer : Peer) (draw : Draw) (ports : Ports) (st : State)
+    → tuning_of (found http peer draw ports st) (least_free st.streams) ≡ tuning_of st (least_free st.streams)
 tuning_founded http peer draw ports st =
     let n : ℕ = least_free st.streams in
-    ap (λ o. option_and_then (λ t. t.tuning) o) (new_found n _ (λ t. nat_le t.number n) st.streams (filter (λ t. not (nat_le t.number n)) st.streams) refl (least_is_free st.streams))
+    ap (λ o. option_and_then (λ t. t.tuning) o)
+    (new_found n _ (λ t. nat_le t.number n) st.streams (filter (λ t. not (nat_le t.number n)) st.streams) refl (least_is_free st.streams))
     ∙ sym (ap (λ o. option_and_then (λ t. t.tuning) o) (none_of n st.streams (least_is_free st.streams)))
 
-tuning_set_up : (peer : Peer) (draw : Draw) (ports : Ports) (r : Request) (st : State) → tuning_of (set_up peer draw ports r st) (setup_number r st) ≡ tuning_of st (setup_number r st)
+tuning_set_up : (peer : Peer) (draw : Draw) (ports : Ports) (r : Request) (st : State)
+    → tuning_of (set_up peer draw ports r st) (setup_number r st) ≡ tuning_of st (setup_number r st)
 tuning_set_up peer draw ports r st = at (session_named st r.session)
   where
-    by : (o : Option ℕ) → tuning_of (option_map_or (λ number. join false peer draw ports number st) o (found false peer draw ports st)) (unwrap_or o (least_free st.streams)) ≡ tuning_of st (unwrap_or o (least_free st.streams))
+    by : (o : Option ℕ) → tuning_of (option_map_or (λ number. join false peer draw ports number st) o (found false peer draw ports st))
+        (unwrap_or o (least_free st.streams)) ≡ tuning_of st (unwrap_or o (least_free st.streams))
     by None = tuning_founded false peer draw ports st
     by (Some number) = refl
 
     at : (o : Option Session) → tuning_of (option_map_or (λ s. change_session s.id (λ x. record x { peer = peer; ports = ports }) st) o
-        (option_map_or (λ number. join false peer draw ports number st) r.stream (found false peer draw ports st))) (setup_number r st) ≡ tuning_of st (setup_number r st)
+        (option_map_or (λ number. join false peer draw ports number st) r.stream (found false peer draw ports st))) (setup_number r st)
+        ≡ tuning_of st (setup_number r st)
     at None = by r.stream
     at (Some s) = refl
 
@@ -186,7 +203,8 @@ sound_set_up peer draw ports r st sound = at (session_named st r.session) refl
 abbrev EmptyAt : ℕ → State → Type 0
 EmptyAt n st = IsEmpty (of_stream n) st
 
-setup_empties : (c : Config) (peer : Peer) (draw : Draw) (r : Request) (st : State) (n : ℕ) → IsSound st → setup_number r st ≡ n → is_some (to_set (tuning_of st n) r.query.change) ≡ true
+setup_empties : (c : Config) (peer : Peer) (draw : Draw) (r : Request) (st : State) (n : ℕ) → IsSound st → setup_number r st ≡ n
+    → is_some (to_set (tuning_of st n) r.query.change) ≡ true
     → EmptyAt n (Steps.setup c peer draw r st).state
 setup_empties c peer draw r st n sound same some =
     let ports : Ports = unwrap_or r.ports no_ports in
@@ -195,16 +213,20 @@ setup_empties c peer draw r st n sound same some =
     subst (λ (k : ℕ). EmptyAt k (Steps.setup c peer draw r st).state) same
     (change_empties c (setup_number r st) r.query start (sound_set_up peer draw ports r st sound) (rw (tuning, same) some))
 
-play_empties : (c : Config) (r : Request) (st : State) (s : Session) (n : ℕ) → IsSound st → s.stream ≡ n → is_some (to_set (tuning_of st n) r.query.change) ≡ true → EmptyAt n (play_of c r st s).state
+play_empties : (c : Config) (r : Request) (st : State) (s : Session) (n : ℕ) → IsSound st → s.stream ≡ n
+    → is_some (to_set (tuning_of st n) r.query.change) ≡ true → EmptyAt n (play_of c r st s).state
 play_empties c r st s n sound same some =
     let m : Move = change_by c s.stream r.query st in
     let goes = goes_change_by c s.stream r.query st sound in
     let empty : EmptyAt n m.state = subst (λ (k : ℕ). EmptyAt k m.state) same (change_empties c s.stream r.query st sound (rw same some)) in
-    stays_empty (of_stream n) m.state (settle (change_session s.id (λ x. record x { playing = true }) m.state)) (λ x y http stream. rw (http, stream) refl) goes.sound empty
-    (goes_change m.state s.id (λ x. record x { playing = true }) (λ x. quiet x (record x { playing = true }) (record { id = refl; http = refl; stream = refl; ssrc = refl; first = refl }) refl refl) goes.sound)
+    stays_empty (of_stream n) m.state (settle (change_session s.id (λ x. record x { playing = true }) m.state)) (λ x y http stream. rw (http, stream) refl)
+    goes.sound empty
+    (goes_change m.state s.id (λ x. record x { playing = true })
+    (λ x. quiet x (record x { playing = true }) (record { id = refl; http = refl; stream = refl; ssrc = refl; first = refl }) refl refl) goes.sound)
 
 -- what is known of an event that retunes a stream
-request_empties : (c : Config) (peer : Peer) (draw : Draw) (r : Request) (st : State) (n : ℕ) → IsSound st → retunes c st (Asked peer draw r) n ≡ true → EmptyAt n (step c st (Asked peer draw r)).state
+request_empties : (c : Config) (peer : Peer) (draw : Draw) (r : Request) (st : State) (n : ℕ) → IsSound st → retunes c st (Asked peer draw r) n ≡ true
+    → EmptyAt n (step c st (Asked peer draw r)).state
 request_empties c peer draw r st n sound e = at (decide c st r) refl e
   where
     heard : State
@@ -219,7 +241,8 @@ request_empties c peer draw r st n sound e = at (decide c st r) refl e
     number : setup_number r heard ≡ setup_number r st
     number = ap (λ ts. unwrap_or r.stream (least_free ts)) (heard_streams r st)
 
-    by : (m : Method) → r.method ≡ m → session_missing st r ≡ false → option_map_or (sets_tuning st n) (if changes m && true then Some (record { number = number_asked m st r; query = r.query }) else None) false ≡ true
+    by : (m : Method) → r.method ≡ m → session_missing st r ≡ false
+        → option_map_or (sets_tuning st n) (if changes m && true then Some (record { number = number_asked m st r; query = r.query }) else None) false ≡ true
         → EmptyAt n (done_by m c peer draw r heard).state
     by Options method missing f = cc
     by Describe method missing f = cc
@@ -231,7 +254,8 @@ request_empties c peer draw r st n sound e = at (decide c st r) refl e
         let parts = and_parts (number_asked Play st r == n) (is_some (to_set (tuning_of st n) r.query.change)) f in
         played (session_named st r.session) refl (eqb-true (number_asked Play st r) n parts.0) (rw tuning parts.1)
       where
-        played : (o : Option Session) → session_named st r.session ≡ o → option_map_or (λ s. s.stream) o 0 ≡ n → is_some (to_set (tuning_of heard n) r.query.change) ≡ true → EmptyAt n (done_by Play c peer draw r heard).state
+        played : (o : Option Session) → session_named st r.session ≡ o → option_map_or (λ s. s.stream) o 0 ≡ n
+            → is_some (to_set (tuning_of heard n) r.query.change) ≡ true → EmptyAt n (done_by Play c peer draw r heard).state
         played None g same some = absent (names_none r.session) (rw (method, g) at missing)
           where
             absent : (b : Bool) → (if b then true else true) ≡ false → EmptyAt n (done_by Play c peer draw r heard).state
@@ -241,29 +265,36 @@ request_empties c peer draw r st n sound e = at (decide c st r) refl e
             let still = named_heard st r x g in
             rw still.1 (play_empties c r heard still.0 n sound1 (still.2 ∙ same) some)
 
-    at : (o : Option Refused) → decide c st r ≡ o → option_map_or (sets_tuning st n) (if changes r.method && is_none o then Some (record { number = number_asked r.method st r; query = r.query }) else None) false ≡ true
+    at : (o : Option Refused) → decide c st r ≡ o
+        → option_map_or (sets_tuning st n) (if changes r.method && is_none o then Some (record { number = number_asked r.method st r; query = r.query })
+        else None) false ≡ true
         → EmptyAt n (option_map_or (Steps.refuse r heard) o (done_by r.method c peer draw r heard)).state
     at None g f = by r.method refl (not_missing c st r g) f
     at (Some x) g f = never (changes r.method) f
       where
-        never : (b : Bool) → option_map_or (sets_tuning st n) (if b && false then Some (record { number = number_asked r.method st r; query = r.query }) else None) false ≡ true
+        never : (b : Bool) → option_map_or (sets_tuning st n)
+            (if b && false then Some (record { number = number_asked r.method st r; query = r.query }) else None) false ≡ true
             → EmptyAt n (Steps.refuse r heard x).state
         never true g = cc
         never false g = cc
 
-get_empties : (c : Config) (peer : Peer) (draw : Draw) (r : HttpRequest) (st : State) (n : ℕ) → IsSound st → retunes c st (Got peer draw r) n ≡ true → EmptyAt n (step c st (Got peer draw r)).state
+get_empties : (c : Config) (peer : Peer) (draw : Draw) (r : HttpRequest) (st : State) (n : ℕ) → IsSound st → retunes c st (Got peer draw r) n ≡ true
+    → EmptyAt n (step c st (Got peer draw r)).state
 get_empties c peer draw r st n sound e = at (decide_get c st r) e
   where
     start : State
     start = found true peer draw no_ports st
 
-    at : (o : Option Refused) → option_map_or (sets_tuning st n) (if is_none o then Some (record { number = least_free st.streams; query = r.query }) else None) false ≡ true
-        → EmptyAt n (option_map_or (λ refused. Steps.outcome (settle st) (Get (GetRefused refused.status)) (http_refusal refused.status refused.body)) o (Steps.start c peer draw r st)).state
+    at : (o : Option Refused) → option_map_or (sets_tuning st n)
+        (if is_none o then Some (record { number = least_free st.streams; query = r.query }) else None) false ≡ true
+        → EmptyAt n (option_map_or (λ refused. Steps.outcome (settle st) (Get (GetRefused refused.status)) (http_refusal refused.status refused.body)) o
+        (Steps.start c peer draw r st)).state
     at None f =
         let parts = and_parts (least_free st.streams == n) (is_some (to_set (tuning_of st n) r.query.change)) f in
         let same : least_free st.streams ≡ n = eqb-true (least_free st.streams) n parts.0 in
         subst (λ (k : ℕ). EmptyAt k (Steps.start c peer draw r st).state) same
-        (change_empties c (least_free st.streams) r.query start (adds_sound st start _ sound (found_adds true peer draw no_ports st sound)) (rw (tuning_founded true peer draw no_ports st, same) parts.1))
+        (change_empties c (least_free st.streams) r.query start (adds_sound st start _ sound (found_adds true peer draw no_ports st sound))
+        (rw (tuning_founded true peer draw no_ports st, same) parts.1))
     at (Some x) f = cc
 
 event_empties : (c : Config) (st : State) (e : Event) (n : ℕ) → IsSound st → retunes c st e n ≡ true → EmptyAt n (step c st e).state

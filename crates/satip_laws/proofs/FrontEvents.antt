@@ -42,14 +42,18 @@ any_map : (g : Stream → Stream) → KeepsPlace g → (f : ℕ) (ts : List Stre
 any_map g keeps f [] = refl
 any_map g keeps f (t ∷ ts) = rw ((keeps t).0, any_map g keeps f ts) refl
 
-matched_map : (c : Config) (rows : List Row) (g : Stream → Stream) → KeepsPlace g → (ts : List Stream) → Each (IsMatched c rows) ts → Each (IsMatched c rows) (map g ts)
+matched_map : (c : Config) (rows : List Row) (g : Stream → Stream) → KeepsPlace g → (ts : List Stream) → Each (IsMatched c rows) ts
+    → Each (IsMatched c rows) (map g ts)
 matched_map c rows g keeps [] each = tt
 matched_map c rows g keeps (t ∷ ts) each =
     ((λ f r here found. rw (keeps t).1 (each.0 f r (rw (keeps t).0 at here) found)), matched_map c rows g keeps ts each.1)
 
 map_quiet : (c : Config) (st : State) (g : Stream → Stream) → KeepsPlace g → AreFronts c st → Quiet c st (record st { streams = map g st.streams })
 map_quiet c st g keeps fronts = record {
-  keeps = λ f. record { tune = refl; on = λ e. (any_served f st.streams ∙ sym (any_map g keeps f st.streams) ∙ sym (any_served f (map g st.streams)) ∙ e, refl) };
+  keeps = λ f. record {
+    tune = refl;
+    on = λ e. (any_served f st.streams ∙ sym (any_map g keeps f st.streams) ∙ sym (any_served f (map g st.streams)) ∙ e, refl);
+  };
   fronts = record {
     matched = matched_map c st.rows g keeps st.streams fronts.matched;
     free = λ f e. fronts.free f (any_served f st.streams ∙ sym (any_map g keeps f st.streams) ∙ sym (any_served f (map g st.streams)) ∙ e);
@@ -92,13 +96,15 @@ any_split p q (t ∷ ts) = by (p t) (q t) refl (any_split p q ts)
         or_true false = refl
     by false false e rest = rw e rest
 
-any_put : (new : Stream) (f : ℕ) (ts : List Stream) → is_at new.front f ≡ false → list_any (λ t. is_at t.front f) (put_stream new ts) ≡ list_any (λ t. is_at t.front f) ts
+any_put : (new : Stream) (f : ℕ) (ts : List Stream) → is_at new.front f ≡ false
+    → list_any (λ t. is_at t.front f) (put_stream new ts) ≡ list_any (λ t. is_at t.front f) ts
 any_put new f ts none =
     let p : Stream → Bool = λ t. nat_le t.number new.number in
     let q : Stream → Bool = λ t. is_at t.front f in
     list_any-append q (filter p ts) (new ∷ filter (λ t. not (p t)) ts) ∙ (rw none (any_split p q ts))
 
-matched_append : (c : Config) (rows : List Row) (ts us : List Stream) → Each (IsMatched c rows) ts → Each (IsMatched c rows) us → Each (IsMatched c rows) (ts ++ us)
+matched_append : (c : Config) (rows : List Row) (ts us : List Stream) → Each (IsMatched c rows) ts → Each (IsMatched c rows) us
+    → Each (IsMatched c rows) (ts ++ us)
 matched_append c rows [] us a b = b
 matched_append c rows (t ∷ ts) us a b = (a.0, matched_append c rows ts us a.1 b)
 
@@ -109,7 +115,8 @@ found_quiet : (c : Config) (http : Bool) (peer : Peer) (draw : Draw) (ports : Po
 found_quiet c http peer draw ports st fronts = record {
   keeps = λ f. record { tune = refl; on = λ e. (same f ∙ e, refl) };
   fronts = record {
-    matched = matched_append c st.rows (filter (λ t. nat_le t.number new.number) st.streams) (new ∷ filter (λ t. not (nat_le t.number new.number)) st.streams) (matched_filter c st.rows _ st.streams fronts.matched)
+    matched = matched_append c st.rows (filter (λ t. nat_le t.number new.number) st.streams) (new ∷ filter (λ t. not (nat_le t.number new.number)) st.streams)
+        (matched_filter c st.rows _ st.streams fronts.matched)
         ((λ f r here found. cc), matched_filter c st.rows _ st.streams fronts.matched);
     free = λ f e. fronts.free f (same f ∙ e);
   };
@@ -124,7 +131,8 @@ found_quiet c http peer draw ports st fronts = record {
 -- a change of a stream
 
 retune_shifts : (c : Config) (number : ℕ) (st : State) (tuning : Tuning) → AreFronts c st → Shifts c st (retune c number st tuning).state
-retune_shifts c number st tuning fronts = quiet_shifts c st now (retune c number st tuning).state first (by (choose (outlook_of c now number) (mux_of c.muxes tuning) tuning) refl)
+retune_shifts c number st tuning fronts = quiet_shifts c st now (retune c number st tuning).state first
+    (by (choose (outlook_of c now number) (mux_of c.muxes tuning) tuning) refl)
   where
     now : State
     now = (each_of (λ s. s.stream == number && not s.http) (let_go true st.clock) st).state
@@ -132,7 +140,8 @@ retune_shifts c number st tuning fronts = quiet_shifts c st now (retune c number
     first : Quiet c st now
     first = quiet_same c st now fronts refl refl
 
-    by : (o : Option Place) → choose (outlook_of c now number) (mux_of c.muxes tuning) tuning ≡ o → Shifts c now (option_map_or (put_at c number tuning now) o now)
+    by : (o : Option Place) → choose (outlook_of c now number) (mux_of c.muxes tuning) tuning ≡ o
+        → Shifts c now (option_map_or (put_at c number tuning now) o now)
     by None e = shifts_of c now now (quiet_same c now now first.fronts refl refl)
     by (Some place) e = put_at_shifts c number tuning now place first.fronts (chosen_place (outlook_of c now number) (mux_of c.muxes tuning) tuning place e)
 
@@ -153,7 +162,8 @@ change_shifts c number query st fronts = shifts_quiet c st middle (change_by c n
     first = by (to_set old query.change)
 
     last : Quiet c middle (change_stream number (λ t. record t { pids = new_pids t.pids query }) middle)
-    last = map_quiet c middle (λ t. if t.number == number then record t { pids = new_pids t.pids query } else t) (keeps_where (λ t. t.number == number) (λ t. record t { pids = new_pids t.pids query }) (λ t. (refl, refl))) first.fronts
+    last = map_quiet c middle (λ t. if t.number == number then record t { pids = new_pids t.pids query } else t)
+        (keeps_where (λ t. t.number == number) (λ t. record t { pids = new_pids t.pids query }) (λ t. (refl, refl))) first.fronts
 
 -- requests
 
@@ -223,7 +233,9 @@ get_shifts c peer draw r st fronts = at (decide_get c st r)
     first : Quiet c st start
     first = found_quiet c true peer draw no_ports st fronts
 
-    at : (o : Option Refused) → Shifts c st (option_map_or (λ refused. Steps.outcome (settle st) (Get (GetRefused refused.status)) (http_refusal refused.status refused.body)) o (Steps.start c peer draw r st)).state
+    at : (o : Option Refused)
+        → Shifts c st (option_map_or (λ refused. Steps.outcome (settle st) (Get (GetRefused refused.status)) (http_refusal refused.status refused.body)) o
+        (Steps.start c peer draw r st)).state
     at None = quiet_shifts c st start (Steps.start c peer draw r st).state first (change_shifts c (least_free st.streams) r.query start first.fronts)
     at (Some x) = shifts_of c st st (quiet_same c st st fronts refl refl)
 
@@ -252,11 +264,16 @@ tick_quiet c now st fronts =
     let two : State = (end_where (Steps.is_expired c one.clock) one).state in
     let first : Quiet c st one = quiet_same c st one fronts refl refl in
     let second : Quiet c one two = end_quiet c (Steps.is_expired c one.clock) one first.fronts in
-    quiet_then c st one (tick c now st).state first (quiet_then c one two (tick c now st).state second (quiet_same c two (tick c now st).state second.fronts refl refl))
+    quiet_then c st one (tick c now st).state first
+    (quiet_then c one two (tick c now st).state second (quiet_same c two (tick c now st).state second.fronts refl refl))
 
 -- the mark of an exhausted recording
 ended_quiet : (c : Config) (front tune : ℕ) (st : State) → AreFronts c st → Quiet c st (Steps.on_ended front tune st).state
-ended_quiet c front tune st fronts = record { keeps = λ f. record { tune = tunes f; on = λ e. (e, muxes f) }; fronts = record { matched = all st.streams fronts.matched; free = λ f e. muxes f ∙ fronts.free f e } }
+ended_quiet c front tune st fronts =
+    record {
+      keeps = λ f. record { tune = tunes f; on = λ e. (e, muxes f) };
+      fronts = record { matched = all st.streams fronts.matched; free = λ f e. muxes f ∙ fronts.free f e };
+    }
   where
     g : Row → Row
     g r = if is_current st front tune && r.number == front then record r { ended = true } else r
@@ -264,7 +281,8 @@ ended_quiet c front tune st fronts = record { keeps = λ f. record { tune = tune
     kept : (r : Row) → ((g r).number ≡ r.number) × ((g r).tune ≡ r.tune) × ((g r).mux ≡ r.mux)
     kept r = by (is_current st front tune && r.number == front)
       where
-        by : (b : Bool) → ((if b then record r { ended = true } else r).number ≡ r.number) × ((if b then record r { ended = true } else r).tune ≡ r.tune) × ((if b then record r { ended = true } else r).mux ≡ r.mux)
+        by : (b : Bool) → ((if b then record r { ended = true } else r).number ≡ r.number) × ((if b then record r { ended = true } else r).tune ≡ r.tune)
+            × ((if b then record r { ended = true } else r).mux ≡ r.mux)
         by true = (refl, refl, refl)
         by false = (refl, refl, refl)
 
@@ -308,7 +326,9 @@ pull_quiet c id st fronts = at (http_session st id)
 close_quiet : (c : Config) (id : SessionId) (st : State) → AreFronts c st → Quiet c st (Steps.on_close id st).state
 close_quiet c id st fronts = at (http_session st id)
   where
-    at : (o : Option Session) → Quiet c st (option_map_or (λ s. Steps.outcome (end_where (is_session id) st) (Closed Yes) []) o (Steps.outcome (settle st) (Closed ClosedGone) [])).state
+    at : (o : Option Session)
+        → Quiet c st (option_map_or (λ s. Steps.outcome (end_where (is_session id) st) (Closed Yes) []) o
+        (Steps.outcome (settle st) (Closed ClosedGone) [])).state
     at None = quiet_same c st st fronts refl refl
     at (Some x) = end_quiet c (is_session id) st fronts
 

@@ -84,7 +84,8 @@ pub find_row : (p : Row → Bool) (g : Row → Row) → ((r : Row) → p (g r) �
 find_row p g same [] = refl
 find_row p g same (r ∷ rows) = rw (same r) (by (p r) (find_row p g same rows))
   where
-    by : (b : Bool) → find p (map g rows) ≡ option_map g (find p rows) → (if b then Some (g r) else find p (map g rows)) ≡ option_map g (if b then Some r else find p rows)
+    by : (b : Bool) → find p (map g rows) ≡ option_map g (find p rows)
+        → (if b then Some (g r) else find p (map g rows)) ≡ option_map g (if b then Some r else find p rows)
     by true e = refl
     by false e = e
 
@@ -92,7 +93,8 @@ row_number : (f : ℕ) (rows : List Row) (r : Row) → find (λ r. r.number == f
 row_number f [] r e = cc
 row_number f (x ∷ rows) r e = by (x.number == f) refl e (λ g. row_number f rows r g)
   where
-    by : (b : Bool) → (x.number == f) ≡ b → (if b then Some x else find (λ r. r.number == f) rows) ≡ Some r → (find (λ r. r.number == f) rows ≡ Some r → r.number ≡ f) → r.number ≡ f
+    by : (b : Bool) → (x.number == f) ≡ b → (if b then Some x else find (λ r. r.number == f) rows) ≡ Some r
+        → (find (λ r. r.number == f) rows ≡ Some r → r.number ≡ f) → r.number ≡ f
     by true g h rest = let same : x ≡ r = cc in ap (λ z. z.number) (sym same) ∙ eqb-true x.number f g
     by false g h rest = rest h
 
@@ -102,7 +104,8 @@ any_filter : (p q : Stream → Bool) (ts : List Stream) → list_any q (filter p
 any_filter p q [] e = cc
 any_filter p q (t ∷ ts) e = by (p t) (q t) e (λ f. any_filter p q ts f)
   where
-    by : (a b : Bool) → list_any q (cond a (t ∷ filter p ts) (filter p ts)) ≡ true → (list_any q (filter p ts) ≡ true → list_any q ts ≡ true) → (q t || list_any q ts) ≡ true
+    by : (a b : Bool) → list_any q (cond a (t ∷ filter p ts) (filter p ts)) ≡ true → (list_any q (filter p ts) ≡ true → list_any q ts ≡ true)
+        → (q t || list_any q ts) ≡ true
     by true b e rest = at (q t) e rest
       where
         at : (b : Bool) → (b || list_any q (filter p ts)) ≡ true → (list_any q (filter p ts) ≡ true → list_any q ts ≡ true) → (b || list_any q ts) ≡ true
@@ -144,7 +147,8 @@ free_number ts r = by (not (list_any (λ t. is_at t.front r.number) ts))
     by true = refl
     by false = refl
 
-pub swept_row : (f : ℕ) (ts : List Stream) (rows : List Row) → find (λ r. r.number == f) (map (free_where ts) rows) ≡ option_map (free_where ts) (find (λ r. r.number == f) rows)
+pub swept_row : (f : ℕ) (ts : List Stream) (rows : List Row)
+    → find (λ r. r.number == f) (map (free_where ts) rows) ≡ option_map (free_where ts) (find (λ r. r.number == f) rows)
 swept_row f ts rows = find_row (λ r. r.number == f) (free_where ts) (λ r. ap (λ n. n == f) (free_number ts r)) rows
 
 free_tune : (ts : List Stream) (o : Option Row) → option_map (λ r. r.tune) (option_map (free_where ts) o) ≡ option_map (λ r. r.tune) o
@@ -175,7 +179,8 @@ pub some_row : (o : Option Row) (g : Row → Row) (r : Row) → option_map g o �
 some_row None g r e = cc
 some_row (Some x) g r e = (x, refl, cc)
 
-swept_matched : (c : Config) (rows : List Row) (all ts : List Stream) → ((f : ℕ) → list_any (λ t. is_at t.front f) ts ≡ true → list_any (λ t. is_at t.front f) all ≡ true)
+swept_matched : (c : Config) (rows : List Row) (all ts : List Stream)
+    → ((f : ℕ) → list_any (λ t. is_at t.front f) ts ≡ true → list_any (λ t. is_at t.front f) all ≡ true)
     → Each (IsMatched c rows) ts → Each (IsMatched c (map (free_where all) rows)) ts
 swept_matched c rows all [] within each = tt
 swept_matched c rows all (t ∷ ts) within each = (one, swept_matched c rows all ts (λ f e. within f (any_later f t ts e)) each.1)
@@ -191,7 +196,15 @@ abbrev staying : State → List Stream
 staying st = filter (λ t. list_any (λ s. s.stream == t.number) st.sessions) st.streams
 
 pub sweep_quiet : (c : Config) (st : State) → Each (IsMatched c st.rows) st.streams → Quiet c st (sweep st)
-sweep_quiet c st matched = record { keeps = keeps; fronts = record { matched = swept_matched c st.rows (staying st) (staying st) (λ f e. e) (each_filter (IsMatched c st.rows) _ st.streams matched); free = free } }
+sweep_quiet c st matched =
+    record {
+      keeps = keeps;
+      fronts =
+          record {
+            matched = swept_matched c st.rows (staying st) (staying st) (λ f e. e) (each_filter (IsMatched c st.rows) _ st.streams matched);
+            free = free;
+          };
+    }
   where
     keeps : (f : ℕ) → Keeps f st (sweep st)
     keeps f = record {
@@ -252,10 +265,12 @@ least_found case o wanted tuning n e = by (find (suits case o wanted tuning) o.f
       taken = (and_parts (fits front tuning) (may_take case o wanted front) (find_passes (suits case o wanted tuning) o.fronts front f)).1;
     }
 
-old_place : (o : Outlook) (wanted : Option ℕ) (n : ℕ) (front : Front) → front.number ≡ n → is_tuned o wanted front ≡ true → IsPlaceFor o wanted (record { front = n; anew = false })
+old_place : (o : Outlook) (wanted : Option ℕ) (n : ℕ) (front : Front) → front.number ≡ n → is_tuned o wanted front ≡ true
+    → IsPlaceFor o wanted (record { front = n; anew = false })
 old_place o wanted n front number e = record { old = λ f. ap (λ k. is_tuned_to wanted (o.mux_at k)) (sym number) ∙ e; new = λ f. cc }
 
-new_place : (o : Outlook) (wanted : Option ℕ) (n : ℕ) (front : Front) → front.number ≡ n → o.shared front.number ≡ false → IsPlaceFor o wanted (record { front = n; anew = true })
+new_place : (o : Outlook) (wanted : Option ℕ) (n : ℕ) (front : Front) → front.number ≡ n → o.shared front.number ≡ false
+    → IsPlaceFor o wanted (record { front = n; anew = true })
 new_place o wanted n front number e = record { old = λ f. cc; new = λ f. ap o.shared (sym number) ∙ e }
 
 keep_place : (o : Outlook) (wanted : Option ℕ) (n : ℕ) → IsFound Keep o wanted n → IsPlaceFor o wanted (record { front = n; anew = false })
@@ -266,20 +281,24 @@ share_place o wanted n found = old_place o wanted n found.front found.number fou
 
 retune_place : (o : Outlook) (wanted : Option ℕ) (n : ℕ) → IsFound Retune o wanted n → IsPlaceFor o wanted (record { front = n; anew = true })
 retune_place o wanted n found =
-    new_place o wanted n found.front found.number (not_true (o.shared found.front.number) (and_parts (is_own o found.front) (not (o.shared found.front.number)) found.taken).1)
+    new_place o wanted n found.front found.number
+    (not_true (o.shared found.front.number) (and_parts (is_own o found.front) (not (o.shared found.front.number)) found.taken).1)
 
 start_place : (o : Outlook) (wanted : Option ℕ) (n : ℕ) → IsFound Start o wanted n → IsPlaceFor o wanted (record { front = n; anew = true })
 start_place o wanted n found =
-    new_place o wanted n found.front found.number (not_true (o.shared found.front.number) (and_parts (not (is_own o found.front)) (not (o.shared found.front.number)) found.taken).1)
+    new_place o wanted n found.front found.number
+    (not_true (o.shared found.front.number) (and_parts (not (is_own o found.front)) (not (o.shared found.front.number)) found.taken).1)
 
 pub chosen_place : (o : Outlook) (wanted : Option ℕ) (tuning : Tuning) (place : Place) → choose o wanted tuning ≡ Some place → IsPlaceFor o wanted place
 unfolding choose placed
-chosen_place o wanted tuning place e = by (least Keep o wanted tuning) (least Share o wanted tuning) (least Retune o wanted tuning) (least Start o wanted tuning) refl refl refl refl e
+chosen_place o wanted tuning place e = by (least Keep o wanted tuning) (least Share o wanted tuning) (least Retune o wanted tuning)
+    (least Start o wanted tuning) refl refl refl refl e
   where
     at : (p : Place) → Some p ≡ Some place → IsPlaceFor o wanted p → IsPlaceFor o wanted place
     at p f known = let same : p ≡ place = cc in subst (IsPlaceFor o wanted) same known
 
-    by : (k s r t : Option ℕ) → least Keep o wanted tuning ≡ k → least Share o wanted tuning ≡ s → least Retune o wanted tuning ≡ r → least Start o wanted tuning ≡ t
+    by : (k s r t : Option ℕ) → least Keep o wanted tuning ≡ k → least Share o wanted tuning ≡ s → least Retune o wanted tuning ≡ r
+        → least Start o wanted tuning ≡ t
         → first_placed (placed false k ∷ placed false s ∷ placed true r ∷ placed true t ∷ []) ≡ Some place → IsPlaceFor o wanted place
     by (Some n) s r t ek es er et f = at (record { front = n; anew = false }) f (keep_place o wanted n (least_found Keep o wanted tuning n ek))
     by None (Some n) r t ek es er et f = at (record { front = n; anew = false }) f (share_place o wanted n (least_found Share o wanted tuning n es))
@@ -309,7 +328,8 @@ tune_number anew front mux r = by (anew && r.number == front)
     by true = refl
     by false = refl
 
-placed_row : (f : ℕ) (anew : Bool) (front : ℕ) (mux : Option ℕ) (rows : List Row) → find (λ r. r.number == f) (map (tune_row anew front mux) rows) ≡ option_map (tune_row anew front mux) (find (λ r. r.number == f) rows)
+placed_row : (f : ℕ) (anew : Bool) (front : ℕ) (mux : Option ℕ) (rows : List Row)
+    → find (λ r. r.number == f) (map (tune_row anew front mux) rows) ≡ option_map (tune_row anew front mux) (find (λ r. r.number == f) rows)
 placed_row f anew front mux rows = find_row (λ r. r.number == f) (tune_row anew front mux) (λ r. ap (λ n. n == f) (tune_number anew front mux r)) rows
 
 -- a row that isn't tuned
@@ -330,16 +350,20 @@ other_front true n front other = ne_eqb n front other
 other_front false n front other = refl
 
 -- at another front end only streams are that were there before
-served_elsewhere : (number : ℕ) (tuning : Tuning) (front f : ℕ) → (f ≡ front → ⊥) → (ts : List Stream) → list_any (λ t. is_at t.front f) (map (place_stream number tuning front) ts) ≡ true → list_any (λ t. is_at t.front f) ts ≡ true
+served_elsewhere : (number : ℕ) (tuning : Tuning) (front f : ℕ) → (f ≡ front → ⊥) → (ts : List Stream)
+    → list_any (λ t. is_at t.front f) (map (place_stream number tuning front) ts) ≡ true → list_any (λ t. is_at t.front f) ts ≡ true
 served_elsewhere number tuning front f other [] e = cc
 served_elsewhere number tuning front f other (t ∷ ts) e = by (t.number == number) e (λ g. served_elsewhere number tuning front f other ts g)
   where
-    by : (b : Bool) → (is_at (if b then record t { tuning = Some tuning; front = Some front } else t).front f || list_any (λ t. is_at t.front f) (map (place_stream number tuning front) ts)) ≡ true
-        → (list_any (λ t. is_at t.front f) (map (place_stream number tuning front) ts) ≡ true → list_any (λ t. is_at t.front f) ts ≡ true) → (is_at t.front f || list_any (λ t. is_at t.front f) ts) ≡ true
+    by : (b : Bool) → (is_at (if b then record t { tuning = Some tuning; front = Some front } else t).front f
+        || list_any (λ t. is_at t.front f) (map (place_stream number tuning front) ts)) ≡ true
+        → (list_any (λ t. is_at t.front f) (map (place_stream number tuning front) ts) ≡ true → list_any (λ t. is_at t.front f) ts ≡ true)
+        → (is_at t.front f || list_any (λ t. is_at t.front f) ts) ≡ true
     by true e rest = any_later f t ts (rest (rw (ne_eqb front f (λ g. other (sym g))) at e))
     by false e rest = at (is_at t.front f) e
       where
-        at : (b : Bool) → (b || list_any (λ t. is_at t.front f) (map (place_stream number tuning front) ts)) ≡ true → (b || list_any (λ t. is_at t.front f) ts) ≡ true
+        at : (b : Bool) → (b || list_any (λ t. is_at t.front f) (map (place_stream number tuning front) ts)) ≡ true
+            → (b || list_any (λ t. is_at t.front f) ts) ≡ true
         at true e = refl
         at false e = rest e
 
@@ -367,7 +391,8 @@ true_unless true h = refl
 true_unless false h = absurd (h refl)
 
 -- what the place does to each front end
-placed_each : (c : Config) (number : ℕ) (tuning : Tuning) (st : State) (place : Place) → AreFronts c st → IsPlaceFor (outlook_of c st number) (mux_of c.muxes tuning) place → (f : ℕ)
+placed_each : (c : Config) (number : ℕ) (tuning : Tuning) (st : State) (place : Place) → AreFronts c st
+    → IsPlaceFor (outlook_of c st number) (mux_of c.muxes tuning) place → (f : ℕ)
     → Keeps f st (placed_state c number tuning st place) ⊎ Anew f st (placed_state c number tuning st place)
 placed_each c number tuning st place fronts known f = by (is_place f place.front) place.anew refl
   where
@@ -387,7 +412,8 @@ placed_each c number tuning st place fronts known f = by (is_place f place.front
     same_row : (place.anew && f == place.front) ≡ false → row_of new f ≡ row_of st f
     same_row other = row_new ∙ kept_row (row_of st f) refl other
 
-    tuned_row : (o : Option Row) → row_of st f ≡ o → f ≡ place.front → option_map (λ r. r.tune) (option_map (tune_row true place.front mux) o) ≡ option_map (λ n. (n + 1) % 2 ^ 64) (option_map (λ r. r.tune) o)
+    tuned_row : (o : Option Row) → row_of st f ≡ o → f ≡ place.front
+        → option_map (λ r. r.tune) (option_map (tune_row true place.front mux) o) ≡ option_map (λ n. (n + 1) % 2 ^ 64) (option_map (λ r. r.tune) o)
     tuned_row None e here = refl
     tuned_row (Some r) e here = ap (λ x. Some x.tune) (row_tuned place.front mux r (row_number f st.rows r e ∙ here))
 
@@ -399,7 +425,11 @@ placed_each c number tuning st place fronts known f = by (is_place f place.front
         ap (λ o. option_and_then (λ r. r.mux) o) (same_row (other_front place.anew f place.front other)),
       );
     })
-    by (inl here) true e = inr (record { tune = ap (λ o. option_map (λ r. r.tune) o) (row_new ∙ ap (λ a. option_map (tune_row a place.front mux) (row_of st f)) e) ∙ tuned_row (row_of st f) refl here })
+    by (inl here) true e = inr
+        (record {
+          tune = ap (λ o. option_map (λ r. r.tune) o) (row_new ∙ ap (λ a. option_map (tune_row a place.front mux) (row_of st f)) e)
+              ∙ tuned_row (row_of st f) refl here;
+        })
     by (inl here) false e =
         let same : row_of new f ≡ row_of st f = same_row (rw e refl) in
         let has : is_tuned_to mux (mux_at st f) ≡ true = rw here (known.old e) in
@@ -409,7 +439,8 @@ placed_each c number tuning st place fronts known f = by (is_place f place.front
         })
 
 -- another stream at the place's front end shares it
-shared_by : (number f : ℕ) (t : Stream) (ts : List Stream) → list_any (λ u. not (u.number == number)) (filter (λ u. is_at u.front f) (t ∷ ts)) ≡ false → is_at t.front f ≡ true → (t.number == number) ≡ false → ⊥
+shared_by : (number f : ℕ) (t : Stream) (ts : List Stream) → list_any (λ u. not (u.number == number)) (filter (λ u. is_at u.front f) (t ∷ ts)) ≡ false
+    → is_at t.front f ≡ true → (t.number == number) ≡ false → ⊥
 shared_by number f t ts none here other = by (rw here at none)
   where
     by : (not (t.number == number) || list_any (λ u. not (u.number == number)) (filter (λ u. is_at u.front f) ts)) ≡ false → ⊥
@@ -419,11 +450,13 @@ shared_rest : (number f : ℕ) (t : Stream) (ts : List Stream) → list_any (λ 
     → list_any (λ u. not (u.number == number)) (filter (λ u. is_at u.front f) ts) ≡ false
 shared_rest number f t ts none = by (is_at t.front f) none
   where
-    more : (b : Bool) → (b || list_any (λ u. not (u.number == number)) (filter (λ u. is_at u.front f) ts)) ≡ false → list_any (λ u. not (u.number == number)) (filter (λ u. is_at u.front f) ts) ≡ false
+    more : (b : Bool) → (b || list_any (λ u. not (u.number == number)) (filter (λ u. is_at u.front f) ts)) ≡ false
+        → list_any (λ u. not (u.number == number)) (filter (λ u. is_at u.front f) ts) ≡ false
     more true e = cc
     more false e = e
 
-    by : (b : Bool) → list_any (λ u. not (u.number == number)) (cond b (t ∷ filter (λ u. is_at u.front f) ts) (filter (λ u. is_at u.front f) ts)) ≡ false → list_any (λ u. not (u.number == number)) (filter (λ u. is_at u.front f) ts) ≡ false
+    by : (b : Bool) → list_any (λ u. not (u.number == number)) (cond b (t ∷ filter (λ u. is_at u.front f) ts) (filter (λ u. is_at u.front f) ts)) ≡ false
+        → list_any (λ u. not (u.number == number)) (filter (λ u. is_at u.front f) ts) ≡ false
     by true e = more (not (t.number == number)) e
     by false e = e
 
@@ -431,7 +464,8 @@ shared_rest number f t ts none = by (is_at t.front f) none
 placed_matched : (c : Config) (number : ℕ) (tuning : Tuning) (rows : List Row) (place : Place) (ts : List Stream)
     → (place.anew ≡ false → (r : Row) → find (λ r. r.number == place.front) rows ≡ Some r → r.mux ≡ mux_of c.muxes tuning)
     → (place.anew ≡ true → list_any (λ u. not (u.number == number)) (filter (λ u. is_at u.front place.front) ts) ≡ false)
-    → Each (IsMatched c rows) ts → Each (IsMatched c (map (tune_row place.anew place.front (mux_of c.muxes tuning)) rows)) (map (place_stream number tuning place.front) ts)
+    → Each (IsMatched c rows) ts → Each (IsMatched c (map (tune_row place.anew place.front (mux_of c.muxes tuning)) rows))
+    (map (place_stream number tuning place.front) ts)
 placed_matched c number tuning rows place [] old new each = tt
 placed_matched c number tuning rows place (t ∷ ts) old new each = (
   one (t.number == number) refl,
@@ -441,20 +475,27 @@ placed_matched c number tuning rows place (t ∷ ts) old new each = (
     mux : Option ℕ
     mux = mux_of c.muxes tuning
 
-    at_place : (f : ℕ) (r : Row) → f ≡ place.front → (anew : Bool) → place.anew ≡ anew → find (λ r. r.number == f) (map (tune_row place.anew place.front mux) rows) ≡ Some r → r.mux ≡ mux
+    at_place : (f : ℕ) (r : Row) → f ≡ place.front → (anew : Bool) → place.anew ≡ anew
+        → find (λ r. r.number == f) (map (tune_row place.anew place.front mux) rows) ≡ Some r → r.mux ≡ mux
     at_place f r here true e found =
-        let was = some_row (find (λ r. r.number == f) rows) (tune_row place.anew place.front mux) r (sym (placed_row f place.anew place.front mux rows) ∙ found) in
-        let is : tune_row place.anew place.front mux was.0 ≡ tuned mux was.0 = row_anew place.anew place.front mux was.0 e (row_number f rows was.0 was.1 ∙ here) in
+        let was = some_row (find (λ r. r.number == f) rows) (tune_row place.anew place.front mux) r
+        (sym (placed_row f place.anew place.front mux rows) ∙ found) in
+        let is : tune_row place.anew place.front mux was.0 ≡ tuned mux was.0 =
+        row_anew place.anew place.front mux was.0 e (row_number f rows was.0 was.1 ∙ here) in
         ap (λ x. x.mux) (sym was.2 ∙ is)
     at_place f r here false e found =
-        let was = some_row (find (λ r. r.number == f) rows) (tune_row place.anew place.front mux) r (sym (placed_row f place.anew place.front mux rows) ∙ found) in
+        let was = some_row (find (λ r. r.number == f) rows) (tune_row place.anew place.front mux) r
+        (sym (placed_row f place.anew place.front mux rows) ∙ found) in
         let is : tune_row place.anew place.front mux was.0 ≡ was.0 = row_untuned place.anew place.front mux was.0 e in
         ap (λ x. x.mux) (sym was.2 ∙ is) ∙ old e was.0 (ap (λ n. find (λ r. r.number == n) rows) (sym here) ∙ was.1)
 
-    elsewhere : (f : ℕ) (r : Row) → (place.anew && f == place.front) ≡ false → is_at t.front f ≡ true → find (λ r. r.number == f) (map (tune_row place.anew place.front mux) rows) ≡ Some r → r.mux ≡ option_and_then (mux_of c.muxes) t.tuning
+    elsewhere : (f : ℕ) (r : Row) → (place.anew && f == place.front) ≡ false → is_at t.front f ≡ true
+        → find (λ r. r.number == f) (map (tune_row place.anew place.front mux) rows) ≡ Some r → r.mux ≡ option_and_then (mux_of c.muxes) t.tuning
     elsewhere f r other here found =
-        let was = some_row (find (λ r. r.number == f) rows) (tune_row place.anew place.front mux) r (sym (placed_row f place.anew place.front mux rows) ∙ found) in
-        let is : tune_row place.anew place.front mux was.0 ≡ was.0 = row_kept place.anew place.front mux was.0 (ap (λ n. place.anew && n == place.front) (row_number f rows was.0 was.1) ∙ other) in
+        let was = some_row (find (λ r. r.number == f) rows) (tune_row place.anew place.front mux) r
+        (sym (placed_row f place.anew place.front mux rows) ∙ found) in
+        let is : tune_row place.anew place.front mux was.0 ≡ was.0 =
+        row_kept place.anew place.front mux was.0 (ap (λ n. place.anew && n == place.front) (row_number f rows was.0 was.1) ∙ other) in
         ap (λ x. x.mux) (sym was.2 ∙ is) ∙ each.0 f was.0 here was.1
 
     untuned : (f : ℕ) → (t.number == number) ≡ false → is_at t.front f ≡ true → (a b : Bool) → place.anew ≡ a → (f == place.front) ≡ b → (a && b) ≡ false
@@ -464,11 +505,13 @@ placed_matched c number tuning rows place (t ∷ ts) old new each = (
     untuned f other here true false e g = refl
     untuned f other here false b e g = refl
 
-    one : (b : Bool) → (t.number == number) ≡ b → IsMatched c (map (tune_row place.anew place.front mux) rows) (if b then record t { tuning = Some tuning; front = Some place.front } else t)
+    one : (b : Bool) → (t.number == number) ≡ b → IsMatched c (map (tune_row place.anew place.front mux) rows)
+        (if b then record t { tuning = Some tuning; front = Some place.front } else t)
     one true e f r here found = at_place f r (sym (eqb-true place.front f here)) place.anew refl found
     one false e f r here found = elsewhere f r (untuned f e here place.anew (f == place.front) refl refl) here found
 
-pub put_at_shifts : (c : Config) (number : ℕ) (tuning : Tuning) (st : State) (place : Place) → AreFronts c st → IsPlaceFor (outlook_of c st number) (mux_of c.muxes tuning) place → Shifts c st (put_at c number tuning st place)
+pub put_at_shifts : (c : Config) (number : ℕ) (tuning : Tuning) (st : State) (place : Place) → AreFronts c st
+    → IsPlaceFor (outlook_of c st number) (mux_of c.muxes tuning) place → Shifts c st (put_at c number tuning st place)
 put_at_shifts c number tuning st place fronts known =
     record { each = λ f. by f (placed_each c number tuning st place fronts known f); fronts = swept.fronts }
   where
@@ -476,7 +519,8 @@ put_at_shifts c number tuning st place fronts known =
     middle = placed_state c number tuning st place
 
     old : place.anew ≡ false → (r : Row) → find (λ r. r.number == place.front) st.rows ≡ Some r → r.mux ≡ mux_of c.muxes tuning
-    old e r found = let has : mux_at st place.front ≡ mux_of c.muxes tuning = wanted_mux (mux_of c.muxes tuning) (mux_at st place.front) (known.old e) in rw found at has
+    old e r found = let has : mux_at st place.front ≡ mux_of c.muxes tuning = wanted_mux (mux_of c.muxes tuning) (mux_at st place.front) (known.old e) in
+        rw found at has
 
     swept : Quiet c middle (sweep middle)
     swept = sweep_quiet c middle (placed_matched c number tuning st.rows place st.streams old known.new fronts.matched)

@@ -50,7 +50,8 @@ pub look_append : (s : SessionId) (xs ys : List Session) → look s (xs ++ ys) �
 look_append s [] ys = refl
 look_append s (x ∷ xs) ys = by (same_id x.id s) (look_append s xs ys)
   where
-    by : (b : Bool) → look s (xs ++ ys) ≡ or_else (look s xs) (look s ys) → (if b then Some x else look s (xs ++ ys)) ≡ or_else (if b then Some x else look s xs) (look s ys)
+    by : (b : Bool) → look s (xs ++ ys) ≡ or_else (look s xs) (look s ys)
+        → (if b then Some x else look s (xs ++ ys)) ≡ or_else (if b then Some x else look s xs) (look s ys)
     by true e = refl
     by false e = e
 
@@ -119,7 +120,8 @@ below_append made [] new below count = (omega (arith, count), tt)
 below_append made (x ∷ xs) new below count = (omega (arith, below.0), below_append made xs new below.1 count)
 
 -- a test of the one session that has an id
-pub any_of_id : (s : SessionId) (q : Session → Bool) (xs : List Session) → Apart xs → list_any (λ x. same_id x.id s && q x) xs ≡ option_map_or q (look s xs) false
+pub any_of_id : (s : SessionId) (q : Session → Bool) (xs : List Session) → Apart xs
+    → list_any (λ x. same_id x.id s && q x) xs ≡ option_map_or q (look s xs) false
 any_of_id s q [] apart = refl
 any_of_id s q (x ∷ xs) apart = by (same_id x.id s) refl (any_of_id s q xs apart.1)
   where
@@ -142,7 +144,8 @@ look_where s q [] apart = refl
 look_where s q (x ∷ xs) apart = by (same_id x.id s) (q x) refl refl (look_where s q xs apart.1)
   where
     by : (a b : Bool) → same_id x.id s ≡ a → q x ≡ b → find (λ x. same_id x.id s && q x) xs ≡ option_map_or (λ x. if q x then Some x else None) (look s xs) None
-        → (if a && b then Some x else find (λ x. same_id x.id s && q x) xs) ≡ option_map_or (λ x. if q x then Some x else None) (if a then Some x else look s xs) None
+        → (if a && b then Some x else find (λ x. same_id x.id s && q x) xs)
+        ≡ option_map_or (λ x. if q x then Some x else None) (if a then Some x else look s xs) None
     by true true e f rest = rw f refl
     by true false e f rest =
         let none : look s xs ≡ None = rw (← id_is x.id s e) apart.0 in

@@ -39,7 +39,8 @@ entry_carried s [] whole = refl
 entry_carried s (d ∷ sent) whole =
     let first = if is_rtp_of s d then (datagram d).bytes ∷ [] else [] in
     flat_map-append packets_inside first (bytes_marked (is_rtp_of s) sent (map datagram sent))
-    ∙ ap (λ l. l ++ flat_map packets_inside (bytes_marked (is_rtp_of s) sent (map datagram sent))) (one_carried s d (Each-append_left IsWhole (packets_for s d) _ whole))
+    ∙ ap (λ l. l ++ flat_map packets_inside (bytes_marked (is_rtp_of s) sent (map datagram sent)))
+    (one_carried s d (Each-append_left IsWhole (packets_for s d) _ whole))
     ∙ ap (λ l. packets_for s d ++ l) (entry_carried s sent (Each-append_right IsWhole (packets_for s d) _ whole))
 
 -- those of all entries
@@ -50,11 +51,13 @@ entries_carried c [] st s legal whole = refl
 entries_carried c (e ∷ h) st s legal whole =
     let sent : List Sent = (step c st e.event).sent in
     let later : State = (step c st e.event).state in
-    let split : flat_map (packets_for s) (sent ++ sent_from c later h) ≡ flat_map (packets_for s) sent ++ flat_map (packets_for s) (sent_from c later h) = flat_map-append (packets_for s) sent (sent_from c later h) in
+    let split : flat_map (packets_for s) (sent ++ sent_from c later h) ≡ flat_map (packets_for s) sent ++ flat_map (packets_for s) (sent_from c later h) =
+    flat_map-append (packets_for s) sent (sent_from c later h) in
     let both : Each IsWhole (flat_map (packets_for s) sent ++ flat_map (packets_for s) (sent_from c later h)) = subst (Each IsWhole) split whole in
     flat_map-append packets_inside (bytes_marked (is_rtp_of s) sent e.out.datagrams) (bytes_from (is_rtp_of s) c later h)
     ∙ ap (λ ds. flat_map packets_inside (bytes_marked (is_rtp_of s) sent ds) ++ flat_map packets_inside (bytes_from (is_rtp_of s) c later h)) legal.0.datagrams
-    ∙ ap (λ l. l ++ flat_map packets_inside (bytes_from (is_rtp_of s) c later h)) (entry_carried s sent (Each-append_left IsWhole _ (flat_map (packets_for s) (sent_from c later h)) both))
+    ∙ ap (λ l. l ++ flat_map packets_inside (bytes_from (is_rtp_of s) c later h))
+    (entry_carried s sent (Each-append_left IsWhole _ (flat_map (packets_for s) (sent_from c later h)) both))
     ∙ ap (λ l. flat_map (packets_for s) sent ++ l) (entries_carried c h later s legal.1 (Each-append_right IsWhole (flat_map (packets_for s) sent) _ both))
     ∙ sym split
 

@@ -51,14 +51,16 @@ Making None (Some m) = ⊥
 Making (Some x) None = ⊥
 Making (Some x) (Some m) = IsMaking x m
 
-makings_append : (o : Option Session) (p : Option Made) (xs : List Session) (ms : List Made) → Making o p → Makings xs ms → Makings (option_to_list o ++ xs) (option_to_list p ++ ms)
+makings_append : (o : Option Session) (p : Option Made) (xs : List Session) (ms : List Made) → Making o p → Makings xs ms
+    → Makings (option_to_list o ++ xs) (option_to_list p ++ ms)
 makings_append None None xs ms one rest = rest
 makings_append None (Some m) xs ms one rest = absurd one
 makings_append (Some x) None xs ms one rest = absurd one
 makings_append (Some x) (Some m) xs ms one rest = (one, rest)
 
 -- an accepted SETUP is answered as such
-setup_accepted : (m : Method) (c : Config) (peer : Peer) (draw : Draw) (r : Request) (st : State) → is_setup m ≡ true → is_accepted (done_by m c peer draw r st).answer ≡ true
+setup_accepted : (m : Method) (c : Config) (peer : Peer) (draw : Draw) (r : Request) (st : State) → is_setup m ≡ true
+    → is_accepted (done_by m c peer draw r st).answer ≡ true
 setup_accepted Setup c peer draw r st e = refl
 setup_accepted Options c peer draw r st e = cc
 setup_accepted Describe c peer draw r st e = cc
@@ -68,7 +70,8 @@ setup_accepted Teardown c peer draw r st e = cc
 next_same : (st : State) (g : Readings) (word : ℕ) → st.made ≡ length g.made → record { count = st.made + 1; word = word } ≡ next_made g word
 next_same st g word e = let with_count : ℕ → SessionId = λ n. record { count = n + 1; word = word } in ap with_count e
 
-request_makes : (c : Config) (st : State) (g : Readings) (peer : Peer) (draw : Draw) (r : Request) (answer : Answer) → st.made ≡ length g.made → answer ≡ (step c st (Asked peer draw r)).answer
+request_makes : (c : Config) (st : State) (g : Readings) (peer : Peer) (draw : Draw) (r : Request) (answer : Answer) → st.made ≡ length g.made
+    → answer ≡ (step c st (Asked peer draw r)).answer
     → Making (made_by c st (Asked peer draw r)) (if is_accepted answer then Readings.made_by g (Asked peer draw r) else None)
 request_makes c st g peer draw r answer count e = by (makes_session r) refl (decide c st r) refl e
   where
@@ -88,7 +91,8 @@ request_makes c st g peer draw r answer count e = by (makes_session r) refl (dec
         → answer ≡ (option_map_or (Steps.refuse r (heard_by r st)) o (done_by r.method c peer draw r (heard_by r st))).answer
         → Making (if b && is_none o then Some new else None) (if is_accepted answer then (if b then Some told else None) else None)
     by true g None h f =
-        let acc : is_accepted answer ≡ true = ap is_accepted f ∙ setup_accepted r.method c peer draw r (heard_by r st) (and_parts (is_setup r.method) (names_none r.session) g).0 in
+        let acc : is_accepted answer ≡ true = ap is_accepted f
+        ∙ setup_accepted r.method c peer draw r (heard_by r st) (and_parts (is_setup r.method) (names_none r.session) g).0 in
         rw acc one
     by true g (Some x) h f =
         let not_acc : is_accepted answer ≡ false = ap is_accepted f ∙ decided_refuses c st r x h in
@@ -99,7 +103,8 @@ request_makes c st g peer draw r answer count e = by (makes_session r) refl (dec
         never a true = tt
         never a false = tt
 
-get_makes : (c : Config) (st : State) (g : Readings) (peer : Peer) (draw : Draw) (r : HttpRequest) (answer : Answer) → st.made ≡ length g.made → answer ≡ (step c st (Got peer draw r)).answer
+get_makes : (c : Config) (st : State) (g : Readings) (peer : Peer) (draw : Draw) (r : HttpRequest) (answer : Answer) → st.made ≡ length g.made
+    → answer ≡ (step c st (Got peer draw r)).answer
     → Making (made_by c st (Got peer draw r)) (if is_accepted answer then Readings.made_by g (Got peer draw r) else None)
 get_makes c st g peer draw r answer count e = by (decide_get c st r) e
   where
@@ -109,9 +114,12 @@ get_makes c st g peer draw r answer count e = by (decide_get c st r) e
     told : Made
     told = record { id = next_made g draw.word; http = true; home = next_made g draw.word; draw = draw }
 
-    by : (o : Option Refused) → answer ≡ (option_map_or (λ refused. Steps.outcome (settle st) (Get (GetRefused refused.status)) (http_refusal refused.status refused.body)) o (Steps.start c peer draw r st)).answer
+    by : (o : Option Refused)
+        → answer ≡ (option_map_or (λ refused. Steps.outcome (settle st) (Get (GetRefused refused.status)) (http_refusal refused.status refused.body)) o
+        (Steps.start c peer draw r st)).answer
         → Making (if is_none o then Some new else None) (if is_accepted answer then Some told else None)
-    by None f = let acc : is_accepted answer ≡ true = ap is_accepted f in rw acc (record { id = next_same st g draw.word count; http = refl; ssrc = refl; first = refl })
+    by None f = let acc : is_accepted answer ≡ true = ap is_accepted f in
+        rw acc (record { id = next_same st g draw.word count; http = refl; ssrc = refl; first = refl })
     by (Some x) f = let not_acc : is_accepted answer ≡ false = ap is_accepted f in rw not_acc tt
 
 none_makes : (b : Bool) → Making None (if b then None else None)
@@ -140,11 +148,13 @@ record AreMade (c : Config) (st : State) (g : Readings) (es : List Item) : Type 
 are_made : (c : Config) (es : List Item) (st : State) (g : Readings) → Each (λ e. IsEvent e.event) es → LegalFrom c st es → Agrees c st g → AreMade c st g es
 are_made c [] st g events legal a = record { new = []; made = sym (append-nil g.made); same = tt }
 are_made c (e ∷ es) st g events legal a =
-    let rest : AreMade c (step c st e.event).state (read_one c g e) es = are_made c es (step c st e.event).state (read_one c g e) events.1 legal.1 (agrees_step c st g e events.0 legal.0 a) in
+    let rest : AreMade c (step c st e.event).state (read_one c g e) es =
+    are_made c es (step c st e.event).state (read_one c g e) events.1 legal.1 (agrees_step c st g e events.0 legal.0 a) in
     record {
       new = option_to_list (makes g e) ++ rest.new;
       made = rest.made ∙ append_assoc g.made (option_to_list (makes g e)) rest.new;
-      same = makings_append (made_by c st e.event) (makes g e) (made_from c (step c st e.event).state es) rest.new (one_makes c st g e.event e.answer a.loosely.made legal.0.answer) rest.same;
+      same = makings_append (made_by c st e.event) (makes g e) (made_from c (step c st e.event).state es) rest.new
+          (one_makes c st g e.event e.answer a.loosely.made legal.0.answer) rest.same;
     }
 
 pub makings : (c : Setting) (h : List Item) → Legal c h → Makings (made c h) (readings c h).made
@@ -164,10 +174,12 @@ made_apart c (e ∷ es) st sound =
     let st1 : State = (step c st e.event).state in
     let step1 = a_step c st e.event sound in
     apart_one (made_by c st e.event) st.made (made_from c st1 es)
-    (λ x f. above_absent st1.made x.id (made_from c st1 es) (made_above c es st1 step1.sound) (few (made_by c st e.event) x f ((new_one c st e.event x f).count) step1.made))
+    (λ x f. above_absent st1.made x.id (made_from c st1 es) (made_above c es st1 step1.sound)
+    (few (made_by c st e.event) x f ((new_one c st e.event x f).count) step1.made))
     (made_apart c es st1 step1.sound)
   where
-    few : (o : Option Session) (x : Session) → o ≡ Some x → x.id.count ≡ st.made + 1 → (step c st e.event).state.made ≡ st.made + length (option_to_list o) → x.id.count ≤ (step c st e.event).state.made
+    few : (o : Option Session) (x : Session) → o ≡ Some x → x.id.count ≡ st.made + 1 → (step c st e.event).state.made ≡ st.made + length (option_to_list o)
+        → x.id.count ≤ (step c st e.event).state.made
     few None x f count made = cc
     few (Some y) x f count made = omega (arith, count, made)
 

@@ -37,13 +37,15 @@ pub goes_then : (st : State) (m : Move) (next : State → Move) (g t h u : Sessi
     → Goes st (then_move m next) (λ s. g s ++ h s) (λ s. t s ++ u s)
 goes_then st m next g t h u p q = record {
   runs = λ s. rw (told-append s m.sent (next m.state).sent)
-      (runs_then (look s st.sessions) (told s m.sent) (g s) (t s) (look s m.state.sessions) (told s (next m.state).sent) (h s) (u s) (look s (next m.state).state.sessions) (p.runs s) (q.runs s));
+      (runs_then (look s st.sessions) (told s m.sent) (g s) (t s) (look s m.state.sessions) (told s (next m.state).sent) (h s) (u s)
+      (look s (next m.state).state.sessions) (p.runs s) (q.runs s));
   sound = q.sound;
   made = q.made ∙ p.made;
 }
 
 -- two moves in which nothing is given
-pub goes_on : (st : State) (m : Move) (next : State → Move) → Goes st m nothing nothing → Goes m.state (next m.state) nothing nothing → Goes st (then_move m next) nothing nothing
+pub goes_on : (st : State) (m : Move) (next : State → Move) → Goes st m nothing nothing → Goes m.state (next m.state) nothing nothing
+    → Goes st (then_move m next) nothing nothing
 goes_on st m next p q = goes_then st m next nothing nothing nothing nothing p q
 
 -- a state with the same sessions
@@ -55,7 +57,8 @@ goes_same st new sound same made single = record {
 }
 
 -- another state with the same sessions in the end
-pub goes_settled : (st : State) (m : Move) (new : State) (g t : SessionId → List (List ℕ)) → Goes st m g t → new.sessions ≡ m.state.sessions → new.made ≡ m.state.made → Single new.streams
+pub goes_settled : (st : State) (m : Move) (new : State) (g t : SessionId → List (List ℕ)) → Goes st m g t → new.sessions ≡ m.state.sessions
+    → new.made ≡ m.state.made → Single new.streams
     → Goes st (record { state = new; sent = m.sent }) g t
 goes_settled st m new g t goes same made single = record {
   runs = λ s. rw same (goes.runs s);
@@ -81,18 +84,22 @@ round_runs s turn xs got none round evolves = rw (round.tells, round.found) (by 
     by (Some x) e = evolves x e
 
 -- a round of turns
-pub goes_each : (st : State) (turn : Session → Turn) (got : Option Session → List (List ℕ)) → got None ≡ [] → ((x : Session) → Takes x (turn x) (got (Some x))) → IsSound st
+pub goes_each : (st : State) (turn : Session → Turn) (got : Option Session → List (List ℕ)) → got None ≡ []
+    → ((x : Session) → Takes x (turn x) (got (Some x))) → IsSound st
     → Goes st (each turn st) (λ s. got (look s st.sessions)) nothing
 goes_each st turn got none takes sound =
-    let at : (s : SessionId) → Runs (look s st.sessions) (told s (sends_of turn st.sessions)) (got (look s st.sessions)) [] (look s (after_of turn st.sessions)) = λ s.
-    round_runs s turn st.sessions got none (round s turn (λ x. (takes x).own) st.sessions sound.apart) (λ x e. subst (λ i. Evolves x (told i (turn x).sends) (got (Some x)) [] (turn x).after) (found_id s st.sessions x e) (takes x).evolves) in
+    let at : (s : SessionId) → Runs (look s st.sessions) (told s (sends_of turn st.sessions)) (got (look s st.sessions)) []
+    (look s (after_of turn st.sessions)) = λ s.
+    round_runs s turn st.sessions got none (round s turn (λ x. (takes x).own) st.sessions sound.apart)
+    (λ x e. subst (λ i. Evolves x (told i (turn x).sends) (got (Some x)) [] (turn x).after) (found_id s st.sessions x e) (takes x).evolves) in
     record {
       runs = at;
       sound = record {
         apart = round_apart turn (λ x. (takes x).own) st.sessions sound.apart;
         below = round_below st.made turn (λ x. (takes x).own) st.sessions sound.below;
         single = sound.single;
-        fine = λ s y e. runs_fine (look s st.sessions) (told s (sends_of turn st.sessions)) (got (look s st.sessions)) [] (look s (after_of turn st.sessions)) y (at s) (sound.fine s) e;
+        fine = λ s y e. runs_fine (look s st.sessions) (told s (sends_of turn st.sessions)) (got (look s st.sessions)) [] (look s (after_of turn st.sessions)) y
+            (at s) (sound.fine s) e;
       };
       made = refl;
     }
@@ -101,12 +108,15 @@ none_got : Option Session → List (List ℕ)
 none_got o = []
 
 -- a round that some have, in which nothing is given
-pub goes_some : (st : State) (p : Session → Bool) (turn : Session → Turn) → ((x : Session) → p x ≡ true → Takes x (turn x) []) → IsSound st → Goes st (each_of p turn st) nothing nothing
+pub goes_some : (st : State) (p : Session → Bool) (turn : Session → Turn) → ((x : Session) → p x ≡ true → Takes x (turn x) []) → IsSound st
+    → Goes st (each_of p turn st) nothing nothing
 unfolding none_got
-goes_some st p turn takes sound = goes_each st (λ x. if p x then turn x else record { sends = []; after = Some x }) none_got refl (λ x. some_turn p turn x (takes x)) sound
+goes_some st p turn takes sound = goes_each st (λ x. if p x then turn x else record { sends = []; after = Some x }) none_got refl
+    (λ x. some_turn p turn x (takes x)) sound
 
 -- each session is changed, but for its packets
-pub goes_map : (st new : State) (f : Session → Session) → IsSound st → ((x : Session) → Takes x (changing f x) []) → new.sessions ≡ map f st.sessions → new.made ≡ st.made → Single new.streams
+pub goes_map : (st new : State) (f : Session → Session) → IsSound st → ((x : Session) → Takes x (changing f x) []) → new.sessions ≡ map f st.sessions
+    → new.made ≡ st.made → Single new.streams
     → Goes st (settle new) nothing nothing
 unfolding none_got
 goes_map st new f sound takes same made single =
@@ -115,14 +125,16 @@ goes_map st new f sound takes same made single =
     goes_settled st (each (changing f) st) new nothing nothing goes (same ∙ sym (after_of-changing f st.sessions)) made single in
     record { runs = λ s. rw (sends_of-changing f st.sessions) at (settled.runs s); sound = settled.sound; made = settled.made }
 
-change_takes : (p : Session → Bool) (g : Session → Session) → ((x : Session) → Takes x (changing g x) []) → (x : Session) → Takes x (record { sends = []; after = Some (if p x then g x else x) }) []
+change_takes : (p : Session → Bool) (g : Session → Session) → ((x : Session) → Takes x (changing g x) []) → (x : Session)
+    → Takes x (record { sends = []; after = Some (if p x then g x else x) }) []
 change_takes p g takes x = by (p x)
   where
     by : (b : Bool) → Takes x (record { sends = []; after = Some (if b then g x else x) }) []
     by true = takes x
     by false = still x
 
-pub goes_change : (st : State) (id : SessionId) (g : Session → Session) → ((x : Session) → Takes x (changing g x) []) → IsSound st → Goes st (settle (change_session id g st)) nothing nothing
+pub goes_change : (st : State) (id : SessionId) (g : Session → Session) → ((x : Session) → Takes x (changing g x) []) → IsSound st
+    → Goes st (settle (change_session id g st)) nothing nothing
 goes_change st id g takes sound =
     goes_map st (change_session id g st) (λ x. if is_session id x then g x else x) sound (change_takes (is_session id) g takes) refl refl sound.single
 
@@ -130,7 +142,8 @@ kept_heard : (at : ℕ) (x : Session) → IsKept x (record x { heard = at })
 kept_heard at x = record { id = refl; http = refl; stream = refl; ssrc = refl; first = refl }
 
 pub goes_hear : (id : SessionId) (st : State) → IsSound st → Goes st (settle (hear id st)) nothing nothing
-goes_hear id st sound = goes_change st id (λ s. record s { heard = st.clock }) (λ x. quiet x (record x { heard = st.clock }) (kept_heard st.clock x) refl refl) sound
+goes_hear id st sound = goes_change st id (λ s. record s { heard = st.clock })
+    (λ x. quiet x (record x { heard = st.clock }) (kept_heard st.clock x) refl refl) sound
 
 -- not of what is true
 pub not_true : (b : Bool) → not b ≡ true → b ≡ false
@@ -143,24 +156,28 @@ and_second false b e = cc
 
 pub goes_end : (st : State) (p : Session → Bool) → IsSound st → Goes st (end_where p st) nothing nothing
 goes_end st p sound =
-    goes_settled st (each_of p (part st.clock) st) (sweep (each_of p (part st.clock) st).state) nothing nothing (goes_some st p (part st.clock) (λ x e. part_takes st.clock x) sound) refl refl
+    goes_settled st (each_of p (part st.clock) st) (sweep (each_of p (part st.clock) st).state) nothing nothing
+    (goes_some st p (part st.clock) (λ x e. part_takes st.clock x) sound) refl refl
     (single_filter _ st.streams sound.single)
 
-single_change : (number : ℕ) (f : Stream → Stream) → ((t : Stream) → (f t).number ≡ t.number) → (ts : List Stream) → Single ts → Single (change_where (λ t. t.number == number) f ts)
+single_change : (number : ℕ) (f : Stream → Stream) → ((t : Stream) → (f t).number ≡ t.number) → (ts : List Stream) → Single ts
+    → Single (change_where (λ t. t.number == number) f ts)
 single_change number f same ts s = single_map (λ t. if t.number == number then f t else t) (λ t. by t (t.number == number)) ts s
   where
     by : (t : Stream) (b : Bool) → (if b then f t else t).number ≡ t.number
     by t true = same t
     by t false = refl
 
-retuned_same : (c : Config) (number : ℕ) (tuning : Tuning) (st : State) → IsSound st → (o : Option Place) → Goes st (settle (option_map_or (put_at c number tuning st) o st)) nothing nothing
+retuned_same : (c : Config) (number : ℕ) (tuning : Tuning) (st : State) → IsSound st → (o : Option Place)
+    → Goes st (settle (option_map_or (put_at c number tuning st) o st)) nothing nothing
 retuned_same c number tuning st sound None = goes_same st st sound refl refl sound.single
 retuned_same c number tuning st sound (Some place) = goes_same st (put_at c number tuning st place) sound refl refl
     (single_filter _ _ (single_change number (λ t. record t { tuning = Some tuning; front = Some place.front }) (λ t. refl) st.streams sound.single))
 
 pub goes_flush : (number : ℕ) (st : State) → IsSound st → Goes st (each_of (λ s. s.stream == number && not s.http) (let_go true st.clock) st) nothing nothing
 goes_flush number st sound =
-    goes_some st (λ s. s.stream == number && not s.http) (let_go true st.clock) (λ x e. let_go_takes true st.clock x (not_true x.http (and_second (x.stream == number) (not x.http) e))) sound
+    goes_some st (λ s. s.stream == number && not s.http) (let_go true st.clock)
+    (λ x e. let_go_takes true st.clock x (not_true x.http (and_second (x.stream == number) (not x.http) e))) sound
 
 pub goes_retune : (c : Config) (number : ℕ) (st : State) (tuning : Tuning) → IsSound st → Goes st (retune c number st tuning) nothing nothing
 goes_retune c number st tuning sound =
@@ -169,7 +186,8 @@ goes_retune c number st tuning sound =
     goes_on st m (λ now. settle (option_map_or (put_at c number tuning now) (choose (outlook_of c now number) (mux_of c.muxes tuning) tuning) now)) first
     (retuned_same c number tuning m.state first.sound (choose (outlook_of c m.state number) (mux_of c.muxes tuning) tuning))
 
-retune_if : (c : Config) (number : ℕ) (st : State) → IsSound st → (o : Option Tuning) → Goes st (option_map_or (retune c number st) o (settle st)) nothing nothing
+retune_if : (c : Config) (number : ℕ) (st : State) → IsSound st → (o : Option Tuning)
+    → Goes st (option_map_or (retune c number st) o (settle st)) nothing nothing
 retune_if c number st sound None = goes_same st st sound refl refl sound.single
 retune_if c number st sound (Some tuning) = goes_retune c number st tuning sound
 
@@ -184,7 +202,8 @@ goes_change_by c number query st sound =
 
 pub goes_reports : (c : Config) (st : State) → IsSound st → Goes st (send_reports c st) nothing nothing
 goes_reports c st sound =
-    goes_some st (is_due st.clock) (λ s. record { sends = report_of c st s; after = Some (record s { reported = Some st.clock }) }) (λ x e. report_takes c st x) sound
+    goes_some st (is_due st.clock) (λ s. record { sends = report_of c st s; after = Some (record s { reported = Some st.clock }) })
+    (λ x e. report_takes c st x) sound
 
 -- the first part of a tick
 abbrev pub flushed : ℕ → State → Move
@@ -197,7 +216,8 @@ pub goes_flushed : (clock : ℕ) (st : State) → IsSound st → Goes st (flushe
 goes_flushed clock st sound =
     let st1 : State = record st { clock = clock } in
     let sound1 : IsSound st1 = record { apart = sound.apart; below = sound.below; single = sound.single; fine = sound.fine } in
-    let goes : Goes st1 (flushed clock st) nothing nothing = goes_some st1 (λ s. not s.http) (let_go true clock) (λ x e. let_go_takes true clock x (not_true x.http e)) sound1 in
+    let goes : Goes st1 (flushed clock st) nothing nothing =
+    goes_some st1 (λ s. not s.http) (let_go true clock) (λ x e. let_go_takes true clock x (not_true x.http e)) sound1 in
     record { runs = goes.runs; sound = goes.sound; made = goes.made }
 
 -- the rest of a tick

@@ -73,22 +73,26 @@ look_one_made s (Some y) x e = by (same_id y.id s) e
     by false f = cc
 
 -- whoever is known before or made by an event has a count within those made after it
-known_few : (c : Config) (st : State) (e : Event) (s : SessionId) (x : Session) → IsSound st → or_else (look s st.sessions) (look s (option_to_list (made_by c st e))) ≡ Some x
+known_few : (c : Config) (st : State) (e : Event) (s : SessionId) (x : Session) → IsSound st
+    → or_else (look s st.sessions) (look s (option_to_list (made_by c st e))) ≡ Some x
     → s.count ≤ (step c st e).state.made
 known_few c st e s x sound f = by (look s st.sessions) refl f
   where
     step1 : StepOf st (step c st e) (made_by c st e) (given_in st e) (taken_in st e)
     step1 = a_step c st e sound
 
-    new_few : (o : Option Session) → made_by c st e ≡ o → o ≡ Some x → (step c st e).state.made ≡ st.made + length (option_to_list o) → s.count ≡ x.id.count → s.count ≤ (step c st e).state.made
+    new_few : (o : Option Session) → made_by c st e ≡ o → o ≡ Some x → (step c st e).state.made ≡ st.made + length (option_to_list o) → s.count ≡ x.id.count
+        → s.count ≤ (step c st e).state.made
     new_few None g h made same = cc
     new_few (Some y) g h made same = omega (arith, (new_one c st e x (g ∙ h)).count, made, same)
 
     by : (o : Option Session) → look s st.sessions ≡ o → or_else o (look s (option_to_list (made_by c st e))) ≡ Some x → s.count ≤ (step c st e).state.made
     by (Some y) g h = omega (arith, below_found st.made s st.sessions y sound.below g, step1.made)
-    by None g h = new_few (made_by c st e) refl (look_one_made s (made_by c st e) x h) step1.made (ap (λ i. i.count) (sym (found_id s (option_to_list (made_by c st e)) x h)))
+    by None g h = new_few (made_by c st e) refl (look_one_made s (made_by c st e) x h) step1.made
+        (ap (λ i. i.count) (sym (found_id s (option_to_list (made_by c st e)) x h)))
 
-join_runs : (k o r : Option Session) (ts us : List Told) (g t h u : List (List ℕ)) (end : Option Session) → Runs k ts g t o → ((x : Session) → k ≡ Some x → r ≡ None) → Runs (or_else o r) us h u end
+join_runs : (k o r : Option Session) (ts us : List Told) (g t h u : List (List ℕ)) (end : Option Session) → Runs k ts g t o
+    → ((x : Session) → k ≡ Some x → r ≡ None) → Runs (or_else o r) us h u end
     → Runs (or_else k r) (ts ++ us) (g ++ h) (t ++ u) end
 join_runs None o r ts us g t h u end p none q = rw (p.0, p.1, p.2) (rw p.3 at q)
 join_runs (Some x) None r ts us g t h u end p none q = evolves_then x ts g t None us h u end p (rw (none x refl) at q)
@@ -96,7 +100,8 @@ join_runs (Some x) (Some y) r ts us g t h u end p none q = evolves_then x ts g t
 
 -- what becomes of the session of an id, from the state or from its making on
 pub over : (c : Config) (es : List Item) (s : SessionId) (st : State) → IsSound st
-    → Runs (or_else (look s st.sessions) (look s (made_from c st es))) (told s (sent_from c st es)) (given_from c st es s) (taken_from c st es s) (look s (after_from c st es).sessions)
+    → Runs (or_else (look s st.sessions) (look s (made_from c st es))) (told s (sent_from c st es)) (given_from c st es s) (taken_from c st es s)
+    (look s (after_from c st es).sessions)
 over c [] s st sound = rw (or_else_none (look s st.sessions)) (runs_still (look s st.sessions))
 over c (e ∷ es) s st sound =
     let st1 : State = (step c st e.event).state in
@@ -105,7 +110,8 @@ over c (e ∷ es) s st sound =
     let more : List Session = made_from c st1 es in
     let known : Option Session = or_else (look s st.sessions) (look s first) in
     rw (look_append s first more, or_else_assoc (look s st.sessions) (look s first) (look s more), told-append s (step c st e.event).sent (sent_from c st1 es))
-    (join_runs known (look s st1.sessions) (look s more) (told s (step c st e.event).sent) (told s (sent_from c st1 es)) _ _ _ _ (look s (after_from c st1 es).sessions)
+    (join_runs known (look s st1.sessions) (look s more) (told s (step c st e.event).sent) (told s (sent_from c st1 es)) _ _ _ _
+    (look s (after_from c st1 es).sessions)
     (step1.runs s)
     (λ x f. above_absent st1.made s more (made_above c es st1 step1.sound) (known_few c st e.event s x sound f))
     (over c es s st1 step1.sound))
@@ -132,7 +138,8 @@ fresh_fine x fresh = record { within = rw (fresh.sizes, fresh.picked) (omega ari
 pub fresh_made : (c : Config) (es : List Item) (s : SessionId) (st : State) (x : Session) → look s (made_from c st es) ≡ Some x → IsFresh x
 fresh_made c [] s st x e = cc
 fresh_made c (e ∷ es) s st x f =
-    by (look s (option_to_list (made_by c st e.event))) refl (sym (look_append s (option_to_list (made_by c st e.event)) (made_from c (step c st e.event).state es)) ∙ f)
+    by (look s (option_to_list (made_by c st e.event))) refl
+    (sym (look_append s (option_to_list (made_by c st e.event)) (made_from c (step c st e.event).state es)) ∙ f)
     (λ g. fresh_made c es s (step c st e.event).state x g)
   where
     by : (o : Option Session) → look s (option_to_list (made_by c st e.event)) ≡ o → or_else o (look s (made_from c (step c st e.event).state es)) ≡ Some x
@@ -144,7 +151,8 @@ fresh_made c (e ∷ es) s st x f =
         record { picked = ap (λ z. z.picked) (sym same) ∙ new.picked; sizes = ap (λ z. z.sizes) (sym same) ∙ new.sizes }
 
 -- counts
-counted_from : (c : Config) (es : List Item) (st : State) → IsSound st → map (λ x. x.id.count) (made_from c st es) ≡ range_with_len (st.made + 1) (length (made_from c st es))
+counted_from : (c : Config) (es : List Item) (st : State) → IsSound st
+    → map (λ x. x.id.count) (made_from c st es) ≡ range_with_len (st.made + 1) (length (made_from c st es))
 counted_from c [] st sound = refl
 counted_from c (e ∷ es) st sound =
     let step1 = a_step c st e.event sound in

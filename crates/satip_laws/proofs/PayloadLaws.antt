@@ -25,7 +25,8 @@ use Rattle.satip_laws.proofs.Over.{over, opening_sound, IsFresh, fresh_fine, fre
 whole : (c : Setting) (h : List Item) (s : SessionId) → Runs (made_as c h s) (told s (sent_in c h)) (given c h s) (taken c h s) (living (after c h) s)
 whole c h s = over c.config h s (opening c) (opening_sound c)
 
-whole_of : (c : Setting) (h : List Item) (s : SessionId) (x : Session) → made_as c h s ≡ Some x → Evolves x (told s (sent_in c h)) (given c h s) (taken c h s) (living (after c h) s)
+whole_of : (c : Setting) (h : List Item) (s : SessionId) (x : Session) → made_as c h s ≡ Some x
+    → Evolves x (told s (sent_in c h)) (given c h s) (taken c h s) (living (after c h) s)
 whole_of c h s x e = rw e at (whole c h s)
 
 fresh : (c : Setting) (h : List Item) (s : SessionId) (x : Session) → made_as c h s ≡ Some x → IsFresh x
@@ -54,7 +55,8 @@ given_whole x got gone rest f e = sym e ∙ (rw (held_fresh x f) refl)
 told_packets : (x : Session) (ts : List Told) (groups : List (List (List ℕ))) → x.http ≡ false → ts ≡ told_by x groups → packets_in ts ≡ all_of groups
 told_packets x ts groups rtsp e = rw (e, rtsp) (packets_in-told_of x.first x.ssrc (length x.sizes) groups)
 
-payload_is : (c : Setting) (h : List Item) (s : SessionId) (x : Session) (groups : List (List (List ℕ))) → x.http ≡ false → told s (sent_in c h) ≡ told_by x groups → payload c h s ≡ all_of groups
+payload_is : (c : Setting) (h : List Item) (s : SessionId) (x : Session) (groups : List (List (List ℕ))) → x.http ≡ false
+    → told s (sent_in c h) ≡ told_by x groups → payload c h s ≡ all_of groups
 payload_is c h s x groups rtsp e = packets_told s (sent_in c h) ∙ told_packets x (told s (sent_in c h)) groups rtsp e
 
 pub payload_is_given : PayloadIsGiven
@@ -71,7 +73,8 @@ payload_is_given c h s x e rtsp = by (living (after c h) s) refl run.follows
 
     by : (o : Option Session) → living (after c h) s ≡ o → Follows x (given c h s) run.groups o → PayloadAndHeld c h s
     by None f ends = record {
-      whole = rw (f, sent) (let all = given_whole x (given c h s) (all_of run.groups) ends.rest new (ends.whole (fresh_fine x new)) in rw (ends.none rtsp) at all);
+      whole = rw (f, sent) (let all = given_whole x (given c h s) (all_of run.groups) ends.rest new (ends.whole (fresh_fine x new)) in
+          rw (ends.none rtsp) at all);
       few = rw f (omega arith);
     }
     by (Some y) f becomes = record {
@@ -92,7 +95,8 @@ living_picked c h s y e =
     let becomes : Becomes x (given c h s) run.groups y = run.follows in
     let picked : y.picked ≡ given c h s = becomes.picked ∙ ap (λ l. l ++ given c h s) new.picked in
     let begins : all_of run.groups ≡ take (sum y.sizes) y.picked =
-    beginning (all_of run.groups) y.picked (sum y.sizes) (given_whole x (given c h s) (all_of run.groups) (held y) new (becomes.whole (fresh_fine x new)) ∙ sym picked) in
+    beginning (all_of run.groups) y.picked (sum y.sizes)
+    (given_whole x (given c h s) (all_of run.groups) (held y) new (becomes.whole (fresh_fine x new)) ∙ sym picked) in
     record {
       picked = picked;
       sent = λ rtsp. payload_is c h s x run.groups (sym becomes.kept.http ∙ rtsp) run.tells ∙ begins;
@@ -123,7 +127,8 @@ taken_is_given c h s x e http = by (living (after c h) s) refl run.follows
     }
 
 -- numbers
-told_numbers : (x : Session) (groups : List (List (List ℕ))) → IsFresh x → (b : Bool) → CountFrom x.first (numbers_in (if b then [] else told_of x.first x.ssrc (length x.sizes) groups))
+told_numbers : (x : Session) (groups : List (List (List ℕ))) → IsFresh x → (b : Bool)
+    → CountFrom x.first (numbers_in (if b then [] else told_of x.first x.ssrc (length x.sizes) groups))
 told_numbers x groups new true = record { many = 0; are = refl }
 told_numbers x groups new false = record { many = length groups; are = rw new.sizes (numbers_in-told_of x.first x.ssrc 0 groups) }
 
@@ -144,7 +149,8 @@ ssrc_told first ssrc n (g ∷ gs) = (refl, ssrc_told first ssrc (n + 1) gs)
 has_ssrc : (c : Setting) (h : List Item) (s : SessionId) → HasSsrc (made_as c h s) (told s (sent_in c h))
 has_ssrc c h s = by (made_as c h s) (whole c h s)
   where
-    kind : (x : Session) (groups : List (List (List ℕ))) (b : Bool) → Each (λ t. t.ssrc ≡ x.ssrc) (if b then [] else told_of x.first x.ssrc (length x.sizes) groups)
+    kind : (x : Session) (groups : List (List (List ℕ))) (b : Bool)
+        → Each (λ t. t.ssrc ≡ x.ssrc) (if b then [] else told_of x.first x.ssrc (length x.sizes) groups)
     kind x groups true = tt
     kind x groups false = ssrc_told x.first x.ssrc (length x.sizes) groups
 
@@ -163,11 +169,13 @@ has_ssrc_rest s o (Rtp id to number clock ssrc packets) ts has = by (same_id id 
 has_ssrc_rest s o (Report id view sender) ts has = has
 
 -- a datagram is the session's where it carries its SSRC
-others_differ : (s : SessionId) (n : ℕ) (xs : List Session) (id : SessionId) (y : Session) → list_any (λ z. not (is_session s z) && z.ssrc == n) xs ≡ false → look id xs ≡ Some y → same_id id s ≡ false → (y.ssrc == n) ≡ false
+others_differ : (s : SessionId) (n : ℕ) (xs : List Session) (id : SessionId) (y : Session) → list_any (λ z. not (is_session s z) && z.ssrc == n) xs ≡ false
+    → look id xs ≡ Some y → same_id id s ≡ false → (y.ssrc == n) ≡ false
 others_differ s n [] id y none e other = cc
 others_differ s n (z ∷ zs) id y none e other = by (same_id z.id id) refl e none (λ f g. others_differ s n zs id y f g other)
   where
-    last : (b : Bool) → (z.ssrc == n) ≡ b → ((not (same_id z.id s) && z.ssrc == n) || list_any (λ z. not (is_session s z) && z.ssrc == n) zs) ≡ false → same_id z.id s ≡ false → (z.ssrc == n) ≡ false
+    last : (b : Bool) → (z.ssrc == n) ≡ b → ((not (same_id z.id s) && z.ssrc == n) || list_any (λ z. not (is_session s z) && z.ssrc == n) zs) ≡ false
+        → same_id z.id s ≡ false → (z.ssrc == n) ≡ false
     last true f g k = let no : (true || list_any (λ z. not (is_session s z) && z.ssrc == n) zs) ≡ false = rw (k, f) at g in cc
     last false f g k = f
 
@@ -175,7 +183,8 @@ others_differ s n (z ∷ zs) id y none e other = by (same_id z.id id) refl e non
     more true f = cc
     more false f = f
 
-    by : (b : Bool) → same_id z.id id ≡ b → (if b then Some z else look id zs) ≡ Some y → ((not (same_id z.id s) && z.ssrc == n) || list_any (λ z. not (is_session s z) && z.ssrc == n) zs) ≡ false
+    by : (b : Bool) → same_id z.id id ≡ b → (if b then Some z else look id zs) ≡ Some y
+        → ((not (same_id z.id s) && z.ssrc == n) || list_any (λ z. not (is_session s z) && z.ssrc == n) zs) ≡ false
         → (list_any (λ z. not (is_session s z) && z.ssrc == n) zs ≡ false → look id zs ≡ Some y → (y.ssrc == n) ≡ false) → (y.ssrc == n) ≡ false
     by true f g none rest =
         let same : z ≡ y = cc in
@@ -215,7 +224,8 @@ marks_tell : (s : SessionId) (x : Session) (xs : List Session) → look s xs ≡
     → (sent : List Sent) → ((id : SessionId) → HasSsrc (look id xs) (told id sent)) → filter (is_rtp_of s) sent ≡ filter (carries x.ssrc) sent
 marks_tell s x xs e alone [] has = refl
 marks_tell s x xs e alone (d ∷ sent) has =
-    let rest : filter (is_rtp_of s) sent ≡ filter (carries x.ssrc) sent = marks_tell s x xs e alone sent (λ id. has_ssrc_rest id (look id xs) d (told id sent) (has id)) in
+    let rest : filter (is_rtp_of s) sent ≡ filter (carries x.ssrc) sent =
+    marks_tell s x xs e alone sent (λ id. has_ssrc_rest id (look id xs) d (told id sent) (has id)) in
     ap (λ b. cond b (d ∷ filter (is_rtp_of s) sent) (filter (is_rtp_of s) sent)) (one_mark s x xs e alone d (λ id. told id sent) has)
     ∙ ap (λ l. cond (carries x.ssrc d) (d ∷ l) l) rest
 

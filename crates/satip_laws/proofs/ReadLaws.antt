@@ -39,7 +39,8 @@ read_more : (c : Config) (h : List Item) (e : Item) (g : Readings) → read_from
 read_more c [] e g = refl
 read_more c (x ∷ h) e g = read_more c h e (read_one c g x)
 
-entries_but : (c : Config) (h : List Item) (e : Item) (st : State) → LegalFrom c st (h ++ e ∷ []) → LegalFrom c st h × Fits (step c (after_from c st h) e.event) e
+entries_but : (c : Config) (h : List Item) (e : Item) (st : State) → LegalFrom c st (h ++ e ∷ [])
+    → LegalFrom c st h × Fits (step c (after_from c st h) e.event) e
 entries_but c [] e st legal = (tt, legal.0)
 entries_but c (x ∷ h) e st legal = let rest = entries_but c h e (step c st x.event).state legal.1 in ((legal.0, rest.0), rest.1)
 
@@ -65,7 +66,8 @@ has_passed : (p : Made → Bool) (ms : List Made) (m : Made) → Has m (filter p
 has_passed p [] m has = absurd has
 has_passed p (k ∷ ms) m has = by (p k) refl has (λ f. has_passed p ms m f)
   where
-    by : (b : Bool) → p k ≡ b → Has m (cond b (k ∷ filter p ms) (filter p ms)) → (Has m (filter p ms) → Has m ms × (p m ≡ true)) → ((m ≡ k) ⊎ Has m ms) × (p m ≡ true)
+    by : (b : Bool) → p k ≡ b → Has m (cond b (k ∷ filter p ms) (filter p ms)) → (Has m (filter p ms) → Has m ms × (p m ≡ true))
+        → ((m ≡ k) ⊎ Has m ms) × (p m ≡ true)
     by true e (inl same) rest = (inl same, ap p same ∙ e)
     by true e (inr later) rest = let r = rest later in (inr r.0, r.1)
     by false e later rest = let r = rest later in (inr r.0, r.1)
@@ -127,7 +129,8 @@ payload_is_selected c h m legal has rtsp = record {
         by None e = refl
         by (Some y) e = none y e
 
-    retunes_it : (g : List Item) (e : Item) → h ≡ g ++ e ∷ [] → gives_tuning (readings c g) e m.home ≡ true → (y : Session) → living (after c h) m.id ≡ Some y → retunes c.config (after c g) e.event y.stream ≡ true
+    retunes_it : (g : List Item) (e : Item) → h ≡ g ++ e ∷ [] → gives_tuning (readings c g) e m.home ≡ true → (y : Session) → living (after c h) m.id ≡ Some y
+        → retunes c.config (after c g) e.event y.stream ≡ true
     retunes_it g e is anew y found = at (asking (readings c g) e) refl anew
       where
         before : Legal c (g ++ e ∷ [])
@@ -150,14 +153,16 @@ payload_is_selected c h m legal has rtsp = record {
             ∙ ap (λ k. (readings c k).number m.home) is ∙ ap (λ k. k.number m.home) (read_more c.config g e (nothing_read c))
 
         at : (o : Option Readings.Asking) → asking (readings c g) e ≡ o
-            → option_map_or (λ a. same_id a.home m.home && is_some (to_set ((readings c g).tuned m.home) a.query.change)) o false ≡ true → retunes c.config (after c g) e.event y.stream ≡ true
+            → option_map_or (λ a. same_id a.home m.home && is_some (to_set ((readings c g).tuned m.home) a.query.change)) o false ≡ true
+            → retunes c.config (after c g) e.event y.stream ≡ true
         at None f k = cc
         at (Some a) f k =
             let parts = and_parts (same_id a.home m.home) (is_some (to_set ((readings c g).tuned m.home) a.query.change)) k in
             let home : a.home ≡ m.home = same_ids a.home m.home parts.0 in
             let asked : IsAsked c.config (after c g) (readings c g) e a = entry_asked c.config (after c g) (readings c g) agrees e a answered f in
             let number : asked.number ≡ y.stream = asked.read ∙ ap (read_one c.config (readings c g) e).number home ∙ sym stream in
-            let tuning : tuning_of (after c g) y.stream ≡ (readings c g).tuned m.home = ap (tuning_of (after c g)) (sym number) ∙ asked.tuning ∙ ap (readings c g).tuned home in
+            let tuning : tuning_of (after c g) y.stream ≡ (readings c g).tuned m.home =
+            ap (tuning_of (after c g)) (sym number) ∙ asked.tuning ∙ ap (readings c g).tuned home in
             let set : is_some (to_set (tuning_of (after c g) y.stream) a.query.change) ≡ true = ap (λ t. is_some (to_set t a.query.change)) tuning ∙ parts.1 in
             ap (λ o. option_map_or (sets_tuning (after c g) y.stream) o false) asked.asked ∙ and_from _ _ (eq-eqb asked.number y.stream number) set
 
@@ -175,7 +180,8 @@ numbers_from_draw c h m legal has =
     let x = made_of c h m legal has in
     subst (λ (n : ℕ). CountFrom n (numbers_for m.id (sent_in c h))) x.2.first (numbers_from_first c h m.id x.0 x.1)
 
-shared_same : (s : SessionId) (k : ℕ) (xs : List Session) (ms : List Made) → Makings xs ms → list_any (λ y. not (is_session s y) && y.ssrc == k) xs ≡ list_any (λ n. not (same_id n.id s) && n.draw.ssrc == k) ms
+shared_same : (s : SessionId) (k : ℕ) (xs : List Session) (ms : List Made) → Makings xs ms
+    → list_any (λ y. not (is_session s y) && y.ssrc == k) xs ≡ list_any (λ n. not (same_id n.id s) && n.draw.ssrc == k) ms
 shared_same s k [] [] makings = refl
 shared_same s k [] (m ∷ ms) makings = absurd makings
 shared_same s k (x ∷ xs) [] makings = absurd makings

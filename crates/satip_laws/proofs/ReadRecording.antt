@@ -49,7 +49,8 @@ same_fresh c st g agrees f u = by (row_of st f) refl (serves st f) refl (agrees.
         → (option_map_or (λ r. r.tune == u) o false && serves st f) ≡ (g.tune f == u && is_taken g f)
     by (Some r) e b on tune = ap (λ n. n == u && serves st f) tune ∙ ap (λ x. g.tune f == u && x) (sym taken)
     by None e false on tune = sym (none (g.tune f == u)) ∙ ap (λ x. g.tune f == u && x) (sym (taken ∙ on))
-    by None e true on tune = let some : is_some (row_of st f) ≡ true = serves_row c st g agrees f on in let no_way : is_some (row_of st f) ≡ false = ap is_some e in cc
+    by None e true on tune = let some : is_some (row_of st f) ≡ true = serves_row c st g agrees f on in let no_way : is_some (row_of st f) ≡ false =
+        ap is_some e in cc
 
 fresh_one : (c : Config) (st : State) (g : Readings) → Agrees c st g → (e : Event) (f u : ℕ) → current_in st e f u ≡ fresh_in g e f u
 fresh_one c st g agrees (Packet k n packet) f u = ap (λ b. if k == f && n == u && b then packet ∷ [] else []) (same_fresh c st g agrees k n)
@@ -62,15 +63,18 @@ fresh_one c st g agrees (Pull id) f u = refl
 fresh_one c st g agrees (Close id) f u = refl
 fresh_one c st g agrees Stop f u = refl
 
-fresh_all : (c : Config) (es : List Item) (st : State) (g : Readings) (f u : ℕ) → Each (λ e. IsEvent e.event) es → LegalFrom c st es → Agrees c st g → current_from c st es f u ≡ fresh_from c g es f u
+fresh_all : (c : Config) (es : List Item) (st : State) (g : Readings) (f u : ℕ) → Each (λ e. IsEvent e.event) es → LegalFrom c st es → Agrees c st g
+    → current_from c st es f u ≡ fresh_from c g es f u
 fresh_all c [] st g f u events legal agrees = refl
 fresh_all c (e ∷ es) st g f u events legal agrees =
     ap (λ l. l ++ current_from c (step c st e.event).state es f u) (fresh_one c st g agrees e.event f u)
-    ∙ ap (λ l. fresh_in g e.event f u ++ l) (fresh_all c es (step c st e.event).state (read_one c g e) f u events.1 legal.1 (agrees_step c st g e events.0 legal.0 agrees))
+    ∙ ap (λ l. fresh_in g e.event f u ++ l)
+    (fresh_all c es (step c st e.event).state (read_one c g e) f u events.1 legal.1 (agrees_step c st g e events.0 legal.0 agrees))
 
 -- a beginning of a legal history is legal
 pub legal_before : (c : Setting) (h k : List Item) → Legal c (h ++ k) → Legal c h
-legal_before c h k legal = record { servable = legal.servable; setting = legal.setting; events = events h legal.events; entries = entries h (opening c) legal.entries }
+legal_before c h k legal =
+    record { servable = legal.servable; setting = legal.setting; events = events h legal.events; entries = entries h (opening c) legal.entries }
   where
     events : (h : List Item) → Each (λ e. IsEvent e.event) (h ++ k) → Each (λ e. IsEvent e.event) h
     events [] each = tt
@@ -85,7 +89,8 @@ served_has : (f : ℕ) (ts : List Stream) (t : Stream) → Has t ts → is_at t.
 served_has f [] t has e = absurd has
 served_has f (x ∷ ts) t has e = by (is_at x.front f) refl has (λ h. served_has f ts t h e)
   where
-    by : (b : Bool) → is_at x.front f ≡ b → (t ≡ x) ⊎ Has t ts → (Has t ts → Has t (filter (λ x. is_at x.front f) ts)) → Has t (cond b (x ∷ filter (λ x. is_at x.front f) ts) (filter (λ x. is_at x.front f) ts))
+    by : (b : Bool) → is_at x.front f ≡ b → (t ≡ x) ⊎ Has t ts → (Has t ts → Has t (filter (λ x. is_at x.front f) ts))
+        → Has t (cond b (x ∷ filter (λ x. is_at x.front f) ts) (filter (λ x. is_at x.front f) ts))
     by true g (inl same) rest = inl same
     by true g (inr later) rest = inr (rest later)
     by false g (inl same) rest = let here : is_at x.front f ≡ true = ap (λ y. is_at y.front f) (sym same) ∙ e in absurd (clash (is_at x.front f) g here)
@@ -99,23 +104,28 @@ each_has P [] t each has = absurd has
 each_has P (x ∷ ts) t each (inl same) = subst P (sym same) each.0
 each_has P (x ∷ ts) t each (inr later) = each_has P ts t each.1 later
 
-read_at : (c : Config) (st : State) (g : Readings) (f mux : ℕ) → Agrees c st g → AreTunedTo c mux (served_by st f) → (ms : List Made) → ((m : Made) → Has m ms → Has m (living g))
+read_at : (c : Config) (st : State) (g : Readings) (f mux : ℕ) → Agrees c st g → AreTunedTo c mux (served_by st f) → (ms : List Made)
+    → ((m : Made) → Has m ms → Has m (living g))
     → Each (λ m. is_at (g.front m.home) f ≡ true → option_and_then (mux_of c.muxes) (g.tuned m.home) ≡ Some mux) ms
 read_at c st g f mux agrees tuned [] lives = tt
 read_at c st g f mux agrees tuned (m ∷ ms) lives = (one, read_at c st g f mux agrees tuned ms (λ k h. lives k (inr h)))
   where
     one : is_at (g.front m.home) f ≡ true → option_and_then (mux_of c.muxes) (g.tuned m.home) ≡ Some mux
     one here =
-        let there : Has (stream_told g m.home) st.streams = (find_has (λ t. t.number == g.number m.home) st.streams (stream_told g m.home) (stream_here c st g agrees m (lives m (inl refl)))).0 in
-        each_has (λ t. option_and_then (mux_of c.muxes) t.tuning ≡ Some mux) (served_by st f) (stream_told g m.home) tuned (served_has f st.streams (stream_told g m.home) there here)
+        let there : Has (stream_told g m.home) st.streams =
+        (find_has (λ t. t.number == g.number m.home) st.streams (stream_told g m.home) (stream_here c st g agrees m (lives m (inl refl)))).0 in
+        each_has (λ t. option_and_then (mux_of c.muxes) t.tuning ≡ Some mux) (served_by st f) (stream_told g m.home) tuned
+        (served_has f st.streams (stream_told g m.home) there here)
 
 pub packets_of_recordings : PacketsAreOfRecordings
 packets_of_recordings c h caller f u recording due early legal few of pumps = record {
   mux = law.mux;
-  packets = subst (λ (l : List (List ℕ)). BeginsTold l (told law.mux)) (fresh_all c.config h (opening c) (nothing_read c) f u legal.events legal.entries (agrees_opening c)) law.packets;
+  packets = subst (λ (l : List (List ℕ)). BeginsTold l (told law.mux))
+      (fresh_all c.config h (opening c) (nothing_read c) f u legal.events legal.entries (agrees_opening c)) law.packets;
   streams = λ g k e packet is event on.
       let agrees : Agrees c.config (after c g) (readings c g) = agrees_after c g (legal_before c g (e ∷ k) (subst (Legal c) is legal)) in
-      read_at c.config (after c g) (readings c g) f law.mux agrees (law.streams g k e packet is event (same_fresh c.config (after c g) (readings c g) agrees f u ∙ on)) (living (readings c g)) (λ m h. h);
+      read_at c.config (after c g) (readings c g) f law.mux agrees
+      (law.streams g k e packet is event (same_fresh c.config (after c g) (readings c g) agrees f u ∙ on)) (living (readings c g)) (λ m h. h);
 }
   where
     law : IsRecorded c h f u recording

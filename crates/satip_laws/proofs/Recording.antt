@@ -59,7 +59,8 @@ abbrev IsReached : State → ℕ → ℕ → Type 0
 IsReached st f u = (t : ℕ) → tune_of st f ≡ Some t → u ≤ t
 
 -- once more
-once_more : (o : Option ℕ) (t n : ℕ) → ((k : ℕ) → o ≡ Some k → k + suc n < 18446744073709551616) → option_map (λ k. (k + 1) % 2 ^ 64) o ≡ Some t → (k : ℕ) × (o ≡ Some k) × (t ≡ k + 1)
+once_more : (o : Option ℕ) (t n : ℕ) → ((k : ℕ) → o ≡ Some k → k + suc n < 18446744073709551616) → option_map (λ k. (k + 1) % 2 ^ 64) o ≡ Some t
+    → (k : ℕ) × (o ≡ Some k) × (t ≡ k + 1)
 once_more None t n room e = cc
 once_more (Some k) t n room e =
     let less : k + suc n < 18446744073709551616 = room k refl in
@@ -81,7 +82,8 @@ reached_after st st1 f u n room reached (inr k) t e =
     omega (arith, old.2, le)
 
 -- who is on was on before, with its multiplex
-on_before : (st st1 : State) (f u n : ℕ) → HasRoom st f (suc n) → IsReached st f u → Keeps f st st1 ⊎ Anew f st st1 → IsOn st1 f u → IsOn st f u × (mux_at st1 f ≡ mux_at st f)
+on_before : (st st1 : State) (f u n : ℕ) → HasRoom st f (suc n) → IsReached st f u → Keeps f st st1 ⊎ Anew f st st1 → IsOn st1 f u
+    → IsOn st f u × (mux_at st1 f ≡ mux_at st f)
 on_before st st1 f u n room reached (inl k) on = (record { tune = sym k.tune ∙ on.tune; on = (k.on on.on).0 }, (k.on on.on).1)
 on_before st st1 f u n room reached (inr k) on =
     let old = once_more (tune_of st f) u n room (sym k.tune ∙ on.tune) in
@@ -121,14 +123,17 @@ current_other st (Close id) f u other = refl
 current_other st Stop f u other = refl
 
 -- a tuning number that is over doesn't come back
-over_from : (c : Config) (es : List Item) (st : State) (f u : ℕ) → AreFronts c st → HasRoom st f (length es) → IsReached st f u → is_current st f u ≡ false → current_from c st es f u ≡ []
+over_from : (c : Config) (es : List Item) (st : State) (f u : ℕ) → AreFronts c st → HasRoom st f (length es) → IsReached st f u → is_current st f u ≡ false
+    → current_from c st es f u ≡ []
 over_from c [] st f u fronts room reached off = refl
 over_from c (e ∷ es) st f u fronts room reached off =
     let st1 : State = (step c st e.event).state in
     let shifts = event_shifts c st e.event fronts in
-    let off1 : is_current st1 f u ≡ false = not_current st1 f u (λ on. still (current_of st f u (on_before st st1 f u (length es) room reached (shifts.each f) on).0)) in
+    let off1 : is_current st1 f u ≡ false = not_current st1 f u
+    (λ on. still (current_of st f u (on_before st st1 f u (length es) room reached (shifts.each f) on).0)) in
     ap (λ l. l ++ current_from c st1 es f u) (current_none st e.event f u off)
-    ∙ over_from c es st1 f u shifts.fronts (room_after st st1 f (length es) room (shifts.each f)) (reached_after st st1 f u (length es) room reached (shifts.each f)) off1
+    ∙ over_from c es st1 f u shifts.fronts (room_after st st1 f (length es) room (shifts.each f))
+    (reached_after st st1 f u (length es) room reached (shifts.each f)) off1
   where
     still : is_current st f u ≡ true → ⊥
     still on = cc
@@ -142,7 +147,8 @@ record TellsTune (st : State) (f m u : ℕ) : Type 0 where
 tells_tune : (st : State) (f m u : ℕ) → work st f ≡ Tune m u → TellsTune st f m u
 tells_tune st f m u e = by st.stopped (serves st f) refl (row_of st f) refl e
   where
-    in_row : (r : Row) → row_of st f ≡ Some r → serves st f ≡ true → (o : Option ℕ) (b : Bool) → r.mux ≡ o → option_map_or (λ mux. if b then Nothing else Tune mux r.tune) o Nothing ≡ Tune m u → TellsTune st f m u
+    in_row : (r : Row) → row_of st f ≡ Some r → serves st f ≡ true → (o : Option ℕ) (b : Bool) → r.mux ≡ o
+        → option_map_or (λ mux. if b then Nothing else Tune mux r.tune) o Nothing ≡ Tune m u → TellsTune st f m u
     in_row r g on None b h k = cc
     in_row r g on (Some n) true h k = cc
     in_row r g on (Some n) false h k =
@@ -150,7 +156,8 @@ tells_tune st f m u e = by st.stopped (serves st f) refl (row_of st f) refl e
         let same_tune : r.tune ≡ u = cc in
         record { on = record { tune = rw g (ap (λ n. Some n) same_tune); on = on }; mux = rw g (h ∙ ap (λ n. Some n) same_mux) }
 
-    by : (s b : Bool) → serves st f ≡ b → (o : Option Row) → row_of st f ≡ o → (if s then Stopping else (if b then option_map_or work_of_row o Nothing else Nothing)) ≡ Tune m u → TellsTune st f m u
+    by : (s b : Bool) → serves st f ≡ b → (o : Option Row) → row_of st f ≡ o
+        → (if s then Stopping else (if b then option_map_or work_of_row o Nothing else Nothing)) ≡ Tune m u → TellsTune st f m u
     by true b on o g h = cc
     by false true on None g h = cc
     by false true on (Some r) g h = in_row r g on r.mux r.ended refl h
@@ -180,7 +187,8 @@ record IsReady (st : State) (f u m : ℕ) (o : Option Reel) : Type 0 where
   mux : IsOn st f u → unwrap_or (mux_at st f) 0 ≡ m
   reel : (r : Reel) → o ≡ Some r → r.tune ≡ u → IsOn st f u → mux_at st f ≡ Some m
 
-ready_after : (st st1 : State) (f u m n : ℕ) (o : Option Reel) → HasRoom st f (suc n) → IsReached st f u → Keeps f st st1 ⊎ Anew f st st1 → IsReady st f u m o → IsReady st1 f u m o
+ready_after : (st st1 : State) (f u m n : ℕ) (o : Option Reel) → HasRoom st f (suc n) → IsReached st f u → Keeps f st st1 ⊎ Anew f st st1 → IsReady st f u m o
+    → IsReady st1 f u m o
 ready_after st st1 f u m n o room reached shift ready = record {
   tunes = λ r t e g. tunes r t e shift g;
   mux = λ on. let was = on_before st st1 f u n room reached shift on in ap (λ x. unwrap_or x 0) was.1 ∙ ready.mux was.0;
@@ -210,14 +218,16 @@ tuned_tune recording (Some r) m u = by (r.tune == u) refl
     by true e = eqb-true r.tune u e
     by false e = refl
 
-ready_tuned : (st : State) (f u m k v : ℕ) (recording : Recordings) (o : Option Reel) → TellsTune st f k v → (IsOn st f u → unwrap_or (mux_at st f) 0 ≡ m) → IsReady st f u m (Some (tuned recording o k v))
+ready_tuned : (st : State) (f u m k v : ℕ) (recording : Recordings) (o : Option Reel) → TellsTune st f k v → (IsOn st f u → unwrap_or (mux_at st f) 0 ≡ m)
+    → IsReady st f u m (Some (tuned recording o k v))
 ready_tuned st f u m k v recording o tells mux = record {
   tunes = λ r t e g. let is : tuned recording o k v ≡ r = cc in
       let tune : r.tune ≡ v = ap (λ z. z.tune) (sym is) ∙ tuned_tune recording o k v in
       let same : Some t ≡ Some v = sym g ∙ tells.on.tune in
       let at : t ≡ v = cc in omega (arith, tune, at);
   mux = mux;
-  reel = λ r e h on. let is : unwrap_or (mux_at st f) 0 ≡ m = mux on in let has : k ≡ m = sym (ap (λ x. unwrap_or x 0) tells.mux) ∙ is in tells.mux ∙ ap (λ n. Some n) has;
+  reel = λ r e h on. let is : unwrap_or (mux_at st f) 0 ≡ m = mux on in let has : k ≡ m = sym (ap (λ x. unwrap_or x 0) tells.mux) ∙ is in
+      tells.mux ∙ ap (λ n. Some n) has;
 }
 
 -- what is left is the same where the reel goes on or begins
@@ -247,18 +257,21 @@ begins_ended xs None b = tt
 begins_ended xs (Some all) b = begins_none xs (Some all) (begins_empty xs b)
 
 -- one packet more
-begins_more : (packet : List ℕ) (xs : List (List ℕ)) (left : Option (List (List ℕ))) → IsFirst packet left → BeginsTold xs (option_map rest_of left) → BeginsTold (packet ∷ xs) left
+begins_more : (packet : List ℕ) (xs : List (List ℕ)) (left : Option (List (List ℕ))) → IsFirst packet left → BeginsTold xs (option_map rest_of left)
+    → BeginsTold (packet ∷ xs) left
 begins_more packet xs None first b = tt
 begins_more packet xs (Some []) first b = absurd first
 begins_more packet xs (Some (x ∷ all)) first b = record { rest = b.rest; whole = ap (λ p. p ∷ all) (sym first) ∙ ap (λ l. packet ∷ l) b.whole }
 
 -- the streams of a front end are tuned to its multiplex
 
-tuned_served : (c : Config) (rows : List Row) (f m : ℕ) (r : Row) (ts : List Stream) → Each (IsMatched c rows) ts → find (λ r. r.number == f) rows ≡ Some r → r.mux ≡ Some m → AreTunedTo c m (filter (λ t. is_at t.front f) ts)
+tuned_served : (c : Config) (rows : List Row) (f m : ℕ) (r : Row) (ts : List Stream) → Each (IsMatched c rows) ts → find (λ r. r.number == f) rows ≡ Some r
+    → r.mux ≡ Some m → AreTunedTo c m (filter (λ t. is_at t.front f) ts)
 tuned_served c rows f m r [] each found mux = tt
 tuned_served c rows f m r (t ∷ ts) each found mux = by (is_at t.front f) refl (tuned_served c rows f m r ts each.1 found mux)
   where
-    by : (b : Bool) → is_at t.front f ≡ b → AreTunedTo c m (filter (λ t. is_at t.front f) ts) → AreTunedTo c m (cond b (t ∷ filter (λ t. is_at t.front f) ts) (filter (λ t. is_at t.front f) ts))
+    by : (b : Bool) → is_at t.front f ≡ b → AreTunedTo c m (filter (λ t. is_at t.front f) ts)
+        → AreTunedTo c m (cond b (t ∷ filter (λ t. is_at t.front f) ts) (filter (λ t. is_at t.front f) ts))
     by true e rest = (sym (each.0 f r e found) ∙ mux, rest)
     by false e rest = rest
 
@@ -271,19 +284,22 @@ tuned_at c st f m fronts mux = by (row_of st f) refl mux
 
 -- at each packet that isn't stale the streams are tuned to this multiplex
 abbrev Splits : Config → State → List Item → ℕ → ℕ → ℕ → Type 0
-Splits c st es f u m = (g k : List Item) (e : Item) (packet : List ℕ) → es ≡ g ++ e ∷ k → e.event ≡ Packet f u packet → is_current (after_from c st g) f u ≡ true → AreTunedTo c m (served_by (after_from c st g) f)
+Splits c st es f u m = (g k : List Item) (e : Item) (packet : List ℕ) → es ≡ g ++ e ∷ k → e.event ≡ Packet f u packet
+    → is_current (after_from c st g) f u ≡ true → AreTunedTo c m (served_by (after_from c st g) f)
 
 splits_none : (c : Config) (st : State) (f u m : ℕ) → Splits c st [] f u m
 splits_none c st f u m [] k e packet same event on = cc
 splits_none c st f u m (x ∷ g) k e packet same event on = cc
 
-splits_more : (c : Config) (st : State) (x : Item) (es : List Item) (f u m : ℕ) → ((packet : List ℕ) → x.event ≡ Packet f u packet → is_current st f u ≡ true → AreTunedTo c m (served_by st f))
+splits_more : (c : Config) (st : State) (x : Item) (es : List Item) (f u m : ℕ)
+    → ((packet : List ℕ) → x.event ≡ Packet f u packet → is_current st f u ≡ true → AreTunedTo c m (served_by st f))
     → Splits c (step c st x.event).state es f u m → Splits c st (x ∷ es) f u m
 splits_more c st x es f u m first rest [] k e packet same event on = let is : x ≡ e = cc in first packet (ap (λ z. z.event) is ∙ event) on
 splits_more c st x es f u m first rest (y ∷ g) k e packet same event on =
     let is : x ≡ y = cc in
     let more : es ≡ g ++ e ∷ k = cc in
-    subst (λ (z : Item). is_current (after_from c (step c st z.event).state g) f u ≡ true → AreTunedTo c m (served_by (after_from c (step c st z.event).state g) f)) is (rest g k e packet more event) on
+    subst (λ (z : Item). is_current (after_from c (step c st z.event).state g) f u ≡ true
+    → AreTunedTo c m (served_by (after_from c (step c st z.event).state g) f)) is (rest g k e packet more event) on
 
 -- the own entries of a pump and those of others
 
@@ -301,15 +317,18 @@ packet_is : (f u : ℕ) (packet : List ℕ) (event : Event) → event ≡ Packet
 packet_is f u packet event e = rw e (eq-eqb f f refl)
 
 -- a pump that is finished gives no packet
-finished_none : (c : Config) (caller f u : ℕ) (recording : Recordings) (es : List Item) (st : State) (next : Due) (early : ℕ) → PacketsAreOf caller f es → Pumps f recording Finished (own_of caller es) next early → current_from c st es f u ≡ []
+finished_none : (c : Config) (caller f u : ℕ) (recording : Recordings) (es : List Item) (st : State) (next : Due) (early : ℕ) → PacketsAreOf caller f es
+    → Pumps f recording Finished (own_of caller es) next early → current_from c st es f u ≡ []
 finished_none c caller f u recording [] st next early of pumps = refl
 finished_none c caller f u recording (e ∷ es) st next early of pumps =
     by (e.caller == caller) refl pumps (λ p. finished_none c caller f u recording es (step c st e.event).state next early of.1 p)
   where
     by : (b : Bool) → (e.caller == caller) ≡ b → Pumps f recording Finished (kept_if b e (own_of caller es)) next early
-        → (Pumps f recording Finished (own_of caller es) next early → current_from c (step c st e.event).state es f u ≡ []) → current_from c st (e ∷ es) f u ≡ []
+        → (Pumps f recording Finished (own_of caller es) next early → current_from c (step c st e.event).state es f u ≡ [])
+        → current_from c st (e ∷ es) f u ≡ []
     by true g pumps rest = absurd pumps.0
-    by false g pumps rest = ap (λ l. l ++ current_from c (step c st e.event).state es f u) (current_other st e.event f u (not_packet caller f e of.0 g)) ∙ rest pumps
+    by false g pumps rest = ap (λ l. l ++ current_from c (step c st e.event).state es f u) (current_other st e.event f u (not_packet caller f e of.0 g))
+        ∙ rest pumps
 
 -- what the reel is after an event of the pump, before its answer
 abbrev seen : Due → Event → Option Reel
@@ -335,13 +354,15 @@ ready_seen st f u m (Feeding reel) event ready = ready_moved st f u m reel (move
 ready_seen st f u m Finished event ready = ready
 
 -- the answer to an event of a pump is the work of its front end
-answer_is : (c : Config) (st : State) (f : ℕ) (due : Due) (event : Event) → IsDue f due event → (step c st event).answer ≡ WorkIs (work (step c st event).state f)
+answer_is : (c : Config) (st : State) (f : ℕ) (due : Due) (event : Event) → IsDue f due event
+    → (step c st event).answer ≡ WorkIs (work (step c st event).state f)
 answer_is c st f (Asking reel) event due = rw due refl
 answer_is c st f (Feeding reel) event (inl fed) = rw fed.1 refl
 answer_is c st f (Feeding reel) event (inr ended) = rw ended refl
 answer_is c st f Finished event due = absurd due
 
-due_after : (recording : Recordings) (f : ℕ) (due : Due) (e : Item) → IsDue f due e.event → after_entry recording due e ≡ after_work recording (seen due e.event) (work_told e.answer)
+due_after : (recording : Recordings) (f : ℕ) (due : Due) (e : Item) → IsDue f due e.event
+    → after_entry recording due e ≡ after_work recording (seen due e.event) (work_told e.answer)
 due_after recording f (Asking reel) e due = refl
 due_after recording f (Feeding reel) e due = refl
 due_after recording f Finished e due = absurd due
@@ -351,10 +372,12 @@ record Heard (st : State) (f u m : ℕ) (recording : Recordings) (o : Option Ree
   ready : IsReady st f u m (reel_of due)
   left : (left_in recording (reel_of due) m u ≡ left_in recording o m u) ⊎ ((is_current st f u ≡ false) ⊎ (due ≡ Finished))
 
-heard_work : (st : State) (f u m : ℕ) (recording : Recordings) (o : Option Reel) → IsReady st f u m o → (w : Work) → work st f ≡ w → Heard st f u m recording o (after_work recording o w)
+heard_work : (st : State) (f u m : ℕ) (recording : Recordings) (o : Option Reel) → IsReady st f u m o → (w : Work) → work st f ≡ w
+    → Heard st f u m recording o (after_work recording o w)
 unfolding reel_of
 heard_work st f u m recording o ready Nothing e = record { ready = ready; left = inl refl }
-heard_work st f u m recording o ready Stopping e = record { ready = record { tunes = λ r t g h. cc; mux = ready.mux; reel = λ r g h on. cc }; left = inr (inr refl) }
+heard_work st f u m recording o ready Stopping e =
+    record { ready = record { tunes = λ r t g h. cc; mux = ready.mux; reel = λ r g h on. cc }; left = inr (inr refl) }
 heard_work st f u m recording o ready (Tune k v) e = record { ready = ready_tuned st f u m k v recording o tells ready.mux; left = by (v == u) refl }
   where
     tells : TellsTune st f k v
@@ -369,29 +392,35 @@ heard_work st f u m recording o ready (Tune k v) e = record { ready = ready_tune
     differs : (v == u) ≡ false → IsOn st f u → ⊥
     differs g on = let both : Some v ≡ Some u = sym tells.on.tune ∙ on.tune in let is : v ≡ u = cc in eqb-false v u g is
 
-    by : (b : Bool) → (v == u) ≡ b → (left_in recording (Some (tuned recording o k v)) m u ≡ left_in recording o m u) ⊎ ((is_current st f u ≡ false) ⊎ (Feeding (tuned recording o k v) ≡ Finished))
+    by : (b : Bool) → (v == u) ≡ b → (left_in recording (Some (tuned recording o k v)) m u ≡ left_in recording o m u)
+        ⊎ ((is_current st f u ≡ false) ⊎ (Feeding (tuned recording o k v) ≡ Finished))
     by true g = inl (same (eqb-true v u g))
     by false g = inr (inl (not_current st f u (differs g)))
 
 -- the packets of the rest, against what is left before the answer
-left_before : (c : Config) (caller f u m : ℕ) (recording : Recordings) (es : List Item) (st : State) (o : Option Reel) (due next : Due) (early : ℕ) → AreFronts c st → HasRoom st f (length es) → IsReached st f u
+left_before : (c : Config) (caller f u m : ℕ) (recording : Recordings) (es : List Item) (st : State) (o : Option Reel) (due next : Due) (early : ℕ)
+    → AreFronts c st → HasRoom st f (length es) → IsReached st f u
     → PacketsAreOf caller f es → Pumps f recording due (own_of caller es) next early → Heard st f u m recording o due
     → BeginsTold (current_from c st es f u) (left_in recording (reel_of due) m u) → BeginsTold (current_from c st es f u) (left_in recording o m u)
 left_before c caller f u m recording es st o due next early fronts room reached of pumps heard begins = by heard.left
   where
-    by : (left_in recording (reel_of due) m u ≡ left_in recording o m u) ⊎ ((is_current st f u ≡ false) ⊎ (due ≡ Finished)) → BeginsTold (current_from c st es f u) (left_in recording o m u)
+    by : (left_in recording (reel_of due) m u ≡ left_in recording o m u) ⊎ ((is_current st f u ≡ false) ⊎ (due ≡ Finished))
+        → BeginsTold (current_from c st es f u) (left_in recording o m u)
     by (inl same) = subst (λ (l : Option (List (List ℕ))). BeginsTold (current_from c st es f u) l) same begins
     by (inr (inl off)) = begins_none (current_from c st es f u) (left_in recording o m u) (over_from c es st f u fronts room reached off)
     by (inr (inr end)) =
-        let pumps1 : Pumps f recording Finished (own_of caller es) next early = subst (λ (d : Due). Pumps f recording d (own_of caller es) next early) end pumps in
+        let pumps1 : Pumps f recording Finished (own_of caller es) next early =
+        subst (λ (d : Due). Pumps f recording d (own_of caller es) next early) end pumps in
         begins_none (current_from c st es f u) (left_in recording o m u) (finished_none c caller f u recording es st next early of pumps1)
 
-packet_here : (st : State) (f u n : ℕ) (packet : List ℕ) (b a : Bool) → (n == u) ≡ b → is_current st f u ≡ a → current_in st (Packet f n packet) f u ≡ (if b && a then packet ∷ [] else [])
+packet_here : (st : State) (f u n : ℕ) (packet : List ℕ) (b a : Bool) → (n == u) ≡ b → is_current st f u ≡ a
+    → current_in st (Packet f n packet) f u ≡ (if b && a then packet ∷ [] else [])
 packet_here st f u n packet true a e g = let same : n ≡ u = eqb-true n u e in rw (same, eq-eqb f f refl, eq-eqb u u refl, g) refl
 packet_here st f u n packet false a e g = rw (e, eq-eqb f f refl) refl
 
 -- the packets with that of the event, against what was left before it
-with_event : (c : Config) (st : State) (f u m : ℕ) (recording : Recordings) (due : Due) (event : Event) (more : List (List ℕ)) → IsDue f due event → (is_current st f u ≡ false → current_in st event f u ++ more ≡ [])
+with_event : (c : Config) (st : State) (f u m : ℕ) (recording : Recordings) (due : Due) (event : Event) (more : List (List ℕ)) → IsDue f due event
+    → (is_current st f u ≡ false → current_in st event f u ++ more ≡ [])
     → BeginsTold more (left_in recording (seen due event) m u) → BeginsTold (current_in st event f u ++ more) (left_in recording (reel_of due) m u)
 unfolding reel_of
 with_event c st f u m recording (Asking reel) event more due off begins = rw due begins
@@ -401,7 +430,8 @@ with_event c st f u m recording (Feeding reel) event more (inr ended) off begins
     none : current_in st event f u ≡ []
     none = rw ended refl
 
-    by : (b : Bool) → (reel.tune == u) ≡ b → BeginsTold more (if b then none_of reel.left else told_all recording m) → BeginsTold (current_in st event f u ++ more) (if b then reel.left else told_all recording m)
+    by : (b : Bool) → (reel.tune == u) ≡ b → BeginsTold more (if b then none_of reel.left else told_all recording m)
+        → BeginsTold (current_in st event f u ++ more) (if b then reel.left else told_all recording m)
     by true e begins = rw none (begins_ended more reel.left begins)
     by false e begins = rw none begins
 with_event c st f u m recording (Feeding reel) event more (inl fed) off begins = by (reel.tune == u) refl (is_current st f u) refl (rw fed.1 at begins)
@@ -412,13 +442,16 @@ with_event c st f u m recording (Feeding reel) event more (inl fed) off begins =
     here : (b a : Bool) → (reel.tune == u) ≡ b → is_current st f u ≡ a → current_in st event f u ≡ (if b && a then packet ∷ [] else [])
     here b a e g = ap (λ v. current_in st v f u) fed.1 ∙ packet_here st f u reel.tune packet b a e g
 
-    by : (b : Bool) → (reel.tune == u) ≡ b → (a : Bool) → is_current st f u ≡ a → BeginsTold more (if b then option_map rest_of reel.left else told_all recording m) → BeginsTold (current_in st event f u ++ more) (if b then reel.left else told_all recording m)
+    by : (b : Bool) → (reel.tune == u) ≡ b → (a : Bool) → is_current st f u ≡ a
+        → BeginsTold more (if b then option_map rest_of reel.left else told_all recording m)
+        → BeginsTold (current_in st event f u ++ more) (if b then reel.left else told_all recording m)
     by true e true g begins = rw (here true true e g) (begins_more packet more reel.left fed.2 begins)
     by true e false g begins = begins_none _ reel.left (off g)
     by false e a g begins = rw (here false a e g) begins
 
 -- a packet of the pump that isn't stale finds the streams tuned
-packet_tuned : (c : Config) (st : State) (f u m : ℕ) (due : Due) (event : Event) → AreFronts c st → IsDue f due event → IsReady st f u m (reel_of due) → (packet : List ℕ) → event ≡ Packet f u packet → is_current st f u ≡ true → AreTunedTo c m (served_by st f)
+packet_tuned : (c : Config) (st : State) (f u m : ℕ) (due : Due) (event : Event) → AreFronts c st → IsDue f due event → IsReady st f u m (reel_of due)
+    → (packet : List ℕ) → event ≡ Packet f u packet → is_current st f u ≡ true → AreTunedTo c m (served_by st f)
 unfolding reel_of
 packet_tuned c st f u m (Asking reel) event fronts due ready packet e on = let no_way : Ask f ≡ Packet f u packet = sym due ∙ e in cc
 packet_tuned c st f u m Finished event fronts due ready packet e on = absurd due
@@ -433,13 +466,17 @@ record IsBegun (c : Config) (st : State) (es : List Item) (f u m : ℕ) (left : 
   packets : BeginsTold (current_from c st es f u) left
   streams : Splits c st es f u m
 
-begun : (c : Config) (caller f u m : ℕ) (recording : Recordings) (es : List Item) (st : State) (due next : Due) (early : ℕ) → AreFronts c st → LegalFrom c st es → PacketsAreOf caller f es
-    → Pumps f recording due (own_of caller es) next early → HasRoom st f (length es) → IsReached st f u → IsReady st f u m (reel_of due) → IsBegun c st es f u m (left_in recording (reel_of due) m u)
-begun c caller f u m recording [] st due next early fronts legal of pumps room reached ready = record { packets = begins_nothing (left_in recording (reel_of due) m u); streams = splits_none c st f u m }
+begun : (c : Config) (caller f u m : ℕ) (recording : Recordings) (es : List Item) (st : State) (due next : Due) (early : ℕ) → AreFronts c st → LegalFrom c st es
+    → PacketsAreOf caller f es
+    → Pumps f recording due (own_of caller es) next early → HasRoom st f (length es) → IsReached st f u → IsReady st f u m (reel_of due)
+    → IsBegun c st es f u m (left_in recording (reel_of due) m u)
+begun c caller f u m recording [] st due next early fronts legal of pumps room reached ready =
+    record { packets = begins_nothing (left_in recording (reel_of due) m u); streams = splits_none c st f u m }
 begun c caller f u m recording (e ∷ es) st due next early fronts legal of pumps room reached ready =
     by (e.caller == caller) refl pumps
     (λ d n r p. begun c caller f u m recording es (step c st e.event).state d next n (event_shifts c st e.event fronts).fronts legal.1 of.1 p
-    (room_after st (step c st e.event).state f (length es) room ((event_shifts c st e.event fronts).each f)) (reached_after st (step c st e.event).state f u (length es) room reached ((event_shifts c st e.event fronts).each f)) r)
+    (room_after st (step c st e.event).state f (length es) room ((event_shifts c st e.event fronts).each f))
+    (reached_after st (step c st e.event).state f u (length es) room reached ((event_shifts c st e.event fronts).each f)) r)
   where
     st1 : State
     st1 = (step c st e.event).state
@@ -454,25 +491,32 @@ begun c caller f u m recording (e ∷ es) st due next early fronts legal of pump
     reached1 = reached_after st st1 f u (length es) room reached (shifts.each f)
 
     by : (b : Bool) → (e.caller == caller) ≡ b → Pumps f recording due (kept_if b e (own_of caller es)) next early
-        → ((d : Due) (n : ℕ) → IsReady st1 f u m (reel_of d) → Pumps f recording d (own_of caller es) next n → IsBegun c st1 es f u m (left_in recording (reel_of d) m u)) → IsBegun c st (e ∷ es) f u m (left_in recording (reel_of due) m u)
+        → ((d : Due) (n : ℕ) → IsReady st1 f u m (reel_of d) → Pumps f recording d (own_of caller es) next n
+        → IsBegun c st1 es f u m (left_in recording (reel_of d) m u)) → IsBegun c st (e ∷ es) f u m (left_in recording (reel_of due) m u)
     by false g pumps rest =
         let other : is_packet_on f e.event ≡ false = not_packet caller f e of.0 g in
-        let more : IsBegun c st1 es f u m (left_in recording (reel_of due) m u) = rest due early (ready_after st st1 f u m (length es) (reel_of due) room reached (shifts.each f) ready) pumps in
+        let more : IsBegun c st1 es f u m (left_in recording (reel_of due) m u) =
+        rest due early (ready_after st st1 f u m (length es) (reel_of due) room reached (shifts.each f) ready) pumps in
         record {
-          packets = subst (λ (l : List (List ℕ)). BeginsTold (l ++ current_from c st1 es f u) (left_in recording (reel_of due) m u)) (sym (current_other st e.event f u other)) more.packets;
+          packets = subst (λ (l : List (List ℕ)). BeginsTold (l ++ current_from c st1 es f u) (left_in recording (reel_of due) m u))
+              (sym (current_other st e.event f u other)) more.packets;
           streams = splits_more c st e es f u m (λ packet h on. let is : is_packet_on f e.event ≡ true = packet_is f u packet e.event h in cc) more.streams;
         }
     by true g pumps rest =
         let answer : e.answer ≡ WorkIs (work st1 f) = legal.0.answer ∙ answer_is c st f due e.event pumps.0 in
         let o : Option Reel = seen due e.event in
         let ready1 : IsReady st1 f u m o = ready_after st st1 f u m (length es) o room reached (shifts.each f) (ready_seen st f u m due e.event ready) in
-        let next_due : after_entry recording due e ≡ after_work recording o (work st1 f) = due_after recording f due e pumps.0 ∙ ap (λ a. after_work recording o (work_told a)) answer in
+        let next_due : after_entry recording due e ≡ after_work recording o (work st1 f) =
+        due_after recording f due e pumps.0 ∙ ap (λ a. after_work recording o (work_told a)) answer in
         let heard : Heard st1 f u m recording o (after_work recording o (work st1 f)) = heard_work st1 f u m recording o ready1 (work st1 f) refl in
-        let pumps1 : Pumps f recording (after_work recording o (work st1 f)) (own_of caller es) next pumps.1.0 = subst (λ (d : Due). Pumps f recording d (own_of caller es) next pumps.1.0) next_due pumps.1.1 in
-        let more : IsBegun c st1 es f u m (left_in recording (reel_of (after_work recording o (work st1 f))) m u) = rest (after_work recording o (work st1 f)) pumps.1.0 heard.ready pumps1 in
+        let pumps1 : Pumps f recording (after_work recording o (work st1 f)) (own_of caller es) next pumps.1.0 =
+        subst (λ (d : Due). Pumps f recording d (own_of caller es) next pumps.1.0) next_due pumps.1.1 in
+        let more : IsBegun c st1 es f u m (left_in recording (reel_of (after_work recording o (work st1 f))) m u) =
+        rest (after_work recording o (work st1 f)) pumps.1.0 heard.ready pumps1 in
         record {
           packets = with_event c st f u m recording due e.event (current_from c st1 es f u) pumps.0 (λ off. over_from c (e ∷ es) st f u fronts room reached off)
-              (left_before c caller f u m recording es st1 o (after_work recording o (work st1 f)) next pumps.1.0 shifts.fronts room1 reached1 of.1 pumps1 heard more.packets);
+              (left_before c caller f u m recording es st1 o (after_work recording o (work st1 f)) next pumps.1.0 shifts.fronts room1 reached1 of.1 pumps1 heard
+              more.packets);
           streams = splits_more c st e es f u m (packet_tuned c st f u m due e.event fronts pumps.0 ready) more.streams;
         }
 
@@ -499,7 +543,8 @@ no_later_after st st1 f n o room shift no_later r t e g = by shift
         omega (arith, old.2, le)
 
 -- the reel before the answer isn't of the tuning number that has just come
-not_of : (st st1 : State) (f u n : ℕ) (o : Option Reel) → HasRoom st f (suc n) → Keeps f st st1 ⊎ Anew f st st1 → IsToCome st f u → NoLater st f o → tune_of st1 f ≡ Some u → (r : Reel) → o ≡ Some r → r.tune ≡ u → ⊥
+not_of : (st st1 : State) (f u n : ℕ) (o : Option Reel) → HasRoom st f (suc n) → Keeps f st st1 ⊎ Anew f st st1 → IsToCome st f u → NoLater st f o
+    → tune_of st1 f ≡ Some u → (r : Reel) → o ≡ Some r → r.tune ≡ u → ⊥
 not_of st st1 f u n o room (inl k) later no_later now r e same = let less : u < u = later u (sym k.tune ∙ now) in absurd (omega (arith, less))
 not_of st st1 f u n o room (inr k) later no_later now r e same =
     let old = once_more (tune_of st f) u n room (sym k.tune ∙ now) in
@@ -507,7 +552,8 @@ not_of st st1 f u n o room (inr k) later no_later now r e same =
     absurd (omega (arith, old.2, le, same))
 
 -- such a reel is ready, and nothing is left of it for this tuning number but the whole recording
-ready_other : (st : State) (f u : ℕ) (o : Option Reel) → NoLater st f o → ((r : Reel) → o ≡ Some r → r.tune ≡ u → ⊥) → IsReady st f u (unwrap_or (mux_at st f) 0) o
+ready_other : (st : State) (f u : ℕ) (o : Option Reel) → NoLater st f o → ((r : Reel) → o ≡ Some r → r.tune ≡ u → ⊥)
+    → IsReady st f u (unwrap_or (mux_at st f) 0) o
 ready_other st f u o no_later other = record { tunes = no_later; mux = λ on. refl; reel = λ r e same on. absurd (other r e same) }
 
 left_other : (recording : Recordings) (o : Option Reel) (m u : ℕ) → ((r : Reel) → o ≡ Some r → r.tune ≡ u → ⊥) → left_in recording o m u ≡ told_all recording m
@@ -521,7 +567,8 @@ no_later_seen st f (Feeding reel) event no_later = λ r t e g.
     let is : moved event reel ≡ r = cc in let le : reel.tune ≤ t = no_later reel t refl g in rw (← is, moved_tune event reel) le
 no_later_seen st f Finished event no_later = no_later
 
-no_later_work : (st : State) (f : ℕ) (recording : Recordings) (o : Option Reel) → NoLater st f o → (w : Work) → work st f ≡ w → NoLater st f (reel_of (after_work recording o w))
+no_later_work : (st : State) (f : ℕ) (recording : Recordings) (o : Option Reel) → NoLater st f o → (w : Work) → work st f ≡ w
+    → NoLater st f (reel_of (after_work recording o w))
 unfolding reel_of
 no_later_work st f recording o no_later Nothing e = no_later
 no_later_work st f recording o no_later Stopping e = λ r t g h. cc
@@ -537,11 +584,13 @@ record IsMade (c : Config) (st : State) (es : List Item) (f u : ℕ) (recording 
   mux : ℕ
   begun : IsBegun c st es f u mux (told_all recording mux)
 
-made_more : (c : Config) (st : State) (e : Item) (es : List Item) (f u : ℕ) (recording : Recordings) → is_current st f u ≡ false → IsMade c (step c st e.event).state es f u recording → IsMade c st (e ∷ es) f u recording
+made_more : (c : Config) (st : State) (e : Item) (es : List Item) (f u : ℕ) (recording : Recordings) → is_current st f u ≡ false
+    → IsMade c (step c st e.event).state es f u recording → IsMade c st (e ∷ es) f u recording
 made_more c st e es f u recording off made = record {
   mux = made.mux;
   begun = record {
-    packets = subst (λ (l : List (List ℕ)). BeginsTold (l ++ current_from c (step c st e.event).state es f u) (told_all recording made.mux)) (sym (current_none st e.event f u off)) made.begun.packets;
+    packets = subst (λ (l : List (List ℕ)). BeginsTold (l ++ current_from c (step c st e.event).state es f u) (told_all recording made.mux))
+        (sym (current_none st e.event f u off)) made.begun.packets;
     streams = splits_more c st e es f u made.mux (λ packet h on. cc) made.begun.streams;
   };
 }
@@ -558,7 +607,8 @@ has_come st f u = by (tune_of st f)
     by None = inr (λ g. cc)
     by (Some t) = at t (t == u) refl
 
-to_come_after : (st st1 : State) (f u n : ℕ) → HasRoom st f (suc n) → Keeps f st st1 ⊎ Anew f st st1 → IsToCome st f u → (tune_of st1 f ≡ Some u → ⊥) → IsToCome st1 f u
+to_come_after : (st st1 : State) (f u n : ℕ) → HasRoom st f (suc n) → Keeps f st st1 ⊎ Anew f st st1 → IsToCome st f u → (tune_of st1 f ≡ Some u → ⊥)
+    → IsToCome st1 f u
 to_come_after st st1 f u n room (inl k) later other t e = later t (sym k.tune ∙ e)
 to_come_after st st1 f u n room (inr k) later other t e = by (t == u) refl
   where
@@ -570,16 +620,25 @@ to_come_after st st1 f u n room (inr k) later other t e = by (t == u) refl
     by false g = let less : old.0 < u = later old.0 old.1 in let differs : t ≡ u → ⊥ = eqb-false t u g in omega (arith, less, old.2, differs)
 
 -- at the moment that a tuning number has come
-come : (c : Config) (caller f u : ℕ) (recording : Recordings) (es : List Item) (st : State) (due next : Due) (early : ℕ) (m : ℕ) → AreFronts c st → LegalFrom c st es → PacketsAreOf caller f es
-    → Pumps f recording due (own_of caller es) next early → HasRoom st f (length es) → tune_of st f ≡ Some u → IsReady st f u m (reel_of due) → left_in recording (reel_of due) m u ≡ told_all recording m → IsMade c st es f u recording
+come : (c : Config) (caller f u : ℕ) (recording : Recordings) (es : List Item) (st : State) (due next : Due) (early : ℕ) (m : ℕ) → AreFronts c st
+    → LegalFrom c st es → PacketsAreOf caller f es
+    → Pumps f recording due (own_of caller es) next early → HasRoom st f (length es) → tune_of st f ≡ Some u → IsReady st f u m (reel_of due)
+    → left_in recording (reel_of due) m u ≡ told_all recording m → IsMade c st es f u recording
 come c caller f u recording es st due next early m fronts legal of pumps room now ready left =
     let b : IsBegun c st es f u m (left_in recording (reel_of due) m u) =
-    begun c caller f u m recording es st due next early fronts legal of pumps room (λ t e. let both : Some u ≡ Some t = sym now ∙ e in let is : u ≡ t = cc in omega (arith, is)) ready in
-    record { mux = m; begun = record { packets = subst (λ (l : Option (List (List ℕ))). BeginsTold (current_from c st es f u) l) left b.packets; streams = b.streams } }
+    begun c caller f u m recording es st due next early fronts legal of pumps room
+    (λ t e. let both : Some u ≡ Some t = sym now ∙ e in let is : u ≡ t = cc in omega (arith, is)) ready in
+    record {
+      mux = m;
+      begun =
+          record { packets = subst (λ (l : Option (List (List ℕ))). BeginsTold (current_from c st es f u) l) left b.packets; streams = b.streams };
+    }
 
 -- at an answer by which the tuning number has come
-come_heard : (st : State) (f u : ℕ) (recording : Recordings) (o : Option Reel) → NoLater st f o → ((r : Reel) → o ≡ Some r → r.tune ≡ u → ⊥) → tune_of st f ≡ Some u → (w : Work) → work st f ≡ w
-    → IsReady st f u (unwrap_or (mux_at st f) 0) (reel_of (after_work recording o w)) × (left_in recording (reel_of (after_work recording o w)) (unwrap_or (mux_at st f) 0) u ≡ told_all recording (unwrap_or (mux_at st f) 0))
+come_heard : (st : State) (f u : ℕ) (recording : Recordings) (o : Option Reel) → NoLater st f o → ((r : Reel) → o ≡ Some r → r.tune ≡ u → ⊥)
+    → tune_of st f ≡ Some u → (w : Work) → work st f ≡ w
+    → IsReady st f u (unwrap_or (mux_at st f) 0) (reel_of (after_work recording o w))
+    × (left_in recording (reel_of (after_work recording o w)) (unwrap_or (mux_at st f) 0) u ≡ told_all recording (unwrap_or (mux_at st f) 0))
 unfolding reel_of
 come_heard st f u recording o no_later other now Nothing e = (ready_other st f u o no_later other, left_other recording o (unwrap_or (mux_at st f) 0) u other)
 come_heard st f u recording o no_later other now Stopping e = (record { tunes = λ r t g h. cc; mux = λ on. refl; reel = λ r g h on. cc }, refl)
@@ -594,9 +653,12 @@ come_heard st f u recording o no_later other now (Tune k v) e =
           ∙ left_tuned recording o (unwrap_or (mux_at st f) 0) u ∙ left_other recording o (unwrap_or (mux_at st f) 0) u other,
     )
 
-to_come : (c : Config) (caller f u : ℕ) (recording : Recordings) (es : List Item) (st : State) (due next : Due) (early : ℕ) → AreFronts c st → LegalFrom c st es → PacketsAreOf caller f es
-    → Pumps f recording due (own_of caller es) next early → HasRoom st f (length es) → IsToCome st f u → NoLater st f (reel_of due) → IsMade c st es f u recording
-to_come c caller f u recording [] st due next early fronts legal of pumps room later no_later = record { mux = 0; begun = record { packets = begins_nothing (told_all recording 0); streams = splits_none c st f u 0 } }
+to_come : (c : Config) (caller f u : ℕ) (recording : Recordings) (es : List Item) (st : State) (due next : Due) (early : ℕ) → AreFronts c st → LegalFrom c st es
+    → PacketsAreOf caller f es
+    → Pumps f recording due (own_of caller es) next early → HasRoom st f (length es) → IsToCome st f u → NoLater st f (reel_of due)
+    → IsMade c st es f u recording
+to_come c caller f u recording [] st due next early fronts legal of pumps room later no_later =
+    record { mux = 0; begun = record { packets = begins_nothing (told_all recording 0); streams = splits_none c st f u 0 } }
 to_come c caller f u recording (e ∷ es) st due next early fronts legal of pumps room later no_later =
     made_more c st e es f u recording (off_to_come st f u later) (by (e.caller == caller) refl pumps
     (λ d n p h k. to_come c caller f u recording es st1 d next n shifts.fronts legal.1 of.1 p room1 h k))
@@ -611,7 +673,8 @@ to_come c caller f u recording (e ∷ es) st due next early fronts legal of pump
     room1 = room_after st st1 f (length es) room (shifts.each f)
 
     by : (b : Bool) → (e.caller == caller) ≡ b → Pumps f recording due (kept_if b e (own_of caller es)) next early
-        → ((d : Due) (n : ℕ) → Pumps f recording d (own_of caller es) next n → IsToCome st1 f u → NoLater st1 f (reel_of d) → IsMade c st1 es f u recording) → IsMade c st1 es f u recording
+        → ((d : Due) (n : ℕ) → Pumps f recording d (own_of caller es) next n → IsToCome st1 f u → NoLater st1 f (reel_of d) → IsMade c st1 es f u recording)
+        → IsMade c st1 es f u recording
     by false g pumps rest = at (has_come st1 f u)
       where
         no_later1 : NoLater st1 f (reel_of due)
@@ -620,7 +683,8 @@ to_come c caller f u recording (e ∷ es) st due next early fronts legal of pump
         at : (tune_of st1 f ≡ Some u) ⊎ (tune_of st1 f ≡ Some u → ⊥) → IsMade c st1 es f u recording
         at (inl now) =
             let other = not_of st st1 f u (length es) (reel_of due) room (shifts.each f) later no_later now in
-            come c caller f u recording es st1 due next early (unwrap_or (mux_at st1 f) 0) shifts.fronts legal.1 of.1 pumps room1 now (ready_other st1 f u (reel_of due) no_later1 other)
+            come c caller f u recording es st1 due next early (unwrap_or (mux_at st1 f) 0) shifts.fronts legal.1 of.1 pumps room1 now
+            (ready_other st1 f u (reel_of due) no_later1 other)
             (left_other recording (reel_of due) (unwrap_or (mux_at st1 f) 0) u other)
         at (inr not_yet) = rest due early pumps (to_come_after st st1 f u (length es) room (shifts.each f) later not_yet) no_later1
     by true g pumps rest = at (has_come st1 f u)
@@ -635,7 +699,8 @@ to_come c caller f u recording (e ∷ es) st due next early fronts legal of pump
         answer = legal.0.answer ∙ answer_is c st f due e.event pumps.0
 
         pumps1 : Pumps f recording (after_work recording o w) (own_of caller es) next pumps.1.0
-        pumps1 = subst (λ (d : Due). Pumps f recording d (own_of caller es) next pumps.1.0) (due_after recording f due e pumps.0 ∙ ap (λ a. after_work recording o (work_told a)) answer) pumps.1.1
+        pumps1 = subst (λ (d : Due). Pumps f recording d (own_of caller es) next pumps.1.0)
+            (due_after recording f due e pumps.0 ∙ ap (λ a. after_work recording o (work_told a)) answer) pumps.1.1
 
         no_later0 : NoLater st f o
         no_later0 = no_later_seen st f due e.event no_later
@@ -646,8 +711,10 @@ to_come c caller f u recording (e ∷ es) st due next early fronts legal of pump
         at : (tune_of st1 f ≡ Some u) ⊎ (tune_of st1 f ≡ Some u → ⊥) → IsMade c st1 es f u recording
         at (inl now) =
             let both = come_heard st1 f u recording o no_later1 (not_of st st1 f u (length es) o room (shifts.each f) later no_later0 now) now w refl in
-            come c caller f u recording es st1 (after_work recording o w) next pumps.1.0 (unwrap_or (mux_at st1 f) 0) shifts.fronts legal.1 of.1 pumps1 room1 now both.0 both.1
-        at (inr not_yet) = rest (after_work recording o w) pumps.1.0 pumps1 (to_come_after st st1 f u (length es) room (shifts.each f) later not_yet) (no_later_work st1 f recording o no_later1 w refl)
+            come c caller f u recording es st1 (after_work recording o w) next pumps.1.0 (unwrap_or (mux_at st1 f) 0) shifts.fronts legal.1 of.1 pumps1 room1
+            now both.0 both.1
+        at (inr not_yet) = rest (after_work recording o w) pumps.1.0 pumps1 (to_come_after st st1 f u (length es) room (shifts.each f) later not_yet)
+            (no_later_work st1 f recording o no_later1 w refl)
 
 -- the opening
 

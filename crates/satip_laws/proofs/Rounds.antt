@@ -24,7 +24,8 @@ pub record Round (s : SessionId) (turn : Session → Turn) (xs : List Session) :
   pub found : look s (after_of turn xs) ≡ option_and_then (λ x. (turn x).after) (look s xs)
   pub tells : told s (sends_of turn xs) ≡ option_map_or (λ x. told s (turn x).sends) (look s xs) []
 
-found_here : (s : SessionId) (x : Session) (t : Turn) (ys : List Session) → IsOwn x t → same_id x.id s ≡ true → look s ys ≡ None → look s (cons_option t.after ys) ≡ t.after
+found_here : (s : SessionId) (x : Session) (t : Turn) (ys : List Session) → IsOwn x t → same_id x.id s ≡ true → look s ys ≡ None
+    → look s (cons_option t.after ys) ≡ t.after
 found_here s x t ys own e none = by t.after refl
   where
     by : (o : Option Session) → t.after ≡ o → look s (cons_option o ys) ≡ o
@@ -57,7 +58,8 @@ pub round : (s : SessionId) (turn : Session → Turn) → ((x : Session) → IsO
 round s turn own [] apart = record { found = refl; tells = refl }
 round s turn own (x ∷ xs) apart = round_step s turn x xs (own x) apart.0 (round s turn own xs apart.1) (same_id x.id s) refl
 
-apart_cons : (o : Option Session) (i : SessionId) (ys : List Session) → ((y : Session) → o ≡ Some y → y.id ≡ i) → look i ys ≡ None → Apart ys → Apart (cons_option o ys)
+apart_cons : (o : Option Session) (i : SessionId) (ys : List Session) → ((y : Session) → o ≡ Some y → y.id ≡ i) → look i ys ≡ None → Apart ys
+    → Apart (cons_option o ys)
 apart_cons None i ys same none apart = apart
 apart_cons (Some y) i ys same none apart = (rw (same y refl) none, apart)
 
@@ -68,7 +70,8 @@ round_apart turn own (x ∷ xs) apart =
     apart_cons (turn x).after x.id (after_of turn xs) (own x).id
     ((round x.id turn own xs apart.1).found ∙ (rw apart.0 refl)) (round_apart turn own xs apart.1)
 
-below_cons : (made : ℕ) (o : Option Session) (x : Session) (ys : List Session) → ((y : Session) → o ≡ Some y → y.id ≡ x.id) → x.id.count ≤ made → Below made ys → Below made (cons_option o ys)
+below_cons : (made : ℕ) (o : Option Session) (x : Session) (ys : List Session) → ((y : Session) → o ≡ Some y → y.id ≡ x.id) → x.id.count ≤ made → Below made ys
+    → Below made (cons_option o ys)
 below_cons made None x ys same few below = below
 below_cons made (Some y) x ys same few below = (rw (same y refl) few, below)
 

@@ -21,12 +21,15 @@ many_filter : (p : Stream → Bool) (n : ℕ) (ts : List Stream) → many n (fil
 many_filter p n [] = omega arith
 many_filter p n (t ∷ ts) = by (p t) (has_number n t) (many_filter p n ts)
   where
-    more : (b : Bool) → many n (filter p ts) ≤ many n ts → length (cond b (t ∷ filter (has_number n) (filter p ts)) (filter (has_number n) (filter p ts))) ≤ length (cond b (t ∷ filter (has_number n) ts) (filter (has_number n) ts))
+    more : (b : Bool) → many n (filter p ts) ≤ many n ts
+        → length (cond b (t ∷ filter (has_number n) (filter p ts)) (filter (has_number n) (filter p ts)))
+        ≤ length (cond b (t ∷ filter (has_number n) ts) (filter (has_number n) ts))
     more true le = omega (arith, le)
     more false le = le
 
     by : (a b : Bool) → many n (filter p ts) ≤ many n ts
-        → length (filter (has_number n) (cond a (t ∷ filter p ts) (filter p ts))) ≤ length (cond (has_number n t) (t ∷ filter (has_number n) ts) (filter (has_number n) ts))
+        → length (filter (has_number n) (cond a (t ∷ filter p ts) (filter p ts)))
+        ≤ length (cond (has_number n t) (t ∷ filter (has_number n) ts) (filter (has_number n) ts))
     by true b le = more (has_number n t) le
     by false b le = less (has_number n t) le
       where
@@ -43,7 +46,9 @@ many_map f same n (t ∷ ts) =
     ap (λ b. length (cond b (f t ∷ filter (has_number n) (map f ts)) (filter (has_number n) (map f ts)))) (ap (λ m. m == n) (same t))
     ∙ by (t.number == n) (many_map f same n ts)
   where
-    by : (b : Bool) → many n (map f ts) ≡ many n ts → length (cond b (f t ∷ filter (has_number n) (map f ts)) (filter (has_number n) (map f ts))) ≡ length (cond b (t ∷ filter (has_number n) ts) (filter (has_number n) ts))
+    by : (b : Bool) → many n (map f ts) ≡ many n ts
+        → length (cond b (f t ∷ filter (has_number n) (map f ts)) (filter (has_number n) (map f ts)))
+        ≡ length (cond b (t ∷ filter (has_number n) ts) (filter (has_number n) ts))
     by true e = ap suc e
     by false e = e
 
@@ -63,7 +68,8 @@ many_split p n (t ∷ ts) = by (p t) (has_number n t) refl (many_split p n ts)
     b = filter (λ t. not (p t)) ts
 
     by : (q r : Bool) → has_number n t ≡ r → many n a + many n b ≡ many n ts
-        → length (filter (has_number n) (cond q (t ∷ a) a)) + length (filter (has_number n) (cond (not q) (t ∷ b) b)) ≡ length (cond (has_number n t) (t ∷ filter (has_number n) ts) (filter (has_number n) ts))
+        → length (filter (has_number n) (cond q (t ∷ a) a)) + length (filter (has_number n) (cond (not q) (t ∷ b) b))
+        ≡ length (cond (has_number n t) (t ∷ filter (has_number n) ts) (filter (has_number n) ts))
     by true true e rest = rw e (omega (arith, rest))
     by true false e rest = rw e rest
     by false true e rest = rw e (omega (arith, rest))
@@ -153,7 +159,8 @@ any_many : (n : ℕ) (ts : List Stream) → list_any (λ t. t.number == n) ts �
 any_many n [] e = cc
 any_many n (t ∷ ts) e = by (t.number == n) e (λ f. any_many n ts f)
   where
-    by : (b : Bool) → (b || list_any (λ t. t.number == n) ts) ≡ true → (list_any (λ t. t.number == n) ts ≡ true → 1 ≤ many n ts) → 1 ≤ length (cond b (t ∷ filter (has_number n) ts) (filter (has_number n) ts))
+    by : (b : Bool) → (b || list_any (λ t. t.number == n) ts) ≡ true → (list_any (λ t. t.number == n) ts ≡ true → 1 ≤ many n ts)
+        → 1 ≤ length (cond b (t ∷ filter (has_number n) ts) (filter (has_number n) ts))
     by true f rest = omega arith
     by false f rest = rest f
 
@@ -161,7 +168,8 @@ none_many : (n : ℕ) (ts : List Stream) → list_any (λ t. t.number == n) ts �
 none_many n [] e = refl
 none_many n (t ∷ ts) e = by (t.number == n) e (λ f. none_many n ts f)
   where
-    by : (b : Bool) → (b || list_any (λ t. t.number == n) ts) ≡ false → (list_any (λ t. t.number == n) ts ≡ false → many n ts ≡ 0) → length (cond b (t ∷ filter (has_number n) ts) (filter (has_number n) ts)) ≡ 0
+    by : (b : Bool) → (b || list_any (λ t. t.number == n) ts) ≡ false → (list_any (λ t. t.number == n) ts ≡ false → many n ts ≡ 0)
+        → length (cond b (t ∷ filter (has_number n) ts) (filter (has_number n) ts)) ≡ 0
     by true f rest = cc
     by false f rest = rest f
 
@@ -182,7 +190,8 @@ free_found : (ts : List Stream) (ns : List ℕ) (n : ℕ) → find (is_free ts) 
 free_found ts [] n e = cc
 free_found ts (m ∷ ns) n e = by (list_any (λ t. t.number == m) ts) refl e (λ f. free_found ts ns n f)
   where
-    by : (b : Bool) → list_any (λ t. t.number == m) ts ≡ b → (if not b then Some m else find (is_free ts) ns) ≡ Some n → (find (is_free ts) ns ≡ Some n → many n ts ≡ 0) → many n ts ≡ 0
+    by : (b : Bool) → list_any (λ t. t.number == m) ts ≡ b → (if not b then Some m else find (is_free ts) ns) ≡ Some n
+        → (find (is_free ts) ns ≡ Some n → many n ts ≡ 0) → many n ts ≡ 0
     by true f g rest = rest g
     by false f g rest = let same : m ≡ n = cc in rw (← same) (none_many m ts f)
 

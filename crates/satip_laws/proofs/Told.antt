@@ -23,7 +23,8 @@ told s (d ∷ sent) = told_before s d (told s sent)
 told_before-append : (s : SessionId) (d : Sent) (xs ys : List Told) → told_before s d (xs ++ ys) ≡ told_before s d xs ++ ys
 told_before-append s (Rtp id to number clock ssrc packets) xs ys = by (same_id id s)
   where
-    by : (b : Bool) → (if b then record { number = number; ssrc = ssrc; packets = packets } ∷ (xs ++ ys) else (xs ++ ys)) ≡ (if b then record { number = number; ssrc = ssrc; packets = packets } ∷ xs else xs) ++ ys
+    by : (b : Bool) → (if b then record { number = number; ssrc = ssrc; packets = packets } ∷ (xs ++ ys) else (xs ++ ys))
+        ≡ (if b then record { number = number; ssrc = ssrc; packets = packets } ∷ xs else xs) ++ ys
     by true = refl
     by false = refl
 told_before-append s (Report id view sender) xs ys = refl
@@ -42,7 +43,8 @@ numbers_in ts = map (λ t. t.number) ts
 packets_one : (s : SessionId) (d : Sent) (ts : List Told) → packets_in (told_before s d ts) ≡ packets_for s d ++ packets_in ts
 packets_one s (Rtp id to number clock ssrc packets) ts = by (same_id id s)
   where
-    by : (b : Bool) → packets_in (if b then record { number = number; ssrc = ssrc; packets = packets } ∷ ts else ts) ≡ (if b then packets else []) ++ packets_in ts
+    by : (b : Bool) → packets_in (if b then record { number = number; ssrc = ssrc; packets = packets } ∷ ts else ts)
+        ≡ (if b then packets else []) ++ packets_in ts
     by true = refl
     by false = refl
 packets_one s (Report id view sender) ts = refl
@@ -54,7 +56,8 @@ packets_told s (d ∷ sent) = ap (λ ps. packets_for s d ++ ps) (packets_told s 
 numbers_one : (s : SessionId) (d : Sent) (ts : List Told) → numbers_in (told_before s d ts) ≡ numbered_before s d (numbers_in ts)
 numbers_one s (Rtp id to number clock ssrc packets) ts = by (same_id id s)
   where
-    by : (b : Bool) → numbers_in (if b then record { number = number; ssrc = ssrc; packets = packets } ∷ ts else ts) ≡ (if b then number ∷ numbers_in ts else numbers_in ts)
+    by : (b : Bool) → numbers_in (if b then record { number = number; ssrc = ssrc; packets = packets } ∷ ts else ts)
+        ≡ (if b then number ∷ numbers_in ts else numbers_in ts)
     by true = refl
     by false = refl
 numbers_one s (Report id view sender) ts = refl
@@ -68,7 +71,8 @@ abbrev pub told_of : ℕ → ℕ → ℕ → List (List (List ℕ)) → List Tol
 told_of first ssrc n [] = []
 told_of first ssrc n (g ∷ gs) = record { number = (first + n) % 65536; ssrc = ssrc; packets = g } ∷ told_of first ssrc (n + 1) gs
 
-pub told_of-append : (first ssrc n : ℕ) (gs hs : List (List (List ℕ))) → told_of first ssrc n gs ++ told_of first ssrc (n + length gs) hs ≡ told_of first ssrc n (gs ++ hs)
+pub told_of-append : (first ssrc n : ℕ) (gs hs : List (List (List ℕ)))
+    → told_of first ssrc n gs ++ told_of first ssrc (n + length gs) hs ≡ told_of first ssrc n (gs ++ hs)
 told_of-append first ssrc n [] hs = let a : n + 0 ≡ n = omega arith in rw a refl
 told_of-append first ssrc n (g ∷ gs) hs =
     let a : n + suc (length gs) ≡ (n + 1) + length gs = omega arith in

@@ -46,9 +46,11 @@ some_turn p turn x takes = by (p x) refl
 -- what datagrams tell
 as_rtp_own : (clock : ℕ) (x : Session) (n : ℕ) (groups : List (List (List ℕ))) → told x.id (as_rtp clock x n groups) ≡ told_of x.first x.ssrc n groups
 as_rtp_own clock x n [] = refl
-as_rtp_own clock x n (g ∷ gs) = rw (id_same x.id) (ap (λ ts. record { number = (x.first + n) % 65536; ssrc = x.ssrc; packets = g } ∷ ts) (as_rtp_own clock x (n + 1) gs))
+as_rtp_own clock x n (g ∷ gs) = rw (id_same x.id)
+    (ap (λ ts. record { number = (x.first + n) % 65536; ssrc = x.ssrc; packets = g } ∷ ts) (as_rtp_own clock x (n + 1) gs))
 
-as_rtp_other : (s : SessionId) (clock : ℕ) (x : Session) (n : ℕ) (groups : List (List (List ℕ))) → same_id x.id s ≡ false → told s (as_rtp clock x n groups) ≡ []
+as_rtp_other : (s : SessionId) (clock : ℕ) (x : Session) (n : ℕ) (groups : List (List (List ℕ))) → same_id x.id s ≡ false
+    → told s (as_rtp clock x n groups) ≡ []
 as_rtp_other s clock x n [] e = refl
 as_rtp_other s clock x n (g ∷ gs) e = rw e (as_rtp_other s clock x (n + 1) gs e)
 
@@ -141,7 +143,8 @@ report_none s c st x = by (stream_of st x.stream)
     by None = refl
     by (Some t) = refl
 
-pub report_takes : (c : Config) (st : State) (x : Session) → Takes x (record { sends = report_of c st x; after = Some (record x { reported = Some st.clock }) }) []
+pub report_takes : (c : Config) (st : State) (x : Session)
+    → Takes x (record { sends = report_of c st x; after = Some (record x { reported = Some st.clock }) }) []
 report_takes c st x =
     let y : Session = record x { reported = Some st.clock } in
     let kept : IsKept x y = record { id = refl; http = refl; stream = refl; ssrc = refl; first = refl } in
@@ -215,7 +218,8 @@ given_rtsp clock packet x rtsp =
     }
 
 given_by : (clock : ℕ) (packet : List ℕ) (x : Session) (b : Bool) → x.http ≡ b
-    → Takes x (if b then record { sends = []; after = Some (if b && length (held x) == most_queued then x else more_of packet x) } else let_go false clock (more_of packet x))
+    → Takes x (if b then record { sends = []; after = Some (if b && length (held x) == most_queued then x else more_of packet x) }
+    else let_go false clock (more_of packet x))
     (got_unless (b && length (held x) == most_queued) packet)
 given_by clock packet x true e = given_http packet x e (length (held x) == most_queued) refl
 given_by clock packet x false e = given_rtsp clock packet x e

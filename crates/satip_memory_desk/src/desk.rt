@@ -169,8 +169,8 @@ impl MemoryDesk {
         self.laid = Some(Laid { accepts, jobs });
     }
 
-    /// Lets the jobs below this number have journals. In that of one of them the put with the number
-    /// `failing_put`, from 1, fails and passes five bytes at most.
+    /// Lets the jobs below this number have journals. In that of one of them the put with the
+    /// number `failing_put`, from 1, fails and passes five bytes at most.
     pub fn open_journals(&mut self, jobs: u64, failing_job: u64, failing_put: u64)
         ensures opened { self.new ≡ record self.old { journals = jobs } }
     {

@@ -46,8 +46,9 @@ fn turns(told: &mut ChannelReply, reply: &[u8], want: &[u8]) -> bool {
 #[test]
 fn setup_asks_for_channels(rt: HostRuntime) -> Result<(), Fail> {
     worked_transports();
-    let text =
-        b"SETUP rtsp://h/?src=1 RTSP/1.0\r\nCSeq: 1\r\nTransport: RTP/AVP/TCP;unicast;interleaved=0-1\r\n\r\n";
+    let text = b"SETUP rtsp://h/?src=1 RTSP/1.0\r\n\
+        CSeq: 1\r\n\
+        Transport: RTP/AVP/TCP;unicast;interleaved=0-1\r\n\r\n";
     assert_eq!(rt;
         ports_of(rt.alloc(), text)?,
         Some(Ports { rtp: 1, rtcp: 2 })
@@ -56,8 +57,9 @@ fn setup_asks_for_channels(rt: HostRuntime) -> Result<(), Fail> {
         ports_over(rt.alloc(), text)?,
         Some(Ports { rtp: 1, rtcp: 2 })
     );
-    let text =
-        b"SETUP rtsp://h/?src=1 RTSP/1.0\r\nCSeq: 1\r\nTransport: RTP/AVP;unicast;client_port=1400-1401\r\n\r\n";
+    let text = b"SETUP rtsp://h/?src=1 RTSP/1.0\r\n\
+        CSeq: 1\r\n\
+        Transport: RTP/AVP;unicast;client_port=1400-1401\r\n\r\n";
     assert_eq!(rt; ports_of(rt.alloc(), text)?, None);
     let text =
         b"PLAY rtsp://h/ RTSP/1.0\r\nCSeq: 1\r\nTransport: RTP/AVP/TCP;interleaved=0-1\r\n\r\n";
@@ -75,10 +77,16 @@ fn setup_asks_for_channels(rt: HostRuntime) -> Result<(), Fail> {
 fn reply_to_setup_tells_channels(rt: HostRuntime) -> Result<(), Fail> {
     worked_replies();
     let mut told = ChannelReply::make(rt.alloc())?;
-    let reply: &[u8] =
-        b"RTSP/1.0 200 OK\r\nCSeq: 1\r\nSession: 000000010000000a;timeout=60\r\nTransport: RTP/AVP;unicast;client_port=1-256\r\ncom.ses.streamID: 1\r\n\r\n";
-    let want: &[u8] =
-        b"RTSP/1.0 200 OK\r\nCSeq: 1\r\nSession: 000000010000000a;timeout=60\r\nTransport: RTP/AVP/TCP;unicast;interleaved=0-255\r\ncom.ses.streamID: 1\r\n\r\n";
+    let reply: &[u8] = b"RTSP/1.0 200 OK\r\n\
+        CSeq: 1\r\n\
+        Session: 000000010000000a;timeout=60\r\n\
+        Transport: RTP/AVP;unicast;client_port=1-256\r\n\
+        com.ses.streamID: 1\r\n\r\n";
+    let want: &[u8] = b"RTSP/1.0 200 OK\r\n\
+        CSeq: 1\r\n\
+        Session: 000000010000000a;timeout=60\r\n\
+        Transport: RTP/AVP/TCP;unicast;interleaved=0-255\r\n\
+        com.ses.streamID: 1\r\n\r\n";
     assert!(rt; turns(&mut told, reply, want));
     Ok(())
 }
@@ -86,8 +94,10 @@ fn reply_to_setup_tells_channels(rt: HostRuntime) -> Result<(), Fail> {
 #[test]
 fn other_replies_stay(rt: HostRuntime) -> Result<(), Fail> {
     let mut told = ChannelReply::make(rt.alloc())?;
-    let play: &[u8] =
-        b"RTSP/1.0 200 OK\r\nCSeq: 2\r\nSession: 000000010000000a\r\nRTP-Info: url=rtsp://192.168.1.10/stream=1;seq=65535\r\n\r\n";
+    let play: &[u8] = b"RTSP/1.0 200 OK\r\n\
+        CSeq: 2\r\n\
+        Session: 000000010000000a\r\n\
+        RTP-Info: url=rtsp://192.168.1.10/stream=1;seq=65535\r\n\r\n";
     assert!(rt; turns(&mut told, play, play));
     let body: &[u8] = b"RTSP/1.0 200 OK\r\n\r\nTransport: RTP/AVP;unicast;client_port=1-2\r\n\r\n";
     assert!(rt; turns(&mut told, body, body));

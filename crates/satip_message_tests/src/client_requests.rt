@@ -12,8 +12,9 @@ fn requests_are_these_bytes(rt: HostRuntime) -> Result<(), Fail> {
         page.write_setup(ADDRESS, b"src=1&freq=12402&pids=all", 65534)
             .is_ok()
     );
-    let text: &[u8] =
-        b"SETUP rtsp://127.0.0.1:18554/?src=1&freq=12402&pids=all RTSP/1.0\r\nCSeq: 1\r\nTransport: RTP/AVP;unicast;client_port=65534-65535\r\n\r\n";
+    let text: &[u8] = b"SETUP rtsp://127.0.0.1:18554/?src=1&freq=12402&pids=all RTSP/1.0\r\n\
+        CSeq: 1\r\n\
+        Transport: RTP/AVP;unicast;client_port=65534-65535\r\n\r\n";
     assert!(rt; page.bytes() == text);
     assert!(rt; page.write_play(ADDRESS, 65535, b"1a2b").is_ok());
     let text: &[u8] =
@@ -24,8 +25,9 @@ fn requests_are_these_bytes(rt: HostRuntime) -> Result<(), Fail> {
         b"OPTIONS rtsp://127.0.0.1:18554/ RTSP/1.0\r\nCSeq: 3\r\nSession: 1a2b\r\n\r\n";
     assert!(rt; page.bytes() == text);
     assert!(rt; page.write_teardown(ADDRESS, 0, 4294967295, b"1a2b").is_ok());
-    let text: &[u8] =
-        b"TEARDOWN rtsp://127.0.0.1:18554/stream=0 RTSP/1.0\r\nCSeq: 4294967295\r\nSession: 1a2b\r\n\r\n";
+    let text: &[u8] = b"TEARDOWN rtsp://127.0.0.1:18554/stream=0 RTSP/1.0\r\n\
+        CSeq: 4294967295\r\n\
+        Session: 1a2b\r\n\r\n";
     assert!(rt; page.bytes() == text);
     Ok(())
 }

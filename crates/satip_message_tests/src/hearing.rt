@@ -31,7 +31,11 @@ fn a_text_in_two_pieces_asks_three_times(rt: HostRuntime) -> Result<(), Fail> {
     let mut piece = Piece::new(b"OPTIONS * RTSP/1.0\r\nCSe");
     assert!(rt; !asks_more(&mut framer, &mut piece, &mut request)?);
     let mut piece = Piece::new(
-        b"q: 1\r\n\r\n\r\nPLAY / RTSP/1.0\r\nCSeq: 2\r\n\r\nno message\r\n\r\nOPTIONS * RTSP/1.0\r\n\r\n",
+        b"q: 1\r\n\r\n\r\n\
+        PLAY / RTSP/1.0\r\n\
+        CSeq: 2\r\n\r\n\
+        no message\r\n\r\n\
+        OPTIONS * RTSP/1.0\r\n\r\n",
     );
     assert!(rt; asks_more(&mut framer, &mut piece, &mut request)?);
     assert_eq!(rt; request.method, Method::Options);

@@ -115,8 +115,11 @@ fn heads_have_these_texts(rt: HostRuntime) -> Result<(), Fail> {
     assert_eq!(rt; out.reply(), text.as_slice());
     out.clear();
     write_refusal(503, Some(RefusalBody::NoMoreFrontends), &mut out);
-    let text =
-        b"HTTP/1.1 503 Service Unavailable\r\nConnection: close\r\nContent-Type: text/parameters\r\nContent-Length: 19\r\n\r\nNo-More:frontends\r\n";
+    let text = b"HTTP/1.1 503 Service Unavailable\r\n\
+        Connection: close\r\n\
+        Content-Type: text/parameters\r\n\
+        Content-Length: 19\r\n\r\n\
+        No-More:frontends\r\n";
     assert_eq!(rt; out.reply(), text.as_slice());
     out.clear();
     write_refusal(505, None, &mut out);

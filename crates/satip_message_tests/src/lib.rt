@@ -1,4 +1,5 @@
-//! Messages, requests, replies, reports and descriptions by example, those of a client too. It has nothing but tests.
+//! Messages, requests, replies, reports and descriptions by example, those of a client too. It has
+//! nothing but tests.
 #![tactic(auto)]
 
 #[cfg(test)]

@@ -34,7 +34,9 @@ const ROWS: &[(&str, &[Feed])] = &[
         "a dollar in a body is no frame",
         &[
             (
-                b"SET_PARAMETER * RTSP/1.0\r\nContent-Length: 5\r\n\r\n$\x00\x00\x09$$\x00\x00\x01$OPTIONS * RTSP/1.0\r\n\r\n",
+                b"SET_PARAMETER * RTSP/1.0\r\n\
+                Content-Length: 5\r\n\r\n\
+                $\x00\x00\x09$$\x00\x00\x01$OPTIONS * RTSP/1.0\r\n\r\n",
                 1,
                 Step::Message,
                 Some(b"SET_PARAMETER"),

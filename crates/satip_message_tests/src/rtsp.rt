@@ -54,8 +54,10 @@ fn read_over(alloc: Global, request: &mut Request, text: &[u8]) -> Result<(), Fa
 
 #[test]
 fn nothing_of_an_older_request_is_left(rt: HostRuntime) -> Result<(), Fail> {
-    let setup =
-        b"SETUP rtsp://h/stream=2?src=1&pids=0,16&addpids=17&delpids=18 RTSP/1.0\r\nCSeq: 3\r\nSession: 0000000a00000007\r\nTransport: RTP/AVP;unicast;client_port=1400-1401\r\n\r\n";
+    let setup = b"SETUP rtsp://h/stream=2?src=1&pids=0,16&addpids=17&delpids=18 RTSP/1.0\r\n\
+        CSeq: 3\r\n\
+        Session: 0000000a00000007\r\n\
+        Transport: RTP/AVP;unicast;client_port=1400-1401\r\n\r\n";
     let mut request = request_of(rt.alloc(), setup).ok_or("message")?;
     assert!(rt; request.ports.is_some() && request.stream == Some(2));
     for text in [
@@ -217,8 +219,10 @@ fn earlier_place_counts_for_each_method(rt: HostRuntime) -> Result<(), Fail> {
 // Of what a message requires 128 bytes are kept.
 #[test]
 fn long_requirement_is_cut(rt: HostRuntime) -> Result<(), Fail> {
-    let text =
-        b"OPTIONS * RTSP/1.0\r\nCSeq: 4\r\nRequire: aaaaaaaaaaaaaaaaaaaaaaaaaaaaaaaaaaaaaaaaaaaaaaaaaaaaaaaaaaaaaaaaaaaaaaaaaaaaaaaaaaaaaaaaaaaaaaaaaaaaaaaaaaaaaaaaaaaaaaaaaaaaaaaab\r\n\r\n";
+    let text = b"OPTIONS * RTSP/1.0\r\n\
+        CSeq: 4\r\n\
+        Require: aaaaaaaaaaaaaaaaaaaaaaaaaaaaaaaaaaaaaaaaaaaaaaaaaaaaaaaaaaaaaaaaaaaaaaaaaaaaaaaaaa\
+        aaaaaaaaaaaaaaaaaaaaaaaaaaaaaaaaaaaaaaaaaaaaaab\r\n\r\n";
     let request = request_of(rt.alloc(), text).ok_or("message")?;
     let kept = Short::of(&[b'a'; 128]);
     assert_eq!(rt; request.refusal, Some(Refusal::Require(kept)));
@@ -229,44 +233,70 @@ fn long_requirement_is_cut(rt: HostRuntime) -> Result<(), Fail> {
 fn transports_give_ports(rt: HostRuntime) -> Result<(), Fail> {
     for (text, ports) in [
         (
-            b"SETUP / RTSP/1.0\r\nCSeq: 4\r\nTransport: RTP/AVP;unicast;client_port=0-1 , rtp/avp/udp ;\tUNICAST; Client_Port=65535-1,x\r\n\r\n".as_slice(),
+            b"SETUP / RTSP/1.0\r\n\
+            CSeq: 4\r\n\
+            Transport: RTP/AVP;unicast;client_port=0-1 , \
+            rtp/avp/udp ;\tUNICAST; Client_Port=65535-1,x\r\n\r\n"
+                .as_slice(),
             Some(Ports {
                 rtp: 65535,
                 rtcp: 1,
             }),
         ),
         (
-            b"SETUP / RTSP/1.0\r\nCSeq: 4\r\nTransport: RTP/AVP;client_port=65534;client_port=1;unicast\r\n\r\n".as_slice(),
+            b"SETUP / RTSP/1.0\r\n\
+            CSeq: 4\r\n\
+            Transport: RTP/AVP;client_port=65534;client_port=1;unicast\r\n\r\n"
+                .as_slice(),
             Some(Ports {
                 rtp: 65534,
                 rtcp: 65535,
             }),
         ),
         (
-            b"SETUP / RTSP/1.0\r\nCSeq: 4\r\nTransport: RTP/AVP;unicast;client_port=65535\r\n\r\n".as_slice(),
+            b"SETUP / RTSP/1.0\r\n\
+            CSeq: 4\r\n\
+            Transport: RTP/AVP;unicast;client_port=65535\r\n\r\n"
+                .as_slice(),
             None,
         ),
         (
-            b"SETUP / RTSP/1.0\r\nCSeq: 4\r\nTransport: RTP/AVP;unicast;client_port=1400-\r\n\r\n".as_slice(),
+            b"SETUP / RTSP/1.0\r\n\
+            CSeq: 4\r\n\
+            Transport: RTP/AVP;unicast;client_port=1400-\r\n\r\n"
+                .as_slice(),
             None,
         ),
         (
-            b"SETUP / RTSP/1.0\r\nCSeq: 4\r\nTransport: RTP/AVP;multicast;client_port=2\r\n\r\n".as_slice(),
+            b"SETUP / RTSP/1.0\r\n\
+            CSeq: 4\r\n\
+            Transport: RTP/AVP;multicast;client_port=2\r\n\r\n"
+                .as_slice(),
             None,
         ),
         (
-            b"SETUP / RTSP/1.0\r\nCSeq: 4\r\nTransport: RTP/AVP/TCP;unicast;client_port=2,RTP/AVP/UDP;unicast;client_port=3\r\n\r\n".as_slice(),
+            b"SETUP / RTSP/1.0\r\n\
+            CSeq: 4\r\n\
+            Transport: RTP/AVP/TCP;unicast;client_port=2,RTP/AVP/UDP;unicast;client_port=3\r\n\r\n"
+                .as_slice(),
             Some(Ports { rtp: 3, rtcp: 4 }),
         ),
         (
-            b"SETUP / RTSP/1.0\r\nCSeq: 4\r\nTransport: RTP/AVP;unicast;client_port=1400-1401\r\nTransport: RTP/AVP;unicast;client_port=8\r\n\r\n".as_slice(),
+            b"SETUP / RTSP/1.0\r\n\
+            CSeq: 4\r\n\
+            Transport: RTP/AVP;unicast;client_port=1400-1401\r\n\
+            Transport: RTP/AVP;unicast;client_port=8\r\n\r\n"
+                .as_slice(),
             Some(Ports {
                 rtp: 1400,
                 rtcp: 1401,
             }),
         ),
         (
-            b"SETUP / RTSP/1.0\r\nCSeq: 4\r\nTransport: RTP/AVP;unicast;client_port=7-7\r\n\r\n".as_slice(),
+            b"SETUP / RTSP/1.0\r\n\
+            CSeq: 4\r\n\
+            Transport: RTP/AVP;unicast;client_port=7-7\r\n\r\n"
+                .as_slice(),
             Some(Ports { rtp: 7, rtcp: 7 }),
         ),
         (
@@ -275,7 +305,10 @@ fn transports_give_ports(rt: HostRuntime) -> Result<(), Fail> {
         ),
         (b"SETUP / RTSP/1.0\r\nCSeq: 4\r\n\r\n".as_slice(), None),
         (
-            b"PLAY / RTSP/1.0\r\nCSeq: 4\r\nTransport: RTP/AVP;unicast;client_port=2\r\n\r\n".as_slice(),
+            b"PLAY / RTSP/1.0\r\n\
+            CSeq: 4\r\n\
+            Transport: RTP/AVP;unicast;client_port=2\r\n\r\n"
+                .as_slice(),
             None,
         ),
     ] {
@@ -294,7 +327,10 @@ fn sessions_are_named(rt: HostRuntime) -> Result<(), Fail> {
             SessionName::Absent,
         ),
         (
-            b"PLAY / RTSP/1.0\r\nCSeq: 4\r\nSession: 000000010000000a\t; timeout=60\r\n\r\n".as_slice(),
+            b"PLAY / RTSP/1.0\r\n\
+            CSeq: 4\r\n\
+            Session: 000000010000000a\t; timeout=60\r\n\r\n"
+                .as_slice(),
             SessionName::Named(id),
         ),
         (
@@ -314,7 +350,11 @@ fn sessions_are_named(rt: HostRuntime) -> Result<(), Fail> {
             SessionName::Other,
         ),
         (
-            b"PLAY / RTSP/1.0\r\nCSeq: 4\r\nSession: 000000010000000a\r\nSession: 000000020000000b\r\n\r\n".as_slice(),
+            b"PLAY / RTSP/1.0\r\n\
+            CSeq: 4\r\n\
+            Session: 000000010000000a\r\n\
+            Session: 000000020000000b\r\n\r\n"
+                .as_slice(),
             SessionName::Named(id),
         ),
     ] {
@@ -380,7 +420,9 @@ const REPLIES: &[(Reply, &[u8])] = &[
     ),
     (
         Reply::OptionsOfSession,
-        b"RTSP/1.0 200 OK\r\nPublic: OPTIONS, DESCRIBE, SETUP, PLAY, TEARDOWN\r\nSession: 000000010000000a\r\n\r\n",
+        b"RTSP/1.0 200 OK\r\n\
+        Public: OPTIONS, DESCRIBE, SETUP, PLAY, TEARDOWN\r\n\
+        Session: 000000010000000a\r\n\r\n",
     ),
     (
         Reply::Bad,
@@ -396,31 +438,57 @@ const REPLIES: &[(Reply, &[u8])] = &[
     ),
     (
         Reply::Setup,
-        b"RTSP/1.0 200 OK\r\nCSeq: 2\r\nSession: 000000010000000a;timeout=60\r\nTransport: RTP/AVP;unicast;client_port=1400-1401\r\ncom.ses.streamID: 1\r\n\r\n",
+        b"RTSP/1.0 200 OK\r\n\
+        CSeq: 2\r\n\
+        Session: 000000010000000a;timeout=60\r\n\
+        Transport: RTP/AVP;unicast;client_port=1400-1401\r\n\
+        com.ses.streamID: 1\r\n\r\n",
     ),
     (
         Reply::Play,
-        b"RTSP/1.0 200 OK\r\nCSeq: 3\r\nSession: 000000010000000a\r\nRTP-Info: url=rtsp://192.168.1.10/stream=1;seq=65535\r\n\r\n",
+        b"RTSP/1.0 200 OK\r\n\
+        CSeq: 3\r\n\
+        Session: 000000010000000a\r\n\
+        RTP-Info: url=rtsp://192.168.1.10/stream=1;seq=65535\r\n\r\n",
     ),
     (
         Reply::Describe,
-        b"RTSP/1.0 200 OK\r\nCSeq: 4\r\nContent-Type: application/sdp\r\nContent-Base: rtsp://192.168.1.10/\r\nContent-Length: 189\r\n\r\n",
+        b"RTSP/1.0 200 OK\r\n\
+        CSeq: 4\r\n\
+        Content-Type: application/sdp\r\n\
+        Content-Base: rtsp://192.168.1.10/\r\n\
+        Content-Length: 189\r\n\r\n",
     ),
     (
         Reply::NotOwner,
-        b"RTSP/1.0 403 Forbidden\r\nCSeq: 5\r\nContent-Type: text/parameters\r\nContent-Length: 18\r\n\r\nNot-Owner:stream\r\n",
+        b"RTSP/1.0 403 Forbidden\r\n\
+        CSeq: 5\r\n\
+        Content-Type: text/parameters\r\n\
+        Content-Length: 18\r\n\r\n\
+        Not-Owner:stream\r\n",
     ),
     (
         Reply::CheckSyntax,
-        b"RTSP/1.0 400 Bad Request\r\nContent-Type: text/parameters\r\nContent-Length: 18\r\n\r\nCheck-Syntax:pol\r\n",
+        b"RTSP/1.0 400 Bad Request\r\n\
+        Content-Type: text/parameters\r\n\
+        Content-Length: 18\r\n\r\n\
+        Check-Syntax:pol\r\n",
     ),
     (
         Reply::OutOfRange,
-        b"RTSP/1.0 403 Forbidden\r\nCSeq: 8\r\nContent-Type: text/parameters\r\nContent-Length: 19\r\n\r\nOut-of-Range:pids\r\n",
+        b"RTSP/1.0 403 Forbidden\r\n\
+        CSeq: 8\r\n\
+        Content-Type: text/parameters\r\n\
+        Content-Length: 19\r\n\r\n\
+        Out-of-Range:pids\r\n",
     ),
     (
         Reply::NoMoreFrontends,
-        b"RTSP/1.0 503 Service Unavailable\r\nCSeq: 9\r\nContent-Type: text/parameters\r\nContent-Length: 19\r\n\r\nNo-More:frontends\r\n",
+        b"RTSP/1.0 503 Service Unavailable\r\n\
+        CSeq: 9\r\n\
+        Content-Type: text/parameters\r\n\
+        Content-Length: 19\r\n\r\n\
+        No-More:frontends\r\n",
     ),
     (
         Reply::Unsupported,

@@ -15,8 +15,15 @@ fn untuned(number: u16, playing: bool) -> StreamView {
     }
 }
 
-const ONE_STREAM: [u8; 189] =
-    *b"v=0\r\no=- 1 1 IN IP4 192.168.1.10\r\ns=SatIPServer:1 2\r\nt=0 0\r\nm=video 0 RTP/AVP 33\r\nc=IN IP4 0.0.0.0\r\na=control:stream=1\r\na=fmtp:33 ver=1.0;src=1;tuner=0,0,0,0,,,,,,,,;pids=none\r\na=inactive\r\n";
+const ONE_STREAM: [u8; 189] = *b"v=0\r\n\
+    o=- 1 1 IN IP4 192.168.1.10\r\n\
+    s=SatIPServer:1 2\r\n\
+    t=0 0\r\n\
+    m=video 0 RTP/AVP 33\r\n\
+    c=IN IP4 0.0.0.0\r\n\
+    a=control:stream=1\r\n\
+    a=fmtp:33 ver=1.0;src=1;tuner=0,0,0,0,,,,,,,,;pids=none\r\n\
+    a=inactive\r\n";
 
 #[test]
 fn an_untuned_stream_is_described(rt: HostRuntime) -> Result<(), Want> {

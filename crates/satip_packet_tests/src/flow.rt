@@ -50,8 +50,8 @@ fn sixteen() -> PidSet {
     pids
 }
 
-/// Two RTP sessions that select all PIDs of front end 1, the later stream's first, and one without a
-/// front end.
+/// Two RTP sessions that select all PIDs of front end 1, the later stream's first, and one without
+/// a front end.
 fn three_sessions(alloc: Global) -> Result<Flow, Fail> {
     let mut flow = Flow::make(alloc)?;
     let mut all = PidSet::new();

@@ -1,5 +1,5 @@
-//! What is true of all texts, and of every list of calls of a parter, as contracts of functions with
-//! an empty body.
+//! What is true of all texts, and of every list of calls of a parter, as contracts of functions
+//! with an empty body.
 ghost use Rattle.satip_parts.specs.Laws.{OneReading, HasReading, KeptByMoreBytes, FirstIsFirst, FramesCountNowhere, WholePartsAreRead};
 ghost use Rattle.satip_parts.specs.Calls.{PartsLaw};
 

@@ -120,7 +120,8 @@ unfolding members
 rising-members ws = rising-members_from ws 0 8192
 
 -- what a list with or without its low end has
-has_cases : (b h : Bool) (low n : ℕ) (rest : List ℕ) → (low ≡ n → h ≡ b) → ((low ≡ n → ⊥) → has_number rest n ≡ h) → (low ≡ n → has_number rest n ≡ false) → has_number (cond b (low ∷ rest) rest) n ≡ h
+has_cases : (b h : Bool) (low n : ℕ) (rest : List ℕ) → (low ≡ n → h ≡ b) → ((low ≡ n → ⊥) → has_number rest n ≡ h) → (low ≡ n → has_number rest n ≡ false)
+    → has_number (cond b (low ∷ rest) rest) n ≡ h
 has_cases true h low n rest at other none =
     elim (cases_eq low n) [
       | inl e ↦ rw (eq-eqb low n e) (sym (at e))
@@ -188,18 +189,21 @@ members-put ws us pid below bits =
     elim (cases_lt n 8192) [
       | inl lt ↦ has-members us n lt ∙ bits n ∙ ap (λ b. pid == n || b) (sym (has-members ws n lt)) ∙ sym (has-put pid n (members ws))
       | inr ge ↦
-          let none : has_number (put pid (members ws)) n ≡ false = has-put pid n (members ws) ∙ ap (λ b. b || has_number (members ws) n) (ne_eqb pid n (λ e. absurd (omega arith))) ∙ absent-members ws n ge in
+          let none : has_number (put pid (members ws)) n ≡ false =
+          has-put pid n (members ws) ∙ ap (λ b. b || has_number (members ws) n) (ne_eqb pid n (λ e. absurd (omega arith))) ∙ absent-members ws n ge in
           absent-members us n ge ∙ sym none
     ])
 
 -- one bit less is one number less
-pub members-without : (ws us : List ℕ) (pid : ℕ) → ((n : ℕ) → n < 8192 → has_bit us n ≡ (has_bit ws n && not (pid == n))) → members us ≡ without (members ws) (pid ∷ [])
+pub members-without : (ws us : List ℕ) (pid : ℕ) → ((n : ℕ) → n < 8192 → has_bit us n ≡ (has_bit ws n && not (pid == n)))
+    → members us ≡ without (members ws) (pid ∷ [])
 members-without ws us pid bits =
     let kept : ℕ → Bool = λ n. not (has_number (pid ∷ []) n) in
     same_numbers 0 (members us) (without (members ws) (pid ∷ [])) (rising-members us) (rising-filter kept 0 (members ws) (rising-members ws)) (λ n.
     elim (cases_lt n 8192) [
       | inl lt ↦
-          has-members us n lt ∙ bits n lt ∙ ap (λ b. has_bit ws n && not b) (sym (or_false (pid == n))) ∙ ap (λ b. b && kept n) (sym (has-members ws n lt)) ∙ sym (has-filter kept n (members ws))
+          has-members us n lt ∙ bits n lt ∙ ap (λ b. has_bit ws n && not b) (sym (or_false (pid == n))) ∙ ap (λ b. b && kept n) (sym (has-members ws n lt))
+          ∙ sym (has-filter kept n (members ws))
       | inr ge ↦
           absent-members us n ge ∙ sym (has-filter kept n (members ws) ∙ ap (λ b. b && kept n) (absent-members ws n ge))
     ])
@@ -207,14 +211,16 @@ members-without ws us pid bits =
 -- ---- the least number from a number on
 
 -- numbers whose bit isn't set are passed over
-pass : (ws : List ℕ) (passed low count high left : ℕ) → count ≡ passed + left → high ≡ low + passed → ((n : ℕ) → low ≤ n → n < high → has_bit ws n ≡ false) → members_from ws low count ≡ members_from ws high left
+pass : (ws : List ℕ) (passed low count high left : ℕ) → count ≡ passed + left → high ≡ low + passed → ((n : ℕ) → low ≤ n → n < high → has_bit ws n ≡ false)
+    → members_from ws low count ≡ members_from ws high left
 pass ws zero low count high left e f clear =
     let same_low : low ≡ high = omega arith in
     let same_count : count ≡ left = omega arith in
     ap (λ p. members_from ws p count) same_low ∙ ap (λ k. members_from ws high k) same_count
 pass ws (suc passed) low zero high left e f clear = absurd (omega arith)
 pass ws (suc passed) low (suc count) high left e f clear =
-    step_no ws low count (clear low (omega arith) (omega arith)) ∙ pass ws passed (suc low) count high left (omega arith) (omega arith) (λ n le lt. clear n (omega arith) lt)
+    step_no ws low count (clear low (omega arith) (omega arith))
+    ∙ pass ws passed (suc low) count high left (omega arith) (omega arith) (λ n le lt. clear n (omega arith) lt)
 
 pub above_none : (ws : List ℕ) (low : ℕ) → low ≤ 8192 → HasNoneFrom ws low → members_above ws low ≡ []
 unfolding members_above members_from
@@ -224,7 +230,8 @@ above_none ws low within none =
 pub above_next : (ws : List ℕ) (low next : ℕ) → IsNextFrom ws low next → members_above ws low ≡ next ∷ members_above ws (next + 1)
 unfolding members_above
 above_next ws low next is =
-    let to_next : members_from ws low (8192 - low) ≡ members_from ws next (suc (8192 - (next + 1))) = pass ws (next - low) low (8192 - low) next (suc (8192 - (next + 1))) (omega (arith, is.from, is.below)) (omega (arith, is.from)) is.clear in
+    let to_next : members_from ws low (8192 - low) ≡ members_from ws next (suc (8192 - (next + 1))) =
+    pass ws (next - low) low (8192 - low) next (suc (8192 - (next + 1))) (omega (arith, is.from, is.below)) (omega (arith, is.from)) is.clear in
     let behind : suc next ≡ next + 1 = omega arith in
     to_next ∙ step_yes ws next (8192 - (next + 1)) is.is_set ∙ ap (λ low. next ∷ members_from ws low (8192 - (next + 1))) behind
 
@@ -256,7 +263,8 @@ set_bit : (word bit other : ℕ) → bit < 64 → (bit ≡ other → ⊥) → bi
 set_bit word bit other within differs = bit_at_set_other w64 word bit within other (λ e. differs (sym e))
 
 -- the word of a number with its bit set
-pub has_bit-set : (ws : List ℕ) (pid : ℕ) → length ws ≡ 128 → pid < 8192 → (n : ℕ) → has_bit (set ws (pid / 64) (bit_or (get_or ws (pid / 64) 0) (1 * 2 ^ (pid % 64) % 2 ^ 64))) n ≡ (pid == n || has_bit ws n)
+pub has_bit-set : (ws : List ℕ) (pid : ℕ) → length ws ≡ 128 → pid < 8192 → (n : ℕ)
+    → has_bit (set ws (pid / 64) (bit_or (get_or ws (pid / 64) 0) (1 * 2 ^ (pid % 64) % 2 ^ 64))) n ≡ (pid == n || has_bit ws n)
 has_bit-set ws pid size below n =
     let at = pid / 64 in
     let word = bit_or (get_or ws at 0) (1 * 2 ^ (pid % 64) % 2 ^ 64) in
@@ -274,14 +282,17 @@ has_bit-set ws pid size below n =
           elim (cases_eq (n / 64) at) [
             | inl place ↦
                 let bits_differ : pid % 64 ≡ n % 64 → ⊥ = λ same. differs (omega arith) in
-                ap (λ w. bit_at w (n % 64) == 1) (get_or-set_at ws at (n / 64) word 0 place within) ∙ ap (λ b. b == 1) (set_bit (get_or ws at 0) (pid % 64) (n % 64) bit_within bits_differ) ∙ ap (λ j. bit_at (get_or ws j 0) (n % 64) == 1) (sym place) ∙ not_it
+                ap (λ w. bit_at w (n % 64) == 1) (get_or-set_at ws at (n / 64) word 0 place within)
+                ∙ ap (λ b. b == 1) (set_bit (get_or ws at 0) (pid % 64) (n % 64) bit_within bits_differ)
+                ∙ ap (λ j. bit_at (get_or ws j 0) (n % 64) == 1) (sym place) ∙ not_it
             | inr apart ↦
                 ap (λ w. bit_at w (n % 64) == 1) (get_or-set_other ws at (n / 64) word 0 apart) ∙ not_it
           ]
     ]
 
 -- the word of a number with its bit cleared
-pub has_bit-clear : (ws : List ℕ) (pid : ℕ) → length ws ≡ 128 → pid < 8192 → (n : ℕ) → has_bit (set ws (pid / 64) (bit_and (get_or ws (pid / 64) 0) (bit_not w64 (1 * 2 ^ (pid % 64) % 2 ^ 64)))) n ≡ (has_bit ws n && not (pid == n))
+pub has_bit-clear : (ws : List ℕ) (pid : ℕ) → length ws ≡ 128 → pid < 8192 → (n : ℕ)
+    → has_bit (set ws (pid / 64) (bit_and (get_or ws (pid / 64) 0) (bit_not w64 (1 * 2 ^ (pid % 64) % 2 ^ 64)))) n ≡ (has_bit ws n && not (pid == n))
 has_bit-clear ws pid size below n =
     let at = pid / 64 in
     let word = bit_and (get_or ws at 0) (bit_not w64 (1 * 2 ^ (pid % 64) % 2 ^ 64)) in
@@ -293,13 +304,17 @@ has_bit-clear ws pid size below n =
           let bit : n % 64 ≡ pid % 64 = ap (λ k. k % 64) (sym e) in
           let read : get_or (set ws at word) (n / 64) 0 ≡ word = get_or-set_at ws at (n / 64) word 0 place within in
           let none : bit_at word (n % 64) ≡ 0 = ap (bit_at word) bit ∙ bit_at_clear_same w64 (get_or ws at 0) (pid % 64) bit_within in
-          ap (λ w. bit_at w (n % 64) == 1) read ∙ ap (λ b. b == 1) none ∙ sym (and_false (has_bit ws n)) ∙ ap (λ t. has_bit ws n && not t) (sym (eq-eqb pid n e))
+          ap (λ w. bit_at w (n % 64) == 1) read ∙ ap (λ b. b == 1) none ∙ sym (and_false (has_bit ws n))
+          ∙ ap (λ t. has_bit ws n && not t) (sym (eq-eqb pid n e))
       | inr differs ↦
-          let not_it : (has_bit ws n) ≡ (has_bit ws n && not (pid == n)) = sym (and_true (has_bit ws n)) ∙ ap (λ t. has_bit ws n && not t) (sym (ne_eqb pid n differs)) in
+          let not_it : (has_bit ws n) ≡ (has_bit ws n && not (pid == n)) =
+          sym (and_true (has_bit ws n)) ∙ ap (λ t. has_bit ws n && not t) (sym (ne_eqb pid n differs)) in
           elim (cases_eq (n / 64) at) [
             | inl place ↦
                 let bits_differ : n % 64 ≡ pid % 64 → ⊥ = λ same. differs (omega arith) in
-                ap (λ w. bit_at w (n % 64) == 1) (get_or-set_at ws at (n / 64) word 0 place within) ∙ ap (λ b. b == 1) (bit_at_clear_other w64 (get_or ws at 0) (pid % 64) bit_within (n % 64) (omega arith) bits_differ) ∙ ap (λ j. bit_at (get_or ws j 0) (n % 64) == 1) (sym place) ∙ not_it
+                ap (λ w. bit_at w (n % 64) == 1) (get_or-set_at ws at (n / 64) word 0 place within)
+                ∙ ap (λ b. b == 1) (bit_at_clear_other w64 (get_or ws at 0) (pid % 64) bit_within (n % 64) (omega arith) bits_differ)
+                ∙ ap (λ j. bit_at (get_or ws j 0) (n % 64) == 1) (sym place) ∙ not_it
             | inr apart ↦
                 ap (λ w. bit_at w (n % 64) == 1) (get_or-set_other ws at (n / 64) word 0 apart) ∙ not_it
           ]
@@ -325,7 +340,8 @@ zero_bits : (word i : ℕ) → word ≡ 0 → (bit_at word i == 1) ≡ false
 zero_bits word i e = ap (λ w. bit_at w i == 1) e ∙ ap (λ b. b == 1) (bit_at-zero i)
 
 -- a word of zeros is passed over
-pub word_passed : (ws : List ℕ) (low at : ℕ) → get_or ws at 0 ≡ 0 → ((n : ℕ) → low ≤ n → n < 64 * at → has_bit ws n ≡ false) → (n : ℕ) → low ≤ n → n < 64 * (at + 1) → has_bit ws n ≡ false
+pub word_passed : (ws : List ℕ) (low at : ℕ) → get_or ws at 0 ≡ 0 → ((n : ℕ) → low ≤ n → n < 64 * at → has_bit ws n ≡ false) → (n : ℕ) → low ≤ n
+    → n < 64 * (at + 1) → has_bit ws n ≡ false
 word_passed ws low at zeros clear n le lt =
     elim (cases_lt n (64 * at)) [
       | inl before ↦ clear n le before
@@ -335,7 +351,9 @@ word_passed ws low at zeros clear n le lt =
     ]
 
 -- the lowest bit of what is left of a word from its bit `skip` on
-pub next_in_word : (ws : List ℕ) (low at skip word rest lowest : ℕ) → at < 128 → skip < 64 → low ≤ 64 * at + skip → get_or ws at 0 ≡ word → word < 2 ^ 64 → rest ≡ word / 2 ^ skip → 0 < rest → lowest ≡ trailing_zeros w64 rest → ((n : ℕ) → low ≤ n → n < 64 * at + skip → has_bit ws n ≡ false) → IsNextFrom ws low (64 * at + skip + lowest)
+pub next_in_word : (ws : List ℕ) (low at skip word rest lowest : ℕ) → at < 128 → skip < 64 → low ≤ 64 * at + skip → get_or ws at 0 ≡ word → word < 2 ^ 64
+    → rest ≡ word / 2 ^ skip → 0 < rest → lowest ≡ trailing_zeros w64 rest → ((n : ℕ) → low ≤ n → n < 64 * at + skip → has_bit ws n ≡ false)
+    → IsNextFrom ws low (64 * at + skip + lowest)
 next_in_word ws low at skip word rest lowest within skip_within le is_word fits is_rest some is_lowest clear =
     let rest_fits : rest < 2 ^ 64 = omega (arith, shr_le word skip, is_rest, fits) in
     let found = bit_at-trailing_zeros w64 rest some rest_fits in
@@ -348,7 +366,8 @@ next_in_word ws low at skip word rest lowest within skip_within le is_word fits 
     ] in
     let place : (64 * at + skip + lowest) / 64 ≡ at = omega arith in
     let bit : (64 * at + skip + lowest) % 64 ≡ skip + lowest = omega arith in
-    let bits_at : (n : ℕ) → n / 64 ≡ at → has_bit ws n ≡ (bit_at word (n % 64) == 1) = λ n e. ap (λ j. bit_at (get_or ws j 0) (n % 64) == 1) e ∙ ap (λ w. bit_at w (n % 64) == 1) is_word in
+    let bits_at : (n : ℕ) → n / 64 ≡ at → has_bit ws n ≡ (bit_at word (n % 64) == 1) =
+    λ n e. ap (λ j. bit_at (get_or ws j 0) (n % 64) == 1) e ∙ ap (λ w. bit_at w (n % 64) == 1) is_word in
     record {
       from = omega arith;
       below = omega arith;
@@ -366,7 +385,8 @@ next_in_word ws low at skip word rest lowest within skip_within le is_word fits 
     }
 
 -- passing over more numbers finds what is found behind them
-pub next_later : (ws : List ℕ) (low high : ℕ) (next : Option ℕ) → low ≤ high → ((n : ℕ) → low ≤ n → n < high → has_bit ws n ≡ false) → MatchOption next (HasNoneFrom ws high) (IsNextFrom ws high) → MatchOption next (HasNoneFrom ws low) (IsNextFrom ws low)
+pub next_later : (ws : List ℕ) (low high : ℕ) (next : Option ℕ) → low ≤ high → ((n : ℕ) → low ≤ n → n < high → has_bit ws n ≡ false)
+    → MatchOption next (HasNoneFrom ws high) (IsNextFrom ws high) → MatchOption next (HasNoneFrom ws low) (IsNextFrom ws low)
 next_later ws low high None le clear none =
     record { clear = λ n from lt. elim (cases_lt n high) [ inl before ↦ clear n from before | inr behind ↦ none.clear n behind lt ] }
 next_later ws low high (Some next) le clear is = record {
@@ -384,7 +404,8 @@ rest_passed ws low zeros n le lt =
     let left : ℕ = n % 64 - low % 64 in
     let split : n % 64 ≡ low % 64 + left = omega arith in
     let same : bit_at word (low % 64 + left) ≡ bit_at (word / 2 ^ (low % 64)) left = sym (ap (λ x. x % 2) (shr-shr word (low % 64) left)) in
-    ap (λ j. bit_at (get_or ws j 0) (n % 64) == 1) here ∙ ap (λ i. bit_at word i == 1) split ∙ ap (λ b. b == 1) same ∙ zero_bits (word / 2 ^ (low % 64)) left zeros
+    ap (λ j. bit_at (get_or ws j 0) (n % 64) == 1) here ∙ ap (λ i. bit_at word i == 1) split ∙ ap (λ b. b == 1) same
+    ∙ zero_bits (word / 2 ^ (low % 64)) left zeros
 
 -- ---- how many there are
 
@@ -413,7 +434,8 @@ pub length_more : (ws : List ℕ) (count pid : ℕ) → IsListed ws count → pi
 length_more ws count pid listed below absent =
     length-put_absent pid (members ws) (has-members ws pid below ∙ absent) ∙ ap (λ n. n + 1) listed.counted
 
-pub listed_more : (ws us : List ℕ) (count pid : ℕ) → IsListed ws count → pid < 8192 → has_bit ws pid ≡ false → (count ≡ 256 → ⊥) → members us ≡ put pid (members ws) → IsListed us (count + 1)
+pub listed_more : (ws us : List ℕ) (count pid : ℕ) → IsListed ws count → pid < 8192 → has_bit ws pid ≡ false → (count ≡ 256 → ⊥)
+    → members us ≡ put pid (members ws) → IsListed us (count + 1)
 listed_more ws us count pid listed below absent free same = record {
   few = omega (arith, listed.few);
   counted = ap length same ∙ length_more ws count pid listed below absent;
@@ -424,7 +446,8 @@ pub length_less : (ws : List ℕ) (count pid : ℕ) → IsListed ws count → pi
 length_less ws count pid listed below has =
     length-without_there pid 0 (members ws) (rising-members ws) (has-members ws pid below ∙ has) ∙ listed.counted
 
-pub listed_less : (ws us : List ℕ) (count pid : ℕ) → IsListed ws count → pid < 8192 → has_bit ws pid ≡ true → members us ≡ without (members ws) (pid ∷ []) → IsListed us (count - 1)
+pub listed_less : (ws us : List ℕ) (count pid : ℕ) → IsListed ws count → pid < 8192 → has_bit ws pid ≡ true → members us ≡ without (members ws) (pid ∷ [])
+    → IsListed us (count - 1)
 listed_less ws us count pid listed below has same = record {
   few = omega (arith, listed.few);
   counted = omega (arith, ap length same, length_less ws count pid listed below has);
@@ -436,7 +459,8 @@ has_number-push : (ns : List ℕ) (n m : ℕ) → has_number (ns ++ n ∷ []) m 
 has_number-push [] n m = or_false (n == m)
 has_number-push (k ∷ ns) n m = ap (λ t. k == m || t) (has_number-push ns n m) ∙ sym (or_groups (k == m) (has_number ns m) (n == m))
 
-pub without_more : (ws ns : List ℕ) (i : ℕ) → i < length ns → without (without (members ws) (take i ns)) (get_or ns i 0 ∷ []) ≡ without (members ws) (take (i + 1) ns)
+pub without_more : (ws ns : List ℕ) (i : ℕ) → i < length ns
+    → without (without (members ws) (take i ns)) (get_or ns i 0 ∷ []) ≡ without (members ws) (take (i + 1) ns)
 without_more ws ns i lt =
     let xs = members ws in
     let n = get_or ns i 0 in
@@ -445,9 +469,12 @@ without_more ws ns i lt =
     let both : ℕ → Bool = λ m. not (has_number (take (i + 1) ns) m) in
     let up : IsRising 0 xs = rising-members ws in
     let tests : (m : ℕ) → (first m && last m) ≡ both m = λ m.
-    not_both (has_number (take i ns) m) (has_number (n ∷ []) m) ∙ ap (λ t. not (has_number (take i ns) m || t)) (or_false (n == m)) ∙ ap not (sym (has_number-push (take i ns) n m)) ∙ ap (λ l. not (has_number l m)) (sym (take_more ns i 0 lt)) in
-    same_numbers 0 (without (without xs (take i ns)) (n ∷ [])) (without xs (take (i + 1) ns)) (rising-filter last 0 (without xs (take i ns)) (rising-filter first 0 xs up)) (rising-filter both 0 xs up) (λ m.
-    has-filter last m (without xs (take i ns)) ∙ ap (λ t. t && last m) (has-filter first m xs) ∙ and_groups (has_number xs m) (first m) (last m) ∙ ap (λ t. has_number xs m && t) (tests m) ∙ sym (has-filter both m xs))
+    not_both (has_number (take i ns) m) (has_number (n ∷ []) m) ∙ ap (λ t. not (has_number (take i ns) m || t)) (or_false (n == m))
+    ∙ ap not (sym (has_number-push (take i ns) n m)) ∙ ap (λ l. not (has_number l m)) (sym (take_more ns i 0 lt)) in
+    same_numbers 0 (without (without xs (take i ns)) (n ∷ [])) (without xs (take (i + 1) ns))
+    (rising-filter last 0 (without xs (take i ns)) (rising-filter first 0 xs up)) (rising-filter both 0 xs up) (λ m.
+    has-filter last m (without xs (take i ns)) ∙ ap (λ t. t && last m) (has-filter first m xs) ∙ and_groups (has_number xs m) (first m) (last m)
+    ∙ ap (λ t. has_number xs m && t) (tests m) ∙ sym (has-filter both m xs))
 
 -- without no number a list is as it was
 pub without_none : (xs : List ℕ) → xs ≡ without xs []

@@ -21,7 +21,8 @@ length-flat_map_next [] below = omega arith
 length-flat_map_next (pid ∷ pids) below =
     let short = length-decimal_pid pid (All-head (λ pid. pid < 8192) pid pids below) in
     let rest = length-flat_map_next pids (All-tail (λ pid. pid < 8192) pid pids below) in
-    let apart : length (next_text pid ++ flat_map next_text pids) ≡ length (next_text pid) + length (flat_map next_text pids) = length-append (next_text pid) (flat_map next_text pids) in
+    let apart : length (next_text pid ++ flat_map next_text pids) ≡ length (next_text pid) + length (flat_map next_text pids) =
+    length-append (next_text pid) (flat_map next_text pids) in
     omega (arith, short, rest, apart)
 
 -- at most 256 PIDs take at most 1279 bytes
@@ -44,7 +45,8 @@ listed_text-parts [] some = absurd (omega (arith, some))
 listed_text-parts (pid ∷ pids) some = listed_text-cons pid pids
 
 -- one more comma and number
-pub next_more : (pids : List ℕ) (i : ℕ) → i < length pids → flat_map next_text (take i pids) ++ (44 ∷ decimal (get_or pids i 0)) ≡ flat_map next_text (take (i + 1) pids)
+pub next_more : (pids : List ℕ) (i : ℕ) → i < length pids
+    → flat_map next_text (take i pids) ++ (44 ∷ decimal (get_or pids i 0)) ≡ flat_map next_text (take (i + 1) pids)
 next_more pids i within =
     flat_map_more next_text [] (take i pids) (get_or pids i 0) ∙ ap (flat_map next_text) (sym (take_more pids i 0 within))
 

@@ -87,7 +87,8 @@ absent_gap (x ∷ xs) n zero gap =
 absent_gap (x ∷ xs) n (suc i) gap = grind (arith, nat_tests, gap.lower 0, absent_gap xs n i (gap_tail x xs n i gap))
 
 -- what a binary search finds in a rising list
-pub placed : (low : ℕ) (xs : List ℕ) (n : ℕ) (r : Result ℕ ℕ) → IsRising low xs → IsBinarySearchResult (λ y. nat_cmp y n) xs r → IfOk r (λ place. IsThere xs n) × IfErr r (GoesAt xs n)
+pub placed : (low : ℕ) (xs : List ℕ) (n : ℕ) (r : Result ℕ ℕ) → IsRising low xs → IsBinarySearchResult (λ y. nat_cmp y n) xs r
+    → IfOk r (λ place. IsThere xs n) × IfErr r (GoesAt xs n)
 placed low xs n (Ok i) up found =
     let at = searched xs n (Ok i) found (rising_le low xs up) in
     (record { had = has_at xs n i at.0 at.1; same = put_there low xs n i up at.0 at.1 }, tt)
@@ -112,12 +113,14 @@ put_all_more xs ns i lt = fold_more (λ ys n. put n ys) xs ns i 0 lt
 -- what the first numbers of a list leave is no longer than what all of them do
 pub length-put_all-take : (xs ns : List ℕ) (i : ℕ) → length (put_all xs (take i ns)) ≤ length (put_all xs ns)
 length-put_all-take xs ns i =
-    let apart : put_all xs (take i ns ++ drop i ns) ≡ put_all (put_all xs (take i ns)) (drop i ns) = fold-append (λ ys n. put n ys) xs (take i ns) (drop i ns) in
+    let apart : put_all xs (take i ns ++ drop i ns) ≡ put_all (put_all xs (take i ns)) (drop i ns) =
+    fold-append (λ ys n. put n ys) xs (take i ns) (drop i ns) in
     let whole : length (put_all xs (take i ns ++ drop i ns)) ≡ length (put_all xs ns) = ap (λ l. length (put_all xs l)) (take-append-drop i ns) in
     omega (arith, ap length apart, whole, length-put_all (drop i ns) (put_all xs (take i ns)))
 
 -- the three cases of putting a number before, behind or onto the first
-rising_cases : (low n x : ℕ) (xs : List ℕ) (a b : Bool) → nat_lt n x ≡ a → nat_lt x n ≡ b → low ≤ n → IsRising low (x ∷ xs) → (x < n → IsRising (suc x) (put n xs)) → IsRising low (if a then n ∷ x ∷ xs else if b then x ∷ put n xs else x ∷ xs)
+rising_cases : (low n x : ℕ) (xs : List ℕ) (a b : Bool) → nat_lt n x ≡ a → nat_lt x n ≡ b → low ≤ n → IsRising low (x ∷ xs)
+    → (x < n → IsRising (suc x) (put n xs)) → IsRising low (if a then n ∷ x ∷ xs else if b then x ∷ put n xs else x ∷ xs)
 rising_cases low n x xs true b p q le up later =
     let before : n < x = ltb-true n x p in
     (le, (omega arith, up.1))
@@ -130,7 +133,8 @@ rising-put low n [] le up = (le, tt)
 rising-put low n (x ∷ xs) le up =
     rising_cases low n x xs (nat_lt n x) (nat_lt x n) refl refl le up (λ behind. rising-put (suc x) n xs (omega arith) up.1)
 
-has_cases : (n m x : ℕ) (xs : List ℕ) (a b : Bool) → nat_lt n x ≡ a → nat_lt x n ≡ b → has_number (put n xs) m ≡ (n == m || has_number xs m) → has_number (if a then n ∷ x ∷ xs else if b then x ∷ put n xs else x ∷ xs) m ≡ (n == m || (x == m || has_number xs m))
+has_cases : (n m x : ℕ) (xs : List ℕ) (a b : Bool) → nat_lt n x ≡ a → nat_lt x n ≡ b → has_number (put n xs) m ≡ (n == m || has_number xs m)
+    → has_number (if a then n ∷ x ∷ xs else if b then x ∷ put n xs else x ∷ xs) m ≡ (n == m || (x == m || has_number xs m))
 has_cases n m x xs true b p q later = refl
 has_cases n m x xs false true p q later = ap (λ r. x == m || r) later ∙ or_swap (x == m) (n == m) (has_number xs m)
 has_cases n m x xs false false p q later =
@@ -157,7 +161,8 @@ pub rising_weaker : (low high : ℕ) (xs : List ℕ) → low ≤ high → IsRisi
 rising_weaker low high [] le up = tt
 rising_weaker low high (x ∷ xs) le up = (omega (arith, up.0), up.1)
 
-filter_cases : (test : ℕ → Bool) (low x : ℕ) (xs : List ℕ) (b : Bool) → low ≤ x → IsRising (suc x) (filter test xs) → IsRising low (cond b (x ∷ filter test xs) (filter test xs))
+filter_cases : (test : ℕ → Bool) (low x : ℕ) (xs : List ℕ) (b : Bool) → low ≤ x → IsRising (suc x) (filter test xs)
+    → IsRising low (cond b (x ∷ filter test xs) (filter test xs))
 filter_cases test low x xs true le up = (le, up)
 filter_cases test low x xs false le up = rising_weaker low (suc x) (filter test xs) (omega arith) up
 

@@ -78,7 +78,8 @@ refused_exact old list many = ap (λ b. cond b (Ok (grown old list)) (Err TooMan
 pub removed_exact : (old : Pids) (pids list : List ℕ) (new : Pids) → old ≡ Only pids → new ≡ Only (without pids list) → remove_pids old list ≡ Ok new
 removed_exact old pids list new was made = ap (λ set. remove_pids set list) was ∙ ap Ok (sym made)
 
-pub removed_members : (old : Pids) (pids list : List ℕ) (new : Pids) → old ≡ Only pids → new ≡ Only (without pids list) → (pid : ℕ) → has_pid new pid ≡ (has_pid old pid && not (has_number list pid))
+pub removed_members : (old : Pids) (pids list : List ℕ) (new : Pids) → old ≡ Only pids → new ≡ Only (without pids list) → (pid : ℕ)
+    → has_pid new pid ≡ (has_pid old pid && not (has_number list pid))
 removed_members old pids list new was made pid =
     ap (λ set. has_pid set pid) made ∙ has-filter (λ x. not (has_number list x)) pid pids ∙ ap (λ set. has_pid set pid && not (has_number list pid)) (sym was)
 
@@ -87,13 +88,15 @@ removed_members old pids list new was made pid =
 pub was_listed : (set : Pids) (ws : List ℕ) (count : ℕ) → pids_of ws count ≡ set → IsBits ws count → (count ≡ 8192 → ⊥) → set ≡ Only (members ws)
 was_listed set ws count view is differs = sym view ∙ listed_view ws count (listed_bits ws count is differs)
 
-pub grown_view : (old : Pids) (ws us : List ℕ) (total : ℕ) (list : List ℕ) → old ≡ Only (members ws) → members us ≡ put_all (members ws) list → IsListed us total → pids_of us total ≡ grown old list
+pub grown_view : (old : Pids) (ws us : List ℕ) (total : ℕ) (list : List ℕ) → old ≡ Only (members ws) → members us ≡ put_all (members ws) list
+    → IsListed us total → pids_of us total ≡ grown old list
 grown_view old ws us total list was same is = listed_view us total is ∙ ap Only same ∙ ap (λ set. grown set list) (sym was)
 
 pub many_grown : (old : Pids) (ws list : List ℕ) → old ≡ Only (members ws) → 256 < length (put_all (members ws) list) → 256 < listed (grown old list)
 many_grown old ws list was many = subst (λ set. 256 < listed (grown set list)) (sym was) many
 
-pub left_view : (ws us : List ℕ) (total : ℕ) (list : List ℕ) → members us ≡ without (members ws) list → IsListed us total → pids_of us total ≡ Only (without (members ws) list)
+pub left_view : (ws us : List ℕ) (total : ℕ) (list : List ℕ) → members us ≡ without (members ws) list → IsListed us total
+    → pids_of us total ≡ Only (without (members ws) list)
 left_view ws us total list same is = listed_view us total is ∙ ap Only same
 
 pub set_listed : (ws : List ℕ) (count : ℕ) → IsListed ws count → IsPidSet (pids_of ws count)

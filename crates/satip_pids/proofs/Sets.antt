@@ -7,7 +7,8 @@ use Rattle.satip_pids.specs.Rising.{has_number, put, put_all, without}
 use Rattle.satip_pids.specs.Pids.{IsPidRow}
 use Rattle.satip_pids.proofs.RisingLists.{rising-put_all, rising-filter}
 
-all_put_cases : (P : ℕ → Type 0) (n x : ℕ) (xs : List ℕ) (a b : Bool) → P n → All P (x ∷ xs) → All P (put n xs) → All P (if a then n ∷ x ∷ xs else if b then x ∷ put n xs else x ∷ xs)
+all_put_cases : (P : ℕ → Type 0) (n x : ℕ) (xs : List ℕ) (a b : Bool) → P n → All P (x ∷ xs) → All P (put n xs)
+    → All P (if a then n ∷ x ∷ xs else if b then x ∷ put n xs else x ∷ xs)
 all_put_cases P n x xs true b p all later = All-cons P n (x ∷ xs) p all
 all_put_cases P n x xs false true p all later = All-cons P x (put n xs) (All-head P x xs all) later
 all_put_cases P n x xs false false p all later = all
@@ -48,7 +49,8 @@ dropped_cases true false true r same later = later
 dropped_cases true false false r same later = later
 dropped_cases false t h r same later = later
 
-has_filter_cases : (test : ℕ → Bool) (m x : ℕ) (xs : List ℕ) (b : Bool) → test x ≡ b → has_number (filter test xs) m ≡ (has_number xs m && test m) → has_number (cond b (x ∷ filter test xs) (filter test xs)) m ≡ ((x == m || has_number xs m) && test m)
+has_filter_cases : (test : ℕ → Bool) (m x : ℕ) (xs : List ℕ) (b : Bool) → test x ≡ b → has_number (filter test xs) m ≡ (has_number xs m && test m)
+    → has_number (cond b (x ∷ filter test xs) (filter test xs)) m ≡ ((x == m || has_number xs m) && test m)
 has_filter_cases test m x xs true passes later =
     kept_cases (x == m) (test m) (has_number xs m) (has_number (filter test xs) m) (λ same. ap test (sym (eqb-true x m same)) ∙ passes) later
 has_filter_cases test m x xs false passes later =

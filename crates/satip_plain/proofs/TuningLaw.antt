@@ -24,7 +24,8 @@ given_same : {X : Type 0} (x y : X) → Some x ≡ Some y → x ≡ y
 given_same x y e = ap (λ o. unwrap_or o x) e
 
 -- words that are read back as their values are the same where their texts are
-same_by-decides : {X : Type 0} (text : X → List ℕ) (named : List ℕ → Option X) → ((x : X) → named (text x) ≡ Some x) → (x y : X) → Decides (same_by text x y) (x ≡ y)
+same_by-decides : {X : Type 0} (text : X → List ℕ) (named : List ℕ → Option X) → ((x : X) → named (text x) ≡ Some x) → (x y : X)
+    → Decides (same_by text x y) (x ≡ y)
 same_by-decides text named printed x y = (
   (λ e. given_same x y (sym (printed x) ∙ ap named ((bytes_eq-Decides (text x) (text y)).0 e) ∙ printed y)),
   (λ e. (bytes_eq-Decides (text x) (text y)).1 (ap text e)),
@@ -37,35 +38,64 @@ option_eq-decides E d (Some x) None = ((λ e. cc), (λ e. cc))
 option_eq-decides E d (Some x) (Some y) = ((λ e. ap Some ((d x y).0 e)), (λ e. (d x y).1 (given_same x y e)))
 
 -- tunings with the same fields are the same
-same_fields : (a b : Tuning) → ((((((((((a.fe ≡ b.fe) × (a.src ≡ b.src)) × (a.freq ≡ b.freq)) × (a.pol ≡ b.pol)) × (a.ro ≡ b.ro)) × (a.msys ≡ b.msys)) × (a.mtype ≡ b.mtype)) × (a.plts ≡ b.plts)) × (a.sr ≡ b.sr)) × (a.fec ≡ b.fec)) → a ≡ b
+same_fields : (a b : Tuning)
+    → ((((((((((a.fe ≡ b.fe) × (a.src ≡ b.src)) × (a.freq ≡ b.freq)) × (a.pol ≡ b.pol)) × (a.ro ≡ b.ro)) × (a.msys ≡ b.msys)) × (a.mtype ≡ b.mtype))
+    × (a.plts ≡ b.plts)) × (a.sr ≡ b.sr)) × (a.fec ≡ b.fec)) → a ≡ b
 same_fields a b same =
-    let with_fe : Option ℕ → Tuning = λ x. record { fe = x; src = a.src; freq = a.freq; pol = a.pol; ro = a.ro; msys = a.msys; mtype = a.mtype; plts = a.plts; sr = a.sr; fec = a.fec } in
-    let with_src : ℕ → Tuning = λ x. record { fe = b.fe; src = x; freq = a.freq; pol = a.pol; ro = a.ro; msys = a.msys; mtype = a.mtype; plts = a.plts; sr = a.sr; fec = a.fec } in
-    let with_freq : ℕ → Tuning = λ x. record { fe = b.fe; src = b.src; freq = x; pol = a.pol; ro = a.ro; msys = a.msys; mtype = a.mtype; plts = a.plts; sr = a.sr; fec = a.fec } in
-    let with_pol : Pol → Tuning = λ x. record { fe = b.fe; src = b.src; freq = b.freq; pol = x; ro = a.ro; msys = a.msys; mtype = a.mtype; plts = a.plts; sr = a.sr; fec = a.fec } in
-    let with_ro : Option RollOff → Tuning = λ x. record { fe = b.fe; src = b.src; freq = b.freq; pol = b.pol; ro = x; msys = a.msys; mtype = a.mtype; plts = a.plts; sr = a.sr; fec = a.fec } in
-    let with_msys : System → Tuning = λ x. record { fe = b.fe; src = b.src; freq = b.freq; pol = b.pol; ro = b.ro; msys = x; mtype = a.mtype; plts = a.plts; sr = a.sr; fec = a.fec } in
-    let with_mtype : Option Modulation → Tuning = λ x. record { fe = b.fe; src = b.src; freq = b.freq; pol = b.pol; ro = b.ro; msys = b.msys; mtype = x; plts = a.plts; sr = a.sr; fec = a.fec } in
-    let with_plts : Option Bool → Tuning = λ x. record { fe = b.fe; src = b.src; freq = b.freq; pol = b.pol; ro = b.ro; msys = b.msys; mtype = b.mtype; plts = x; sr = a.sr; fec = a.fec } in
-    let with_sr : ℕ → Tuning = λ x. record { fe = b.fe; src = b.src; freq = b.freq; pol = b.pol; ro = b.ro; msys = b.msys; mtype = b.mtype; plts = b.plts; sr = x; fec = a.fec } in
-    let with_fec : Option Fec → Tuning = λ x. record { fe = b.fe; src = b.src; freq = b.freq; pol = b.pol; ro = b.ro; msys = b.msys; mtype = b.mtype; plts = b.plts; sr = b.sr; fec = x } in
-    ap with_fe same.0.0.0.0.0.0.0.0.0 ∙ ap with_src same.0.0.0.0.0.0.0.0.1 ∙ ap with_freq same.0.0.0.0.0.0.0.1 ∙ ap with_pol same.0.0.0.0.0.0.1 ∙ ap with_ro same.0.0.0.0.0.1 ∙ ap with_msys same.0.0.0.0.1 ∙ ap with_mtype same.0.0.0.1 ∙ ap with_plts same.0.0.1 ∙ ap with_sr same.0.1 ∙ ap with_fec same.1
+    let with_fe : Option ℕ → Tuning =
+    λ x. record { fe = x; src = a.src; freq = a.freq; pol = a.pol; ro = a.ro; msys = a.msys; mtype = a.mtype; plts = a.plts; sr = a.sr; fec = a.fec } in
+    let with_src : ℕ → Tuning =
+    λ x. record { fe = b.fe; src = x; freq = a.freq; pol = a.pol; ro = a.ro; msys = a.msys; mtype = a.mtype; plts = a.plts; sr = a.sr; fec = a.fec } in
+    let with_freq : ℕ → Tuning =
+    λ x. record { fe = b.fe; src = b.src; freq = x; pol = a.pol; ro = a.ro; msys = a.msys; mtype = a.mtype; plts = a.plts; sr = a.sr; fec = a.fec } in
+    let with_pol : Pol → Tuning =
+    λ x. record { fe = b.fe; src = b.src; freq = b.freq; pol = x; ro = a.ro; msys = a.msys; mtype = a.mtype; plts = a.plts; sr = a.sr; fec = a.fec } in
+    let with_ro : Option RollOff → Tuning =
+    λ x. record { fe = b.fe; src = b.src; freq = b.freq; pol = b.pol; ro = x; msys = a.msys; mtype = a.mtype; plts = a.plts; sr = a.sr; fec = a.fec } in
+    let with_msys : System → Tuning =
+    λ x. record { fe = b.fe; src = b.src; freq = b.freq; pol = b.pol; ro = b.ro; msys = x; mtype = a.mtype; plts = a.plts; sr = a.sr; fec = a.fec } in
+    let with_mtype : Option Modulation → Tuning =
+    λ x. record { fe = b.fe; src = b.src; freq = b.freq; pol = b.pol; ro = b.ro; msys = b.msys; mtype = x; plts = a.plts; sr = a.sr; fec = a.fec } in
+    let with_plts : Option Bool → Tuning =
+    λ x. record { fe = b.fe; src = b.src; freq = b.freq; pol = b.pol; ro = b.ro; msys = b.msys; mtype = b.mtype; plts = x; sr = a.sr; fec = a.fec } in
+    let with_sr : ℕ → Tuning =
+    λ x. record { fe = b.fe; src = b.src; freq = b.freq; pol = b.pol; ro = b.ro; msys = b.msys; mtype = b.mtype; plts = b.plts; sr = x; fec = a.fec } in
+    let with_fec : Option Fec → Tuning =
+    λ x. record { fe = b.fe; src = b.src; freq = b.freq; pol = b.pol; ro = b.ro; msys = b.msys; mtype = b.mtype; plts = b.plts; sr = b.sr; fec = x } in
+    ap with_fe same.0.0.0.0.0.0.0.0.0 ∙ ap with_src same.0.0.0.0.0.0.0.0.1 ∙ ap with_freq same.0.0.0.0.0.0.0.1 ∙ ap with_pol same.0.0.0.0.0.0.1
+    ∙ ap with_ro same.0.0.0.0.0.1 ∙ ap with_msys same.0.0.0.0.1 ∙ ap with_mtype same.0.0.0.1 ∙ ap with_plts same.0.0.1 ∙ ap with_sr same.0.1
+    ∙ ap with_fec same.1
 
-fields_same : (a b : Tuning) → a ≡ b → ((((((((((a.fe ≡ b.fe) × (a.src ≡ b.src)) × (a.freq ≡ b.freq)) × (a.pol ≡ b.pol)) × (a.ro ≡ b.ro)) × (a.msys ≡ b.msys)) × (a.mtype ≡ b.mtype)) × (a.plts ≡ b.plts)) × (a.sr ≡ b.sr)) × (a.fec ≡ b.fec))
+fields_same : (a b : Tuning) → a ≡ b
+    → ((((((((((a.fe ≡ b.fe) × (a.src ≡ b.src)) × (a.freq ≡ b.freq)) × (a.pol ≡ b.pol)) × (a.ro ≡ b.ro)) × (a.msys ≡ b.msys)) × (a.mtype ≡ b.mtype))
+    × (a.plts ≡ b.plts)) × (a.sr ≡ b.sr)) × (a.fec ≡ b.fec))
 fields_same a b e =
-    let field_fe : Tuning → Option ℕ = λ t. t.fe in
-    let field_src : Tuning → ℕ = λ t. t.src in
-    let field_freq : Tuning → ℕ = λ t. t.freq in
-    let field_pol : Tuning → Pol = λ t. t.pol in
-    let field_ro : Tuning → Option RollOff = λ t. t.ro in
-    let field_msys : Tuning → System = λ t. t.msys in
-    let field_mtype : Tuning → Option Modulation = λ t. t.mtype in
-    let field_plts : Tuning → Option Bool = λ t. t.plts in
-    let field_sr : Tuning → ℕ = λ t. t.sr in
-    let field_fec : Tuning → Option Fec = λ t. t.fec in
-    (((((((((ap field_fe e, ap field_src e), ap field_freq e), ap field_pol e), ap field_ro e), ap field_msys e), ap field_mtype e), ap field_plts e), ap field_sr e), ap field_fec e)
+    let fe_of : Tuning → Option ℕ = λ t. t.fe in
+    let src_of : Tuning → ℕ = λ t. t.src in
+    let freq_of : Tuning → ℕ = λ t. t.freq in
+    let pol_of : Tuning → Pol = λ t. t.pol in
+    let ro_of : Tuning → Option RollOff = λ t. t.ro in
+    let msys_of : Tuning → System = λ t. t.msys in
+    let mtype_of : Tuning → Option Modulation = λ t. t.mtype in
+    let plts_of : Tuning → Option Bool = λ t. t.plts in
+    let sr_of : Tuning → ℕ = λ t. t.sr in
+    let fec_of : Tuning → Option Fec = λ t. t.fec in
+    (((((((((ap fe_of e, ap src_of e), ap freq_of e), ap pol_of e), ap ro_of e), ap msys_of e), ap mtype_of e), ap plts_of e), ap sr_of e), ap fec_of e)
 
 pub tuning_eq_decides : TuningEqIsEquality
 tuning_eq_decides a b =
-    let each = (decides_and (((((((((option_eq nat_eq a.fe b.fe) && (a.src == b.src)) && (a.freq == b.freq)) && (same_by pol_text a.pol b.pol)) && (option_eq (same_by roll_off_text) a.ro b.ro)) && (same_by system_text a.msys b.msys)) && (option_eq (same_by modulation_text) a.mtype b.mtype)) && (option_eq (same_by pilots_text) a.plts b.plts)) && (a.sr == b.sr)) (option_eq (same_by fec_text) a.fec b.fec) (decides_and ((((((((option_eq nat_eq a.fe b.fe) && (a.src == b.src)) && (a.freq == b.freq)) && (same_by pol_text a.pol b.pol)) && (option_eq (same_by roll_off_text) a.ro b.ro)) && (same_by system_text a.msys b.msys)) && (option_eq (same_by modulation_text) a.mtype b.mtype)) && (option_eq (same_by pilots_text) a.plts b.plts)) (a.sr == b.sr) (decides_and (((((((option_eq nat_eq a.fe b.fe) && (a.src == b.src)) && (a.freq == b.freq)) && (same_by pol_text a.pol b.pol)) && (option_eq (same_by roll_off_text) a.ro b.ro)) && (same_by system_text a.msys b.msys)) && (option_eq (same_by modulation_text) a.mtype b.mtype)) (option_eq (same_by pilots_text) a.plts b.plts) (decides_and ((((((option_eq nat_eq a.fe b.fe) && (a.src == b.src)) && (a.freq == b.freq)) && (same_by pol_text a.pol b.pol)) && (option_eq (same_by roll_off_text) a.ro b.ro)) && (same_by system_text a.msys b.msys)) (option_eq (same_by modulation_text) a.mtype b.mtype) (decides_and (((((option_eq nat_eq a.fe b.fe) && (a.src == b.src)) && (a.freq == b.freq)) && (same_by pol_text a.pol b.pol)) && (option_eq (same_by roll_off_text) a.ro b.ro)) (same_by system_text a.msys b.msys) (decides_and ((((option_eq nat_eq a.fe b.fe) && (a.src == b.src)) && (a.freq == b.freq)) && (same_by pol_text a.pol b.pol)) (option_eq (same_by roll_off_text) a.ro b.ro) (decides_and (((option_eq nat_eq a.fe b.fe) && (a.src == b.src)) && (a.freq == b.freq)) (same_by pol_text a.pol b.pol) (decides_and ((option_eq nat_eq a.fe b.fe) && (a.src == b.src)) (a.freq == b.freq) (decides_and (option_eq nat_eq a.fe b.fe) (a.src == b.src) (option_eq-decides nat_eq (λ x y. Decides-eqb x y) a.fe b.fe) (Decides-eqb a.src b.src)) (Decides-eqb a.freq b.freq)) (same_by-decides pol_text pol_named pol_printed a.pol b.pol)) (option_eq-decides (same_by roll_off_text) (same_by-decides roll_off_text roll_off_named roll_off_printed) a.ro b.ro)) (same_by-decides system_text system_named system_printed a.msys b.msys)) (option_eq-decides (same_by modulation_text) (same_by-decides modulation_text modulation_named modulation_printed) a.mtype b.mtype)) (option_eq-decides (same_by pilots_text) (same_by-decides pilots_text pilots_named pilots_printed) a.plts b.plts)) (Decides-eqb a.sr b.sr)) (option_eq-decides (same_by fec_text) (same_by-decides fec_text fec_named fec_printed) a.fec b.fec)) in
+    let fe = option_eq-decides nat_eq (λ x y. Decides-eqb x y) a.fe b.fe in
+    let src = decides_and _ _ fe (Decides-eqb a.src b.src) in
+    let freq = decides_and _ _ src (Decides-eqb a.freq b.freq) in
+    let pol = decides_and _ _ freq (same_by-decides pol_text pol_named pol_printed a.pol b.pol) in
+    let roll_offs = same_by-decides roll_off_text roll_off_named roll_off_printed in
+    let ro = decides_and _ _ pol (option_eq-decides (same_by roll_off_text) roll_offs a.ro b.ro) in
+    let msys = decides_and _ _ ro (same_by-decides system_text system_named system_printed a.msys b.msys) in
+    let modulations = same_by-decides modulation_text modulation_named modulation_printed in
+    let mtype = decides_and _ _ msys (option_eq-decides (same_by modulation_text) modulations a.mtype b.mtype) in
+    let pilots = same_by-decides pilots_text pilots_named pilots_printed in
+    let plts = decides_and _ _ mtype (option_eq-decides (same_by pilots_text) pilots a.plts b.plts) in
+    let sr = decides_and _ _ plts (Decides-eqb a.sr b.sr) in
+    let fecs = same_by-decides fec_text fec_named fec_printed in
+    let each = decides_and _ _ sr (option_eq-decides (same_by fec_text) fecs a.fec b.fec) in
     ((λ e. same_fields a b (each.0 e)), (λ e. each.1 (fields_same a b e)))

@@ -6,6 +6,20 @@ mod events;
 mod laws;
 mod setting;
 #[cfg(test)]
+#[rattlefmt::skip]
+#[tactic(auto, unfolding(
+    satip_fronts::specs::Choice::choose,
+    satip_fronts::specs::Choice::blocked,
+    satip_fronts::specs::Choice::least,
+    satip_fronts::specs::Choice::placed,
+    satip_fronts::specs::Choice::may_take,
+    satip_tune::specs::Words::pol_text,
+    satip_tune::specs::Words::system_text,
+    satip_tune::specs::Words::modulation_text,
+    satip_tune::specs::Words::roll_off_text,
+    satip_tune::specs::Words::fec_text,
+    satip_tune::specs::Words::pilots_text,
+))]
 mod tests;
 mod values;
 

@@ -7,7 +7,6 @@ ghost use Rattle.satip_plain.specs.declared.events.Event.TheVariants.{Tick, Ask,
 ghost use Rattle.satip_plain.specs.Examples.{Media, Told, Ok200, Refuses, Works, Idles, Beats, Starts, Pulls, Other, added_pids, first_query, greatest_pid, moved_setup, setup_above, answers_of, get_second, held_after_one_more, id_of, join_of, kept_pids, listed_pids, options_in, packet, packet_on, packets, play, play_in, play_of_two, pulled_first, readings_tell, run, setup_without_ports, setup_without_stream, state_tells, sent_last, setup, setup_with, streams_of, tally, teardown_in, to_unknown, to_second, two_setup, wanted_second, with_change, without_pids, described, description_last};
 
 // Six packets leave at the tick, before the report; seven leave at once, and the next number wraps.
-#[tactic(auto, unfolding(satip_fronts::specs::Choice::choose, satip_fronts::specs::Choice::blocked, satip_fronts::specs::Choice::least, satip_fronts::specs::Choice::placed, satip_fronts::specs::Choice::may_take))]
 fn held_packets_leave()
     ensures at_the_tick { sent_last (run (setup ∷ Tick 1000 ∷ play ∷
         (packets 6 16 ++ Tick 1040 ∷ []))) ≡ Media 1400 65535 1040 6 ∷ Told 1401 ∷ [] }
@@ -18,7 +17,6 @@ fn held_packets_leave()
 {}
 
 // Only what comes after PIDs were added is sent.
-#[tactic(auto, unfolding(satip_fronts::specs::Choice::choose, satip_fronts::specs::Choice::blocked, satip_fronts::specs::Choice::least, satip_fronts::specs::Choice::placed, satip_fronts::specs::Choice::may_take))]
 fn pids_added_count_from_then_on()
     ensures sent { sent_last (run (setup ∷ play ∷ packet 100 ∷ play_in (id_of 1 10) 1
         (added_pids (100 ∷ [])) ∷ packet 100 ∷ Tick 40 ∷ []))
@@ -26,7 +24,6 @@ fn pids_added_count_from_then_on()
 {}
 
 // A packet of the old tuning is stale after a retune.
-#[tactic(auto, unfolding(satip_fronts::specs::Choice::choose, satip_fronts::specs::Choice::blocked, satip_fronts::specs::Choice::least, satip_fronts::specs::Choice::placed, satip_fronts::specs::Choice::may_take))]
 fn packet_across_a_retune_is_dropped()
     ensures answers { answers_of (run (setup ∷ play ∷ Ask 1 ∷ play_in (id_of 1 10) 1
         (with_change to_second) ∷ packet 16 ∷ []))
@@ -36,7 +33,6 @@ fn packet_across_a_retune_is_dropped()
 {}
 
 // A joined session plays, and changes nothing.
-#[tactic(auto, unfolding(satip_fronts::specs::Choice::choose, satip_fronts::specs::Choice::blocked, satip_fronts::specs::Choice::least, satip_fronts::specs::Choice::placed, satip_fronts::specs::Choice::may_take))]
 fn joined_session_may_not_change_pids()
     ensures answers { answers_of (run (setup ∷ play ∷ join_of 1 ∷ play_of_two 1
         (added_pids (18 ∷ [])) ∷ play_of_two 1 new_query ∷ []))
@@ -47,7 +43,6 @@ fn joined_session_may_not_change_pids()
 {}
 
 // Two front ends serve two tunings; the third finds none until one is given back.
-#[tactic(auto, unfolding(satip_fronts::specs::Choice::choose, satip_fronts::specs::Choice::blocked, satip_fronts::specs::Choice::least, satip_fronts::specs::Choice::placed, satip_fronts::specs::Choice::may_take))]
 fn third_tuning_finds_no_front_end()
     ensures answers { answers_of (run (setup ∷ setup_with (with_change to_second) ∷ setup_with
         (with_change to_unknown) ∷ teardown_in (id_of 1 10) 1 ∷ setup_with (with_change to_unknown)
@@ -62,7 +57,6 @@ fn third_tuning_finds_no_front_end()
 {}
 
 // A session that wasn't heard of for 60 seconds ends.
-#[tactic(auto, unfolding(satip_fronts::specs::Choice::choose, satip_fronts::specs::Choice::blocked, satip_fronts::specs::Choice::least, satip_fronts::specs::Choice::placed, satip_fronts::specs::Choice::may_take))]
 fn session_expires()
     ensures ended { answers_of (run (setup ∷ Tick 59999 ∷ Tick 60000 ∷ options_in (id_of 1 10) ∷
         [])) ≡ Ok200 ∷ Beats ∷ Beats ∷ Refuses 454 None ∷ [] }
@@ -72,7 +66,6 @@ fn session_expires()
 
 // At most 256 PIDs are selected, and none is taken from all of them; a refused change leaves the
 // old ones.
-#[tactic(auto, unfolding(satip_fronts::specs::Choice::choose, satip_fronts::specs::Choice::blocked, satip_fronts::specs::Choice::least, satip_fronts::specs::Choice::placed, satip_fronts::specs::Choice::may_take))]
 fn pids_have_limits()
     ensures under_all { answers_of (run (setup_with without_pids ∷ []))
         ≡ Refuses 403 (Some (OutOfRange Delpids)) ∷ [] }
@@ -87,7 +80,6 @@ fn pids_have_limits()
 {}
 
 // The next session in order of joining owns the stream of an owner that ended.
-#[tactic(auto, unfolding(satip_fronts::specs::Choice::choose, satip_fronts::specs::Choice::blocked, satip_fronts::specs::Choice::least, satip_fronts::specs::Choice::placed, satip_fronts::specs::Choice::may_take))]
 fn ownership_passes_on()
     ensures by_teardown { answers_of (run (setup ∷ join_of 1 ∷ play_of_two 1 new_query ∷ teardown_in
         (id_of 1 10) 1 ∷ play_of_two 1 (added_pids (18 ∷ [])) ∷ []))
@@ -102,7 +94,6 @@ fn ownership_passes_on()
 {}
 
 // Two streams of one multiplex share a front end.
-#[tactic(auto, unfolding(satip_fronts::specs::Choice::choose, satip_fronts::specs::Choice::blocked, satip_fronts::specs::Choice::least, satip_fronts::specs::Choice::placed, satip_fronts::specs::Choice::may_take))]
 fn streams_share_a_front_end()
     ensures answers { answers_of (run (setup ∷ two_setup ∷ setup_with (with_change to_second) ∷
         setup_with (with_change to_unknown) ∷ Ask 1 ∷ Ask 2 ∷ []))
@@ -119,7 +110,6 @@ fn streams_share_a_front_end()
 {}
 
 // An HTTP session has its packets pulled, 64 at a time; a packet that meets its full queue ends it.
-#[tactic(auto, unfolding(satip_fronts::specs::Choice::choose, satip_fronts::specs::Choice::blocked, satip_fronts::specs::Choice::least, satip_fronts::specs::Choice::placed, satip_fronts::specs::Choice::may_take))]
 fn queue_has_limits()
     ensures pulls { answers_of (run (get_second ∷ Pull (id_of 1 10) ∷ packet_on 1 1 400 ∷ packet_on
         1 1 401 ∷ Pull (id_of 1 10) ∷ Pull (id_of 1 10) ∷ Close (id_of 1 10) ∷ Pull (id_of 1 10) ∷
@@ -133,7 +123,6 @@ fn queue_has_limits()
 
 // A SETUP that moves its session and retunes sends what is held to the new address; an equal tuning
 // sends nothing.
-#[tactic(auto, unfolding(satip_fronts::specs::Choice::choose, satip_fronts::specs::Choice::blocked, satip_fronts::specs::Choice::least, satip_fronts::specs::Choice::placed, satip_fronts::specs::Choice::may_take, satip_tune::specs::Words::pol_text, satip_tune::specs::Words::system_text, satip_tune::specs::Words::modulation_text, satip_tune::specs::Words::roll_off_text, satip_tune::specs::Words::fec_text, satip_tune::specs::Words::pilots_text))]
 fn retune_sends_what_is_held()
     ensures moved { sent_last (run (setup ∷ play ∷ packet 16 ∷ moved_setup ∷ []))
         ≡ Media 1600 65535 0 1 ∷ [] }
@@ -143,7 +132,6 @@ fn retune_sends_what_is_held()
 
 // A stream moves to a front end that is tuned to its multiplex before its own is retuned, and finds
 // it as it is.
-#[tactic(auto, unfolding(satip_fronts::specs::Choice::choose, satip_fronts::specs::Choice::blocked, satip_fronts::specs::Choice::least, satip_fronts::specs::Choice::placed, satip_fronts::specs::Choice::may_take))]
 fn stream_moves_before_its_front_end_is_retuned()
     ensures answers { answers_of (run (setup ∷ setup_with (with_change to_second) ∷ Ended 1 1 ∷
         play_in (id_of 2 10) 2 first_query ∷ Ask 1 ∷ Ask 2 ∷ []))
@@ -152,7 +140,6 @@ fn stream_moves_before_its_front_end_is_retuned()
 
 // A session that was named is kept alive by a request that is refused for another cause than its
 // text.
-#[tactic(auto, unfolding(satip_fronts::specs::Choice::choose, satip_fronts::specs::Choice::blocked, satip_fronts::specs::Choice::least, satip_fronts::specs::Choice::placed, satip_fronts::specs::Choice::may_take))]
 fn refused_request_keeps_alive()
     ensures answers { answers_of (run (setup ∷ Tick 30000 ∷ setup_without_stream ∷ Tick 60000 ∷
         setup_without_ports ∷ Tick 119999 ∷ options_in (id_of 1 10) ∷ []))
@@ -160,7 +147,6 @@ fn refused_request_keeps_alive()
 {}
 
 // What is read of the entries alone is what the state says.
-#[tactic(auto, unfolding(satip_fronts::specs::Choice::choose, satip_fronts::specs::Choice::blocked, satip_fronts::specs::Choice::least, satip_fronts::specs::Choice::placed, satip_fronts::specs::Choice::may_take))]
 fn readings_tell_the_state()
     ensures shared { readings_tell (run (setup ∷ two_setup ∷ play ∷ packet 16 ∷ []))
         ≡ state_tells (run (setup ∷ two_setup ∷ play ∷ packet 16 ∷ [])) }

@@ -152,7 +152,8 @@ opened_ends ct it ot et text before now view s i j o n e m a ends.OutOfMemory de
 }
 
 -- a replay
-pub replay_ends : {C : Type 0} (ct it ot et : Type 0) (text : Option (List ℕ)) (before now : ℕ) (view : C → Feed) (source : Option C) (i j : Feed) (o n e m : Drain)
+pub replay_ends : {C : Type 0} (ct it ot et : Type 0) (text : Option (List ℕ)) (before now : ℕ) (view : C → Feed) (source : Option C) (i j : Feed)
+    (o n e m : Drain)
     (outcome : Outcome) → ReplayRuns ct it ot text before now i j o n (option_map view source) outcome → Says et e m (line_for outcome)
     → ReplayEnds ct it ot et text before now view source i j o n e m (status_of outcome)
 replay_ends ct it ot et text before now view None i j o n e m outcome runs line =

@@ -97,7 +97,8 @@ ends_at_end in_tells out_tells i j k o n taken held talker goes met =
       in_faults = met.faults ∙ goes.in_faults;
       out_faults = goes.listens.replied.faults;
       answered = answered;
-      whole = λ told. subst P (sym (goes.read.content told ∙ ap (λ (left : List ℕ). goes.text ++ left) (met.nothing_left told) ∙ append-nil goes.text)) answered;
+      whole = λ told. subst P (sym (goes.read.content told ∙ ap (λ (left : List ℕ). goes.text ++ left) (met.nothing_left told) ∙ append-nil goes.text))
+          answered;
       ending = inl met.after;
       in_time = record {
         earlier = goes.text;

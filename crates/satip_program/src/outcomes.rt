@@ -71,7 +71,8 @@ impl Outcome {
             Outcome::Done => {}
             Outcome::Usage => line.write(
                 b"usage: satip talk | replay CONFIG | serve CONFIG ACCEPTS | stress SEED COUNT \
-                | tunnel CONFIG ACCEPTS | journal CONFIG ACCEPTS | audit CONFIG | record ADDRESS QUERY COUNT\n",
+                | tunnel CONFIG ACCEPTS | journal CONFIG ACCEPTS | audit CONFIG \
+                | record ADDRESS QUERY COUNT\n",
             ),
             Outcome::Configuration(fault) => print_fault(fault, line),
             Outcome::Script(number) => {

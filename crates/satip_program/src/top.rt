@@ -53,8 +53,8 @@ const HELP: &[u8] = b"usage: satip talk | replay CONFIG | serve CONFIG ACCEPTS |
     tunnel: as serve, but RTP and RTCP go down the RTSP connection, to clients that ask for \
     RTP/AVP/TCP\n\
     \x20   satip tunnel satip.toml 0\n\
-    journal: as serve, and each job writes its entries to the file journal.N, by its number N, in the \
-    current folder\n\
+    journal: as serve, and each job writes its entries to the file journal.N, by its number N, in \
+    the current folder\n\
     \x20   satip journal satip.toml 0\n\
     audit: the verdict on the journals on standard input, by the configuration in the file CONFIG\n\
     \x20   cat journal.* | satip audit satip.toml\n\

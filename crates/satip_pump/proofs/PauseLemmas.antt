@@ -51,7 +51,8 @@ paced_none own p = record {
 }
 
 -- some entries more
-pub paced_then : (own own' own'' es : List Item) (p q since n owed : ℕ) → Paced own own' p q since 0 → own'' ≡ own' ++ es → packets_in es ≡ n → idle_in es ≡ owed
+pub paced_then : (own own' own'' es : List Item) (p q since n owed : ℕ) → Paced own own' p q since 0 → own'' ≡ own' ++ es → packets_in es ≡ n
+    → idle_in es ≡ owed
     → Paced own own'' p q (since + n) owed
 paced_then own own' own'' es p q since n owed paced made packets idle =
     let before = paced.packets in
@@ -77,7 +78,8 @@ paced_full own own' p q r since owed is paced once =
       idles = paced.idles;
       packets = omega (arith, packets, is);
       idle = paced.idle;
-      rose = rose_same (paced.full + paced.idles + 1) (paced.full + 1 + paced.idles) p r (omega arith) (rose_one (paced.full + paced.idles) p q r paced.rose once);
+      rose = rose_same (paced.full + paced.idles + 1) (paced.full + 1 + paced.idles) p r (omega arith)
+          (rose_one (paced.full + paced.idles) p q r paced.rose once);
     }
 
 -- the pause that was owed
@@ -91,11 +93,13 @@ paced_idle own own' p q r since paced once =
       idles = paced.idles + 1;
       packets = paced.packets;
       idle = omega (arith, idle);
-      rose = rose_same (paced.full + paced.idles + 1) (paced.full + (paced.idles + 1)) p r (omega arith) (rose_one (paced.full + paced.idles) p q r paced.rose once);
+      rose = rose_same (paced.full + paced.idles + 1) (paced.full + (paced.idles + 1)) p r (omega arith)
+          (rose_one (paced.full + paced.idles) p q r paced.rose once);
     }
 
 -- an answer that there is nothing to do owes a pause
-pub paced_owed : (own own' : List Item) (p q since : ℕ) (work : Work) → work ≡ Nothing → Paced own own' p q since (one_if_nothing work) → Paced own own' p q since 1
+pub paced_owed : (own own' : List Item) (p q since : ℕ) (work : Work) → work ≡ Nothing → Paced own own' p q since (one_if_nothing work)
+    → Paced own own' p q since 1
 paced_owed own own' p q since work is paced =
     let P : Work → Type 0 = λ w. Paced own own' p q since (one_if_nothing w) in
     subst P is paced
@@ -130,8 +134,10 @@ counted caller front tune packets work (t ∷ u ∷ us) left last gives is =
     record { given = omega (arith, size, one, next.given); idle = omega (arith, none, next.idle) }
 
 -- a burst of packets
-pub gave_paces : (may_want : Bool) (front tune : ℕ) (work : Work) (k l : Known) (tells : Type 0) (o n : Outbox) (q r : Buffered) (result : Result Work ServiceFault)
-    (own : List Item) (p now since more : ℕ) → Gave may_want front tune work k l tells o n q r result → is_of tune work ≡ true → length q.packets ≡ more + length r.packets
+pub gave_paces : (may_want : Bool) (front tune : ℕ) (work : Work) (k l : Known) (tells : Type 0) (o n : Outbox) (q r : Buffered)
+    (result : Result Work ServiceFault)
+    (own : List Item) (p now since more : ℕ) → Gave may_want front tune work k l tells o n q r result → is_of tune work ≡ true
+    → length q.packets ≡ more + length r.packets
     → Paced own k.own p now since 0 → Paced own l.own p now (since + more) (owed_by result)
 gave_paces may_want front tune work k l tells o n q r (Ok next) own p now since more gave is size paced =
     let count = counted gave.caller front tune q.packets work gave.taken r.packets gave.last gave.gives is in
@@ -145,7 +151,8 @@ gave_paces may_want front tune work k l tells o n q r (Err fault) own p now sinc
     (count.idle ∙ none_owed tune gave.last gave.ends.0)
 
 -- an event that is no packet
-pub works_pace : (may_want : Bool) (k l : Known) (tells : Type 0) (o n : Outbox) (event : Event) (result : Result Work ServiceFault) (own : List Item) (p now since : ℕ)
+pub works_pace : (may_want : Bool) (k l : Known) (tells : Type 0) (o n : Outbox) (event : Event) (result : Result Work ServiceFault) (own : List Item)
+    (p now since : ℕ)
     → Works may_want k l tells o n event result → one_if_packet event ≡ 0 → Paced own k.own p now since 0 → Paced own l.own p now since (owed_by result)
 works_pace may_want k l tells o n event (Ok work) own p now since made is paced =
     let e : Item = entry made.caller event (WorkIs work) made.out in
@@ -165,7 +172,8 @@ pub record TicksPaced (own own' : List Item) (before now : ℕ) : Type 0 where
 pub ticks_paced_none : (own : List Item) (p : ℕ) → TicksPaced own own p p
 ticks_paced_none own p = record { entries = []; made = sym (append-nil own); pauses = rose_none p }
 
-pub ticks_paced_more : (own own' own'' : List Item) (e : Item) (p q r : ℕ) → TicksPaced own own' p q → Rises q r → own'' ≡ own' ++ e ∷ [] → TicksPaced own own'' p r
+pub ticks_paced_more : (own own' own'' : List Item) (e : Item) (p q r : ℕ) → TicksPaced own own' p q → Rises q r → own'' ≡ own' ++ e ∷ []
+    → TicksPaced own own'' p r
 ticks_paced_more own own' own'' e p q r paced once made = record {
   entries = paced.entries ++ e ∷ [];
   made = made ∙ ap (λ (h : List Item). h ++ e ∷ []) paced.made ∙ append_assoc own paced.entries (e ∷ []);
@@ -174,7 +182,8 @@ ticks_paced_more own own' own'' e p q r paced once made = record {
 }
 
 -- the last tick
-pub ticks_pause : (may_want : Bool) (end : JobEnd) (own : List Item) (l m : Known) (tells : Type 0) (n o : Outbox) (now p q r : ℕ) → TicksPaced own l.own p q → Rises q r
+pub ticks_pause : (may_want : Bool) (end : JobEnd) (own : List Item) (l m : Known) (tells : Type 0) (n o : Outbox) (now p q r : ℕ)
+    → TicksPaced own l.own p q → Rises q r
     → Ticked may_want l m tells n o now (Some end) → TickPauses own m.own p r end
 ticks_pause may_want Stopped own l m tells n o now p q r paced once made =
     let e : Item = entry made.caller (Tick now) (Beat BeatStopping) made.out in

@@ -65,8 +65,11 @@ module _ {F : Type 0} (tells : Type 0) (feed : F → Feed) where
   whole_left None faults faults' (Some source) begins =
       (0, tt, λ n a r. rose_same n (n + 0) a faults' (omega arith) (rose_later n a faults faults' r (omega (arith, begins.0))))
   whole_left None faults faults' None begins = (1, tt, λ n a r. rose_one n a faults faults' r begins)
-  whole_left (Some text) faults faults' (Some source) begins =
-      (0, (begins.1.0, ap cut_packets (sym begins.1.1)), λ n a r. rose_same n (n + 0) a faults' (omega arith) (rose_later n a faults faults' r (omega (arith, begins.0))))
+  whole_left (Some text) faults faults' (Some source) begins = (
+    0,
+    (begins.1.0, ap cut_packets (sym begins.1.1)),
+    λ n a r. rose_same n (n + 0) a faults' (omega arith) (rose_later n a faults faults' r (omega (arith, begins.0))),
+  )
   whole_left (Some text) faults faults' None begins = (1, (cut_packets text, refl, inr refl, none_cut), λ n a r. rose_one n a faults faults' r begins)
 
   pub turns_to : (recording : ℕ → Option (List ℕ)) (first early : ℕ) (reel : Option Reel) (old : Reading F) (mux tune a b c : ℕ) (source : Option F)
@@ -102,7 +105,8 @@ module _ {F : Type 0} (tells : Type 0) (feed : F → Feed) where
   }
 
   -- the source failed, which the store counts
-  pub stands_failed : (first a b early : ℕ) (reel : Option Reel) (old new : Reading F) → Stands tells feed first a early reel old → new.tune ≡ old.tune → Rises a b
+  pub stands_failed : (first a b early : ℕ) (reel : Option Reel) (old new : Reading F) → Stands tells feed first a early reel old
+      → new.tune ≡ old.tune → Rises a b
       → ((owed : ℕ) (told : Option (List (List ℕ))) → AreToldLeft tells feed told old.buffer.packets old.buffer.rest old.source owed
       → AreToldLeft tells feed told new.buffer.packets new.buffer.rest new.source 1)
       → Stands tells feed first b early reel new

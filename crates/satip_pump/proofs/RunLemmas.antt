@@ -58,7 +58,8 @@ last_then answer [] fs = refl
 last_then answer (e ∷ es) fs = last_then (Some e.answer) es fs
 
 -- nothing was asked yet
-pub so_far_none : (front : ℕ) (recording : ℕ → Option (List ℕ)) (tells : Type 0) (k : Known) (o : Outbox) → SoFar front recording tells k k o o (Asking None) None 0
+pub so_far_none : (front : ℕ) (recording : ℕ → Option (List ℕ)) (tells : Type 0) (k : Known) (o : Outbox)
+    → SoFar front recording tells k k o o (Asking None) None 0
 so_far_none front recording tells k o = record {
   entries = [];
   adds = adds_nothing k;
@@ -211,7 +212,8 @@ module _ {F : Type 0} (reads : Type 0) (feed : F → Feed) where
       let next : Reel = record reel { left = option_map rest_of reel.left } in
       let rest = gives_pumps front recording next caller tune gives.1 (work_told t.answer) ts waiting last held source owed gives.5 same first.1 in
       let event : t.event ≡ Packet front reel.tune packet = gives.3 ∙ ap (λ (n : ℕ). Packet front n packet) (sym same) in
-      let M : Event → Type 0 = λ v. Pumps front recording (after_work recording (Some (moved v reel)) (work_told t.answer)) (entries caller ts) (after_work recording (Some rest.reel) last) 0 in
+      let M : Event → Type 0 = λ v. Pumps front recording (after_work recording (Some (moved v reel)) (work_told t.answer)) (entries caller ts)
+      (after_work recording (Some rest.reel) last) 0 in
       let after : Pumps front recording (after_entry recording (Feeding reel) e) (entries caller ts) (after_work recording (Some rest.reel) last) 0 =
       subst M (sym event) rest.pumps in
       let by_event : early_end (Feeding reel) e ≡ 0 = ap (λ (v : Event). early_by v reel) event in
@@ -304,7 +306,8 @@ module _ {F : Type 0} (reads : Type 0) (feed : F → Feed) where
   ]
 
   -- and none of them is left
-  over : (told : Option (List (List ℕ))) (held : List ℕ) (owed : ℕ) → AreToldLeft reads feed told [] held None owed → AreToldLeft reads feed (none_of told) [] held None 0
+  over : (told : Option (List (List ℕ))) (held : List ℕ) (owed : ℕ) → AreToldLeft reads feed told [] held None owed
+      → AreToldLeft reads feed (none_of told) [] held None 0
   over None held owed is = tt
   over (Some ps) held owed is = ([], refl, inl refl, is.3)
 
@@ -328,7 +331,8 @@ module _ {F : Type 0} (reads : Type 0) (feed : F → Feed) where
       record {
         reel = Some ended;
         early = feeds.early + (early + 0);
-        so_far = so_far_one front recording tells k l m o n p (Feeding reel) (Some (WorkIs work)) feeds.early (Ended front tune) next feeds.so_far (inr event) made;
+        so_far = so_far_one front recording tells k l m o n p (Feeding reel) (Some (WorkIs work)) feeds.early (Ended front tune) next feeds.so_far
+            (inr event) made;
         stands = record {
           owed = 0;
           is_reel = (feeds.stands.is_reel.0, subst S (sym empty) (subst R (sym shut) (over reel.left reading.buffer.rest feeds.stands.owed told)));
@@ -346,7 +350,8 @@ module _ {F : Type 0} (reads : Type 0) (feed : F → Feed) where
   }
 
   -- what a burst gave is a part of the run
-  pub record Given (front : ℕ) (recording : ℕ → Option (List ℕ)) (tells : Type 0) (k m : Known) (o p : Outbox) (first now : ℕ) (tune : ℕ) (reading : Reading F) (q : Buffered) (last : Work) : Type 0 where
+  pub record Given (front : ℕ) (recording : ℕ → Option (List ℕ)) (tells : Type 0) (k m : Known) (o p : Outbox) (first now : ℕ) (tune : ℕ) (reading : Reading F)
+      (q : Buffered) (last : Work) : Type 0 where
     pub reel : Reel
     pub early : ℕ
     pub so_far : SoFar front recording tells k m o p (after_work recording (Some reel) last) (Some (WorkIs last)) early
@@ -358,7 +363,8 @@ module _ {F : Type 0} (reads : Type 0) (feed : F → Feed) where
       → (gave : Gave may_want front tune work l m tells n p reading.buffer q result)
       → Given front recording tells k m o p first now tune reading q gave.last
   part_given may_want front recording tells k l m o n p first now work tune reading q result feeds for_it gave =
-      let part = gives_pumps front recording feeds.reel gave.caller tune reading.buffer.packets work gave.taken q.packets gave.last reading.buffer.rest reading.source
+      let part = gives_pumps front recording feeds.reel gave.caller tune reading.buffer.packets work gave.taken q.packets gave.last reading.buffer.rest
+      reading.source
       feeds.stands.owed gave.gives feeds.same feeds.stands.is_reel.1 in
       let D : Due → Type 0 = λ d. Pumps front recording d (entries gave.caller gave.taken) (after_work recording (Some part.reel) gave.last) 0 in
       let P : List Datagram → Type 0 = λ ds. Delivers tells n p ds in
@@ -368,7 +374,8 @@ module _ {F : Type 0} (reads : Type 0) (feed : F → Feed) where
       record {
         reel = part.reel;
         early = feeds.early + 0;
-        so_far = so_far_then front recording tells k l m o n p (Feeding feeds.reel) (after_work recording (Some part.reel) gave.last) (Some (WorkIs work)) (Some (WorkIs gave.last))
+        so_far = so_far_then front recording tells k l m o n p (Feeding feeds.reel) (after_work recording (Some part.reel) gave.last) (Some (WorkIs work))
+            (Some (WorkIs gave.last))
             feeds.early 0 (entries gave.caller gave.taken) feeds.so_far gave.adds (subst D (stays recording feeds.reel tune work feeds.same for_it) part.pumps)
             (subst P (sym (datagrams_given gave.caller gave.taken)) gave.delivers)
             (last_given front gave.caller tune reading.buffer.packets work gave.taken q.packets gave.last gave.gives gave.suit);
@@ -415,7 +422,8 @@ module _ {F : Type 0} (reads : Type 0) (feed : F → Feed) where
   }
 
 -- the service made no entry of an event
-pub fails : (may_want : Bool) (front : ℕ) (recording : ℕ → Option (List ℕ)) (tells : Type 0) (k l : Known) (o n : Outbox) (first now later : ℕ) (fault : ServiceFault)
+pub fails : (may_want : Bool) (front : ℕ) (recording : ℕ → Option (List ℕ)) (tells : Type 0) (k l : Known) (o n : Outbox) (first now later : ℕ)
+    (fault : ServiceFault)
     → Fails may_want front recording tells k l o n first now fault → now ≤ later → PumpRun front recording k l tells o n first later (ended_by fault)
 fails may_want front recording tells k l o n first now later fault failed more = record {
   entries = failed.so_far.entries;

@@ -45,7 +45,8 @@ given_is_of flag front tune work bundle packets some = allowed flag (may_give tu
     allowed true false packets is some = absurd (cc some)
     allowed false may packets is some = absurd (cc some)
 
-pub gave_fewer : (may_want : Bool) (front tune : ℕ) (work : Work) (k l : Known) (tells : Type 0) (o n : Outbox) (q r : Buffered) (result : Result Work ServiceFault)
+pub gave_fewer : (may_want : Bool) (front tune : ℕ) (work : Work) (k l : Known) (tells : Type 0) (o n : Outbox) (q r : Buffered)
+    (result : Result Work ServiceFault)
     → Gave may_want front tune work k l tells o n q r result → length r.packets ≤ length q.packets
 gave_fewer may_want front tune work k l tells o n q r result gave = gives_fewer front tune q.packets work gave.taken r.packets gave.last gave.gives
 

@@ -67,14 +67,32 @@ impl Lot for Load<'_> {
 
     // and it still has the same buffer
     ghost has_taken = { λ f g ts. (g.buffer.ghost_name ≡ f.buffer.ghost_name) × Took
-        (record { front = f.front; tune = f.tune; work = f.work; buffered = f.buffer.now; datagrams = f.batch.now.datagrams })
-        (record { front = g.front; tune = g.tune; work = g.work; buffered = g.buffer.now; datagrams = g.batch.now.datagrams })
+        (record {
+          front = f.front;
+          tune = f.tune;
+          work = f.work;
+          buffered = f.buffer.now;
+          datagrams = f.batch.now.datagrams;
+        })
+        (record {
+          front = g.front;
+          tune = g.tune;
+          work = g.work;
+          buffered = g.buffer.now;
+          datagrams = g.batch.now.datagrams;
+        })
         ts };
 
     ghost none_taken = { λ l. (
       refl,
       took_none
-          (record { front = l.front; tune = l.tune; work = l.work; buffered = l.buffer.now; datagrams = l.batch.now.datagrams }),
+          (record {
+            front = l.front;
+            tune = l.tune;
+            work = l.work;
+            buffered = l.buffer.now;
+            datagrams = l.batch.now.datagrams;
+          }),
     ) };
 
     fn next(&mut self) -> Option<Event> {

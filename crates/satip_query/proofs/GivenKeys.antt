@@ -66,11 +66,13 @@ put-ro : (q : Query) (value : RollOff) (key : Key) → is_given (with_change q (
 put-ro q value Ro = refl
 put-ro q value _ = refl
 
-put-msys : (q : Query) (value : System) (key : Key) → is_given (with_change q (record q.change { msys = Some value })) key ≡ (same_key Msys key || is_given q key)
+put-msys : (q : Query) (value : System) (key : Key)
+    → is_given (with_change q (record q.change { msys = Some value })) key ≡ (same_key Msys key || is_given q key)
 put-msys q value Msys = refl
 put-msys q value _ = refl
 
-put-mtype : (q : Query) (value : Modulation) (key : Key) → is_given (with_change q (record q.change { mtype = Some value })) key ≡ (same_key Mtype key || is_given q key)
+put-mtype : (q : Query) (value : Modulation) (key : Key)
+    → is_given (with_change q (record q.change { mtype = Some value })) key ≡ (same_key Mtype key || is_given q key)
 put-mtype q value Mtype = refl
 put-mtype q value _ = refl
 
@@ -86,7 +88,8 @@ put-fec : (q : Query) (value : Fec) (key : Key) → is_given (with_change q (rec
 put-fec q value FecKey = refl
 put-fec q value _ = refl
 
-put-pids : (q : Query) (given : PidsGiven) (key : Key) → are_given given ≡ true → is_given (record q { pids = given }) key ≡ (same_key Pids key || is_given q key)
+put-pids : (q : Query) (given : PidsGiven) (key : Key) → are_given given ≡ true
+    → is_given (record q { pids = given }) key ≡ (same_key Pids key || is_given q key)
 put-pids q given Pids some = some
 put-pids q given _ some = refl
 
@@ -158,7 +161,8 @@ given-known q r named text key =
     elim (is_open named text) as (λ open_. (if open_ then Ok q else if is_given q named then Err (Syntax named)
     else at_key named (with_value q named text)) ≡ Ok r
     → is_given r key ≡ ((same_key named key && not open_) || is_given q key)) [
-      | true ↦ λ e. (let same : q ≡ r = cc in sym (ap (λ query. is_given query key) same) ∙ ap (λ b. b || is_given q key) (sym (and-false (same_key named key))))
+      | true ↦ λ e. (let same : q ≡ r = cc in sym (ap (λ query. is_given query key) same)
+          ∙ ap (λ b. b || is_given q key) (sym (and-false (same_key named key))))
       | false ↦ elim (is_given q named) as (λ given. (if given then Err (Syntax named) else at_key named (with_value q named text)) ≡ Ok r
           → is_given r key ≡ ((same_key named key && true) || is_given q key)) [
             | true ↦ λ e. absurd (cc)

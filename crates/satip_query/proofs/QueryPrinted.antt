@@ -180,82 +180,167 @@ behind_addpids = Delpids ∷ []
 abbrev behind_delpids : List Key
 behind_delpids = []
 
-read-fe : (q : Query) → IsAllowed q → with_pieces (by_fields None None None None None None None None None None Absent None None) (pieces q (Fe ∷ behind_fe)) ≡ with_pieces (by_fields q.change.fe None None None None None None None None None Absent None None) (pieces q behind_fe)
+read-fe : (q : Query) → IsAllowed q → with_pieces (by_fields None None None None None None None None None None Absent None None) (pieces q (Fe ∷ behind_fe))
+    ≡ with_pieces (by_fields q.change.fe None None None None None None None None None Absent None None) (pieces q behind_fe)
 unfolding is_open
 read-fe q ok =
     step q Fe behind_fe decimal (IsWithin 1 65535) q.change.fe (λ o. by_fields o None None None None None None None None None Absent None None) refl refl ok.fe
-    (λ n inside. known (by_fields None None None None None None None None None None Absent None None) (by_fields (Some n) None None None None None None None None None Absent None None) Fe (decimal n) refl refl (rw (number_printed 1 65535 n inside (omega arith)) refl))
+    (λ n inside. known (by_fields None None None None None None None None None None Absent None None)
+    (by_fields (Some n) None None None None None None None None None Absent None None) Fe (decimal n) refl refl
+    (rw (number_printed 1 65535 n inside (omega arith)) refl))
 
-read-src : (q : Query) → IsAllowed q → with_pieces (by_fields q.change.fe None None None None None None None None None Absent None None) (pieces q (Src ∷ behind_src)) ≡ with_pieces (by_fields q.change.fe q.change.src None None None None None None None None Absent None None) (pieces q behind_src)
+read-src : (q : Query) → IsAllowed q → with_pieces (by_fields q.change.fe None None None None None None None None None Absent None None)
+    (pieces q (Src ∷ behind_src)) ≡ with_pieces (by_fields q.change.fe q.change.src None None None None None None None None Absent None None)
+    (pieces q behind_src)
 unfolding is_open
 read-src q ok =
-    step q Src behind_src decimal (IsWithin 1 255) q.change.src (λ o. by_fields q.change.fe o None None None None None None None None Absent None None) refl refl ok.src
-    (λ n inside. known (by_fields q.change.fe None None None None None None None None None Absent None None) (by_fields q.change.fe (Some n) None None None None None None None None Absent None None) Src (decimal n) refl refl (rw (number_printed 1 255 n inside (omega arith)) refl))
+    step q Src behind_src decimal (IsWithin 1 255) q.change.src (λ o. by_fields q.change.fe o None None None None None None None None Absent None None)
+    refl refl ok.src
+    (λ n inside. known (by_fields q.change.fe None None None None None None None None None Absent None None)
+    (by_fields q.change.fe (Some n) None None None None None None None None Absent None None) Src (decimal n) refl refl
+    (rw (number_printed 1 255 n inside (omega arith)) refl))
 
-read-freq : (q : Query) → IsAllowed q → with_pieces (by_fields q.change.fe q.change.src None None None None None None None None Absent None None) (pieces q (Freq ∷ behind_freq)) ≡ with_pieces (by_fields q.change.fe q.change.src q.change.freq None None None None None None None Absent None None) (pieces q behind_freq)
+read-freq : (q : Query) → IsAllowed q → with_pieces (by_fields q.change.fe q.change.src None None None None None None None None Absent None None)
+    (pieces q (Freq ∷ behind_freq)) ≡ with_pieces (by_fields q.change.fe q.change.src q.change.freq None None None None None None None Absent None None)
+    (pieces q behind_freq)
 unfolding is_open
 read-freq q ok =
-    step q Freq behind_freq frequency_text (IsWithin 1000 99999999) q.change.freq (λ o. by_fields q.change.fe q.change.src o None None None None None None None Absent None None) refl refl ok.freq
-    (λ n inside. known (by_fields q.change.fe q.change.src None None None None None None None None Absent None None) (by_fields q.change.fe q.change.src (Some n) None None None None None None None Absent None None) Freq (frequency_text n) refl refl (rw (frequency_printed n inside.at_least inside.at_most) refl))
+    step q Freq behind_freq frequency_text (IsWithin 1000 99999999) q.change.freq
+    (λ o. by_fields q.change.fe q.change.src o None None None None None None None Absent None None) refl refl ok.freq
+    (λ n inside. known (by_fields q.change.fe q.change.src None None None None None None None None Absent None None)
+    (by_fields q.change.fe q.change.src (Some n) None None None None None None None Absent None None) Freq (frequency_text n) refl refl
+    (rw (frequency_printed n inside.at_least inside.at_most) refl))
 
-read-pol : (q : Query) → IsAllowed q → with_pieces (by_fields q.change.fe q.change.src q.change.freq None None None None None None None Absent None None) (pieces q (PolKey ∷ behind_pol)) ≡ with_pieces (by_fields q.change.fe q.change.src q.change.freq q.change.pol None None None None None None Absent None None) (pieces q behind_pol)
+read-pol : (q : Query) → IsAllowed q → with_pieces (by_fields q.change.fe q.change.src q.change.freq None None None None None None None Absent None None)
+    (pieces q (PolKey ∷ behind_pol)) ≡ with_pieces
+    (by_fields q.change.fe q.change.src q.change.freq q.change.pol None None None None None None Absent None None) (pieces q behind_pol)
 unfolding is_open
 read-pol q ok =
-    step-word q PolKey behind_pol pol_text q.change.pol (λ o. by_fields q.change.fe q.change.src q.change.freq o None None None None None None Absent None None) refl refl
-    (λ v. known (by_fields q.change.fe q.change.src q.change.freq None None None None None None None Absent None None) (by_fields q.change.fe q.change.src q.change.freq (Some v) None None None None None None Absent None None) PolKey (pol_text v) refl refl (rw (pol_printed v) refl))
+    step-word q PolKey behind_pol pol_text q.change.pol
+    (λ o. by_fields q.change.fe q.change.src q.change.freq o None None None None None None Absent None None) refl refl
+    (λ v. known (by_fields q.change.fe q.change.src q.change.freq None None None None None None None Absent None None)
+    (by_fields q.change.fe q.change.src q.change.freq (Some v) None None None None None None Absent None None) PolKey (pol_text v) refl refl
+    (rw (pol_printed v) refl))
 
-read-ro : (q : Query) → IsAllowed q → with_pieces (by_fields q.change.fe q.change.src q.change.freq q.change.pol None None None None None None Absent None None) (pieces q (Ro ∷ behind_ro)) ≡ with_pieces (by_fields q.change.fe q.change.src q.change.freq q.change.pol q.change.ro None None None None None Absent None None) (pieces q behind_ro)
+read-ro : (q : Query) → IsAllowed q → with_pieces (by_fields q.change.fe q.change.src q.change.freq q.change.pol None None None None None None Absent None None)
+    (pieces q (Ro ∷ behind_ro))
+    ≡ with_pieces (by_fields q.change.fe q.change.src q.change.freq q.change.pol q.change.ro None None None None None Absent None None) (pieces q behind_ro)
 read-ro q ok =
-    step-word q Ro behind_ro roll_off_text q.change.ro (λ o. by_fields q.change.fe q.change.src q.change.freq q.change.pol o None None None None None Absent None None) refl refl
-    (λ v. known (by_fields q.change.fe q.change.src q.change.freq q.change.pol None None None None None None Absent None None) (by_fields q.change.fe q.change.src q.change.freq q.change.pol (Some v) None None None None None Absent None None) Ro (roll_off_text v) (closed-roll_off v) refl (rw (roll_off_printed v) refl))
+    step-word q Ro behind_ro roll_off_text q.change.ro
+    (λ o. by_fields q.change.fe q.change.src q.change.freq q.change.pol o None None None None None Absent None None) refl refl
+    (λ v. known (by_fields q.change.fe q.change.src q.change.freq q.change.pol None None None None None None Absent None None)
+    (by_fields q.change.fe q.change.src q.change.freq q.change.pol (Some v) None None None None None Absent None None) Ro (roll_off_text v) (closed-roll_off v)
+    refl (rw (roll_off_printed v) refl))
 
-read-msys : (q : Query) → IsAllowed q → with_pieces (by_fields q.change.fe q.change.src q.change.freq q.change.pol q.change.ro None None None None None Absent None None) (pieces q (Msys ∷ behind_msys)) ≡ with_pieces (by_fields q.change.fe q.change.src q.change.freq q.change.pol q.change.ro q.change.msys None None None None Absent None None) (pieces q behind_msys)
+read-msys : (q : Query) → IsAllowed q
+    → with_pieces (by_fields q.change.fe q.change.src q.change.freq q.change.pol q.change.ro None None None None None Absent None None)
+    (pieces q (Msys ∷ behind_msys)) ≡ with_pieces
+    (by_fields q.change.fe q.change.src q.change.freq q.change.pol q.change.ro q.change.msys None None None None Absent None None) (pieces q behind_msys)
 unfolding is_open
 read-msys q ok =
-    step-word q Msys behind_msys system_text q.change.msys (λ o. by_fields q.change.fe q.change.src q.change.freq q.change.pol q.change.ro o None None None None Absent None None) refl refl
-    (λ v. known (by_fields q.change.fe q.change.src q.change.freq q.change.pol q.change.ro None None None None None Absent None None) (by_fields q.change.fe q.change.src q.change.freq q.change.pol q.change.ro (Some v) None None None None Absent None None) Msys (system_text v) refl refl (rw (system_printed v) refl))
+    step-word q Msys behind_msys system_text q.change.msys
+    (λ o. by_fields q.change.fe q.change.src q.change.freq q.change.pol q.change.ro o None None None None Absent None None) refl refl
+    (λ v. known (by_fields q.change.fe q.change.src q.change.freq q.change.pol q.change.ro None None None None None Absent None None)
+    (by_fields q.change.fe q.change.src q.change.freq q.change.pol q.change.ro (Some v) None None None None Absent None None) Msys (system_text v) refl refl
+    (rw (system_printed v) refl))
 
-read-mtype : (q : Query) → IsAllowed q → with_pieces (by_fields q.change.fe q.change.src q.change.freq q.change.pol q.change.ro q.change.msys None None None None Absent None None) (pieces q (Mtype ∷ behind_mtype)) ≡ with_pieces (by_fields q.change.fe q.change.src q.change.freq q.change.pol q.change.ro q.change.msys q.change.mtype None None None Absent None None) (pieces q behind_mtype)
+read-mtype : (q : Query) → IsAllowed q
+    → with_pieces (by_fields q.change.fe q.change.src q.change.freq q.change.pol q.change.ro q.change.msys None None None None Absent None None)
+    (pieces q (Mtype ∷ behind_mtype)) ≡ with_pieces
+    (by_fields q.change.fe q.change.src q.change.freq q.change.pol q.change.ro q.change.msys q.change.mtype None None None Absent None None)
+    (pieces q behind_mtype)
 read-mtype q ok =
-    step-word q Mtype behind_mtype modulation_text q.change.mtype (λ o. by_fields q.change.fe q.change.src q.change.freq q.change.pol q.change.ro q.change.msys o None None None Absent None None) refl refl
-    (λ v. known (by_fields q.change.fe q.change.src q.change.freq q.change.pol q.change.ro q.change.msys None None None None Absent None None) (by_fields q.change.fe q.change.src q.change.freq q.change.pol q.change.ro q.change.msys (Some v) None None None Absent None None) Mtype (modulation_text v) (closed-modulation v) refl (rw (modulation_printed v) refl))
+    step-word q Mtype behind_mtype modulation_text q.change.mtype
+    (λ o. by_fields q.change.fe q.change.src q.change.freq q.change.pol q.change.ro q.change.msys o None None None Absent None None) refl refl
+    (λ v. known (by_fields q.change.fe q.change.src q.change.freq q.change.pol q.change.ro q.change.msys None None None None Absent None None)
+    (by_fields q.change.fe q.change.src q.change.freq q.change.pol q.change.ro q.change.msys (Some v) None None None Absent None None) Mtype (modulation_text v)
+    (closed-modulation v) refl (rw (modulation_printed v) refl))
 
-read-plts : (q : Query) → IsAllowed q → with_pieces (by_fields q.change.fe q.change.src q.change.freq q.change.pol q.change.ro q.change.msys q.change.mtype None None None Absent None None) (pieces q (Plts ∷ behind_plts)) ≡ with_pieces (by_fields q.change.fe q.change.src q.change.freq q.change.pol q.change.ro q.change.msys q.change.mtype q.change.plts None None Absent None None) (pieces q behind_plts)
+read-plts : (q : Query) → IsAllowed q
+    → with_pieces (by_fields q.change.fe q.change.src q.change.freq q.change.pol q.change.ro q.change.msys q.change.mtype None None None Absent None None)
+    (pieces q (Plts ∷ behind_plts)) ≡ with_pieces
+    (by_fields q.change.fe q.change.src q.change.freq q.change.pol q.change.ro q.change.msys q.change.mtype q.change.plts None None Absent None None)
+    (pieces q behind_plts)
 read-plts q ok =
-    step-word q Plts behind_plts pilots_text q.change.plts (λ o. by_fields q.change.fe q.change.src q.change.freq q.change.pol q.change.ro q.change.msys q.change.mtype o None None Absent None None) refl refl
-    (λ v. known (by_fields q.change.fe q.change.src q.change.freq q.change.pol q.change.ro q.change.msys q.change.mtype None None None Absent None None) (by_fields q.change.fe q.change.src q.change.freq q.change.pol q.change.ro q.change.msys q.change.mtype (Some v) None None Absent None None) Plts (pilots_text v) (closed-pilots v) refl (rw (pilots_printed v) refl))
+    step-word q Plts behind_plts pilots_text q.change.plts
+    (λ o. by_fields q.change.fe q.change.src q.change.freq q.change.pol q.change.ro q.change.msys q.change.mtype o None None Absent None None) refl refl
+    (λ v. known (by_fields q.change.fe q.change.src q.change.freq q.change.pol q.change.ro q.change.msys q.change.mtype None None None Absent None None)
+    (by_fields q.change.fe q.change.src q.change.freq q.change.pol q.change.ro q.change.msys q.change.mtype (Some v) None None Absent None None) Plts
+    (pilots_text v) (closed-pilots v) refl (rw (pilots_printed v) refl))
 
-read-sr : (q : Query) → IsAllowed q → with_pieces (by_fields q.change.fe q.change.src q.change.freq q.change.pol q.change.ro q.change.msys q.change.mtype q.change.plts None None Absent None None) (pieces q (Sr ∷ behind_sr)) ≡ with_pieces (by_fields q.change.fe q.change.src q.change.freq q.change.pol q.change.ro q.change.msys q.change.mtype q.change.plts q.change.sr None Absent None None) (pieces q behind_sr)
+read-sr : (q : Query) → IsAllowed q
+    → with_pieces (by_fields q.change.fe q.change.src q.change.freq q.change.pol q.change.ro q.change.msys q.change.mtype q.change.plts None None Absent None
+    None) (pieces q (Sr ∷ behind_sr)) ≡ with_pieces
+    (by_fields q.change.fe q.change.src q.change.freq q.change.pol q.change.ro q.change.msys q.change.mtype q.change.plts q.change.sr None Absent None None)
+    (pieces q behind_sr)
 unfolding is_open
 read-sr q ok =
-    step q Sr behind_sr decimal (IsWithin 1 99999) q.change.sr (λ o. by_fields q.change.fe q.change.src q.change.freq q.change.pol q.change.ro q.change.msys q.change.mtype q.change.plts o None Absent None None) refl refl ok.sr
-    (λ n inside. known (by_fields q.change.fe q.change.src q.change.freq q.change.pol q.change.ro q.change.msys q.change.mtype q.change.plts None None Absent None None) (by_fields q.change.fe q.change.src q.change.freq q.change.pol q.change.ro q.change.msys q.change.mtype q.change.plts (Some n) None Absent None None) Sr (decimal n) refl refl (rw (number_printed 1 99999 n inside (omega arith)) refl))
+    step q Sr behind_sr decimal (IsWithin 1 99999) q.change.sr
+    (λ o. by_fields q.change.fe q.change.src q.change.freq q.change.pol q.change.ro q.change.msys q.change.mtype q.change.plts o None Absent None None)
+    refl refl ok.sr
+    (λ n inside. known (by_fields q.change.fe q.change.src q.change.freq q.change.pol q.change.ro q.change.msys q.change.mtype q.change.plts None None Absent
+    None None) (by_fields q.change.fe q.change.src q.change.freq q.change.pol q.change.ro q.change.msys q.change.mtype q.change.plts (Some n) None Absent None
+    None) Sr (decimal n) refl refl (rw (number_printed 1 99999 n inside (omega arith)) refl))
 
-read-fec : (q : Query) → IsAllowed q → with_pieces (by_fields q.change.fe q.change.src q.change.freq q.change.pol q.change.ro q.change.msys q.change.mtype q.change.plts q.change.sr None Absent None None) (pieces q (FecKey ∷ behind_fec)) ≡ with_pieces (by_fields q.change.fe q.change.src q.change.freq q.change.pol q.change.ro q.change.msys q.change.mtype q.change.plts q.change.sr q.change.fec Absent None None) (pieces q behind_fec)
+read-fec : (q : Query) → IsAllowed q
+    → with_pieces (by_fields q.change.fe q.change.src q.change.freq q.change.pol q.change.ro q.change.msys q.change.mtype q.change.plts q.change.sr None Absent
+    None None) (pieces q (FecKey ∷ behind_fec)) ≡ with_pieces
+    (by_fields q.change.fe q.change.src q.change.freq q.change.pol q.change.ro q.change.msys q.change.mtype q.change.plts q.change.sr q.change.fec Absent None
+    None) (pieces q behind_fec)
 read-fec q ok =
-    step-word q FecKey behind_fec fec_text q.change.fec (λ o. by_fields q.change.fe q.change.src q.change.freq q.change.pol q.change.ro q.change.msys q.change.mtype q.change.plts q.change.sr o Absent None None) refl refl
-    (λ v. known (by_fields q.change.fe q.change.src q.change.freq q.change.pol q.change.ro q.change.msys q.change.mtype q.change.plts q.change.sr None Absent None None) (by_fields q.change.fe q.change.src q.change.freq q.change.pol q.change.ro q.change.msys q.change.mtype q.change.plts q.change.sr (Some v) Absent None None) FecKey (fec_text v) (closed-fec v) refl (rw (fec_printed v) refl))
+    step-word q FecKey behind_fec fec_text q.change.fec
+    (λ o. by_fields q.change.fe q.change.src q.change.freq q.change.pol q.change.ro q.change.msys q.change.mtype q.change.plts q.change.sr o Absent None None)
+    refl refl
+    (λ v. known (by_fields q.change.fe q.change.src q.change.freq q.change.pol q.change.ro q.change.msys q.change.mtype q.change.plts q.change.sr None Absent
+    None None) (by_fields q.change.fe q.change.src q.change.freq q.change.pol q.change.ro q.change.msys q.change.mtype q.change.plts q.change.sr (Some v) Absent
+    None None) FecKey (fec_text v) (closed-fec v) refl (rw (fec_printed v) refl))
 
-read-pids : (q : Query) → IsAllowed q → with_pieces (by_fields q.change.fe q.change.src q.change.freq q.change.pol q.change.ro q.change.msys q.change.mtype q.change.plts q.change.sr q.change.fec Absent None None) (pieces q (Pids ∷ behind_pids)) ≡ with_pieces (by_fields q.change.fe q.change.src q.change.freq q.change.pol q.change.ro q.change.msys q.change.mtype q.change.plts q.change.sr q.change.fec q.pids None None) (pieces q behind_pids)
+read-pids : (q : Query) → IsAllowed q
+    → with_pieces (by_fields q.change.fe q.change.src q.change.freq q.change.pol q.change.ro q.change.msys q.change.mtype q.change.plts q.change.sr q.change.fec
+    Absent None None) (pieces q (Pids ∷ behind_pids))
+    ≡ with_pieces (by_fields q.change.fe q.change.src q.change.freq q.change.pol q.change.ro q.change.msys q.change.mtype q.change.plts q.change.sr q.change.fec
+    q.pids None None) (pieces q behind_pids)
 read-pids q ok =
-    step-pids q behind_pids q.pids (λ o. by_fields q.change.fe q.change.src q.change.freq q.change.pol q.change.ro q.change.msys q.change.mtype q.change.plts q.change.sr q.change.fec o None None) refl ok.pids (pids-known (by_fields q.change.fe q.change.src q.change.freq q.change.pol q.change.ro q.change.msys q.change.mtype q.change.plts q.change.sr q.change.fec Absent None None) refl)
+    step-pids q behind_pids q.pids
+    (λ o. by_fields q.change.fe q.change.src q.change.freq q.change.pol q.change.ro q.change.msys q.change.mtype q.change.plts q.change.sr q.change.fec o None
+    None) refl ok.pids (pids-known (by_fields q.change.fe q.change.src q.change.freq q.change.pol q.change.ro q.change.msys q.change.mtype q.change.plts
+    q.change.sr q.change.fec Absent None None) refl)
 
-read-addpids : (q : Query) → IsAllowed q → with_pieces (by_fields q.change.fe q.change.src q.change.freq q.change.pol q.change.ro q.change.msys q.change.mtype q.change.plts q.change.sr q.change.fec q.pids None None) (pieces q (Addpids ∷ behind_addpids)) ≡ with_pieces (by_fields q.change.fe q.change.src q.change.freq q.change.pol q.change.ro q.change.msys q.change.mtype q.change.plts q.change.sr q.change.fec q.pids q.addpids None) (pieces q behind_addpids)
+read-addpids : (q : Query) → IsAllowed q
+    → with_pieces (by_fields q.change.fe q.change.src q.change.freq q.change.pol q.change.ro q.change.msys q.change.mtype q.change.plts q.change.sr q.change.fec
+    q.pids None None) (pieces q (Addpids ∷ behind_addpids))
+    ≡ with_pieces (by_fields q.change.fe q.change.src q.change.freq q.change.pol q.change.ro q.change.msys q.change.mtype q.change.plts q.change.sr q.change.fec
+    q.pids q.addpids None) (pieces q behind_addpids)
 unfolding is_open
 read-addpids q ok =
-    step q Addpids behind_addpids list_text AreListed q.addpids (λ o. by_fields q.change.fe q.change.src q.change.freq q.change.pol q.change.ro q.change.msys q.change.mtype q.change.plts q.change.sr q.change.fec q.pids o None) refl refl ok.addpids
-    (λ pids listed. known (by_fields q.change.fe q.change.src q.change.freq q.change.pol q.change.ro q.change.msys q.change.mtype q.change.plts q.change.sr q.change.fec q.pids None None) (by_fields q.change.fe q.change.src q.change.freq q.change.pol q.change.ro q.change.msys q.change.mtype q.change.plts q.change.sr q.change.fec q.pids (Some pids) None) Addpids (list_text pids) refl refl (rw (pid_list_printed pids listed) refl))
+    step q Addpids behind_addpids list_text AreListed q.addpids
+    (λ o. by_fields q.change.fe q.change.src q.change.freq q.change.pol q.change.ro q.change.msys q.change.mtype q.change.plts q.change.sr q.change.fec q.pids o
+    None) refl refl ok.addpids
+    (λ pids listed. known (by_fields q.change.fe q.change.src q.change.freq q.change.pol q.change.ro q.change.msys q.change.mtype q.change.plts q.change.sr
+    q.change.fec q.pids None None)
+    (by_fields q.change.fe q.change.src q.change.freq q.change.pol q.change.ro q.change.msys q.change.mtype q.change.plts q.change.sr q.change.fec q.pids
+    (Some pids) None) Addpids (list_text pids) refl refl (rw (pid_list_printed pids listed) refl))
 
-read-delpids : (q : Query) → IsAllowed q → with_pieces (by_fields q.change.fe q.change.src q.change.freq q.change.pol q.change.ro q.change.msys q.change.mtype q.change.plts q.change.sr q.change.fec q.pids q.addpids None) (pieces q (Delpids ∷ behind_delpids)) ≡ with_pieces (by_fields q.change.fe q.change.src q.change.freq q.change.pol q.change.ro q.change.msys q.change.mtype q.change.plts q.change.sr q.change.fec q.pids q.addpids q.delpids) (pieces q behind_delpids)
+read-delpids : (q : Query) → IsAllowed q
+    → with_pieces (by_fields q.change.fe q.change.src q.change.freq q.change.pol q.change.ro q.change.msys q.change.mtype q.change.plts q.change.sr q.change.fec
+    q.pids q.addpids None) (pieces q (Delpids ∷ behind_delpids))
+    ≡ with_pieces (by_fields q.change.fe q.change.src q.change.freq q.change.pol q.change.ro q.change.msys q.change.mtype q.change.plts q.change.sr q.change.fec
+    q.pids q.addpids q.delpids) (pieces q behind_delpids)
 unfolding is_open
 read-delpids q ok =
-    step q Delpids behind_delpids list_text AreListed q.delpids (λ o. by_fields q.change.fe q.change.src q.change.freq q.change.pol q.change.ro q.change.msys q.change.mtype q.change.plts q.change.sr q.change.fec q.pids q.addpids o) refl refl ok.delpids
-    (λ pids listed. known (by_fields q.change.fe q.change.src q.change.freq q.change.pol q.change.ro q.change.msys q.change.mtype q.change.plts q.change.sr q.change.fec q.pids q.addpids None) (by_fields q.change.fe q.change.src q.change.freq q.change.pol q.change.ro q.change.msys q.change.mtype q.change.plts q.change.sr q.change.fec q.pids q.addpids (Some pids)) Delpids (list_text pids) refl refl (rw (pid_list_printed pids listed) refl))
+    step q Delpids behind_delpids list_text AreListed q.delpids
+    (λ o. by_fields q.change.fe q.change.src q.change.freq q.change.pol q.change.ro q.change.msys q.change.mtype q.change.plts q.change.sr q.change.fec q.pids
+    q.addpids o) refl refl ok.delpids
+    (λ pids listed. known (by_fields q.change.fe q.change.src q.change.freq q.change.pol q.change.ro q.change.msys q.change.mtype q.change.plts q.change.sr
+    q.change.fec q.pids q.addpids None)
+    (by_fields q.change.fe q.change.src q.change.freq q.change.pol q.change.ro q.change.msys q.change.mtype q.change.plts q.change.sr q.change.fec q.pids
+    q.addpids (Some pids)) Delpids (list_text pids) refl refl (rw (pid_list_printed pids listed) refl))
 
 -- the pieces of a query give it
 read_all : (q : Query) → IsAllowed q → with_pieces new_query (pieces q all_keys) ≡ Ok q
 read_all q ok =
-    read-fe q ok ∙ read-src q ok ∙ read-freq q ok ∙ read-pol q ok ∙ read-ro q ok ∙ read-msys q ok ∙ read-mtype q ok ∙ read-plts q ok ∙ read-sr q ok ∙ read-fec q ok ∙ read-pids q ok ∙ read-addpids q ok ∙ read-delpids q ok
+    read-fe q ok ∙ read-src q ok ∙ read-freq q ok ∙ read-pol q ok ∙ read-ro q ok ∙ read-msys q ok ∙ read-mtype q ok ∙ read-plts q ok ∙ read-sr q ok
+    ∙ read-fec q ok ∙ read-pids q ok ∙ read-addpids q ok ∙ read-delpids q ok
 
 clean-pieces : (q : Query) (keys : List Key) → IsAllowed q → AreClean 38 (pieces q keys)
 clean-pieces q [] ok = tt

@@ -120,7 +120,8 @@ module _ (c : Config) (st : State) (g : Readings) (a : Agrees c st g) (http : Bo
 
   sessions_added : (number : ℕ) → number ≡ numbers home → Alike g1 (living g1) (st.sessions ++ new_session st http peer draw ports number ∷ [])
   sessions_added number is = rw living_added
-      (alike_append g1 new (new_session st http peer draw ports number) (living g) st.sessions (alike_read g g1 (living g) st.sessions old_same a.loosely.sessions) (new_same number is))
+      (alike_append g1 new (new_session st http peer draw ports number) (living g) st.sessions
+      (alike_read g g1 (living g) st.sessions old_same a.loosely.sessions) (new_same number is))
 
   -- the home of a number, with the new session
   home_added : (n : ℕ) (o : Option Made) → find (λ m. g.number m.home == n) (living g) ≡ o
@@ -130,12 +131,15 @@ module _ (c : Config) (st : State) (g : Readings) (a : Agrees c st g) (http : Bo
       same : find (λ m. numbers m.home == n) (living g) ≡ find (λ m. g.number m.home == n) (living g)
       same = find_agree (λ m. numbers m.home == n) (λ m. g.number m.home == n) (living g) (λ m h. ap (λ k. k == n) (home_number m h))
 
-      by : (o : Option Made) → find (λ m. numbers m.home == n) (living g) ≡ o → find (λ m. numbers m.home == n) (living g ++ new ∷ []) ≡ cond (is_some o) o (cond (numbers home == n) (Some new) None)
+      by : (o : Option Made) → find (λ m. numbers m.home == n) (living g) ≡ o
+          → find (λ m. numbers m.home == n) (living g ++ new ∷ []) ≡ cond (is_some o) o (cond (numbers home == n) (Some new) None)
       by None f = find_append (λ m. numbers m.home == n) (living g) (new ∷ []) f
       by (Some m) f = find_before (λ m. numbers m.home == n) (living g) (new ∷ []) m f
 
   free_added : ((f : ℕ) → is_at (g.front home) f ≡ true → serves g f ≡ true) → (f : ℕ) → serves g1 f ≡ false → g.mux f ≡ None
-  free_added at f none = a.free f (by (serves g f) (is_at (g.front home) f) (at f) (sym (ap (list_any (λ m. is_at (g.front m.home) f)) living_added ∙ any_append (λ m. is_at (g.front m.home) f) (living g) (new ∷ [])) ∙ none))
+  free_added at f none = a.free f
+      (by (serves g f) (is_at (g.front home) f) (at f)
+      (sym (ap (list_any (λ m. is_at (g.front m.home) f)) living_added ∙ any_append (λ m. is_at (g.front m.home) f) (living g) (new ∷ [])) ∙ none))
     where
       by : (x y : Bool) → (y ≡ true → x ≡ true) → (x || (y || false)) ≡ false → x ≡ false
       by true y f e = e
@@ -166,7 +170,8 @@ module _ (c : Config) (st : State) (g : Readings) (a : Agrees c st g) (http : Bo
   }
 
 -- a session that joins a living stream
-module _ (c : Config) (st : State) (g : Readings) (a : Agrees c st g) (http : Bool) (peer : Peer) (draw : Draw) (ports : Ports) (m : Made) (lives : Has m (living g)) where
+module _ (c : Config) (st : State) (g : Readings) (a : Agrees c st g) (http : Bool) (peer : Peer) (draw : Draw) (ports : Ports) (m : Made)
+    (lives : Has m (living g)) where
   pub joined_numbered : IsNumbered g (making g http m.home draw) g.number
   joined_numbered = record {
     old = λ t h. refl;
@@ -235,7 +240,8 @@ module _ (c : Config) (st : State) (g : Readings) (a : Agrees c st g) (http : Bo
   founded_streams : (n : ℕ) → find (λ t. t.number == n) (put_stream fresh st.streams) ≡ option_map (stream_told g2) (home_of_number g2 n)
   founded_streams n = put_find fresh st.streams a.loosely.kept.once is_new.free n
       ∙ by (find (λ x. g.number x.home == n) (living g)) refl
-      ∙ ap (option_map (stream_told g2)) (sym (home_added c st g a http peer draw ports id founded_numbers founded_numbered n (find (λ x. g.number x.home == n) (living g)) refl))
+      ∙ ap (option_map (stream_told g2))
+      (sym (home_added c st g a http peer draw ports id founded_numbers founded_numbered n (find (λ x. g.number x.home == n) (living g)) refl))
     where
       at_home : (o : Option Made) → find (λ x. g.number x.home == n) (living g) ≡ o → stream_of st n ≡ option_map (stream_told g) (option_map (λ x. x.home) o)
       at_home o e = a.streams n ∙ ap (λ p. option_map (stream_told g) (option_map (λ x. x.home) p)) e
@@ -248,16 +254,21 @@ module _ (c : Config) (st : State) (g : Readings) (a : Agrees c st g) (http : Bo
       new_one false = refl
 
       by : (o : Option Made) → find (λ x. g.number x.home == n) (living g) ≡ o
-          → cond (k == n) (Some fresh) (stream_of st n) ≡ option_map (stream_told g2) (option_map (λ x. x.home) (cond (is_some o) o (cond (founded_numbers id == n) (Some (making g http id draw)) None)))
+          → cond (k == n) (Some fresh) (stream_of st n)
+          ≡ option_map (stream_told g2) (option_map (λ x. x.home) (cond (is_some o) o (cond (founded_numbers id == n) (Some (making g http id draw)) None)))
       by (Some x) e =
           let there = find_has (λ y. g.number y.home == n) (living g) x e in
-          let other : (k == n) ≡ false = is_false (k == n) (λ f. none_some (stream_of st k) (stream_told g x.home) stream_none (ap (stream_of st) (eqb-true k n f) ∙ at_home (Some x) e)) in
-          rw other (at_home (Some x) e ∙ ap (λ i. Some (record { number = i; tuning = g.tuned x.home; front = g.front x.home; pids = g.pids x.home })) (sym (old_number x.home (a.loosely.told.homes x there.0))))
-      by None e = ap (cond (k == n) (Some fresh)) (at_home None e) ∙ new_one (k == n) ∙ ap (λ i. option_map (stream_told g2) (option_map (λ x. x.home) (cond (i == n) (Some (making g http id draw)) None))) (sym id_number)
+          let other : (k == n) ≡ false = is_false (k == n)
+          (λ f. none_some (stream_of st k) (stream_told g x.home) stream_none (ap (stream_of st) (eqb-true k n f) ∙ at_home (Some x) e)) in
+          rw other (at_home (Some x) e ∙ ap (λ i. Some (record { number = i; tuning = g.tuned x.home; front = g.front x.home; pids = g.pids x.home }))
+          (sym (old_number x.home (a.loosely.told.homes x there.0))))
+      by None e = ap (cond (k == n) (Some fresh)) (at_home None e) ∙ new_one (k == n)
+          ∙ ap (λ i. option_map (stream_told g2) (option_map (λ x. x.home) (cond (i == n) (Some (making g http id draw)) None))) (sym id_number)
 
   pub agrees_founded : Agrees c (found http peer draw ports st) g2
   agrees_founded = agrees_added c st g a http peer draw ports id founded_numbers founded_numbered k (sym id_number) (put_stream fresh st.streams)
-      founded_streams (put_apart fresh st.streams a.loosely.kept.once is_new.free a.loosely.kept.apart) (put_once fresh st.streams a.loosely.kept.once is_new.free)
+      founded_streams (put_apart fresh st.streams a.loosely.kept.once is_new.free a.loosely.kept.apart)
+      (put_once fresh st.streams a.loosely.kept.once is_new.free)
       (λ t h. positive t (put_has fresh t st.streams h))
       (let few = a.loosely.kept.few in let long = put_length fresh st.streams in omega arith)
       (λ t f h e. placed t f (put_has fresh t st.streams h) e)

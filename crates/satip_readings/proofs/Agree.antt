@@ -117,14 +117,16 @@ pub alike_any : (g : Readings) (q : Made → Bool) (p : Session → Bool) (ms : 
 alike_any g q p [] [] same alike = refl
 alike_any g q p [] (s ∷ ss) same alike = absurd alike
 alike_any g q p (m ∷ ms) [] same alike = absurd alike
-alike_any g q p (m ∷ ms) (s ∷ ss) same alike = ap (λ b. b || list_any q ms) (same m s (inl refl) alike.0) ∙ ap (λ b. p s || b) (alike_any g q p ms ss (λ n t h e. same n t (inr h) e) alike.1)
+alike_any g q p (m ∷ ms) (s ∷ ss) same alike =
+    ap (λ b. b || list_any q ms) (same m s (inl refl) alike.0) ∙ ap (λ b. p s || b) (alike_any g q p ms ss (λ n t h e. same n t (inr h) e) alike.1)
 
 pub alike_map : (g g' : Readings) (f : Session → Session) (ms : List Made) (ss : List Session)
     → ((m : Made) (s : Session) → Has m ms → Has s ss → Same g m s → Same g' m (f s)) → Alike g ms ss → Alike g' ms (map f ss)
 alike_map g g' f [] [] same alike = tt
 alike_map g g' f [] (s ∷ ss) same alike = absurd alike
 alike_map g g' f (m ∷ ms) [] same alike = absurd alike
-alike_map g g' f (m ∷ ms) (s ∷ ss) same alike = (same m s (inl refl) (inl refl) alike.0, alike_map g g' f ms ss (λ n t h k e. same n t (inr h) (inr k) e) alike.1)
+alike_map g g' f (m ∷ ms) (s ∷ ss) same alike =
+    (same m s (inl refl) (inl refl) alike.0, alike_map g g' f ms ss (λ n t h k e. same n t (inr h) (inr k) e) alike.1)
 
 -- what a session's turn makes of it, where it stays or ends
 abbrev pub Turned : Readings → Made → Bool → Option Session → Type 0
@@ -134,7 +136,8 @@ Turned g m false None = Unit {0}
 Turned g m false (Some s) = ⊥
 
 pub alike_turn : (g g' : Readings) (stays : Made → Bool) (turn : Session → Option Session) (ms : List Made) (ss : List Session)
-    → ((m : Made) (s : Session) → Has m ms → Has s ss → Same g m s → Turned g' m (stays m) (turn s)) → Alike g ms ss → Alike g' (filter stays ms) (filter_map turn ss)
+    → ((m : Made) (s : Session) → Has m ms → Has s ss → Same g m s → Turned g' m (stays m) (turn s)) → Alike g ms ss
+    → Alike g' (filter stays ms) (filter_map turn ss)
 alike_turn g g' stays turn [] [] same alike = tt
 alike_turn g g' stays turn [] (s ∷ ss) same alike = absurd alike
 alike_turn g g' stays turn (m ∷ ms) [] same alike = absurd alike
@@ -161,14 +164,16 @@ alike_each g g' turn (m ∷ ms) (s ∷ ss) same alike =
     by None e rest = absurd e
     by (Some t) e rest = (e, rest)
 
-pub alike_append : (g : Readings) (m : Made) (s : Session) (ms : List Made) (ss : List Session) → Alike g ms ss → Same g m s → Alike g (ms ++ m ∷ []) (ss ++ s ∷ [])
+pub alike_append : (g : Readings) (m : Made) (s : Session) (ms : List Made) (ss : List Session) → Alike g ms ss → Same g m s
+    → Alike g (ms ++ m ∷ []) (ss ++ s ∷ [])
 alike_append g m s [] [] alike same = (same, tt)
 alike_append g m s [] (t ∷ ss) alike same = absurd alike
 alike_append g m s (n ∷ ms) [] alike same = absurd alike
 alike_append g m s (n ∷ ms) (t ∷ ss) alike same = (alike.0, alike_append g m s ms ss alike.1 same)
 
 -- other readings that say the same of these sessions
-pub alike_read : (g g' : Readings) (ms : List Made) (ss : List Session) → ((m : Made) (s : Session) → Has m ms → Same g m s → Same g' m s) → Alike g ms ss → Alike g' ms ss
+pub alike_read : (g g' : Readings) (ms : List Made) (ss : List Session) → ((m : Made) (s : Session) → Has m ms → Same g m s → Same g' m s) → Alike g ms ss
+    → Alike g' ms ss
 alike_read g g' [] [] same alike = tt
 alike_read g g' [] (s ∷ ss) same alike = absurd alike
 alike_read g g' (m ∷ ms) [] same alike = absurd alike
@@ -210,7 +215,8 @@ module _ (g : Readings) (told : IsTold g) where
       by : (o : Option Made) → find (λ m. g.number m.home == n) (living g) ≡ o → option_map (λ m. m.home) o ≡ Some home
           → (m : Made) × Has m (living g) × (m.home ≡ home) × (g.number m.home ≡ n)
       by None f k = cc
-      by (Some m) f k = let there = find_has (λ x. g.number x.home == n) (living g) m f in (m, there.0, given_same m.home home k, eqb-true (g.number m.home) n there.1)
+      by (Some m) f k = let there = find_has (λ x. g.number x.home == n) (living g) m f in
+          (m, there.0, given_same m.home home k, eqb-true (g.number m.home) n there.1)
 
 module _ (st : State) (g : Readings)
     (told : IsTold g)
@@ -225,7 +231,8 @@ module _ (st : State) (g : Readings)
   pub back : (t : Stream) → Has t st.streams → (m : Made) × Has m (living g) × (t ≡ stream_told g m.home)
   back t h = by (home_of_number g t.number) refl (sym (found_stream t h) ∙ streams t.number)
     where
-      by : (o : Option SessionId) → home_of_number g t.number ≡ o → Some t ≡ option_map (stream_told g) o → (m : Made) × Has m (living g) × (t ≡ stream_told g m.home)
+      by : (o : Option SessionId) → home_of_number g t.number ≡ o → Some t ≡ option_map (stream_told g) o
+          → (m : Made) × Has m (living g) × (t ≡ stream_told g m.home)
       by None f e = cc
       by (Some home) f e = let r = home_has g told t.number home f in
           (r.0, r.1, given_same t (stream_told g home) e ∙ ap (stream_told g) (sym r.2))
@@ -266,17 +273,21 @@ and_turned false true = refl
 and_turned false false = refl
 
 -- what a choice for a stream looks at
-pub outlook_same : (c : Config) (st : State) (g : Readings) → Agrees c st g → (m : Made) → Has m (living g) → outlook_of c st (g.number m.home) ≡ outlook_in c g m.home
+pub outlook_same : (c : Config) (st : State) (g : Readings) → Agrees c st g → (m : Made) → Has m (living g)
+    → outlook_of c st (g.number m.home) ≡ outlook_in c g m.home
 outlook_same c st g agrees m h = λ i. record { fronts = c.fronts; mux_at = λ f. agrees.loosely.muxes f i; own = own i; shared = λ f. shared f i }
   where
     own : option_and_then (λ t. t.front) (stream_of st (g.number m.home)) ≡ g.front m.home
     own = ap (option_and_then (λ t. t.front)) (stream_here c st g agrees m h)
 
-    shared : (f : ℕ) → list_any (λ t. not (t.number == g.number m.home)) (served_by st f) ≡ list_any (λ n. not (same_id n.home m.home) && is_at (g.front n.home) f) (living g)
+    shared : (f : ℕ) → list_any (λ t. not (t.number == g.number m.home)) (served_by st f)
+        ≡ list_any (λ n. not (same_id n.home m.home) && is_at (g.front n.home) f) (living g)
     shared f = any_filter (λ t. is_at t.front f) (λ t. not (t.number == g.number m.home)) st.streams
         ∙ streams_any c st g agrees (λ t. is_at t.front f && not (t.number == g.number m.home))
-        ∙ any_agree (λ n. is_at (g.front n.home) f && not (g.number n.home == g.number m.home)) (λ n. not (same_id n.home m.home) && is_at (g.front n.home) f) (living g)
-        (λ n k. ap (λ b. is_at (g.front n.home) f && not b) (number_home g agrees.loosely.told n m k h) ∙ and_turned (is_at (g.front n.home) f) (not (same_id n.home m.home)))
+        ∙ any_agree (λ n. is_at (g.front n.home) f && not (g.number n.home == g.number m.home))
+        (λ n. not (same_id n.home m.home) && is_at (g.front n.home) f) (living g)
+        (λ n k. ap (λ b. is_at (g.front n.home) f && not b) (number_home g agrees.loosely.told n m k h)
+        ∙ and_turned (is_at (g.front n.home) f) (not (same_id n.home m.home)))
 
 -- what a choice for a stream that isn't founded yet looks at
 pub outlook_new : (c : Config) (st : State) (g : Readings) → Agrees c st g → (id : SessionId) → length g.made < id.count → new_outlook c st ≡ outlook_in c g id
@@ -298,4 +309,5 @@ outlook_new c st g agrees id above = λ i. record { fronts = c.fronts; mux_at = 
     shared f = any_filter (λ t. is_at t.front f) (λ t. not (t.number == 0)) st.streams
         ∙ streams_any c st g agrees (λ t. is_at t.front f && not (t.number == 0))
         ∙ any_agree (λ n. is_at (g.front n.home) f && not (g.number n.home == 0)) (λ n. not (same_id n.home id) && is_at (g.front n.home) f) (living g)
-        (λ n k. and_turned (is_at (g.front n.home) f) (not (g.number n.home == 0)) ∙ ap (λ b. not b && is_at (g.front n.home) f) (numbered n k ∙ sym (other n k)))
+        (λ n k. and_turned (is_at (g.front n.home) f) (not (g.number n.home == 0))
+        ∙ ap (λ b. not b && is_at (g.front n.home) f) (numbered n k ∙ sym (other n k)))

@@ -40,7 +40,8 @@ agrees_played c st g p id same a = record {
   loosely = record {
     clock = a.loosely.clock;
     made = a.loosely.made;
-    sessions = alike_map g (played_read p g) (λ x. cond (is_session id x) (record x { playing = true }) x) (living g) st.sessions (λ m s h k i. by m s (is_session id s) i h (same m s h i)) a.loosely.sessions;
+    sessions = alike_map g (played_read p g) (λ x. cond (is_session id x) (record x { playing = true }) x) (living g) st.sessions
+        (λ m s h k i. by m s (is_session id s) i h (same m s h i)) a.loosely.sessions;
     living_streams = a.loosely.living_streams;
     tunes = a.loosely.tunes;
     muxes = a.loosely.muxes;
@@ -60,7 +61,14 @@ agrees_played c st g p id same a = record {
       };
       packets = told.packets;
     };
-    kept = record { apart = a.loosely.kept.apart; once = a.loosely.kept.once; positive = a.loosely.kept.positive; few = a.loosely.kept.few; rows = a.loosely.kept.rows; placed = a.loosely.kept.placed };
+    kept = record {
+      apart = a.loosely.kept.apart;
+      once = a.loosely.kept.once;
+      positive = a.loosely.kept.positive;
+      few = a.loosely.kept.few;
+      rows = a.loosely.kept.rows;
+      placed = a.loosely.kept.placed;
+    };
   };
   streams = a.streams;
   free = a.free;
@@ -75,10 +83,12 @@ agrees_played c st g p id same a = record {
     or_false true = refl
     or_false false = refl
 
-    at : (m : Made) → Has m (living g) → (b : Bool) → (not m.http && p m.id) ≡ b → (g.played m.id || (any_where (λ n. not n.http) (living_session g m.id) && p m.id)) ≡ (g.played m.id || b)
+    at : (m : Made) → Has m (living g) → (b : Bool) → (not m.http && p m.id) ≡ b
+        → (g.played m.id || (any_where (λ n. not n.http) (living_session g m.id) && p m.id)) ≡ (g.played m.id || b)
     at m h b f = ap (λ o. g.played m.id || (any_where (λ n. not n.http) o && p m.id)) (living_found g a.loosely.told m h) ∙ ap (λ d. g.played m.id || d) f
 
-    by : (m : Made) (s : Session) (b : Bool) → Same g m s → Has m (living g) → (not m.http && p m.id) ≡ b → Same (played_read p g) m (cond b (record s { playing = true }) s)
+    by : (m : Made) (s : Session) (b : Bool) → Same g m s → Has m (living g) → (not m.http && p m.id) ≡ b
+        → Same (played_read p g) m (cond b (record s { playing = true }) s)
     by m s true i h f = record {
       id = i.id;
       http = i.http;
@@ -93,7 +103,8 @@ agrees_played c st g p id same a = record {
     by m s false i h f = same_again g (played_read p g) m s i refl (at m h false f ∙ or_false (g.played m.id)) refl refl refl
 
 -- what a choice looks at is the same once a session of the same stream was made
-pub outlook_added : (c : Config) (g g1 : Readings) (new : Made) → living g1 ≡ living g ++ new ∷ [] → g1.front ≡ g.front → g1.mux ≡ g.mux → outlook_in c g new.home ≡ outlook_in c g1 new.home
+pub outlook_added : (c : Config) (g g1 : Readings) (new : Made) → living g1 ≡ living g ++ new ∷ [] → g1.front ≡ g.front → g1.mux ≡ g.mux
+    → outlook_in c g new.home ≡ outlook_in c g1 new.home
 outlook_added c g g1 new lives front mux = λ i. record { fronts = c.fronts; mux_at = sym mux i; own = sym front i new.home; shared = λ f. shared f i }
   where
     test : ℕ → Made → Bool
@@ -112,11 +123,14 @@ outlook_added c g g1 new lives front mux = λ i. record { fronts = c.fronts; mux
         ∙ ap (list_any (test f)) (sym lives)
         ∙ ap (λ fr. list_any (λ m. not (same_id m.home new.home) && is_at (fr m.home) f) (living g1)) (sym front)
 
-pub placing_added : (c : Config) (g g1 : Readings) (new : Made) (query : Query) → living g1 ≡ living g ++ new ∷ [] → g1.front ≡ g.front → g1.mux ≡ g.mux → g1.tuned ≡ g.tuned
+pub placing_added : (c : Config) (g g1 : Readings) (new : Made) (query : Query) → living g1 ≡ living g ++ new ∷ [] → g1.front ≡ g.front → g1.mux ≡ g.mux
+    → g1.tuned ≡ g.tuned
     → placing_of c g (record { home = new.home; query = query }) ≡ placing_of c g1 (record { home = new.home; query = query })
 placing_added c g g1 new query lives front mux tuned =
-    ap (λ o. option_and_then (λ tuning. option_map (λ place. record { home = new.home; tuning = tuning; place = place }) (choose o (mux_of c.muxes tuning) tuning)) (to_set (g.tuned new.home) query.change)) (outlook_added c g g1 new lives front mux)
-    ∙ ap (λ t. option_and_then (λ tuning. option_map (λ place. record { home = new.home; tuning = tuning; place = place }) (choose (outlook_in c g1 new.home) (mux_of c.muxes tuning) tuning)) (to_set (t new.home) query.change)) (sym tuned)
+    ap (λ o. option_and_then (λ tuning. option_map (λ place. record { home = new.home; tuning = tuning; place = place })
+    (choose o (mux_of c.muxes tuning) tuning)) (to_set (g.tuned new.home) query.change)) (outlook_added c g g1 new lives front mux)
+    ∙ ap (λ t. option_and_then (λ tuning. option_map (λ place. record { home = new.home; tuning = tuning; place = place })
+    (choose (outlook_in c g1 new.home) (mux_of c.muxes tuning) tuning)) (to_set (t new.home) query.change)) (sym tuned)
 
 pub cond_both : (x y : Bool) (k n : ℕ) → cond (x || y) k n ≡ cond x k (cond y k n)
 cond_both true y k n = refl
@@ -146,8 +160,10 @@ module _ (c : Config) (st : State) (g : Readings) (a : Agrees c st g) (caller : 
       → ((s : SessionId) → (g.played s || (any_where (λ m. not m.http) (living_session g s) && starts_playing entry s)) ≡ played s)
       → ((s : SessionId) → cond (any_where (λ m. same_id m.id s) new || any_where (keeps_alive event) (living_session g s)) g.clock (g.heard s) ≡ heard s)
       → ((t : SessionId) → numbered g new t ≡ numbers t)
-      → placing_of c g (record { home = home; query = r.query }) ≡ placing_of c (record g { made = made; played = played; heard = heard; number = numbers }) (record { home = home; query = r.query })
-      → read_one c g entry ≡ changed_read c (record g { made = made; played = played; heard = heard; number = numbers }) (record { home = home; query = r.query })
+      → placing_of c g (record { home = home; query = r.query })
+      ≡ placing_of c (record g { made = made; played = played; heard = heard; number = numbers }) (record { home = home; query = r.query })
+      → read_one c g entry ≡ changed_read c (record g { made = made; played = played; heard = heard; number = numbers })
+      (record { home = home; query = r.query })
   changing_read new home made played heard numbers is_new is_asked stays is_made is_played is_heard is_number placing =
       ap (λ o. frees (read_within c g entry o (asking g entry))) is_new ∙ ap (λ o. frees (read_within c g entry new o)) is_asked
       ∙ ap frees (changes_within c g entry new (record { home = home; query = r.query }) made played heard numbers refl refl (λ s. refl)
@@ -157,7 +173,8 @@ module _ (c : Config) (st : State) (g : Readings) (a : Agrees c st g) (caller : 
       never_ends None = refl
       never_ends (Some m) = not_ended c st g a caller peer draw r answer out m stays
 
-  pub asks : (o : Option Made) (m : Made) → changes r.method ≡ true → session_in g event ≡ Some m → asking g entry ≡ Some (record { home = m.home; query = r.query })
+  pub asks : (o : Option Made) (m : Made) → changes r.method ≡ true → session_in g event ≡ Some m
+      → asking g entry ≡ Some (record { home = m.home; query = r.query })
   asks o m change is =
       ap (λ b. cond b (option_and_then (λ n. option_map (λ q. record { home = n.home; query = q }) (query_in event)) (session_in g event)) None) acc
       ∙ ap (λ s. option_and_then (λ n. option_map (λ q. record { home = n.home; query = q }) (query_in event)) s) is
@@ -165,7 +182,8 @@ module _ (c : Config) (st : State) (g : Readings) (a : Agrees c st g) (caller : 
 
   -- PLAY
 
-  pub agrees_play : r.method ≡ Play → Agrees c (option_map_or (play_of c r now) (session_named now r.session) (accepted (settle now) [])).state (read_one c g entry)
+  pub agrees_play : r.method ≡ Play → Agrees c (option_map_or (play_of c r now) (session_named now r.session) (accepted (settle now) [])).state
+      (read_one c g entry)
   agrees_play method = by (session_named now r.session) (subst (λ o. Matched g1 o (session_named now r.session)) named.1 (named_match c now g1 a1 r.session))
     where
       no_name : names_none r.session ≡ false
@@ -185,7 +203,9 @@ module _ (c : Config) (st : State) (g : Readings) (a : Agrees c st g) (caller : 
 
       read : read_one c g entry ≡ played_read playing (changed_read c g1 (record { home = m.home; query = r.query }))
       read = changing_read None m.home g.made (λ s. g.played s || (any_where (λ n. not n.http) (living_session g s) && playing s)) g1.heard g.number
-          (ap (λ b. cond (is_accepted answer) (cond (b && names_none r.session) (Some (making g false (home_made c st g a caller peer draw r answer out) draw)) None) None) (ap is_setup method) ∙ sym (either_way None (is_accepted answer)))
+          (ap (λ b. cond (is_accepted answer)
+          (cond (b && names_none r.session) (Some (making g false (home_made c st g a caller peer draw r answer out) draw)) None) None) (ap is_setup method)
+          ∙ sym (either_way None (is_accepted answer)))
           (asks None m (ap changes method) (ap (λ b. cond b (made_by g event) (named_in g r.session)) no_name ∙ named.1))
           (ap is_teardown method) (append-nil g.made)
           (λ s. ap (λ b. g.played s || (any_where (λ n. not n.http) (living_session g s) && (b && (is_play r.method && names r.session s)))) acc
@@ -193,7 +213,8 @@ module _ (c : Config) (st : State) (g : Readings) (a : Agrees c st g) (caller : 
           (λ s. refl) (λ t. refl) refl
 
       ready : IsReady c g m.home r.query
-      ready = ready_at c st g a r m facts.0 (ap changes method) (meant_named c st g a r p.own m named.1 (ap (λ x. is_setup x || needs_session x) method) (λ i. ap needs_session method)) p
+      ready = ready_at c st g a r m facts.0 (ap changes method)
+          (meant_named c st g a r p.own m named.1 (ap (λ x. is_setup x || needs_session x) method) (λ i. ap needs_session method)) p
 
       changed : (s : Session) → Same g1 m s → Agrees c (change_by c s.stream r.query now).state (changed_read c g1 (record { home = m.home; query = r.query }))
       changed s same = subst (λ n. Agrees c (change_by c n r.query now).state (changed_read c g1 (record { home = m.home; query = r.query }))) (sym same.stream)

@@ -62,7 +62,8 @@ abbrev IsOther : Option ℕ → Option Refused → Type 0
 IsOther cseq None = Unit {0}
 IsOther cseq (Some x) = BusyTexts.Another (refused_reply cseq x) cseq
 
-first_other : (cseq : Option ℕ) (os : List (Option Refused)) (x : Refused) → Each (IsOther cseq) os → first_given os ≡ Some x → BusyTexts.Another (refused_reply cseq x) cseq
+first_other : (cseq : Option ℕ) (os : List (Option Refused)) (x : Refused) → Each (IsOther cseq) os → first_given os ≡ Some x
+    → BusyTexts.Another (refused_reply cseq x) cseq
 first_other cseq [] x e f = cc
 first_other cseq (None ∷ os) x e f = first_other cseq os x e.1 f
 first_other cseq (Some y ∷ os) x e f = let same : y ≡ x = cc in subst (λ z. BusyTexts.Another (refused_reply cseq z) cseq) same e.0
@@ -113,7 +114,8 @@ pids_are_other cseq (Ok pids) = tt
 pids_are_other cseq (Err UnderAll) = BusyTexts.range_other cseq Delpids
 pids_are_other cseq (Err TooMany) = BusyTexts.pids_other cseq
 
-change_other : (cseq : Option ℕ) (st : State) (tuning : Option Tuning) (pids : Pids) (makes : Bool) (query : Query) → Each (IsOther cseq) (change_before st tuning pids makes query)
+change_other : (cseq : Option ℕ) (st : State) (tuning : Option Tuning) (pids : Pids) (makes : Bool) (query : Query)
+    → Each (IsOther cseq) (change_before st tuning pids makes query)
 change_other cseq st tuning pids makes query = (
   key_other cseq tuning query.change,
   (pids_are_other cseq (asked_pids pids query), (where_other cseq (makes && is_full st) (telling 503 NoMoreSessions) (BusyTexts.sessions_other cseq), tt)),
@@ -123,7 +125,8 @@ query_other : (cseq : Option ℕ) (st : State) (r : Request) (o : Option Stream)
 query_other cseq st r None = change_other cseq st None (Only []) (makes_session r) r.query
 query_other cseq st r (Some t) = change_other cseq st t.tuning t.pids (makes_session r) r.query
 
-before_other : (cseq : Option ℕ) (st : State) (r : Request) (later : List (Option Refused)) → Each (IsOther cseq) later → Each (IsOther cseq) (message_before st r ++ later)
+before_other : (cseq : Option ℕ) (st : State) (r : Request) (later : List (Option Refused)) → Each (IsOther cseq) later
+    → Each (IsOther cseq) (message_before st r ++ later)
 before_other cseq st r later rest = (
   message_other cseq r.refusal,
   (
@@ -150,14 +153,17 @@ abbrev front_line : Config → State → Request → Option Stream → Bool
 front_line c st r None = front_missing c (new_outlook c st) None r.query.change
 front_line c st r (Some t) = front_missing c (outlook_of c st t.number) t.tuning r.query.change
 
-query_parts : (c : Config) (st : State) (r : Request) (o : Option Stream) → of_query c st r o ≡ query_before st r o ++ where_true (front_line c st r o) busy ∷ []
+query_parts : (c : Config) (st : State) (r : Request) (o : Option Stream)
+    → of_query c st r o ≡ query_before st r o ++ where_true (front_line c st r o) busy ∷ []
 query_parts c st r None = refl
 query_parts c st r (Some t) = refl
 
-decided : (c : Config) (st : State) (r : Request) → decide c st r ≡ first_given (message_before st r ++ cond (changes r.method) (of_query c st r (stream_meant st r)) [])
+decided : (c : Config) (st : State) (r : Request)
+    → decide c st r ≡ first_given (message_before st r ++ cond (changes r.method) (of_query c st r (stream_meant st r)) [])
 decided c st r = refl
 
-decided_change : (c : Config) (st : State) (r : Request) → changes r.method ≡ true → decide c st r ≡ first_given (all_before st r ++ where_true (front_line c st r (stream_meant st r)) busy ∷ [])
+decided_change : (c : Config) (st : State) (r : Request) → changes r.method ≡ true
+    → decide c st r ≡ first_given (all_before st r ++ where_true (front_line c st r (stream_meant st r)) busy ∷ [])
 decided_change c st r change = decided c st r ∙ ap (λ b. first_given (message_before st r ++ cond b (of_query c st r (stream_meant st r)) [])) change
     ∙ ap (λ os. first_given (message_before st r ++ os)) (query_parts c st r (stream_meant st r))
 
@@ -200,9 +206,13 @@ module _ (c : Config) (st : State) (peer : Peer) (draw : Draw) (r : Request) whe
 
           changing : changes r.method ≡ true → (o : Option Refused) → first_given (all_before st r) ≡ o → IsLast c st r
           changing e (Some y) f =
-              let same : y ≡ x = given_same y x (sym (first_sooner (all_before st r) (where_true (front_line c st r (stream_meant st r)) busy ∷ []) y f) ∙ sym (decided_change c st r e) ∙ is) in
-              absurd (first_other r.cseq (all_before st r) y (before_other r.cseq st r (query_before st r (stream_meant st r)) (query_other r.cseq st r (stream_meant st r))) f (ap (refused_reply r.cseq) same ∙ text))
-          changing e None f = front (front_line c st r (stream_meant st r)) refl (sym (first_later (all_before st r) (where_true (front_line c st r (stream_meant st r)) busy ∷ []) f) ∙ sym (decided_change c st r e) ∙ is)
+              let same : y ≡ x = given_same y x (sym (first_sooner (all_before st r) (where_true (front_line c st r (stream_meant st r)) busy ∷ []) y f)
+              ∙ sym (decided_change c st r e) ∙ is) in
+              absurd (first_other r.cseq (all_before st r) y
+              (before_other r.cseq st r (query_before st r (stream_meant st r)) (query_other r.cseq st r (stream_meant st r))) f
+              (ap (refused_reply r.cseq) same ∙ text))
+          changing e None f = front (front_line c st r (stream_meant st r)) refl
+              (sym (first_later (all_before st r) (where_true (front_line c st r (stream_meant st r)) busy ∷ []) f) ∙ sym (decided_change c st r e) ∙ is)
             where
               front : (b : Bool) → front_line c st r (stream_meant st r) ≡ b → first_given (where_true b busy ∷ []) ≡ Some x → IsLast c st r
               front true k i = record { change = e; before = f; front = k }
@@ -212,7 +222,8 @@ module _ (c : Config) (st : State) (peer : Peer) (draw : Draw) (r : Request) whe
           kind true e = changing e (first_given (all_before st r)) refl
           kind false e = still e
 
-      refused : (x : Refused) → decide c st r ≡ Some x → (o : Option Refusal) → r.refusal ≡ o → option_map_or (message_reply r.cseq x) o (refused_reply r.cseq x) ≡ text_reply r.cseq 503 NoMoreFrontends → IsLast c st r
+      refused : (x : Refused) → decide c st r ≡ Some x → (o : Option Refusal) → r.refusal ≡ o
+          → option_map_or (message_reply r.cseq x) o (refused_reply r.cseq x) ≡ text_reply r.cseq 503 NoMoreFrontends → IsLast c st r
       refused x is None f text = last x is text
       refused x is (Some m) f text =
           let first : decide c st r ≡ Some (of_message m) = ap (λ o. first_given (option_map of_message o ∷ later)) f in
@@ -229,15 +240,18 @@ module _ (c : Config) (st : State) (peer : Peer) (draw : Draw) (r : Request) whe
               ∷ where_true (is_setup r.method && is_none r.ports) (plainly 461)
               ∷ cond (changes r.method) (of_query c st r (stream_meant st r)) []
 
-      by : (o : Option Refused) → decide c st r ≡ o → (option_map_or (refuse r heard) o (done_by r.method c peer draw r heard)).reply ≡ text_reply r.cseq 503 NoMoreFrontends → IsLast c st r
+      by : (o : Option Refused) → decide c st r ≡ o
+          → (option_map_or (refuse r heard) o (done_by r.method c peer draw r heard)).reply ≡ text_reply r.cseq 503 NoMoreFrontends → IsLast c st r
       by None is text = absurd (done_other r.method text)
       by (Some x) is text = refused x is r.refusal refl text
 
   last_told : IsLast c st r → (on_request c peer draw r st).reply ≡ text_reply r.cseq 503 NoMoreFrontends
-  last_told l = ap (λ o. (option_map_or (refuse r heard) o (done_by r.method c peer draw r heard)).reply) is ∙ ap (λ o. option_map_or (message_reply r.cseq busy) o (refused_reply r.cseq busy)) (whole r.refusal message)
+  last_told l = ap (λ o. (option_map_or (refuse r heard) o (done_by r.method c peer draw r heard)).reply) is
+      ∙ ap (λ o. option_map_or (message_reply r.cseq busy) o (refused_reply r.cseq busy)) (whole r.refusal message)
     where
       is : decide c st r ≡ Some busy
-      is = decided_change c st r l.change ∙ first_later (all_before st r) (where_true (front_line c st r (stream_meant st r)) busy ∷ []) l.before ∙ ap (λ b. first_given (where_true b busy ∷ [])) l.front
+      is = decided_change c st r l.change ∙ first_later (all_before st r) (where_true (front_line c st r (stream_meant st r)) busy ∷ []) l.before
+          ∙ ap (λ b. first_given (where_true b busy ∷ [])) l.front
 
       message : option_map of_message r.refusal ≡ None
       message = (all_none (all_before st r) l.before).0
@@ -248,14 +262,17 @@ module _ (c : Config) (st : State) (peer : Peer) (draw : Draw) (r : Request) whe
 
 -- what is missing by the readings
 
-missing_blocked : (c : Config) (g : Readings) (home : SessionId) (query : Query) → front_missing c (outlook_in c g home) (g.tuned home) query.change ≡ true → IsBlocked c g home query
+missing_blocked : (c : Config) (g : Readings) (home : SessionId) (query : Query) → front_missing c (outlook_in c g home) (g.tuned home) query.change ≡ true
+    → IsBlocked c g home query
 missing_blocked c g home query e = by (to_set (g.tuned home) query.change) refl e
   where
-    by : (o : Option Tuning) → to_set (g.tuned home) query.change ≡ o → option_map_or (λ t. blocked (outlook_in c g home) (mux_of c.muxes t) t) o false ≡ true → IsBlocked c g home query
+    by : (o : Option Tuning) → to_set (g.tuned home) query.change ≡ o → option_map_or (λ t. blocked (outlook_in c g home) (mux_of c.muxes t) t) o false ≡ true
+        → IsBlocked c g home query
     by None f k = cc
     by (Some t) f k = record { tuning = t; set = f; taken = k }
 
-blocked_missing : (c : Config) (g : Readings) (home : SessionId) (query : Query) → IsBlocked c g home query → front_missing c (outlook_in c g home) (g.tuned home) query.change ≡ true
+blocked_missing : (c : Config) (g : Readings) (home : SessionId) (query : Query) → IsBlocked c g home query
+    → front_missing c (outlook_in c g home) (g.tuned home) query.change ≡ true
 blocked_missing c g home query b = ap (λ o. option_map_or (λ t. blocked (outlook_in c g home) (mux_of c.muxes t) t) o false) b.set ∙ b.taken
 
 -- a stream that isn't founded yet
@@ -265,7 +282,8 @@ new_missing c st g a id above query =
     ap (λ o. front_missing c o None query.change) (outlook_new c st g a id above)
     ∙ ap (λ t. front_missing c (outlook_in c g id) t query.change) (sym (a.loosely.told.unmade id above).tuned)
 
-module _ (c : Config) (st : State) (g : Readings) (a : Agrees c st g) (draw : Draw) (r : Request) (change : changes r.method ≡ true) (before : first_given (all_before st r) ≡ None) where
+module _ (c : Config) (st : State) (g : Readings) (a : Agrees c st g) (draw : Draw) (r : Request) (change : changes r.method ≡ true)
+    (before : first_given (all_before st r) ≡ None) where
   lines : Each IsNone (all_before st r)
   lines = all_none (all_before st r) before
 
@@ -284,8 +302,10 @@ module _ (c : Config) (st : State) (g : Readings) (a : Agrees c st g) (draw : Dr
   abbrev wanted : SessionId → Bool
   wanted home = front_missing c (outlook_in c g home) (g.tuned home) r.query.change
 
-  of_living : (m : Made) → Has m (living g) → stream_meant st r ≡ Some (stream_told g m.home) → home_meant g draw r ≡ m.home → front_line c st r (stream_meant st r) ≡ wanted (home_meant g draw r)
-  of_living m h meant home = ap (front_line c st r) meant ∙ ap (λ o. front_missing c o (g.tuned m.home) r.query.change) (outlook_same c st g a m h) ∙ ap wanted (sym home)
+  of_living : (m : Made) → Has m (living g) → stream_meant st r ≡ Some (stream_told g m.home) → home_meant g draw r ≡ m.home
+      → front_line c st r (stream_meant st r) ≡ wanted (home_meant g draw r)
+  of_living m h meant home = ap (front_line c st r) meant ∙ ap (λ o. front_missing c o (g.tuned m.home) r.query.change) (outlook_same c st g a m h)
+      ∙ ap wanted (sym home)
 
   named : names_none r.session ≡ false → front_line c st r (stream_meant st r) ≡ wanted (home_meant g draw r)
   named no_name = of_living m facts.0 (meant_named c st g a r own m is looks needs_it) (home r.stream refl)
@@ -312,7 +332,8 @@ module _ (c : Config) (st : State) (g : Readings) (a : Agrees c st g) (draw : Dr
       looks : (is_setup r.method || needs_session r.method) ≡ true
       looks = looks_at r.method change
 
-      needs : (x : Method) → changes x ≡ true → (is_setup x && not (names_none r.session) && is_none r.stream) ≡ false → r.stream ≡ None → needs_session x ≡ true
+      needs : (x : Method) → changes x ≡ true → (is_setup x && not (names_none r.session) && is_none r.stream) ≡ false → r.stream ≡ None
+          → needs_session x ≡ true
       needs Options f k i = cc
       needs Describe f k i = cc
       needs Setup f k i = none_true true refl (sym (ap (λ b. not b && is_none r.stream) no_name ∙ ap is_none i) ∙ k)
@@ -325,8 +346,10 @@ module _ (c : Config) (st : State) (g : Readings) (a : Agrees c st g) (draw : Dr
       home : (o : Option ℕ) → r.stream ≡ o → home_meant g draw r ≡ m.home
       home None f = ap (λ o. unwrap_or (option_and_then (home_of_number g) o) (option_map_or (λ x. x.home) (named_in g r.session) (next_made g draw.word))) f
           ∙ ap (λ o. option_map_or (λ x. x.home) o (next_made g draw.word)) is
-      home (Some n) f = ap (λ o. unwrap_or (option_and_then (home_of_number g) o) (option_map_or (λ x. x.home) (named_in g r.session) (next_made g draw.word))) f
-          ∙ ap (λ k. unwrap_or (home_of_number g k) (option_map_or (λ x. x.home) (named_in g r.session) (next_made g draw.word))) (sym (own_stream c st g a r own m is looks n f))
+      home (Some n) f = ap (λ o. unwrap_or (option_and_then (home_of_number g) o) (option_map_or (λ x. x.home) (named_in g r.session) (next_made g draw.word)))
+          f
+          ∙ ap (λ k. unwrap_or (home_of_number g k) (option_map_or (λ x. x.home) (named_in g r.session) (next_made g draw.word)))
+          (sym (own_stream c st g a r own m is looks n f))
           ∙ ap (λ o. unwrap_or o (option_map_or (λ x. x.home) (named_in g r.session) (next_made g draw.word))) (home_found g a.loosely.told m facts.0)
 
   unnamed : names_none r.session ≡ true → front_line c st r (stream_meant st r) ≡ wanted (home_meant g draw r)
@@ -346,10 +369,12 @@ module _ (c : Config) (st : State) (g : Readings) (a : Agrees c st g) (draw : Dr
       method = setup_of r.method change needless
 
       numbered : (n : ℕ) → r.stream ≡ Some n → is_none (stream_of st n) ≡ false
-      numbered n is = sym (ap (λ x. looks_at_stream x && option_map_or (λ number. is_none (stream_of st number)) r.stream (is_describe x && length st.streams == 0)) method
+      numbered n is = sym (ap (λ x. looks_at_stream x
+          && option_map_or (λ number. is_none (stream_of st number)) r.stream (is_describe x && length st.streams == 0)) method
           ∙ ap (λ o. option_map_or (λ number. is_none (stream_of st number)) o (false && length st.streams == 0)) is) ∙ there
 
-      at : (n : ℕ) → r.stream ≡ Some n → (o : Option SessionId) → home_of_number g n ≡ o → is_none (option_map (stream_told g) o) ≡ false → front_line c st r (stream_meant st r) ≡ wanted (home_meant g draw r)
+      at : (n : ℕ) → r.stream ≡ Some n → (o : Option SessionId) → home_of_number g n ≡ o → is_none (option_map (stream_told g) o) ≡ false
+          → front_line c st r (stream_meant st r) ≡ wanted (home_meant g draw r)
       at n is None f e = cc
       at n is (Some h) f e =
           let m = home_has g a.loosely.told n h f in
@@ -360,9 +385,12 @@ module _ (c : Config) (st : State) (g : Readings) (a : Agrees c st g) (draw : Dr
       by : (o : Option ℕ) → r.stream ≡ o → front_line c st r (stream_meant st r) ≡ wanted (home_meant g draw r)
       by (Some n) is = at n is (home_of_number g n) refl (ap is_none (sym (a.streams n)) ∙ numbered n is)
       by None is =
-          let meant : stream_meant st r ≡ None = ap (λ o. option_and_then (stream_of st) (cond (is_some o) o (cond (needs_session r.method) (option_map (λ s. s.stream) (session_named st r.session)) None))) is
+          let meant : stream_meant st r ≡ None =
+          ap (λ o. option_and_then (stream_of st)
+          (cond (is_some o) o (cond (needs_session r.method) (option_map (λ s. s.stream) (session_named st r.session)) None))) is
           ∙ ap (λ b. option_and_then (stream_of st) (cond b (option_map (λ s. s.stream) (session_named st r.session)) None)) needless in
-          let home : home_meant g draw r ≡ next_made g draw.word = ap (λ o. unwrap_or (option_and_then (home_of_number g) o) (option_map_or (λ x. x.home) (named_in g r.session) (next_made g draw.word))) is
+          let home : home_meant g draw r ≡ next_made g draw.word =
+          ap (λ o. unwrap_or (option_and_then (home_of_number g) o) (option_map_or (λ x. x.home) (named_in g r.session) (next_made g draw.word))) is
           ∙ ap (λ o. option_map_or (λ x. x.home) o (next_made g draw.word)) (none_in r.session none) in
           ap (front_line c st r) meant ∙ new_missing c st g a (next_made g draw.word) (omega arith) r.query ∙ ap wanted (sym home)
         where
@@ -378,12 +406,22 @@ module _ (c : Config) (st : State) (g : Readings) (a : Agrees c st g) (draw : Dr
       by true none = unnamed none
       by false no_name = named no_name
 
-request_busy : (c : Config) (st : State) (g : Readings) → Agrees c st g → (peer : Peer) (draw : Draw) (r : Request) (reply : List ℕ) → reply ≡ (on_request c peer draw r st).reply
+request_busy : (c : Config) (st : State) (g : Readings) → Agrees c st g → (peer : Peer) (draw : Draw) (r : Request) (reply : List ℕ)
+    → reply ≡ (on_request c peer draw r st).reply
     → (IsToldBusy (Asked peer draw r) reply → IsBlockedRequest c st g draw r) × (IsBlockedRequest c st g draw r → IsToldBusy (Asked peer draw r) reply)
 request_busy c st g a peer draw r reply is = (
   (λ told. let l = told_last c st peer draw r (sym is ∙ told) in
-      record { changes_stream = l.change; before = l.before; blocked = missing_blocked c g (home_meant g draw r) r.query (sym (front_read c st g a draw r l.change l.before) ∙ l.front) }),
-  (λ b. is ∙ last_told c st peer draw r (record { change = b.changes_stream; before = b.before; front = front_read c st g a draw r b.changes_stream b.before ∙ blocked_missing c g (home_meant g draw r) r.query b.blocked })),
+      record {
+        changes_stream = l.change;
+        before = l.before;
+        blocked = missing_blocked c g (home_meant g draw r) r.query (sym (front_read c st g a draw r l.change l.before) ∙ l.front);
+      }),
+  (λ b. is ∙ last_told c st peer draw r
+      (record {
+        change = b.changes_stream;
+        before = b.before;
+        front = front_read c st g a draw r b.changes_stream b.before ∙ blocked_missing c g (home_meant g draw r) r.query b.blocked;
+      })),
 )
 
 -- GETs
@@ -392,7 +430,8 @@ abbrev IsOtherGet : Option Refused → Type 0
 IsOtherGet None = Unit {0}
 IsOtherGet (Some x) = BusyTexts.AnotherGet (http_refusal x.status x.body)
 
-first_other_get : (os : List (Option Refused)) (x : Refused) → Each IsOtherGet os → first_given os ≡ Some x → BusyTexts.AnotherGet (http_refusal x.status x.body)
+first_other_get : (os : List (Option Refused)) (x : Refused) → Each IsOtherGet os → first_given os ≡ Some x
+    → BusyTexts.AnotherGet (http_refusal x.status x.body)
 first_other_get [] x e f = cc
 first_other_get (None ∷ os) x e f = first_other_get os x e.1 f
 first_other_get (Some y ∷ os) x e f = let same : y ≡ x = cc in subst (λ z. BusyTexts.AnotherGet (http_refusal z.status z.body)) same e.0
@@ -450,7 +489,8 @@ module _ (c : Config) (st : State) (peer : Peer) (draw : Draw) (r : HttpRequest)
   get_told : (on_get c peer draw r st).reply ≡ http_refusal 503 (Some NoMoreFrontends) → (first_given (get_before st r) ≡ None) × (get_line c st r ≡ true)
   get_told told = by (decide_get c st r) refl told
     where
-      last : (x : Refused) → first_given (get_before st r ++ where_true (get_line c st r) busy ∷ []) ≡ Some x → http_refusal x.status x.body ≡ http_refusal 503 (Some NoMoreFrontends)
+      last : (x : Refused) → first_given (get_before st r ++ where_true (get_line c st r) busy ∷ []) ≡ Some x
+          → http_refusal x.status x.body ≡ http_refusal 503 (Some NoMoreFrontends)
           → (o : Option Refused) → first_given (get_before st r) ≡ o → (first_given (get_before st r) ≡ None) × (get_line c st r ≡ true)
       last x is text (Some y) f =
           let same : y ≡ x = given_same y x (sym (first_sooner (get_before st r) (where_true (get_line c st r) busy ∷ []) y f) ∙ is) in
@@ -462,22 +502,30 @@ module _ (c : Config) (st : State) (peer : Peer) (draw : Draw) (r : HttpRequest)
           front false i = cc
 
       by : (o : Option Refused) → decide_get c st r ≡ o
-          → (option_map_or (λ refused. outcome (settle st) (Get (GetRefused refused.status)) (http_refusal refused.status refused.body)) o (start c peer draw r st)).reply ≡ http_refusal 503 (Some NoMoreFrontends)
+          → (option_map_or (λ refused. outcome (settle st) (Get (GetRefused refused.status)) (http_refusal refused.status refused.body)) o
+          (start c peer draw r st)).reply ≡ http_refusal 503 (Some NoMoreFrontends)
           → (first_given (get_before st r) ≡ None) × (get_line c st r ≡ true)
       by None is text = absurd (BusyTexts.start_other text)
       by (Some x) is text = last x is text (first_given (get_before st r)) refl
 
   get_last : first_given (get_before st r) ≡ None → get_line c st r ≡ true → (on_get c peer draw r st).reply ≡ http_refusal 503 (Some NoMoreFrontends)
   get_last before line =
-      ap (λ o. (option_map_or (λ (refused : Refused). outcome (settle st) (Get (GetRefused refused.status)) (http_refusal refused.status refused.body)) o (start c peer draw r st)).reply)
+      ap (λ o. (option_map_or (λ (refused : Refused). outcome (settle st) (Get (GetRefused refused.status)) (http_refusal refused.status refused.body)) o
+      (start c peer draw r st)).reply)
       (get_decided c st r ∙ first_later (get_before st r) (where_true (get_line c st r) busy ∷ []) before ∙ ap (λ b. first_given (where_true b busy ∷ [])) line)
 
-get_busy : (c : Config) (st : State) (g : Readings) → Agrees c st g → (peer : Peer) (draw : Draw) (r : HttpRequest) (reply : List ℕ) → reply ≡ (on_get c peer draw r st).reply
+get_busy : (c : Config) (st : State) (g : Readings) → Agrees c st g → (peer : Peer) (draw : Draw) (r : HttpRequest) (reply : List ℕ)
+    → reply ≡ (on_get c peer draw r st).reply
     → (IsToldBusy (Got peer draw r) reply → IsBlockedGet c st g draw r) × (IsBlockedGet c st g draw r → IsToldBusy (Got peer draw r) reply)
 get_busy c st g a peer draw r reply is = (
   (λ told. let l = get_told c st peer draw r (sym is ∙ told) in
-      record { before = l.0; blocked = missing_blocked c g (next_made g draw.word) r.query (sym (new_missing c st g a (next_made g draw.word) (omega arith) r.query) ∙ l.1) }),
-  (λ b. is ∙ get_last c st peer draw r b.before (new_missing c st g a (next_made g draw.word) (omega arith) r.query ∙ blocked_missing c g (next_made g draw.word) r.query b.blocked)),
+      record {
+        before = l.0;
+        blocked = missing_blocked c g (next_made g draw.word) r.query
+            (sym (new_missing c st g a (next_made g draw.word) (omega arith) r.query) ∙ l.1);
+      }),
+  (λ b. is ∙ get_last c st peer draw r b.before
+      (new_missing c st g a (next_made g draw.word) (omega arith) r.query ∙ blocked_missing c g (next_made g draw.word) r.query b.blocked)),
 )
 
 event_busy : (c : Config) (st : State) (g : Readings) → Agrees c st g → (event : Event) (reply : List ℕ) → reply ≡ (step c st event).reply

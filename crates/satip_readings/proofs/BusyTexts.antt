@@ -105,9 +105,11 @@ transport_other cseq = is_another (plain_reply cseq 461) cseq 525449 refl (λ e.
 
 -- refusals with status 503, whose texts have other lengths
 
-text_length : (cseq : Option ℕ) (body : RefusalBody) → length (text_reply cseq 503 body) ≡ (length (status_line 503) + length (cseq_line cseq)) + length (body_part body)
+text_length : (cseq : Option ℕ) (body : RefusalBody)
+    → length (text_reply cseq 503 body) ≡ (length (status_line 503) + length (cseq_line cseq)) + length (body_part body)
 unfolding text_reply
-text_length cseq body = length-append (status_line 503 ++ cseq_line cseq) (body_part body) ∙ ap (λ n. n + length (body_part body)) (length-append (status_line 503) (cseq_line cseq))
+text_length cseq body = length-append (status_line 503 ++ cseq_line cseq) (body_part body)
+    ∙ ap (λ n. n + length (body_part body)) (length-append (status_line 503) (cseq_line cseq))
 
 frontends_part : length (body_part NoMoreFrontends) ≡ 72
 unfolding body_part body_text digits
@@ -188,7 +190,8 @@ pub get_range_other : (key : Key) → AnotherGet (http_refusal 403 (Some (OutOfR
 unfolding http_refusal http_status_line digits
 get_range_other key = is_another_get (http_refusal 403 (Some (OutOfRange key))) 524851 refl (λ e. omega (arith, e))
 
-get_length : (body : RefusalBody) (n : ℕ) → length (http_refusal 503 (Some body)) ≡ n → (k : ℕ) → length (http_refusal 503 (Some NoMoreFrontends)) ≡ k → (n ≡ k → ⊥) → AnotherGet (http_refusal 503 (Some body))
+get_length : (body : RefusalBody) (n : ℕ) → length (http_refusal 503 (Some body)) ≡ n → (k : ℕ) → length (http_refusal 503 (Some NoMoreFrontends)) ≡ k
+    → (n ≡ k → ⊥) → AnotherGet (http_refusal 503 (Some body))
 get_length body n a k b other same = other (sym a ∙ ap length same ∙ b)
 
 frontends_length : length (http_refusal 503 (Some NoMoreFrontends)) ≡ 125

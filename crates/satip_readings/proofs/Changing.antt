@@ -70,7 +70,8 @@ abbrev pub streams_read : Readings → (SessionId → Option Tuning) → (Sessio
 streams_read g tuned front pids = record g { tuned = tuned; front = front; pids = pids }
 
 told_streams : (g : Readings) (tuned : SessionId → Option Tuning) (front : SessionId → Option ℕ) (pids : SessionId → Pids) → IsTold g
-    → ((s : SessionId) → length g.made < s.count → (tuned s ≡ g.tuned s) × (front s ≡ g.front s) × (pids s ≡ g.pids s)) → IsTold (streams_read g tuned front pids)
+    → ((s : SessionId) → length g.made < s.count → (tuned s ≡ g.tuned s) × (front s ≡ g.front s) × (pids s ≡ g.pids s))
+    → IsTold (streams_read g tuned front pids)
 told_streams g tuned front pids told unmade = record {
   ids = told.ids;
   numbers = told.numbers;
@@ -86,15 +87,19 @@ module _ (c : Config) (st : State) (g : Readings) (m : Made) (lives : Has m (liv
     (front_known : (t : Stream) (at : ℕ) → Has t st.streams → (f t).front ≡ Some at → is_some (row_of st at) ≡ true)
     (tuned : SessionId → Option Tuning) (front : SessionId → Option ℕ) (pids : SessionId → Pids)
     (unmade : (s : SessionId) → length g.made < s.count → (tuned s ≡ g.tuned s) × (front s ≡ g.front s) × (pids s ≡ g.pids s))
-    (changed : (n : Made) → Has n (living g) → cond (same_id m.home n.home) (f (stream_told g n.home)) (stream_told g n.home) ≡ stream_told (streams_read g tuned front pids) n.home) where
-  changed_at : Loosely c st g → (n : Made) → Has n (living g) → only_number (g.number m.home) f (stream_told g n.home) ≡ stream_told (streams_read g tuned front pids) n.home
-  changed_at l n h = ap (λ b. cond b (f (stream_told g n.home)) (stream_told g n.home)) (number_home g l.told n m h lives ∙ id_turned n.home m.home) ∙ changed n h
+    (changed : (n : Made) → Has n (living g) → cond (same_id m.home n.home) (f (stream_told g n.home)) (stream_told g n.home)
+    ≡ stream_told (streams_read g tuned front pids) n.home) where
+  changed_at : Loosely c st g → (n : Made) → Has n (living g)
+      → only_number (g.number m.home) f (stream_told g n.home) ≡ stream_told (streams_read g tuned front pids) n.home
+  changed_at l n h = ap (λ b. cond b (f (stream_told g n.home)) (stream_told g n.home)) (number_home g l.told n m h lives ∙ id_turned n.home m.home)
+      ∙ changed n h
 
   pub loosely_stream : Loosely c st g → Loosely c (change_stream (g.number m.home) f st) (streams_read g tuned front pids)
   loosely_stream l = record {
     clock = l.clock;
     made = l.made;
-    sessions = alike_read g (streams_read g tuned front pids) (living g) st.sessions (λ n s h e. same_again g (streams_read g tuned front pids) n s e refl refl refl refl refl) l.sessions;
+    sessions = alike_read g (streams_read g tuned front pids) (living g) st.sessions
+        (λ n s h e. same_again g (streams_read g tuned front pids) n s e refl refl refl refl refl) l.sessions;
     living_streams = λ n h. stream_map (only_number (g.number m.home) f) (only_same (g.number m.home) f same) st.streams (g.number n.home)
         ∙ ap (option_map (only_number (g.number m.home) f)) (l.living_streams n h) ∙ ap Some (changed_at l n h);
     tunes = l.tunes;
@@ -103,7 +108,8 @@ module _ (c : Config) (st : State) (g : Readings) (m : Made) (lives : Has m (liv
     kept = kept_changed c st (g.number m.home) f same front_known l.kept;
   }
 
-  pub agrees_stream : ((n : Made) → Has n (living g) → front n.home ≡ g.front n.home) → Agrees c st g → Agrees c (change_stream (g.number m.home) f st) (streams_read g tuned front pids)
+  pub agrees_stream : ((n : Made) → Has n (living g) → front n.home ≡ g.front n.home) → Agrees c st g
+      → Agrees c (change_stream (g.number m.home) f st) (streams_read g tuned front pids)
   agrees_stream fronts a = record {
     loosely = loosely_stream a.loosely;
     streams = λ n. stream_map (only_number (g.number m.home) f) (only_same (g.number m.home) f same) st.streams n
@@ -111,10 +117,12 @@ module _ (c : Config) (st : State) (g : Readings) (m : Made) (lives : Has m (liv
     free = λ at none. a.free at (sym (served at) ∙ none);
   }
     where
-      by : (n : ℕ) (o : Option SessionId) → home_of_number g n ≡ o → option_map (only_number (g.number m.home) f) (option_map (stream_told g) o) ≡ option_map (stream_told (streams_read g tuned front pids)) o
+      by : (n : ℕ) (o : Option SessionId) → home_of_number g n ≡ o
+          → option_map (only_number (g.number m.home) f) (option_map (stream_told g) o) ≡ option_map (stream_told (streams_read g tuned front pids)) o
       by n None e = refl
       by n (Some home) e = let r = home_has g a.loosely.told n home e in
-          ap Some (subst (λ x. only_number (g.number m.home) f (stream_told g x) ≡ stream_told (streams_read g tuned front pids) x) r.2 (changed_at a.loosely r.0 r.1))
+          ap Some (subst (λ x. only_number (g.number m.home) f (stream_told g x) ≡ stream_told (streams_read g tuned front pids) x) r.2
+          (changed_at a.loosely r.0 r.1))
 
       served : (at : ℕ) → serves (streams_read g tuned front pids) at ≡ serves g at
       served at = any_agree (λ n. is_at (front n.home) at) (λ n. is_at (g.front n.home) at) (living g) (λ n h. ap (λ o. is_at o at) (fronts n h))
@@ -144,11 +152,20 @@ pub loosely_tuned : (c : Config) (st : State) (g : Readings) (at : ℕ) (anew : 
 loosely_tuned c st g at anew mux known l = record {
   clock = l.clock;
   made = l.made;
-  sessions = alike_read g (tuned_read at anew mux g) (living g) st.sessions (λ n s h e. same_again g (tuned_read at anew mux g) n s e refl refl refl refl refl) l.sessions;
+  sessions = alike_read g (tuned_read at anew mux g) (living g) st.sessions
+      (λ n s h e. same_again g (tuned_read at anew mux g) n s e refl refl refl refl refl) l.sessions;
   living_streams = l.living_streams;
   tunes = λ f. ap (λ o. option_map_or (λ (r : Row). r.tune) o 0) (row_map tuning tuning_number st.rows f) ∙ tune_by f (row_of st f) refl;
   muxes = λ f. ap (option_and_then (λ (r : Row). r.mux)) (row_map tuning tuning_number st.rows f) ∙ mux_by f (row_of st f) refl;
-  told = record { ids = l.told.ids; numbers = l.told.numbers; few = l.told.few; homes = l.told.homes; unmade = λ s above. let u = l.told.unmade s above in record { over = u.over; played = u.played; tuned = u.tuned; pids = u.pids; front = u.front; selected = u.selected; pulled = u.pulled }; packets = l.told.packets };
+  told = record {
+    ids = l.told.ids;
+    numbers = l.told.numbers;
+    few = l.told.few;
+    homes = l.told.homes;
+    unmade = λ s above. let u = l.told.unmade s above in
+        record { over = u.over; played = u.played; tuned = u.tuned; pids = u.pids; front = u.front; selected = u.selected; pulled = u.pulled };
+    packets = l.told.packets;
+  };
   kept = record {
     apart = l.kept.apart;
     once = l.kept.once;
@@ -183,7 +200,8 @@ loosely_tuned c st g at anew mux known l = record {
     tune_one f r true e = ap (λ n. (n + 1) % 2 ^ 64) e
     tune_one f r false e = e
 
-    tune_by : (f : ℕ) (o : Option Row) → row_of st f ≡ o → option_map_or (λ (r : Row). r.tune) (option_map tuning o) 0 ≡ cond (anew && at == f) ((g.tune f + 1) % 2 ^ 64) (g.tune f)
+    tune_by : (f : ℕ) (o : Option Row) → row_of st f ≡ o
+        → option_map_or (λ (r : Row). r.tune) (option_map tuning o) 0 ≡ cond (anew && at == f) ((g.tune f + 1) % 2 ^ 64) (g.tune f)
     tune_by f None e = rw (other f e) (sym (ap (λ o. option_map_or (λ (r : Row). r.tune) o 0) e) ∙ l.tunes f)
     tune_by f (Some r) e =
         let is : r.tune ≡ g.tune f = sym (ap (λ o. option_map_or (λ (x : Row). x.tune) o 0) e) ∙ l.tunes f in
@@ -208,7 +226,8 @@ abbrev pub placed_read : Config → SessionId → Tuning → Place → Readings 
 placed_read c home tuning place g = frees (tuned_read place.front place.anew (mux_of c.muxes tuning)
     (streams_read g (put home (Some tuning) g.tuned) (put home (Some place.front) g.front) g.pids))
 
-pub agrees_put : (c : Config) (st : State) (g : Readings) (m : Made) (tuning : Tuning) (place : Place) → Has m (living g) → list_any (is_front place.front) c.fronts ≡ true
+pub agrees_put : (c : Config) (st : State) (g : Readings) (m : Made) (tuning : Tuning) (place : Place) → Has m (living g)
+    → list_any (is_front place.front) c.fronts ≡ true
     → Agrees c st g → Agrees c (put_at c (g.number m.home) tuning st place) (placed_read c m.home tuning place g)
 agrees_put c st g m tuning place lives known a =
     agrees_swept c _ _ (loosely_tuned c _ _ place.front place.anew (mux_of c.muxes tuning) row
@@ -219,11 +238,18 @@ agrees_put c st g m tuning place lives known a =
     row : is_some (row_of st place.front) ≡ true
     row = row_known c st place.front a.loosely.kept known
 
-    unmade : (s : SessionId) → length g.made < s.count → (put m.home (Some tuning) g.tuned s ≡ g.tuned s) × (put m.home (Some place.front) g.front s ≡ g.front s) × (g.pids s ≡ g.pids s)
+    unmade : (s : SessionId) → length g.made < s.count
+        → (put m.home (Some tuning) g.tuned s ≡ g.tuned s) × (put m.home (Some place.front) g.front s ≡ g.front s) × (g.pids s ≡ g.pids s)
     unmade s above = let other : same_id m.home s ≡ false = home_made g m s a.loosely.told lives above in (rw other refl, rw other refl, refl)
 
-    by : (n : Made) (b : Bool) → cond b (record { number = g.number n.home; tuning = Some tuning; front = Some place.front; pids = g.pids n.home }) (stream_told g n.home)
-        ≡ record { number = g.number n.home; tuning = cond b (Some tuning) (g.tuned n.home); front = cond b (Some place.front) (g.front n.home); pids = g.pids n.home }
+    by : (n : Made) (b : Bool) → cond b (record { number = g.number n.home; tuning = Some tuning; front = Some place.front; pids = g.pids n.home })
+        (stream_told g n.home)
+        ≡ record {
+          number = g.number n.home;
+          tuning = cond b (Some tuning) (g.tuned n.home);
+          front = cond b (Some place.front) (g.front n.home);
+          pids = g.pids n.home;
+        }
     by n true = refl
     by n false = refl
 
@@ -252,7 +278,8 @@ pub agrees_retuned : (c : Config) (st : State) (g : Readings) (m : Made) → Has
     → Agrees c st g → Agrees c (option_map_or (retune c (g.number m.home) st) o (settle st)).state (retuned_read c g m.home o)
 agrees_retuned c st g m lives None ready a = subst (Agrees c st) (sym (freed_same g a.free)) a
 agrees_retuned c st g m lives (Some tuning) ready a =
-    subst (λ x. Agrees c (option_map_or (put_at c (g.number m.home) tuning now) (choose x (mux_of c.muxes tuning) tuning) now) (retuned_read c g m.home (Some tuning)))
+    subst (λ x. Agrees c (option_map_or (put_at c (g.number m.home) tuning now) (choose x (mux_of c.muxes tuning) tuning) now)
+    (retuned_read c g m.home (Some tuning)))
     (sym (outlook_same c now g flushed m lives))
     (by (choose (outlook_in c g m.home) (mux_of c.muxes tuning) tuning) refl (ready tuning refl))
   where
@@ -263,7 +290,8 @@ agrees_retuned c st g m lives (Some tuning) ready a =
     flushed = agrees_flush c st g (λ s. s.stream == g.number m.home && not s.http) true st.clock (λ x e. not_http (x.stream == g.number m.home) x.http e) a
 
     by : (q : Option Place) → choose (outlook_in c g m.home) (mux_of c.muxes tuning) tuning ≡ q → is_some q ≡ true
-        → Agrees c (option_map_or (put_at c (g.number m.home) tuning now) q now) (with_placing c g (Some tuning) m.home (option_map (λ place. record { home = m.home; tuning = tuning; place = place }) q))
+        → Agrees c (option_map_or (put_at c (g.number m.home) tuning now) q now)
+        (with_placing c g (Some tuning) m.home (option_map (λ place. record { home = m.home; tuning = tuning; place = place }) q))
     by None e there = none_true false there refl
     by (Some place) e there = agrees_put c now g m tuning place lives (chosen_known (outlook_in c g m.home) (mux_of c.muxes tuning) tuning place e) flushed
 
@@ -292,7 +320,8 @@ agrees_change_by c st g m query lives ready a =
     old = ap (option_and_then (λ t. t.tuning)) (stream_here c st g a m lives)
 
     m1 : State
-    m1 = (option_map_or (retune c (g.number m.home) st) (to_set (option_and_then (λ t. t.tuning) (stream_of st (g.number m.home))) query.change) (settle st)).state
+    m1 = (option_map_or (retune c (g.number m.home) st) (to_set (option_and_then (λ t. t.tuning) (stream_of st (g.number m.home))) query.change)
+        (settle st)).state
 
     g1 : Readings
     g1 = retuned_read c g m.home (to_set (g.tuned m.home) query.change)
@@ -302,7 +331,14 @@ agrees_change_by c st g m query lives ready a =
         (agrees_retuned c st g m lives (to_set (g.tuned m.home) query.change) ready a)
 
     by : (n : Made) (b : Bool) → same_id m.home n.home ≡ b
-        → cond b (record { number = g1.number n.home; tuning = g1.tuned n.home; front = g1.front n.home; pids = new_pids (g1.pids n.home) query }) (stream_told g1 n.home)
-        ≡ record { number = g1.number n.home; tuning = g1.tuned n.home; front = g1.front n.home; pids = cond b (new_pids (g.pids m.home) query) (g.pids n.home) }
-    by n true e = ap (λ x. record { number = g1.number n.home; tuning = g1.tuned n.home; front = g1.front n.home; pids = new_pids (g.pids x) query }) (sym (id_is m.home n.home e))
+        → cond b (record { number = g1.number n.home; tuning = g1.tuned n.home; front = g1.front n.home; pids = new_pids (g1.pids n.home) query })
+        (stream_told g1 n.home)
+        ≡ record {
+          number = g1.number n.home;
+          tuning = g1.tuned n.home;
+          front = g1.front n.home;
+          pids = cond b (new_pids (g.pids m.home) query) (g.pids n.home);
+        }
+    by n true e = ap (λ x. record { number = g1.number n.home; tuning = g1.tuned n.home; front = g1.front n.home; pids = new_pids (g.pids x) query })
+        (sym (id_is m.home n.home e))
     by n false e = refl

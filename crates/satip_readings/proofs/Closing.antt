@@ -31,19 +31,22 @@ module _ (c : Config) (g : Readings) (free : (f : ℕ) → serves g f ≡ false 
   ended_read front tune = let e = item caller (Ended front tune) answer out in
       read_other c g e (sym (either_way None (is_accepted answer))) (sym (either_way None (is_accepted answer))) (λ s. either_false (is_accepted answer))
       ∙ ap frees (simply_same g g.clock (ends c g e) (keeps_alive e.event) never never
-      (λ s. cond (any_where (is_selected g e.event) (living_session g s)) [] []) (pulled_by e) nothing nothing (λ m h. refl) (λ m h. refl) (unselected e.event) (λ s. refl)) ∙ still
+      (λ s. cond (any_where (is_selected g e.event) (living_session g s)) [] []) (pulled_by e) nothing nothing (λ m h. refl) (λ m h. refl) (unselected e.event)
+      (λ s. refl)) ∙ still
 
   pub ask_read : (front : ℕ) → read_one c g (item caller (Ask front) answer out) ≡ g
   ask_read front = let e = item caller (Ask front) answer out in
       read_other c g e (sym (either_way None (is_accepted answer))) (sym (either_way None (is_accepted answer))) (λ s. either_false (is_accepted answer))
       ∙ ap frees (simply_same g g.clock (ends c g e) (keeps_alive e.event) never never
-      (λ s. cond (any_where (is_selected g e.event) (living_session g s)) [] []) (pulled_by e) nothing nothing (λ m h. refl) (λ m h. refl) (unselected e.event) (λ s. refl)) ∙ still
+      (λ s. cond (any_where (is_selected g e.event) (living_session g s)) [] []) (pulled_by e) nothing nothing (λ m h. refl) (λ m h. refl) (unselected e.event)
+      (λ s. refl)) ∙ still
 
   pub stop_read : read_one c g (item caller Stop answer out) ≡ g
   stop_read = let e = item caller Stop answer out in
       read_other c g e (sym (either_way None (is_accepted answer))) (sym (either_way None (is_accepted answer))) (λ s. either_false (is_accepted answer))
       ∙ ap frees (simply_same g g.clock (ends c g e) (keeps_alive e.event) never never
-      (λ s. cond (any_where (is_selected g e.event) (living_session g s)) [] []) (pulled_by e) nothing nothing (λ m h. refl) (λ m h. refl) (unselected e.event) (λ s. refl)) ∙ still
+      (λ s. cond (any_where (is_selected g e.event) (living_session g s)) [] []) (pulled_by e) nothing nothing (λ m h. refl) (λ m h. refl) (unselected e.event)
+      (λ s. refl)) ∙ still
 
   -- a close by which these sessions end
   close_read : (id : SessionId) (p : Made → Bool) → ((m : Made) → Has m (living g) → is_this_http id m ≡ p m)
@@ -51,18 +54,21 @@ module _ (c : Config) (g : Readings) (free : (f : ℕ) → serves g f ≡ false 
   close_read id p same = let e = item caller (Close id) answer out in
       read_other c g e (sym (either_way None (is_accepted answer))) (sym (either_way None (is_accepted answer))) (λ s. either_false (is_accepted answer))
       ∙ ap frees (simply_same g g.clock (ends c g e) (keeps_alive e.event) p never
-      (λ s. cond (any_where (is_selected g e.event) (living_session g s)) [] []) (pulled_by e) nothing nothing same (λ m h. refl) (unselected e.event) (λ s. refl))
+      (λ s. cond (any_where (is_selected g e.event) (living_session g s)) [] []) (pulled_by e) nothing nothing same (λ m h. refl)
+      (unselected e.event) (λ s. refl))
 
 pub agrees_close : (c : Config) (st : State) (g : Readings) (caller : ℕ) (answer : Answer) (out : Output) (id : SessionId) → Agrees c st g
     → Agrees c (on_close id st).state (read_one c g (item caller (Close id) answer out))
 agrees_close c st g caller answer out id a = by (living_http g id) (http_session st id) refl (http_match c st g id a)
   where
     by : (o : Option Made) (q : Option Session) → living_http g id ≡ o → Matched g o q
-        → Agrees c (option_map_or (λ s. outcome (end_where (is_session id) st) (Closed Yes) []) q (outcome (settle st) (Closed ClosedGone) [])).state (read_one c g (item caller (Close id) answer out))
+        → Agrees c (option_map_or (λ s. outcome (end_where (is_session id) st) (Closed Yes) []) q (outcome (settle st) (Closed ClosedGone) [])).state
+        (read_one c g (item caller (Close id) answer out))
     by None None e same = subst (Agrees c st) (sym (close_read c g a.free caller answer out id never (http_none g id e) ∙ still c g a.free caller answer out)) a
     by None (Some s) e same = absurd same
     by (Some m) None e same = absurd same
     by (Some m) (Some s) e same =
         let found = http_some g a.loosely.told id m e in
-        subst (Agrees c (end_where (is_session id) st).state) (sym (close_read c g a.free caller answer out id (is_this_http id) (λ n h. refl) ∙ ap frees (simply_ends g g.clock (is_this_http id))))
+        subst (Agrees c (end_where (is_session id) st).state)
+        (sym (close_read c g a.free caller answer out id (is_this_http id) (λ n h. refl) ∙ ap frees (simply_ends g g.clock (is_this_http id))))
         (agrees_ended c st g (is_this_http id) (is_session id) (λ n t h k. http_only g a.loosely.told id m id e (sym found.1) n t h k) a)

@@ -118,7 +118,8 @@ pids_refuses (Ok pids) = tt
 pids_refuses (Err UnderAll) = refl
 pids_refuses (Err TooMany) = refl
 
-change_refuses : (c : Config) (st : State) (outlook : Outlook) (tuning : Option Tuning) (pids : Pids) (makes : Bool) (query : Query) → Each Refuses (of_change c st outlook tuning pids makes query)
+change_refuses : (c : Config) (st : State) (outlook : Outlook) (tuning : Option Tuning) (pids : Pids) (makes : Bool) (query : Query)
+    → Each Refuses (of_change c st outlook tuning pids makes query)
 change_refuses c st outlook tuning pids makes query = (
   key_refuses tuning query.change,
   (
@@ -187,9 +188,11 @@ passes c st r e = by (all_none (causes c st r) e)
 
 -- a front end is to be had for the tuning that is to be set
 abbrev pub IsReady : Config → Readings → SessionId → Query → Type 0
-IsReady c g home query = (tuning : Tuning) → to_set (g.tuned home) query.change ≡ Some tuning → is_some (choose (outlook_in c g home) (mux_of c.muxes tuning) tuning) ≡ true
+IsReady c g home query = (tuning : Tuning) → to_set (g.tuned home) query.change ≡ Some tuning
+    → is_some (choose (outlook_in c g home) (mux_of c.muxes tuning) tuning) ≡ true
 
-front_ready : (c : Config) (o : Outlook) (old : Option Tuning) (query : Query) (tuning : Tuning) → front_missing c o old query.change ≡ false → to_set old query.change ≡ Some tuning
+front_ready : (c : Config) (o : Outlook) (old : Option Tuning) (query : Query) (tuning : Tuning) → front_missing c o old query.change ≡ false
+    → to_set old query.change ≡ Some tuning
     → is_some (choose o (mux_of c.muxes tuning) tuning) ≡ true
 front_ready c o old query tuning missing set =
     let free : blocked o (mux_of c.muxes tuning) tuning ≡ false = sym (ap (λ s. option_map_or (λ t. blocked o (mux_of c.muxes t) t) s false) set) ∙ missing in
@@ -200,22 +203,26 @@ pub change_front : (c : Config) (st : State) (o : Outlook) (tuning : Option Tuni
 change_front c st o tuning pids makes query p = where_none (front_missing c o tuning query.change) (telling 503 NoMoreFrontends) p.1.1.1.0
 
 module _ (c : Config) (st : State) (g : Readings) (a : Agrees c st g) where
-  pub ready_at : (r : Request) (m : Made) → Has m (living g) → changes r.method ≡ true → stream_meant st r ≡ Some (stream_told g m.home) → Passes c st r → IsReady c g m.home r.query
+  pub ready_at : (r : Request) (m : Made) → Has m (living g) → changes r.method ≡ true → stream_meant st r ≡ Some (stream_told g m.home) → Passes c st r
+      → IsReady c g m.home r.query
   ready_at r m h change meant p tuning set =
       let query : Each IsNone (of_query c st r (Some (stream_told g m.home))) =
       subst (λ o. Each IsNone (of_query c st r o)) meant (subst (λ b. Each IsNone (cond b (of_query c st r (stream_meant st r)) [])) change p.query) in
       let missing : front_missing c (outlook_of c st (g.number m.home)) (g.tuned m.home) r.query.change ≡ false =
       change_front c st (outlook_of c st (g.number m.home)) (g.tuned m.home) (g.pids m.home) (makes_session r) r.query query in
-      ap (λ o. is_some (choose o (mux_of c.muxes tuning) tuning)) (sym (outlook_same c st g a m h)) ∙ front_ready c (outlook_of c st (g.number m.home)) (g.tuned m.home) r.query tuning missing set
+      ap (λ o. is_some (choose o (mux_of c.muxes tuning) tuning)) (sym (outlook_same c st g a m h))
+      ∙ front_ready c (outlook_of c st (g.number m.home)) (g.tuned m.home) r.query tuning missing set
 
-  new_ready : (query : Query) (pids : Pids) (makes : Bool) (id : SessionId) → length g.made < id.count → Each IsNone (of_change c st (new_outlook c st) None pids makes query) → IsReady c g id query
+  new_ready : (query : Query) (pids : Pids) (makes : Bool) (id : SessionId) → length g.made < id.count
+      → Each IsNone (of_change c st (new_outlook c st) None pids makes query) → IsReady c g id query
   new_ready query pids makes id above e tuning set =
       let u = a.loosely.told.unmade id above in
       let set_none : to_set None query.change ≡ Some tuning = ap (λ o. to_set o query.change) (sym u.tuned) ∙ set in
       ap (λ o. is_some (choose o (mux_of c.muxes tuning) tuning)) (sym (outlook_new c st g a id above))
       ∙ front_ready c (new_outlook c st) None query tuning (change_front c st (new_outlook c st) None pids makes query e) set_none
 
-  pub ready_new : (r : Request) (id : SessionId) → length g.made < id.count → changes r.method ≡ true → stream_meant st r ≡ None → Passes c st r → IsReady c g id r.query
+  pub ready_new : (r : Request) (id : SessionId) → length g.made < id.count → changes r.method ≡ true → stream_meant st r ≡ None → Passes c st r
+      → IsReady c g id r.query
   ready_new r id above change meant p = new_ready r.query (Only []) (makes_session r) id above
       (subst (λ o. Each IsNone (of_query c st r o)) meant (subst (λ b. Each IsNone (cond b (of_query c st r (stream_meant st r)) [])) change p.query))
 
@@ -252,7 +259,8 @@ names_it g told n m other e is k s h same =
     (λ f. id_same s.id other (same.id ∙ names_one n k.id m.id f found.1 ∙ sym is))
     (λ f. ap (names n) (sym same.id ∙ id_is s.id other f ∙ is) ∙ found.1)
 
-pub rtsp_named : (g : Readings) (told : IsTold g) (n : SessionName) (m : Made) → named_in g n ≡ Some m → (k : Made) → Has k (living g) → (not k.http && names n k.id) ≡ names n k.id
+pub rtsp_named : (g : Readings) (told : IsTold g) (n : SessionName) (m : Made) → named_in g n ≡ Some m → (k : Made) → Has k (living g)
+    → (not k.http && names n k.id) ≡ names n k.id
 rtsp_named g told n m e k h = same_bool (not k.http && names n k.id) (names n k.id) (λ f. (and_parts (not k.http) (names n k.id) f).1)
     (λ f. let found = named_facts g n m e in
     let one : k ≡ m = told.ids k m h found.0 (names_one n k.id m.id f found.1) in
@@ -282,12 +290,14 @@ needs_named st r needs present = by (names_none r.session) refl
     by false f = f
 
 pub meant_number : (st : State) (r : Request) (n : ℕ) → r.stream ≡ Some n → stream_meant st r ≡ stream_of st n
-meant_number st r n is = ap (λ o. option_and_then (stream_of st) (cond (is_some o) o (cond (needs_session r.method) (option_map (λ s. s.stream) (session_named st r.session)) None))) is
+meant_number st r n is = ap (λ o. option_and_then (stream_of st)
+    (cond (is_some o) o (cond (needs_session r.method) (option_map (λ s. s.stream) (session_named st r.session)) None))) is
 
 module _ (c : Config) (st : State) (g : Readings) (a : Agrees c st g) (r : Request) where
   -- the named session lives
   pub named_present : names_none r.session ≡ false → session_missing st r ≡ false → (m : Made) × (named_in g r.session ≡ Some m)
-  named_present named present = by (named_in g r.session) (session_named st r.session) refl (named_match c st g a r.session) (sym (ap (λ b. cond b (needs_session r.method) (is_none (session_named st r.session))) named) ∙ present)
+  named_present named present = by (named_in g r.session) (session_named st r.session) refl (named_match c st g a r.session)
+      (sym (ap (λ b. cond b (needs_session r.method) (is_none (session_named st r.session))) named) ∙ present)
     where
       by : (o : Option Made) (q : Option Session) → named_in g r.session ≡ o → Matched g o q → is_none q ≡ false → (m : Made) × (named_in g r.session ≡ Some m)
       by None None f same e = cc
@@ -296,17 +306,23 @@ module _ (c : Config) (st : State) (g : Readings) (a : Agrees c st g) (r : Reque
       by (Some m) (Some s) f same e = (m, f)
 
   -- the stream that a request is about is that of the session which it names
-  pub own_stream : stream_of_another st r ≡ false → (m : Made) → named_in g r.session ≡ Some m → (is_setup r.method || needs_session r.method) ≡ true → (n : ℕ) → r.stream ≡ Some n → g.number m.home ≡ n
-  own_stream own m named looks n is = by (session_named st r.session) (subst (λ o. Matched g o (session_named st r.session)) named (named_match c st g a r.session)) own
+  pub own_stream : stream_of_another st r ≡ false → (m : Made) → named_in g r.session ≡ Some m → (is_setup r.method || needs_session r.method) ≡ true → (n : ℕ)
+      → r.stream ≡ Some n → g.number m.home ≡ n
+  own_stream own m named looks n is = by (session_named st r.session)
+      (subst (λ o. Matched g o (session_named st r.session)) named (named_match c st g a r.session)) own
     where
       by : (q : Option Session) → Matched g (Some m) q
-          → ((is_setup r.method || needs_session r.method) && option_map_or (λ s. option_map_or (λ number. not (s.stream == number)) r.stream false) q false) ≡ false → g.number m.home ≡ n
+          → ((is_setup r.method || needs_session r.method) && option_map_or (λ s. option_map_or (λ number. not (s.stream == number)) r.stream false) q false)
+          ≡ false → g.number m.home ≡ n
       by None same e = absurd same
       by (Some s) same e =
-          let other : not (s.stream == n) ≡ false = sym (ap (λ b. b && option_map_or (λ number. not (s.stream == number)) r.stream false) looks ∙ ap (λ o. option_map_or (λ number. not (s.stream == number)) o false) is) ∙ e in
+          let other : not (s.stream == n) ≡ false =
+          sym (ap (λ b. b && option_map_or (λ number. not (s.stream == number)) r.stream false) looks
+          ∙ ap (λ o. option_map_or (λ number. not (s.stream == number)) o false) is) ∙ e in
           sym same.stream ∙ eqb-true s.stream n (double_not (s.stream == n) other)
 
-  pub meant_named : stream_of_another st r ≡ false → (m : Made) → named_in g r.session ≡ Some m → (is_setup r.method || needs_session r.method) ≡ true → ((r.stream ≡ None) → needs_session r.method ≡ true)
+  pub meant_named : stream_of_another st r ≡ false → (m : Made) → named_in g r.session ≡ Some m → (is_setup r.method || needs_session r.method) ≡ true
+      → ((r.stream ≡ None) → needs_session r.method ≡ true)
       → stream_meant st r ≡ Some (stream_told g m.home)
   meant_named own m named looks needs = by r.stream refl
     where
@@ -319,6 +335,7 @@ module _ (c : Config) (st : State) (g : Readings) (a : Agrees c st g) (r : Reque
 
       by : (o : Option ℕ) → r.stream ≡ o → stream_meant st r ≡ Some (stream_told g m.home)
       by (Some n) is = meant_number st r n is ∙ ap (stream_of st) (sym (own_stream own m named looks n is)) ∙ stream_here c st g a m lives
-      by None is = ap (λ o. option_and_then (stream_of st) (cond (is_some o) o (cond (needs_session r.method) (option_map (λ s. s.stream) (session_named st r.session)) None))) is
+      by None is = ap (λ o. option_and_then (stream_of st)
+          (cond (is_some o) o (cond (needs_session r.method) (option_map (λ s. s.stream) (session_named st r.session)) None))) is
           ∙ ap (λ b. option_and_then (stream_of st) (cond b (option_map (λ s. s.stream) (session_named st r.session)) None)) (needs is)
           ∙ of_session (session_named st r.session) (subst (λ o. Matched g o (session_named st r.session)) named (named_match c st g a r.session))

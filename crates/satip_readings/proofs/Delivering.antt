@@ -39,7 +39,8 @@ current_tune st front tune e = by (row_of st front) e
     by None e = cc
     by (Some r) e = eqb-true r.tune tune e
 
-tune_current : (st : State) (front tune : ℕ) → is_some (row_of st front) ≡ true → tune_at st front ≡ tune → option_map_or (λ (r : Row). r.tune == tune) (row_of st front) false ≡ true
+tune_current : (st : State) (front tune : ℕ) → is_some (row_of st front) ≡ true → tune_at st front ≡ tune
+    → option_map_or (λ (r : Row). r.tune == tune) (row_of st front) false ≡ true
 tune_current st front tune there e = by (row_of st front) there e
   where
     by : (o : Option Row) → is_some o ≡ true → option_map_or (λ (r : Row). r.tune) o 0 ≡ tune → option_map_or (λ (r : Row). r.tune == tune) o false ≡ true
@@ -51,9 +52,11 @@ at_is None f e = cc
 at_is (Some n) f e = ap Some (eqb-true n f e)
 
 -- what a session is to have, by the state, is selected for it, by the entries
-pub gives_selected : (c : Config) (st : State) (g : Readings) (front tune : ℕ) (packet : List ℕ) → Agrees c st g → (m : Made) (s : Session) → Has m (living g) → Same g m s
+pub gives_selected : (c : Config) (st : State) (g : Readings) (front tune : ℕ) (packet : List ℕ) → Agrees c st g → (m : Made) (s : Session)
+    → Has m (living g) → Same g m s
     → (is_current st front tune && list_any (λ t. picks t packet s) (served_by st front)) ≡ is_selected g (Packet front tune packet) m
-gives_selected c st g front tune packet a m s h e = same_bool (is_current st front tune && list_any (λ t. picks t packet s) (served_by st front)) (is_selected g (Packet front tune packet) m) there back
+gives_selected c st g front tune packet a m s h e =
+    same_bool (is_current st front tune && list_any (λ t. picks t packet s) (served_by st front)) (is_selected g (Packet front tune packet) m) there back
   where
     pid : ℕ
     pid = pid_of packet
@@ -61,7 +64,8 @@ gives_selected c st g front tune packet a m s h e = same_bool (is_current st fro
     there : (is_current st front tune && list_any (λ t. picks t packet s) (served_by st front)) ≡ true → is_selected g (Packet front tune packet) m ≡ true
     there t =
         let parts = and_parts (is_current st front tune) (list_any (λ t. picks t packet s) (served_by st front)) t in
-        let current = and_parts (option_map_or (λ (r : Row). r.tune == tune) (row_of st front) false) (list_any (λ (t : Stream). true) (served_by st front)) parts.0 in
+        let current = and_parts (option_map_or (λ (r : Row). r.tune == tune) (row_of st front) false)
+        (list_any (λ (t : Stream). true) (served_by st front)) parts.0 in
         let some = any_has (λ t. picks t packet s) (served_by st front) parts.1 in
         let served = filter_has (λ t. is_at t.front front) st.streams some.0 some.1 in
         let b = stream_back c st g a some.0 served.0 in
@@ -71,7 +75,8 @@ gives_selected c st g front tune packet a m s h e = same_bool (is_current st fro
         let same : some.0 ≡ stream_told g m.home = b.2 ∙ ap (stream_told g) (sym homes) in
         and_from (plays g m && is_at (g.front m.home) front && g.tune front == tune) (has_pid (g.pids m.home) pid)
         (and_from (plays g m && is_at (g.front m.home) front) (g.tune front == tune)
-        (and_from (plays g m) (is_at (g.front m.home) front) (plays_living g m h ∙ sym e.playing ∙ stream.1) (ap (λ x. is_at x.front front) (sym same) ∙ served.1))
+        (and_from (plays g m) (is_at (g.front m.home) front) (plays_living g m h ∙ sym e.playing ∙ stream.1)
+        (ap (λ x. is_at x.front front) (sym same) ∙ served.1))
         (eq-eqb (g.tune front) tune (sym (a.loosely.tunes front) ∙ current_tune st front tune current.0)))
         (ap (λ x. has_pid x.pids pid) (sym same) ∙ picked.1)
 
@@ -80,7 +85,8 @@ gives_selected c st g front tune packet a m s h e = same_bool (is_current st fro
         let p = and_parts (plays g m && is_at (g.front m.home) front && g.tune front == tune) (has_pid (g.pids m.home) pid) t in
         let q = and_parts (plays g m && is_at (g.front m.home) front) (g.tune front == tune) p.0 in
         let r = and_parts (plays g m) (is_at (g.front m.home) front) q.0 in
-        let here : Has (stream_told g m.home) st.streams = (find_has (λ t. t.number == g.number m.home) st.streams (stream_told g m.home) (stream_here c st g a m h)).0 in
+        let here : Has (stream_told g m.home) st.streams =
+        (find_has (λ t. t.number == g.number m.home) st.streams (stream_told g m.home) (stream_here c st g a m h)).0 in
         let served : Has (stream_told g m.home) (served_by st front) = has_filter (λ t. is_at t.front front) st.streams (stream_told g m.home) here r.1 in
         let row : is_some (row_of st front) ≡ true = a.loosely.kept.placed (stream_told g m.home) front here (at_is (g.front m.home) front r.1) in
         let tuned : tune_at st front ≡ tune = a.loosely.tunes front ∙ eqb-true (g.tune front) tune q.1 in
@@ -96,20 +102,24 @@ pub gives_is_selected : (c : Config) (st : State) (g : Readings) (front tune : �
     → any_where (is_selected g (Packet front tune packet)) (living_session g s) ≡ gives_to st (Packet front tune packet) s
 gives_is_selected c st g front tune packet s a = same_bool _ (gives_to st (Packet front tune packet) s) (λ t. there (living_session g s) refl t) back
   where
-    there : (o : Option Made) → living_session g s ≡ o → any_where (is_selected g (Packet front tune packet)) o ≡ true → gives_to st (Packet front tune packet) s ≡ true
+    there : (o : Option Made) → living_session g s ≡ o → any_where (is_selected g (Packet front tune packet)) o ≡ true
+        → gives_to st (Packet front tune packet) s ≡ true
     there None e t = cc
     there (Some m) e t =
         let found = found_living g s m e in
         let b = alike_back g m (living g) st.sessions a.loosely.sessions found.0 in
-        let parts = and_parts (is_current st front tune) (list_any (λ t. picks t packet b.0) (served_by st front)) (gives_selected c st g front tune packet a m b.0 found.0 b.2 ∙ t) in
+        let parts = and_parts (is_current st front tune) (list_any (λ t. picks t packet b.0) (served_by st front))
+        (gives_selected c st g front tune packet a m b.0 found.0 b.2 ∙ t) in
         let some = any_has (λ t. picks t packet b.0) (served_by st front) parts.1 in
         and_from (is_current st front tune) (list_any (λ t. list_any (λ x. same_id x.id s && picks t packet x) st.sessions) (served_by st front)) parts.0
         (has_any (λ t. list_any (λ x. same_id x.id s && picks t packet x) st.sessions) (served_by st front) some.0 some.1
-        (has_any (λ x. same_id x.id s && picks some.0 packet x) st.sessions b.0 b.1 (and_from (same_id b.0.id s) (picks some.0 packet b.0) (id_same b.0.id s (b.2.id ∙ found.1)) some.2)))
+        (has_any (λ x. same_id x.id s && picks some.0 packet x) st.sessions b.0 b.1
+        (and_from (same_id b.0.id s) (picks some.0 packet b.0) (id_same b.0.id s (b.2.id ∙ found.1)) some.2)))
 
     back : gives_to st (Packet front tune packet) s ≡ true → any_where (is_selected g (Packet front tune packet)) (living_session g s) ≡ true
     back t =
-        let parts = and_parts (is_current st front tune) (list_any (λ t. list_any (λ x. same_id x.id s && picks t packet x) st.sessions) (served_by st front)) t in
+        let parts = and_parts (is_current st front tune)
+        (list_any (λ t. list_any (λ x. same_id x.id s && picks t packet x) st.sessions) (served_by st front)) t in
         let some = any_has (λ t. list_any (λ x. same_id x.id s && picks t packet x) st.sessions) (served_by st front) parts.1 in
         let one = any_has (λ x. same_id x.id s && picks some.0 packet x) st.sessions some.2 in
         let is = and_parts (same_id one.0.id s) (picks some.0 packet one.0) one.2 in
@@ -117,7 +127,8 @@ gives_is_selected c st g front tune packet s a = same_bool _ (gives_to st (Packe
         let same : m.0.id ≡ s = sym m.2.id ∙ id_is one.0.id s is.0 in
         let found : living_session g s ≡ Some m.0 = ap (living_session g) (sym same) ∙ living_found g a.loosely.told m.0 m.1 in
         ap (any_where (is_selected g (Packet front tune packet))) found ∙ sym (gives_selected c st g front tune packet a m.0 one.0 m.1 m.2)
-        ∙ and_from (is_current st front tune) (list_any (λ t. picks t packet one.0) (served_by st front)) parts.0 (has_any (λ t. picks t packet one.0) (served_by st front) some.0 some.1 is.1)
+        ∙ and_from (is_current st front tune) (list_any (λ t. picks t packet one.0) (served_by st front)) parts.0
+        (has_any (λ t. picks t packet one.0) (served_by st front) some.0 some.1 is.1)
 
 -- a session that is given a packet
 
@@ -133,12 +144,14 @@ got packet s = cond s.http (cond (is_overrun s) s (with_packet packet s)) (sendi
 given_is : (clock : ℕ) (packet : List ℕ) (s : Session) → (given clock packet s).after ≡ Some (got packet s)
 given_is clock packet s = by s.http
   where
-    by : (b : Bool) → (cond b (record { sends = []; after = Some (cond (is_overrun s) s (with_packet packet s)) }) (let_go false clock (with_packet packet s))).after
+    by : (b : Bool) → (cond b (record { sends = []; after = Some (cond (is_overrun s) s (with_packet packet s)) })
+        (let_go false clock (with_packet packet s))).after
         ≡ Some (cond b (cond (is_overrun s) s (with_packet packet s)) (sending (with_packet packet s)))
     by true = refl
     by false = refl
 
-got_keeps : {A : Type 0} (f : Session → A) (packet : List ℕ) (s : Session) → f (with_packet packet s) ≡ f s → f (sending (with_packet packet s)) ≡ f s → f (got packet s) ≡ f s
+got_keeps : {A : Type 0} (f : Session → A) (packet : List ℕ) (s : Session) → f (with_packet packet s) ≡ f s → f (sending (with_packet packet s)) ≡ f s
+    → f (got packet s) ≡ f s
 got_keeps f packet s e k = by s.http (is_overrun s)
   where
     by : (a b : Bool) → f (cond a (cond b s (with_packet packet s)) (sending (with_packet packet s))) ≡ f s
@@ -171,13 +184,15 @@ map_both f h (x ∷ xs) = ap (λ ys. h (f x) ∷ ys) (map_both f h xs)
 
 give_sessions : (packet : List ℕ) (t : Stream) (st : State) → (give packet t st).state ≡ record st { sessions = map (got_by t packet) st.sessions }
 give_sessions packet t st = ap (λ ss. record st { sessions = ss })
-    (some_map (λ s. (cond (picks t packet s) (given st.clock packet s) (record { sends = []; after = Some s })).after) (got_by t packet) (λ s. by s (picks t packet s)) st.sessions)
+    (some_map (λ s. (cond (picks t packet s) (given st.clock packet s) (record { sends = []; after = Some s })).after) (got_by t packet)
+    (λ s. by s (picks t packet s)) st.sessions)
   where
     by : (s : Session) (b : Bool) → (cond b (given st.clock packet s) (record { sends = []; after = Some s })).after ≡ Some (cond b (got packet s) s)
     by s true = given_is st.clock packet s
     by s false = refl
 
-pub give_all_sessions : (packet : List ℕ) (ts : List Stream) (st : State) → (give_all packet ts st).state ≡ record st { sessions = map (got_all packet ts) st.sessions }
+pub give_all_sessions : (packet : List ℕ) (ts : List Stream) (st : State)
+    → (give_all packet ts st).state ≡ record st { sessions = map (got_all packet ts) st.sessions }
 give_all_sessions packet [] st = ap (λ ss. record st { sessions = ss }) (sym (map_itself st.sessions))
 give_all_sessions packet (t ∷ ts) st = give_all_sessions packet ts (give packet t st).state
     ∙ ap (λ (x : State). with_sessions x (map (got_all packet ts) x.sessions)) (give_sessions packet t st)
@@ -201,7 +216,8 @@ got_once packet (t ∷ ts) s apart = by (picks t packet s) refl (got_once packet
     other : picks t packet s ≡ true → (u : Stream) → Has u ts → picks u packet (got packet s) ≡ false
     other e u h = is_false (picks u packet (got packet s)) (λ f.
         let parts = and_parts ((got packet s).stream == u.number && (got packet s).playing) (has_pid u.pids (pid_of packet)) f in
-        let number : (got packet s).stream ≡ u.number = eqb-true (got packet s).stream u.number (and_parts ((got packet s).stream == u.number) (got packet s).playing parts.0).0 in
+        let number : (got packet s).stream ≡ u.number =
+        eqb-true (got packet s).stream u.number (and_parts ((got packet s).stream == u.number) (got packet s).playing parts.0).0 in
         none_true (u.number == t.number) (eq-eqb u.number t.number (sym number ∙ stream e)) (any_no (λ v. v.number == t.number) ts u apart.0 h))
 
     by : (b : Bool) → picks t packet s ≡ b → got_all packet ts s ≡ cond (list_any (λ u. picks u packet s) ts) (got packet s) s
@@ -228,14 +244,24 @@ has_flat f y (z ∷ xs) x (inr h) k = has_right y (f z) (flat_map f xs) (has_fla
 abbrev pub selected_read : (SessionId → List (List ℕ)) → Readings → Readings
 selected_read more g = record g { selected = λ s. g.selected s ++ more s }
 
-told_selected : (g : Readings) (more : SessionId → List (List ℕ)) → ((s : SessionId) → length g.made < s.count → more s ≡ []) → ((s : SessionId) → Each (λ p. length p ≡ 188) (more s))
+told_selected : (g : Readings) (more : SessionId → List (List ℕ)) → ((s : SessionId) → length g.made < s.count → more s ≡ [])
+    → ((s : SessionId) → Each (λ p. length p ≡ 188) (more s))
     → IsTold g → IsTold (selected_read more g)
 told_selected g more unmade packets told = record {
   ids = told.ids;
   numbers = told.numbers;
   few = told.few;
   homes = told.homes;
-  unmade = λ s above. let u = told.unmade s above in record { over = u.over; played = u.played; tuned = u.tuned; pids = u.pids; front = u.front; selected = rw (u.selected, unmade s above) refl; pulled = u.pulled };
+  unmade = λ s above. let u = told.unmade s above in
+      record {
+        over = u.over;
+        played = u.played;
+        tuned = u.tuned;
+        pids = u.pids;
+        front = u.front;
+        selected = rw (u.selected, unmade s above) refl;
+        pulled = u.pulled;
+      };
   packets = λ s. Each-append (λ p. length p ≡ 188) (g.selected s) (more s) (told.packets s) (packets s);
 }
 
@@ -252,21 +278,30 @@ agrees_selected c st g f more unmade packets same a = record {
     tunes = a.loosely.tunes;
     muxes = a.loosely.muxes;
     told = told_selected g more unmade packets a.loosely.told;
-    kept = record { apart = a.loosely.kept.apart; once = a.loosely.kept.once; positive = a.loosely.kept.positive; few = a.loosely.kept.few; rows = a.loosely.kept.rows; placed = a.loosely.kept.placed };
+    kept = record {
+      apart = a.loosely.kept.apart;
+      once = a.loosely.kept.once;
+      positive = a.loosely.kept.positive;
+      few = a.loosely.kept.few;
+      rows = a.loosely.kept.rows;
+      placed = a.loosely.kept.placed;
+    };
   };
   streams = a.streams;
   free = a.free;
 }
 
 -- what is said to be selected counts for living sessions alone
-agrees_reselected : (c : Config) (st : State) (g : Readings) (selected : SessionId → List (List ℕ)) → ((m : Made) → Has m (living g) → selected m.id ≡ g.selected m.id)
+agrees_reselected : (c : Config) (st : State) (g : Readings) (selected : SessionId → List (List ℕ))
+    → ((m : Made) → Has m (living g) → selected m.id ≡ g.selected m.id)
     → ((s : SessionId) → length g.made < s.count → selected s ≡ []) → ((s : SessionId) → Each (λ p. length p ≡ 188) (selected s))
     → Agrees c st g → Agrees c st (record g { selected = selected })
 agrees_reselected c st g selected same unmade packets a = record {
   loosely = record {
     clock = a.loosely.clock;
     made = a.loosely.made;
-    sessions = alike_read g (record g { selected = selected }) (living g) st.sessions (λ m s h e. same_again g (record g { selected = selected }) m s e refl refl refl (same m h) refl) a.loosely.sessions;
+    sessions = alike_read g (record g { selected = selected }) (living g) st.sessions
+        (λ m s h e. same_again g (record g { selected = selected }) m s e refl refl refl (same m h) refl) a.loosely.sessions;
     living_streams = a.loosely.living_streams;
     tunes = a.loosely.tunes;
     muxes = a.loosely.muxes;
@@ -275,7 +310,8 @@ agrees_reselected c st g selected same unmade packets a = record {
       numbers = told.numbers;
       few = told.few;
       homes = told.homes;
-      unmade = λ s above. let u = told.unmade s above in record { over = u.over; played = u.played; tuned = u.tuned; pids = u.pids; front = u.front; selected = unmade s above; pulled = u.pulled };
+      unmade = λ s above. let u = told.unmade s above in
+          record { over = u.over; played = u.played; tuned = u.tuned; pids = u.pids; front = u.front; selected = unmade s above; pulled = u.pulled };
       packets = packets;
     };
     kept = a.loosely.kept;
@@ -287,12 +323,16 @@ agrees_reselected c st g selected same unmade packets a = record {
 -- the queue of an HTTP session
 
 queue_length : (pulled : List (List ℕ)) (s : Session) → IsQueue pulled s → length pulled ≤ length s.picked
-queue_length pulled s q = let e : length (take (length pulled) s.picked) ≡ length pulled = ap length q.begins in let f = length-take (length pulled) s.picked in omega (arith, e, f)
+queue_length pulled s q = let e : length (take (length pulled) s.picked) ≡ length pulled = ap length q.begins in let f = length-take (length pulled) s.picked in
+    omega (arith, e, f)
 
-held_full : (pulled selected : List (List ℕ)) (s : Session) → IsQueue pulled s → s.picked ≡ selected → (length (held s) == most_queued) ≡ (length selected == length pulled + most_queued)
+held_full : (pulled selected : List (List ℕ)) (s : Session) → IsQueue pulled s → s.picked ≡ selected
+    → (length (held s) == most_queued) ≡ (length selected == length pulled + most_queued)
 held_full pulled selected s q is = same_bool (length (held s) == most_queued) (length selected == length pulled + most_queued)
-    (λ e. eq-eqb (length selected) (length pulled + most_queued) (let f = eqb-true (length (held s)) most_queued e in omega (arith, f, few, long, dropped, q.sizes)))
-    (λ e. eq-eqb (length (held s)) most_queued (let f = eqb-true (length selected) (length pulled + most_queued) e in omega (arith, f, few, long, dropped, q.sizes)))
+    (λ e. eq-eqb (length selected) (length pulled + most_queued)
+    (let f = eqb-true (length (held s)) most_queued e in omega (arith, f, few, long, dropped, q.sizes)))
+    (λ e. eq-eqb (length (held s)) most_queued (let f = eqb-true (length selected) (length pulled + most_queued) e in
+    omega (arith, f, few, long, dropped, q.sizes)))
   where
     few : length pulled ≤ length s.picked
     few = queue_length pulled s q
@@ -303,7 +343,8 @@ held_full pulled selected s q is = same_bool (length (held s) == most_queued) (l
     dropped : length (held s) ≡ length s.picked - sum s.sizes
     dropped = length-drop (sum s.sizes) s.picked
 
-module _ (c : Config) (st : State) (g : Readings) (a : Agrees c st g) (front tune : ℕ) (packet : List ℕ) (whole : length packet ≡ 188) (current : is_current st front tune ≡ true) where
+module _ (c : Config) (st : State) (g : Readings) (a : Agrees c st g) (front tune : ℕ) (packet : List ℕ) (whole : length packet ≡ 188)
+    (current : is_current st front tune ≡ true) where
   abbrev ev : Event
   ev = Packet front tune packet
 
@@ -317,7 +358,8 @@ module _ (c : Config) (st : State) (g : Readings) (a : Agrees c st g) (front tun
   selected_is : (m : Made) (s : Session) → Has m (living g) → Same g m s → list_any (λ t. picks t packet s) served ≡ is_selected g ev m
   selected_is m s h e = by (is_current st front tune) current (gives_selected c st g front tune packet a m s h e)
     where
-      by : (b : Bool) → b ≡ true → (b && list_any (λ t. picks t packet s) served) ≡ is_selected g ev m → list_any (λ t. picks t packet s) served ≡ is_selected g ev m
+      by : (b : Bool) → b ≡ true → (b && list_any (λ t. picks t packet s) served) ≡ is_selected g ev m
+          → list_any (λ t. picks t packet s) served ≡ is_selected g ev m
       by true e f = f
       by false e f = cc
 
@@ -345,8 +387,10 @@ module _ (c : Config) (st : State) (g : Readings) (a : Agrees c st g) (front tun
       apart : Apart served
       apart = apart_filter (λ t. is_at t.front front) st.streams a.loosely.kept.apart
 
-      mid : (b : Bool) → (is_selected g ev m && not (overruns m)) ≡ b → g.selected m.id ++ more_mid m.id ≡ g.selected m.id ++ cond {A = List (List ℕ)} b (packet ∷ []) []
-      mid b f = ap (λ o. g.selected m.id ++ cond {A = List (List ℕ)} (any_where (λ n. is_selected g ev n && not (overruns n)) o) (packet ∷ []) []) (living_found g a.loosely.told m h)
+      mid : (b : Bool) → (is_selected g ev m && not (overruns m)) ≡ b
+          → g.selected m.id ++ more_mid m.id ≡ g.selected m.id ++ cond {A = List (List ℕ)} b (packet ∷ []) []
+      mid b f = ap (λ o. g.selected m.id ++ cond {A = List (List ℕ)} (any_where (λ n. is_selected g ev n && not (overruns n)) o) (packet ∷ []) [])
+          (living_found g a.loosely.told m h)
           ∙ ap (λ d. g.selected m.id ++ cond {A = List (List ℕ)} d (packet ∷ []) []) f
 
       unchanged : (is_selected g ev m && not (overruns m)) ≡ false → Same (selected_read more_mid g) m s
@@ -362,7 +406,8 @@ module _ (c : Config) (st : State) (g : Readings) (a : Agrees c st g) (front tun
         ssrc = e.ssrc;
         first = e.first;
         picked = ap (λ ps. ps ++ packet ∷ []) e.picked ∙ sym (mid true f);
-        queue = λ k. let q = e.queue k in record { sizes = q.sizes; begins = take-append-le (length (g.pulled m.id)) s.picked (packet ∷ []) (queue_length (g.pulled m.id) s q) ∙ q.begins };
+        queue = λ k. let q = e.queue k in
+            record { sizes = q.sizes; begins = take-append-le (length (g.pulled m.id)) s.picked (packet ∷ []) (queue_length (g.pulled m.id) s q) ∙ q.begins };
       }
 
       rtsp_more : s.http ≡ false → (is_selected g ev m && not (overruns m)) ≡ true → Same (selected_read more_mid g) m (sending (with_packet packet s))
@@ -382,7 +427,8 @@ module _ (c : Config) (st : State) (g : Readings) (a : Agrees c st g) (front tun
       three x y z e k = rw (e, k) refl
 
       over_when : m.http ≡ true → is_selected g ev m ≡ true → (d : Bool) → is_overrun s ≡ d → overruns m ≡ d
-      over_when http sel d f = three m.http (is_selected g ev m) (length (g.selected m.id) == length (g.pulled m.id) + most_queued) http sel ∙ sym (overrun_is m s e http) ∙ f
+      over_when http sel d f = three m.http (is_selected g ev m) (length (g.selected m.id) == length (g.pulled m.id) + most_queued) http sel
+          ∙ sym (overrun_is m s e http) ∙ f
 
       not_over : is_selected g ev m ≡ true → overruns m ≡ false → (is_selected g ev m && not (overruns m)) ≡ true
       not_over sel f = and_from (is_selected g ev m) (not (overruns m)) sel (ap not f)
@@ -393,10 +439,13 @@ module _ (c : Config) (st : State) (g : Readings) (a : Agrees c st g) (front tun
       not_selected : is_selected g ev m ≡ false → (is_selected g ev m && not (overruns m)) ≡ false
       not_selected f = ap (λ b. b && not (overruns m)) f
 
-      kind : is_selected g ev m ≡ true → (b d : Bool) → s.http ≡ b → is_overrun s ≡ d → Same (selected_read more_mid g) m (cond b (cond d s (with_packet packet s)) (sending (with_packet packet s)))
+      kind : is_selected g ev m ≡ true → (b d : Bool) → s.http ≡ b → is_overrun s ≡ d
+          → Same (selected_read more_mid g) m (cond b (cond d s (with_packet packet s)) (sending (with_packet packet s)))
       kind sel true true http f = unchanged (is_over (over_when (sym e.http ∙ http) sel true f))
       kind sel true false http f = http_more http (not_over sel (over_when (sym e.http ∙ http) sel false f))
-      kind sel false d http f = rtsp_more http (not_over sel (ap (λ b. b && is_selected g ev m && length (g.selected m.id) == length (g.pulled m.id) + most_queued) (sym e.http ∙ http)))
+      kind sel false d http f =
+          rtsp_more http (not_over sel
+          (ap (λ b. b && is_selected g ev m && length (g.selected m.id) == length (g.pulled m.id) + most_queued) (sym e.http ∙ http)))
 
       by : (b : Bool) → is_selected g ev m ≡ b → Same (selected_read more_mid g) m (cond b (got packet s) s)
       by true f = kind f s.http (is_overrun s) refl refl
@@ -436,18 +485,21 @@ module _ (c : Config) (st : State) (g : Readings) (a : Agrees c st g) (front tun
           (and_from n.0.http (is_selected g ev n.0) n_http sel) (sym (overrun_is n.0 one.0 n.2 n_http) ∙ parts.1)
 
   delivered_read : (caller : ℕ) (answer : Answer) (out : Output)
-      → read_one c g (item caller ev answer out) ≡ frees (record g { over = λ s. g.over s || any_where overruns (living_session g s); selected = λ s. g.selected s ++ more_all s })
+      → read_one c g (item caller ev answer out) ≡ frees
+      (record g { over = λ s. g.over s || any_where overruns (living_session g s); selected = λ s. g.selected s ++ more_all s })
   delivered_read caller answer out =
       let e = item caller ev answer out in
       read_other c g e (sym (either_way None (is_accepted answer))) (sym (either_way None (is_accepted answer))) (λ s. either_false (is_accepted answer))
-      ∙ ap frees (simply_same g g.clock (ends c g e) (keeps_alive ev) overruns never more_all (pulled_by e) more_all nothing (λ m h. refl) (λ m h. refl) (λ s. refl) (λ s. refl)
+      ∙ ap frees (simply_same g g.clock (ends c g e) (keeps_alive ev) overruns never more_all (pulled_by e) more_all nothing (λ m h. refl) (λ m h. refl)
+      (λ s. refl) (λ s. refl)
       ∙ simply_selects g g.clock overruns more_all)
 
   pub agrees_delivered : (caller : ℕ) (answer : Answer) (out : Output) → Agrees c (deliver front packet st).state (read_one c g (item caller ev answer out))
   agrees_delivered caller answer out = subst (Agrees c (deliver front packet st).state) (sym (delivered_read caller answer out))
       (agrees_reselected c (deliver front packet st).state g_end (λ s. g.selected s ++ more_all s) lives_same
       (λ s above. rw ((a.loosely.told.unmade s above).selected, unmade_none (is_selected g ev) s above) refl)
-      (λ s. Each-append (λ p. length p ≡ 188) (g.selected s) (more_all s) (a.loosely.told.packets s) (one_packet (any_where (is_selected g ev) (living_session g s))))
+      (λ s. Each-append (λ p. length p ≡ 188) (g.selected s) (more_all s) (a.loosely.told.packets s)
+      (one_packet (any_where (is_selected g ev) (living_session g s))))
       ended)
     where
       mid : State
@@ -466,7 +518,8 @@ module _ (c : Config) (st : State) (g : Readings) (a : Agrees c st g) (front tun
 
       lives_same : (m : Made) → Has m (living g_end) → g.selected m.id ++ more_all m.id ≡ g.selected m.id ++ more_mid m.id
       lives_same m h =
-          let there = filter_has (λ n. not (overruns n)) (living g) m (subst (Has m) (living_over (selected_read more_mid g) given_mid.loosely.told overruns) h) in
+          let there = filter_has (λ n. not (overruns n)) (living g) m
+          (subst (Has m) (living_over (selected_read more_mid g) given_mid.loosely.told overruns) h) in
           let found = living_found g a.loosely.told m there.0 in
           let stays : overruns m ≡ false = not_true (overruns m) there.1 in
           ap (λ o. g.selected m.id ++ cond {A = List (List ℕ)} (any_where (is_selected g ev) o) (packet ∷ []) []) found

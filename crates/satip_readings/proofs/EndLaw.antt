@@ -16,11 +16,14 @@ use Rattle.satip_readings.proofs.Steps.{agrees_step}
 use Rattle.satip_readings.proofs.Latest.{latest, lives_on, lived_before, makes_new}
 
 lives_read : (c : Config) (st : State) (g : Readings) (s : SessionId) → Agrees c st g → list_any (λ m. same_id m.id s) (living g) ≡ lives_in st s
-lives_read c st g s a = alike_any g (λ m. same_id m.id s) (λ x. same_id x.id s) (living g) st.sessions (λ m x h e. ap (λ i. same_id i s) (sym e.id)) a.loosely.sessions
+lives_read c st g s a = alike_any g (λ m. same_id m.id s) (λ x. same_id x.id s) (living g) st.sessions (λ m x h e. ap (λ i. same_id i s) (sym e.id))
+    a.loosely.sessions
 
-ends_here : (c : Config) (st : State) (g : Readings) (e : Item) (s : SessionId) → IsEvent e.event → Fits (step c st e.event) e → Agrees c st g → lives_in st s ≡ true
+ends_here : (c : Config) (st : State) (g : Readings) (e : Item) (s : SessionId) → IsEvent e.event → Fits (step c st e.event) e → Agrees c st g
+    → lives_in st s ≡ true
     → lives_in (step c st e.event).state s ≡ not (is_ended_by c g e s)
-ends_here c st g e s is fits a lives = sym (lives_read c (step c st e.event).state (read_one c g e) s (agrees_step c st g e is fits a)) ∙ same_bool (list_any (λ m. same_id m.id s) (living (read_one c g e))) (not (is_ended_by c g e s)) there back
+ends_here c st g e s is fits a lives = sym (lives_read c (step c st e.event).state (read_one c g e) s (agrees_step c st g e is fits a))
+    ∙ same_bool (list_any (λ m. same_id m.id s) (living (read_one c g e))) (not (is_ended_by c g e s)) there back
   where
     one : (m : Made) × Has m (living g) × (same_id m.id s ≡ true)
     one = any_has (λ m. same_id m.id s) (living g) (lives_read c st g s a ∙ lives)

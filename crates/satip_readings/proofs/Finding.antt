@@ -62,13 +62,15 @@ module _ {X : Type 0} where
 
   pub find_agree : (p q : X → Bool) (xs : List X) → ((x : X) → Has x xs → p x ≡ q x) → find p xs ≡ find q xs
   find_agree p q [] same = refl
-  find_agree p q (x ∷ xs) same = ap (λ b. cond b (Some x) (find p xs)) (same x (inl refl)) ∙ ap (λ o. cond (q x) (Some x) o) (find_agree p q xs (λ y h. same y (inr h)))
+  find_agree p q (x ∷ xs) same = ap (λ b. cond b (Some x) (find p xs)) (same x (inl refl))
+      ∙ ap (λ o. cond (q x) (Some x) o) (find_agree p q xs (λ y h. same y (inr h)))
 
   pub find_append : (p : X → Bool) (xs ys : List X) → find p xs ≡ None → find p (xs ++ ys) ≡ find p ys
   find_append p [] ys none = refl
   find_append p (x ∷ xs) ys none = by (p x) none (λ f. find_append p xs ys f)
     where
-      by : (b : Bool) → cond b (Some x) (find p xs) ≡ None → (find p xs ≡ None → find p (xs ++ ys) ≡ find p ys) → cond b (Some x) (find p (xs ++ ys)) ≡ find p ys
+      by : (b : Bool) → cond b (Some x) (find p xs) ≡ None → (find p xs ≡ None → find p (xs ++ ys) ≡ find p ys)
+          → cond b (Some x) (find p (xs ++ ys)) ≡ find p ys
       by true f rest = cc
       by false f rest = rest f
 
@@ -86,7 +88,8 @@ module _ {X : Type 0} where
   any_has p [] e = cc
   any_has p (y ∷ ys) e = by (p y) refl e (λ f. any_has p ys f)
     where
-      by : (b : Bool) → p y ≡ b → (b || list_any p ys) ≡ true → (list_any p ys ≡ true → (x : X) × Has x ys × (p x ≡ true)) → (x : X) × ((x ≡ y) ⊎ Has x ys) × (p x ≡ true)
+      by : (b : Bool) → p y ≡ b → (b || list_any p ys) ≡ true → (list_any p ys ≡ true → (x : X) × Has x ys × (p x ≡ true))
+          → (x : X) × ((x ≡ y) ⊎ Has x ys) × (p x ≡ true)
       by true f t rest = (y, inl refl, f)
       by false f t rest = let r = rest t in (r.0, inr r.1, r.2)
 
@@ -113,7 +116,8 @@ module _ {X : Type 0} where
   any_filter p q [] = refl
   any_filter p q (x ∷ xs) = by (p x) (any_filter p q xs)
     where
-      by : (b : Bool) → list_any q (filter p xs) ≡ list_any (λ y. p y && q y) xs → list_any q (cond b (x ∷ filter p xs) (filter p xs)) ≡ ((b && q x) || list_any (λ y. p y && q y) xs)
+      by : (b : Bool) → list_any q (filter p xs) ≡ list_any (λ y. p y && q y) xs
+          → list_any q (cond b (x ∷ filter p xs) (filter p xs)) ≡ ((b && q x) || list_any (λ y. p y && q y) xs)
       by true rest = ap (λ b. q x || b) rest
       by false rest = rest
 
@@ -131,7 +135,8 @@ module _ {X : Type 0} where
   filter_has p [] x h = absurd h
   filter_has p (y ∷ ys) x h = by (p y) refl h (λ k. filter_has p ys x k)
     where
-      by : (b : Bool) → p y ≡ b → Has x (cond b (y ∷ filter p ys) (filter p ys)) → (Has x (filter p ys) → Has x ys × (p x ≡ true)) → ((x ≡ y) ⊎ Has x ys) × (p x ≡ true)
+      by : (b : Bool) → p y ≡ b → Has x (cond b (y ∷ filter p ys) (filter p ys)) → (Has x (filter p ys) → Has x ys × (p x ≡ true))
+          → ((x ≡ y) ⊎ Has x ys) × (p x ≡ true)
       by true f (inl same) rest = (inl same, ap p same ∙ f)
       by true f (inr k) rest = let r = rest k in (inr r.0, r.1)
       by false f k rest = let r = rest k in (inr r.0, r.1)
@@ -148,7 +153,8 @@ module _ {X : Type 0} where
 
   pub filter_agree : (p q : X → Bool) (xs : List X) → ((x : X) → Has x xs → p x ≡ q x) → filter p xs ≡ filter q xs
   filter_agree p q [] same = refl
-  filter_agree p q (x ∷ xs) same = ap (λ b. cond b (x ∷ filter p xs) (filter p xs)) (same x (inl refl)) ∙ ap (λ o. cond (q x) (x ∷ o) o) (filter_agree p q xs (λ y h. same y (inr h)))
+  filter_agree p q (x ∷ xs) same = ap (λ b. cond b (x ∷ filter p xs) (filter p xs)) (same x (inl refl))
+      ∙ ap (λ o. cond (q x) (x ∷ o) o) (filter_agree p q xs (λ y h. same y (inr h)))
 
   pub filter_append : (p : X → Bool) (xs ys : List X) → filter p (xs ++ ys) ≡ filter p xs ++ filter p ys
   filter_append p [] ys = refl
@@ -162,7 +168,8 @@ module _ {X : Type 0} where
   filter_twice p q [] = refl
   filter_twice p q (x ∷ xs) = by (p x) (filter_twice p q xs)
     where
-      by : (b : Bool) → filter q (filter p xs) ≡ filter (λ y. p y && q y) xs → filter q (cond b (x ∷ filter p xs) (filter p xs)) ≡ cond (b && q x) (x ∷ filter (λ y. p y && q y) xs) (filter (λ y. p y && q y) xs)
+      by : (b : Bool) → filter q (filter p xs) ≡ filter (λ y. p y && q y) xs
+          → filter q (cond b (x ∷ filter p xs) (filter p xs)) ≡ cond (b && q x) (x ∷ filter (λ y. p y && q y) xs) (filter (λ y. p y && q y) xs)
       by true rest = ap (λ o. cond (q x) (x ∷ o) o) rest
       by false rest = rest
 
@@ -222,7 +229,8 @@ module _ {X Y : Type 0} where
   find_map p f [] = refl
   find_map p f (x ∷ xs) = by (p (f x)) (find_map p f xs)
     where
-      by : (b : Bool) → find p (map f xs) ≡ option_map f (find (λ y. p (f y)) xs) → cond b (Some (f x)) (find p (map f xs)) ≡ option_map f (cond b (Some x) (find (λ y. p (f y)) xs))
+      by : (b : Bool) → find p (map f xs) ≡ option_map f (find (λ y. p (f y)) xs)
+          → cond b (Some (f x)) (find p (map f xs)) ≡ option_map f (cond b (Some x) (find (λ y. p (f y)) xs))
       by true rest = refl
       by false rest = rest
 

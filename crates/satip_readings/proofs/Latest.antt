@@ -25,7 +25,8 @@ pub after_more : (c : Config) (h : List Item) (e : Item) (st : State) → after_
 after_more c [] e st = refl
 after_more c (x ∷ h) e st = after_more c h e (step c st x.event).state
 
-entries_parts : (c : Config) (h : List Item) (e : Item) (st : State) → LegalFrom c st (h ++ e ∷ []) → LegalFrom c st h × Fits (step c (after_from c st h) e.event) e
+entries_parts : (c : Config) (h : List Item) (e : Item) (st : State) → LegalFrom c st (h ++ e ∷ [])
+    → LegalFrom c st h × Fits (step c (after_from c st h) e.event) e
 entries_parts c [] e st legal = (tt, legal.0)
 entries_parts c (x ∷ h) e st legal = let r = entries_parts c h e (step c st x.event).state legal.1 in ((legal.0, r.0), r.1)
 
@@ -64,13 +65,15 @@ ended_here c g e told m h = ap (any_where (ends c g e)) (living_found g told m h
 pub lives_on : (c : Config) (g : Readings) (e : Item) → IsTold g → (m : Made) → Has m (living g) → ends c g e m ≡ false → Has m (living (read_one c g e))
 lives_on c g e told m h stays =
     let there = filter_has (λ n. not (g.over n.id)) g.made m h in
-    has_filter (λ n. not (g.over n.id || any_where (ends c g e) (living_session g n.id))) (g.made ++ option_to_list (makes g e)) m (has_left m g.made (option_to_list (makes g e)) there.0)
+    has_filter (λ n. not (g.over n.id || any_where (ends c g e) (living_session g n.id))) (g.made ++ option_to_list (makes g e)) m
+    (has_left m g.made (option_to_list (makes g e)) there.0)
     (by (g.over m.id) (not_true (g.over m.id) there.1) (ended_here c g e told m h ∙ stays))
   where
     by : (b : Bool) → b ≡ false → any_where (ends c g e) (living_session g m.id) ≡ false → not (b || any_where (ends c g e) (living_session g m.id)) ≡ true
     by b f k = rw (f, k) refl
 
-pub lived_before : (c : Config) (g : Readings) (e : Item) → IsTold g → (m : Made) → Has m (living (read_one c g e)) → (Has m (living g) × (ends c g e m ≡ false)) ⊎ (makes g e ≡ Some m)
+pub lived_before : (c : Config) (g : Readings) (e : Item) → IsTold g → (m : Made) → Has m (living (read_one c g e))
+    → (Has m (living g) × (ends c g e m ≡ false)) ⊎ (makes g e ≡ Some m)
 lived_before c g e told m h = by (has_parts m g.made (option_to_list (makes g e)) there.0)
   where
     there : Has m (g.made ++ option_to_list (makes g e)) × (not (g.over m.id || any_where (ends c g e) (living_session g m.id)) ≡ true)
@@ -110,7 +113,13 @@ makes_new g e m is = by e.event (is_accepted e.answer) is
     twice false b x k f = cc
 
     by : (event : Event) (b : Bool) → cond b (made_by g event) None ≡ Some m → m.id.count ≡ length g.made + 1
-    by (Asked peer draw r) b k = twice b (is_setup r.method && names_none r.session) (record { id = next_made g draw.word; http = false; home = unwrap_or (option_and_then (home_of_number g) r.stream) (next_made g draw.word); draw = draw }) k refl
+    by (Asked peer draw r) b k = twice b (is_setup r.method && names_none r.session)
+        (record {
+          id = next_made g draw.word;
+          http = false;
+          home = unwrap_or (option_and_then (home_of_number g) r.stream) (next_made g draw.word);
+          draw = draw;
+        }) k refl
     by (Got peer draw r) b k = asked b (record { id = next_made g draw.word; http = true; home = next_made g draw.word; draw = draw }) k refl
     by (Tick now) b k = none b k
     by (Packet front tune packet) b k = none b k

@@ -76,13 +76,16 @@ agrees_opening c = record {
 
 -- over all entries
 
-pub agrees_from : (c : Config) (h : List Item) (st : State) (g : Readings) → Each (λ e. IsEvent e.event) h → LegalFrom c st h → Agrees c st g → Agrees c (after_from c st h) (read_from c g h)
+pub agrees_from : (c : Config) (h : List Item) (st : State) (g : Readings) → Each (λ e. IsEvent e.event) h → LegalFrom c st h → Agrees c st g
+    → Agrees c (after_from c st h) (read_from c g h)
 agrees_from c [] st g events legal a = a
-agrees_from c (e ∷ h) st g events legal a = agrees_from c h (step c st e.event).state (read_one c g e) events.1 legal.1 (agrees_step c st g e events.0 legal.0 a)
+agrees_from c (e ∷ h) st g events legal a = agrees_from c h (step c st e.event).state (read_one c g e) events.1 legal.1
+    (agrees_step c st g e events.0 legal.0 a)
 
 -- what agrees is as read
 
-told_same : (g : Readings) (ms : List Made) (ss : List Session) → ((m : Made) → Has m ms → Has m (living g)) → Alike g ms ss → map told_by_state ss ≡ map (told_by_history g) ms
+told_same : (g : Readings) (ms : List Made) (ss : List Session) → ((m : Made) → Has m ms → Has m (living g)) → Alike g ms ss
+    → map told_by_state ss ≡ map (told_by_history g) ms
 told_same g [] [] lives alike = refl
 told_same g [] (s ∷ ss) lives alike = absurd alike
 told_same g (m ∷ ms) [] lives alike = absurd alike
@@ -92,7 +95,15 @@ told_same g (m ∷ ms) (s ∷ ss) lives alike = λ i. one i ∷ told_same g ms s
     e = alike.0
 
     one : told_by_state s ≡ told_by_history g m
-    one = λ i. record { id = e.id i; http = e.http i; stream = e.stream i; playing = (e.playing ∙ sym (plays_living g m (lives m (inl refl)))) i; heard = e.heard i; ssrc = e.ssrc i; first = e.first i }
+    one = λ i. record {
+      id = e.id i;
+      http = e.http i;
+      stream = e.stream i;
+      playing = (e.playing ∙ sym (plays_living g m (lives m (inl refl)))) i;
+      heard = e.heard i;
+      ssrc = e.ssrc i;
+      first = e.first i;
+    }
 
 pub owners_same : (c : Config) (st : State) (g : Readings) → Agrees c st g → (n : ℕ) → option_map (λ s. s.id) (owner_of st n) ≡ owner_told g n
 owners_same c st g a n = by (find (λ m. g.number m.home == n) (living g)) (owner_of st n) refl
@@ -107,7 +118,8 @@ owners_same c st g a n = by (find (λ m. g.number m.home == n) (living g)) (owne
         let there = find_has (λ x. g.number x.home == n) (living g) m e in
         let number : g.number m.home ≡ n = eqb-true (g.number m.home) n there.1 in
         let owns : owner g m.home ≡ Some m =
-        find_agree (λ x. same_id x.home m.home) (λ x. g.number x.home == n) (living g) (λ x h. sym (number_home g a.loosely.told x m h there.0) ∙ ap (λ k. g.number x.home == k) number) ∙ e in
+        find_agree (λ x. same_id x.home m.home) (λ x. g.number x.home == n) (living g)
+        (λ x h. sym (number_home g a.loosely.told x m h there.0) ∙ ap (λ k. g.number x.home == k) number) ∙ e in
         ap Some same.id ∙ ap (option_map (λ x. x.id)) (sym owns)
 
 pub as_read : (c : Config) (st : State) (g : Readings) → Agrees c st g → IsAsRead c st g

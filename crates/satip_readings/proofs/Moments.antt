@@ -25,12 +25,29 @@ agrees_clock c st g k n same a = record {
   loosely = record {
     clock = same;
     made = a.loosely.made;
-    sessions = alike_read g (record g { clock = n }) (living g) st.sessions (λ m s h e. same_again g (record g { clock = n }) m s e refl refl refl refl refl) a.loosely.sessions;
+    sessions = alike_read g (record g { clock = n }) (living g) st.sessions (λ m s h e. same_again g (record g { clock = n }) m s e refl refl refl refl refl)
+        a.loosely.sessions;
     living_streams = a.loosely.living_streams;
     tunes = a.loosely.tunes;
     muxes = a.loosely.muxes;
-    told = let told = a.loosely.told in record { ids = told.ids; numbers = told.numbers; few = told.few; homes = told.homes; unmade = λ s above. let u = told.unmade s above in record { over = u.over; played = u.played; tuned = u.tuned; pids = u.pids; front = u.front; selected = u.selected; pulled = u.pulled }; packets = told.packets };
-    kept = record { apart = a.loosely.kept.apart; once = a.loosely.kept.once; positive = a.loosely.kept.positive; few = a.loosely.kept.few; rows = a.loosely.kept.rows; placed = a.loosely.kept.placed };
+    told = let told = a.loosely.told in
+        record {
+          ids = told.ids;
+          numbers = told.numbers;
+          few = told.few;
+          homes = told.homes;
+          unmade = λ s above. let u = told.unmade s above in
+              record { over = u.over; played = u.played; tuned = u.tuned; pids = u.pids; front = u.front; selected = u.selected; pulled = u.pulled };
+          packets = told.packets;
+        };
+    kept = record {
+      apart = a.loosely.kept.apart;
+      once = a.loosely.kept.once;
+      positive = a.loosely.kept.positive;
+      few = a.loosely.kept.few;
+      rows = a.loosely.kept.rows;
+      placed = a.loosely.kept.placed;
+    };
   };
   streams = a.streams;
   free = a.free;
@@ -39,11 +56,13 @@ agrees_clock c st g k n same a = record {
 -- the readings of an entry that makes no session, changes no stream and starts no play
 
 tick_read : (c : Config) (g : Readings) (caller now : ℕ) (answer : Answer) (out : Output)
-    → read_one c g (item caller (Tick now) answer out) ≡ over_read (λ m. nat_le (g.heard m.id + c.timeout * 1000) (max g.clock (capped now))) (record g { clock = max g.clock (capped now) })
+    → read_one c g (item caller (Tick now) answer out)
+    ≡ over_read (λ m. nat_le (g.heard m.id + c.timeout * 1000) (max g.clock (capped now))) (record g { clock = max g.clock (capped now) })
 tick_read c g caller now answer out =
     let e = item caller (Tick now) answer out in
     read_other c g e (sym (either_way None (is_accepted answer))) (sym (either_way None (is_accepted answer))) (λ s. sym (either_false (is_accepted answer)))
-    ∙ ap frees (simply_same g (max g.clock (capped now)) (ends c g e) (keeps_alive (Tick now)) (λ m. nat_le (g.heard m.id + c.timeout * 1000) (max g.clock (capped now))) never
+    ∙ ap frees (simply_same g (max g.clock (capped now)) (ends c g e) (keeps_alive (Tick now))
+    (λ m. nat_le (g.heard m.id + c.timeout * 1000) (max g.clock (capped now))) never
     (λ s. cond (any_where (is_selected g (Tick now)) (living_session g s)) [] []) (pulled_by e) nothing nothing
     (λ m h. refl) (λ m h. refl) (λ s. sym (either_way [] (any_where (is_selected g (Tick now)) (living_session g s)))) (λ s. refl)
     ∙ simply_ends g (max g.clock (capped now)) (λ m. nat_le (g.heard m.id + c.timeout * 1000) (max g.clock (capped now))))
@@ -55,9 +74,11 @@ tick_read c g caller now answer out =
 pub agrees_tick : (c : Config) (st : State) (g : Readings) (caller now : ℕ) (answer : Answer) (out : Output) → Agrees c st g
     → Agrees c (tick c now st).state (read_one c g (item caller (Tick now) answer out))
 agrees_tick c st g caller now answer out a = subst (Agrees c (tick c now st).state) (sym (tick_read c g caller now answer out))
-    (agrees_reports c _ _ (agrees_ended c flushed (record g { clock = later_read }) (λ m. nat_le (g.heard m.id + c.timeout * 1000) later_read) (is_expired c later)
+    (agrees_reports c _ _ (agrees_ended c flushed (record g { clock = later_read }) (λ m. nat_le (g.heard m.id + c.timeout * 1000) later_read)
+    (is_expired c later)
     (λ m s h e. ap (λ n. nat_le (n + c.timeout * 1000) later_read) (sym e.heard) ∙ ap (nat_le (s.heard + c.timeout * 1000)) (sym clocks))
-    (agrees_flush c (record st { clock = later }) (record g { clock = later_read }) (λ s. not s.http) true later (λ x e. not_true x.http e) (agrees_clock c st g later later_read clocks a))))
+    (agrees_flush c (record st { clock = later }) (record g { clock = later_read }) (λ s. not s.http) true later (λ x e. not_true x.http e)
+    (agrees_clock c st g later later_read clocks a))))
   where
     later : ℕ
     later = max st.clock (capped now)
@@ -134,7 +155,8 @@ abbrev pub is_this_http : SessionId → Made → Bool
 is_this_http id m = m.http && same_id id m.id
 
 pub http_none : (g : Readings) (id : SessionId) → living_http g id ≡ None → (m : Made) → Has m (living g) → is_this_http id m ≡ false
-http_none g id none m h = by m.http (same_id id m.id) (ap (λ b. b && m.http) (sym (id_turned m.id id)) ∙ find_fails (λ n. same_id n.id id && n.http) (living g) m none h)
+http_none g id none m h = by m.http (same_id id m.id)
+    (ap (λ b. b && m.http) (sym (id_turned m.id id)) ∙ find_fails (λ n. same_id n.id id && n.http) (living g) m none h)
   where
     by : (x y : Bool) → (y && x) ≡ false → (x && y) ≡ false
     by true true e = e

@@ -41,12 +41,14 @@ free_some zero low ts less = absurd (omega (arith, less))
 free_some (suc len) low ts less = by (list_any (λ t. t.number == low) ts) refl (free_some len (low + 1) (filter (λ t. not (t.number == low)) ts))
   where
     by : (b : Bool) → list_any (λ t. t.number == low) ts ≡ b
-        → (length (filter (λ t. not (t.number == low)) ts) < len → (k : ℕ) × (find (is_free (filter (λ t. not (t.number == low)) ts)) (range_with_len (low + 1) len) ≡ Some k))
+        → (length (filter (λ t. not (t.number == low)) ts) < len
+        → (k : ℕ) × (find (is_free (filter (λ t. not (t.number == low)) ts)) (range_with_len (low + 1) len) ≡ Some k))
         → (k : ℕ) × (cond (is_free ts low) (Some low) (find (is_free ts) (range_with_len (low + 1) len)) ≡ Some k)
     by false e rest = (low, rw e refl)
     by true e rest =
         let r = rest (omega (arith, less, fewer_by_one (λ t. t.number == low) ts e)) in
-        let same : (n : ℕ) → Has n (range_with_len (low + 1) len) → is_free ts n ≡ is_free (filter (λ t. not (t.number == low)) ts) n = λ n h. ap not (sym (others n (range_has n (low + 1) len h))) in
+        let same : (n : ℕ) → Has n (range_with_len (low + 1) len) → is_free ts n ≡ is_free (filter (λ t. not (t.number == low)) ts) n =
+        λ n h. ap not (sym (others n (range_has n (low + 1) len h))) in
         (r.0, rw e (find_agree (is_free ts) (is_free (filter (λ t. not (t.number == low)) ts)) (range_with_len (low + 1) len) same ∙ r.1))
       where
         one : (n : ℕ) (t : Stream) (a b : Bool) → (t.number == low) ≡ a → (t.number == n) ≡ b → low + 1 ≤ n → (not a && b) ≡ b
@@ -65,7 +67,8 @@ find_longer p a zero j x e less = cc
 find_longer p a (suc i) zero x e less = absurd (omega (arith, less))
 find_longer p a (suc i) (suc j) x e less = by (p a) e (λ f. find_longer p (a + 1) i j x f (omega (arith, less)))
   where
-    by : (b : Bool) → cond b (Some a) (find p (range_with_len (a + 1) i)) ≡ Some x → (find p (range_with_len (a + 1) i) ≡ Some x → find p (range_with_len (a + 1) j) ≡ Some x)
+    by : (b : Bool) → cond b (Some a) (find p (range_with_len (a + 1) i)) ≡ Some x
+        → (find p (range_with_len (a + 1) i) ≡ Some x → find p (range_with_len (a + 1) j) ≡ Some x)
         → cond b (Some a) (find p (range_with_len (a + 1) j)) ≡ Some x
     by true f rest = f
     by false f rest = rest f
@@ -90,7 +93,8 @@ number_is_free c st g a =
     let made = a.loosely.made in
     let longer : find (is_free st.streams) (range_with_len 1 (length g.made + 1)) ≡ Some r.0 =
     find_longer (is_free st.streams) 1 (length st.streams + 1) (length g.made + 1) r.0 r.1 (omega (arith, few, made)) in
-    ap (λ o. unwrap_or o 0) (find_agree (λ n. is_none (home_of_number g n)) (is_free st.streams) (range_with_len 1 (length g.made + 1)) (λ n h. ap not (same n)) ∙ longer ∙ sym r.1)
+    ap (λ o. unwrap_or o 0) (find_agree (λ n. is_none (home_of_number g n)) (is_free st.streams) (range_with_len 1 (length g.made + 1)) (λ n h. ap not (same n))
+    ∙ longer ∙ sym r.1)
   where
     same : (n : ℕ) → is_some (home_of_number g n) ≡ list_any (λ t. t.number == n) st.streams
     same n = sym (is_some_map (stream_told g) (home_of_number g n)) ∙ ap is_some (sym (a.streams n)) ∙ find_is_any (λ t. t.number == n) st.streams
@@ -109,7 +113,8 @@ pub has_put : (new t : Stream) (ts : List Stream) → Has t ts → Has t (put_st
 has_put new t ts h = by (nat_le t.number new.number) refl
   where
     by : (b : Bool) → nat_le t.number new.number ≡ b → Has t (put_stream new ts)
-    by true e = has_left t (filter (λ u. nat_le u.number new.number) ts) (new ∷ filter (λ u. not (nat_le u.number new.number)) ts) (has_filter (λ u. nat_le u.number new.number) ts t h e)
+    by true e = has_left t (filter (λ u. nat_le u.number new.number) ts) (new ∷ filter (λ u. not (nat_le u.number new.number)) ts)
+        (has_filter (λ u. nat_le u.number new.number) ts t h e)
     by false e = has_right t (filter (λ u. nat_le u.number new.number) ts) (new ∷ filter (λ u. not (nat_le u.number new.number)) ts)
         (inr (has_filter (λ u. not (nat_le u.number new.number)) ts t h (ap not e)))
 
@@ -121,16 +126,19 @@ split_length p [] = omega arith
 split_length p (t ∷ ts) = by (p t) (split_length p ts)
   where
     by : (b : Bool) → length (filter p ts) + length (filter (λ u. not (p u)) ts) ≡ length ts
-        → length (cond b (t ∷ filter p ts) (filter p ts)) + length (cond (not b) (t ∷ filter (λ u. not (p u)) ts) (filter (λ u. not (p u)) ts)) ≡ suc (length ts)
+        → length (cond b (t ∷ filter p ts) (filter p ts)) + length (cond (not b) (t ∷ filter (λ u. not (p u)) ts) (filter (λ u. not (p u)) ts))
+        ≡ suc (length ts)
     by true e = omega (arith, e)
     by false e = omega (arith, e)
 
 pub put_length : (new : Stream) (ts : List Stream) → length (put_stream new ts) ≡ length ts + 1
 put_length new ts =
-    let parts : length (filter (λ u. nat_le u.number new.number) ts) + length (filter (λ u. not (nat_le u.number new.number)) ts) ≡ length ts = split_length (λ u. nat_le u.number new.number) ts in
+    let parts : length (filter (λ u. nat_le u.number new.number) ts) + length (filter (λ u. not (nat_le u.number new.number)) ts) ≡ length ts =
+    split_length (λ u. nat_le u.number new.number) ts in
     length-append (filter (λ u. nat_le u.number new.number) ts) (new ∷ filter (λ u. not (nat_le u.number new.number)) ts) ∙ (omega (arith, parts))
 
-module _ (new : Stream) (ts : List Stream) (once : (t u : Stream) → Has t ts → Has u ts → t.number ≡ u.number → t ≡ u) (free : list_any (λ t. t.number == new.number) ts ≡ false) where
+module _ (new : Stream) (ts : List Stream) (once : (t u : Stream) → Has t ts → Has u ts → t.number ≡ u.number → t ≡ u)
+    (free : list_any (λ t. t.number == new.number) ts ≡ false) where
   not_new : (t : Stream) → Has t ts → t.number ≡ new.number → ⊥
   not_new t h e = none_true (t.number == new.number) (eq-eqb t.number new.number e) (any_no (λ u. u.number == new.number) ts t free h)
 
@@ -157,18 +165,25 @@ module _ (new : Stream) (ts : List Stream) (once : (t u : Stream) → Has t ts �
         where
           other : (u : Stream) → Has u (new ∷ above) → u.number ≡ t.number → ⊥
           other u (inl same) e = not_new t p.0 (sym e ∙ ap (λ x. x.number) same)
-          other u (inr h) e = none_true (below t) p.1 (sym (ap (λ n. nat_le n new.number) e) ∙ not_true (below u) (filter_has (λ u. not (nat_le u.number new.number)) ts u h).1)
+          other u (inr h) e = none_true (below t) p.1 (sym (ap (λ n. nat_le n new.number) e)
+              ∙ not_true (below u) (filter_has (λ u. not (nat_le u.number new.number)) ts u h).1)
 
       back : Apart (new ∷ above)
-      back = (no_any (λ u. u.number == new.number) above (λ u h e. not_new u (filter_has (λ u. not (nat_le u.number new.number)) ts u h).0 (eqb-true u.number new.number e)), apart_filter (λ u. not (nat_le u.number new.number)) ts apart)
+      back = (
+        no_any (λ u. u.number == new.number) above
+            (λ u h e. not_new u (filter_has (λ u. not (nat_le u.number new.number)) ts u h).0 (eqb-true u.number new.number e)),
+        apart_filter (λ u. not (nat_le u.number new.number)) ts apart,
+      )
 
       either : (a b : Bool) → a ≡ false → b ≡ false → (a || b) ≡ false
       either a b e f = rw (e, f) refl
 
-      joined : (xs : List Stream) → Apart xs → ((t : Stream) → Has t xs → list_any (λ u. u.number == t.number) (new ∷ above) ≡ false) → Apart (xs ++ new ∷ above)
+      joined : (xs : List Stream) → Apart xs → ((t : Stream) → Has t xs → list_any (λ u. u.number == t.number) (new ∷ above) ≡ false)
+          → Apart (xs ++ new ∷ above)
       joined [] e f = back
       joined (x ∷ xs) e f = (
-        any_append (λ u. u.number == x.number) xs (new ∷ above) ∙ either (list_any (λ u. u.number == x.number) xs) (list_any (λ u. u.number == x.number) (new ∷ above)) e.0 (f x (inl refl)),
+        any_append (λ u. u.number == x.number) xs (new ∷ above)
+            ∙ either (list_any (λ u. u.number == x.number) xs) (list_any (λ u. u.number == x.number) (new ∷ above)) e.0 (f x (inl refl)),
         joined xs e.1 (λ t h. f t (inr h)),
       )
 

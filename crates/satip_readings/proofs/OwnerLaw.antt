@@ -73,7 +73,8 @@ module _ (query : Query) (none : gives_key query ≡ false) where
   gives_none Delpids = refl
 
   sets_nothing : (old : Option Tuning) → to_set old query.change ≡ None
-  sets_nothing old = ap (λ b. cond b (to_set_of old (changed_tuning old query.change)) None) (no_any (gives query.change) all_keys (λ key h e. none_true (gives query.change key) e (gives_none key)))
+  sets_nothing old = ap (λ b. cond b (to_set_of old (changed_tuning old query.change)) None)
+      (no_any (gives query.change) all_keys (λ key h e. none_true (gives query.change key) e (gives_none key)))
 
   absent : (p : PidsGiven) → are_given p ≡ false → choice_of p ≡ Unsaid
   absent Absent e = refl
@@ -93,11 +94,13 @@ module _ (query : Query) (none : gives_key query ≡ false) where
 
 -- what an entry leaves of a stream, by the stream that it asks to change
 
-asked_stays : (c : Config) (g : Readings) (e : Item) (home : SessionId) (o : Option Asking) → asking g e ≡ o → ((a : Asking) → o ≡ Some a → a.home ≡ home → gives_key a.query ≡ false) → StaysAs g (read_one c g e) home
+asked_stays : (c : Config) (g : Readings) (e : Item) (home : SessionId) (o : Option Asking) → asking g e ≡ o
+    → ((a : Asking) → o ≡ Some a → a.home ≡ home → gives_key a.query ≡ false) → StaysAs g (read_one c g e) home
 asked_stays c g e home None is none = record { tuned = ap (λ o. with_tuning g o home) is; pids = ap (λ o. with_asked g o home) is }
 asked_stays c g e home (Some a) is none = by (same_id a.home home) refl
   where
-    tuned_by : (b : Bool) → same_id a.home home ≡ b → (s : Option Tuning) → (b ≡ true → s ≡ None) → option_map_or (λ tuning. put a.home (Some tuning) g.tuned) s g.tuned home ≡ g.tuned home
+    tuned_by : (b : Bool) → same_id a.home home ≡ b → (s : Option Tuning) → (b ≡ true → s ≡ None)
+        → option_map_or (λ tuning. put a.home (Some tuning) g.tuned) s g.tuned home ≡ g.tuned home
     tuned_by b f None k = refl
     tuned_by true f (Some t) k = none_some (Some t) t (k refl) refl
     tuned_by false f (Some t) k = ap (λ d. cond d (Some t) (g.tuned home)) f
@@ -107,8 +110,10 @@ asked_stays c g e home (Some a) is none = by (same_id a.home home) refl
         let same : a.home ≡ home = id_is a.home home f in
         let no_key : gives_key a.query ≡ false = none a refl same in
         record {
-          tuned = ap (λ o. with_tuning g o home) is ∙ tuned_by true f (to_set (g.tuned a.home) a.query.change) (λ t. sets_nothing a.query no_key (g.tuned a.home));
-          pids = ap (λ o. with_asked g o home) is ∙ ap (λ d. cond d (new_pids (g.pids a.home) a.query) (g.pids home)) f ∙ same_pids a.query no_key (g.pids a.home) ∙ ap g.pids same;
+          tuned = ap (λ o. with_tuning g o home) is ∙ tuned_by true f (to_set (g.tuned a.home) a.query.change)
+              (λ t. sets_nothing a.query no_key (g.tuned a.home));
+          pids = ap (λ o. with_asked g o home) is ∙ ap (λ d. cond d (new_pids (g.pids a.home) a.query) (g.pids home)) f
+              ∙ same_pids a.query no_key (g.pids a.home) ∙ ap g.pids same;
         }
     by false f = record {
       tuned = ap (λ o. with_tuning g o home) is ∙ tuned_by false f (to_set (g.tuned a.home) a.query.change) (λ t. cc);
@@ -129,7 +134,8 @@ lives_made g told home lives = by (owner g home) refl lives
 abbrev Either : Config → Readings → Item → SessionId → Type 0
 Either c g e home = (is_asked_by_owner g e home ≡ true) ⊎ StaysAs g (read_one c g e) home
 
-module _ (c : Config) (st : State) (g : Readings) (a : Agrees c st g) (caller : ℕ) (peer : Peer) (draw : Draw) (r : Request) (answer : Answer) (out : Output) (home : SessionId) (lives : is_some (owner g home) ≡ true) where
+module _ (c : Config) (st : State) (g : Readings) (a : Agrees c st g) (caller : ℕ) (peer : Peer) (draw : Draw) (r : Request) (answer : Answer) (out : Output)
+    (home : SessionId) (lives : is_some (owner g home) ≡ true) where
   abbrev entry : Item
   entry = item caller (Asked peer draw r) answer out
 
@@ -138,20 +144,25 @@ module _ (c : Config) (st : State) (g : Readings) (a : Agrees c st g) (caller : 
       let count : length g.made + 1 ≡ home.count = ap (λ x. x.count) (sym is ∙ same) in omega (arith, few, count)
 
   -- the owner of the stream is the session of the request where this isn't refused for another
-  owner_is : (m : Made) (s : Session) → Same g m s → Has m (living g) → owns st (g.number m.home) (Some s) ≡ true → (w : Made) × (owner g m.home ≡ Some w) × (w.id ≡ m.id)
+  owner_is : (m : Made) (s : Session) → Same g m s → Has m (living g) → owns st (g.number m.home) (Some s) ≡ true
+      → (w : Made) × (owner g m.home ≡ Some w) × (w.id ≡ m.id)
   owner_is m s same h e = by (owner_of st (g.number m.home)) refl e
     where
-      told : (o : Option Made) (q : Option Session) → owner g m.home ≡ o → option_map (λ x. x.id) q ≡ option_map (λ x. x.id) o → option_map_or (λ y. same_id y.id s.id) q false ≡ true
+      told : (o : Option Made) (q : Option Session) → owner g m.home ≡ o → option_map (λ x. x.id) q ≡ option_map (λ x. x.id) o
+          → option_map_or (λ y. same_id y.id s.id) q false ≡ true
           → (w : Made) × (owner g m.home ≡ Some w) × (w.id ≡ m.id)
       told o None f i k = cc
       told None (Some x) f i k = cc
       told (Some w) (Some x) f i k = (w, f, sym (given_same x.id w.id i) ∙ id_is x.id s.id k ∙ same.id)
 
-      by : (q : Option Session) → owner_of st (g.number m.home) ≡ q → option_map_or (λ y. same_id y.id s.id) q false ≡ true → (w : Made) × (owner g m.home ≡ Some w) × (w.id ≡ m.id)
+      by : (q : Option Session) → owner_of st (g.number m.home) ≡ q → option_map_or (λ y. same_id y.id s.id) q false ≡ true
+          → (w : Made) × (owner g m.home ≡ Some w) × (w.id ≡ m.id)
       by q f k = told (owner g m.home) q refl
-          (sym (ap (option_map (λ x. x.id)) f) ∙ owners_same c st g a (g.number m.home) ∙ ap (λ o. option_map (λ x. x.id) (option_and_then (owner g) o)) (home_found g a.loosely.told m h)) k
+          (sym (ap (option_map (λ x. x.id)) f) ∙ owners_same c st g a (g.number m.home)
+          ∙ ap (λ o. option_map (λ x. x.id) (option_and_then (owner g) o)) (home_found g a.loosely.told m h)) k
 
-  module _ (acc : is_accepted answer ≡ true) (p : Passes c st r) (change : changes r.method ≡ true) (m : Made) (in_session : session_in g (Asked peer draw r) ≡ Some m) (same : m.home ≡ home) (key : gives_key r.query ≡ true) where
+  module _ (acc : is_accepted answer ≡ true) (p : Passes c st r) (change : changes r.method ≡ true) (m : Made)
+      (in_session : session_in g (Asked peer draw r) ≡ Some m) (same : m.home ≡ home) (key : gives_key r.query ≡ true) where
     owned : (t : Stream) → stream_meant st r ≡ Some t → owns st t.number (session_named st r.session) ≡ true
     owned t meant =
         let other : not (owns st t.number (session_named st r.session)) ≡ false =
@@ -166,19 +177,26 @@ module _ (c : Config) (st : State) (g : Readings) (a : Agrees c st g) (caller : 
       where
         not_setup : {A : Type 0} → is_setup r.method ≡ false → A
         not_setup f = none_some (session_in g (Asked peer draw r)) m
-            (ap (λ b. cond b (made_by g (Asked peer draw r)) (named_in g r.session)) none ∙ ap (λ b. cond {A = Option Made} (b && names_none r.session) (Some (making g false (home_made c st g a caller peer draw r answer out) draw)) None) f) in_session
+            (ap (λ b. cond b (made_by g (Asked peer draw r)) (named_in g r.session)) none
+            ∙ ap (λ b. cond {A = Option Made} (b && names_none r.session) (Some (making g false (home_made c st g a caller peer draw r answer out) draw)) None)
+            f) in_session
 
         made : is_setup r.method ≡ true → m.home ≡ home_made c st g a caller peer draw r answer out
         made setup = ap (λ x. x.home) (sym (given_same (making g false (home_made c st g a caller peer draw r answer out) draw) m
             (sym (ap (λ b. cond b (made_by g (Asked peer draw r)) (named_in g r.session)) none
-            ∙ ap (λ b. cond {A = Option Made} (b && names_none r.session) (Some (making g false (home_made c st g a caller peer draw r answer out) draw)) None) setup
+            ∙ ap (λ b. cond {A = Option Made} (b && names_none r.session) (Some (making g false (home_made c st g a caller peer draw r answer out) draw)) None)
+            setup
             ∙ ap (λ b. cond {A = Option Made} b (Some (making g false (home_made c st g a caller peer draw r answer out) draw)) None) none) ∙ in_session)))
 
-        at : (setup : is_setup r.method ≡ true) (n : ℕ) → r.stream ≡ Some n → (o : Option SessionId) → home_of_number g n ≡ o → is_asked_by_owner g entry home ≡ true
-        at setup n is None f = absurd (not_next m.home (made setup ∙ ap (λ o. unwrap_or (option_and_then (home_of_number g) o) (next_made g draw.word)) is ∙ ap (λ o. unwrap_or o (next_made g draw.word)) f) same)
+        at : (setup : is_setup r.method ≡ true) (n : ℕ) → r.stream ≡ Some n → (o : Option SessionId) → home_of_number g n ≡ o
+            → is_asked_by_owner g entry home ≡ true
+        at setup n is None f = absurd (not_next m.home
+            (made setup ∙ ap (λ o. unwrap_or (option_and_then (home_of_number g) o) (next_made g draw.word)) is
+            ∙ ap (λ o. unwrap_or o (next_made g draw.word)) f) same)
         at setup n is (Some h) f =
             let meant : stream_meant st r ≡ Some (stream_told g h) = meant_number st r n is ∙ a.streams n ∙ ap (option_map (stream_told g)) f in
-            none_true (owns st (g.number h) (session_named st r.session)) (owned (stream_told g h) meant) (ap (owns st (g.number h)) (none_session st r.session none))
+            none_true (owns st (g.number h) (session_named st r.session)) (owned (stream_told g h) meant)
+            (ap (owns st (g.number h)) (none_session st r.session none))
 
         setup_by : (b : Bool) → is_setup r.method ≡ b → (o : Option ℕ) → r.stream ≡ o → is_asked_by_owner g entry home ≡ true
         setup_by false f o is = not_setup f
@@ -204,7 +222,8 @@ module _ (c : Config) (st : State) (g : Readings) (a : Agrees c st g) (caller : 
         looks Play f = refl
         looks Teardown f = refl
 
-        needs : (x : Method) → changes x ≡ true → (is_setup x && not (names_none r.session) && is_none r.stream) ≡ false → r.stream ≡ None → needs_session x ≡ true
+        needs : (x : Method) → changes x ≡ true → (is_setup x && not (names_none r.session) && is_none r.stream) ≡ false → r.stream ≡ None
+            → needs_session x ≡ true
         needs Options f k i = cc
         needs Describe f k i = cc
         needs Setup f k i = none_true true refl (sym (ap (λ b. not b && is_none r.stream) no_name ∙ ap is_none i) ∙ k)
@@ -235,26 +254,33 @@ module _ (c : Config) (st : State) (g : Readings) (a : Agrees c st g) (caller : 
       nothing_asked : asking g entry ≡ None → StaysAs g (read_one c g entry) home
       nothing_asked is = asked_stays c g entry home None is (λ x k. cc)
 
-      asks : changes r.method ≡ true → (o : Option Made) → is_accepted answer ≡ true → session_in g (Asked peer draw r) ≡ o → asking g entry ≡ option_map (λ m. record { home = m.home; query = r.query }) o
+      asks : changes r.method ≡ true → (o : Option Made) → is_accepted answer ≡ true → session_in g (Asked peer draw r) ≡ o
+          → asking g entry ≡ option_map (λ m. record { home = m.home; query = r.query }) o
       asks change o acc is =
-          ap (λ b. cond b (option_and_then (λ n. option_map (λ q. record { home = n.home; query = q }) (query_in (Asked peer draw r))) (session_in g (Asked peer draw r))) None) acc
+          ap (λ b. cond b (option_and_then (λ n. option_map (λ q. record { home = n.home; query = q }) (query_in (Asked peer draw r)))
+          (session_in g (Asked peer draw r))) None) acc
           ∙ ap (λ s. option_and_then (λ n. option_map (λ q. record { home = n.home; query = q }) (query_in (Asked peer draw r))) s) is
           ∙ ap (λ b. option_and_then (λ n. option_map (λ q. record { home = n.home; query = q }) (cond b (Some r.query) None)) o) change ∙ by o
         where
-          by : (o : Option Made) → option_and_then {U = Asking} (λ n. option_map (λ q. record { home = n.home; query = q }) (Some r.query)) o ≡ option_map (λ m. record { home = m.home; query = r.query }) o
+          by : (o : Option Made) → option_and_then {U = Asking} (λ n. option_map (λ q. record { home = n.home; query = q }) (Some r.query)) o
+              ≡ option_map (λ m. record { home = m.home; query = r.query }) o
           by None = refl
           by (Some n) = refl
 
-      stays : changes r.method ≡ true → is_accepted answer ≡ true → (o : Option Made) → session_in g (Asked peer draw r) ≡ o → (((m : Made) → o ≡ Some m → m.home ≡ home → gives_key r.query ≡ false)) → StaysAs g (read_one c g entry) home
-      stays change acc o is none = asked_stays c g entry home (option_map (λ m. record { home = m.home; query = r.query }) o) (asks change o acc is) (λ x k i. by o x k i none)
+      stays : changes r.method ≡ true → is_accepted answer ≡ true → (o : Option Made) → session_in g (Asked peer draw r) ≡ o
+          → (((m : Made) → o ≡ Some m → m.home ≡ home → gives_key r.query ≡ false)) → StaysAs g (read_one c g entry) home
+      stays change acc o is none = asked_stays c g entry home (option_map (λ m. record { home = m.home; query = r.query }) o) (asks change o acc is)
+          (λ x k i. by o x k i none)
         where
-          by : (o : Option Made) (x : Asking) → option_map (λ m. record { home = m.home; query = r.query }) o ≡ Some x → x.home ≡ home → ((m : Made) → o ≡ Some m → m.home ≡ home → gives_key r.query ≡ false) → gives_key x.query ≡ false
+          by : (o : Option Made) (x : Asking) → option_map (λ m. record { home = m.home; query = r.query }) o ≡ Some x → x.home ≡ home
+              → ((m : Made) → o ≡ Some m → m.home ≡ home → gives_key r.query ≡ false) → gives_key x.query ≡ false
           by None x k i f = cc
           by (Some m) x k i f =
               let same = given_same (record { home = m.home; query = r.query }) x k in
               ap (λ y. gives_key y.query) (sym same) ∙ f m refl (ap (λ y. y.home) same ∙ i)
 
-      with_key : (acc : is_accepted answer ≡ true) (p : Passes c st r) → changes r.method ≡ true → (o : Option Made) → session_in g (Asked peer draw r) ≡ o → (b : Bool) → gives_key r.query ≡ b
+      with_key : (acc : is_accepted answer ≡ true) (p : Passes c st r) → changes r.method ≡ true → (o : Option Made) → session_in g (Asked peer draw r) ≡ o
+          → (b : Bool) → gives_key r.query ≡ b
           → (is_asked_by_owner g entry home ≡ true) ⊎ StaysAs g (read_one c g entry) home
       with_key acc p change o is false none = inr (stays change acc o is (λ m k i. none))
       with_key acc p change None is true key = inr (stays change acc None is (λ m k i. cc))
@@ -262,22 +288,30 @@ module _ (c : Config) (st : State) (g : Readings) (a : Agrees c st g) (caller : 
         where
           by : (b : Bool) → same_id m.home home ≡ b → (is_asked_by_owner g entry home ≡ true) ⊎ StaysAs g (read_one c g entry) home
           by true f = inl (asked_by_owner acc p change m is (id_is m.home home f) key)
-          by false f = inr (stays change acc (Some m) is (λ n k i. none_true (same_id m.home home) (id_same m.home home (ap (λ x. x.home) (given_same m n k) ∙ i)) f))
+          by false f = inr (stays change acc (Some m) is
+              (λ n k i. none_true (same_id m.home home) (id_same m.home home (ap (λ x. x.home) (given_same m n k) ∙ i)) f))
 
-      change_by : (acc : is_accepted answer ≡ true) → Passes c st r → (b : Bool) → changes r.method ≡ b → (is_asked_by_owner g entry home ≡ true) ⊎ StaysAs g (read_one c g entry) home
+      change_by : (acc : is_accepted answer ≡ true) → Passes c st r → (b : Bool) → changes r.method ≡ b
+          → (is_asked_by_owner g entry home ≡ true) ⊎ StaysAs g (read_one c g entry) home
       change_by acc p true change = with_key acc p change (session_in g (Asked peer draw r)) refl (gives_key r.query) refl
       change_by acc p false change = inr (nothing_asked (no_change c st g a caller peer draw r answer out change))
 
-      decided : (acc : is_accepted answer ≡ true) → (o : Option Refused) → decide c st r ≡ o → answer ≡ (option_map_or (refuse r (heard c st g a caller peer draw r answer out)) o (done_by r.method c peer draw r (heard c st g a caller peer draw r answer out))).answer
+      decided : (acc : is_accepted answer ≡ true) → (o : Option Refused) → decide c st r ≡ o
+          → answer ≡ (option_map_or (refuse r (heard c st g a caller peer draw r answer out)) o
+          (done_by r.method c peer draw r (heard c st g a caller peer draw r answer out))).answer
           → (is_asked_by_owner g entry home ≡ true) ⊎ StaysAs g (read_one c g entry) home
       decided acc (Some x) f is = none_true (is_accepted answer) acc (ap is_accepted is ∙ decided_refuses c st r x f)
       decided acc None f is = change_by acc (passes c st r f) (changes r.method) refl
 
       accepted_by : (b : Bool) → is_accepted answer ≡ b → (is_asked_by_owner g entry home ≡ true) ⊎ StaysAs g (read_one c g entry) home
       accepted_by true acc = decided acc (decide c st r) refl fits.answer
-      accepted_by false acc = inr (nothing_asked (ap (λ b. cond b (option_and_then (λ n. option_map (λ q. record { home = n.home; query = q }) (query_in (Asked peer draw r))) (session_in g (Asked peer draw r))) None) acc))
+      accepted_by false acc = inr
+          (nothing_asked (ap (λ b. cond b
+          (option_and_then (λ n. option_map (λ q. record { home = n.home; query = q }) (query_in (Asked peer draw r))) (session_in g (Asked peer draw r))) None)
+          acc))
 
-get_changes : (c : Config) (st : State) (g : Readings) (a : Agrees c st g) (caller : ℕ) (peer : Peer) (draw : Draw) (r : HttpRequest) (answer : Answer) (out : Output) (home : SessionId)
+get_changes : (c : Config) (st : State) (g : Readings) (a : Agrees c st g) (caller : ℕ) (peer : Peer) (draw : Draw) (r : HttpRequest) (answer : Answer)
+    (out : Output) (home : SessionId)
     → is_some (owner g home) ≡ true → StaysAs g (read_one c g (item caller (Got peer draw r) answer out)) home
 get_changes c st g a caller peer draw r answer out home lives = by (is_accepted answer) refl
   where
@@ -293,17 +327,25 @@ get_changes c st g a caller peer draw r answer out home lives = by (is_accepted 
 other_changes : (c : Config) (g : Readings) (e : Item) (home : SessionId) → asking g e ≡ None → Either c g e home
 other_changes c g e home is = inr (asked_stays c g e home None is (λ x k. cc))
 
-event_changes : (c : Config) (st : State) (g : Readings) → Agrees c st g → (caller : ℕ) (answer : Answer) (out : Output) (home : SessionId) → is_some (owner g home) ≡ true
+event_changes : (c : Config) (st : State) (g : Readings) → Agrees c st g → (caller : ℕ) (answer : Answer) (out : Output) (home : SessionId)
+    → is_some (owner g home) ≡ true
     → (event : Event) → Fits (step c st event) (item caller event answer out) → Either c g (item caller event answer out) home
 event_changes c st g a caller answer out home lives (Asked peer draw r) fits = request_changes c st g a caller peer draw r answer out home lives fits
 event_changes c st g a caller answer out home lives (Got peer draw r) fits = inr (get_changes c st g a caller peer draw r answer out home lives)
-event_changes c st g a caller answer out home lives (Tick now) fits = other_changes c g (item caller (Tick now) answer out) home (sym (either_way None (is_accepted answer)))
-event_changes c st g a caller answer out home lives (Packet front tune packet) fits = other_changes c g (item caller (Packet front tune packet) answer out) home (sym (either_way None (is_accepted answer)))
-event_changes c st g a caller answer out home lives (Ended front tune) fits = other_changes c g (item caller (Ended front tune) answer out) home (sym (either_way None (is_accepted answer)))
-event_changes c st g a caller answer out home lives (Ask front) fits = other_changes c g (item caller (Ask front) answer out) home (sym (either_way None (is_accepted answer)))
-event_changes c st g a caller answer out home lives (Pull id) fits = other_changes c g (item caller (Pull id) answer out) home (sym (either_way None (is_accepted answer)))
-event_changes c st g a caller answer out home lives (Close id) fits = other_changes c g (item caller (Close id) answer out) home (sym (either_way None (is_accepted answer)))
-event_changes c st g a caller answer out home lives Stop fits = other_changes c g (item caller Stop answer out) home (sym (either_way None (is_accepted answer)))
+event_changes c st g a caller answer out home lives (Tick now) fits =
+    other_changes c g (item caller (Tick now) answer out) home (sym (either_way None (is_accepted answer)))
+event_changes c st g a caller answer out home lives (Packet front tune packet) fits =
+    other_changes c g (item caller (Packet front tune packet) answer out) home (sym (either_way None (is_accepted answer)))
+event_changes c st g a caller answer out home lives (Ended front tune) fits =
+    other_changes c g (item caller (Ended front tune) answer out) home (sym (either_way None (is_accepted answer)))
+event_changes c st g a caller answer out home lives (Ask front) fits =
+    other_changes c g (item caller (Ask front) answer out) home (sym (either_way None (is_accepted answer)))
+event_changes c st g a caller answer out home lives (Pull id) fits =
+    other_changes c g (item caller (Pull id) answer out) home (sym (either_way None (is_accepted answer)))
+event_changes c st g a caller answer out home lives (Close id) fits =
+    other_changes c g (item caller (Close id) answer out) home (sym (either_way None (is_accepted answer)))
+event_changes c st g a caller answer out home lives Stop fits =
+    other_changes c g (item caller Stop answer out) home (sym (either_way None (is_accepted answer)))
 
 pub only_owner_changes : OnlyOwnerChanges
 only_owner_changes c h e home legal lives =

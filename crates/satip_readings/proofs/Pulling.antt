@@ -71,13 +71,16 @@ pub agrees_pulled : (c : Config) (st : State) (g : Readings) (h : Made → Bool)
     → ((m : Made) (s : Session) → Has m (living g) → Same g m s → h m ≡ f s)
     → ((s : SessionId) → length g.made < s.count → more s ≡ [])
     → ((m : Made) → Has m (living g) → h m ≡ false → more m.id ≡ [])
-    → ((m : Made) (s : Session) → Has m (living g) → Same g m s → h m ≡ true → (s.http ≡ true) × (length (more m.id) ≡ k) × (take (length (g.pulled m.id) + k) s.picked ≡ g.pulled m.id ++ more m.id))
-    → Agrees c st g → Agrees c (record st { sessions = map (λ s. cond (f s) (record s { heard = st.clock; sizes = s.sizes ++ k ∷ [] }) s) st.sessions }) (pulled_read h more g)
+    → ((m : Made) (s : Session) → Has m (living g) → Same g m s → h m ≡ true
+    → (s.http ≡ true) × (length (more m.id) ≡ k) × (take (length (g.pulled m.id) + k) s.picked ≡ g.pulled m.id ++ more m.id))
+    → Agrees c st g → Agrees c (record st { sessions = map (λ s. cond (f s) (record s { heard = st.clock; sizes = s.sizes ++ k ∷ [] }) s) st.sessions })
+    (pulled_read h more g)
 agrees_pulled c st g h f more k same unmade others taken a = record {
   loosely = record {
     clock = a.loosely.clock;
     made = a.loosely.made;
-    sessions = alike_map g (pulled_read h more g) (λ s. cond (f s) (record s { heard = st.clock; sizes = s.sizes ++ k ∷ [] }) s) (living g) st.sessions (λ m s i j e. told_of m s i e) a.loosely.sessions;
+    sessions = alike_map g (pulled_read h more g) (λ s. cond (f s) (record s { heard = st.clock; sizes = s.sizes ++ k ∷ [] }) s) (living g) st.sessions
+        (λ m s i j e. told_of m s i e) a.loosely.sessions;
     living_streams = a.loosely.living_streams;
     tunes = a.loosely.tunes;
     muxes = a.loosely.muxes;
@@ -86,21 +89,39 @@ agrees_pulled c st g h f more k same unmade others taken a = record {
       numbers = told.numbers;
       few = told.few;
       homes = told.homes;
-      unmade = λ s above. let u = told.unmade s above in record { over = u.over; played = u.played; tuned = u.tuned; pids = u.pids; front = u.front; selected = u.selected; pulled = rw (u.pulled, unmade s above) refl };
+      unmade = λ s above. let u = told.unmade s above in
+          record {
+            over = u.over;
+            played = u.played;
+            tuned = u.tuned;
+            pids = u.pids;
+            front = u.front;
+            selected = u.selected;
+            pulled = rw (u.pulled, unmade s above) refl;
+          };
       packets = told.packets;
     };
-    kept = record { apart = a.loosely.kept.apart; once = a.loosely.kept.once; positive = a.loosely.kept.positive; few = a.loosely.kept.few; rows = a.loosely.kept.rows; placed = a.loosely.kept.placed };
+    kept = record {
+      apart = a.loosely.kept.apart;
+      once = a.loosely.kept.once;
+      positive = a.loosely.kept.positive;
+      few = a.loosely.kept.few;
+      rows = a.loosely.kept.rows;
+      placed = a.loosely.kept.placed;
+    };
   };
   streams = a.streams;
   free = a.free;
 }
   where
-    by : (m : Made) (s : Session) (b : Bool) → Has m (living g) → Same g m s → h m ≡ b → Same (pulled_read h more g) m (cond b (record s { heard = st.clock; sizes = s.sizes ++ k ∷ [] }) s)
+    by : (m : Made) (s : Session) (b : Bool) → Has m (living g) → Same g m s → h m ≡ b
+        → Same (pulled_read h more g) m (cond b (record s { heard = st.clock; sizes = s.sizes ++ k ∷ [] }) s)
     by m s true i e f =
         let t = taken m s i e f in
         let here : any_where h (living_session g m.id) ≡ true = ap (any_where h) (living_found g a.loosely.told m i) ∙ f in
         let q = e.queue t.0 in
-        let long : length (g.pulled m.id ++ more m.id) ≡ length (g.pulled m.id) + k = length-append (g.pulled m.id) (more m.id) ∙ ap (λ n. length (g.pulled m.id) + n) t.1 in
+        let long : length (g.pulled m.id ++ more m.id) ≡ length (g.pulled m.id) + k =
+        length-append (g.pulled m.id) (more m.id) ∙ ap (λ n. length (g.pulled m.id) + n) t.1 in
         let all : sum (s.sizes ++ k ∷ []) ≡ sum s.sizes + k = sum_by-append (λ (x : ℕ). x) s.sizes (k ∷ []) ∙ (omega arith) in
         record {
           id = e.id;
@@ -120,7 +141,8 @@ agrees_pulled c st g h f more k same unmade others taken a = record {
         let here : any_where h (living_session g m.id) ≡ false = ap (any_where h) (living_found g a.loosely.told m i) ∙ f in
         same_again g (pulled_read h more g) m s e refl refl (rw here refl) refl (rw (others m i f) (append-nil (g.pulled m.id)))
 
-    told_of : (m : Made) (s : Session) → Has m (living g) → Same g m s → Same (pulled_read h more g) m (cond (f s) (record s { heard = st.clock; sizes = s.sizes ++ k ∷ [] }) s)
+    told_of : (m : Made) (s : Session) → Has m (living g) → Same g m s
+        → Same (pulled_read h more g) m (cond (f s) (record s { heard = st.clock; sizes = s.sizes ++ k ∷ [] }) s)
     told_of m s i e = rw (← same m s i e) (by m s (h m) i e refl)
 
 module _ (c : Config) (st : State) (g : Readings) (a : Agrees c st g) (caller : ℕ) (answer : Answer) (out : Output) (id : SessionId) where
@@ -130,12 +152,14 @@ module _ (c : Config) (st : State) (g : Readings) (a : Agrees c st g) (caller : 
   unselected : (s : SessionId) → cond {A = List (List ℕ)} (any_where (is_selected g (Pull id)) (living_session g s)) [] [] ≡ []
   unselected s = sym (either_way [] (any_where (is_selected g (Pull id)) (living_session g s)))
 
-  pull_read : (h : Made → Bool) (more : SessionId → List (List ℕ)) → ((m : Made) → Has m (living g) → is_this_http id m ≡ h m) → ((s : SessionId) → pulled_by e s ≡ more s)
+  pull_read : (h : Made → Bool) (more : SessionId → List (List ℕ)) → ((m : Made) → Has m (living g) → is_this_http id m ≡ h m)
+      → ((s : SessionId) → pulled_by e s ≡ more s)
       → read_one c g e ≡ frees (read_simply g g.clock never h nothing more)
   pull_read h more hears same =
       read_other c g e (sym (either_way None (is_accepted answer))) (sym (either_way None (is_accepted answer))) (λ s. either_false (is_accepted answer))
       ∙ ap frees (simply_same g g.clock (ends c g e) (keeps_alive (Pull id)) never h
-      (λ s. cond {A = List (List ℕ)} (any_where (is_selected g (Pull id)) (living_session g s)) [] []) (pulled_by e) nothing more (λ m i. refl) hears unselected same)
+      (λ s. cond {A = List (List ℕ)} (any_where (is_selected g (Pull id)) (living_session g s)) [] []) (pulled_by e) nothing more (λ m i. refl) hears
+      unselected same)
 
   gone : living_http g id ≡ None → answer ≡ Pulled PulledGone → read_one c g e ≡ g
   gone none is = pull_read never nothing (λ m h. http_none g id none m h) pulled ∙ ap frees (simply_still g) ∙ freed_same g a.free
@@ -146,20 +170,27 @@ module _ (c : Config) (st : State) (g : Readings) (a : Agrees c st g) (caller : 
   -- nothing is queued
   empty : (m : Made) (s : Session) → living_http g id ≡ Some m → Same g m s → answer ≡ Pulled Empty → Agrees c (hear s.id st) (read_one c g e)
   empty m s f same is =
-      subst (Agrees c (hear s.id st)) (sym (pull_read (is_this_http id) nothing (λ n h. refl) pulled ∙ ap frees (simply_hears g (is_this_http id) nothing ∙ nothing_pulled) ∙ freed_same (heard_read (is_this_http id) g) a.free))
+      subst (Agrees c (hear s.id st))
+      (sym (pull_read (is_this_http id) nothing (λ n h. refl) pulled ∙ ap frees (simply_hears g (is_this_http id) nothing ∙ nothing_pulled)
+      ∙ freed_same (heard_read (is_this_http id) g) a.free))
       (agrees_heard c st g (is_this_http id) (is_session s.id) (λ n t h k. http_only g a.loosely.told id m s.id f same.id n t h k) a)
     where
       pulled : (s : SessionId) → pulled_by e s ≡ []
       pulled s = rw is refl
 
-      nothing_pulled : record g { heard = λ s. cond (any_where (is_this_http id) (living_session g s)) g.clock (g.heard s); pulled = λ s. g.pulled s ++ nothing s } ≡ heard_read (is_this_http id) g
+      nothing_pulled : record g {
+        heard = λ s. cond (any_where (is_this_http id) (living_session g s)) g.clock (g.heard s);
+        pulled = λ s. g.pulled s ++ nothing s;
+      } ≡ heard_read (is_this_http id) g
       nothing_pulled = λ i. record (heard_read (is_this_http id) g) { pulled = λ s. append-nil (g.pulled s) i }
 
   -- packets are pulled
   some : (m : Made) (s : Session) (p : List ℕ) (ps : List (List ℕ)) (n : ℕ) → living_http g id ≡ Some m → Same g m s → held s ≡ p ∷ ps
       → answer ≡ Pulled (Bytes n) → out.reply ≡ concat (take most_pulled (p ∷ ps)) → Agrees c (pull_some st s (p ∷ ps)).state (read_one c g e)
   some m s p ps n f same queue is reply =
-      subst (Agrees c (pull_some st s (p ∷ ps)).state) (sym (pull_read (is_this_http id) more (λ x h. refl) pulled ∙ ap frees (simply_hears g (is_this_http id) more) ∙ freed_same (pulled_read (is_this_http id) more g) a.free))
+      subst (Agrees c (pull_some st s (p ∷ ps)).state)
+      (sym (pull_read (is_this_http id) more (λ x h. refl) pulled ∙ ap frees (simply_hears g (is_this_http id) more)
+      ∙ freed_same (pulled_read (is_this_http id) more g) a.free))
       (agrees_pulled c st g (is_this_http id) (is_session s.id) more (length packets) (λ x t h k. http_only g a.loosely.told id m s.id f same.id x t h k)
       unmade others taken a)
     where
@@ -177,7 +208,8 @@ module _ (c : Config) (st : State) (g : Readings) (a : Agrees c st g) (caller : 
           (each_drop (λ x. length x ≡ 188) (sum s.sizes) s.picked (subst (Each (λ x. length x ≡ 188)) (sym same.picked) (a.loosely.told.packets m.id))))
 
       pulled : (x : SessionId) → pulled_by e x ≡ more x
-      pulled x = rw is (ap (λ bytes. cond (same_id id x) (packets_of (length bytes) bytes) []) reply ∙ ap (λ xs. cond (same_id id x) xs []) (packets_back packets (length (concat packets)) whole (omega arith)))
+      pulled x = rw is (ap (λ bytes. cond (same_id id x) (packets_of (length bytes) bytes) []) reply
+          ∙ ap (λ xs. cond (same_id id x) xs []) (packets_back packets (length (concat packets)) whole (omega arith)))
 
       unmade : (x : SessionId) → length g.made < x.count → more x ≡ []
       unmade x above = let few = a.loosely.told.few m found.0 in
@@ -212,7 +244,8 @@ module _ (c : Config) (st : State) (g : Readings) (a : Agrees c st g) (caller : 
   pub agrees_pull : Fits (on_pull id st) e → Agrees c (on_pull id st).state (read_one c g e)
   agrees_pull fits = by (living_http g id) (http_session st id) refl (http_match c st g id a) fits
     where
-      queue : (m : Made) (s : Session) (ps : List (List ℕ)) → living_http g id ≡ Some m → Same g m s → held s ≡ ps → Fits (pull_some st s ps) e → Agrees c (pull_some st s ps).state (read_one c g e)
+      queue : (m : Made) (s : Session) (ps : List (List ℕ)) → living_http g id ≡ Some m → Same g m s → held s ≡ ps → Fits (pull_some st s ps) e
+          → Agrees c (pull_some st s ps).state (read_one c g e)
       queue m s [] f same held_is fit = empty m s f same fit.answer
       queue m s (p ∷ ps) f same held_is fit = some m s p ps (length (concat (take most_pulled (p ∷ ps)))) f same held_is fit.answer fit.reply
 

@@ -41,7 +41,8 @@ pub similar_itself : (x : Session) → Similar x x
 similar_itself x = record { id = refl; http = refl; stream = refl; playing = refl; heard = refl; ssrc = refl; first = refl; picked = refl; sizes = λ h. refl }
 
 -- other sessions in the same state
-pub agrees_sessions : (c : Config) (st : State) (g : Readings) → Agrees c st g → (ss : List Session) → Alike g (living g) ss → Agrees c (record st { sessions = ss }) g
+pub agrees_sessions : (c : Config) (st : State) (g : Readings) → Agrees c st g → (ss : List Session) → Alike g (living g) ss
+    → Agrees c (record st { sessions = ss }) g
 agrees_sessions c st g a ss alike = record {
   loosely = record {
     clock = a.loosely.clock;
@@ -51,7 +52,14 @@ agrees_sessions c st g a ss alike = record {
     tunes = a.loosely.tunes;
     muxes = a.loosely.muxes;
     told = a.loosely.told;
-    kept = record { apart = a.loosely.kept.apart; once = a.loosely.kept.once; positive = a.loosely.kept.positive; few = a.loosely.kept.few; rows = a.loosely.kept.rows; placed = a.loosely.kept.placed };
+    kept = record {
+      apart = a.loosely.kept.apart;
+      once = a.loosely.kept.once;
+      positive = a.loosely.kept.positive;
+      few = a.loosely.kept.few;
+      rows = a.loosely.kept.rows;
+      placed = a.loosely.kept.placed;
+    };
   };
   streams = a.streams;
   free = a.free;
@@ -68,7 +76,8 @@ turned_stays g m x (Some y) s e = same_similar g m x y s e
 -- a round of turns that change nothing of what is read
 pub agrees_each : (c : Config) (st : State) (g : Readings) (p : Session → Bool) (turn : Session → Turn)
     → ((x : Session) → p x ≡ true → Stays x (turn x).after) → Agrees c st g → Agrees c (each_of p turn st).state g
-agrees_each c st g p turn stays a = agrees_sessions c st g a _ (alike_each g g (λ x. (cond (p x) (turn x) (record { sends = []; after = Some x })).after) (living g) st.sessions
+agrees_each c st g p turn stays a = agrees_sessions c st g a _
+    (alike_each g g (λ x. (cond (p x) (turn x) (record { sends = []; after = Some x })).after) (living g) st.sessions
     (λ m x h k e. by m x (p x) refl e) a.loosely.sessions)
   where
     by : (m : Made) (x : Session) (b : Bool) → p x ≡ b → Same g m x → Turned g m true (cond b (turn x) (record { sends = []; after = Some x })).after
@@ -77,7 +86,18 @@ agrees_each c st g p turn stays a = agrees_sessions c st g a _ (alike_each g g (
 
 -- what RTSP sessions hold leaves
 pub let_go_stays : (flush : Bool) (clock : ℕ) (x : Session) → x.http ≡ false → Stays x (let_go flush clock x).after
-let_go_stays flush clock x rtsp = record { id = refl; http = refl; stream = refl; playing = refl; heard = refl; ssrc = refl; first = refl; picked = refl; sizes = λ h. none_true x.http h rtsp }
+let_go_stays flush clock x rtsp =
+    record {
+      id = refl;
+      http = refl;
+      stream = refl;
+      playing = refl;
+      heard = refl;
+      ssrc = refl;
+      first = refl;
+      picked = refl;
+      sizes = λ h. none_true x.http h rtsp;
+    }
 
 pub agrees_flush : (c : Config) (st : State) (g : Readings) (p : Session → Bool) (flush : Bool) (clock : ℕ) → ((x : Session) → p x ≡ true → x.http ≡ false)
     → Agrees c st g → Agrees c (each_of p (let_go flush clock) st).state g
@@ -98,7 +118,8 @@ agrees_change c st g id f similar a = agrees_sessions c st g a _ (alike_map g g 
     by m x false e = e
 
 -- other readings that say the same of a session
-pub same_again : (g g' : Readings) (m : Made) (s : Session) → Same g m s → g'.number m.home ≡ g.number m.home → g'.played m.id ≡ g.played m.id → g'.heard m.id ≡ g.heard m.id
+pub same_again : (g g' : Readings) (m : Made) (s : Session) → Same g m s → g'.number m.home ≡ g.number m.home → g'.played m.id ≡ g.played m.id
+    → g'.heard m.id ≡ g.heard m.id
     → g'.selected m.id ≡ g.selected m.id → g'.pulled m.id ≡ g.pulled m.id → Same g' m s
 same_again g g' m s e number played heard selected pulled = record {
   id = e.id;
@@ -125,7 +146,8 @@ told_heard g p told = record {
   numbers = told.numbers;
   few = told.few;
   homes = told.homes;
-  unmade = λ s above. let u = told.unmade s above in record { over = u.over; played = u.played; tuned = u.tuned; pids = u.pids; front = u.front; selected = u.selected; pulled = u.pulled };
+  unmade = λ s above. let u = told.unmade s above in
+      record { over = u.over; played = u.played; tuned = u.tuned; pids = u.pids; front = u.front; selected = u.selected; pulled = u.pulled };
   packets = told.packets;
 }
 
@@ -136,18 +158,27 @@ agrees_heard c st g p f same a = record {
   loosely = record {
     clock = a.loosely.clock;
     made = a.loosely.made;
-    sessions = alike_map g (heard_read p g) (λ s. cond (f s) (record s { heard = st.clock }) s) (living g) st.sessions (λ m s h k e. told_of m s h e) a.loosely.sessions;
+    sessions = alike_map g (heard_read p g) (λ s. cond (f s) (record s { heard = st.clock }) s) (living g) st.sessions (λ m s h k e. told_of m s h e)
+        a.loosely.sessions;
     living_streams = a.loosely.living_streams;
     tunes = a.loosely.tunes;
     muxes = a.loosely.muxes;
     told = told_heard g p a.loosely.told;
-    kept = record { apart = a.loosely.kept.apart; once = a.loosely.kept.once; positive = a.loosely.kept.positive; few = a.loosely.kept.few; rows = a.loosely.kept.rows; placed = a.loosely.kept.placed };
+    kept = record {
+      apart = a.loosely.kept.apart;
+      once = a.loosely.kept.once;
+      positive = a.loosely.kept.positive;
+      few = a.loosely.kept.few;
+      rows = a.loosely.kept.rows;
+      placed = a.loosely.kept.placed;
+    };
   };
   streams = a.streams;
   free = a.free;
 }
   where
-    by : (m : Made) (s : Session) (b : Bool) → Same g m s → any_where p (living_session g m.id) ≡ b → Same (heard_read p g) m (cond b (record s { heard = st.clock }) s)
+    by : (m : Made) (s : Session) (b : Bool) → Same g m s → any_where p (living_session g m.id) ≡ b
+        → Same (heard_read p g) m (cond b (record s { heard = st.clock }) s)
     by m s true e f = record {
       id = e.id;
       http = e.http;

@@ -153,7 +153,8 @@ simply_ends g clock p = same_readings _ _ (record {
 
 -- an entry by which sessions were heard of, and pulled
 pub simply_hears : (g : Readings) (h : Made → Bool) (pul : SessionId → List (List ℕ))
-    → read_simply g g.clock never h nothing pul ≡ record g { heard = λ s. cond (any_where h (living_session g s)) g.clock (g.heard s); pulled = λ s. g.pulled s ++ pul s }
+    → read_simply g g.clock never h nothing pul ≡ record g
+    { heard = λ s. cond (any_where h (living_session g s)) g.clock (g.heard s); pulled = λ s. g.pulled s ++ pul s }
 simply_hears g h pul = same_readings _ _ (record {
   clock = refl;
   made = refl;
@@ -190,7 +191,8 @@ simply_still g = same_readings _ _ (record {
 
 -- an entry by which sessions end, and packets are selected
 pub simply_selects : (g : Readings) (clock : ℕ) (p : Made → Bool) (sel : SessionId → List (List ℕ))
-    → read_simply g clock p never sel nothing ≡ record g { clock = clock; over = λ s. g.over s || any_where p (living_session g s); selected = λ s. g.selected s ++ sel s }
+    → read_simply g clock p never sel nothing ≡ record g
+    { clock = clock; over = λ s. g.over s || any_where p (living_session g s); selected = λ s. g.selected s ++ sel s }
 simply_selects g clock p sel = same_readings _ _ (record {
   clock = refl;
   made = refl;
@@ -209,7 +211,8 @@ simply_selects g clock p sel = same_readings _ _ (record {
 
 -- an entry by which sessions end, and others were heard of
 pub simply_parts : (g : Readings) (p h : Made → Bool)
-    → read_simply g g.clock p h nothing nothing ≡ record g { over = λ s. g.over s || any_where p (living_session g s); heard = λ s. cond (any_where h (living_session g s)) g.clock (g.heard s) }
+    → read_simply g g.clock p h nothing nothing ≡ record g
+    { over = λ s. g.over s || any_where p (living_session g s); heard = λ s. cond (any_where h (living_session g s)) g.clock (g.heard s) }
 simply_parts g p h = same_readings _ _ (record {
   clock = refl;
   made = refl;
@@ -259,6 +262,7 @@ changes_within c g e new a made played heard numbers clock packets pulled stays 
   front = λ t. ap (λ p. with_place g p t) placing;
   tune = λ f. ap (λ p. cond (tunes_front p f) ((g.tune f + 1) % 2 ^ 64) (g.tune f)) placing;
   mux = λ f. ap (λ p. cond (tunes_front p f) (mux_in c p) (g.mux f)) placing;
-  selected = λ s. ap (λ ps. g.selected s ++ cond (any_where (is_selected g e.event) (living_session g s)) ps []) packets ∙ nothing_more (g.selected s) _ (sym (either_way [] (any_where (is_selected g e.event) (living_session g s))));
+  selected = λ s. ap (λ ps. g.selected s ++ cond (any_where (is_selected g e.event) (living_session g s)) ps []) packets
+      ∙ nothing_more (g.selected s) _ (sym (either_way [] (any_where (is_selected g e.event) (living_session g s))));
   pulled = λ s. nothing_more (g.pulled s) (pulled_by e s) (pulled s);
 })

@@ -43,7 +43,8 @@ ends_false true false z e = refl
 ends_false false y z e = refl
 
 -- the session that a request names was heard of
-pub agrees_heard_by : (c : Config) (st : State) (g : Readings) (peer : Peer) (draw : Draw) (r : Request) → Agrees c st g → Agrees c (heard_by r st) (heard_read (keeps_alive (Asked peer draw r)) g)
+pub agrees_heard_by : (c : Config) (st : State) (g : Readings) (peer : Peer) (draw : Draw) (r : Request) → Agrees c st g
+    → Agrees c (heard_by r st) (heard_read (keeps_alive (Asked peer draw r)) g)
 agrees_heard_by c st g peer draw r a = by (named_in g r.session) (session_named st r.session) refl (named_match c st g a r.session)
   where
     keeps : Made → Bool
@@ -52,18 +53,22 @@ agrees_heard_by c st g peer draw r a = by (named_in g r.session) (session_named 
     quiet : ((m : Made) → Has m (living g) → keeps m ≡ false) → Agrees c st (heard_read keeps g)
     quiet none = subst (Agrees c st) (sym (heard_never g keeps none)) a
 
-    one : (m : Made) (s : Session) → named_in g r.session ≡ Some m → Same g m s → (b : Bool) → is_none r.refusal ≡ b → Agrees c (cond b (hear s.id st) st) (heard_read keeps g)
+    one : (m : Made) (s : Session) → named_in g r.session ≡ Some m → Same g m s → (b : Bool) → is_none r.refusal ≡ b
+        → Agrees c (cond b (hear s.id st) st) (heard_read keeps g)
     one m s e same true f = agrees_heard c st g keeps (is_session s.id)
-        (λ k t h i. middle_true (not k.http) (is_none r.refusal) (names r.session k.id) f ∙ rtsp_named g a.loosely.told r.session m e k h ∙ names_it g a.loosely.told r.session m s.id e same.id k t h i) a
+        (λ k t h i. middle_true (not k.http) (is_none r.refusal) (names r.session k.id) f ∙ rtsp_named g a.loosely.told r.session m e k h
+        ∙ names_it g a.loosely.told r.session m s.id e same.id k t h i) a
     one m s e same false f = quiet (λ k h. middle_false (not k.http) (is_none r.refusal) (names r.session k.id) f)
 
-    by : (o : Option Made) (q : Option Session) → named_in g r.session ≡ o → Matched g o q → Agrees c (option_map_or (λ s. cond (is_none r.refusal) (hear s.id st) st) q st) (heard_read keeps g)
+    by : (o : Option Made) (q : Option Session) → named_in g r.session ≡ o → Matched g o q
+        → Agrees c (option_map_or (λ s. cond (is_none r.refusal) (hear s.id st) st) q st) (heard_read keeps g)
     by None None e same = quiet (λ k h. ends_false (not k.http) (is_none r.refusal) (names r.session k.id) (none_named g r.session e k h))
     by None (Some s) e same = absurd same
     by (Some m) None e same = absurd same
     by (Some m) (Some s) e same = one m s e same (is_none r.refusal) refl
 
-module _ (c : Config) (st : State) (g : Readings) (a : Agrees c st g) (caller : ℕ) (peer : Peer) (draw : Draw) (r : Request) (answer : Answer) (out : Output) where
+module _ (c : Config) (st : State) (g : Readings) (a : Agrees c st g) (caller : ℕ) (peer : Peer) (draw : Draw) (r : Request) (answer : Answer)
+    (out : Output) where
   abbrev pub ev : Event
   ev = Asked peer draw r
 
@@ -80,7 +85,8 @@ module _ (c : Config) (st : State) (g : Readings) (a : Agrees c st g) (caller : 
   heard_agrees = agrees_heard_by c st g peer draw r a
 
   -- an entry that makes no session and changes no stream
-  pub hears_read : (p : Made → Bool) → makes g e ≡ None → asking g e ≡ None → ((s : SessionId) → starts_playing e s ≡ false) → ((m : Made) → Has m (living g) → ends c g e m ≡ p m)
+  pub hears_read : (p : Made → Bool) → makes g e ≡ None → asking g e ≡ None → ((s : SessionId) → starts_playing e s ≡ false)
+      → ((m : Made) → Has m (living g) → ends c g e m ≡ p m)
       → read_one c g e ≡ over_read p g_heard
   hears_read p none still starts ended =
       read_other c g e none still starts
@@ -111,7 +117,8 @@ module _ (c : Config) (st : State) (g : Readings) (a : Agrees c st g) (caller : 
 
   -- a request that changes no stream
   pub no_change : changes r.method ≡ false → asking g e ≡ None
-  no_change still = ap (λ b. cond (is_accepted answer) (option_and_then (λ m. option_map (λ q. record { home = m.home; query = q }) (cond b (Some r.query) None)) (session_in g ev)) None) still
+  no_change still = ap (λ b. cond (is_accepted answer)
+      (option_and_then (λ m. option_map (λ q. record { home = m.home; query = q }) (cond b (Some r.query) None)) (session_in g ev)) None) still
       ∙ by (is_accepted answer) (session_in g ev)
     where
       by : (b : Bool) (o : Option Made) → cond {A = Option Asking} b (option_and_then (λ m. None) o) None ≡ None
@@ -120,17 +127,20 @@ module _ (c : Config) (st : State) (g : Readings) (a : Agrees c st g) (caller : 
       by false o = refl
 
   pub no_session : is_setup r.method ≡ false → makes g e ≡ None
-  no_session other = ap (λ b. cond (is_accepted answer) (cond (b && names_none r.session) (Some (making g false home_made draw)) None) None) other ∙ sym (either_way None (is_accepted answer))
+  no_session other = ap (λ b. cond (is_accepted answer) (cond (b && names_none r.session) (Some (making g false home_made draw)) None) None) other
+      ∙ sym (either_way None (is_accepted answer))
 
   -- OPTIONS and DESCRIBE
-  pub agrees_told : is_setup r.method ≡ false → changes r.method ≡ false → is_teardown r.method ≡ false → is_play r.method ≡ false → Agrees c heard (read_one c g e)
+  pub agrees_told : is_setup r.method ≡ false → changes r.method ≡ false → is_teardown r.method ≡ false → is_play r.method ≡ false
+      → Agrees c heard (read_one c g e)
   agrees_told setup change teardown play = subst (Agrees c heard) (sym (hears_read never (no_session setup) (no_change change)
       (λ s. not_played s play) (λ m h. not_ended m teardown) ∙ over_never g_heard a.free)) heard_agrees
 
   -- TEARDOWN
   pub agrees_teardown : r.method ≡ Teardown → is_accepted answer ≡ true → Passes c st r
       → Agrees c (option_map_or (teardown_of r heard) (session_named heard r.session) (accepted (settle heard) [])).state (read_one c g e)
-  agrees_teardown method acc p = by (session_named heard r.session) (subst (λ o. Matched g_heard o (session_named heard r.session)) named.1 (named_match c heard g_heard heard_agrees r.session))
+  agrees_teardown method acc p = by (session_named heard r.session)
+      (subst (λ o. Matched g_heard o (session_named heard r.session)) named.1 (named_match c heard g_heard heard_agrees r.session))
     where
       named : (m : Made) × (named_in g r.session ≡ Some m)
       named = named_present c st g a r (needs_named st r (ap needs_session method) p.present) p.present
@@ -139,9 +149,12 @@ module _ (c : Config) (st : State) (g : Readings) (a : Agrees c st g) (caller : 
       ended m h = ap (λ b. b && is_teardown r.method && names r.session m.id) acc ∙ ap (λ b. b && names r.session m.id) (ap is_teardown method)
 
       read : read_one c g e ≡ over_read (λ m. names r.session m.id) g_heard
-      read = hears_read (λ m. names r.session m.id) (no_session (ap is_setup method)) (no_change (ap changes method)) (λ s. not_played s (ap is_play method)) ended
+      read = hears_read (λ m. names r.session m.id) (no_session (ap is_setup method)) (no_change (ap changes method))
+          (λ s. not_played s (ap is_play method)) ended
 
-      by : (q : Option Session) → Matched g_heard (Some named.0) q → Agrees c (option_map_or (teardown_of r heard) q (accepted (settle heard) [])).state (read_one c g e)
+      by : (q : Option Session) → Matched g_heard (Some named.0) q
+          → Agrees c (option_map_or (teardown_of r heard) q (accepted (settle heard) [])).state (read_one c g e)
       by None same = absurd same
       by (Some s) same = subst (Agrees c (end_where (is_session s.id) heard).state) (sym read)
-          (agrees_ended c heard g_heard (λ m. names r.session m.id) (is_session s.id) (λ k t h i. names_it g_heard heard_agrees.loosely.told r.session named.0 s.id named.1 same.id k t h i) heard_agrees)
+          (agrees_ended c heard g_heard (λ m. names r.session m.id) (is_session s.id)
+          (λ k t h i. names_it g_heard heard_agrees.loosely.told r.session named.0 s.id named.1 same.id k t h i) heard_agrees)

@@ -32,7 +32,8 @@ use Rattle.satip_readings.proofs.Asking.{changing_read, asks, outlook_added, pla
 
 -- a session that is made and a stream that changes
 
-ready_added : (c : Config) (g g2 : Readings) (new : Made) (query : Query) → living g2 ≡ living g ++ new ∷ [] → g2.front ≡ g.front → g2.mux ≡ g.mux → g2.tuned ≡ g.tuned → IsReady c g new.home query → IsReady c g2 new.home query
+ready_added : (c : Config) (g g2 : Readings) (new : Made) (query : Query) → living g2 ≡ living g ++ new ∷ [] → g2.front ≡ g.front → g2.mux ≡ g.mux
+    → g2.tuned ≡ g.tuned → IsReady c g new.home query → IsReady c g2 new.home query
 ready_added c g g2 new query lives front mux tuned ready tuning set =
     ap (λ o. is_some (choose o (mux_of c.muxes tuning) tuning)) (sym (outlook_added c g g2 new lives front mux))
     ∙ ready tuning (ap (λ t. to_set (t new.home) query.change) (sym tuned) ∙ set)
@@ -45,13 +46,17 @@ module _ (c : Config) (st : State) (g : Readings) (a : Agrees c st g) (http : Bo
   founded_read = added_read g founding (put (next_made g draw.word) (least_free st.streams) g.number)
 
   pub founded_lives : living founded_read ≡ living g ++ founding ∷ []
-  founded_lives = living_added c st g a http peer draw ports (next_made g draw.word) (put (next_made g draw.word) (least_free st.streams) g.number) (founded_numbered c st g a http peer draw ports)
+  founded_lives = living_added c st g a http peer draw ports (next_made g draw.word) (put (next_made g draw.word) (least_free st.streams) g.number)
+      (founded_numbered c st g a http peer draw ports)
 
   pub agrees_founds : IsReady c g (next_made g draw.word) query
-      → Agrees c (change_by c (least_free st.streams) query (found http peer draw ports st)).state (changed_read c founded_read (record { home = next_made g draw.word; query = query }))
-  agrees_founds ready = subst (λ n. Agrees c (change_by c n query (found http peer draw ports st)).state (changed_read c founded_read (record { home = next_made g draw.word; query = query })))
+      → Agrees c (change_by c (least_free st.streams) query (found http peer draw ports st)).state
+      (changed_read c founded_read (record { home = next_made g draw.word; query = query }))
+  agrees_founds ready = subst (λ n. Agrees c (change_by c n query (found http peer draw ports st)).state
+      (changed_read c founded_read (record { home = next_made g draw.word; query = query })))
       (id_number c st g a http peer draw ports)
-      (agrees_change_by c (found http peer draw ports st) founded_read founding query (subst (Has founding) (sym founded_lives) (has_right founding (living g) (founding ∷ []) (inl refl)))
+      (agrees_change_by c (found http peer draw ports st) founded_read founding query
+      (subst (Has founding) (sym founded_lives) (has_right founding (living g) (founding ∷ []) (inl refl)))
       (ready_added c g founded_read founding query founded_lives refl refl refl ready)
       (agrees_founded c st g a http peer draw ports))
 
@@ -65,9 +70,11 @@ module _ (c : Config) (st : State) (g : Readings) (a : Agrees c st g) (http : Bo
   joined_lives m h = living_added c st g a http peer draw ports m.home g.number (joined_numbered c st g a http peer draw ports m h)
 
   pub agrees_joins : (m : Made) → Has m (living g) → IsReady c g m.home query
-      → Agrees c (change_by c (g.number m.home) query (join http peer draw ports (g.number m.home) st)).state (changed_read c (joined_read m) (record { home = m.home; query = query }))
+      → Agrees c (change_by c (g.number m.home) query (join http peer draw ports (g.number m.home) st)).state
+      (changed_read c (joined_read m) (record { home = m.home; query = query }))
   agrees_joins m h ready =
-      agrees_change_by c (join http peer draw ports (g.number m.home) st) (joined_read m) (joining m) query (subst (Has (joining m)) (sym (joined_lives m h)) (has_right (joining m) (living g) (joining m ∷ []) (inl refl)))
+      agrees_change_by c (join http peer draw ports (g.number m.home) st) (joined_read m) (joining m) query
+      (subst (Has (joining m)) (sym (joined_lives m h)) (has_right (joining m) (living g) (joining m ∷ []) (inl refl)))
       (ready_added c g (joined_read m) (joining m) query (joined_lives m h) refl refl refl ready)
       (agrees_joined c st g a http peer draw ports m h)
 
@@ -79,10 +86,12 @@ founded_number c st g a http draw t =
     ∙ ap (λ n. put (next_made g draw.word) n g.number t) (number_is_free c st g a)
 
 -- that of a stream that is joined
-joined_number : (g : Readings) → IsTold g → (http : Bool) (draw : Draw) (m : Made) → Has m (living g) → (t : SessionId) → numbered g (Some (making g http m.home draw)) t ≡ g.number t
+joined_number : (g : Readings) → IsTold g → (http : Bool) (draw : Draw) (m : Made) → Has m (living g) → (t : SessionId)
+    → numbered g (Some (making g http m.home draw)) t ≡ g.number t
 joined_number g told http draw m h t =
     ap (λ b. cond b (put (next_made g draw.word) (number_free g) g.number) g.number t)
-    (id_other m.home (next_made g draw.word) (λ i. let few = told.homes m h in let same : m.home.count ≡ length g.made + 1 = ap (λ x. x.count) i in omega arith))
+    (id_other m.home (next_made g draw.word) (λ i. let few = told.homes m h in
+    let same : m.home.count ≡ length g.made + 1 = ap (λ x. x.count) i in omega arith))
 
 module _ (c : Config) (st : State) (g : Readings) (a : Agrees c st g) (caller : ℕ) (peer : Peer) (draw : Draw) (r : Request) (answer : Answer) (out : Output)
     (acc : is_accepted answer ≡ true) (p : Passes c st r) (method : r.method ≡ Setup) where
@@ -114,19 +123,23 @@ module _ (c : Config) (st : State) (g : Readings) (a : Agrees c st g) (caller : 
   looks = ap (λ x. is_setup x || needs_session x) method
 
   unplayed : (s : SessionId) → (g.played s || (any_where (λ m. not m.http) (living_session g s) && starts_playing entry s)) ≡ g.played s
-  unplayed s = or_never (g.played s) (any_where (λ m. not m.http) (living_session g s)) (starts_playing entry s) (not_played c st g a caller peer draw r answer out s (ap is_play method))
+  unplayed s = or_never (g.played s) (any_where (λ m. not m.http) (living_session g s)) (starts_playing entry s)
+      (not_played c st g a caller peer draw r answer out s (ap is_play method))
 
   -- of a session that lives
-  in_place : (m : Made) → named_in g r.session ≡ Some m → names_none r.session ≡ false → (q : Option Session) → Matched g1 (Some m) q → (k : Option ℕ) → r.stream ≡ k → is_none k ≡ false
+  in_place : (m : Made) → named_in g r.session ≡ Some m → names_none r.session ≡ false → (q : Option Session) → Matched g1 (Some m) q → (k : Option ℕ)
+      → r.stream ≡ k → is_none k ≡ false
       → Agrees c (set_up_by q k).state (read_one c g entry)
   in_place m named no_name q same None is there = cc
   in_place m named no_name None same (Some n) is there = absurd same
   in_place m named no_name (Some s) same (Some n) is there =
       subst (Agrees c (set_up_by (Some s) (Some n)).state) (sym read)
-      (subst (λ x. Agrees c (change_by c x r.query (change_session s.id (λ y. record y { peer = peer; ports = ports }) now)).state (changed_read c g1 (record { home = m.home; query = r.query })))
+      (subst (λ x. Agrees c (change_by c x r.query (change_session s.id (λ y. record y { peer = peer; ports = ports }) now)).state
+      (changed_read c g1 (record { home = m.home; query = r.query })))
       (own_stream c st g a r p.own m named looks n is)
       (agrees_change_by c (change_session s.id (λ y. record y { peer = peer; ports = ports }) now) g1 m r.query facts.0 ready
-      (agrees_change c now g1 s.id (λ y. record y { peer = peer; ports = ports }) (λ x. record { id = refl; http = refl; stream = refl; playing = refl; heard = refl; ssrc = refl; first = refl; picked = refl; sizes = λ h. refl })
+      (agrees_change c now g1 s.id (λ y. record y { peer = peer; ports = ports })
+      (λ x. record { id = refl; http = refl; stream = refl; playing = refl; heard = refl; ssrc = refl; first = refl; picked = refl; sizes = λ h. refl })
       (heard_agrees c st g a caller peer draw r answer out))))
     where
       facts : Has m (living g) × (names r.session m.id ≡ true) × (m.http ≡ false)
@@ -137,10 +150,13 @@ module _ (c : Config) (st : State) (g : Readings) (a : Agrees c st g) (caller : 
 
       read : read_one c g entry ≡ changed_read c g1 (record { home = m.home; query = r.query })
       read = changing_read c st g a caller peer draw r answer out acc p None m.home g.made g.played g1.heard g.number
-          (ap (λ b. cond (is_accepted answer) (cond (is_setup r.method && b) (Some (making g false (home_made c st g a caller peer draw r answer out) draw)) None) None) no_name
-          ∙ ap (λ b. cond (is_accepted answer) (cond (b && false) (Some (making g false (home_made c st g a caller peer draw r answer out) draw)) None) None) setup_is
+          (ap (λ b. cond (is_accepted answer)
+          (cond (is_setup r.method && b) (Some (making g false (home_made c st g a caller peer draw r answer out) draw)) None) None) no_name
+          ∙ ap (λ b. cond (is_accepted answer) (cond (b && false) (Some (making g false (home_made c st g a caller peer draw r answer out) draw)) None) None)
+          setup_is
           ∙ sym (either_way None (is_accepted answer)))
-          (asks c st g a caller peer draw r answer out acc p None m (ap changes method) (ap (λ b. cond b (made_by g event) (named_in g r.session)) no_name ∙ named))
+          (asks c st g a caller peer draw r answer out acc p None m (ap changes method)
+          (ap (λ b. cond b (made_by g event) (named_in g r.session)) no_name ∙ named))
           (ap is_teardown method) (append-nil g.made) unplayed (λ s. refl) (λ t. refl) refl
 
   -- of a session that is made
@@ -149,17 +165,21 @@ module _ (c : Config) (st : State) (g : Readings) (a : Agrees c st g) (caller : 
   made_is none = ap (λ b. cond (b && names_none r.session) (Some (making g false (home_made c st g a caller peer draw r answer out) draw)) None) setup_is
       ∙ ap (λ b. cond b (Some (making g false (home_made c st g a caller peer draw r answer out) draw)) None) none
 
-  makes_it : (home : SessionId) → names_none r.session ≡ true → home_made c st g a caller peer draw r answer out ≡ home → makes g entry ≡ Some (making g false home draw)
+  makes_it : (home : SessionId) → names_none r.session ≡ true → home_made c st g a caller peer draw r answer out ≡ home
+      → makes g entry ≡ Some (making g false home draw)
   makes_it home none is = ap (λ b. cond b (made_by g event) None) acc ∙ made_is none ∙ ap (λ x. Some (making g false x draw)) is
 
-  asks_it : (home : SessionId) → names_none r.session ≡ true → home_made c st g a caller peer draw r answer out ≡ home → asking g entry ≡ Some (record { home = home; query = r.query })
+  asks_it : (home : SessionId) → names_none r.session ≡ true → home_made c st g a caller peer draw r answer out ≡ home
+      → asking g entry ≡ Some (record { home = home; query = r.query })
   asks_it home none is = asks c st g a caller peer draw r answer out acc p None (making g false home draw) (ap changes method)
       (ap (λ b. cond b (made_by g event) (named_in g r.session)) none ∙ made_is none ∙ ap (λ x. Some (making g false x draw)) is)
 
-  joined : names_none r.session ≡ true → (n : ℕ) → r.stream ≡ Some n → (m : Made) → Has m (living g) → home_of_number g n ≡ Some m.home → g.number m.home ≡ n → Agrees c (set_up_by None (Some n)).state (read_one c g entry)
+  joined : names_none r.session ≡ true → (n : ℕ) → r.stream ≡ Some n → (m : Made) → Has m (living g) → home_of_number g n ≡ Some m.home → g.number m.home ≡ n
+      → Agrees c (set_up_by None (Some n)).state (read_one c g entry)
   joined none n is m h home number =
       subst (Agrees c (set_up_by None (Some n)).state) (sym read)
-      (subst (λ x. Agrees c (change_by c x r.query (join false peer draw ports x now)).state (changed_read c (joined_read c now g1 a1 false peer draw ports r.query m) (record { home = m.home; query = r.query }))) number
+      (subst (λ x. Agrees c (change_by c x r.query (join false peer draw ports x now)).state
+      (changed_read c (joined_read c now g1 a1 false peer draw ports r.query m) (record { home = m.home; query = r.query }))) number
       (agrees_joins c now g1 a1 false peer draw ports r.query m h ready))
     where
       a1 : Agrees c now g1
@@ -175,11 +195,13 @@ module _ (c : Config) (st : State) (g : Readings) (a : Agrees c st g) (caller : 
       home_is = ap (λ o. unwrap_or (option_and_then (home_of_number g) o) (next_made g draw.word)) is ∙ ap (λ o. unwrap_or o (next_made g draw.word)) home
 
       read : read_one c g entry ≡ changed_read c (joined_read c now g1 a1 false peer draw ports r.query m) (record { home = m.home; query = r.query })
-      read = changing_read c st g a caller peer draw r answer out acc p (Some new) m.home (g.made ++ new ∷ []) g.played (λ s. cond (same_id new.id s) g.clock (g1.heard s)) g.number
+      read = changing_read c st g a caller peer draw r answer out acc p (Some new) m.home (g.made ++ new ∷ []) g.played
+          (λ s. cond (same_id new.id s) g.clock (g1.heard s)) g.number
           (makes_it m.home none home_is) (asks_it m.home none home_is) (ap is_teardown method) refl unplayed
           (λ s. cond_both (same_id new.id s) (any_where (keeps_alive event) (living_session g s)) g.clock (g.heard s))
           (joined_number g a.loosely.told false draw m h)
-          (placing_added c g (joined_read c now g1 a1 false peer draw ports r.query m) new r.query (joined_lives c now g1 a1 false peer draw ports r.query m h) refl refl refl)
+          (placing_added c g (joined_read c now g1 a1 false peer draw ports r.query m) new r.query (joined_lives c now g1 a1 false peer draw ports r.query m h)
+          refl refl refl)
 
   founded : names_none r.session ≡ true → r.stream ≡ None → Agrees c (set_up_by None None).state (read_one c g entry)
   founded none is =
@@ -195,7 +217,8 @@ module _ (c : Config) (st : State) (g : Readings) (a : Agrees c st g) (caller : 
       new = making g false id draw
 
       meant : stream_meant st r ≡ None
-      meant = ap (λ o. option_and_then (stream_of st) (cond (is_some o) o (cond (needs_session r.method) (option_map (λ s. s.stream) (session_named st r.session)) None))) is
+      meant = ap (λ o. option_and_then (stream_of st)
+          (cond (is_some o) o (cond (needs_session r.method) (option_map (λ s. s.stream) (session_named st r.session)) None))) is
           ∙ ap (λ b. option_and_then (stream_of st) (cond b (option_map (λ s. s.stream) (session_named st r.session)) None)) (ap needs_session method)
 
       ready : IsReady c g id r.query
@@ -205,11 +228,13 @@ module _ (c : Config) (st : State) (g : Readings) (a : Agrees c st g) (caller : 
       home_is = ap (λ o. unwrap_or (option_and_then (home_of_number g) o) id) is
 
       read : read_one c g entry ≡ changed_read c (founded_read c now g1 a1 false peer draw ports r.query) (record { home = id; query = r.query })
-      read = changing_read c st g a caller peer draw r answer out acc p (Some new) id (g.made ++ new ∷ []) g.played (λ s. cond (same_id new.id s) g.clock (g1.heard s)) (put id (least_free now.streams) g.number)
+      read = changing_read c st g a caller peer draw r answer out acc p (Some new) id (g.made ++ new ∷ []) g.played
+          (λ s. cond (same_id new.id s) g.clock (g1.heard s)) (put id (least_free now.streams) g.number)
           (makes_it id none home_is) (asks_it id none home_is) (ap is_teardown method) refl unplayed
           (λ s. cond_both (same_id new.id s) (any_where (keeps_alive event) (living_session g s)) g.clock (g.heard s))
           (founded_number c now g1 a1 false draw)
-          (placing_added c g (founded_read c now g1 a1 false peer draw ports r.query) new r.query (founded_lives c now g1 a1 false peer draw ports r.query) refl refl refl)
+          (placing_added c g (founded_read c now g1 a1 false peer draw ports r.query) new r.query (founded_lives c now g1 a1 false peer draw ports r.query)
+          refl refl refl)
 
   -- SETUP
   pub agrees_setup : Agrees c (set_up_by (session_named now r.session) r.stream).state (read_one c g entry)
@@ -219,10 +244,12 @@ module _ (c : Config) (st : State) (g : Readings) (a : Agrees c st g) (caller : 
       complete named = sym (ap (λ b. b && not (names_none r.session) && is_none r.stream) setup_is ∙ ap (λ b. not b && is_none r.stream) named) ∙ p.complete
 
       there : (n : ℕ) → r.stream ≡ Some n → is_none (stream_of st n) ≡ false
-      there n is = sym (ap (λ x. looks_at_stream x && option_map_or (λ number. is_none (stream_of st number)) r.stream (is_describe x && length st.streams == 0)) method
+      there n is = sym (ap (λ x. looks_at_stream x && option_map_or (λ number. is_none (stream_of st number)) r.stream
+          (is_describe x && length st.streams == 0)) method
           ∙ ap (λ o. option_map_or (λ number. is_none (stream_of st number)) o (false && length st.streams == 0)) is) ∙ p.there
 
-      home : (n : ℕ) → (o : Option SessionId) → home_of_number g n ≡ o → is_none (option_map (stream_told g) o) ≡ false → (m : Made) × Has m (living g) × (home_of_number g n ≡ Some m.home) × (g.number m.home ≡ n)
+      home : (n : ℕ) → (o : Option SessionId) → home_of_number g n ≡ o → is_none (option_map (stream_told g) o) ≡ false
+          → (m : Made) × Has m (living g) × (home_of_number g n ≡ Some m.home) × (g.number m.home ≡ n)
       home n None f e = cc
       home n (Some h) f e = let m = home_has g a.loosely.told n h f in (m.0, m.1, f ∙ ap Some (sym m.2), m.3)
 
@@ -235,12 +262,14 @@ module _ (c : Config) (st : State) (g : Readings) (a : Agrees c st g) (caller : 
       by false no_name =
           let named = named_present c st g a r no_name p.present in
           in_place named.0 named.1 no_name (session_named now r.session)
-          (subst (λ o. Matched g1 o (session_named now r.session)) named.1 (named_match c now g1 (heard_agrees c st g a caller peer draw r answer out) r.session))
+          (subst (λ o. Matched g1 o (session_named now r.session)) named.1
+          (named_match c now g1 (heard_agrees c st g a caller peer draw r answer out) r.session))
           r.stream refl (complete no_name)
 
 -- GET
 
-pub agrees_start : (c : Config) (st : State) (g : Readings) (caller : ℕ) (peer : Peer) (draw : Draw) (r : HttpRequest) (answer : Answer) (out : Output) → Agrees c st g
+pub agrees_start : (c : Config) (st : State) (g : Readings) (caller : ℕ) (peer : Peer) (draw : Draw) (r : HttpRequest) (answer : Answer) (out : Output)
+    → Agrees c st g
     → is_accepted answer ≡ true → decide_get c st r ≡ None → Agrees c (start c peer draw r st).state (read_one c g (item caller (Got peer draw r) answer out))
 agrees_start c st g caller peer draw r answer out a acc passed =
     subst (Agrees c (start c peer draw r st).state) (sym read) (agrees_founds c st g a true peer draw no_ports r.query ready)
@@ -268,9 +297,12 @@ agrees_start c st g caller peer draw r answer out a acc passed =
     read : read_one c g entry ≡ changed_read c (founded_read c st g a true peer draw no_ports r.query) (record { home = id; query = r.query })
     read = ap (λ o. frees (read_within c g entry o (asking g entry))) (ap (λ b. cond b (Some new) None) acc)
         ∙ ap (λ o. frees (read_within c g entry (Some new) o)) (ap (λ b. cond b (Some (record { home = id; query = r.query })) None) acc)
-        ∙ ap frees (changes_within c g entry (Some new) (record { home = id; query = r.query }) (g.made ++ new ∷ []) g.played (λ s. cond (same_id new.id s) g.clock (g.heard s)) (put id (least_free st.streams) g.number)
+        ∙ ap frees (changes_within c g entry (Some new) (record { home = id; query = r.query }) (g.made ++ new ∷ []) g.played
+        (λ s. cond (same_id new.id s) g.clock (g.heard s)) (put id (least_free st.streams) g.number)
         refl refl (λ s. refl) (λ s. never_ends (living_session g s)) refl
         (λ s. or_never (g.played s) (any_where (λ m. not m.http) (living_session g s)) (starts_playing entry s) (either_false (is_accepted answer)))
-        (λ s. cond_both (same_id new.id s) (any_where (keeps_alive (Got peer draw r)) (living_session g s)) g.clock (g.heard s) ∙ ap (λ b. cond (same_id new.id s) g.clock (cond b g.clock (g.heard s))) (never_alive (living_session g s)))
+        (λ s. cond_both (same_id new.id s) (any_where (keeps_alive (Got peer draw r)) (living_session g s)) g.clock (g.heard s)
+        ∙ ap (λ b. cond (same_id new.id s) g.clock (cond b g.clock (g.heard s))) (never_alive (living_session g s)))
         (founded_number c st g a true draw)
-        (placing_added c g (founded_read c st g a true peer draw no_ports r.query) new r.query (founded_lives c st g a true peer draw no_ports r.query) refl refl refl))
+        (placing_added c g (founded_read c st g a true peer draw no_ports r.query) new r.query (founded_lives c st g a true peer draw no_ports r.query)
+        refl refl refl))

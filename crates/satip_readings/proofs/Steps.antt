@@ -38,7 +38,8 @@ use Rattle.satip_readings.proofs.SettingUp.{agrees_setup, agrees_start}
 
 -- requests
 
-module _ (c : Config) (st : State) (g : Readings) (a : Agrees c st g) (caller : ℕ) (peer : Peer) (draw : Draw) (r : Request) (answer : Answer) (out : Output) where
+module _ (c : Config) (st : State) (g : Readings) (a : Agrees c st g) (caller : ℕ) (peer : Peer) (draw : Draw) (r : Request) (answer : Answer)
+    (out : Output) where
   abbrev entry : Item
   entry = item caller (Asked peer draw r) answer out
 
@@ -78,7 +79,8 @@ module _ (c : Config) (st : State) (g : Readings) (a : Agrees c st g) (caller : 
 
 -- GETs
 
-module _ (c : Config) (g : Readings) (free : (f : ℕ) → serves g f ≡ false → g.mux f ≡ None) (caller : ℕ) (peer : Peer) (draw : Draw) (r : HttpRequest) (answer : Answer) (out : Output) where
+module _ (c : Config) (g : Readings) (free : (f : ℕ) → serves g f ≡ false → g.mux f ≡ None) (caller : ℕ) (peer : Peer) (draw : Draw) (r : HttpRequest)
+    (answer : Answer) (out : Output) where
   abbrev entry_get : Item
   entry_get = item caller (Got peer draw r) answer out
 
@@ -88,19 +90,24 @@ module _ (c : Config) (g : Readings) (free : (f : ℕ) → serves g f ≡ false 
       (ap (λ b. cond {A = Option Asking} b asked_get None) refused)
       (λ s. ap (λ b. b && false) refused)
       ∙ ap frees (simply_same g g.clock (ends c g entry_get) (keeps_alive entry_get.event) never never
-      (λ s. cond {A = List (List ℕ)} (any_where (is_selected g entry_get.event) (living_session g s)) [] []) (pulled_by entry_get) nothing nothing (λ m h. refl) (λ m h. refl)
+      (λ s. cond {A = List (List ℕ)} (any_where (is_selected g entry_get.event) (living_session g s)) [] []) (pulled_by entry_get) nothing nothing
+      (λ m h. refl) (λ m h. refl)
       (λ s. sym (either_way [] (any_where (is_selected g entry_get.event) (living_session g s)))) (λ s. refl) ∙ simply_still g) ∙ freed_same g free
     where
       asked_get : Option Asking
       asked_get = Some (record { home = next_made g draw.word; query = r.query })
 
-agrees_get : (c : Config) (st : State) (g : Readings) (caller : ℕ) (peer : Peer) (draw : Draw) (r : HttpRequest) (answer : Answer) (out : Output) → Agrees c st g
-    → Fits (on_get c peer draw r st) (item caller (Got peer draw r) answer out) → Agrees c (on_get c peer draw r st).state (read_one c g (item caller (Got peer draw r) answer out))
+agrees_get : (c : Config) (st : State) (g : Readings) (caller : ℕ) (peer : Peer) (draw : Draw) (r : HttpRequest) (answer : Answer) (out : Output)
+    → Agrees c st g
+    → Fits (on_get c peer draw r st) (item caller (Got peer draw r) answer out)
+    → Agrees c (on_get c peer draw r st).state (read_one c g (item caller (Got peer draw r) answer out))
 agrees_get c st g caller peer draw r answer out a fits = by (decide_get c st r) refl fits.answer
   where
     by : (o : Option Refused) → decide_get c st r ≡ o
-        → answer ≡ (option_map_or (λ refused. outcome (settle st) (Get (GetRefused refused.status)) (http_refusal refused.status refused.body)) o (start c peer draw r st)).answer
-        → Agrees c (option_map_or (λ refused. outcome (settle st) (Get (GetRefused refused.status)) (http_refusal refused.status refused.body)) o (start c peer draw r st)).state
+        → answer ≡ (option_map_or (λ refused. outcome (settle st) (Get (GetRefused refused.status)) (http_refusal refused.status refused.body)) o
+        (start c peer draw r st)).answer
+        → Agrees c (option_map_or (λ refused. outcome (settle st) (Get (GetRefused refused.status)) (http_refusal refused.status refused.body)) o
+        (start c peer draw r st)).state
         (read_one c g (item caller (Got peer draw r) answer out))
     by (Some x) e is = subst (Agrees c st) (sym (refused_get c g a.free caller peer draw r answer out (ap is_accepted is))) a
     by None e is = agrees_start c st g caller peer draw r answer out a (ap is_accepted is) e
@@ -113,11 +120,14 @@ module _ (c : Config) (st : State) (g : Readings) (a : Agrees c st g) (caller fr
 
   stale_read : is_current st front tune ≡ false → read_one c g entry_packet ≡ g
   stale_read stale =
-      read_other c g entry_packet (sym (either_way None (is_accepted answer))) (sym (either_way None (is_accepted answer))) (λ s. either_false (is_accepted answer))
+      read_other c g entry_packet (sym (either_way None (is_accepted answer))) (sym (either_way None (is_accepted answer)))
+      (λ s. either_false (is_accepted answer))
       ∙ ap frees (simply_same g g.clock (ends c g entry_packet) (keeps_alive entry_packet.event) never never
-      (λ s. cond {A = List (List ℕ)} (any_where (is_selected g entry_packet.event) (living_session g s)) (packet ∷ []) []) (pulled_by entry_packet) nothing nothing
+      (λ s. cond {A = List (List ℕ)} (any_where (is_selected g entry_packet.event) (living_session g s)) (packet ∷ []) []) (pulled_by entry_packet)
+      nothing nothing
       (λ m h. middle_false m.http (is_selected g entry_packet.event m) _ (not_selected m h)) (λ m h. refl)
-      (λ s. ap (λ b. cond {A = List (List ℕ)} b (packet ∷ []) []) (where_never (is_selected g entry_packet.event) (living_session g s) (λ m f. not_selected m (found_living g s m f).0)))
+      (λ s. ap (λ b. cond {A = List (List ℕ)} b (packet ∷ []) [])
+      (where_never (is_selected g entry_packet.event) (living_session g s) (λ m f. not_selected m (found_living g s m f).0)))
       (λ s. refl) ∙ simply_still g) ∙ freed_same g a.free
     where
       not_selected : (m : Made) → Has m (living g) → is_selected g (Packet front tune packet) m ≡ false
@@ -142,25 +152,36 @@ agrees_stopped c st g a = record {
     tunes = a.loosely.tunes;
     muxes = a.loosely.muxes;
     told = a.loosely.told;
-    kept = record { apart = a.loosely.kept.apart; once = a.loosely.kept.once; positive = a.loosely.kept.positive; few = a.loosely.kept.few; rows = a.loosely.kept.rows; placed = a.loosely.kept.placed };
+    kept = record {
+      apart = a.loosely.kept.apart;
+      once = a.loosely.kept.once;
+      positive = a.loosely.kept.positive;
+      few = a.loosely.kept.few;
+      rows = a.loosely.kept.rows;
+      placed = a.loosely.kept.placed;
+    };
   };
   streams = a.streams;
   free = a.free;
 }
 
-by_event : (c : Config) (st : State) (g : Readings) (caller : ℕ) (answer : Answer) (out : Output) → Agrees c st g → (event : Event) → IsEvent event → Fits (step c st event) (item caller event answer out)
+by_event : (c : Config) (st : State) (g : Readings) (caller : ℕ) (answer : Answer) (out : Output) → Agrees c st g → (event : Event) → IsEvent event
+    → Fits (step c st event) (item caller event answer out)
     → Agrees c (step c st event).state (read_one c g (item caller event answer out))
 by_event c st g caller answer out a (Asked peer draw r) is fits = agrees_request c st g a caller peer draw r answer out fits
 by_event c st g caller answer out a (Got peer draw r) is fits = agrees_get c st g caller peer draw r answer out a fits
 by_event c st g caller answer out a (Tick now) is fits = agrees_tick c st g caller now answer out a
 by_event c st g caller answer out a (Packet front tune packet) is fits = agrees_packet c st g a caller front tune packet answer out is.2.packet_is
 by_event c st g caller answer out a (Ended front tune) is fits =
-    subst (Agrees c (step c st (Ended front tune)).state) (sym (ended_read c g a.free caller answer out front tune)) (agrees_ended_row c st g (λ r. is_current st front tune && r.number == front) a)
+    subst (Agrees c (step c st (Ended front tune)).state) (sym (ended_read c g a.free caller answer out front tune))
+    (agrees_ended_row c st g (λ r. is_current st front tune && r.number == front) a)
 by_event c st g caller answer out a (Ask front) is fits = subst (Agrees c st) (sym (ask_read c g a.free caller answer out front)) a
 by_event c st g caller answer out a (Pull id) is fits = agrees_pull c st g a caller answer out id fits
 by_event c st g caller answer out a (Close id) is fits = agrees_close c st g caller answer out id a
-by_event c st g caller answer out a Stop is fits = subst (Agrees c (record st { stopped = true })) (sym (stop_read c g a.free caller answer out)) (agrees_stopped c st g a)
+by_event c st g caller answer out a Stop is fits =
+    subst (Agrees c (record st { stopped = true })) (sym (stop_read c g a.free caller answer out)) (agrees_stopped c st g a)
 
 -- a legal entry leaves state and readings in agreement
-pub agrees_step : (c : Config) (st : State) (g : Readings) (e : Item) → IsEvent e.event → Fits (step c st e.event) e → Agrees c st g → Agrees c (step c st e.event).state (read_one c g e)
+pub agrees_step : (c : Config) (st : State) (g : Readings) (e : Item) → IsEvent e.event → Fits (step c st e.event) e → Agrees c st g
+    → Agrees c (step c st e.event).state (read_one c g e)
 agrees_step c st g e is fits a = by_event c st g e.caller e.answer e.out a e.event is fits

@@ -18,28 +18,38 @@ use Rattle.satip_readings.proofs.Quiet.{same_again}
 
 -- rows and streams that are changed where they stand
 
-pub row_map : (h : Row → Row) → ((r : Row) → (h r).number ≡ r.number) → (rows : List Row) (f : ℕ) → find (λ r. r.number == f) (map h rows) ≡ option_map h (find (λ r. r.number == f) rows)
-row_map h same rows f = find_map (λ (r : Row). r.number == f) h rows ∙ ap (option_map h) (find_agree (λ (r : Row). (h r).number == f) (λ (r : Row). r.number == f) rows (λ r k. ap (λ n. n == f) (same r)))
+pub row_map : (h : Row → Row) → ((r : Row) → (h r).number ≡ r.number) → (rows : List Row) (f : ℕ)
+    → find (λ r. r.number == f) (map h rows) ≡ option_map h (find (λ r. r.number == f) rows)
+row_map h same rows f = find_map (λ (r : Row). r.number == f) h rows
+    ∙ ap (option_map h) (find_agree (λ (r : Row). (h r).number == f) (λ (r : Row). r.number == f) rows (λ r k. ap (λ n. n == f) (same r)))
 
-pub rows_map : (h : Row → Row) → ((r : Row) → (h r).number ≡ r.number) → (rows : List Row) → map (λ (r : Row). r.number) (map h rows) ≡ map (λ (r : Row). r.number) rows
+pub rows_map : (h : Row → Row) → ((r : Row) → (h r).number ≡ r.number) → (rows : List Row)
+    → map (λ (r : Row). r.number) (map h rows) ≡ map (λ (r : Row). r.number) rows
 rows_map h same [] = refl
 rows_map h same (r ∷ rows) = ap (λ n. n ∷ map (λ (r : Row). r.number) (map h rows)) (same r) ∙ ap (λ ns. r.number ∷ ns) (rows_map h same rows)
 
-pub stream_map : (h : Stream → Stream) → ((t : Stream) → (h t).number ≡ t.number) → (ts : List Stream) (n : ℕ) → find (λ t. t.number == n) (map h ts) ≡ option_map h (find (λ t. t.number == n) ts)
-stream_map h same ts n = find_map (λ (t : Stream). t.number == n) h ts ∙ ap (option_map h) (find_agree (λ (t : Stream). (h t).number == n) (λ (t : Stream). t.number == n) ts (λ t k. ap (λ x. x == n) (same t)))
+pub stream_map : (h : Stream → Stream) → ((t : Stream) → (h t).number ≡ t.number) → (ts : List Stream) (n : ℕ)
+    → find (λ t. t.number == n) (map h ts) ≡ option_map h (find (λ t. t.number == n) ts)
+stream_map h same ts n = find_map (λ (t : Stream). t.number == n) h ts
+    ∙ ap (option_map h) (find_agree (λ (t : Stream). (h t).number == n) (λ (t : Stream). t.number == n) ts (λ t k. ap (λ x. x == n) (same t)))
 
 pub apart_filter : (p : Stream → Bool) (ts : List Stream) → Apart ts → Apart (filter p ts)
 apart_filter p [] apart = tt
 apart_filter p (t ∷ ts) apart = by (p t) (apart_filter p ts apart.1)
   where
     by : (b : Bool) → Apart (filter p ts) → Apart (cond b (t ∷ filter p ts) (filter p ts))
-    by true rest = (no_any (λ u. u.number == t.number) (filter p ts) (λ u h e. none_true (u.number == t.number) e (any_no (λ v. v.number == t.number) ts u apart.0 (filter_has p ts u h).0)), rest)
+    by true rest = (
+      no_any (λ u. u.number == t.number) (filter p ts)
+          (λ u h e. none_true (u.number == t.number) e (any_no (λ v. v.number == t.number) ts u apart.0 (filter_has p ts u h).0)),
+      rest,
+    )
     by false rest = rest
 
 pub apart_map : (h : Stream → Stream) → ((t : Stream) → (h t).number ≡ t.number) → (ts : List Stream) → Apart ts → Apart (map h ts)
 apart_map h same [] apart = tt
 apart_map h same (t ∷ ts) apart = (
-  any_map (λ u. u.number == (h t).number) h ts ∙ any_agree (λ u. (h u).number == (h t).number) (λ u. u.number == t.number) ts (λ u k. ap (λ n. n == (h t).number) (same u) ∙ ap (λ n. u.number == n) (same t)) ∙ apart.0,
+  any_map (λ u. u.number == (h t).number) h ts ∙ any_agree (λ u. (h u).number == (h t).number) (λ u. u.number == t.number) ts
+      (λ u k. ap (λ n. n == (h t).number) (same u) ∙ ap (λ n. u.number == n) (same t)) ∙ apart.0,
   apart_map h same ts apart.1,
 )
 
@@ -55,7 +65,8 @@ told_freed g told = record {
   numbers = told.numbers;
   few = told.few;
   homes = told.homes;
-  unmade = λ s above. let u = told.unmade s above in record { over = u.over; played = u.played; tuned = u.tuned; pids = u.pids; front = u.front; selected = u.selected; pulled = u.pulled };
+  unmade = λ s above. let u = told.unmade s above in
+      record { over = u.over; played = u.played; tuned = u.tuned; pids = u.pids; front = u.front; selected = u.selected; pulled = u.pulled };
   packets = told.packets;
 }
 
@@ -99,7 +110,8 @@ module _ (c : Config) (st : State) (g : Readings) (l : Loosely c st g) where
   lived_in n = alike_any g (λ m. g.number m.home == n) (λ s. s.stream == n) (living g) st.sessions (λ m s h e. ap (λ k. k == n) (sym e.stream)) l.sessions
 
   swept_streams : (n : ℕ) → stream_of (sweep st) n ≡ option_map (stream_told (frees g)) (home_of_number (frees g) n)
-  swept_streams n = find_filter (λ t. t.number == n) (λ t. list_any (λ s. s.stream == t.number) st.sessions) (list_any (λ s. s.stream == n) st.sessions) st.streams
+  swept_streams n = find_filter (λ t. t.number == n) (λ t. list_any (λ s. s.stream == t.number) st.sessions)
+      (list_any (λ s. s.stream == n) st.sessions) st.streams
       (λ t e. ap (λ k. list_any (λ s. s.stream == k) st.sessions) (eqb-true t.number n e)) ∙ by (find (λ m. g.number m.home == n) (living g)) refl
     where
       lives : (o : Option Made) → find (λ m. g.number m.home == n) (living g) ≡ o → list_any (λ s. s.stream == n) st.sessions ≡ is_some o
@@ -151,7 +163,8 @@ module _ (c : Config) (st : State) (g : Readings) (l : Loosely c st g) where
       by (Some r) e =
           let is : r.mux ≡ g.mux f = sym (ap (option_and_then (λ (r : Row). r.mux)) e) ∙ l.muxes f in
           let number : r.number ≡ f = eqb-true r.number f (find_has (λ (r : Row). r.number == f) st.rows r e).1 in
-          one r (list_any (λ t. is_at t.front r.number) kept_streams) is ∙ ap (λ b. cond b (g.mux f) None) (ap (λ n. list_any (λ t. is_at t.front n) kept_streams) number ∙ swept_served f)
+          one r (list_any (λ t. is_at t.front r.number) kept_streams) is
+          ∙ ap (λ b. cond b (g.mux f) None) (ap (λ n. list_any (λ t. is_at t.front n) kept_streams) number ∙ swept_served f)
 
   -- streams without sessions are gone, and front ends without streams are free
   pub agrees_swept : Agrees c (sweep st) (frees g)
@@ -184,13 +197,15 @@ not_either false b = refl
 
 pub living_over : (g : Readings) → IsTold g → (p : Made → Bool) → living (over_part p g) ≡ filter (λ m. not (p m)) (living g)
 living_over g told p =
-    filter_agree (λ m. not (g.over m.id || any_where p (living_session g m.id))) (λ m. not (g.over m.id) && not (any_where p (living_session g m.id))) g.made (λ m h. not_either (g.over m.id) (any_where p (living_session g m.id)))
+    filter_agree (λ m. not (g.over m.id || any_where p (living_session g m.id))) (λ m. not (g.over m.id) && not (any_where p (living_session g m.id))) g.made
+    (λ m h. not_either (g.over m.id) (any_where p (living_session g m.id)))
     ∙ sym (filter_twice (λ m. not (g.over m.id)) (λ m. not (any_where p (living_session g m.id))) g.made)
     ∙ filter_agree (λ m. not (any_where p (living_session g m.id))) (λ m. not (p m)) (living g) (λ m h. ap (λ o. not (any_where p o)) (living_found g told m h))
 
 -- an id that isn't made isn't that of a living session
 pub living_none : (g : Readings) → IsTold g → (s : SessionId) → length g.made < s.count → living_session g s ≡ None
-living_none g told s above = find_no (λ n. same_id n.id s) (living g) (λ n h e. let few = told.few n h in let same : n.id.count ≡ s.count = ap (λ x. x.count) (id_is n.id s e) in omega arith)
+living_none g told s above = find_no (λ n. same_id n.id s) (living g)
+    (λ n h e. let few = told.few n h in let same : n.id.count ≡ s.count = ap (λ x. x.count) (id_is n.id s e) in omega arith)
 
 told_over : (g : Readings) → IsTold g → (p : Made → Bool) → IsTold (over_part p g)
 told_over g told p = record {
@@ -198,24 +213,42 @@ told_over g told p = record {
   numbers = λ m n h k e. told.numbers m n (has m h) (has n k) e;
   few = λ m h. told.few m (has m h);
   homes = λ m h. told.homes m (has m h);
-  unmade = λ s above. let u = told.unmade s above in record { over = rw (u.over, living_none g told s above) refl; played = u.played; tuned = u.tuned; pids = u.pids; front = u.front; selected = u.selected; pulled = u.pulled };
+  unmade = λ s above. let u = told.unmade s above in
+      record {
+        over = rw (u.over, living_none g told s above) refl;
+        played = u.played;
+        tuned = u.tuned;
+        pids = u.pids;
+        front = u.front;
+        selected = u.selected;
+        pulled = u.pulled;
+      };
   packets = told.packets;
 }
   where
     has : (m : Made) → Has m (living (over_part p g)) → Has m (living g)
     has m h = (filter_has (λ m. not (p m)) (living g) m (subst (Has m) (living_over g told p) h)).0
 
-pub agrees_over : (c : Config) (st : State) (g : Readings) (p : Made → Bool) (ss : List Session) → Agrees c st g → Alike g (filter (λ m. not (p m)) (living g)) ss
+pub agrees_over : (c : Config) (st : State) (g : Readings) (p : Made → Bool) (ss : List Session) → Agrees c st g
+    → Alike g (filter (λ m. not (p m)) (living g)) ss
     → Agrees c (sweep (record st { sessions = ss })) (over_read p g)
 agrees_over c st g p ss a alike = agrees_swept c (record st { sessions = ss }) (over_part p g) (record {
   clock = a.loosely.clock;
   made = a.loosely.made;
-  sessions = rw (living_over g a.loosely.told p) (alike_read g (over_part p g) (filter (λ m. not (p m)) (living g)) ss (λ m s h e. same_again g (over_part p g) m s e refl refl refl refl refl) alike);
+  sessions = rw (living_over g a.loosely.told p)
+      (alike_read g (over_part p g) (filter (λ m. not (p m)) (living g)) ss (λ m s h e. same_again g (over_part p g) m s e refl refl refl refl refl) alike);
   living_streams = λ m h. a.loosely.living_streams m (filter_has (λ m. not (p m)) (living g) m (subst (Has m) (living_over g a.loosely.told p) h)).0;
   tunes = a.loosely.tunes;
   muxes = a.loosely.muxes;
   told = told_over g a.loosely.told p;
-  kept = record { apart = a.loosely.kept.apart; once = a.loosely.kept.once; positive = a.loosely.kept.positive; few = a.loosely.kept.few; rows = a.loosely.kept.rows; placed = a.loosely.kept.placed };
+  kept = record {
+    apart = a.loosely.kept.apart;
+    once = a.loosely.kept.once;
+    positive = a.loosely.kept.positive;
+    few = a.loosely.kept.few;
+    rows = a.loosely.kept.rows;
+    placed = a.loosely.kept.placed;
+  };
 })
 
 -- each session ends of which p holds

@@ -192,17 +192,28 @@ given_ends wt it ot et w handed before now line clock inlet i o n e m OutOfMemor
 pub all_given : (wt it ot et : Type 0) (w : Wanted) (handed : Handed) (before now : ℕ) (line line2 : Line) (clock clock2 : Dial) (inlet inlet2 : Inbox)
     (i : Feed) (o n e m : Drain) (end : RecordEnd) → handed.wire ≡ Some w.to → handed.moment ≡ true → handed.inlet ≡ true → now ≡ before
     → line ≡ fresh_line → clock.readings ≡ [] → inlet ≡ fresh_inbox inlet.port
-    → (end ≡ Done → Ends et e m Done (λ (lines : List ℕ). Completed wt it ot (outside line clock inlet o) (outside line2 clock2 inlet2 n) w.address w.query w.count lines))
-    → (end ≡ OutputFault → Ends et e m OutputFault (λ (lines : List ℕ). EndedReceiving wt it ot (outside line clock inlet o) (outside line2 clock2 inlet2 n) w.address w.query w.count lines OutputFault))
-    → ((code : ℕ) → end ≡ Refused code → Ends et e m (Refused code) (λ (lines : List ℕ). EndedOpening wt (outside line clock inlet o) (outside line2 clock2 inlet2 n) w.address w.query lines (Refused code)))
-    → (end ≡ BadReply → Ends et e m BadReply (λ (lines : List ℕ). EndedOpening wt (outside line clock inlet o) (outside line2 clock2 inlet2 n) w.address w.query lines BadReply))
-    → (end ≡ Silent → Ends et e m Silent (λ (lines : List ℕ). EndedOpening wt (outside line clock inlet o) (outside line2 clock2 inlet2 n) w.address w.query lines Silent
+    → (end ≡ Done → Ends et e m Done (λ (lines : List ℕ).
+    Completed wt it ot (outside line clock inlet o) (outside line2 clock2 inlet2 n) w.address w.query w.count lines))
+    → (end ≡ OutputFault → Ends et e m OutputFault
+    (λ (lines : List ℕ). EndedReceiving wt it ot (outside line clock inlet o) (outside line2 clock2 inlet2 n) w.address w.query w.count lines OutputFault))
+    → ((code : ℕ) → end ≡ Refused code → Ends et e m (Refused code)
+    (λ (lines : List ℕ). EndedOpening wt (outside line clock inlet o) (outside line2 clock2 inlet2 n) w.address w.query lines (Refused code)))
+    → (end ≡ BadReply → Ends et e m BadReply (λ (lines : List ℕ).
+    EndedOpening wt (outside line clock inlet o) (outside line2 clock2 inlet2 n) w.address w.query lines BadReply))
+    → (end ≡ Silent → Ends et e m Silent (λ (lines : List ℕ).
+    EndedOpening wt (outside line clock inlet o) (outside line2 clock2 inlet2 n) w.address w.query lines Silent
     ⊎ EndedReceiving wt it ot (outside line clock inlet o) (outside line2 clock2 inlet2 n) w.address w.query w.count lines Silent))
-    → (end ≡ PeerFault → Ends et e m PeerFault (λ (lines : List ℕ). EndedOpening wt (outside line clock inlet o) (outside line2 clock2 inlet2 n) w.address w.query lines PeerFault
-    ⊎ (EndedReceiving wt it ot (outside line clock inlet o) (outside line2 clock2 inlet2 n) w.address w.query w.count lines PeerFault ⊎ EndedLeaving wt it ot (outside line clock inlet o) (outside line2 clock2 inlet2 n) w.address w.query w.count lines PeerFault)))
-    → (end ≡ Closed → Ends et e m Closed (λ (lines : List ℕ). EndedOpening wt (outside line clock inlet o) (outside line2 clock2 inlet2 n) w.address w.query lines Closed))
-    → (end ≡ OutOfMemory → Ends et e m OutOfMemory (λ (lines : List ℕ). NotBegun (outside line clock inlet o) (outside line2 clock2 inlet2 n) lines ⊎ (EndedOpening wt (outside line clock inlet o) (outside line2 clock2 inlet2 n) w.address w.query lines OutOfMemory
-    ⊎ (EndedReceiving wt it ot (outside line clock inlet o) (outside line2 clock2 inlet2 n) w.address w.query w.count lines OutOfMemory ⊎ EndedLeaving wt it ot (outside line clock inlet o) (outside line2 clock2 inlet2 n) w.address w.query w.count lines OutOfMemory))))
+    → (end ≡ PeerFault → Ends et e m PeerFault (λ (lines : List ℕ).
+    EndedOpening wt (outside line clock inlet o) (outside line2 clock2 inlet2 n) w.address w.query lines PeerFault
+    ⊎ (EndedReceiving wt it ot (outside line clock inlet o) (outside line2 clock2 inlet2 n) w.address w.query w.count lines PeerFault
+    ⊎ EndedLeaving wt it ot (outside line clock inlet o) (outside line2 clock2 inlet2 n) w.address w.query w.count lines PeerFault)))
+    → (end ≡ Closed → Ends et e m Closed (λ (lines : List ℕ).
+    EndedOpening wt (outside line clock inlet o) (outside line2 clock2 inlet2 n) w.address w.query lines Closed))
+    → (end ≡ OutOfMemory → Ends et e m OutOfMemory
+    (λ (lines : List ℕ). NotBegun (outside line clock inlet o) (outside line2 clock2 inlet2 n) lines
+    ⊎ (EndedOpening wt (outside line clock inlet o) (outside line2 clock2 inlet2 n) w.address w.query lines OutOfMemory
+    ⊎ (EndedReceiving wt it ot (outside line clock inlet o) (outside line2 clock2 inlet2 n) w.address w.query w.count lines OutOfMemory
+    ⊎ EndedLeaving wt it ot (outside line clock inlet o) (outside line2 clock2 inlet2 n) w.address w.query w.count lines OutOfMemory))))
     → RecordEnds wt it ot et w handed before now (record { wire = Some line2; clock = Some clock2; inlet = Some inlet2 }) i i o n e m (status_of end)
 all_given wt it ot et w handed before now line line2 clock clock2 inlet inlet2 i o n e m end wire moment inside same line_new clock_new inlet_new
     done output refused bad silent peer closed wants =

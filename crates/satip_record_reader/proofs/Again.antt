@@ -33,7 +33,8 @@ unfolding read_pids_given pids_text
 pids_given_again NoPids rest h = rw (place_again 0 rest) refl
 pids_given_again AllPids rest h = rw (place_again 1 rest) refl
 pids_given_again EmptyPids rest h = rw (place_again 2 rest) refl
-pids_given_again (ThesePids pids) rest h = rw (append_assoc (u8_text 3) (pid_list_text pids) rest, place_again 3 (pid_list_text pids ++ rest), pid_list_again pids rest h) refl
+pids_given_again (ThesePids pids) rest h =
+    rw (append_assoc (u8_text 3) (pid_list_text pids) rest, place_again 3 (pid_list_text pids ++ rest), pid_list_again pids rest h) refl
 
 pub query_again : ReadsAgain IsQuery query_text read_query
 unfolding read_query query_text
@@ -89,9 +90,11 @@ refusal_again TooLong rest h = rw (place_again 1 rest) refl
 refusal_again NoCseq rest h = rw (place_again 2 rest) refl
 refusal_again Version rest h = rw (place_again 3 rest) refl
 refusal_again NoMethod rest h = rw (place_again 4 rest) refl
-refusal_again (Require kept) rest h = rw (append_assoc (u8_text 5) (short_text kept) rest, place_again 5 (short_text kept ++ rest), short_again kept rest h) refl
+refusal_again (Require kept) rest h =
+    rw (append_assoc (u8_text 5) (short_text kept) rest, place_again 5 (short_text kept ++ rest), short_again kept rest h) refl
 refusal_again Target rest h = rw (place_again 6 rest) refl
-refusal_again (AtQuery fault) rest h = rw (append_assoc (u8_text 7) (fault_text fault) rest, place_again 7 (fault_text fault ++ rest), fault_again fault rest tt) refl
+refusal_again (AtQuery fault) rest h =
+    rw (append_assoc (u8_text 7) (fault_text fault) rest, place_again 7 (fault_text fault ++ rest), fault_again fault rest tt) refl
 
 name_again : ReadsAgain IsName name_text read_name
 unfolding read_name name_text
@@ -137,7 +140,8 @@ http_refusal_again HttpVersion rest h = rw (place_again 2 rest) refl
 http_refusal_again HttpMethod rest h = rw (place_again 3 rest) refl
 http_refusal_again HttpTarget rest h = rw (place_again 4 rest) refl
 http_refusal_again NotFound rest h = rw (place_again 5 rest) refl
-http_refusal_again (HttpQuery fault) rest h = rw (append_assoc (u8_text 6) (fault_text fault) rest, place_again 6 (fault_text fault ++ rest), fault_again fault rest tt) refl
+http_refusal_again (HttpQuery fault) rest h =
+    rw (append_assoc (u8_text 6) (fault_text fault) rest, place_again 6 (fault_text fault ++ rest), fault_again fault rest tt) refl
 
 -- a value of a type without limits
 known : {T : Type 0} (value : Option T) → IfSome value (λ x. Unit {0})

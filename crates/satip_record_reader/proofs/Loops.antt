@@ -13,7 +13,8 @@ use Rattle.satip_record_reader.proofs.ListsAgain.{bytes_again}
 use Rattle.satip_record_reader.specs.ReadingLists.{read_bytes, read_each, read_more}
 
 -- of so many values those before a place are read
-pub record ReadSome {T : Type 0} (text : T → List ℕ) (read : List ℕ → Option (T × List ℕ)) (count place : ℕ) (o : List ℕ) (done : List T) (n : List ℕ) : Type 0 where
+pub record ReadSome {T : Type 0} (text : T → List ℕ) (read : List ℕ → Option (T × List ℕ)) (count place : ℕ) (o : List ℕ) (done : List T)
+    (n : List ℕ) : Type 0 where
   pub more : read_more read (count - place) done n ≡ read_each read count o
   pub front : o ≡ flat_map text done ++ n
   pub length_is : length done ≡ place
@@ -32,7 +33,8 @@ behind_one done x None = refl
 behind_one done x (Some (xs, rest)) = ap (λ zs. Some (zs, rest)) (append_assoc done (x ∷ []) xs)
 
 pub read_none : {T : Type 0} (text : T → List ℕ) (read : List ℕ → Option (T × List ℕ)) (count : ℕ) (o : List ℕ) → ReadSome text read count 0 o [] o
-read_none text read count o = record { more = ap (λ m. read_more read m [] o) (whole count) ∙ behind_none (read_each read count o); front = refl; length_is = refl }
+read_none text read count o =
+    record { more = ap (λ m. read_more read m [] o) (whole count) ∙ behind_none (read_each read count o); front = refl; length_is = refl }
 
 step : {T : Type 0} (read : List ℕ → Option (T × List ℕ)) (m : ℕ) (done : List T) (x : T) (n p : List ℕ) → read n ≡ Some (x, p)
     → read_more read m (done ++ x ∷ []) p ≡ read_more read (suc m) done n

@@ -82,7 +82,8 @@ pub record SomeTaken (count place : ℕ) (o n : List ℕ) (p q : Output) : Type 
 
 pub none_taken : (count : ℕ) (o : List ℕ) (p : Output) → p.datagrams ≡ [] → SomeTaken count 0 o o p p
 none_taken count o p none = record {
-  more = rw none (ap (λ (c : ℕ). then_read (read_datagrams c p.datagram_spare o) (λ ds rest. Some ([] ++ ds, rest))) (whole count) ∙ behind_none (read_datagrams count p.datagram_spare o));
+  more = rw none (ap (λ (c : ℕ). then_read (read_datagrams c p.datagram_spare o) (λ ds rest. Some ([] ++ ds, rest))) (whole count)
+      ∙ behind_none (read_datagrams count p.datagram_spare o));
   front = rw none refl;
   length_is = rw none refl;
   left = omega arith;
@@ -121,7 +122,8 @@ one_taken {p = p} {q = q} {r = r} count place o m n inside took before =
       front =
           before.front ∙ ap (λ t. flat_map datagram_text q.datagrams ++ t) took.front
           ∙ sym (append_assoc (flat_map datagram_text q.datagrams) (datagram_text d) n)
-          ∙ ap (λ t. t ++ n) (sym (flat_map-append datagram_text q.datagrams (d ∷ []) ∙ ap (λ t. flat_map datagram_text q.datagrams ++ t) (append-nil (datagram_text d))))
+          ∙ ap (λ t. t ++ n) (sym (flat_map-append datagram_text q.datagrams (d ∷ [])
+          ∙ ap (λ t. flat_map datagram_text q.datagrams ++ t) (append-nil (datagram_text d))))
           ∙ ap (λ (ds : List Datagram). flat_map datagram_text ds ++ n) (sym behind);
       length_is = ap length behind ∙ omega (arith, length-append q.datagrams (d ∷ []), before.length_is);
       left = omega (arith, before.left, took.sent.count_spare);
@@ -175,7 +177,8 @@ datagram_by true ip port count o a1 a2 m n p q r1 f1 r2 f2 r3 f3 small took =
           sym (
           append_assoc (u32_text ip ++ u16_text port) (u32_text (length t) ++ t) n
           ∙ append_assoc (u32_text ip) (u16_text port) ((u32_text (length t) ++ t) ++ n)
-          ∙ ap (λ r. u32_text ip ++ (u16_text port ++ r)) (append_assoc (u32_text (length t)) t n ∙ ap (λ k. u32_text k ++ (t ++ n)) size ∙ ap (λ r. u32_text count ++ r) all ∙ sym f3)
+          ∙ ap (λ r. u32_text ip ++ (u16_text port ++ r))
+          (append_assoc (u32_text (length t)) t n ∙ ap (λ k. u32_text k ++ (t ++ n)) size ∙ ap (λ r. u32_text count ++ r) all ∙ sym f3)
           ∙ ap (λ r. u32_text ip ++ r) (sym f2) ∙ sym f1
           );
       sent = took.sent;
@@ -201,7 +204,8 @@ no_reply event answer count a m here small few = rw (counted_none REPLY_BYTES co
 
 pub behind_reply : {p q : Output} (event : Event) (answer : Answer) (count : ℕ) (a m n : List ℕ) (found : Option (List Datagram × List ℕ))
     → Some (count, m) ≡ read_u32 a → count ≤ REPLY_BYTES → TakesReply count m n p q → p.reply ≡ [] → read_datagram_list n ≡ found
-    → then_read found (λ datagrams more. Some (record { event = event; answer = answer; reply = q.reply; datagrams = datagrams }, more)) ≡ entry_end event answer a
+    → then_read found (λ datagrams more. Some (record { event = event; answer = answer; reply = q.reply; datagrams = datagrams }, more))
+    ≡ entry_end event answer a
 unfolding entry_end
 behind_reply event answer count a m n found here small took none list =
     let reply = took.wrote.reply ∙ ap (λ (t : List ℕ). t ++ take count m) none in
@@ -215,6 +219,7 @@ pub large_count : (count : ℕ) (a m : List ℕ) → Some (count, m) ≡ read_u1
 unfolding read_datagram_list
 large_count count a m here large = let no : nat_le count EVENT_DATAGRAMS ≡ false = grind (arith, nat_tests, large) in rw (sym here, no) refl
 
-pub counted_list : (count : ℕ) (a m : List ℕ) → Some (count, m) ≡ read_u16 a → count ≤ EVENT_DATAGRAMS → read_datagram_list a ≡ read_datagrams count EVENT_BYTES m
+pub counted_list : (count : ℕ) (a m : List ℕ) → Some (count, m) ≡ read_u16 a → count ≤ EVENT_DATAGRAMS
+    → read_datagram_list a ≡ read_datagrams count EVENT_BYTES m
 unfolding read_datagram_list
 counted_list count a m here small = rw (sym here, within count EVENT_DATAGRAMS small) refl

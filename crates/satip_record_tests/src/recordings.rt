@@ -23,7 +23,12 @@ const GRANTED: &[u8] =
 const ACCEPTED: &[u8] = b"RTSP/1.0 200 OK\r\nCSeq: 2\r\n\r\n";
 
 const OPENED: &[u8] =
-    b"SETUP rtsp://127.0.0.1:18554/?freq=12402&pol=v&msys=dvbs&sr=27500&pids=all RTSP/1.0\r\nCSeq: 1\r\nTransport: RTP/AVP;unicast;client_port=5000-5001\r\n\r\nPLAY rtsp://127.0.0.1:18554/stream=7 RTSP/1.0\r\nCSeq: 2\r\nSession: 1a\r\n\r\n";
+    b"SETUP rtsp://127.0.0.1:18554/?freq=12402&pol=v&msys=dvbs&sr=27500&pids=all RTSP/1.0\r\n\
+    CSeq: 1\r\n\
+    Transport: RTP/AVP;unicast;client_port=5000-5001\r\n\r\n\
+    PLAY rtsp://127.0.0.1:18554/stream=7 RTSP/1.0\r\n\
+    CSeq: 2\r\n\
+    Session: 1a\r\n\r\n";
 
 const LEFT: &[u8] =
     b"TEARDOWN rtsp://127.0.0.1:18554/stream=7 RTSP/1.0\r\nCSeq: 3\r\nSession: 1a\r\n\r\n";

@@ -16,12 +16,14 @@ unfolding row_of
 number_row None = refl
 number_row (Some s) = refl
 
-pub another_row : (o : Option Session) (stream : Option ℕ) → of_another (option_map row_of o) stream ≡ option_map_or (λ s. option_map_or (λ number. not (s.stream == number)) stream false) o false
+pub another_row : (o : Option Session) (stream : Option ℕ)
+    → of_another (option_map row_of o) stream ≡ option_map_or (λ s. option_map_or (λ number. not (s.stream == number)) stream false) o false
 unfolding row_of
 another_row None stream = refl
 another_row (Some s) stream = refl
 
-owner_same : (s : Session) (o : Option Session) → option_map_or (λ id. same_id id s.id) (option_map (λ (x : Session). x.id) o) false ≡ option_map_or (λ (x : Session). same_id x.id s.id) o false
+owner_same : (s : Session) (o : Option Session)
+    → option_map_or (λ id. same_id id s.id) (option_map (λ (x : Session). x.id) o) false ≡ option_map_or (λ (x : Session). same_id x.id s.id) o false
 owner_same s None = refl
 owner_same s (Some x) = refl
 

@@ -19,7 +19,8 @@ use Rattle.satip_replay.specs.Ends.{StopsWanting, RunEnds, EndsByOutput, EndsByW
 -- the run of a server that was made with the configuration
 pub runs_as : (tells : Type 0) (o n : Drain) (server : Held) (c : Configuration) (script : List ℕ) (end : ReplayEnd)
     → server.setting ≡ setting_of c → Stands server (opening (setting_of c))
-    → ((events : List Event) → Stands server (opening server.setting) → IsScript script (Ok events) → RunEnds tells o n (printed (run server.setting events)) end)
+    → ((events : List Event) → Stands server (opening server.setting) → IsScript script (Ok events)
+    → RunEnds tells o n (printed (run server.setting events)) end)
     → (events : List Event) → IsScript script (Ok events) → RunEnds tells o n (replayed c events) end
 runs_as tells o n server c script end setting stands ends events is =
     let opens : Stands server (opening server.setting) = subst (λ (s : Setting). Stands server (opening s)) (sym setting) stands in

@@ -35,7 +35,8 @@ after_more c (x ∷ h) e st = after_more c h e (step c st x.event).state
 
 -- the state behind one more event
 after_event : (s : Setting) (first : List Event) (e : Event) → after s (run s (first ++ e ∷ [])) ≡ (step s.config (after s (run s first)) e).state
-after_event s first e = ap (λ (h : List Item). after s h) (run_grows s first e) ∙ after_more s.config (run s first) (item_of e (step s.config (after s (run s first)) e)) (opening s)
+after_event s first e = ap (λ (h : List Item). after s h) (run_grows s first e)
+    ∙ after_more s.config (run s first) (item_of e (step s.config (after s (run s first)) e)) (opening s)
 
 -- the lines of one more event
 printed_event : (s : Setting) (first : List Event) (e : Event)

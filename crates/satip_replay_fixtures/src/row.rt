@@ -35,7 +35,8 @@ file = \"b.ts\"
 
 /// The first multiplex, with three PIDs and a key that the server doesn't know.
 pub const FIRST_MUX: &str =
-    "?src=1&freq=11361.75&pol=h&ro=0.35&msys=dvbs2&mtype=8psk&plts=on&sr=22000&fec=23&pids=0,16,17&x_pmt=100";
+    "?src=1&freq=11361.75&pol=h&ro=0.35&msys=dvbs2&mtype=8psk&plts=on&sr=22000&fec=23&pids=0,16,17\
+    &x_pmt=100";
 
 /// The second multiplex.
 pub const SECOND_MUX: &str = "?freq=12402&pol=v&msys=dvbs&sr=27500";
@@ -44,8 +45,14 @@ pub const SECOND_MUX: &str = "?freq=12402&pol=v&msys=dvbs&sr=27500";
 pub const NO_MUX: &str = "?freq=10744&pol=h&msys=dvbs&sr=22000";
 
 // The description of stream 1, the only one, up to its SES1 text.
-const DESCRIPTION: &str =
-    "v=0\r\no=- 1 1 IN IP4 192.168.1.10\r\ns=SatIPServer:1 2\r\nt=0 0\r\nm=video 0 RTP/AVP 33\r\nc=IN IP4 0.0.0.0\r\na=control:stream=1\r\na=fmtp:33 ";
+const DESCRIPTION: &str = "v=0\r\n\
+    o=- 1 1 IN IP4 192.168.1.10\r\n\
+    s=SatIPServer:1 2\r\n\
+    t=0 0\r\n\
+    m=video 0 RTP/AVP 33\r\n\
+    c=IN IP4 0.0.0.0\r\n\
+    a=control:stream=1\r\n\
+    a=fmtp:33 ";
 
 /// What a run came to.
 #[derive(Drop)]

@@ -12,8 +12,8 @@ use std::time::Clock;
 // How many seconds behind the first job the others are to have begun.
 const PATIENCE_S: u64 = 5;
 
-/// How many jobs a server has, and how many have begun. Where the system starts no thread for a job,
-/// it begins when another has ended, or never.
+/// How many jobs a server has, and how many have begun. Where the system starts no thread for a
+/// job, it begins when another has ended, or never.
 #[derive(Drop)]
 pub struct Starts {
     jobs: u64,

@@ -23,7 +23,8 @@ place (Some (Require kept)) = 5
 place (Some BadTarget) = 6
 place (Some (QueryAt fault)) = 7
 
-query_place : (n : ℕ) (m : Said) (method : Method) (target : TargetParts) (found : Result Query QueryFault) → 5 ≤ place (with_query n m method target found).refusal
+query_place : (n : ℕ) (m : Said) (method : Method) (target : TargetParts) (found : Result Query QueryFault)
+    → 5 ≤ place (with_query n m method target found).refusal
 query_place n m method target (Err fault) = omega arith
 query_place n m method target (Ok query) = omega arith
 
@@ -53,7 +54,8 @@ later a b k high low e = omega (arith, ap place e)
 
 method_by : (n : ℕ) (m : Said) (found : Option Method) → ((with_method n m found).refusal ≡ Some BadMethod) ↔ (found ≡ None)
 method_by n m None = (λ e. refl, λ e. refl)
-method_by n m (Some method) = (λ e. absurd (later _ BadMethod 5 (required_place n m method (required (first_value (codes "Require") m.headers))) (omega arith) e), λ e. absurd (cc))
+method_by n m (Some method) =
+    (λ e. absurd (later _ BadMethod 5 (required_place n m method (required (first_value (codes "Require") m.headers))) (omega arith) e), λ e. absurd (cc))
 
 version_by : (n : ℕ) (m : Said) (found : Bool) → ((with_version n m found).refusal ≡ Some Version) ↔ (found ≡ false)
 version_by n m false = (λ e. refl, λ e. refl)
@@ -64,7 +66,8 @@ method_of n m false = (λ e. absurd (cc), λ e. absurd (let no : false ≡ true 
 method_of n m true = (λ e. (refl, (method_by n m (method_named m.method)).0 e), λ e. (method_by n m (method_named m.method)).1 e.1)
 
 -- a query is looked at last, and a target before it
-last_place : (n : ℕ) (m : Said) (method : Method) (target : TargetParts) (found : Result Query QueryFault) → 7 ≤ place (with_query n m method target found).refusal
+last_place : (n : ℕ) (m : Said) (method : Method) (target : TargetParts) (found : Result Query QueryFault)
+    → 7 ≤ place (with_query n m method target found).refusal
 last_place n m method target (Err fault) = omega arith
 last_place n m method target (Ok query) = omega arith
 
@@ -97,7 +100,8 @@ served : (m : Said) (method : Method) (is : IsServed m method) → asked m ≡ w
 unfolding asked
 served m method is =
     let numbered : asked_with (cseq_of m) m ≡ with_version is.number m (bytes_eq m.version (codes "RTSP/1.0")) = ap (λ cseq. asked_with cseq m) is.cseq in
-    let versed : with_version is.number m (bytes_eq m.version (codes "RTSP/1.0")) ≡ with_method is.number m (method_named m.method) = ap (with_version is.number m) is.version in
+    let versed : with_version is.number m (bytes_eq m.version (codes "RTSP/1.0")) ≡ with_method is.number m (method_named m.method) =
+    ap (with_version is.number m) is.version in
     let named : with_method is.number m (method_named m.method) ≡ with_required is.number m method (required_in m) = ap (with_method is.number m) is.named in
     cc
 
@@ -108,21 +112,26 @@ pub record LaterCauses (m : Said) (refusal : Option Refusal) : Type 0 where
   pub query : (method : Method) (target : TargetParts) (fault : QueryFault) → IsServed m method → required_in m ≡ None
       → target_of (is_options method) m.target ≡ Some target → (refusal ≡ Some (QueryAt fault)) ↔ (query_read method target.query ≡ Err fault)
 
-refused_as : (r : Request) (refusal : Refusal) (cause : Type 0) (s : Request) → r ≡ s → ((s.refusal ≡ Some refusal) ↔ cause) → (r.refusal ≡ Some refusal) ↔ cause
+refused_as : (r : Request) (refusal : Refusal) (cause : Type 0) (s : Request) → r ≡ s → ((s.refusal ≡ Some refusal) ↔ cause)
+    → (r.refusal ≡ Some refusal) ↔ cause
 refused_as r refusal cause s e by = subst (λ x. (x.refusal ≡ Some refusal) ↔ cause) (sym e) by
 
 pub later_causes : (m : Said) → LaterCauses m (asked m).refusal
 later_causes m = record {
-  require = λ method kept is. refused_as (asked m) (Require kept) (required_in m ≡ Some kept) (with_required is.number m method (required_in m)) (served m method is)
+  require = λ method kept is. refused_as (asked m) (Require kept) (required_in m ≡ Some kept) (with_required is.number m method (required_in m))
+      (served m method is)
       (required_by is.number m method kept (required_in m));
   target = λ method is none.
-      let reached : asked m ≡ with_target is.number m method (target_of (is_options method) m.target) = cc (served m method is, ap (with_required is.number m method) none) in
-      refused_as (asked m) BadTarget (target_of (is_options method) m.target ≡ None) (with_target is.number m method (target_of (is_options method) m.target)) reached
+      let reached : asked m ≡ with_target is.number m method (target_of (is_options method) m.target) =
+      cc (served m method is, ap (with_required is.number m method) none) in
+      refused_as (asked m) BadTarget (target_of (is_options method) m.target ≡ None)
+      (with_target is.number m method (target_of (is_options method) m.target)) reached
       (target_by is.number m method (target_of (is_options method) m.target));
   query = λ method target fault is none named.
       let reached : asked m ≡ with_query is.number m method target (query_read method target.query) =
       cc (served m method is, ap (with_required is.number m method) none, ap (with_target is.number m method) named) in
-      refused_as (asked m) (QueryAt fault) (query_read method target.query ≡ Err fault) (with_query is.number m method target (query_read method target.query)) reached
+      refused_as (asked m) (QueryAt fault) (query_read method target.query ≡ Err fault)
+      (with_query is.number m method target (query_read method target.query)) reached
       (query_by is.number m method target fault (query_read method target.query));
 }
 
@@ -141,13 +150,16 @@ no_cseq_by m (Some n) = (λ e. absurd (later _ NoCseq 3 (version_place n m (byte
 version_from : (m : Said) (cseq : Option ℕ) → ((asked_with cseq m).refusal ≡ Some Version) ↔ (IsSome cseq × (bytes_eq m.version (codes "RTSP/1.0") ≡ false))
 version_from m None = (λ e. absurd (cc), λ e. absurd (let no : false ≡ true = e.0 in cc))
 version_from m (Some n) =
-    let by : ((with_version n m (bytes_eq m.version (codes "RTSP/1.0"))).refusal ≡ Some Version) ↔ (bytes_eq m.version (codes "RTSP/1.0") ≡ false) = version_by n m _ in
+    let by : ((with_version n m (bytes_eq m.version (codes "RTSP/1.0"))).refusal ≡ Some Version) ↔ (bytes_eq m.version (codes "RTSP/1.0") ≡ false) =
+    version_by n m _ in
     (λ e. (refl, by.0 e), λ e. by.1 e.1)
 
-method_from : (m : Said) (cseq : Option ℕ) → ((asked_with cseq m).refusal ≡ Some BadMethod) ↔ (IsSome cseq × (bytes_eq m.version (codes "RTSP/1.0") ≡ true) × (method_named m.method ≡ None))
+method_from : (m : Said) (cseq : Option ℕ) → ((asked_with cseq m).refusal ≡ Some BadMethod)
+    ↔ (IsSome cseq × (bytes_eq m.version (codes "RTSP/1.0") ≡ true) × (method_named m.method ≡ None))
 method_from m None = (λ e. absurd (cc), λ e. absurd (let no : false ≡ true = e.0 in cc))
 method_from m (Some n) =
-    let by : ((with_version n m (bytes_eq m.version (codes "RTSP/1.0"))).refusal ≡ Some BadMethod) ↔ ((bytes_eq m.version (codes "RTSP/1.0") ≡ true) × (method_named m.method ≡ None)) = method_of n m _ in
+    let by : ((with_version n m (bytes_eq m.version (codes "RTSP/1.0"))).refusal ≡ Some BadMethod)
+    ↔ ((bytes_eq m.version (codes "RTSP/1.0") ≡ true) × (method_named m.method ≡ None)) = method_of n m _ in
     (λ e. (refl, (by.0 e).0, (by.0 e).1), λ e. by.1 (e.1, e.2))
 
 pub causes : (m : Said) → Causes m (asked m).refusal

@@ -69,22 +69,47 @@ length-address_text-le ip small =
       length-decimal_u8 (ip % 256) (omega arith),
     ))
 
-pub length-describe_head-le : (cseq : Option ℕ) (address size : ℕ) → IsCseq cseq → address < 2 ^ 32 → size < 2 ^ 64 → length (describe_head cseq address size) ≤ 256
+pub length-describe_head-le : (cseq : Option ℕ) (address size : ℕ) → IsCseq cseq → address < 2 ^ 32 → size < 2 ^ 64
+    → length (describe_head cseq address size) ≤ 256
 unfolding describe_head
 length-describe_head-le cseq address size small host few =
-    simp length-append (omega (arith, length-status_line-le 200 (omega arith), length-cseq_line-le cseq small, length-address_text-le address host, length-decimal_u64 size few))
+    simp length-append (omega (
+      arith,
+      length-status_line-le 200 (omega arith),
+      length-cseq_line-le cseq small,
+      length-address_text-le address host,
+      length-decimal_u64 size few,
+    ))
 
-pub length-setup_reply-le : (cseq : Option ℕ) (id : SessionId) (seconds : ℕ) (ports : Ports) (stream : ℕ) → IsCseq cseq → seconds < 2 ^ 32 → ports.rtp < 2 ^ 16 → ports.rtcp < 2 ^ 16 → stream < 2 ^ 16
+pub length-setup_reply-le : (cseq : Option ℕ) (id : SessionId) (seconds : ℕ) (ports : Ports) (stream : ℕ) → IsCseq cseq → seconds < 2 ^ 32 → ports.rtp < 2 ^ 16
+    → ports.rtcp < 2 ^ 16 → stream < 2 ^ 16
     → length (setup_reply cseq id seconds ports stream) ≤ 256
 unfolding setup_reply
 length-setup_reply-le cseq id seconds ports stream small s a b n =
-    simp length-append (omega (arith, length-status_line-le 200 (omega arith), length-cseq_line-le cseq small, length-id_text id, length-decimal_u32 seconds s, length-decimal_u16 ports.rtp a, length-decimal_u16 ports.rtcp b, length-decimal_u16 stream n))
+    simp length-append (omega (
+      arith,
+      length-status_line-le 200 (omega arith),
+      length-cseq_line-le cseq small,
+      length-id_text id,
+      length-decimal_u32 seconds s,
+      length-decimal_u16 ports.rtp a,
+      length-decimal_u16 ports.rtcp b,
+      length-decimal_u16 stream n,
+    ))
 
 pub length-play_reply-le : (cseq : Option ℕ) (id : SessionId) (address stream seq : ℕ) → IsCseq cseq → address < 2 ^ 32 → stream < 2 ^ 16 → seq < 2 ^ 16
     → length (play_reply cseq id address stream seq) ≤ 256
 unfolding play_reply
 length-play_reply-le cseq id address stream seq small host n s =
-    simp length-append (omega (arith, length-status_line-le 200 (omega arith), length-cseq_line-le cseq small, length-id_text id, length-address_text-le address host, length-decimal_u16 stream n, length-decimal_u16 seq s))
+    simp length-append (omega (
+      arith,
+      length-status_line-le 200 (omega arith),
+      length-cseq_line-le cseq small,
+      length-id_text id,
+      length-address_text-le address host,
+      length-decimal_u16 stream n,
+      length-decimal_u16 seq s,
+    ))
 
 pub length-unsupported_reply-le : (cseq : Option ℕ) (kept : List ℕ) → IsCseq cseq → length kept ≤ 128 → length (unsupported_reply cseq kept) ≤ 256
 unfolding unsupported_reply

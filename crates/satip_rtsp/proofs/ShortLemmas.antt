@@ -17,7 +17,8 @@ take-short text count is =
     let turned : count ≡ min 128 (length text) = omega arith in
     ap (λ n. take n text) turned ∙ take_min 128 text
 
-pub holds_first : (text front : List ℕ) (count : ℕ) → count ≡ min (length text) 128 → front ≡ take count text → Holds text (front ++ drop count (replicate 128 0)) count
+pub holds_first : (text front : List ℕ) (count : ℕ) → count ≡ min (length text) 128 → front ≡ take count text
+    → Holds text (front ++ drop count (replicate 128 0)) count
 holds_first text front count is same =
     let long : length front ≡ count = length-front text front count is same in
     let zeros : List ℕ = replicate 128 0 in

@@ -13,7 +13,10 @@ use std::test::Fail;
 
 /// The SETUP that founds the first stream.
 pub const SETUP: &[u8] =
-    b"SETUP rtsp://192.168.1.10/?src=1&freq=11361.75&pol=h&ro=0.35&msys=dvbs2&mtype=8psk&plts=on&sr=22000&fec=23&pids=0,16,17&x_pmt=100 RTSP/1.0\r\nCSeq: 1\r\nTransport: RTP/AVP;unicast;client_port=1400-1401\r\n\r\n";
+    b"SETUP rtsp://192.168.1.10/?src=1&freq=11361.75&pol=h&ro=0.35&msys=dvbs2&mtype=8psk&plts=on\
+    &sr=22000&fec=23&pids=0,16,17&x_pmt=100 RTSP/1.0\r\n\
+    CSeq: 1\r\n\
+    Transport: RTP/AVP;unicast;client_port=1400-1401\r\n\r\n";
 
 /// The PLAY of the session that was made by the key's first draw.
 pub const PLAY: &[u8] =
@@ -23,8 +26,11 @@ pub const PLAY: &[u8] =
 pub const OPTIONS: &[u8] = b"OPTIONS * RTSP/1.0\r\nCSeq: 1\r\n\r\n";
 
 /// The reply to the SETUP.
-pub const SETUP_REPLY: &[u8] =
-    b"RTSP/1.0 200 OK\r\nCSeq: 1\r\nSession: 00000001ade0b876;timeout=60\r\nTransport: RTP/AVP;unicast;client_port=1400-1401\r\ncom.ses.streamID: 1\r\n\r\n";
+pub const SETUP_REPLY: &[u8] = b"RTSP/1.0 200 OK\r\n\
+    CSeq: 1\r\n\
+    Session: 00000001ade0b876;timeout=60\r\n\
+    Transport: RTP/AVP;unicast;client_port=1400-1401\r\n\
+    com.ses.streamID: 1\r\n\r\n";
 
 /// The reply to OPTIONS.
 pub const OPTIONS_REPLY: &[u8] =
@@ -144,8 +150,8 @@ fn status_at(alloc: Global, solo: &mut Solo, moment: u64) -> Result<u16, Fail> {
     ask_of_stream(solo, &mut out)
 }
 
-/// Serves an RTSP connection over a new server, and then makes a DESCRIBE of the first stream behind
-/// a tick at each of two moments, whose statuses it gives.
+/// Serves an RTSP connection over a new server, and then makes a DESCRIBE of the first stream
+/// behind a tick at each of two moments, whose statuses it gives.
 pub fn serve_and_ask<R: Wait + Sync>(
     rt: &R,
     alloc: Global,

@@ -28,7 +28,8 @@ const DRAW: Draw = Draw {
 const FIRST: SessionId = SessionId { count: 1, word: 10 };
 
 const TUNING: &[u8] =
-    b"src=1&freq=11361.75&pol=h&ro=0.35&msys=dvbs2&mtype=8psk&plts=on&sr=22000&fec=23&pids=0,16,17&x_pmt=100";
+    b"src=1&freq=11361.75&pol=h&ro=0.35&msys=dvbs2&mtype=8psk&plts=on&sr=22000&fec=23&pids=0,16,17\
+    &x_pmt=100";
 
 fn front(number: u16) -> Front
     ensures number { result.number ≡ number }

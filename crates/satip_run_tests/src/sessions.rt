@@ -9,16 +9,19 @@ use std::alloc::Global;
 use std::sync::Wait;
 use std::test::Fail;
 
-const TEARDOWN: &[u8] =
-    b"TEARDOWN rtsp://192.168.1.10/stream=1 RTSP/1.0\r\nCSeq: 1\r\nSession: 000000010000000a\r\n\r\n";
+const TEARDOWN: &[u8] = b"TEARDOWN rtsp://192.168.1.10/stream=1 RTSP/1.0\r\n\
+    CSeq: 1\r\n\
+    Session: 000000010000000a\r\n\r\n";
 
 const TEARDOWN_REPLY: &[u8] = b"RTSP/1.0 200 OK\r\nCSeq: 1\r\n\r\n";
 
 const OPTIONS_OF_SESSION: &[u8] =
     b"OPTIONS * RTSP/1.0\r\nCSeq: 3\r\nSession: 00000001ade0b876\r\n\r\n";
 
-const PLAY_REPLY: &[u8] =
-    b"RTSP/1.0 200 OK\r\nCSeq: 2\r\nSession: 00000001ade0b876\r\nRTP-Info: url=rtsp://192.168.1.10/stream=1;seq=23872\r\n\r\n";
+const PLAY_REPLY: &[u8] = b"RTSP/1.0 200 OK\r\n\
+    CSeq: 2\r\n\
+    Session: 00000001ade0b876\r\n\
+    RTP-Info: url=rtsp://192.168.1.10/stream=1;seq=23872\r\n\r\n";
 
 // A TEARDOWN of the first stream; the sends of these numbers fail at the outlet.
 fn tear_down<R: Wait + Sync>(rt: &R, alloc: Global, failing: &[u64]) -> Result<Seen, Fail> {

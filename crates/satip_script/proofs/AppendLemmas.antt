@@ -51,7 +51,8 @@ lines_more ds k d here = rw add-one (lines_by ds k d here)
     lines_by [] k d here = cc here
     lines_by (e ∷ ds) zero d here = let same : e ≡ d = cc in append-nil (datagram_line e) ∙ ap datagram_line same
     lines_by (e ∷ ds) (suc k) d here =
-        ap (λ (t : List ℕ). datagram_line e ++ t) (lines_by ds k d here) ∙ sym (append_assoc (datagram_line e) (flat_map datagram_line (take k ds)) (datagram_line d))
+        ap (λ (t : List ℕ). datagram_line e ++ t) (lines_by ds k d here)
+        ∙ sym (append_assoc (datagram_line e) (flat_map datagram_line (take k ds)) (datagram_line d))
 
 -- one datagram's line was appended behind those before it
 pub lines_added : (o m n : List ℕ) (ds : List Datagram) (k : ℕ) (d : Datagram) → m ≡ o ++ flat_map datagram_line (take k ds) → n ≡ m ++ datagram_line d

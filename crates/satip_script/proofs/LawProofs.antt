@@ -157,7 +157,8 @@ item_is e f o event caller out fits =
     let whole : e.out ≡ output_with o.reply (map datagram o.sent) =
     out ∙ ap (λ r. output_with r e.out.datagrams) fits.reply ∙ ap (λ ds. output_with o.reply ds) fits.datagrams in
     let same : (n m : ℕ) (x y : Event) (a b : Answer) (p q : Output) → n ≡ m → x ≡ y → a ≡ b → p ≡ q
-    → ◌≡◌ {A = Item} (record { caller = n; event = x; answer = a; out = p }) (record { caller = m; event = y; answer = b; out = q }) = λ n m x y a b p q i j k l. cc in
+    → ◌≡◌ {A = Item} (record { caller = n; event = x; answer = a; out = p }) (record { caller = m; event = y; answer = b; out = q }) =
+    λ n m x y a b p q i j k l. cc in
     same _ _ _ _ _ _ _ _ caller event fits.answer whole
 
 run_only : (c : Config) (st : State) (events : List Event) (h : List Item) → LegalFrom c st h → map (λ (e : Item). e.event) h ≡ events

@@ -29,7 +29,8 @@ use Rattle.satip_script.proofs.TextLemmas.{found_told}
 
 -- ---- a line and its parts
 
-line_by : (skipped : Bool) (form other : Option Form) (l : Line) → skipped ≡ false → form ≡ other → IsFormed other l → MatchBool skipped (l ≡ Skip) (IsFormed form l)
+line_by : (skipped : Bool) (form other : Option Form) (l : Line) → skipped ≡ false → form ≡ other → IsFormed other l
+    → MatchBool skipped (l ≡ Skip) (IsFormed form l)
 line_by true form other l kept is x = cc kept
 line_by false form other l kept is x = subst (λ f. IsFormed f l) (sym is) x
 
@@ -37,7 +38,8 @@ line_by false form other l kept is x = subst (λ f. IsFormed f l) (sym is) x
 pub line_of_parts : (line : List ℕ) (parts : EventParts) (l : Line) → IsInParts line parts → IsFormed (form_in parts) l → IsLine line l
 line_of_parts line parts l has x = line_by (is_skipped line) (form_of (words_of line)) (form_in parts) l has.kept has.form x
 
-parts_by : (skipped : Bool) (form other : Option Form) (l : Line) → skipped ≡ false → form ≡ other → MatchBool skipped (l ≡ Skip) (IsFormed form l) → IsFormed other l
+parts_by : (skipped : Bool) (form other : Option Form) (l : Line) → skipped ≡ false → form ≡ other → MatchBool skipped (l ≡ Skip) (IsFormed form l)
+    → IsFormed other l
 parts_by true form other l kept is x = cc kept
 parts_by false form other l kept is x = subst (λ f. IsFormed f l) is x
 

@@ -50,7 +50,8 @@ module _ (text : List ℕ) (number : ℕ) (line : List ℕ) (old left : List (Li
     before = λ r. reads.before (with_event e r);
     wrong = reads.wrong;
     right = λ events. reads.right (e ∷ events);
-    goes_on = λ result x. reads.goes_on (with_event e result) (subst (λ ls. ComesTo number ls (with_event e result)) (sym is) (inr (inr (e, result, event, x, refl))));
+    goes_on = λ result x. reads.goes_on (with_event e result)
+        (subst (λ ls. ComesTo number ls (with_event e result)) (sym is) (inr (inr (e, result, event, x, refl))));
     few = few_left;
   }
 
@@ -81,7 +82,8 @@ gives_skip line lines events skip (number, inl x) = let no = line_is_one line Sk
 gives_skip line lines events skip (number, inr (inl x)) = (number + 1, x.1)
 gives_skip line lines events skip (number, inr (inr x)) = let no = line_is_one line Skip (EventLine x.0) skip x.2 in cc no
 
-ok_with_event : (e : Event) (r : Result (List Event) ℕ) (events : List Event) → Ok events ≡ with_event e r → (others : List Event) × (r ≡ Ok others) × (events ≡ e ∷ others)
+ok_with_event : (e : Event) (r : Result (List Event) ℕ) (events : List Event) → Ok events ≡ with_event e r
+    → (others : List Event) × (r ≡ Ok others) × (events ≡ e ∷ others)
 ok_with_event e (Ok others) events h = let same : events ≡ e ∷ others = cc in (others, refl, same)
 ok_with_event e (Err n) events h = cc h
 

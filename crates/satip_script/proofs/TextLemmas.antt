@@ -264,7 +264,8 @@ joined_sees text count held look x = subst (λ t. Sees t held look) (take-append
 pub sees_behind : (text : List ℕ) (held : Held) (look : Look) → skip_newlines text ≡ text → Sees (skip_newlines text) held look → Sees text held look
 sees_behind text held look clean x = subst (λ t. Sees t held look) clean x
 
-pub whole_behind : (text : List ℕ) (held : Held) → length (skip_newlines text) ≢ length text → IsSomeAnd held.found (λ m. Begins (skip_newlines text) m []) → TellsNothing text
+pub whole_behind : (text : List ℕ) (held : Held) → length (skip_newlines text) ≢ length text → IsSomeAnd held.found (λ m. Begins (skip_newlines text) m [])
+    → TellsNothing text
 whole_behind text held other x =
     let found = some_out held.found (λ m. Begins (skip_newlines text) m []) x in
     behind_newlines_tells text found.0 [] found.1 (λ same. other (ap length same))

@@ -43,7 +43,8 @@ job_tells full JobSpent spent want = spent (λ i. JobSpent)
 job_tells full JobWant spent want = absurd (want (λ i. JobWant))
 
 -- of a worker with fresh doors
-one_worker_tells : (conn_tells outlet_tells full : Type 0) (accepts number : ℕ) (o n : WorkerView) (k l : Known) (end : ServeEnd) → WorkerDid conn_tells outlet_tells number o k n l end
+one_worker_tells : (conn_tells outlet_tells full : Type 0) (accepts number : ℕ) (o n : WorkerView) (k l : Known) (end : ServeEnd)
+    → WorkerDid conn_tells outlet_tells number o k n l end
     → FreshWorker accepts o → (l.length ≡ 18446744073709551615 → full) → MatchEnd end (n.hall.ended ≡ true) (n.hall.faults ≢ 0) full
 one_worker_tells conn_tells outlet_tells full accepts number o n k l end did fresh filled =
     let ends : WorkerEnds did.ended (fresh_hall accepts fresh.told) n.hall false l did.serves.returns =
@@ -68,7 +69,8 @@ one_failed [] has = has
 one_failed (w ∷ ws) (inl here) = inl here
 one_failed (w ∷ ws) (inr later) = inr (one_failed ws later)
 
-module _ {X G W L P M T N : Type 0} (known : X → Known) (may_want : X → Bool) (same : X → X → Type 0) (cell : X → Cell Setting) (pass : X → ServerPass) (gear : X → G)
+module _ {X G W L P M T N : Type 0} (known : X → Known) (may_want : X → Bool) (same : X → X → Type 0) (cell : X → Cell Setting) (pass : X → ServerPass)
+    (gear : X → G)
     (legal : Setting → List Item → Type 0) (is_stop : Item → Type 0) (goes_on : X → X → Type 0) (serves : Serves known may_want same cell pass legal is_stop)
     (conn_tells outlet_tells : Type 0) (worker_of : W → WorkerView) (pump_of : P → PumpView) (tick_of : T → TickView) (o : X) (before : Posts W P T G) (n : X)
     (after : Posts W P T G) (end : ServeEnd)
@@ -83,18 +85,25 @@ module _ {X G W L P M T N : Type 0} (known : X → Known) (may_want : X → Bool
       let ticked = ticks outlet_tells tick_of in
       let good : WorkerView → Type 0 = λ w. w.hall.ended ≡ true in
       let bad : WorkerView → Type 0 = λ w. w.hall.faults ≢ 0 in
-      let whole : MatchEnd end (Each good (map (λ (s : Seat X W L). worker_of s.kit) run.front.ended)) (HasOne bad (map (λ (s : Seat X W L). worker_of s.kit) run.front.ended)) full =
+      let whole : MatchEnd end (Each good (map (λ (s : Seat X W L). worker_of s.kit) run.front.ended))
+      (HasOne bad (map (λ (s : Seat X W L). worker_of s.kit) run.front.ended)) full =
       end_over cell pass gear legal is_stop goes_on (SeatDid same known worked) (SeatDid same known pumped) (SeatDid same known ticked) o before n after end run
       (λ (s : Seat X W L). worker_of s.kit) good bad (λ (s : Seat X W L). FreshWorker accepts (worker_of s.kit))
-      (λ (x y : Seat X W L) did kit filled. one_worker_tells conn_tells outlet_tells full accepts x.number (worker_of x.kit) (worker_of y.kit) (known_by (pass x.caller))
+      (λ (x y : Seat X W L) did kit filled. one_worker_tells conn_tells outlet_tells full accepts x.number (worker_of x.kit) (worker_of y.kit)
+      (known_by (pass x.caller))
       (known_by (pass y.caller)) y.end (deed_by known may_want same cell pass gear legal is_stop goes_on serves worked x y did) kit filled)
-      (λ (x y : Seat X P M) did filled. one_pump_tells outlet_tells full x.number (pump_of x.kit) (pump_of y.kit) (known_by (pass x.caller)) (known_by (pass y.caller)) y.end
+      (λ (x y : Seat X P M) did filled. one_pump_tells outlet_tells full x.number (pump_of x.kit) (pump_of y.kit) (known_by (pass x.caller))
+      (known_by (pass y.caller)) y.end
       (deed_by known may_want same cell pass gear legal is_stop goes_on serves pumped x y did) filled)
-      (λ (x y : Seat X T N) did filled. one_ticker_tells outlet_tells full (tick_of x.kit) (tick_of y.kit) (known_by (pass x.caller)) (known_by (pass y.caller)) y.end
+      (λ (x y : Seat X T N) did filled. one_ticker_tells outlet_tells full (tick_of x.kit) (tick_of y.kit) (known_by (pass x.caller))
+      (known_by (pass y.caller)) y.end
       (deed_by known may_want same cell pass gear legal is_stop goes_on serves ticked x y did) filled)
-      knows (workers_fresh known may_want same cell pass gear legal is_stop goes_on serves conn_tells outlet_tells worker_of pump_of tick_of o before n after end run accepts fresh) in
-      let seen = workers_seen known may_want same cell pass gear legal is_stop goes_on serves conn_tells outlet_tells worker_of pump_of tick_of o before n after end run in
+      knows (workers_fresh known may_want same cell pass gear legal is_stop goes_on serves conn_tells outlet_tells worker_of pump_of tick_of o before n after
+      end run accepts fresh) in
+      let seen = workers_seen known may_want same cell pass gear legal is_stop goes_on serves conn_tells outlet_tells worker_of pump_of tick_of o before n
+      after end run in
       let at_last : MatchEnd end (Each good (map worker_of after.workers.items)) (HasOne bad (map worker_of after.workers.items)) full =
       subst (λ (ws : List WorkerView). MatchEnd end (Each good ws) (HasOne bad ws) full) seen whole in
-      end_follows end (Each good (map worker_of after.workers.items)) (Each good (map worker_of after.workers.items)) (HasOne bad (map worker_of after.workers.items))
+      end_follows end (Each good (map worker_of after.workers.items)) (Each good (map worker_of after.workers.items))
+      (HasOne bad (map worker_of after.workers.items))
       (HasFault (map worker_of after.workers.items)) full (λ all. all) (one_failed (map worker_of after.workers.items)) at_last

@@ -44,7 +44,8 @@ spent_in_time : (full : Type 0) (r : Return) → r.end ≡ ConnSpent → full �
 spent_in_time full r is then = (λ want. absurd (cc (is, want)), λ _. then)
 
 pub not_zero : (n : ℕ) → Rises 0 n → n ≢ 0
-not_zero n rises is = ⊎_elim (λ (less : 0 < n). absurd (omega (arith, less, is))) (λ (last : 18446744073709551615 ≤ n). absurd (omega (arith, last, is))) rises.rose
+not_zero n rises is = ⊎_elim (λ (less : 0 < n). absurd (omega (arith, less, is)))
+    (λ (last : 18446744073709551615 ≤ n). absurd (omega (arith, last, is))) rises.rose
 
 record EndedInTime (full : Type 0) (hall : Hall) (returns : List Return) : Type 0 where
   ended : (hall.ended ≡ true) ⊎ ((hall.faults ≢ 0) ⊎ full)
@@ -123,7 +124,8 @@ pump_done outlet_tells full front caller o n k l end did fresh none fills =
           (subst (λ (b : Outbox). Delivers outlet_tells b n.outbox (datagrams_of run.entries)) fresh.outbox run.delivers);
     }
 
-ticks_stop : (full : Type 0) (end : JobEnd) (entries : List Item) (unmade : List ℕ) → TicksEnd end entries unmade → (end ≡ JobSpent → full) → (end ≡ JobWant → ⊥)
+ticks_stop : (full : Type 0) (end : JobEnd) (entries : List Item) (unmade : List ℕ) → TicksEnd end entries unmade → (end ≡ JobSpent → full)
+    → (end ≡ JobWant → ⊥)
     → TicksStop full entries unmade
 ticks_stop full Stopped entries unmade ends spent want = inl ends
 ticks_stop full JobSpent entries unmade ends spent want = inr (spent refl, ends.0, ends.1)

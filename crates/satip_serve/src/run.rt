@@ -27,10 +27,10 @@ use std::sync::Wait;
 use std::thread::Threads;
 
 /// Serves with all jobs beside each other: workers, pumps in the order of front ends, and the
-/// ticker. Each job is a caller of its own, split off from `root`, caller 0, with its gear. When all
-/// workers have ended their callers are joined, and caller 0 makes the one stop, while pumps and
-/// ticker still run; when these have ended they are joined too. Callers are joined in the order of
-/// jobs. Kits and gears come back in that order. It waits.
+/// ticker. Each job is a caller of its own, split off from `root`, caller 0, with its gear. When
+/// all workers have ended their callers are joined, and caller 0 makes the one stop, while pumps
+/// and ticker still run; when these have ended they are joined too. Callers are joined in the order
+/// of jobs. Kits and gears come back in that order. It waits.
 pub fn run_services<
     R: Threads + Wait + Sync,
     X: Service + Crew<Asks = Event, Answers = Answer> + Send + Drop,

@@ -158,7 +158,8 @@ pub fn serve<
         (tick_view C.dial O.outbox jobs.tick)
         → ServeRun D.Conn.tells O.tells served.0.server.setting accepts served.0.pass.seen
         served.0.pass.kept
-        (map (worker_view D.hall O.outbox) served.0.jobs.workers.items) (map (pump_view M.shelf O.outbox) served.0.jobs.pumps.items)
+        (map (worker_view D.hall O.outbox) served.0.jobs.workers.items)
+        (map (pump_view M.shelf O.outbox) served.0.jobs.pumps.items)
         (tick_view C.dial O.outbox served.0.jobs.tick)) }
     // why it ended so: all doors ended, or those of a worker failed, or the history is full
     ensures ended { IfOk result (λ served. (accepts : _)

@@ -8,8 +8,11 @@ use satip_memory_desk::MemoryDesk;
 use std::alloc::Global;
 use std::test::Fail;
 
-const TWO_WORKERS: &[u8] =
-    b"address = \"192.168.1.10\"\nworkers = 2\n[[frontend]]\nsources = [1]\nsystems = [\"dvbs\", \"dvbs2\"]\n";
+const TWO_WORKERS: &[u8] = b"address = \"192.168.1.10\"\n\
+    workers = 2\n\
+    [[frontend]]\n\
+    sources = [1]\n\
+    systems = [\"dvbs\", \"dvbs2\"]\n";
 
 // A desk with kits for two workers.
 fn desk_for_two(alloc: Global) -> Result<MemoryDesk, Fail>

@@ -36,8 +36,11 @@ pub const JOURNAL: &[&str] = &["journal", "c1.toml", "1"];
 pub const TUNNEL: &[&str] = &["tunnel", "c1.toml", "1"];
 
 /// One worker and one front end.
-pub const ONE_WORKER: &[u8] =
-    b"address = \"192.168.1.10\"\nworkers = 1\n[[frontend]]\nsources = [1]\nsystems = [\"dvbs\", \"dvbs2\"]\n";
+pub const ONE_WORKER: &[u8] = b"address = \"192.168.1.10\"\n\
+    workers = 1\n\
+    [[frontend]]\n\
+    sources = [1]\n\
+    systems = [\"dvbs\", \"dvbs2\"]\n";
 
 /// A request of the options.
 pub const OPTIONS: &[u8] = b"OPTIONS * RTSP/1.0\r\nCSeq: 1\r\n\r\n";

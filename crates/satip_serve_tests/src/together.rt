@@ -1,6 +1,7 @@
-//! The commands `serve` and `journal` with two workers, two pumps and the ticker, each of which needs the others:
-//! the first client plays only once the second was answered, and ends its session only once packets
-//! were sent and the clock was read. Jobs that ran one after another would never get there.
+//! The commands `serve` and `journal` with two workers, two pumps and the ticker, each of which
+//! needs the others: the first client plays only once the second was answered, and ends its session
+//! only once packets were sent and the clock was read. Jobs that ran one after another would never
+//! get there.
 
 use crate::deeds::{Deeds, Gate, OPEN};
 use crate::shared::{JOURNAL, OK, OPTIONS, Ran, SERVE, run};
@@ -10,21 +11,34 @@ use std::alloc::Global;
 use std::test::Fail;
 
 const SETUP: &[u8] =
-    b"SETUP rtsp://192.168.1.10/?src=1&freq=11361.75&pol=h&ro=0.35&msys=dvbs2&mtype=8psk&plts=on&sr=22000&fec=23&pids=0,16,17&x_pmt=100 RTSP/1.0\r\nCSeq: 1\r\nTransport: RTP/AVP;unicast;client_port=1400-1401\r\n\r\n";
+    b"SETUP rtsp://192.168.1.10/?src=1&freq=11361.75&pol=h&ro=0.35&msys=dvbs2&mtype=8psk&plts=on\
+    &sr=22000&fec=23&pids=0,16,17&x_pmt=100 RTSP/1.0\r\n\
+    CSeq: 1\r\n\
+    Transport: RTP/AVP;unicast;client_port=1400-1401\r\n\r\n";
 
 /// A PLAY of stream 1.
 pub const PLAY: &[u8] =
     b"PLAY rtsp://192.168.1.10/stream=1 RTSP/1.0\r\nCSeq: 1\r\nSession: 00000001d6df3fef\r\n\r\n";
 
 /// A TEARDOWN of stream 1.
-pub const TEARDOWN: &[u8] =
-    b"TEARDOWN rtsp://192.168.1.10/stream=1 RTSP/1.0\r\nCSeq: 1\r\nSession: 00000001d6df3fef\r\n\r\n";
+pub const TEARDOWN: &[u8] = b"TEARDOWN rtsp://192.168.1.10/stream=1 RTSP/1.0\r\n\
+    CSeq: 1\r\n\
+    Session: 00000001d6df3fef\r\n\r\n";
 
 // The replies to these three. The first draw of a key of zeros for stream 1, that of the first
 // worker, has the word d6df3fef and the first number 53237 (the first words of that ChaCha20
 // stream).
-const REPLIES: &[u8] =
-    b"RTSP/1.0 200 OK\r\nCSeq: 1\r\nSession: 00000001d6df3fef;timeout=60\r\nTransport: RTP/AVP;unicast;client_port=1400-1401\r\ncom.ses.streamID: 1\r\n\r\nRTSP/1.0 200 OK\r\nCSeq: 1\r\nSession: 00000001d6df3fef\r\nRTP-Info: url=rtsp://192.168.1.10/stream=1;seq=53237\r\n\r\nRTSP/1.0 200 OK\r\nCSeq: 1\r\n\r\n";
+const REPLIES: &[u8] = b"RTSP/1.0 200 OK\r\n\
+    CSeq: 1\r\n\
+    Session: 00000001d6df3fef;timeout=60\r\n\
+    Transport: RTP/AVP;unicast;client_port=1400-1401\r\n\
+    com.ses.streamID: 1\r\n\r\n\
+    RTSP/1.0 200 OK\r\n\
+    CSeq: 1\r\n\
+    Session: 00000001d6df3fef\r\n\
+    RTP-Info: url=rtsp://192.168.1.10/stream=1;seq=53237\r\n\r\n\
+    RTSP/1.0 200 OK\r\n\
+    CSeq: 1\r\n\r\n";
 
 // The first client plays once the second was answered, and tears down once seven packets were sent
 // and the clock was read three times.

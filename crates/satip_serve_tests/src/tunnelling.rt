@@ -9,11 +9,21 @@ use satip_world::ConnEnd;
 use std::test::Fail;
 
 const SETUP: &[u8] =
-    b"SETUP rtsp://192.168.1.10/?src=1&freq=11361.75&pol=h&ro=0.35&msys=dvbs2&mtype=8psk&plts=on&sr=22000&fec=23&pids=0,16,17&x_pmt=100 RTSP/1.0\r\nCSeq: 1\r\nTransport: RTP/AVP/TCP;interleaved=0-1\r\n\r\n";
+    b"SETUP rtsp://192.168.1.10/?src=1&freq=11361.75&pol=h&ro=0.35&msys=dvbs2&mtype=8psk&plts=on\
+    &sr=22000&fec=23&pids=0,16,17&x_pmt=100 RTSP/1.0\r\n\
+    CSeq: 1\r\n\
+    Transport: RTP/AVP/TCP;interleaved=0-1\r\n\r\n";
 
 // The replies to SETUP and PLAY, with the first draw of a key of zeros for stream 1, as in a serve.
-const BEGUN: &[u8] =
-    b"RTSP/1.0 200 OK\r\nCSeq: 1\r\nSession: 00000001d6df3fef;timeout=60\r\nTransport: RTP/AVP/TCP;unicast;interleaved=0-1\r\ncom.ses.streamID: 1\r\n\r\nRTSP/1.0 200 OK\r\nCSeq: 1\r\nSession: 00000001d6df3fef\r\nRTP-Info: url=rtsp://192.168.1.10/stream=1;seq=53237\r\n\r\n";
+const BEGUN: &[u8] = b"RTSP/1.0 200 OK\r\n\
+    CSeq: 1\r\n\
+    Session: 00000001d6df3fef;timeout=60\r\n\
+    Transport: RTP/AVP/TCP;unicast;interleaved=0-1\r\n\
+    com.ses.streamID: 1\r\n\r\n\
+    RTSP/1.0 200 OK\r\n\
+    CSeq: 1\r\n\
+    Session: 00000001d6df3fef\r\n\
+    RTP-Info: url=rtsp://192.168.1.10/stream=1;seq=53237\r\n\r\n";
 
 // The reply to TEARDOWN.
 const OVER: &[u8] = b"RTSP/1.0 200 OK\r\nCSeq: 1\r\n\r\n";

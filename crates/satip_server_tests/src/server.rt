@@ -148,11 +148,16 @@ fn tear_down(rt: &impl Abort, server: &mut Server, out: &mut Out) {
     assert_eq!(rt; server.event(&event, out), ok);
 }
 
-const SETUP_REPLY: &[u8] =
-    b"RTSP/1.0 200 OK\r\nCSeq: 2\r\nSession: 000000010000000a;timeout=60\r\nTransport: RTP/AVP;unicast;client_port=1400-1401\r\ncom.ses.streamID: 1\r\n\r\n";
+const SETUP_REPLY: &[u8] = b"RTSP/1.0 200 OK\r\n\
+    CSeq: 2\r\n\
+    Session: 000000010000000a;timeout=60\r\n\
+    Transport: RTP/AVP;unicast;client_port=1400-1401\r\n\
+    com.ses.streamID: 1\r\n\r\n";
 
-const PLAY_REPLY: &[u8] =
-    b"RTSP/1.0 200 OK\r\nCSeq: 2\r\nSession: 000000010000000a\r\nRTP-Info: url=rtsp://192.168.1.10/stream=1;seq=65535\r\n\r\n";
+const PLAY_REPLY: &[u8] = b"RTSP/1.0 200 OK\r\n\
+    CSeq: 2\r\n\
+    Session: 000000010000000a\r\n\
+    RTP-Info: url=rtsp://192.168.1.10/stream=1;seq=65535\r\n\r\n";
 
 /// Founds the first stream, whose front end's pump is told to tune, and plays it.
 fn set_up_and_play(rt: &impl Abort, server: &mut Server, out: &mut Out) -> Result<(), Fail> {

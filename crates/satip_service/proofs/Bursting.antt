@@ -30,7 +30,8 @@ each-append : (ts us : List (Taken Event Answer Output)) → Each (λ (t : Taken
 each-append [] us first second = second
 each-append (t ∷ ts) us first second = (first.0, each-append ts us first.1 second)
 
-pub under_way_more : (caller : ℕ) (k l m : Known) (before after : List (Taken Event Answer Output) → Type 0) (made : ℕ) (event : Event) (answer : Answer) (out : Output)
+pub under_way_more : (caller : ℕ) (k l m : Known) (before after : List (Taken Event Answer Output) → Type 0) (made : ℕ) (event : Event) (answer : Answer)
+    (out : Output)
     → UnderWay caller k l before made → Adds l m (entry caller event answer out) → Suits event answer
     → ((ts : List (Taken Event Answer Output)) → before ts → after (ts ++ taken event answer out ∷ [])) → UnderWay caller k m after (made + 1)
 under_way_more caller k l m before after made event answer out way adds suits takes =
@@ -46,7 +47,8 @@ under_way_more caller k l m before after made event answer out way adds suits ta
           (adds_then k l m (entries caller way.taken_are) (entry caller event answer out ∷ []) way.adds (adds_one l m (entry caller event answer out) adds));
     }
 
-pub under_way_ends : (may_want : Bool) (caller : ℕ) (k l : Known) (ended : Bool) (given : Option Event) (has_taken : List (Taken Event Answer Output) → Type 0) (made : ℕ)
+pub under_way_ends : (may_want : Bool) (caller : ℕ) (k l : Known) (ended : Bool) (given : Option Event)
+    (has_taken : List (Taken Event Answer Output) → Type 0) (made : ℕ)
     (result : Result (Unit {0}) ServiceFault) → UnderWay caller k l has_taken made → made ≤ 64 → BurstEnds may_want l ended given made result
     → Bursts may_want k l ended given has_taken result
 under_way_ends may_want caller k l ended given has_taken made result way most ends =

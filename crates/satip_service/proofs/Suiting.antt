@@ -43,7 +43,8 @@ accepted_open : (refusal : Option Refusal) (more : List (Option Refused)) → fi
 accepted_open None more e = refl
 accepted_open (Some refusal) more e = absurd (cc e)
 
-done_suits : (m : Method) (c : Config) (peer : Peer) (draw : Draw) (r : Request) (st : State) → closes r.refusal ≡ false → Suits (Asked peer draw r) (done_by m c peer draw r st).answer
+done_suits : (m : Method) (c : Config) (peer : Peer) (draw : Draw) (r : Request) (st : State) → closes r.refusal ≡ false
+    → Suits (Asked peer draw r) (done_by m c peer draw r st).answer
 done_suits Options c peer draw r st goes_on = sym goes_on
 done_suits Describe c peer draw r st goes_on = sym goes_on
 done_suits Setup c peer draw r st goes_on = sym goes_on
@@ -61,14 +62,17 @@ done_suits Teardown c peer draw r st goes_on = by (session_named st r.session)
 request_suits : (c : Config) (peer : Peer) (draw : Draw) (r : Request) (st : State) → Suits (Asked peer draw r) (on_request c peer draw r st).answer
 request_suits c peer draw r st = by (decide c st r) refl
   where
-    by : (o : Option Refused) → decide c st r ≡ o → Suits (Asked peer draw r) (option_map_or (refuse r (heard_by r st)) o (done_by r.method c peer draw r (heard_by r st))).answer
+    by : (o : Option Refused) → decide c st r ≡ o
+        → Suits (Asked peer draw r) (option_map_or (refuse r (heard_by r st)) o (done_by r.method c peer draw r (heard_by r st))).answer
     by None e = done_suits r.method c peer draw r (heard_by r st) (accepted_open r.refusal _ e)
     by (Some refused) e = closing_same r.refusal
 
 get_suits : (c : Config) (peer : Peer) (draw : Draw) (r : HttpRequest) (st : State) → Suits (Got peer draw r) (on_get c peer draw r st).answer
 get_suits c peer draw r st = by _ (decide_get c st r)
   where
-    by : (head : Refused → List ℕ) (o : Option Refused) → Suits (Got peer draw r) (option_map_or (λ refused. outcome (settle st) (GetIs (GetRefused refused.status)) (head refused)) o (start c peer draw r st)).answer
+    by : (head : Refused → List ℕ) (o : Option Refused)
+        → Suits (Got peer draw r)
+        (option_map_or (λ refused. outcome (settle st) (GetIs (GetRefused refused.status)) (head refused)) o (start c peer draw r st)).answer
     by head None = tt
     by head (Some refused) = tt
 
@@ -86,7 +90,9 @@ pull_suits id st = by (http_session st id)
 close_suits : (id : SessionId) (st : State) → Suits (Close id) (on_close id st).answer
 close_suits id st = by (http_session st id)
   where
-    by : (o : Option Session) → Suits (Close id) (option_map_or (λ s. outcome (end_where (is_session id) st) (ClosedIs Yes) []) o (outcome (settle st) (ClosedIs ClosedGone) [])).answer
+    by : (o : Option Session)
+        → Suits (Close id) (option_map_or (λ s. outcome (end_where (is_session id) st) (ClosedIs Yes) []) o
+        (outcome (settle st) (ClosedIs ClosedGone) [])).answer
     by None = tt
     by (Some s) = tt
 
@@ -116,10 +122,13 @@ legal_suits c h legal = entries_suit c.config (opening c) h legal.entries
 pub last_suits : (c : Setting) (h : List Item) (e : Item) → Legal c (h ++ e ∷ []) → Suits e.event e.answer
 last_suits c h e legal = (Each-append_right (λ (x : Item). Suits x.event x.answer) h (e ∷ []) (legal_suits c (h ++ e ∷ []) legal)).0
 
-taken_suit : (caller : ℕ) (ts : List (Taken Event Answer Output)) → Each (λ (e : Item). Suits e.event e.answer) (entries caller ts) → Each (λ (t : Taken Event Answer Output). Suits t.event t.answer) ts
+taken_suit : (caller : ℕ) (ts : List (Taken Event Answer Output)) → Each (λ (e : Item). Suits e.event e.answer) (entries caller ts)
+    → Each (λ (t : Taken Event Answer Output). Suits t.event t.answer) ts
 taken_suit caller [] each = tt
 taken_suit caller (t ∷ ts) each = (each.0, taken_suit caller ts each.1)
 
 -- and those of a caller's entries that came last
-pub lasts_suit : (c : Setting) (h : List Item) (caller : ℕ) (ts : List (Taken Event Answer Output)) → Legal c (h ++ entries caller ts) → Each (λ (t : Taken Event Answer Output). Suits t.event t.answer) ts
-lasts_suit c h caller ts legal = taken_suit caller ts (Each-append_right (λ (x : Item). Suits x.event x.answer) h (entries caller ts) (legal_suits c (h ++ entries caller ts) legal))
+pub lasts_suit : (c : Setting) (h : List Item) (caller : ℕ) (ts : List (Taken Event Answer Output)) → Legal c (h ++ entries caller ts)
+    → Each (λ (t : Taken Event Answer Output). Suits t.event t.answer) ts
+lasts_suit c h caller ts legal = taken_suit caller ts
+    (Each-append_right (λ (x : Item). Suits x.event x.answer) h (entries caller ts) (legal_suits c (h ++ entries caller ts) legal))

@@ -23,11 +23,13 @@ use Rattle.satip_serving.proofs.Quiet.{IsQuiet, quiet_event, serves_quiet, ticks
 due_packet : (front : ℕ) (due : Due) (event : Event) → IsDue front due event → (n : ℕ) → is_packet_on n event ≡ true → front ≡ n
 due_packet front (Asking reel) event is n on = absurd (false≢true (sym (ap (is_packet_on n) is) ∙ on))
 due_packet front (Feeding reel) event is n on =
-    ⊎_elim (λ (fed : (packet : List ℕ) × (event ≡ Packet front reel.tune packet) × IsFirst packet reel.left). eqb-true front n (sym (ap (is_packet_on n) fed.1) ∙ on))
+    ⊎_elim (λ (fed : (packet : List ℕ) × (event ≡ Packet front reel.tune packet) × IsFirst packet reel.left).
+    eqb-true front n (sym (ap (is_packet_on n) fed.1) ∙ on))
     (λ (ended : event ≡ Ended front reel.tune). absurd (false≢true (sym (ap (is_packet_on n) ended) ∙ on))) is
 due_packet front Finished event is n on = absurd is
 
-pump_packets : (front : ℕ) (recording : ℕ → Option (List ℕ)) (due : Due) (entries : List Item) (next : Due) (early : ℕ) → Pumps front recording due entries next early
+pump_packets : (front : ℕ) (recording : ℕ → Option (List ℕ)) (due : Due) (entries : List Item) (next : Due) (early : ℕ)
+    → Pumps front recording due entries next early
     → Each (λ e. (n : ℕ) → is_packet_on n e.event ≡ true → front ≡ n) entries
 pump_packets front recording due [] next early pumps = tt
 pump_packets front recording due (e ∷ es) next early pumps =
@@ -64,12 +66,14 @@ unfolding HasAt
 behind_place place number from [] less = tt
 behind_place place number from (r ∷ rs) less = ((λ is. absurd (omega (arith, is, less))), behind_place place number (from + 1) rs (omega (arith, less)))
 
-at_place : (before : List Caller) (r : Caller) (behind : List Caller) (from place : ℕ) → place ≡ from + length before → HasAt place r.number from (before ++ r ∷ behind)
+at_place : (before : List Caller) (r : Caller) (behind : List Caller) (from place : ℕ) → place ≡ from + length before
+    → HasAt place r.number from (before ++ r ∷ behind)
 unfolding HasAt
 at_place [] r behind from place at = ((λ _. refl), behind_place place r.number (from + 1) behind (omega (arith, at)))
 at_place (b ∷ bs) r behind from place at = ((λ is. absurd (omega (arith, is, at))), at_place bs r behind (from + 1) place (omega (arith, at)))
 
-pumps_give : (outlet_tells full : Type 0) (front number from : ℕ) (pumps : List PumpView) (rows : List Caller) → Along (PumpDone outlet_tells full) from pumps rows
+pumps_give : (outlet_tells full : Type 0) (front number from : ℕ) (pumps : List PumpView) (rows : List Caller)
+    → Along (PumpDone outlet_tells full) from pumps rows
     → HasAt front number from rows → Each (GivesAs front number) rows
 unfolding HasAt
 pumps_give ot full front number from [] [] along at = tt
@@ -96,7 +100,8 @@ has_own e (x ∷ xs) has =
     (subst (Has x) (sym (own_of-cons_same x.caller x xs refl)) (inl refl)))
     (λ (later : Has e xs). has_kept (x.caller == e.caller) x e (own_of e.caller xs) (has_own e xs later)) has
 
-caller_gives : (front number : ℕ) (h : List Item) (e : Item) (rows : List Caller) → Each (λ r. own_of r.number h ≡ r.own) rows → Each (GivesAs front number) rows
+caller_gives : (front number : ℕ) (h : List Item) (e : Item) (rows : List Caller) → Each (λ r. own_of r.number h ≡ r.own) rows
+    → Each (GivesAs front number) rows
     → Has e.caller (numbers_of rows) → Has e h → is_packet_on front e.event ≡ true → e.caller ≡ number
 caller_gives front number h e [] own gives there has on = absurd there
 caller_gives front number h e (r ∷ rs) own gives there has on =
@@ -123,7 +128,8 @@ stop_quiet h callers stopped =
 
 -- the pumps from a place on
 each_plays : (c : Setting) (h : List Item) (outlet_tells full : Type 0) (all : List Caller) → GivesRecordings c h
-    → ((front number : ℕ) → HasAt front number 1 all → PacketsAreOf number front h) → (before : List Caller) (from : ℕ) (pumps : List PumpView) (rows : List Caller)
+    → ((front number : ℕ) → HasAt front number 1 all → PacketsAreOf number front h)
+    → (before : List Caller) (from : ℕ) (pumps : List PumpView) (rows : List Caller)
     → all ≡ before ++ rows → from ≡ 1 + length before → Each (λ r. own_of r.number h ≡ r.own) rows → Along (PumpDone outlet_tells full) from pumps rows
     → EachAt (PlaysAt c h) from pumps
 each_plays c h ot full all gives owner before from [] [] are at own along = tt

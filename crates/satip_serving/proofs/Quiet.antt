@@ -53,7 +53,8 @@ requests_quiet : (peer : Peer) (drawn : ℕ → Draw) (n : ℕ) (requests : List
 requests_quiet peer drawn n requests [] rest are = tt
 requests_quiet peer drawn n [] (e ∷ es) rest are = absurd (no_first e.event (events_of es ++ rest) are)
 requests_quiet peer drawn n (r ∷ rs) (e ∷ es) rest are = (
-  quiet_event e (Asks peer (drawn n) r) (sym (first_same (Asks peer (drawn n) r) e.event (request_events peer drawn (n + 1) rs) (events_of es ++ rest) are)) (λ front. refl),
+  quiet_event e (Asks peer (drawn n) r) (sym (first_same (Asks peer (drawn n) r) e.event (request_events peer drawn (n + 1) rs) (events_of es ++ rest) are))
+      (λ front. refl),
   requests_quiet peer drawn (n + 1) rs es rest (rest_same (Asks peer (drawn n) r) e.event (request_events peer drawn (n + 1) rs) (events_of es ++ rest) are),
 )
 
@@ -63,7 +64,8 @@ closes_quiet id cause end [] closes = tt
 closes_quiet id cause end (e ∷ []) closes = (quiet_event e (Close id) closes.0 (λ front. refl), tt)
 closes_quiet id cause end (e ∷ f ∷ es) closes = absurd closes
 
-follows_quiet : (id : SessionId) (end : ConnEnd) (reply sent : List ℕ) (entries : List Item) (GoesOn : List ℕ → Type 0) → Follows id end reply sent entries GoesOn
+follows_quiet : (id : SessionId) (end : ConnEnd) (reply sent : List ℕ) (entries : List Item) (GoesOn : List ℕ → Type 0)
+    → Follows id end reply sent entries GoesOn
     → ((rest : List ℕ) → GoesOn rest → Each IsQuiet entries) → Each IsQuiet entries
 follows_quiet id end reply sent entries GoesOn follows on =
     ⊎_elim (λ (whole : SentWhole reply sent GoesOn). on whole.rest whole.goes_on)
@@ -117,7 +119,8 @@ conn_quiet Http peer drawn from to received sent end entries run =
     http_quiet peer drawn from to end entries sent (asked_first run.messages run.tail) run.entries_are
 
 -- of all connections of a worker
-pub serves_quiet : (tells : Type 0) (drawn : ℕ → Draw) (from to : ℕ) (returns : List Return) (entries : List Item) → ServesAll tells drawn from to returns entries
+pub serves_quiet : (tells : Type 0) (drawn : ℕ → Draw) (from to : ℕ) (returns : List Return) (entries : List Item)
+    → ServesAll tells drawn from to returns entries
     → Each IsQuiet entries
 serves_quiet tells drawn from to [] entries serves = none_of entries serves.1
 serves_quiet tells drawn from to (r ∷ rs) entries serves =

@@ -208,7 +208,8 @@ ends_by ct accepts text before now seen s view given config_of Ran last unused e
   unused_told (Some kits) end none = ap serving_status none
 
 -- the desk gave kits
-left_by : {L J : Type 0} (before now : ℕ) (given : Option JobsView) (last : Option L) (unused : Option J) (end : ServingEnd) → now ≡ before → IsOneOf last unused
+left_by : {L J : Type 0} (before now : ℕ) (given : Option JobsView) (last : Option L) (unused : Option J) (end : ServingEnd) → now ≡ before
+    → IsOneOf last unused
     → MatchOption last (end ≡ OutOfMemory) (λ _. IsEndOfRun end) → IsLeft before now given last unused end
 left_by before now given (Some l) None end same one begun =
     record { config = inl same; unused_end = tt; served = λ is. refl; doors_fault = λ is no. absurd (cc no) }

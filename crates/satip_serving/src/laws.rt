@@ -8,7 +8,8 @@ use satip_laws::{law_2, law_3, law_4, law_9};
 use satip_plain::prefix_is_legal;
 use satip_shared::{SharedPass, SharedServer};
 
-/// What a pass has seen, where it is legal in the server's setting, keeps the laws. It does nothing.
+/// What a pass has seen, where it is legal in the server's setting, keeps the laws. It does
+/// nothing.
 pub fn keeps_laws(server: &SharedServer, pass: &SharedPass)
     requires lawful { Legal server.now.setting pass.now.seen }
     requires short { length pass.now.seen < 2 ^ 64 }

@@ -17,7 +17,8 @@ use Rattle.satip_service.proofs.Suiting.{last_suits, lasts_suit}
 use Rattle.satip_turn.specs.Shown.{Turned, Bursts as CellBursts}
 use Rattle.satip_shared.specs.Calling.{ServerPass, known_by}
 
-pub made_by : (c : Setting) (p q : ServerPass) (event : Event) (answer : Answer) (out : Output) → Legal c q.seen → Turned p q (entry p.number event answer out ∷ [])
+pub made_by : (c : Setting) (p q : ServerPass) (event : Event) (answer : Answer) (out : Output) → Legal c q.seen
+    → Turned p q (entry p.number event answer out ∷ [])
     → Made (known_by p) (known_by q) event answer out
 made_by c p q event answer out lawful turned =
     let e : Item = entry p.number event answer out in
@@ -30,7 +31,8 @@ made_by c p q event answer out lawful turned =
     }
 
 -- a burst of the cell is a burst of its caller
-pub bursts_by : (c : Setting) (p q : ServerPass) (made : ℕ) (ended : Bool) (given : Option Event) (same : Type 0) (has_taken : List (Taken Event Answer Output) → Type 0) (result : Result (Unit {0}) ServiceFault)
+pub bursts_by : (c : Setting) (p q : ServerPass) (made : ℕ) (ended : Bool) (given : Option Event) (same : Type 0)
+    (has_taken : List (Taken Event Answer Output) → Type 0) (result : Result (Unit {0}) ServiceFault)
     → Legal c q.seen → made ≤ 64 → CellBursts (λ (ts : List (Taken Event Answer Output)). same × has_taken ts) p q made
     → BurstEnds false (known_by q) ended given made result
     → Bursts false (known_by p) (known_by q) ended given has_taken result
@@ -66,7 +68,8 @@ pub ends_well : (q : ServerPass) (made : ℕ) (ended spent : Bool) (given : Opti
 ends_well q made ended spent given unspent most few is =
     let not : (spent ≡ true) → ⊥ = λ e. absurd (cc (e, unspent)) in (
       not_some given (λ some. not (is.1 some)),
-      ⊎_elim (λ (e : made ≡ 64). inr e) (λ (lt : made < 64). ⊎_elim (λ (e : ended ≡ true). inl e) (λ (e : spent ≡ true). absurd (not e)) (few lt)) (eq-or-lt_of_le most),
+      ⊎_elim (λ (e : made ≡ 64). inr e) (λ (lt : made < 64). ⊎_elim (λ (e : ended ≡ true). inl e) (λ (e : spent ≡ true). absurd (not e)) (few lt))
+          (eq-or-lt_of_le most),
     )
 
 -- and one that left one

@@ -20,7 +20,8 @@ pub struct Caller<'a, R: Wait + Sync> {
     pub server: &'a SharedServer,
     pub pass: SharedPass,
     pub ghost of: { IsOf pass server.now } by { of_prop pass server.now },
-    pub ghost lawful: { Legal server.now.setting pass.seen } by { legal_prop server.now.setting pass.seen },
+    pub ghost lawful: { Legal server.now.setting pass.seen } by { legal_prop
+        server.now.setting pass.seen },
     pub ghost short: { length pass.seen < 2 ^ 64 },
 }
 

@@ -117,7 +117,8 @@ never_ended (inr (inr e)) = omega arith
 pub doors_go_on : ¬ (SmallRun 1 small_history (caller_of 1 [] ∷ small_ticker ∷ []) (worker_with false 1 0 ∷ []) (1000 ∷ 1020 ∷ 1040 ∷ []))
 doors_go_on s = never_ended (one_ended (IsFull small_history) 1 (worker_with false 1 0) s.of_workers s.worked)
 
-pub workers_are_two : ¬ (SmallRun 1 small_history (caller_of 1 [] ∷ small_ticker ∷ []) (worker_with true 1 0 ∷ worker_with true 1 0 ∷ []) (1000 ∷ 1020 ∷ 1040 ∷ []))
+pub workers_are_two : ¬ (SmallRun 1 small_history (caller_of 1 [] ∷ small_ticker ∷ []) (worker_with true 1 0 ∷ worker_with true 1 0 ∷ [])
+    (1000 ∷ 1020 ∷ 1040 ∷ []))
 workers_are_two s =
     let same : ◌≡◌ {A = ℕ} 2 1 = s.worker_count in
     absurd (omega arith)
@@ -130,7 +131,8 @@ start_is_another s =
     let same : ◌≡◌ {A = ℕ} 990 1000 = same_first 990 1000 (1020 ∷ 1040 ∷ []) (s.ticked.moments ++ s.ticked.unmade) (s.ticked.readings refl) in
     absurd (omega arith)
 
-pub entry_is_lost : ¬ (SmallRun 1 small_history (caller_of 1 [] ∷ caller_of 2 (tick_by 2 1040 Stopping ∷ []) ∷ []) (worker_with true 1 0 ∷ []) (1000 ∷ 1040 ∷ []))
+pub entry_is_lost : ¬ (SmallRun 1 small_history (caller_of 1 [] ∷ caller_of 2 (tick_by 2 1040 Stopping ∷ []) ∷ []) (worker_with true 1 0 ∷ [])
+    (1000 ∷ 1040 ∷ []))
 entry_is_lost s = two_are_not_one (tick_by 2 1020 Going) (tick_by 2 1040 Stopping) (tick_by 2 1040 Stopping) s.entries.1.0
 
 never_seven : (◌≡◌ {A = ℕ} 7 0) ⊎ ((◌≡◌ {A = ℕ} 7 1) ⊎ ((◌≡◌ {A = ℕ} 7 2) ⊎ ⊥)) → ⊥
@@ -139,11 +141,13 @@ never_seven (inr (inl e)) = omega arith
 never_seven (inr (inr (inl e))) = omega arith
 never_seven (inr (inr (inr none))) = none
 
-pub caller_is_another : ¬ (SmallRun 1 (tick_by 7 1010 Going ∷ small_history) (caller_of 1 [] ∷ small_ticker ∷ []) (worker_with true 1 0 ∷ []) (1000 ∷ 1020 ∷ 1040 ∷ []))
+pub caller_is_another : ¬ (SmallRun 1 (tick_by 7 1010 Going ∷ small_history) (caller_of 1 [] ∷ small_ticker ∷ []) (worker_with true 1 0 ∷ [])
+    (1000 ∷ 1020 ∷ 1040 ∷ []))
 caller_is_another s = never_seven s.covered.0
 
 stopping_is_not_going : BeatIs Stopping ≡ BeatIs Going → ⊥
 stopping_is_not_going e = cc
 
-pub answer_is_another : ¬ (SmallRun 1 (tick_by 2 1020 Stopping ∷ small_history) (caller_of 1 [] ∷ caller_of 2 (tick_by 2 1020 Stopping ∷ small_ticker.own) ∷ []) (worker_with true 1 0 ∷ []) (1000 ∷ 1020 ∷ 1020 ∷ 1040 ∷ []))
+pub answer_is_another : ¬ (SmallRun 1 (tick_by 2 1020 Stopping ∷ small_history) (caller_of 1 [] ∷ caller_of 2 (tick_by 2 1020 Stopping ∷ small_ticker.own) ∷ [])
+    (worker_with true 1 0 ∷ []) (1000 ∷ 1020 ∷ 1020 ∷ 1040 ∷ []))
 answer_is_another s = stopping_is_not_going s.lawful.entries.0.answer

@@ -62,7 +62,8 @@ unstopped_more false (Some at) es before e own stops alone =
     own_of-push_same 0 (es ++ before) e own ∙ ap (λ (h : List Item). h ++ e ∷ []) front
 
 -- the Stop was made where it was due, and then an event of caller 0
-pub record Calls (s : Held) (es : List Item) (stop : Option ℕ) (event : Event) (answer : Answer) (out : Output) (t : Held) (fs : List Item) (stop' : Option ℕ) : Type 0 where
+pub record Calls (s : Held) (es : List Item) (stop : Option ℕ) (event : Event) (answer : Answer) (out : Output) (t : Held) (fs : List Item)
+    (stop' : Option ℕ) : Type 0 where
   pub sound : IsSound t fs stop'
   pub goes : Goes (record { setting = s.setting; entries = es; stop = stop }) event answer out (record { setting = t.setting; entries = fs; stop = stop' })
 
@@ -86,7 +87,8 @@ call_made s m t es ms fs stop stop' event answer out sound stopped then_stop sam
     record {
       sound = record {
         stands = subst P (sym whole) (stands (es ++ stopped.before) (stopped.stands es sound.stands));
-        unstopped = subst R (sym then_stop) (subst Q (sym whole) (unstopped_more (is_at stop (length es)) stop es stopped.before e refl stopped.stops sound.unstopped));
+        unstopped = subst R (sym then_stop)
+            (subst Q (sym whole) (unstopped_more (is_at stop (length es)) stop es stopped.before e refl stopped.stops sound.unstopped));
       };
       goes = record {
         before = stopped.before;
@@ -123,7 +125,8 @@ suits_by k l event answer out goes legal =
 pub called_by : (k l : Log) (event : Event) (out : Output) (result : Result Answer ServiceFault)
     → MatchResult result (λ answer. Goes k event answer out l) (λ fault. (fault ≡ Want) × (l ≡ k)) → Legal l.setting l.entries
     → Called true (known_of k) (known_of l) event out result
-called_by k l event out (Ok answer) goes legal = record { caller = 0; adds = adds_by k l event answer out goes; suits = suits_by k l event answer out goes legal }
+called_by k l event out (Ok answer) goes legal =
+    record { caller = 0; adds = adds_by k l event answer out goes; suits = suits_by k l event answer out goes legal }
 called_by k l event out (Err fault) same legal =
     let P : ServiceFault → Type 0 = λ f. Cause true (known_of l) f in
     record {

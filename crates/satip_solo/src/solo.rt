@@ -16,7 +16,8 @@ use std::alloc::Global;
 #[derive(Drop)]
 pub struct Solo {
     history: History,
-    ghost lawful: { Legal history.setting history.entries } by { legal_prop history.setting history.entries },
+    ghost lawful: { Legal history.setting history.entries } by { legal_prop
+        history.setting history.entries },
     ghost short: { length history.entries < 2 ^ 64 },
 }
 

@@ -250,7 +250,8 @@ comes_on total old new seed place count w inside is comes goes =
     let cseq : cseq_after v old.cseq ≡ new.cseq = ap (λ (x : ℕ). cseq_after x old.cseq) (sym is) ∙ sym goes.cseq_is in
     let begins = comes_as total old.counted _ _
     (events_more seed place (count - place) (count - (place + 1)) old.moment old.cseq (omega (arith, inside))) comes in
-    let next = comes_next total old.counted new.counted (event_of v old.moment old.cseq) (events_of words (moment_after v old.moment) (cseq_after v old.cseq)) begins made goes.setting in
+    let next = comes_next total old.counted new.counted (event_of v old.moment old.cseq) (events_of words (moment_after v old.moment) (cseq_after v old.cseq))
+    begins made goes.setting in
     comes_as total new.counted _ _
     (ap (λ (n : ℕ). events_of words n (cseq_after v old.cseq)) moment ∙ ap (λ (n : ℕ). events_of words new.moment n) cseq) next
 

@@ -150,7 +150,12 @@ fn counted(alloc: Global, printed: &[u8]) -> Result<String, Fail> {
         }
     }
     Ok(format!(in alloc;
-        "events {events}\nreplies {replies}\nrefused {refused}\ndatagrams {datagrams}\npayload {payload}\nreports {reports}\n"
+        "events {events}\n\
+        replies {replies}\n\
+        refused {refused}\n\
+        datagrams {datagrams}\n\
+        payload {payload}\n\
+        reports {reports}\n"
     )?)
 }
 
@@ -174,8 +179,13 @@ fn without_made_events_there_are_five(rt: HostRuntime) -> Result<(), Fail> {
 fn a_hundred_thousand_made_events_are_counted(rt: HostRuntime) -> Result<(), Fail> {
     let ran = stressed(rt.alloc(), "7", "100000", &[])?;
     assert_eq!(rt; ran.status, 0);
-    let counts =
-        b"events 100005\nreplies 6324\nrefused 0\ndatagrams 14076\npayload 88982\nreports 628\n".as_slice();
+    let counts = b"events 100005\n\
+        replies 6324\n\
+        refused 0\n\
+        datagrams 14076\n\
+        payload 88982\n\
+        reports 628\n"
+        .as_slice();
     assert_eq!(rt; ran.output.sent(), counts);
     Ok(())
 }

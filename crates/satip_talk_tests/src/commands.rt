@@ -233,8 +233,10 @@ fn replies_behind_the_first_to_a_take_are_put_together(rt: HostRuntime) -> Resul
 
 // Sessions are founded, and described so often.
 fn describing(alloc: Global, count: usize) -> Result<Vec<u8>, Fail> {
-    let setup =
-        b"SETUP rtsp://127.0.0.1/ RTSP/1.0\r\nCSeq: 1\r\nTransport: RTP/AVP;unicast;client_port=1400-1401\r\n\r\n".as_slice();
+    let setup = b"SETUP rtsp://127.0.0.1/ RTSP/1.0\r\n\
+        CSeq: 1\r\n\
+        Transport: RTP/AVP;unicast;client_port=1400-1401\r\n\r\n"
+        .as_slice();
     let describe = b"DESCRIBE rtsp://127.0.0.1/ RTSP/1.0\r\nCSeq: 2\r\n\r\n".as_slice();
     let mut text = Vec::new(alloc);
     for _ in 0..40 {
@@ -289,7 +291,8 @@ fn an_input_has_at_most_67108864_bytes(rt: HostRuntime) -> Result<(), Fail> {
 fn other_words_are_a_faulty_command_line(rt: HostRuntime) -> Result<(), Fail> {
     let alloc = rt.alloc();
     let usage = b"usage: satip talk | replay CONFIG | serve CONFIG ACCEPTS | stress SEED COUNT \
-        | tunnel CONFIG ACCEPTS | journal CONFIG ACCEPTS | audit CONFIG | record ADDRESS QUERY COUNT\n";
+        | tunnel CONFIG ACCEPTS | journal CONFIG ACCEPTS | audit CONFIG \
+        | record ADDRESS QUERY COUNT\n";
     let mut input = MemorySource::make(alloc, OPTIONS, &[], &[])?;
     let mut output = MemorySink::make(alloc, &[], 0)?;
     let mut errors = MemorySink::make(alloc, &[], 0)?;
@@ -328,22 +331,47 @@ fn help_and_version_are_written(rt: HostRuntime) -> Result<(), Fail> {
 #[test]
 fn setup_describe_play_and_teardown_are_answered(rt: HostRuntime) -> Result<(), Fail> {
     let alloc = rt.alloc();
-    let setup =
-        b"SETUP rtsp://127.0.0.1/ RTSP/1.0\r\nCSeq: 1\r\nTransport: RTP/AVP;unicast;client_port=1400-1401\r\n\r\n".as_slice();
-    let founded =
-        b"RTSP/1.0 200 OK\r\nCSeq: 1\r\nSession: 0000000100000001;timeout=60\r\nTransport: RTP/AVP;unicast;client_port=1400-1401\r\ncom.ses.streamID: 1\r\n\r\n".as_slice();
+    let setup = b"SETUP rtsp://127.0.0.1/ RTSP/1.0\r\n\
+        CSeq: 1\r\n\
+        Transport: RTP/AVP;unicast;client_port=1400-1401\r\n\r\n"
+        .as_slice();
+    let founded = b"RTSP/1.0 200 OK\r\n\
+        CSeq: 1\r\n\
+        Session: 0000000100000001;timeout=60\r\n\
+        Transport: RTP/AVP;unicast;client_port=1400-1401\r\n\
+        com.ses.streamID: 1\r\n\r\n"
+        .as_slice();
     let describe = b"DESCRIBE rtsp://127.0.0.1/ RTSP/1.0\r\nCSeq: 2\r\n\r\n".as_slice();
-    let head =
-        b"RTSP/1.0 200 OK\r\nCSeq: 2\r\nContent-Type: application/sdp\r\nContent-Base: rtsp://127.0.0.1/\r\nContent-Length: 186\r\n\r\n".as_slice();
-    let sdp =
-        b"v=0\r\no=- 1 1 IN IP4 127.0.0.1\r\ns=SatIPServer:1 0\r\nt=0 0\r\nm=video 0 RTP/AVP 33\r\nc=IN IP4 0.0.0.0\r\na=control:stream=1\r\na=fmtp:33 ver=1.0;src=1;tuner=0,0,0,0,,,,,,,,;pids=none\r\na=inactive\r\n".as_slice();
+    let head = b"RTSP/1.0 200 OK\r\n\
+        CSeq: 2\r\n\
+        Content-Type: application/sdp\r\n\
+        Content-Base: rtsp://127.0.0.1/\r\n\
+        Content-Length: 186\r\n\r\n"
+        .as_slice();
+    let sdp = b"v=0\r\n\
+        o=- 1 1 IN IP4 127.0.0.1\r\n\
+        s=SatIPServer:1 0\r\n\
+        t=0 0\r\n\
+        m=video 0 RTP/AVP 33\r\n\
+        c=IN IP4 0.0.0.0\r\n\
+        a=control:stream=1\r\n\
+        a=fmtp:33 ver=1.0;src=1;tuner=0,0,0,0,,,,,,,,;pids=none\r\n\
+        a=inactive\r\n"
+        .as_slice();
     assert_eq!(rt; sdp.len(), 186);
-    let play =
-        b"PLAY rtsp://127.0.0.1/stream=1 RTSP/1.0\r\nCSeq: 3\r\nSession: 0000000100000001\r\n\r\n".as_slice();
-    let playing =
-        b"RTSP/1.0 200 OK\r\nCSeq: 3\r\nSession: 0000000100000001\r\nRTP-Info: url=rtsp://127.0.0.1/stream=1;seq=0\r\n\r\n".as_slice();
-    let teardown =
-        b"TEARDOWN rtsp://127.0.0.1/stream=1 RTSP/1.0\r\nCSeq: 4\r\nSession: 0000000100000001\r\n\r\n".as_slice();
+    let play = b"PLAY rtsp://127.0.0.1/stream=1 RTSP/1.0\r\n\
+        CSeq: 3\r\n\
+        Session: 0000000100000001\r\n\r\n"
+        .as_slice();
+    let playing = b"RTSP/1.0 200 OK\r\n\
+        CSeq: 3\r\n\
+        Session: 0000000100000001\r\n\
+        RTP-Info: url=rtsp://127.0.0.1/stream=1;seq=0\r\n\r\n"
+        .as_slice();
+    let teardown = b"TEARDOWN rtsp://127.0.0.1/stream=1 RTSP/1.0\r\n\
+        CSeq: 4\r\n\
+        Session: 0000000100000001\r\n\r\n"
+        .as_slice();
     let ended = b"RTSP/1.0 200 OK\r\nCSeq: 4\r\n\r\n".as_slice();
     let options = b"OPTIONS * RTSP/1.0\r\nCSeq: 5\r\nSession: 0000000100000001\r\n\r\n".as_slice();
     let gone = b"RTSP/1.0 454 Session Not Found\r\nCSeq: 5\r\n\r\n".as_slice();
@@ -356,10 +384,16 @@ fn setup_describe_play_and_teardown_are_answered(rt: HostRuntime) -> Result<(), 
 #[test]
 fn message_k_draws_k(rt: HostRuntime) -> Result<(), Fail> {
     let alloc = rt.alloc();
-    let setup =
-        b"SETUP rtsp://127.0.0.1/ RTSP/1.0\r\nCSeq: 2\r\nTransport: RTP/AVP;unicast;client_port=1400-1401\r\n\r\n".as_slice();
-    let founded =
-        b"RTSP/1.0 200 OK\r\nCSeq: 2\r\nSession: 0000000100000002;timeout=60\r\nTransport: RTP/AVP;unicast;client_port=1400-1401\r\ncom.ses.streamID: 1\r\n\r\n".as_slice();
+    let setup = b"SETUP rtsp://127.0.0.1/ RTSP/1.0\r\n\
+        CSeq: 2\r\n\
+        Transport: RTP/AVP;unicast;client_port=1400-1401\r\n\r\n"
+        .as_slice();
+    let founded = b"RTSP/1.0 200 OK\r\n\
+        CSeq: 2\r\n\
+        Session: 0000000100000002;timeout=60\r\n\
+        Transport: RTP/AVP;unicast;client_port=1400-1401\r\n\
+        com.ses.streamID: 1\r\n\r\n"
+        .as_slice();
     let text = joined(alloc, &[OPTIONS, setup])?;
     assert!(rt; answers(alloc, &text, &[], &joined(alloc, &[OK, founded])?)?);
     Ok(())
@@ -369,9 +403,17 @@ fn message_k_draws_k(rt: HostRuntime) -> Result<(), Fail> {
 fn a_talk_has_no_front_ends(rt: HostRuntime) -> Result<(), Fail> {
     let alloc = rt.alloc();
     let setup =
-        b"SETUP rtsp://127.0.0.1/?src=1&freq=11361.75&pol=h&ro=0.35&msys=dvbs2&mtype=8psk&plts=on&sr=22000&fec=23&pids=0,16,17 RTSP/1.0\r\nCSeq: 1\r\nTransport: RTP/AVP;unicast;client_port=1400-1401\r\n\r\n".as_slice();
-    let refusal =
-        b"RTSP/1.0 503 Service Unavailable\r\nCSeq: 1\r\nContent-Type: text/parameters\r\nContent-Length: 19\r\n\r\nNo-More:frontends\r\n".as_slice();
+        b"SETUP rtsp://127.0.0.1/?src=1&freq=11361.75&pol=h&ro=0.35&msys=dvbs2&mtype=8psk&plts=on\
+        &sr=22000&fec=23&pids=0,16,17 RTSP/1.0\r\n\
+        CSeq: 1\r\n\
+        Transport: RTP/AVP;unicast;client_port=1400-1401\r\n\r\n"
+            .as_slice();
+    let refusal = b"RTSP/1.0 503 Service Unavailable\r\n\
+        CSeq: 1\r\n\
+        Content-Type: text/parameters\r\n\
+        Content-Length: 19\r\n\r\n\
+        No-More:frontends\r\n"
+        .as_slice();
     assert!(rt; answers(alloc, setup, &[], refusal)?);
     let describe = b"DESCRIBE rtsp://127.0.0.1/ RTSP/1.0\r\nCSeq: 1\r\n\r\n".as_slice();
     let missing = b"RTSP/1.0 404 Not Found\r\nCSeq: 1\r\n\r\n".as_slice();

@@ -6,7 +6,6 @@ ghost use Rattle.satip_targets.specs.Rows.{address, by_client, reports_to, rtp_t
 
 /// A session is founded, and another client joins it; a SETUP without ports is refused, and counts
 /// for nothing; one that names the session moves it, and no other.
-#[tactic(auto, unfolding(satip_fronts::specs::Choice::choose, satip_fronts::specs::Choice::blocked, satip_fronts::specs::Choice::least, satip_fronts::specs::Choice::placed, satip_fronts::specs::Choice::may_take))]
 pub fn worked_rows()
     ensures founded { set_ups_of (setup ∷ play ∷ []) ≡ by_client (id_of 1 10) one 1400 ∷ [] }
     ensures joined { set_ups_of (setup ∷ join_of 1 ∷ [])

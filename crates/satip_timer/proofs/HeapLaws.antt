@@ -16,7 +16,8 @@ root_first r count heap i below = bounded (suc i) i (omega arith) below
         omega arith
 
 -- one step up
-module _ (r s : ℕ → ℕ) (count at : ℕ) (up : 0 < at) (within : at < count) (heap : IsHeapBut r count at) (less : r at < r (parent at)) (swap : Swaps r s at (parent at)) where
+module _ (r s : ℕ → ℕ) (count at : ℕ) (up : 0 < at) (within : at < count) (heap : IsHeapBut r count at) (less : r at < r (parent at))
+    (swap : Swaps r s at (parent at)) where
   risen_pair : (i : ℕ) → 0 < i → i < count → i ≢ parent at → s (parent i) ≤ s i
   risen_pair i pos below apart = first (cases_eq i at)
     where
@@ -57,7 +58,8 @@ module _ (r s : ℕ → ℕ) (count at : ℕ) (up : 0 < at) (within : at < count
   risen = record { pairs = risen_pair; across = risen_across }
 
 -- one step down, to the first child
-module _ (r s : ℕ → ℕ) (count at child : ℕ) (heap : IsHeapUnder r count at) (first : IsFirstChild r count at child) (less : r child < r at) (swap : Swaps r s at child) where
+module _ (r s : ℕ → ℕ) (count at child : ℕ) (heap : IsHeapUnder r count at) (first : IsFirstChild r count at child) (less : r child < r at)
+    (swap : Swaps r s at child) where
   sunk_pair : (i : ℕ) → 0 < i → i < count → parent i ≢ child → s (parent i) ≤ s i
   sunk_pair i pos below apart = here (cases_eq i at)
     where

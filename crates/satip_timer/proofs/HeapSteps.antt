@@ -34,8 +34,11 @@ moved h m n a b in_a in_b long_keys long_places pairs keys_m places_m keys_n pla
 
     places : Swaps (slice_index h.places) (slice_index n.places) (slice_index h.keys b) (slice_index h.keys a)
     places = swaps_writes (slice_index h.places) (slice_index m.places) (slice_index n.places) (slice_index h.keys b) (slice_index h.keys a)
-        (writes_put h.places m.places (slice_index h.keys b) (slice_index h.places (slice_index h.keys a)) (omega (arith, pairs.key b in_b)) (places_m ∙ ap (λ x. set h.places (slice_index h.keys b) x) (sym (pairs.own a in_a))))
-        (writes_put m.places n.places (slice_index h.keys a) (slice_index h.places (slice_index h.keys b)) (omega (arith, pairs.key a in_a, ap length places_m, length-set h.places (slice_index h.keys b) a)) (places_n ∙ ap (λ x. set m.places (slice_index h.keys a) x) (sym (pairs.own b in_b))))
+        (writes_put h.places m.places (slice_index h.keys b) (slice_index h.places (slice_index h.keys a)) (omega (arith, pairs.key b in_b))
+        (places_m ∙ ap (λ x. set h.places (slice_index h.keys b) x) (sym (pairs.own a in_a))))
+        (writes_put m.places n.places (slice_index h.keys a) (slice_index h.places (slice_index h.keys b))
+        (omega (arith, pairs.key a in_a, ap length places_m, length-set h.places (slice_index h.keys b) a))
+        (places_n ∙ ap (λ x. set m.places (slice_index h.keys a) x) (sym (pairs.own b in_b))))
 
 -- the ranks are exchanged with the keys
 pub moved_ranks : (dues : List (Option ℕ)) (h n : Heap) (a b : ℕ) → Moved h n a b → Swaps (ranks dues h) (ranks dues n) a b
@@ -46,7 +49,8 @@ moved_ranks dues h n a b move = record {
 }
 
 -- both places are below the count: the same keys are in the heap
-pub moved_within : (dues : List (Option ℕ)) (h n : Heap) (a b : ℕ) → a < h.count → b < h.count → n.count ≡ h.count → Moved h n a b → Placed dues h → Placed dues n
+pub moved_within : (dues : List (Option ℕ)) (h n : Heap) (a b : ℕ) → a < h.count → b < h.count → n.count ≡ h.count → Moved h n a b → Placed dues h
+    → Placed dues n
 moved_within dues h n a b in_a in_b count move placed = record {
   whole = placed.whole;
   room = omega (arith, placed.room);
@@ -60,9 +64,11 @@ moved_within dues h n a b in_a in_b count move placed = record {
     due i below (inr aside) (inl same) = subst (IsDue dues) (sym (ap (slice_index n.keys) same ∙ move.keys.second)) (placed.due a in_a)
     due i below (inr aside) (inr beside) = subst (IsDue dues) (sym (move.keys.others i aside beside)) (placed.due i below)
 
-    within : (key : ℕ) → IsDue dues key → (key ≡ slice_index h.keys b) ⊎ (key ≢ slice_index h.keys b) → (key ≡ slice_index h.keys a) ⊎ (key ≢ slice_index h.keys a) → slice_index n.places key < n.count
+    within : (key : ℕ) → IsDue dues key → (key ≡ slice_index h.keys b) ⊎ (key ≢ slice_index h.keys b)
+        → (key ≡ slice_index h.keys a) ⊎ (key ≢ slice_index h.keys a) → slice_index n.places key < n.count
     within key its (inl same) _ = omega (arith, placed.room, ap (slice_index n.places) same, move.places.first, placed.pairs.own a (omega (arith, placed.room)))
-    within key its (inr beside) (inl same) = omega (arith, placed.room, ap (slice_index n.places) same, move.places.second, placed.pairs.own b (omega (arith, placed.room)))
+    within key its (inr beside) (inl same) =
+        omega (arith, placed.room, ap (slice_index n.places) same, move.places.second, placed.pairs.own b (omega (arith, placed.room)))
     within key its (inr beside) (inr aside) = omega (arith, placed.within key its, move.places.others key beside aside)
 
 -- a key has got a deadline: it is exchanged with the first key that has none, and counts
@@ -74,7 +80,8 @@ module _ (dues : List (Option ℕ)) (h n : Heap) (key : ℕ) (before : Sound (se
   add_below = due_below dues key add_whole its
 
   add_apart : (i : ℕ) → i < h.count → slice_index h.keys i ≢ key
-  add_apart i below e = not_due (set dues key None) key (get_set_same dues key None (omega (arith, add_whole, add_below))) (subst (IsDue (set dues key None)) e (before.placed.due i below))
+  add_apart i below e = not_due (set dues key None) key (get_set_same dues key None (omega (arith, add_whole, add_below)))
+      (subst (IsDue (set dues key None)) e (before.placed.due i below))
 
   -- its place is not below the count, so there is room
   pub add_place : (h.count ≤ slice_index h.places key) × (slice_index h.places key < 64)
@@ -113,7 +120,8 @@ module _ (dues : List (Option ℕ)) (h n : Heap) (key : ℕ) (before : Sound (se
         within other passes (inr apart) =
             let old : slice_index h.places other < h.count = before.placed.within other (due_before dues key other None apart passes) in
             let found : slice_index h.keys (slice_index h.places other) ≡ other = before.placed.pairs.found other (due_below dues other add_whole passes) in
-            let here : slice_index n.places (slice_index n.keys (slice_index h.places other)) ≡ slice_index h.places other = move.pairs.own (slice_index h.places other) (omega (arith, add_place)) in
+            let here : slice_index n.places (slice_index n.keys (slice_index h.places other)) ≡ slice_index h.places other =
+            move.pairs.own (slice_index h.places other) (omega (arith, add_place)) in
             omega (arith, here, ap (slice_index n.places) (add_old (slice_index h.places other) old ∙ found))
 
     pub add_heap : IsHeapBut (ranks dues n) n.count h.count
@@ -198,11 +206,14 @@ module _ (dues : List (Option ℕ)) (h n : Heap) (key moment : ℕ) (before : So
       within = λ other passes. within other passes (cases_eq (slice_index n.places other) (h.count - 1));
     }
       where
-        due : (i : ℕ) → i < n.count → (i ≡ slice_index h.places key) ⊎ (i ≢ slice_index h.places key) → IsDue (set dues key (Some moment)) (slice_index n.keys i)
-        due i below (inl here) = subst (IsDue (set dues key (Some moment))) (sym (ap (slice_index n.keys) here ∙ move.keys.first)) (before.placed.due (h.count - 1) (omega (arith, drop_place)))
+        due : (i : ℕ) → i < n.count → (i ≡ slice_index h.places key) ⊎ (i ≢ slice_index h.places key)
+            → IsDue (set dues key (Some moment)) (slice_index n.keys i)
+        due i below (inl here) = subst (IsDue (set dues key (Some moment))) (sym (ap (slice_index n.keys) here ∙ move.keys.first))
+            (before.placed.due (h.count - 1) (omega (arith, drop_place)))
         due i below (inr other) = subst (IsDue (set dues key (Some moment))) (sym (drop_old i below other)) (before.placed.due i (omega arith))
 
-        within : (other : ℕ) → IsDue dues other → (slice_index n.places other ≡ h.count - 1) ⊎ (slice_index n.places other ≢ h.count - 1) → slice_index n.places other < n.count
+        within : (other : ℕ) → IsDue dues other → (slice_index n.places other ≡ h.count - 1) ⊎ (slice_index n.places other ≢ h.count - 1)
+            → slice_index n.places other < n.count
         within other passes (inl end) =
             let found : slice_index n.keys (slice_index n.places other) ≡ other = move.pairs.found other (due_below dues other drop_whole passes) in
             let same : other ≡ key = sym found ∙ ap (slice_index n.keys) end ∙ drop_last in
@@ -213,10 +224,13 @@ module _ (dues : List (Option ℕ)) (h n : Heap) (key moment : ℕ) (before : So
             each (inl below) = omega arith
             each (inr past) =
                 let small : other < 64 = due_below dues other drop_whole passes in
-                let old : slice_index h.places other < h.count = before.placed.within other (due_before dues key other (Some moment) (λ e. inside (ap (slice_index n.places) e ∙ drop_gone)) passes) in
+                let old : slice_index h.places other < h.count =
+                before.placed.within other (due_before dues key other (Some moment) (λ e. inside (ap (slice_index n.places) e ∙ drop_gone)) passes) in
                 let found : slice_index n.keys (slice_index n.places other) ≡ other = move.pairs.found other small in
-                let key_there : slice_index n.keys (slice_index n.places other) ≡ slice_index h.keys (slice_index n.places other) = move.keys.others (slice_index n.places other) (omega (arith, drop_place)) inside in
-                let own : slice_index h.places (slice_index h.keys (slice_index n.places other)) ≡ slice_index n.places other = before.placed.pairs.own (slice_index n.places other) (move.pairs.place other small) in
+                let key_there : slice_index n.keys (slice_index n.places other) ≡ slice_index h.keys (slice_index n.places other) =
+                move.keys.others (slice_index n.places other) (omega (arith, drop_place)) inside in
+                let own : slice_index h.places (slice_index h.keys (slice_index n.places other)) ≡ slice_index n.places other =
+                before.placed.pairs.own (slice_index n.places other) (move.pairs.place other small) in
                 absurd (omega (arith, own, ap (slice_index h.places) (sym key_there ∙ found)))
 
     pub drop_heap : IsHeapAround (ranks dues n) n.count (slice_index h.places key)

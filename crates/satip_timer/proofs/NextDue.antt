@@ -29,7 +29,8 @@ module _ (now : ℕ) (dues : List (Option ℕ)) (h : Heap) (key moment : ℕ) (s
     least : (other later : ℕ) → HasDeadline dues other later → moment * 64 + key ≤ later * 64 + other
     least other later its =
         let first = root_first (ranks dues h) h.count sound.heap (slice_index h.places other) (sound.placed.within other (later, its)) in
-        let found : slice_index h.keys (slice_index h.places other) ≡ other = sound.placed.pairs.found other (due_below dues other sound.placed.whole (later, its)) in
+        let found : slice_index h.keys (slice_index h.places other) ≡ other =
+        sound.placed.pairs.found other (due_below dues other sound.placed.whole (later, its)) in
         omega (arith, first, ap (rank dues) found, has_rank dues other later its, has_rank dues key moment has, ap (rank dues) root)
 
     pub root_next : moment ≤ now → IsNextDue now dues key

@@ -50,7 +50,8 @@ module _ (k l p q : ℕ → ℕ) (a b : ℕ) (in_a : a < 64) (in_b : b < 64) (pa
           let key : l i ≡ k i = keys.others i aside beside in (
             omega (arith, pairs.key i below),
             ap q key
-                ∙ places.others (k i) (λ e. beside (sym (pairs.own i below) ∙ ap p e ∙ pairs.own b in_b)) (λ e. aside (sym (pairs.own i below) ∙ ap p e ∙ pairs.own a in_a))
+                ∙ places.others (k i) (λ e. beside (sym (pairs.own i below) ∙ ap p e ∙ pairs.own b in_b))
+                (λ e. aside (sym (pairs.own i below) ∙ ap p e ∙ pairs.own a in_a))
                 ∙ pairs.own i below,
           )
 
@@ -122,7 +123,10 @@ same_rank dues key other due apart = ap (λ o. unwrap_or o 0 * 64 + other) (sym 
 
 -- where each key stands at the place of its number, no key has a deadline yet
 pub none_due : (key : ℕ) → IsDue (replicate 64 None) key → ⊥
-none_due key its = let wrong : ◌≡◌ {A = Option ℕ} None (Some its.0) = sym (get_or-replicate 64 key None None (omega (arith, slice_get_within (replicate 64 None) key (Some its.0) its.1, length-replicate {A = Option ℕ} 64 None))) ∙ get_or_from_slice_get (replicate 64 None) key (Some its.0) None its.1 in cc
+none_due key its = let wrong : ◌≡◌ {A = Option ℕ} None (Some its.0) =
+    sym (get_or-replicate 64 key None None
+    (omega (arith, slice_get_within (replicate 64 None) key (Some its.0) its.1, length-replicate {A = Option ℕ} 64 None)))
+    ∙ get_or_from_slice_get (replicate 64 None) key (Some its.0) None its.1 in cc
 
 pub paired_same : (k : ℕ → ℕ) → ((i : ℕ) → i < 64 → k i ≡ i) → Paired k k
 paired_same k same = record {

@@ -72,7 +72,8 @@ pub record Cut {X : Type 0} (p : X → Bool) (xs front rest : List X) : Type 0 w
   pub before : front ≡ before_first p xs
   pub after : rest ≡ after_first p xs
 
-pub cut_at : {X : Type 0} (p : X → Bool) (xs : List X) (i : ℕ) (d : X) (front middle rest : List X) → position p xs ≡ Some i → front ≡ take i xs → middle ≡ drop i xs → rest ≡ drop 1 middle → Cut p xs front rest
+pub cut_at : {X : Type 0} (p : X → Bool) (xs : List X) (i : ℕ) (d : X) (front middle rest : List X) → position p xs ≡ Some i → front ≡ take i xs
+    → middle ≡ drop i xs → rest ≡ drop 1 middle → Cut p xs front rest
 cut_at {X} p xs i d front middle rest some at_front at_middle at_rest =
     let is : (nat_lt (position_or_len p xs) (length xs) ≡ true) × (position_or_len p xs ≡ i) = place-is _ _ _ some in
     let within : position_or_len p xs < length xs = ltb-true _ _ is.0 in

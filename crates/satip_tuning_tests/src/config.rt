@@ -13,8 +13,13 @@ const FRONT: &str = "[[frontend]]\nsources = [1]\nsystems = [\"dvbs\", \"dvbs2\"
 const TUNED: &str =
     "[[mux]]\nsrc = 1\nfreq = \"11361.75\"\npol = \"h\"\nmsys = \"dvbs2\"\nsr = 22000\n";
 
-const MUX: &str =
-    "[[mux]]\nsrc = 1\nfreq = \"12402\"\npol = \"v\"\nmsys = \"dvbs\"\nsr = 27500\nfile = \"b.ts\"\n";
+const MUX: &str = "[[mux]]\n\
+    src = 1\n\
+    freq = \"12402\"\n\
+    pol = \"v\"\n\
+    msys = \"dvbs\"\n\
+    sr = 27500\n\
+    file = \"b.ts\"\n";
 
 const DOCUMENT: &[(&str, &str)] = &[
     ("other = 1.5\n", ""),

@@ -26,7 +26,8 @@ fn list_of(pid: u16) -> PidList {
 fn every_key_gives_its_value(rt: HostRuntime) {
     let mut query = Query::new();
     let text =
-        b"fe=2&src=255&freq=11361.75&pol=h&ro=0.35&msys=dvbs2&mtype=8psk&plts=on&sr=22000&fec=23&pids=16&addpids=0&delpids=8191";
+        b"fe=2&src=255&freq=11361.75&pol=h&ro=0.35&msys=dvbs2&mtype=8psk&plts=on&sr=22000&fec=23\
+        &pids=16&addpids=0&delpids=8191";
     assert_eq!(rt; read(text, &mut query), Ok(()));
     assert_eq!(rt; query.change.fe, Some(2));
     assert_eq!(rt; query.change.src, Some(255));
@@ -191,7 +192,9 @@ fn query_prints_in_the_order_of_its_keys(rt: HostRuntime) -> Result<(), Fail> {
     print(&query, &mut out);
     assert_eq!(rt;
         out.reply(),
-        b"src=1&freq=11361.75&pol=h&ro=0.35&msys=dvbs2&mtype=8psk&plts=on&sr=22000&fec=23&pids=all".as_slice()
+        b"src=1&freq=11361.75&pol=h&ro=0.35&msys=dvbs2&mtype=8psk&plts=on&sr=22000\
+        &fec=23&pids=all"
+            .as_slice()
     );
     Ok(())
 }

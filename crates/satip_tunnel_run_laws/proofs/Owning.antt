@@ -43,7 +43,8 @@ inner_own given (t ∷ ts) none = inner_first given t.event t.answer t (outers t
 
 -- the connections of a worker, one after another
 
-conn_own : RunsDrainOwn → (tells : Type 0) (kind : DoorKind) (peer : Peer) (drawn : ℕ → Draw) (from to seen : ℕ) (l m : Line) (end : ConnEnd) (es : List TunnelItem)
+conn_own : RunsDrainOwn → (tells : Type 0) (kind : DoorKind) (peer : Peer) (drawn : ℕ → Draw) (from to seen : ℕ) (l m : Line) (end : ConnEnd)
+    (es : List TunnelItem)
     → ConnServed tells kind peer drawn from to seen l m end es → DrainsOwn es
 conn_own law tells Rtsp peer drawn from to seen l m end es served = law served.draws served.received served.sent seen served.tunnel_end es served.run
 conn_own law tells Http peer drawn from to seen l m end es served = inner_own [] es served.alone
@@ -83,7 +84,8 @@ workers_own law parts tells full accepts from (w ∷ ws) (r ∷ rs) along =
       workers_own law parts tells full accepts (from + 1) ws rs along.1,
     )
 
-pumps_own : (full : Type 0) (from : ℕ) (pumps : List PumpView) (rows : List TunnelRow) → Along (TunnelPumpDone full) from pumps rows → Each (λ r. DrainsOwn r.own) rows
+pumps_own : (full : Type 0) (from : ℕ) (pumps : List PumpView) (rows : List TunnelRow) → Along (TunnelPumpDone full) from pumps rows
+    → Each (λ r. DrainsOwn r.own) rows
 pumps_own full from [] [] along = tt
 pumps_own full from [] (r ∷ rs) along = absurd along
 pumps_own full from (p ∷ ps) [] along = absurd along
@@ -120,6 +122,7 @@ jobs_drain_own parts law conn_tells c accepts seen kept workers pumps ticker run
     }
 
 pub connections_have_lanes : (conn_tells : Type 0) → JobsDrainOwn conn_tells → WiresHaveLanes → ConnectionsHaveLanes conn_tells
-connections_have_lanes conn_tells jobs wires c accepts seen kept workers pumps ticker run before entries caller x draws received sent length end connection served given =
+connections_have_lanes conn_tells jobs wires c accepts seen kept workers pumps ticker run before entries caller x draws received sent length end connection
+    served given =
     wires c seen before entries (0 ∷ numbers_of kept) caller x draws received sent length end run.lawful
     (jobs c accepts seen kept workers pumps ticker run) connection served given

@@ -20,7 +20,8 @@ use Rattle.satip_tunnel_serve.specs.TunnelRuns.{TunnelServeRun}
 use Rattle.satip_tunnel_serve.specs.Views.{worker_seen, pump_seen, ticker_seen}
 
 -- what is the same of each is the same of all
-pub map_same : {S T U : Type 0} (f : S → T) (part : T → U) (part' : S → U) → ((x : S) → part (f x) ≡ part' x) → (xs : List S) → map part (map f xs) ≡ map part' xs
+pub map_same : {S T U : Type 0} (f : S → T) (part : T → U) (part' : S → U) → ((x : S) → part (f x) ≡ part' x) → (xs : List S)
+    → map part (map f xs) ≡ map part' xs
 map_same f part part' same [] = refl
 map_same {U = U} f part part' same (x ∷ xs) =
     ap (λ (u : U). u ∷ map part (map f xs)) (same x) ∙ ap (λ (us : List U). part' x ∷ us) (map_same f part part' same xs)
@@ -37,7 +38,8 @@ pub first_of_two : {S T U V : Type 0} (f : S → T → U) (part : U → V) (part
 first_of_two f part part' same [] ys is = refl
 first_of_two f part part' same (x ∷ xs) [] is = nothing_as_long x xs (sym is)
 first_of_two {V = V} f part part' same (x ∷ xs) (y ∷ ys) is =
-    ap (λ (v : V). v ∷ map part (each_two f xs ys)) (same x y) ∙ ap (λ (vs : List V). part' x ∷ vs) (first_of_two f part part' same xs ys (rest_as_long x xs y ys is))
+    ap (λ (v : V). v ∷ map part (each_two f xs ys)) (same x y)
+    ∙ ap (λ (vs : List V). part' x ∷ vs) (first_of_two f part part' same xs ys (rest_as_long x xs y ys is))
 
 -- and where it is the second
 pub second_of_two : {S T U : Type 0} (f : S → T → U) (part : U → T) → ((x : S) (y : T) → part (f x y) ≡ y) → (xs : List S) (ys : List T)
@@ -54,16 +56,20 @@ still_as_many {K} {Q} {O} silence outlet kits quiet back outlets are outlets_are
     ap (λ (os : List O). length os) outlets_are ∙ length-map kits outlet ∙ sym (length-map kits silence) ∙ sym (ap (λ (qs : List Q). length qs) are) ∙ sym count
 
 -- kits that come back with their outlets: a part that isn't the outlet's is as the jobs left it
-pub part_is_seen : {K Q O V : Type 0} (with_outlet : Q → O → K) (silence : K → Q) (outlet : K → O) (part : K → V) (part' : Q → V) → ((q : Q) (o : O) → part (with_outlet q o) ≡ part' q)
-    → (kits : List K) (quiet back : List Q) (outlets : List O) (last : List K) → quiet ≡ map silence kits → outlets ≡ map outlet kits → length back ≡ length quiet
+pub part_is_seen : {K Q O V : Type 0} (with_outlet : Q → O → K) (silence : K → Q) (outlet : K → O) (part : K → V) (part' : Q → V)
+    → ((q : Q) (o : O) → part (with_outlet q o) ≡ part' q)
+    → (kits : List K) (quiet back : List Q) (outlets : List O) (last : List K) → quiet ≡ map silence kits → outlets ≡ map outlet kits
+    → length back ≡ length quiet
     → last ≡ each_two with_outlet back outlets → map part last ≡ map part' back
 part_is_seen {K} {Q} {O} {V} with_outlet silence outlet part part' same kits quiet back outlets last are outlets_are count last_is =
     ap (λ (ks : List K). map part ks) last_is
     ∙ first_of_two with_outlet part part' same back outlets (still_as_many silence outlet kits quiet back outlets are outlets_are count)
 
 -- where the jobs left it as it was, it is as it was
-pub part_comes_back : {K Q O V : Type 0} (with_outlet : Q → O → K) (silence : K → Q) (outlet : K → O) (part : K → V) (part' : Q → V) → ((q : Q) (o : O) → part (with_outlet q o) ≡ part' q)
-    → ((k : K) → part' (silence k) ≡ part k) → (kits : List K) (quiet back : List Q) (outlets : List O) (last : List K) → quiet ≡ map silence kits → outlets ≡ map outlet kits
+pub part_comes_back : {K Q O V : Type 0} (with_outlet : Q → O → K) (silence : K → Q) (outlet : K → O) (part : K → V) (part' : Q → V)
+    → ((q : Q) (o : O) → part (with_outlet q o) ≡ part' q)
+    → ((k : K) → part' (silence k) ≡ part k) → (kits : List K) (quiet back : List Q) (outlets : List O) (last : List K) → quiet ≡ map silence kits
+    → outlets ≡ map outlet kits
     → length back ≡ length quiet → last ≡ each_two with_outlet back outlets → map part' back ≡ map part' quiet → map part last ≡ map part kits
 part_comes_back {K} {Q} {O} {V} with_outlet silence outlet part part' same same' kits quiet back outlets last are outlets_are count last_is kept =
     part_is_seen with_outlet silence outlet part part' same kits quiet back outlets last are outlets_are count last_is
@@ -71,7 +77,8 @@ part_comes_back {K} {Q} {O} {V} with_outlet silence outlet part part' same same'
 
 -- and the outlets are those that were put aside
 pub outlets_come_back : {K Q O : Type 0} (with_outlet : Q → O → K) (silence : K → Q) (outlet : K → O) → ((q : Q) (o : O) → outlet (with_outlet q o) ≡ o)
-    → (kits : List K) (quiet back : List Q) (outlets : List O) (last : List K) → quiet ≡ map silence kits → outlets ≡ map outlet kits → length back ≡ length quiet
+    → (kits : List K) (quiet back : List Q) (outlets : List O) (last : List K) → quiet ≡ map silence kits → outlets ≡ map outlet kits
+    → length back ≡ length quiet
     → last ≡ each_two with_outlet back outlets → map outlet last ≡ map outlet kits
 outlets_come_back {K} {Q} {O} with_outlet silence outlet same kits quiet back outlets last are outlets_are count last_is =
     ap (λ (ks : List K). map outlet ks) last_is
@@ -79,7 +86,8 @@ outlets_come_back {K} {Q} {O} with_outlet silence outlet same kits quiet back ou
     ∙ outlets_are
 
 -- of kits of which the same is seen the same holds
-pub run_seen : (conn_tells : Type 0) (c : Setting) (accepts : ℕ) (seen : List TunnelItem) (kept : List TunnelRow) (ws ws' : List WorkerView) (ps ps' : List PumpView) (t t' : TickView)
+pub run_seen : (conn_tells : Type 0) (c : Setting) (accepts : ℕ) (seen : List TunnelItem) (kept : List TunnelRow) (ws ws' : List WorkerView)
+    (ps ps' : List PumpView) (t t' : TickView)
     → ws' ≡ ws → ps' ≡ ps → t' ≡ t → TunnelServeRun conn_tells c accepts seen kept ws ps t → TunnelServeRun conn_tells c accepts seen kept ws' ps' t'
 run_seen conn_tells c accepts seen kept ws ws' ps ps' t t' is_ws is_ps is_t run =
     subst (λ (x : TickView). TunnelServeRun conn_tells c accepts seen kept ws' ps' x) (sym is_t)
@@ -90,7 +98,8 @@ run_seen conn_tells c accepts seen kept ws ws' ps ps' t t' is_ws is_ps is_t run 
 workers_fresh : {D O P : Type 0} (accepts : ℕ) (hall : D → Hall) (outbox : O → Outbox) (kits : List (WorkerKit D O P))
     → Each (FreshWorker accepts) (map (worker_view hall outbox) kits) → Each (FreshWorker accepts) (map (worker_seen hall) kits)
 workers_fresh accepts hall outbox [] fresh = tt
-workers_fresh accepts hall outbox (k ∷ ks) fresh = (record { told = fresh.0.told; hall = fresh.0.hall; outbox = refl }, workers_fresh accepts hall outbox ks fresh.1)
+workers_fresh accepts hall outbox (k ∷ ks) fresh =
+    (record { told = fresh.0.told; hall = fresh.0.hall; outbox = refl }, workers_fresh accepts hall outbox ks fresh.1)
 
 pumps_fresh : {M O P : Type 0} (shelf : M → StoreView) (outbox : O → Outbox) (kits : List (PumpKit M O P))
     → Each FreshPump (map (pump_view shelf outbox) kits) → Each FreshPump (map (pump_seen shelf) kits)
@@ -100,12 +109,15 @@ pumps_fresh shelf outbox (k ∷ ks) fresh = (
   pumps_fresh shelf outbox ks fresh.1,
 )
 
-pub silent_fresh : {D O P M C : Type 0} (hall : D → Hall) (shelf : M → StoreView) (dial : C → Dial) (outbox : O → Outbox) (accepts start : ℕ) (workers : List (WorkerKit D O P))
-    (pumps : List (PumpKit M O P)) (tick : TickKit C O P) (silent_workers : List (WorkerKit D Silent P)) (silent_pumps : List (PumpKit M Silent P)) (silent_tick : TickKit C Silent P)
+pub silent_fresh : {D O P M C : Type 0} (hall : D → Hall) (shelf : M → StoreView) (dial : C → Dial) (outbox : O → Outbox) (accepts start : ℕ)
+    (workers : List (WorkerKit D O P))
+    (pumps : List (PumpKit M O P)) (tick : TickKit C O P) (silent_workers : List (WorkerKit D Silent P)) (silent_pumps : List (PumpKit M Silent P))
+    (silent_tick : TickKit C Silent P)
     → silent_workers ≡ map (λ kit. silent_worker kit) workers → silent_pumps ≡ map (λ kit. silent_pump kit) pumps → silent_tick ≡ ticker_with tick silent
     → FreshJobs accepts start (map (worker_view hall outbox) workers) (map (pump_view shelf outbox) pumps) (tick_view dial outbox tick)
     → FreshJobs accepts start (map (worker_seen hall) silent_workers) (map (pump_seen shelf) silent_pumps) (ticker_seen dial silent_tick)
-silent_fresh {D} {O} {P} {M} {C} hall shelf dial outbox accepts start workers pumps tick silent_workers silent_pumps silent_tick are_workers are_pumps is_tick fresh =
+silent_fresh {D} {O} {P} {M} {C} hall shelf dial outbox accepts start workers pumps tick silent_workers silent_pumps silent_tick are_workers are_pumps
+    is_tick fresh =
     let seen_workers : map (worker_seen hall) silent_workers ≡ map (worker_seen hall) workers =
     ap (λ (ks : List (WorkerKit D Silent P)). map (worker_seen hall) ks) are_workers
     ∙ map_same (λ (kit : WorkerKit D O P). silent_worker kit) (worker_seen hall) (worker_seen hall) (λ kit. refl) workers in
@@ -113,7 +125,8 @@ silent_fresh {D} {O} {P} {M} {C} hall shelf dial outbox accepts start workers pu
     ap (λ (ks : List (PumpKit M Silent P)). map (pump_seen shelf) ks) are_pumps
     ∙ map_same (λ (kit : PumpKit M O P). silent_pump kit) (pump_seen shelf) (pump_seen shelf) (λ kit. refl) pumps in
     record {
-      workers_are = subst (λ (ws : List WorkerView). Each (FreshWorker accepts) ws) (sym seen_workers) (workers_fresh accepts hall outbox workers fresh.workers_are);
+      workers_are = subst (λ (ws : List WorkerView). Each (FreshWorker accepts) ws) (sym seen_workers)
+          (workers_fresh accepts hall outbox workers fresh.workers_are);
       pumps_are = subst (λ (ps : List PumpView). Each FreshPump ps) (sym seen_pumps) (pumps_fresh shelf outbox pumps fresh.pumps_are);
       ticker_is = subst (λ (t : TickKit C Silent P). ReadOnce start (ticker_seen dial t)) (sym is_tick)
           (record { told = fresh.ticker_is.told; reads = fresh.ticker_is.reads; outbox = refl });

@@ -32,7 +32,8 @@ job_tells full JobSpent spent want = spent (λ i. JobSpent)
 job_tells full JobWant spent want = absurd (want (λ i. JobWant))
 
 -- of a worker with fresh doors
-pub one_worker_tells : (conn_tells full : Type 0) (accepts number : ℕ) (o n : WorkerView) (s t : Seat) (end : ServeEnd) → TunnelWorkerDid conn_tells number o s n t end
+pub one_worker_tells : (conn_tells full : Type 0) (accepts number : ℕ) (o n : WorkerView) (s t : Seat) (end : ServeEnd)
+    → TunnelWorkerDid conn_tells number o s n t end
     → FreshWorker accepts o → (length t.pass.seen ≡ 18446744073709551615 → full) → MatchEnd end (n.hall.ended ≡ true) (n.hall.faults ≢ 0) full
 one_worker_tells conn_tells full accepts number o n s t end did fresh filled =
     let ends : WorkerEnds did.ended (fresh_hall accepts fresh.told) n.hall false (known_by t.pass) did.serves.returns =

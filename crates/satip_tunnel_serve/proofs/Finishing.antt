@@ -65,7 +65,8 @@ worker_done conn_tells full accepts number caller told o n s t end did hall none
     let ends = worker_ended full did.ended accepts told n.hall (known_by t.pass) run.returns
     (subst (λ (h : Hall). WorkerEnds did.ended h n.hall false (known_by t.pass) run.returns) hall run.ends) fills in
     let served : ServesAll conn_tells (draw_at n.key number) 0 run.draws (length s.pass.seen) (length t.pass.seen) run.returns run.entries =
-    subst (λ (key : List ℕ). ServesAll conn_tells (draw_at key number) 0 run.draws (length s.pass.seen) (length t.pass.seen) run.returns run.entries) (sym did.key) run.serves in
+    subst (λ (key : List ℕ). ServesAll conn_tells (draw_at key number) 0 run.draws (length s.pass.seen) (length t.pass.seen) run.returns run.entries)
+    (sym did.key) run.serves in
     record {
       limit = run.limit ∙ ap (λ (h : Hall). h.limit) hall;
       ended = ends.ended;
@@ -75,7 +76,8 @@ worker_done conn_tells full accepts number caller told o n s t end did hall none
       handed_back = λ still. run.moved.returned still ∙ ap (λ (h : Hall). h.returned ++ run.returns) hall;
       first = length s.pass.seen;
       last = length t.pass.seen;
-      served = subst (λ (es : List TunnelItem). ServesAll conn_tells (draw_at n.key number) 0 run.draws (length s.pass.seen) (length t.pass.seen) run.returns es) own served;
+      served = subst (λ (es : List TunnelItem). ServesAll conn_tells (draw_at n.key number) 0 run.draws (length s.pass.seen) (length t.pass.seen) run.returns
+          es) own served;
       filled = fills;
       in_time = ends.in_time;
     }
@@ -91,9 +93,11 @@ tunnel_pump_done full number caller o n s t end did fresh none fills = record {
 
 -- the ticker with a clock that was read once
 pub tunnel_ticker_done : (full : Type 0) (start caller : ℕ) (told : Bool) (o n : TickView) (s t : Seat) (end : ServeEnd)
-    → TunnelTickerDid o s n t end → Reads (fresh_dial told) o.dial start → o.outbox ≡ fresh_outbox → s.pass.own ≡ [] → (length t.pass.seen ≡ 18446744073709551615 → full)
+    → TunnelTickerDid o s n t end → Reads (fresh_dial told) o.dial start → o.outbox ≡ fresh_outbox → s.pass.own ≡ []
+    → (length t.pass.seen ≡ 18446744073709551615 → full)
     → TunnelTickerDone full start n (row caller t.pass.own)
 tunnel_ticker_done full start caller told o n s t end did reads outbox none fills = record {
-  done = ticker_done ⊥ full start caller told o n (known_by s.pass) (known_by t.pass) end did.ticked reads outbox (ap (λ (es : List TunnelItem). inners es) none) fills;
+  done = ticker_done ⊥ full start caller told o n (known_by s.pass) (known_by t.pass) end did.ticked reads outbox
+      (ap (λ (es : List TunnelItem). inners es) none) fills;
   none = did.others ∙ ap (λ (es : List TunnelItem). outers es) none;
 }

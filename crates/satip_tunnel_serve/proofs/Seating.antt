@@ -26,12 +26,15 @@ module _ {X : Type 0} (known : X → Known) (may_want : X → Bool) (same : X �
       let caller = serves.same_caller x.caller y.caller is in
       record { cell_is = caller.server; keeps = caller.pass; number = number }
 
-  pub pumped_at_seat : {M P L : Type 0} (shelf : M → StoreView) (x y : Seat X (PumpKit M Silent P) L) → PumpedAtSeat same known shelf x y → SeatDid cell pass (pump_deed shelf) x y
+  pub pumped_at_seat : {M P L : Type 0} (shelf : M → StoreView) (x y : Seat X (PumpKit M Silent P) L) → PumpedAtSeat same known shelf x y
+      → SeatDid cell pass (pump_deed shelf) x y
   pumped_at_seat shelf x y did = record {
     still = still_seated x y did.same_is did.number;
     deed = record {
-      pumped = pump_unheard x.number (pump_view shelf silent_outbox x.kit) (pump_view shelf silent_outbox y.kit) (known_by (pass x.caller)) (known_by (pass y.caller)) y.end
-          (subst (λ (l : Known). PumpDid ⊥ x.number (pump_view shelf silent_outbox x.kit) (known_by (pass x.caller)) (pump_view shelf silent_outbox y.kit) l y.end)
+      pumped = pump_unheard x.number (pump_view shelf silent_outbox x.kit) (pump_view shelf silent_outbox y.kit) (known_by (pass x.caller))
+          (known_by (pass y.caller)) y.end
+          (subst (λ (l : Known). PumpDid ⊥ x.number (pump_view shelf silent_outbox x.kit) (known_by (pass x.caller))
+          (pump_view shelf silent_outbox y.kit) l y.end)
           (serves.known_is y.caller)
           (subst (λ (k : Known). PumpDid ⊥ x.number (pump_view shelf silent_outbox x.kit) k (pump_view shelf silent_outbox y.kit) (known y.caller) y.end)
           (serves.known_is x.caller) did.deed));
@@ -39,11 +42,13 @@ module _ {X : Type 0} (known : X → Known) (may_want : X → Bool) (same : X �
     };
   }
 
-  pub ticked_at_seat : {C P L : Type 0} (dial : C → Dial) (x y : Seat X (TickKit C Silent P) L) → TickedAtSeat same known dial x y → SeatDid cell pass (ticker_deed dial) x y
+  pub ticked_at_seat : {C P L : Type 0} (dial : C → Dial) (x y : Seat X (TickKit C Silent P) L) → TickedAtSeat same known dial x y
+      → SeatDid cell pass (ticker_deed dial) x y
   ticked_at_seat dial x y did = record {
     still = still_seated x y did.same_is did.number;
     deed = record {
-      ticked = ticker_unheard (tick_view dial silent_outbox x.kit) (tick_view dial silent_outbox y.kit) (known_by (pass x.caller)) (known_by (pass y.caller)) y.end
+      ticked = ticker_unheard (tick_view dial silent_outbox x.kit) (tick_view dial silent_outbox y.kit) (known_by (pass x.caller))
+          (known_by (pass y.caller)) y.end
           (subst (λ (l : Known). TickerDid ⊥ (tick_view dial silent_outbox x.kit) (known_by (pass x.caller)) (tick_view dial silent_outbox y.kit) l y.end)
           (serves.known_is y.caller)
           (subst (λ (k : Known). TickerDid ⊥ (tick_view dial silent_outbox x.kit) k (tick_view dial silent_outbox y.kit) (known y.caller) y.end)

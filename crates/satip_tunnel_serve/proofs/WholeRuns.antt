@@ -39,7 +39,8 @@ stops_once is_stop stops h callers (inl once) = inl (record {
 stops_once is_stop stops h callers (inr never) = inr never
 
 run_is_tunnels : (is_stop : TunnelItem → Type 0) (legal : Setting → List TunnelItem → Type 0) → ((t : TunnelItem) → is_stop t → IsTunnelStop t)
-    → ((c : Setting) (h : List TunnelItem) → legal c h → TunnelLegal c h) → (conn_tells : Type 0) (c : Setting) (accepts : ℕ) (seen : List TunnelItem) (kept : List TunnelRow)
+    → ((c : Setting) (h : List TunnelItem) → legal c h → TunnelLegal c h)
+    → (conn_tells : Type 0) (c : Setting) (accepts : ℕ) (seen : List TunnelItem) (kept : List TunnelRow)
     (workers : List WorkerView) (pumps : List PumpView) (ticker : TickView)
     → Run c legal is_stop (TunnelWorkerDone conn_tells (IsFull seen) accepts) (TunnelPumpDone (IsFull seen)) (TunnelTickerDone (IsFull seen) c.start)
     seen kept workers pumps ticker
@@ -93,7 +94,8 @@ module _ {X G W L P M T N : Type 0} (cell : X → Cell Setting) (pass : X → Sh
   pumps_fresh : Each FreshPump (map pump_of before.pumps.items) → Each (λ s. FreshPump (pump_of s.kit)) run.second
   pumps_fresh fresh =
       each_map (λ (w : P). FreshPump (pump_of w)) (λ (s : Seat X P M). s.kit) run.second
-      (subst (λ (ws : List P). Each (λ (w : P). FreshPump (pump_of w)) ws) (sym run.second_begun.kits_are) (each_map FreshPump pump_of before.pumps.items fresh))
+      (subst (λ (ws : List P). Each (λ (w : P). FreshPump (pump_of w)) ws) (sym run.second_begun.kits_are)
+      (each_map FreshPump pump_of before.pumps.items fresh))
 
   ticker_fresh : ReadOnce (cell o).setting.start (tick_of before.ticker) → ReadOnce (cell o).setting.start (tick_of run.third.kit)
   ticker_fresh read = (subst (λ (ts : List T). Each (λ (t : T). ReadOnce (cell o).setting.start (tick_of t)) ts) (sym run.third_begun.kits_are) (read, tt)).0
@@ -109,7 +111,8 @@ module _ {X G W L P M T N : Type 0} (cell : X → Cell Setting) (pass : X → Sh
       → IsFirst (pass o) → Knows (legal (cell o).setting) (pass n)
       → FreshJobs accepts (cell o).setting.start (map worker_of before.workers.items) (map pump_of before.pumps.items) (tick_of before.ticker)
       → length before.workers.items ≡ (cell o).setting.config.workers → length before.pumps.items ≡ length (cell o).setting.config.fronts
-      → TunnelServeRun conn_tells (cell o).setting accepts (pass n).seen (pass n).kept (map worker_of after.workers.items) (map pump_of after.pumps.items) (tick_of after.ticker)
+      → TunnelServeRun conn_tells (cell o).setting accepts (pass n).seen (pass n).kept (map worker_of after.workers.items) (map pump_of after.pumps.items)
+      (tick_of after.ticker)
   tunnel_run stops lawful accepts first knows fresh worker_count pump_count =
       let c : Setting = (cell o).setting in
       let full : Type 0 = IsFull (pass n).seen in
@@ -121,12 +124,16 @@ module _ {X G W L P M T N : Type 0} (cell : X → Cell Setting) (pass : X → Sh
       (tick_of run.third_ended.kit) =
       run_over cell pass gear legal is_stop goes_on (SeatDid cell pass worked) (SeatDid cell pass pumped) (SeatDid cell pass ticked) o before n after end run
       (λ (s : Seat X W L). worker_of s.kit) (λ (s : Seat X P M). pump_of s.kit) (λ (s : Seat X T N). tick_of s.kit)
-      (λ (s : Seat X W L). FreshWorker accepts (worker_of s.kit)) (λ (s : Seat X P M). FreshPump (pump_of s.kit)) (λ (s : Seat X T N). ReadOnce c.start (tick_of s.kit))
+      (λ (s : Seat X W L). FreshWorker accepts (worker_of s.kit)) (λ (s : Seat X P M). FreshPump (pump_of s.kit))
+      (λ (s : Seat X T N). ReadOnce c.start (tick_of s.kit))
       (TunnelWorkerDone conn_tells full accepts) (TunnelPumpDone full) (TunnelTickerDone full c.start)
-      (λ (x y : Seat X W L) did kit none filled. worker_done conn_tells full accepts x.number (pass y.caller).number kit.told (worker_of x.kit) (worker_of y.kit)
+      (λ (x y : Seat X W L) did kit none filled. worker_done conn_tells full accepts x.number (pass y.caller).number kit.told (worker_of x.kit)
+      (worker_of y.kit)
       (at x) (at y) y.end did.deed kit.hall none filled)
-      (λ (x y : Seat X P M) did kit none filled. tunnel_pump_done full x.number (pass y.caller).number (pump_of x.kit) (pump_of y.kit) (at x) (at y) y.end did.deed kit none filled)
-      (λ (x y : Seat X T N) did kit none filled. tunnel_ticker_done full c.start (pass y.caller).number kit.told (tick_of x.kit) (tick_of y.kit) (at x) (at y) y.end
+      (λ (x y : Seat X P M) did kit none filled. tunnel_pump_done full x.number (pass y.caller).number (pump_of x.kit) (pump_of y.kit) (at x) (at y) y.end
+      did.deed kit none filled)
+      (λ (x y : Seat X T N) did kit none filled. tunnel_ticker_done full c.start (pass y.caller).number kit.told (tick_of x.kit) (tick_of y.kit)
+      (at x) (at y) y.end
       did.deed kit.reads kit.outbox none filled)
       (λ (x y : Seat X W L) did. did.still) (λ (x y : Seat X P M) did. did.still) (λ (x y : Seat X T N) did. did.still)
       first.number first.own first.kept first.made knows (workers_fresh accepts fresh.workers_are) (pumps_fresh fresh.pumps_are) (ticker_fresh fresh.ticker_is)
@@ -149,10 +156,12 @@ module _ {X G W L P M T N : Type 0} (cell : X → Cell Setting) (pass : X → Sh
       let ticked = ticks tick_of in
       let good : WorkerView → Type 0 = λ w. w.hall.ended ≡ true in
       let bad : WorkerView → Type 0 = λ w. w.hall.faults ≢ 0 in
-      let whole : MatchEnd end (Each good (map (λ (s : Seat X W L). worker_of s.kit) run.front.ended)) (HasOne bad (map (λ (s : Seat X W L). worker_of s.kit) run.front.ended)) full =
+      let whole : MatchEnd end (Each good (map (λ (s : Seat X W L). worker_of s.kit) run.front.ended))
+      (HasOne bad (map (λ (s : Seat X W L). worker_of s.kit) run.front.ended)) full =
       end_over cell pass gear legal is_stop goes_on (SeatDid cell pass worked) (SeatDid cell pass pumped) (SeatDid cell pass ticked) o before n after end run
       (λ (s : Seat X W L). worker_of s.kit) good bad (λ (s : Seat X W L). FreshWorker accepts (worker_of s.kit))
-      (λ (x y : Seat X W L) did kit filled. one_worker_tells conn_tells full accepts x.number (worker_of x.kit) (worker_of y.kit) (at x) (at y) y.end did.deed kit filled)
+      (λ (x y : Seat X W L) did kit filled. one_worker_tells conn_tells full accepts x.number (worker_of x.kit) (worker_of y.kit) (at x) (at y) y.end
+      did.deed kit filled)
       (λ (x y : Seat X P M) did filled. one_pump_tells full x.number (pump_of x.kit) (pump_of y.kit) (at x) (at y) y.end did.deed filled)
       (λ (x y : Seat X T N) did filled. one_ticker_tells full (tick_of x.kit) (tick_of y.kit) (at x) (at y) y.end did.deed filled)
       knows (workers_fresh accepts fresh) in

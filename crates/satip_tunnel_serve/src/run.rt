@@ -62,7 +62,8 @@ pub fn run_in_tunnel<
     space: TunnelSpace<X, D, L, P, M>,
     work: &F,
 ) -> (X, TunnelPosts<D, P, M, C, X::Gear>, ServeEnd)
-    requires serves { ServesInTunnel X.known X.may_want X.same X.cell X.pass X.Crew.legal X.is_stop }
+    requires serves { ServesInTunnel X.known X.may_want X.same X.cell X.pass X.Crew.legal
+        X.is_stop }
     requires work { WorksSo X.cell X.pass (worker_deed D.Conn.tells D.hall) F.Fn work.now }
     requires first { IsFirst (X.pass root) }
     requires workers { IsSpace posts.workers.items posts.worker_gears.items

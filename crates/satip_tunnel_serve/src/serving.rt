@@ -205,8 +205,8 @@ fn serve_all<
 /// pumps in the order of front ends, and the ticker, whose clock is read first, for the start. Each
 /// job is a caller of its own, split off from caller 0. When all workers have ended their callers
 /// are joined, and caller 0 makes the one stop, while pumps and ticker still run; when these have
-/// ended they are joined too. Callers are joined in the order of jobs. No outlet is used: each comes
-/// back as it was.
+/// ended they are joined too. Callers are joined in the order of jobs. No outlet is used: each
+/// comes back as it was.
 ///
 /// All memory is taken before any job begins: where it was refused the kits come back, of which the
 /// clock alone was used, once. It waits.

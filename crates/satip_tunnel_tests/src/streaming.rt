@@ -9,21 +9,30 @@ use std::process::Abort;
 use std::test::Fail;
 
 const SETUP: &[u8] =
-    b"SETUP rtsp://192.168.1.10/?src=1&freq=11361.75&pol=h&ro=0.35&msys=dvbs2&mtype=8psk&plts=on&sr=22000&fec=23&pids=0,16,17&x_pmt=100 RTSP/1.0\r\nCSeq: 1\r\nTransport: RTP/AVP/TCP;interleaved=0-1\r\n\r\n";
+    b"SETUP rtsp://192.168.1.10/?src=1&freq=11361.75&pol=h&ro=0.35&msys=dvbs2&mtype=8psk&plts=on\
+    &sr=22000&fec=23&pids=0,16,17&x_pmt=100 RTSP/1.0\r\n\
+    CSeq: 1\r\n\
+    Transport: RTP/AVP/TCP;interleaved=0-1\r\n\r\n";
 
-const SETUP_REPLY: &[u8] =
-    b"RTSP/1.0 200 OK\r\nCSeq: 1\r\nSession: 000000010000000a;timeout=60\r\nTransport: RTP/AVP;unicast;client_port=1-2\r\ncom.ses.streamID: 1\r\n\r\n";
+const SETUP_REPLY: &[u8] = b"RTSP/1.0 200 OK\r\n\
+    CSeq: 1\r\n\
+    Session: 000000010000000a;timeout=60\r\n\
+    Transport: RTP/AVP;unicast;client_port=1-2\r\n\
+    com.ses.streamID: 1\r\n\r\n";
 
 const PLAY: &[u8] =
     b"PLAY rtsp://192.168.1.10/stream=1 RTSP/1.0\r\nCSeq: 2\r\nSession: 000000010000000a\r\n\r\n";
 
 /// A SETUP over UDP, which no connection of a tunnel takes.
-const SETUP_UDP: &[u8] =
-    b"SETUP rtsp://192.168.1.10/?src=1&freq=11361.75&pol=h&msys=dvbs2&sr=22000&pids=0,16,17 RTSP/1.0\r\nCSeq: 1\r\nTransport: RTP/AVP;unicast;client_port=1400-1401\r\n\r\n";
+const SETUP_UDP: &[u8] = b"SETUP rtsp://192.168.1.10/?src=1&freq=11361.75&pol=h&msys=dvbs2&sr=22000\
+    &pids=0,16,17 RTSP/1.0\r\n\
+    CSeq: 1\r\n\
+    Transport: RTP/AVP;unicast;client_port=1400-1401\r\n\r\n";
 
 /// A second session of the first stream.
-const JOIN: &[u8] =
-    b"SETUP rtsp://192.168.1.10/stream=1 RTSP/1.0\r\nCSeq: 1\r\nTransport: RTP/AVP/TCP;interleaved=0-1\r\n\r\n";
+const JOIN: &[u8] = b"SETUP rtsp://192.168.1.10/stream=1 RTSP/1.0\r\n\
+    CSeq: 1\r\n\
+    Transport: RTP/AVP/TCP;interleaved=0-1\r\n\r\n";
 
 const PLAY_JOINED: &[u8] =
     b"PLAY rtsp://192.168.1.10/stream=1 RTSP/1.0\r\nCSeq: 2\r\nSession: 000000020000000a\r\n\r\n";
@@ -35,7 +44,10 @@ const MEDIA_HEAD: &[u8] = b"$\x00\x04\x74\x80\x21\xff\xff\x00\x01\x6d\xa0\x11\x2
 /// A frame of 152 bytes on channel 1: a sender report, a source description and a description of
 /// the stream (RFC 3550, section 6).
 const REPORT: &[u8] =
-    b"$\x01\x00\x98\x80\xc8\x00\x06\x11\x22\x33\x44\x83\xaa\x7e\x81\x0a\x3d\x70\xa3\x00\x01\x6d\xa0\x00\x00\x00\x01\x00\x00\x04\x68\x81\xca\x00\x05\x11\x22\x33\x44\x01\x0c192.168.1.10\x00\x00\x80\xcc\x00\x18\x11\x22\x33\x44SES1\x00\x00\x00\x52ver=1.0;src=1;tuner=1,240,1,15,11361.75,h,dvbs2,8psk,on,0.35,22000,23;pids=0,16,17\x00\x00";
+    b"$\x01\x00\x98\x80\xc8\x00\x06\x11\x22\x33\x44\x83\xaa\x7e\x81\x0a\x3d\x70\xa3\x00\x01\x6d\
+    \xa0\x00\x00\x00\x01\x00\x00\x04\x68\x81\xca\x00\x05\x11\x22\x33\x44\x01\x0c192.168.1.10\x00\
+    \x00\x80\xcc\x00\x18\x11\x22\x33\x44SES1\x00\x00\x00\x52ver=1.0;\
+    src=1;tuner=1,240,1,15,11361.75,h,dvbs2,8psk,on,0.35,22000,23;pids=0,16,17\x00\x00";
 
 /// The frames of six packets and a report.
 fn six_and_report(alloc: Global, packet: &Packet) -> Result<Vec<u8>, Fail> {

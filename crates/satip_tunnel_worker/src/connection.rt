@@ -37,7 +37,8 @@ fn serve_rtsp<R: Wait + Sync, C: Conn, P: Pacer>(
     draws: &mut Draws,
     room: &mut TunnelRoom,
 ) -> ConnEnd
-    ensures serves { (peer : Peer) (key : List ℕ) (stream from : ℕ) → draws.old ≡ before_draw key stream from
+    ensures serves { (peer : Peer) (key : List ℕ) (stream from : ℕ)
+        → draws.old ≡ before_draw key stream from
         → (to : ℕ) × (draws.new ≡ before_draw key stream to)
         × ServesConn C.tells DoorKind.Rtsp peer (draw_at key stream) from to
         (seated caller.old.server.now caller.old.pass)

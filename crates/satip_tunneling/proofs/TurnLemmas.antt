@@ -94,7 +94,8 @@ module _ (tells : Type 0) (course : Course) (o n : Seat) (l m : Line) (before af
       let e = exchange_here Spent x in
       elim e.comes [
         | inl unasked ↦ stops_before tells course o n l m before after received text messages parter stands e.draw e.takes request asks.before asks.more unasked
-        | inr answered ↦ stops_behind tells course o n l m before after received text messages parter stands e.draw e.takes request (closes request.refusal) asks.behind answered
+        | inr answered ↦ stops_behind tells course o n l m before after received text messages parter stands e.draw e.takes request (closes request.refusal)
+            asks.behind answered
       ]
 
   -- ---- what is no message

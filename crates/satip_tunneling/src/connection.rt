@@ -119,8 +119,8 @@ fn finish<R: Wait + Sync>(
     }
 }
 
-/// Serves one RTSP connection of a tunnel (RFC 2326, sections 10 and 10.12): it enters, and where it
-/// is given a lane, its messages are answered in order, with the lane as their peer, until its
+/// Serves one RTSP connection of a tunnel (RFC 2326, sections 10 and 10.12): it enters, and where
+/// it is given a lane, its messages are answered in order, with the lane as their peer, until its
 /// input ends, a closing reply was sent, a receive or a send fails, the lane is broken, or the
 /// history is full. Each reply is sent with its transport told in channels. Behind each reply, and
 /// while nothing comes in, the frames of the lane are sent until none waits; then an idle

@@ -83,7 +83,8 @@ fn whole_reply(out: &Out) -> &[u8]
 
 // Sends the reply, turned.
 fn send_reply<C: Conn>(out: &Out, reply: &mut ChannelReply, conn: &mut C) -> Put
-    ensures sends { Sends C.tells (C.line conn.old) (C.line conn.new) (turned out.now.reply) result }
+    ensures sends { Sends C.tells (C.line conn.old) (C.line conn.new) (turned out.now.reply)
+        result }
 {
     reply.turn(whole_reply(out));
     conn.send(reply.bytes())

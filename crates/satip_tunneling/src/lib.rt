@@ -7,6 +7,13 @@ mod ends;
 mod events;
 mod exchanges;
 mod hearing;
+#[rattlefmt::skip]
+#[tactic(auto, unfolding(
+    satip_channels::specs::Turned::turned,
+    satip_channels::specs::Turned::ports_told,
+    satip_channels::specs::Turned::channel_line,
+    satip_base::specs::Numbers::number_of,
+))]
 mod rows;
 
 pub use connection::serve_tunnel;

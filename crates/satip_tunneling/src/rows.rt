@@ -10,10 +10,10 @@ ghost use Rattle.satip_tunneling.specs.Wire.{SentInPart, wire};
 
 /// Which entries follow which, what is sent of them, and which runs a connection has on which
 /// nothing came in.
-#[tactic(auto, unfolding(satip_channels::specs::Turned::turned, satip_channels::specs::Turned::ports_told, satip_channels::specs::Turned::channel_line, satip_base::specs::Numbers::number_of))]
 pub fn worked_rows()
     // A request is followed by drains of its lane, until one isn't answered with frames.
-    ensures drained { Walk 3 Free (asks 3 [] ∷ drains 3 (Frames 5) [] ∷ drains 3 Empty [] ∷ []) Free }
+    ensures drained { Walk 3 Free (asks 3 [] ∷ drains 3 (Frames 5) [] ∷ drains 3 Empty [] ∷ [])
+        Free }
     ensures gone { Walk 3 Free (asks 3 [] ∷ drains 3 Gone [] ∷ []) Free }
     ensures idle { Walk 3 Free (drains 3 Empty [] ∷ drains 3 Empty [] ∷ []) Free }
     ensures undrained { ¬ (Walk 3 Free (asks 3 [] ∷ asks 3 [] ∷ []) Draining) }
@@ -43,7 +43,8 @@ pub fn worked_rows()
         ∷ drains 3 (Frames 5) (36 ∷ 0 ∷ 0 ∷ 1 ∷ 71 ∷ []) ∷ leaves 3 ∷ []) }
     ensures turned_away { TunnelRun [] [] [] 1 Full (enters NoLane ∷ []) }
     ensures entry_behind { ¬ (TunnelRun [] [] [] 2 Full (enters NoLane ∷ leaves 3 ∷ [])) }
-    ensures broke { TunnelRun [] [] [] 3 Broken (enters (Lane 3) ∷ drains 3 LaneBroken [] ∷ leaves 3 ∷ []) }
+    ensures broke { TunnelRun [] [] [] 3 Broken
+        (enters (Lane 3) ∷ drains 3 LaneBroken [] ∷ leaves 3 ∷ []) }
     ensures not_done { ¬ (TunnelRun [] [] [] 3 Done
         (enters (Lane 3) ∷ drains 3 LaneBroken [] ∷ leaves 3 ∷ [])) }
     ensures spent { TunnelRun [] [] [] 18446744073709551615 Spent (enters (Lane 3) ∷ []) }

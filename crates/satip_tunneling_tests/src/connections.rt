@@ -23,15 +23,24 @@ pub const OPTIONS_REPLY: &[u8] =
     b"RTSP/1.0 200 OK\r\nCSeq: 1\r\nPublic: OPTIONS, DESCRIBE, SETUP, PLAY, TEARDOWN\r\n\r\n";
 
 pub const SETUP: &[u8] =
-    b"SETUP rtsp://192.168.1.10/?src=1&freq=11361.75&pol=h&ro=0.35&msys=dvbs2&mtype=8psk&plts=on&sr=22000&fec=23&pids=0,16,17&x_pmt=100 RTSP/1.0\r\nCSeq: 1\r\nTransport: RTP/AVP/TCP;interleaved=0-1\r\n\r\n";
+    b"SETUP rtsp://192.168.1.10/?src=1&freq=11361.75&pol=h&ro=0.35&msys=dvbs2&mtype=8psk&plts=on\
+    &sr=22000&fec=23&pids=0,16,17&x_pmt=100 RTSP/1.0\r\n\
+    CSeq: 1\r\n\
+    Transport: RTP/AVP/TCP;interleaved=0-1\r\n\r\n";
 
 /// The reply to the SETUP: its session was made by the key's first draw, and its transport is told
 /// in channels.
-pub const SETUP_REPLY: &[u8] =
-    b"RTSP/1.0 200 OK\r\nCSeq: 1\r\nSession: 00000001ade0b876;timeout=60\r\nTransport: RTP/AVP/TCP;unicast;interleaved=0-1\r\ncom.ses.streamID: 1\r\n\r\n";
+pub const SETUP_REPLY: &[u8] = b"RTSP/1.0 200 OK\r\n\
+    CSeq: 1\r\n\
+    Session: 00000001ade0b876;timeout=60\r\n\
+    Transport: RTP/AVP/TCP;unicast;interleaved=0-1\r\n\
+    com.ses.streamID: 1\r\n\r\n";
 
 const SETUP_UDP: &[u8] =
-    b"SETUP rtsp://192.168.1.10/?src=1&freq=11361.75&pol=h&ro=0.35&msys=dvbs2&mtype=8psk&plts=on&sr=22000&fec=23&pids=0,16,17&x_pmt=100 RTSP/1.0\r\nCSeq: 1\r\nTransport: RTP/AVP;unicast;client_port=1400-1401\r\n\r\n";
+    b"SETUP rtsp://192.168.1.10/?src=1&freq=11361.75&pol=h&ro=0.35&msys=dvbs2&mtype=8psk&plts=on\
+    &sr=22000&fec=23&pids=0,16,17&x_pmt=100 RTSP/1.0\r\n\
+    CSeq: 1\r\n\
+    Transport: RTP/AVP;unicast;client_port=1400-1401\r\n\r\n";
 
 const REFUSED: &[u8] = b"RTSP/1.0 461 Unsupported Transport\r\nCSeq: 1\r\n\r\n";
 

@@ -22,8 +22,10 @@ use std::test::Fail;
 const PLAY: &[u8] =
     b"PLAY rtsp://192.168.1.10/stream=1 RTSP/1.0\r\nCSeq: 2\r\nSession: 00000001ade0b876\r\n\r\n";
 
-const PLAY_REPLY: &[u8] =
-    b"RTSP/1.0 200 OK\r\nCSeq: 2\r\nSession: 00000001ade0b876\r\nRTP-Info: url=rtsp://192.168.1.10/stream=1;seq=23872\r\n\r\n";
+const PLAY_REPLY: &[u8] = b"RTSP/1.0 200 OK\r\n\
+    CSeq: 2\r\n\
+    Session: 00000001ade0b876\r\n\
+    RTP-Info: url=rtsp://192.168.1.10/stream=1;seq=23872\r\n\r\n";
 
 /// The head of the datagram of the first six packets: a frame of 1140 bytes on channel 0, and the
 /// RTP header at 1040 milliseconds (RFC 3550, section 5.1) with the key's first draw: the SSRC
@@ -33,7 +35,10 @@ const MEDIA_HEAD: &[u8] = b"$\x00\x04\x74\x80\x21\x5d\x40\x00\x01\x6d\xa0\x90\x3
 /// A frame of 152 bytes on channel 1: a sender report, a source description and a description of
 /// the stream (RFC 3550, section 6).
 const REPORT: &[u8] =
-    b"$\x01\x00\x98\x80\xc8\x00\x06\x90\x3d\xf1\xa0\x83\xaa\x7e\x81\x0a\x3d\x70\xa3\x00\x01\x6d\xa0\x00\x00\x00\x01\x00\x00\x04\x68\x81\xca\x00\x05\x90\x3d\xf1\xa0\x01\x0c192.168.1.10\x00\x00\x80\xcc\x00\x18\x90\x3d\xf1\xa0SES1\x00\x00\x00\x52ver=1.0;src=1;tuner=1,240,1,15,11361.75,h,dvbs2,8psk,on,0.35,22000,23;pids=0,16,17\x00\x00";
+    b"$\x01\x00\x98\x80\xc8\x00\x06\x90\x3d\xf1\xa0\x83\xaa\x7e\x81\x0a\x3d\x70\xa3\x00\x01\x6d\
+    \xa0\x00\x00\x00\x01\x00\x00\x04\x68\x81\xca\x00\x05\x90\x3d\xf1\xa0\x01\x0c192.168.1.10\x00\
+    \x00\x80\xcc\x00\x18\x90\x3d\xf1\xa0SES1\x00\x00\x00\x52ver=1.0;\
+    src=1;tuner=1,240,1,15,11361.75,h,dvbs2,8psk,on,0.35,22000,23;pids=0,16,17\x00\x00";
 
 /// A connection over memory. Before its second receive a tick comes, before its third six packets
 /// and one more.

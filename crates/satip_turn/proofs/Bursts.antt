@@ -12,10 +12,15 @@ use Rattle.satip_turn.specs.Steps.{committed}
 use Rattle.satip_turn.specs.Seats.{IsUnderWay, extended}
 
 extended_more : {E A O C : Type 0} (v : View E A O C) (es : List (Entry E A O)) (x : Entry E A O) → committed (extended v es) x ≡ extended v (es ++ x ∷ [])
-extended_more v es x = λ i. record v { seen = append_assoc v.seen es (x ∷ []) i; whole = append_assoc v.whole es (x ∷ []) i; own = append_assoc v.own es (x ∷ []) i }
+extended_more v es x = λ i. record v {
+  seen = append_assoc v.seen es (x ∷ []) i;
+  whole = append_assoc v.whole es (x ∷ []) i;
+  own = append_assoc v.own es (x ∷ []) i;
+}
 
 module _ {E A O C X : Type 0} (setting_of : X → C) (stands : X → List (Entry E A O) → Type 0) where
-  pub goes_on : (before after : List (Taken E A O) → Type 0) (v : View E A O C) (made place : ℕ) (me me' : Me (Content X E A O) (View E A O C)) (value value' : X) (e : E) (a : A) (o : O)
+  pub goes_on : (before after : List (Taken E A O) → Type 0) (v : View E A O C) (made place : ℕ) (me me' : Me (Content X E A O) (View E A O C))
+      (value value' : X) (e : E) (a : A) (o : O)
       → IsUnderWay setting_of stands before v made me value place
       → ((ts : List (Taken E A O)) → before ts → after (ts ++ taken e a o ∷ []))
       → me' ≡ (committed me.0 (entry me.0.number e a o), (0, Away) ∷ [])
@@ -28,7 +33,8 @@ module _ {E A O C X : Type 0} (setting_of : X → C) (stands : X → List (Entry
       let es : List (Entry E A O) = entries v.number ts in
       let here : me.0 ≡ extended v es = ap (λ (m : Me (Content X E A O) (View E A O C)). m.0) u.seat in
       let step : committed me.0 (entry me.0.number e a o) ≡ extended v (entries v.number (ts ++ taken e a o ∷ [])) =
-      ap (λ (w : View E A O C). committed w (entry w.number e a o)) here ∙ extended_more v es x ∙ ap (extended v) (sym (entries-append v.number ts (taken e a o ∷ []))) in
+      ap (λ (w : View E A O C). committed w (entry w.number e a o)) here ∙ extended_more v es x
+      ∙ ap (extended v) (sym (entries-append v.number ts (taken e a o ∷ []))) in
       let longer : length (me.0.whole ++ entry me.0.number e a o ∷ []) ≡ length me.0.whole + 1 = length-append me.0.whole (entry me.0.number e a o ∷ []) in
       let long : length (ts ++ taken e a o ∷ []) ≡ length ts + 1 = length-append ts (taken e a o ∷ []) in
       let whole : me'.0.whole ≡ me.0.whole ++ entry me.0.number e a o ∷ [] = ap (λ (m : Me (Content X E A O) (View E A O C)). m.0.whole) is in

@@ -47,7 +47,8 @@ total_at f (x ∷ xs) zero v e = let s : f x ≡ f v = ap f (some-injective x v 
 total_at f (x ∷ xs) (suc j) v e = let s = total_at f xs j v e in omega arith
 
 -- two elements at one place where both count
-pub one_place : {T : Type 0} (f : T → ℕ) (xs : List T) (i j : ℕ) (u v : T) → get_elem? xs i ≡ some u → get_elem? xs j ≡ some v → total f xs ≤ 1 → 1 ≤ f u → 1 ≤ f v → i ≡ j
+pub one_place : {T : Type 0} (f : T → ℕ) (xs : List T) (i j : ℕ) (u v : T) → get_elem? xs i ≡ some u → get_elem? xs j ≡ some v → total f xs ≤ 1 → 1 ≤ f u
+    → 1 ≤ f v → i ≡ j
 one_place f [] i j u v a b le fu fv = absurd (some-ne-none u (sym a))
 one_place f (x ∷ xs) zero zero u v a b le fu fv = refl
 one_place f (x ∷ xs) zero (suc j) u v a b le fu fv =

@@ -30,17 +30,29 @@ pub pass_send : (S E O A C : RattleType) (g : Ghosts S.Denot E.Denot O.Denot A.D
 pass_send S E O A C g s = search (sendable, seat.the_send, content_send) depth 20
 
 -- what the cell's rule stands for at the served type
-abbrev rule_of : (S E O A C : RattleType) (g : Ghosts S.Denot E.Denot O.Denot A.Denot C.Denot) → TableRule.Ghosts (Turns.the_row).Denot (Content.the_row S E A O).Denot (View.the_row E A O C).Denot (Snapshot.the_row S).Denot
+abbrev rule_of : (S E O A C : RattleType) (g : Ghosts S.Denot E.Denot O.Denot A.Denot C.Denot)
+    → TableRule.Ghosts (Turns.the_row).Denot (Content.the_row S E A O).Denot (View.the_row E A O C).Denot (Snapshot.the_row S).Denot
 rule_of S E O A C g = rule.ghosts S E O A C g rule.no_dict rule.no_dict rule.no_dict rule.no_dict
 
 abbrev table_field : (S E O A C : RattleType) (g : Ghosts S.Denot E.Denot O.Denot A.Denot C.Denot) → Field
-table_field S E O A C g = Table.the_field (Content.the_row S E A O) (View.the_row E A O C) (Snapshot.the_row S) Turns.the_row Heap.the_row (rule_of S E O A C g) ghosts
+table_field S E O A C g = Table.the_field (Content.the_row S E A O) (View.the_row E A O C) (Snapshot.the_row S) Turns.the_row Heap.the_row
+    (rule_of S E O A C g) ghosts
 
 inside_sync : (S E O A C : RattleType) (g : Ghosts S.Denot E.Denot O.Denot A.Denot C.Denot) → IsSend S → IsSync (inside.the_row S E O A C g)
-inside_sync S E O A C g s = declared_sync (inside.the_type S E O A C g) (as_row_sync (table_field S E O A C g) (table.the_field_sync (Content.the_row S E A O) (View.the_row E A O C) (Snapshot.the_row S) Turns.the_row Heap.the_row (rule_of S E O A C g) ghosts (content_send S E A O s) heap.send heap.sync heap.frees), tt)
+inside_sync S E O A C g s = declared_sync (inside.the_type S E O A C g) (
+  as_row_sync (table_field S E O A C g)
+      (table.the_field_sync (Content.the_row S E A O) (View.the_row E A O C) (Snapshot.the_row S) Turns.the_row Heap.the_row (rule_of S E O A C g) ghosts
+      (content_send S E A O s) heap.send heap.sync heap.frees),
+  tt,
+)
 
 inside_send : (S E O A C : RattleType) (g : Ghosts S.Denot E.Denot O.Denot A.Denot C.Denot) → IsSend S → IsSend (inside.the_row S E O A C g)
-inside_send S E O A C g s = declared_send (inside.the_type S E O A C g) (as_row_send (table_field S E O A C g) (table.the_field_send (Content.the_row S E A O) (View.the_row E A O C) (Snapshot.the_row S) Turns.the_row Heap.the_row (rule_of S E O A C g) ghosts (content_send S E A O s) heap.send heap.frees), tt)
+inside_send S E O A C g s = declared_send (inside.the_type S E O A C g) (
+  as_row_send (table_field S E O A C g)
+      (table.the_field_send (Content.the_row S E A O) (View.the_row E A O C) (Snapshot.the_row S) Turns.the_row Heap.the_row (rule_of S E O A C g) ghosts
+      (content_send S E A O s) heap.send heap.frees),
+  tt,
+)
 
 pub cell_sync : (S E O A C : RattleType) (g : Ghosts S.Denot E.Denot O.Denot A.Denot C.Denot) → IsSend S → IsSync (Cell.the_row S E O A C g)
 cell_sync S E O A C g s = search (sendable, inside_sync) depth 20

@@ -53,14 +53,18 @@ one_more n count = ⊎_elim
         omega arith
 
 -- how often a number stands in the numbers of a live view
-pub times_numbers : {E A O C : Type 0} (v : View E A O C) (n : ℕ) → v.spent ≡ false → times n (numbers v) ≡ times n (numbers_of (held v)) + times n (numbers_of v.drawn)
+pub times_numbers : {E A O C : Type 0} (v : View E A O C) (n : ℕ) → v.spent ≡ false
+    → times n (numbers v) ≡ times n (numbers_of (held v)) + times n (numbers_of v.drawn)
 times_numbers v n live =
-    ap (λ b. times n (unless b (numbers_of (held v ++ v.drawn)))) live ∙ (ap (times n) (numbers_of-append (held v) v.drawn) ∙ times-append n (numbers_of (held v)) (numbers_of v.drawn))
+    ap (λ b. times n (unless b (numbers_of (held v ++ v.drawn)))) live
+    ∙ (ap (times n) (numbers_of-append (held v) v.drawn) ∙ times-append n (numbers_of (held v)) (numbers_of v.drawn))
 
 module _ {E A O C X : Type 0} (setting_of : X → C) (legal : C → List (Entry E A O) → Type 0) (stands : X → List (Entry E A O) → Type 0) (c : C) where
-  module _ (s : State (Content X E A O) (View E A O C)) (id : ℕ) (v : View E A O C) (idle : v.turn ≡ false) (live : v.spent ≡ false) (none : v.drawn ≡ []) (k : Rule setting_of legal stands c s) (at : get_elem? s.views id ≡ some v) where
+  module _ (s : State (Content X E A O) (View E A O C)) (id : ℕ) (v : View E A O C) (idle : v.turn ≡ false) (live : v.spent ≡ false) (none : v.drawn ≡ [])
+      (k : Rule setting_of legal stands c s) (at : get_elem? s.views id ≡ some v) where
     fresh_in : (h : List (Entry E A O)) → Begins h k.log → own_of k.count h ≡ []
-    fresh_in h b = own_of-none k.count h (Each-append_left (λ (e : Entry E A O). e.caller < k.count) h b.rest (subst (Each (λ (e : Entry E A O). e.caller < k.count)) b.whole k.views.below))
+    fresh_in h b = own_of-none k.count h
+        (Each-append_left (λ (e : Entry E A O). e.caller < k.count) h b.rest (subst (Each (λ (e : Entry E A O). e.caller < k.count)) b.whole k.views.below))
 
     here : v.number < k.count
     here = number_below setting_of legal stands c k.log k.count s.views id v k.views at live v.number (inl refl)
@@ -72,7 +76,8 @@ module _ {E A O C X : Type 0} (setting_of : X → C) (legal : C → List (Entry 
         let g : IsGood legal c k.log n v = k.views.good id v at live in
         let less : (x : ℕ) → x < n → x < n + 1 = λ x lt. omega arith in
         let new_row : (h : List (Entry E A O)) → own_of n h ≡ [] → AreOwnIn h (held v ++ v.drawn) → AreOwnIn h (held w ++ w.drawn) =
-        λ h none old. Each-append (λ (r : Row E A O). own_of r.number h ≡ r.own) (held v) (row n [] ∷ []) (Each-append_left (λ (r : Row E A O). own_of r.number h ≡ r.own) (held v) v.drawn old) (none, tt) in
+        λ h none old. Each-append (λ (r : Row E A O). own_of r.number h ≡ r.own) (held v) (row n [] ∷ [])
+        (Each-append_left (λ (r : Row E A O). own_of r.number h ≡ r.own) (held v) v.drawn old) (none, tt) in
         moves legal c k.log k.log n (n + 1) s.views id v w k.views at
         (each_follows (λ (e : Entry E A O). e.caller < n) (λ (e : Entry E A O). e.caller < n + 1) (λ e lt. less e.caller lt) k.log k.views.below)
         (λ i u apart e live' g'. record {
@@ -160,10 +165,12 @@ module _ {E A O C X : Type 0} (setting_of : X → C) (legal : C → List (Entry 
       → Allows (Rule setting_of legal stands c) slots id me 0 (λ n. n) (λ _. Draws legal me)
   draws slots id me idle live none empty s k long at small =
       subst (λ (cs : List (ℕ × Content X E A O)). Lands setting_of legal stands c s id (me.0, cs) 0 (λ n. n) (λ _. Draws legal (me.0, cs)) s.words) (sym empty)
-      (subst (Lands setting_of legal stands c s id (me.0, []) 0 (λ n. n) (λ _. Draws legal (me.0, []))) (sym k.words) (draws_number s id me.0 idle live none k at))
+      (subst (Lands setting_of legal stands c s id (me.0, []) 0 (λ n. n) (λ _. Draws legal (me.0, []))) (sym k.words)
+      (draws_number s id me.0 idle live none k at))
 
   -- a view that has drawn a number is cut in two
-  module _ (s : State (Content X E A O) (View E A O C)) (id : ℕ) (u : View E A O C) (n : ℕ) (idle : u.turn ≡ false) (live : u.spent ≡ false) (k : Rule setting_of legal stands c s) (at : get_elem? s.views id ≡ some (drawing u n)) where
+  module _ (s : State (Content X E A O) (View E A O C)) (id : ℕ) (u : View E A O C) (n : ℕ) (idle : u.turn ≡ false) (live : u.spent ≡ false)
+      (k : Rule setting_of legal stands c s) (at : get_elem? s.views id ≡ some (drawing u n)) where
     left_views : AreViews legal c k.log k.count (set s.views id (parting (drawing u n)) ++ newcomer (drawing u n) ∷ [])
     left_views =
         let v : View E A O C = drawing u n in
@@ -171,7 +178,8 @@ module _ {E A O C X : Type 0} (setting_of : X → C) (legal : C → List (Entry 
         let x : View E A O C = newcomer v in
         let g : IsGood legal c k.log k.count v = k.views.good id v at live in
         let left : (h : List (Entry E A O)) → AreOwnIn h (held v ++ v.drawn) → AreOwnIn h (held w ++ w.drawn) =
-        λ h old. Each-append (λ (r : Row E A O). own_of r.number h ≡ r.own) (held v) [] (Each-append_left (λ (r : Row E A O). own_of r.number h ≡ r.own) (held v) v.drawn old) tt in
+        λ h old. Each-append (λ (r : Row E A O). own_of r.number h ≡ r.own) (held v) []
+        (Each-append_left (λ (r : Row E A O). own_of r.number h ≡ r.own) (held v) v.drawn old) tt in
         let right : (h : List (Entry E A O)) → AreOwnIn h (held v ++ v.drawn) → AreOwnIn h (row n [] ∷ []) =
         λ h old. Each-append_right (λ (r : Row E A O). own_of r.number h ≡ r.own) (held v) v.drawn old in
         let good_left : IsGood legal c k.log k.count w = record {
@@ -215,10 +223,19 @@ module _ {E A O C X : Type 0} (setting_of : X → C) (legal : C → List (Entry 
               omega arith;
           parents = λ m positive less.
               let p = Rattle.satip_turn.proofs.Moves.parent_moves s.views id v w at (λ j h. h) (λ j h. h) m (k.views.parents m positive less) in
-              record { number = p.number; lesser = p.lesser; seat = p.seat; view = p.view; at = at_longer (set s.views id w) (x ∷ []) p.seat p.view p.at; holds = p.holds; made = p.made };
+              record {
+                number = p.number;
+                lesser = p.lesser;
+                seat = p.seat;
+                view = p.view;
+                at = at_longer (set s.views id w) (x ∷ []) p.seat p.view p.at;
+                holds = p.holds;
+                made = p.made;
+              };
         }
 
-    parts : Rule setting_of legal stands c (record { words = s.words; homes = s.homes; views = set s.views id (parting (drawing u n)) ++ newcomer (drawing u n) ∷ [] })
+    parts : Rule setting_of legal stands c
+        (record { words = s.words; homes = s.homes; views = set s.views id (parting (drawing u n)) ++ newcomer (drawing u n) ∷ [] })
     parts =
         let v : View E A O C = drawing u n in
         let w : View E A O C = parting v in
@@ -245,9 +262,13 @@ module _ {E A O C X : Type 0} (setting_of : X → C) (legal : C → List (Entry 
                       (at_snoc (set s.views id w) x y i e);
                 },
               ))
-              (λ (t : (k.turn ≡ 1) × IsBusy k.log s.views). inr (t.0, busy_grows k.log (set s.views id w) x (busy_stays k.log k.log s.views id v w t.1 at idle idle) refl))
+              (λ (t : (k.turn ≡ 1) × IsBusy k.log s.views).
+              inr (t.0, busy_grows k.log (set s.views id w) x (busy_stays k.log k.log s.views id v w t.1 at idle idle) refl))
               k.held;
         }
 
-  pub splits : (id : ℕ) (u v : View E A O C) (n : ℕ) → u.turn ≡ false → u.spent ≡ false → v ≡ drawing u n → Splits {S = Content X E A O} {V = View E A O C} (Rule setting_of legal stands c) id v (parting v) (newcomer v)
-  splits id u v n idle live is = subst (λ (y : View E A O C). Splits {S = Content X E A O} {V = View E A O C} (Rule setting_of legal stands c) id y (parting y) (newcomer y)) (sym is) (λ s k at. parts s id u n idle live k at)
+  pub splits : (id : ℕ) (u v : View E A O C) (n : ℕ) → u.turn ≡ false → u.spent ≡ false → v ≡ drawing u n
+      → Splits {S = Content X E A O} {V = View E A O C} (Rule setting_of legal stands c) id v (parting v) (newcomer v)
+  splits id u v n idle live is =
+      subst (λ (y : View E A O C). Splits {S = Content X E A O} {V = View E A O C} (Rule setting_of legal stands c) id y (parting y) (newcomer y)) (sym is)
+      (λ s k at. parts s id u n idle live k at)

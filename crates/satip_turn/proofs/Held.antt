@@ -25,7 +25,8 @@ no_turn {E} {A} {O} {C} views j w others mine i u e = ⊎_elim
     (λ (t : (i ≢ j) × (get_elem? views i ≡ some u)). others i u t.0 t.1)
     (at_set views j i w u e)
 
-module _ {E A O C : Type 0} (log log' : List (Entry E A O)) (views : List (View E A O C)) (j : ℕ) (v w : View E A O C) (b : IsBusy log views) (at : get_elem? views j ≡ some v) where
+module _ {E A O C : Type 0} (log log' : List (Entry E A O)) (views : List (View E A O C)) (j : ℕ) (v w : View E A O C) (b : IsBusy log views)
+    (at : get_elem? views j ≡ some v) where
   -- the view that holds the turn is the holder's
   pub holder_is : v.turn ≡ true → b.view ≡ v
   holder_is holds = same_at views j b.view v (subst (λ i. get_elem? views i ≡ some b.view) (sym (b.alone j v at holds)) b.at) at
@@ -87,7 +88,8 @@ busy_begins {E} {A} {O} {C} log views j v w nobody at holds whole = record {
 }
 
 -- one more view, which doesn't hold it
-pub busy_grows : {E A O C : Type 0} (log : List (Entry E A O)) (views : List (View E A O C)) (w : View E A O C) → IsBusy log views → w.turn ≡ false → IsBusy log (views ++ w ∷ [])
+pub busy_grows : {E A O C : Type 0} (log : List (Entry E A O)) (views : List (View E A O C)) (w : View E A O C) → IsBusy log views → w.turn ≡ false
+    → IsBusy log (views ++ w ∷ [])
 busy_grows {E} {A} {O} {C} log views w b idle = record {
   seat = b.seat;
   view = b.view;

@@ -46,7 +46,9 @@ own_between g h k [] p q a b = tt
 own_between g h k (r ∷ rs) p q a b = (own_of-between r.number g h k p q (a.0 ∙ sym b.0) ∙ b.0, own_between g h k rs p q a.1 b.1)
 
 module _ {E A O C X : Type 0} (setting_of : X → C) (legal : C → List (Entry E A O) → Type 0) (stands : X → List (Entry E A O) → Type 0) (c : C) where
-  module _ (s : State (Content X E A O) (View E A O C)) (k : Rule setting_of legal stands c s) (id other : ℕ) (v w : View E A O C) (idle : v.turn ≡ false) (live : v.spent ≡ false) (none : v.drawn ≡ []) (idle' : w.turn ≡ false) (live' : w.spent ≡ false) (none' : w.drawn ≡ []) (at : get_elem? s.views id ≡ some v) (apart : other ≢ id) (there : get_elem? (set s.views id (joining v w)) other ≡ some w) where
+  module _ (s : State (Content X E A O) (View E A O C)) (k : Rule setting_of legal stands c s) (id other : ℕ) (v w : View E A O C) (idle : v.turn ≡ false)
+      (live : v.spent ≡ false) (none : v.drawn ≡ []) (idle' : w.turn ≡ false) (live' : w.spent ≡ false) (none' : w.drawn ≡ [])
+      (at : get_elem? s.views id ≡ some v) (apart : other ≢ id) (there : get_elem? (set s.views id (joining v w)) other ≡ some w) where
     abbrev b : View E A O C
     b = joining v w
 
@@ -91,7 +93,8 @@ module _ {E A O C X : Type 0} (setting_of : X → C) (legal : C → List (Entry 
         let d = times_numbers w n live' in
         let e = times_numbers b n live in
         let z : times n (numbers_of w.drawn) ≡ 0 = ap (λ (rs : List (Row E A O)). times n (numbers_of rs)) none' in
-        let kept : times n (numbers_of (v.kept ++ held w)) ≡ times n (numbers_of v.kept) + times n (numbers_of (held w)) = ap (times n) (numbers_of-append v.kept (held w)) ∙ times-append n (numbers_of v.kept) (numbers_of (held w)) in
+        let kept : times n (numbers_of (v.kept ++ held w)) ≡ times n (numbers_of v.kept) + times n (numbers_of (held w)) =
+        ap (times n) (numbers_of-append v.kept (held w)) ∙ times-append n (numbers_of v.kept) (numbers_of (held w)) in
         let hb : times n (numbers_of (held b)) ≡ one_if (v.number == n) + times n (numbers_of (v.kept ++ held w)) = refl in
         let hv : times n (numbers_of (held v)) ≡ one_if (v.number == n) + times n (numbers_of v.kept) = refl in
         let same : times n (numbers_of b.drawn) ≡ times n (numbers_of v.drawn) = refl in
@@ -190,7 +193,8 @@ module _ {E A O C X : Type 0} (setting_of : X → C) (legal : C → List (Entry 
               nobody = no_turn (set s.views id b) other gone (λ i u far e. no_turn s.views id b (λ j y far' e'. t.1.nobody j y e') idle i u e) refl;
             },
           ))
-          (λ (t : (k.turn ≡ 1) × IsBusy k.log s.views). inr (t.0, busy_stays k.log k.log (set s.views id b) other w gone (busy_stays k.log k.log s.views id v b t.1 at idle idle) there idle' refl))
+          (λ (t : (k.turn ≡ 1) × IsBusy k.log s.views).
+          inr (t.0, busy_stays k.log k.log (set s.views id b) other w gone (busy_stays k.log k.log s.views id v b t.1 at idle idle) there idle' refl))
           k.held;
     }
 

@@ -45,7 +45,8 @@ parent_moves {E} {A} {O} {C} views j v w at holds made n p = ⊎_elim
     })
     (eqb_tells p.seat j)
 
-module _ {E A O C : Type 0} (legal : C → List (Entry E A O) → Type 0) (c : C) (log log' : List (Entry E A O)) (count count' : ℕ) (views : List (View E A O C)) (j : ℕ) (v w : View E A O C) where
+module _ {E A O C : Type 0} (legal : C → List (Entry E A O) → Type 0) (c : C) (log log' : List (Entry E A O)) (count count' : ℕ) (views : List (View E A O C))
+    (j : ℕ) (v w : View E A O C) where
   -- a view changes, and so may the history and the count
   pub moves : AreViews legal c log count views → get_elem? views j ≡ some v
       → Each (λ e. e.caller < count') log'
@@ -69,7 +70,8 @@ module _ {E A O C : Type 0} (legal : C → List (Entry E A O) → Type 0) (c : C
       parent n positive less (yes le) = born n positive le less
       parent n positive less (no gt) = parent_moves views j v w at holds made n (all.parents n positive (lt_of_not-le gt))
 
-module _ {E A O C : Type 0} (legal : C → List (Entry E A O) → Type 0) (c : C) (log : List (Entry E A O)) (count : ℕ) (views : List (View E A O C)) (j : ℕ) (v w : View E A O C) where
+module _ {E A O C : Type 0} (legal : C → List (Entry E A O) → Type 0) (c : C) (log : List (Entry E A O)) (count : ℕ) (views : List (View E A O C)) (j : ℕ)
+    (v w : View E A O C) where
   -- a view changes, and the history and all numbers stay
   pub moves_alone : AreViews legal c log count views → get_elem? views j ≡ some v
       → (w.spent ≡ false → IsGood legal c log count w)

@@ -56,7 +56,8 @@ module _ {E A O C X : Type 0} (setting_of : X → C) (legal : C → List (Entry 
                 in_log = g.in_log;
                 in_seen = subst (λ (l : List (Entry E A O)). AreOwnIn l (held v ++ v.drawn)) back g.in_log;
                 made = g.made;
-                heard = each_follows (λ l. Begins l v.seen) (λ l. Begins l v.whole) (λ l b. begins_along l k.log v.whole back (begins_trans l v.seen k.log b g.begins)) v.heard g.heard;
+                heard = each_follows (λ l. Begins l v.seen) (λ l. Begins l v.whole)
+                    (λ l b. begins_along l k.log v.whole back (begins_trans l v.seen k.log b g.begins)) v.heard g.heard;
               })
               (λ n. refl) (λ n h. h) (λ n h. h);
           held = inr (h.0, busy_moves k.log k.log s.views id v w h.1 at holds holds knows);
@@ -76,7 +77,8 @@ module _ {E A O C X : Type 0} (setting_of : X → C) (legal : C → List (Entry 
       omega arith
 
   -- a live view's number is below the count
-  pub number_below : (log : List (Entry E A O)) (count : ℕ) (views : List (View E A O C)) (j : ℕ) (v : View E A O C) → AreViews legal c log count views → get_elem? views j ≡ some v → v.spent ≡ false
+  pub number_below : (log : List (Entry E A O)) (count : ℕ) (views : List (View E A O C)) (j : ℕ) (v : View E A O C) → AreViews legal c log count views
+      → get_elem? views j ≡ some v → v.spent ≡ false
       → (n : ℕ) → Has n (numbers_of (held v ++ v.drawn)) → n < count
   number_below log count views j v all at live n has = go (nat_lt n count) refl
     where
@@ -87,9 +89,11 @@ module _ {E A O C X : Type 0} (setting_of : X → C) (legal : C → List (Entry 
           let t = total_at (λ (u : View E A O C). times n (numbers u)) views j v at in
           let o = all.once n in let z : one_if (nat_lt n count) ≡ 0 = ap one_if e in absurd (omega arith)
 
-  module _ (s : State (Content X E A O) (View E A O C)) (k : Rule setting_of legal stands c s) (id : ℕ) (v : View E A O C) (at : get_elem? s.views id ≡ some v) (live : v.spent ≡ false) (x : Entry E A O) (mine : x.caller ≡ v.number) where
+  module _ (s : State (Content X E A O) (View E A O C)) (k : Rule setting_of legal stands c s) (id : ℕ) (v : View E A O C) (at : get_elem? s.views id ≡ some v)
+      (live : v.spent ≡ false) (x : Entry E A O) (mine : x.caller ≡ v.number) where
     -- another view's rows don't have the committer's number
-    others : (i : ℕ) (u : View E A O C) → i ≢ id → get_elem? s.views i ≡ some u → u.spent ≡ false → IsGood legal c k.log k.count u → IsGood legal c (k.log ++ x ∷ []) k.count u
+    others : (i : ℕ) (u : View E A O C) → i ≢ id → get_elem? s.views i ≡ some u → u.spent ≡ false → IsGood legal c k.log k.count u
+        → IsGood legal c (k.log ++ x ∷ []) k.count u
     others i u apart at' live' g = record {
       setting = g.setting;
       begins = begins_trans u.seen k.log (k.log ++ x ∷ []) g.begins (begins_more k.log (x ∷ []));
@@ -119,14 +123,16 @@ module _ {E A O C X : Type 0} (setting_of : X → C) (legal : C → List (Entry 
         let is : r.number ≡ v.number = sym same ∙ mine in
         let again = has_times r.number (numbers_of (v.kept ++ v.drawn)) (numbers_has r (v.kept ++ v.drawn) has) in
         let one = one_if_same v.number r.number (sym is) in
-        let t : times r.number (numbers v) ≡ times r.number (numbers_of (held v ++ v.drawn)) = ap (λ b. times r.number (unless b (numbers_of (held v ++ v.drawn)))) live in
+        let t : times r.number (numbers v) ≡ times r.number (numbers_of (held v ++ v.drawn)) =
+        ap (λ b. times r.number (unless b (numbers_of (held v ++ v.drawn)))) live in
         let u : times r.number (numbers_of (held v ++ v.drawn)) ≡ one_if (v.number == r.number) + times r.number (numbers_of (v.kept ++ v.drawn)) = refl in
         let z = total_at (λ (y : View E A O C). times r.number (numbers y)) s.views id v at in
         let o = k.views.once r.number in let b = one_if_le (nat_lt r.number k.count) in
         absurd (omega arith))
         ∙ each_at (λ (r : Row E A O). own_of r.number k.log ≡ r.own) (v.kept ++ v.drawn) r old has)
 
-    commit_views : (g : IsGood legal c k.log k.count v) → v.seen ≡ k.log → legal c (k.log ++ x ∷ []) → AreViews legal c (k.log ++ x ∷ []) k.count (set s.views id (committed v x))
+    commit_views : (g : IsGood legal c k.log k.count v) → v.seen ≡ k.log → legal c (k.log ++ x ∷ [])
+        → AreViews legal c (k.log ++ x ∷ []) k.count (set s.views id (committed v x))
     commit_views g seen lawful =
         let w : View E A O C = committed v x in
         let log' : List (Entry E A O) = k.log ++ x ∷ [] in
@@ -143,7 +149,8 @@ module _ {E A O C X : Type 0} (setting_of : X → C) (legal : C → List (Entry 
           in_log = at_end;
           in_seen = subst (λ (l : List (Entry E A O)). AreOwnIn (l ++ x ∷ []) (held w ++ w.drawn)) back at_end;
           made = g.made;
-          heard = each_follows (λ l. Begins l v.seen) (λ l. Begins l w.seen) (λ l b. begins_trans l v.seen w.seen b (begins_more v.seen (x ∷ []))) v.heard g.heard;
+          heard = each_follows (λ l. Begins l v.seen) (λ l. Begins l w.seen) (λ l b. begins_trans l v.seen w.seen b (begins_more v.seen (x ∷ [])))
+              v.heard g.heard;
         })
         (λ n.
         let t = total_set (λ (u : View E A O C). times n (numbers u)) s.views id v w at in
@@ -171,7 +178,8 @@ module _ {E A O C X : Type 0} (setting_of : X → C) (legal : C → List (Entry 
         spoken v me.1,
         keeps,
         tt,
-        subst (λ (u : View E A O C). Rule setting_of legal stands c (record { words = k.turn ∷ (length k.log + 1) % 2 ^ 64 ∷ []; homes = s.homes; views = set s.views id u })) (sym says)
+        subst (λ (u : View E A O C). Rule setting_of legal stands c
+            (record { words = k.turn ∷ (length k.log + 1) % 2 ^ 64 ∷ []; homes = s.homes; views = set s.views id u })) (sym says)
             (record {
               log = log';
               count = k.count;
@@ -192,13 +200,16 @@ module _ {E A O C X : Type 0} (setting_of : X → C) (legal : C → List (Entry 
       → me ≡ (old.0, (0, Said e a o) ∷ rest old.1)
       → Allows (Rule setting_of legal stands c) slots id me 1 (λ n. (n + 1) % 2 ^ 64) (λ _ after. after ≡ (spoken me.0 me.1, me.1))
   commits_said slots id old me e a o h up_to_date room lawful is =
-      subst (λ (m : Me (Content X E A O) (View E A O C)). Allows (Rule setting_of legal stands c) slots id m 1 (λ n. (n + 1) % 2 ^ 64) (λ _ after. after ≡ (spoken m.0 m.1, m.1))) (sym is)
+      subst (λ (m : Me (Content X E A O) (View E A O C)).
+      Allows (Rule setting_of legal stands c) slots id m 1 (λ n. (n + 1) % 2 ^ 64) (λ _ after. after ≡ (spoken m.0 m.1, m.1))) (sym is)
       (commits slots id (old.0, (0, Said e a o) ∷ rest old.1) (entry old.0.number e.value a.value o.value) h.turn h.live up_to_date room refl refl lawful)
 
   once_begins : (n : ℕ) → times n (0 ∷ []) + 0 ≡ one_if (nat_lt n 1)
   once_begins n = ⊎_elim
-      (λ t. let a : one_if (0 == n) ≡ 1 = ap one_if t.0 in let lt : n < 1 = let e = t.1 in omega arith in let b : one_if (nat_lt n 1) ≡ 1 = ap one_if (lt-ltb n 1 lt) in omega arith)
-      (λ t. let a : one_if (0 == n) ≡ 0 = ap one_if t.0 in let le : 1 ≤ n = let e = t.1 in omega arith in let b : one_if (nat_lt n 1) ≡ 0 = ap one_if (le-ltb n 1 le) in omega arith)
+      (λ t. let a : one_if (0 == n) ≡ 1 = ap one_if t.0 in let lt : n < 1 = let e = t.1 in omega arith in
+      let b : one_if (nat_lt n 1) ≡ 1 = ap one_if (lt-ltb n 1 lt) in omega arith)
+      (λ t. let a : one_if (0 == n) ≡ 0 = ap one_if t.0 in let le : 1 ≤ n = let e = t.1 in omega arith in
+      let b : one_if (nat_lt n 1) ≡ 0 = ap one_if (le-ltb n 1 le) in omega arith)
       (eqb_tells 0 n)
 
   opening_good : legal c [] → IsGood legal c [] 1 (opening_view c)

@@ -24,12 +24,14 @@ module _ {E A O C X : Type 0} (setting_of : X → C) (legal : C → List (Entry 
   Rule = Kept setting_of legal stands c
 
   -- the seat has a new view and an act that keep the rule, where the words were these
-  abbrev pub Lands : State (Content X E A O) (View E A O C) → ℕ → Me (Content X E A O) (View E A O C) → ℕ → (ℕ → ℕ) → (ℕ → Me (Content X E A O) (View E A O C) → Type 0) → List ℕ → Type 0
+  abbrev pub Lands : State (Content X E A O) (View E A O C) → ℕ → Me (Content X E A O) (View E A O C) → ℕ → (ℕ → ℕ)
+      → (ℕ → Me (Content X E A O) (View E A O C) → Type 0) → List ℕ → Type 0
   Lands s id me i f then words = (w : View E A O C) × (a : Act (Content X E A O)) × Valid s.homes me.1 a
       × Rule (record { words = set words i (f (get_or words i 0)); homes = homes_after s.homes me.1 a; views = set s.views id w })
       × then (get_or words i 0) (w, carried_after me.1 a)
 
-  module _ (s : State (Content X E A O) (View E A O C)) (id : ℕ) (me : Me (Content X E A O) (View E A O C)) (idle : me.0.turn ≡ false) (live : me.0.spent ≡ false) (k : Rule s) (at : get_elem? s.views id ≡ some me.0) where
+  module _ (s : State (Content X E A O) (View E A O C)) (id : ℕ) (me : Me (Content X E A O) (View E A O C)) (idle : me.0.turn ≡ false)
+      (live : me.0.spent ≡ false) (k : Rule s) (at : get_elem? s.views id ≡ some me.0) where
     takes_free : IsFree setting_of stands c k.log s → Lands s id me 0 (λ n. either (n == 0) 1 n) (Tries setting_of stands me) (0 ∷ length k.log ∷ [])
     takes_free free =
         let v : View E A O C = me.0 in
@@ -46,7 +48,15 @@ module _ {E A O C X : Type 0} (setting_of : X → C) (legal : C → List (Entry 
             fits = k.fits;
             lawful = k.lawful;
             views = moves_alone legal c k.log k.count s.views id v w k.views at
-                (λ _. record { setting = g.setting; begins = g.begins; lawful = g.lawful; in_log = g.in_log; in_seen = g.in_seen; made = g.made; heard = g.heard })
+                (λ _. record {
+                  setting = g.setting;
+                  begins = g.begins;
+                  lawful = g.lawful;
+                  in_log = g.in_log;
+                  in_seen = g.in_seen;
+                  made = g.made;
+                  heard = g.heard;
+                })
                 (λ n. refl) (λ n h. h) (λ n h. h);
             held = inr (refl, busy_begins k.log s.views id v w free.nobody at refl refl);
           },
@@ -81,7 +91,15 @@ module _ {E A O C X : Type 0} (setting_of : X → C) (legal : C → List (Entry 
             fits = k.fits;
             lawful = k.lawful;
             views = moves_alone legal c k.log k.count s.views id v w k.views at
-                (λ _. record { setting = g.setting; begins = g.begins; lawful = g.lawful; in_log = g.in_log; in_seen = g.in_seen; made = g.made; heard = g.heard })
+                (λ _. record {
+                  setting = g.setting;
+                  begins = g.begins;
+                  lawful = g.lawful;
+                  in_log = g.in_log;
+                  in_seen = g.in_seen;
+                  made = g.made;
+                  heard = g.heard;
+                })
                 (λ n. refl) (λ n h. h) (λ n h. h);
             held = inr (refl, busy_stays k.log k.log s.views id v w busy at idle idle);
           },
@@ -93,18 +111,24 @@ module _ {E A O C X : Type 0} (setting_of : X → C) (legal : C → List (Entry 
   tries slots id me idle live s k long at small =
       subst (Lands s id me 0 (λ n. either (n == 0) 1 n) (Tries setting_of stands me)) (sym k.words)
       (⊎_elim
-      (λ (t : (k.turn ≡ 0) × IsFree setting_of stands c k.log s). subst (λ (n : ℕ). Lands s id me 0 (λ n. either (n == 0) 1 n) (Tries setting_of stands me) (n ∷ length k.log ∷ [])) (sym t.0) (takes_free s id me idle live k at t.1))
-      (λ (t : (k.turn ≡ 1) × IsBusy k.log s.views). subst (λ (n : ℕ). Lands s id me 0 (λ n. either (n == 0) 1 n) (Tries setting_of stands me) (n ∷ length k.log ∷ [])) (sym t.0) (meets s id me idle live k at t.1))
+      (λ (t : (k.turn ≡ 0) × IsFree setting_of stands c k.log s).
+      subst (λ (n : ℕ). Lands s id me 0 (λ n. either (n == 0) 1 n) (Tries setting_of stands me) (n ∷ length k.log ∷ [])) (sym t.0)
+      (takes_free s id me idle live k at t.1))
+      (λ (t : (k.turn ≡ 1) × IsBusy k.log s.views).
+      subst (λ (n : ℕ). Lands s id me 0 (λ n. either (n == 0) 1 n) (Tries setting_of stands me) (n ∷ length k.log ∷ [])) (sym t.0)
+      (meets s id me idle live k at t.1))
       k.held)
 
   -- who holds the turn finds it held
-  pub is_held : (s : State (Content X E A O) (View E A O C)) (k : Rule s) (id : ℕ) (v : View E A O C) → get_elem? s.views id ≡ some v → v.turn ≡ true → (k.turn ≡ 1) × IsBusy k.log s.views
+  pub is_held : (s : State (Content X E A O) (View E A O C)) (k : Rule s) (id : ℕ) (v : View E A O C) → get_elem? s.views id ≡ some v → v.turn ≡ true
+      → (k.turn ≡ 1) × IsBusy k.log s.views
   is_held s k id v at holds = ⊎_elim
       (λ (t : (k.turn ≡ 0) × IsFree setting_of stands c k.log s). both_ways v.turn holds (t.1.nobody id v at))
       (λ (t : (k.turn ≡ 1) × IsBusy k.log s.views). t)
       k.held
 
-  module _ (id : ℕ) (v : View E A O C) (value : X) (holds : v.turn ≡ true) (live : v.spent ≡ false) (setting : v.setting ≡ Some (setting_of value)) (stands_for : stands value v.whole) where
+  module _ (id : ℕ) (v : View E A O C) (value : X) (holds : v.turn ≡ true) (live : v.spent ≡ false) (setting : v.setting ≡ Some (setting_of value))
+      (stands_for : stands value v.whole) where
     gives_up : (slots : ℕ) → slots ≡ 1 → Allows Rule slots id (v, (0, Home value) ∷ []) 0 (λ _. 0) (λ _. Gives legal (v, (0, Home value) ∷ []))
     gives_up slots one s k long at small =
         let w : View E A O C = resting v in
@@ -142,16 +166,19 @@ module _ {E A O C X : Type 0} (setting_of : X → C) (legal : C → List (Entry 
           record { view = refl; sound = sounds },
         )
 
-  pub gives_as : (slots id : ℕ) (me : Me (Content X E A O) (View E A O C)) (value : X) → slots ≡ 1 → me.0.turn ≡ true → me.0.spent ≡ false → me.0.setting ≡ Some (setting_of value) → stands value me.0.whole → me.1 ≡ (0, Home value) ∷ []
+  pub gives_as : (slots id : ℕ) (me : Me (Content X E A O) (View E A O C)) (value : X) → slots ≡ 1 → me.0.turn ≡ true → me.0.spent ≡ false
+      → me.0.setting ≡ Some (setting_of value) → stands value me.0.whole → me.1 ≡ (0, Home value) ∷ []
       → Allows Rule slots id me 0 (λ _. 0) (λ _. Gives legal me)
   gives_as slots id me value one holds live setting stands_for is =
       subst (λ (cs : List (ℕ × Content X E A O)). Allows Rule slots id (me.0, cs) 0 (λ _. 0) (λ _. Gives legal (me.0, cs))) (sym is)
       (gives_up id me.0 value holds live setting stands_for slots one)
 
   -- the same after the served value was put into the slot
-  pub gives_back : (slots id : ℕ) (old me : Me (Content X E A O) (View E A O C)) (value : X) → slots ≡ 1 → IsHolding old → IsServed setting_of stands old.0 value → me ≡ (old.0, (0, Home value) ∷ rest old.1)
+  pub gives_back : (slots id : ℕ) (old me : Me (Content X E A O) (View E A O C)) (value : X) → slots ≡ 1 → IsHolding old
+      → IsServed setting_of stands old.0 value → me ≡ (old.0, (0, Home value) ∷ rest old.1)
       → Allows Rule slots id me 0 (λ _. 0) (λ _. Gives legal me)
   gives_back slots id old me value one h served is =
       let cs : rest old.1 ≡ [] = ap rest h.slots in
       subst (λ (m : Me (Content X E A O) (View E A O C)). Allows Rule slots id m 0 (λ _. 0) (λ _. Gives legal m)) (sym is)
-      (gives_as slots id (old.0, (0, Home value) ∷ rest old.1) value one h.turn h.live served.setting served.stands_for (ap (λ (r : List (ℕ × Content X E A O)). (0, Home value) ∷ r) cs))
+      (gives_as slots id (old.0, (0, Home value) ∷ rest old.1) value one h.turn h.live served.setting served.stands_for
+      (ap (λ (r : List (ℕ × Content X E A O)). (0, Home value) ∷ r) cs))

@@ -3,7 +3,8 @@ use Rattle.std.proofs.Common.{◌≡◌, ℕ, List, [], ◌∷◌, ◌++◌, ref
 use Rattle.satip_history.specs.declared.entry.Entry.{Entry}
 use Rattle.satip_turn_tests.specs.Counted.{more, sum_after, IsCounted}
 
-pub counted_more : (a : ℕ) (h : List (Entry ℕ ℕ (Unit {0}))) (e : Entry ℕ ℕ (Unit {0})) → IsCounted a h → e.answer ≡ more (sum_after a h) e.event → IsCounted a (h ++ e ∷ [])
+pub counted_more : (a : ℕ) (h : List (Entry ℕ ℕ (Unit {0}))) (e : Entry ℕ ℕ (Unit {0})) → IsCounted a h → e.answer ≡ more (sum_after a h) e.event
+    → IsCounted a (h ++ e ∷ [])
 counted_more a [] e right is = (is, tt)
 counted_more a (x ∷ xs) e right is = (right.0, counted_more (more a x.event) xs e right.1 is)
 

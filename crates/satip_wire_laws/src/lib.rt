@@ -2,6 +2,13 @@
 #![tactic(auto)]
 
 mod laws;
+#[rattlefmt::skip]
+#[tactic(auto, unfolding(
+    satip_channels::specs::Turned::turned,
+    satip_channels::specs::Turned::ports_told,
+    satip_channels::specs::Turned::channel_line,
+    satip_base::specs::Numbers::number_of,
+))]
 mod rows;
 
 pub use laws::{runs_drain_own, wires_have_lanes, wires_split_one_way};

@@ -9,7 +9,6 @@ ghost use Rattle.satip_wire_laws.specs.Wires.{Framed, Reply, frames_of, pieces};
 
 /// A connection enters, is answered a request, and its lane is drained twice, the second time
 /// without frames: its pieces are the reply and the frames.
-#[tactic(auto, unfolding(satip_channels::specs::Turned::turned, satip_channels::specs::Turned::ports_told, satip_channels::specs::Turned::channel_line, satip_base::specs::Numbers::number_of))]
 pub fn worked_rows()
     ensures pieces { pieces (enters (Lane 3) ∷ asks 3 (82 ∷ 13 ∷ 10 ∷ 13 ∷ 10 ∷ [])
         ∷ drains 3 (Frames 5) (framed 0 71) ∷ drains 3 Empty [] ∷ leaves 3 ∷ [])

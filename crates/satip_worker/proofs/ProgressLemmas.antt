@@ -72,7 +72,8 @@ makes_within tells may_want may_want' k l o p m n entries into out makes = recor
   delivers = delivers_within tells o p m n (datagrams_of entries) into out makes.delivers;
 }
 
-pub event_locked : (tells : Type 0) (may_want may_want' : Bool) (k l : Known) (o p m n : Outbox) (event : Event) (out : Output) (result : Result Answer ServiceFault)
+pub event_locked : (tells : Type 0) (may_want may_want' : Bool) (k l : Known) (o p m n : Outbox) (event : Event) (out : Output)
+    (result : Result Answer ServiceFault)
     → p ≡ locked o → n ≡ unlocked m
     → MakesEvent tells (record { may_want = may_want; known = k; outbox = p }) (record { may_want = may_want'; known = l; outbox = m }) event out result
     → MakesEvent tells (record { may_want = may_want; known = k; outbox = o }) (record { may_want = may_want'; known = l; outbox = n }) event out result

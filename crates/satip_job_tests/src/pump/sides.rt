@@ -83,8 +83,8 @@ fn recording(
     Ok((text, pieces))
 }
 
-// Puts the same recordings of two multiplexes into two stores. One that isn't broken fails at one of
-// its takes.
+// Puts the same recordings of two multiplexes into two stores. One that isn't broken fails at one
+// of its takes.
 fn add_recordings(
     alloc: Global,
     own: &mut MemoryStore,
@@ -106,8 +106,8 @@ fn are_same(own: &[Note], plain: &[Note]) -> bool {
     own.len() == plain.len() && own.iter().zip(plain).all(|(a, b)| *a == *b)
 }
 
-// What a pump came to: its end, if it is none of the plain one, its entries and pauses, and how many
-// sources are out.
+// What a pump came to: its end, if it is none of the plain one, its entries and pauses, and how
+// many sources are out.
 #[derive(Drop)]
 struct Run {
     end: Option<JobEnd>,

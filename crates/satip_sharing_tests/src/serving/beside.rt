@@ -18,20 +18,32 @@ use std::test::Fail;
 const CLIENT: Peer = Peer { ip: 0xc0a8_0114 };
 
 const SETUP: &[u8] =
-    b"SETUP rtsp://192.168.1.10/?src=1&freq=11361.75&pol=h&msys=dvbs2&sr=22000&pids=16 RTSP/1.0\r\nCSeq: 1\r\nTransport: RTP/AVP;unicast;client_port=1400-1401\r\n\r\n";
+    b"SETUP rtsp://192.168.1.10/?src=1&freq=11361.75&pol=h&msys=dvbs2&sr=22000&pids=16 RTSP/1.0\r\n\
+    CSeq: 1\r\n\
+    Transport: RTP/AVP;unicast;client_port=1400-1401\r\n\r\n";
 
 // The id is the count of sessions and the first word of the ChaCha20 stream 1 under the key.
 const PLAY: &[u8] =
     b"PLAY rtsp://192.168.1.10/stream=1 RTSP/1.0\r\nCSeq: 2\r\nSession: 0000000109737c6d\r\n\r\n";
 
-const TEARDOWN: &[u8] =
-    b"TEARDOWN rtsp://192.168.1.10/stream=1 RTSP/1.0\r\nCSeq: 3\r\nSession: 0000000109737c6d\r\n\r\n";
+const TEARDOWN: &[u8] = b"TEARDOWN rtsp://192.168.1.10/stream=1 RTSP/1.0\r\n\
+    CSeq: 3\r\n\
+    Session: 0000000109737c6d\r\n\r\n";
 
 const OPTIONS: &[u8] = b"OPTIONS * RTSP/1.0\r\nCSeq: 1\r\n\r\n";
 
 // The first sequence number is the low half of the third word.
-const PLAYED: &[u8] =
-    b"RTSP/1.0 200 OK\r\nCSeq: 1\r\nSession: 0000000109737c6d;timeout=60\r\nTransport: RTP/AVP;unicast;client_port=1400-1401\r\ncom.ses.streamID: 1\r\n\r\nRTSP/1.0 200 OK\r\nCSeq: 2\r\nSession: 0000000109737c6d\r\nRTP-Info: url=rtsp://192.168.1.10/stream=1;seq=15583\r\n\r\nRTSP/1.0 200 OK\r\nCSeq: 3\r\n\r\n";
+const PLAYED: &[u8] = b"RTSP/1.0 200 OK\r\n\
+    CSeq: 1\r\n\
+    Session: 0000000109737c6d;timeout=60\r\n\
+    Transport: RTP/AVP;unicast;client_port=1400-1401\r\n\
+    com.ses.streamID: 1\r\n\r\n\
+    RTSP/1.0 200 OK\r\n\
+    CSeq: 2\r\n\
+    Session: 0000000109737c6d\r\n\
+    RTP-Info: url=rtsp://192.168.1.10/stream=1;seq=15583\r\n\r\n\
+    RTSP/1.0 200 OK\r\n\
+    CSeq: 3\r\n\r\n";
 
 const ASKED: &[u8] =
     b"RTSP/1.0 200 OK\r\nCSeq: 1\r\nPublic: OPTIONS, DESCRIBE, SETUP, PLAY, TEARDOWN\r\n\r\n";

@@ -8,17 +8,27 @@ loop-line-init c = record { begun = ap (λ items. items ++ turned c.args.reply.n
 
 pub append-requires : goal.append-requires
 append-requires c =
-    let same = turned_end c.loop-line.left.now c.in-Some.line.now c.in-Some.rest.now c.in-Some.ensures.line.pieces (sym c.same_bytes.ensures.same ∙ c.if-same_bytes.true) in
-    record { room = omega (arith, ap length same, begun_room _ _ _ _ c.loop-line.invariant.begun c.requires.whole c.loop-line.invariant.room, c.loop-line.text.ok.0) }
+    let same = turned_end c.loop-line.left.now c.in-Some.line.now c.in-Some.rest.now c.in-Some.ensures.line.pieces
+    (sym c.same_bytes.ensures.same ∙ c.if-same_bytes.true) in
+    record {
+      room = omega (
+        arith,
+        ap length same,
+        begun_room _ _ _ _ c.loop-line.invariant.begun c.requires.whole c.loop-line.invariant.room,
+        c.loop-line.text.ok.0,
+      );
+    }
 
 pub returns-then-same_bytes-clause-turned : goal.returns-then-same_bytes-clause-turned
 returns-then-same_bytes-clause-turned c =
-    let same = turned_end c.loop-line.left.now c.in-Some.line.now c.in-Some.rest.now c.in-Some.ensures.line.pieces (sym c.same_bytes.ensures.same ∙ c.if-same_bytes.true) in
+    let same = turned_end c.loop-line.left.now c.in-Some.line.now c.in-Some.rest.now c.in-Some.ensures.line.pieces
+    (sym c.same_bytes.ensures.same ∙ c.if-same_bytes.true) in
     begun_whole _ _ _ _ c.loop-line.invariant.begun same c.append.ensures.items
 
 pub append_line-requires : goal.append_line-requires
 append_line-requires c =
-    let step = turned_step c.loop-line.left.now c.in-Some.line.now c.in-Some.rest.now c.in-Some.ensures.line.pieces (sym c.same_bytes.ensures.same ∙ c.if-same_bytes.false) in
+    let step = turned_step c.loop-line.left.now c.in-Some.line.now c.in-Some.rest.now c.in-Some.ensures.line.pieces
+    (sym c.same_bytes.ensures.same ∙ c.if-same_bytes.false) in
     record {
       room = omega (
         arith,
@@ -31,7 +41,8 @@ append_line-requires c =
 
 pub append-requires-in-Some : goal.append-requires-in-Some
 append-requires-in-Some c =
-    let step = turned_step c.loop-line.left.now c.in-Some.line.now c.in-Some.rest.now c.in-Some.ensures.line.pieces (sym c.same_bytes.ensures.same ∙ c.if-same_bytes.false) in
+    let step = turned_step c.loop-line.left.now c.in-Some.line.now c.in-Some.rest.now c.in-Some.ensures.line.pieces
+    (sym c.same_bytes.ensures.same ∙ c.if-same_bytes.false) in
     record {
       room = omega (
         arith,
@@ -46,7 +57,8 @@ append-requires-in-Some c =
 
 pub loop-line-preserved : goal.loop-line-preserved
 loop-line-preserved c =
-    let step = turned_step c.loop-line.left.now c.in-Some.line.now c.in-Some.rest.now c.in-Some.ensures.line.pieces (sym c.same_bytes.ensures.same ∙ c.if-same_bytes.false) in
+    let step = turned_step c.loop-line.left.now c.in-Some.line.now c.in-Some.rest.now c.in-Some.ensures.line.pieces
+    (sym c.same_bytes.ensures.same ∙ c.if-same_bytes.false) in
     record {
       begun = begun_more _ _ _ _ _ _ _ c.loop-line.invariant.begun step c.append_line.ensures.items c.append-in-Some.ensures.items;
       room = omega (arith, c.loop-line.invariant.room, c.append_line.ensures.capacity, c.append-in-Some.ensures.capacity);
@@ -55,7 +67,14 @@ loop-line-preserved c =
 pub append-requires-2 : goal.append-requires-2
 append-requires-2 c =
     let same = turned_last c.loop-line.left.now c.in_default.ensures.last.piece c.in_default.ensures.last.pieces in
-    record { room = omega (arith, ap length same, begun_room _ _ _ _ c.loop-line.invariant.begun c.requires.whole c.loop-line.invariant.room, c.loop-line.text.ok.0) }
+    record {
+      room = omega (
+        arith,
+        ap length same,
+        begun_room _ _ _ _ c.loop-line.invariant.begun c.requires.whole c.loop-line.invariant.room,
+        c.loop-line.text.ok.0,
+      );
+    }
 
 pub returns-clause-turned : goal.returns-clause-turned
 returns-clause-turned c =

@@ -17,7 +17,8 @@ after done rest = Ok (done ++ rest)
 pub returns-in-Err-clause-fault : goal.returns-in-Err-clause-fault
 unfolding after
 returns-in-Err-clause-fault c _ =
-    let is : as_table (view (get_or c.args.items.now c.loop-item.item-index c.item-item.result)) ≡ Some (table_view c.in-Some.table.now) = rw (← c.item-item.is) (sym c.in-Some.ensures) in
+    let is : as_table (view (get_or c.args.items.now c.loop-item.item-index c.item-item.result)) ≡ Some (table_view c.in-Some.table.now) =
+    rw (← c.item-item.is) (sym c.in-Some.ensures) in
     sym c.loop-item.invariant.left
     ∙ entries-fault front_at (λ v. as_table (view v)) c.args.items.now c.loop-item.item-index _ c.item-item.result (after c.loop-item.fronts.items)
     (table_view c.in-Some.table.now) c.in-Err.fault c.loop-item-test.true is (cc (c.front_at.ensures.value, c.len.ensures))
@@ -27,21 +28,26 @@ unfolding after
 loop-item-preserved c =
     elim c.match-as_table.branch [
       | in-Some+in-Ok+in_ok-push-in-Ok w ↦
-          let is : as_table (view (get_or c.args.items.now c.loop-item.item-index c.item-item.result)) ≡ Some (table_view w.in-Some.table.now) = rw (← c.item-item.is) (sym w.in-Some.ensures) in
-          let read : front_at (vec_len c.loop-item.fronts + 1) (table_view w.in-Some.table.now) ≡ Ok w.in-Ok.front = cc (w.front_at.ensures.value, w.len.ensures) in
+          let is : as_table (view (get_or c.args.items.now c.loop-item.item-index c.item-item.result)) ≡ Some (table_view w.in-Some.table.now) =
+          rw (← c.item-item.is) (sym w.in-Some.ensures) in
+          let read : front_at (vec_len c.loop-item.fronts + 1) (table_view w.in-Some.table.now) ≡ Ok w.in-Ok.front =
+          cc (w.front_at.ensures.value, w.len.ensures) in
           rw w.fronts-is (record {
             few = omega (arith, w.in_ok-push-in-Ok.ensures.len, c.loop-item.invariant.few);
             left = rw (w.in_ok-push-in-Ok.ensures.items, w.in_ok-push-in-Ok.ensures.len)
                 (same_next _ _ _ (λ rest. ap Ok (sym (append-cons c.loop-item.fronts.items w.in-Ok.front rest)))
-                ∙ sym (entries-more front_at (λ v. as_table (view v)) c.args.items.now c.loop-item.item-index _ c.item-item.result (after c.loop-item.fronts.items)
+                ∙ sym (entries-more front_at (λ v. as_table (view v)) c.args.items.now c.loop-item.item-index _ c.item-item.result
+                (after c.loop-item.fronts.items)
                 (table_view w.in-Some.table.now) w.in-Ok.front c.loop-item-test.true is read)
                 ∙ c.loop-item.invariant.left);
           })
       | in_default w ↦
-          let is : as_table (view (get_or c.args.items.now c.loop-item.item-index c.item-item.result)) ≡ None = rw (← c.item-item.is) (sym w.in_default.ensures) in
+          let is : as_table (view (get_or c.args.items.now c.loop-item.item-index c.item-item.result)) ≡ None =
+          rw (← c.item-item.is) (sym w.in_default.ensures) in
           rw w.fronts-is (record {
             few = omega (arith, c.loop-item.invariant.few);
-            left = sym (entries-skip front_at (λ v. as_table (view v)) c.args.items.now c.loop-item.item-index _ c.item-item.result (after c.loop-item.fronts.items) c.loop-item-test.true is)
+            left = sym (entries-skip front_at (λ v. as_table (view v)) c.args.items.now c.loop-item.item-index _ c.item-item.result
+                (after c.loop-item.fronts.items) c.loop-item-test.true is)
                 ∙ c.loop-item.invariant.left;
           })
     ]

@@ -10,5 +10,6 @@ use Rattle.satip_config.proofs.fronts.read_fronts.Given as goal
 abbrev pub invariant-loop-item : goal.invariant-loop-item
 invariant-loop-item l = record {
   few : vec_len l.fronts ≤ l.item-index;
-  left : (entries front_at (vec_len l.fronts + 1) (filter_map (λ v. as_table (view v)) (drop l.item-index l.items)) >>= (λ rest. Ok (l.fronts.items ++ rest))) ≡ entries front_at 1 (filter_map (λ v. as_table (view v)) l.items);
+  left : (entries front_at (vec_len l.fronts + 1) (filter_map (λ v. as_table (view v)) (drop l.item-index l.items)) >>= (λ rest. Ok (l.fronts.items ++ rest)))
+      ≡ entries front_at 1 (filter_map (λ v. as_table (view v)) l.items);
 }

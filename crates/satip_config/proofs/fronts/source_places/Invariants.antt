@@ -9,5 +9,7 @@ use Rattle.satip_config.proofs.fronts.source_places.Given as goal
 abbrev pub invariant-loop-item : goal.invariant-loop-item
 invariant-loop-item l = record {
   whole : length l.places ≡ 256;
-  marked : (k : ℕ) → k < 256 → (get_or l.places k false || list_any (λ n. n == k) (filter_map (λ v. option_and_then (within 1 255) (as_integer (view v))) (drop l.item-index l.items))) ≡ list_any (λ n. n == k) (filter_map (λ v. option_and_then (within 1 255) (as_integer (view v))) l.items);
+  marked : (k : ℕ) → k < 256
+      → (get_or l.places k false || list_any (λ n. n == k) (filter_map (λ v. option_and_then (within 1 255) (as_integer (view v))) (drop l.item-index l.items)))
+      ≡ list_any (λ n. n == k) (filter_map (λ v. option_and_then (within 1 255) (as_integer (view v))) l.items);
 }

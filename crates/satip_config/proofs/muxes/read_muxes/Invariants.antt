@@ -10,5 +10,6 @@ use Rattle.satip_config.proofs.muxes.read_muxes.Given as goal
 abbrev pub invariant-loop-item : goal.invariant-loop-item
 invariant-loop-item l = record {
   few : vec_len l.muxes ≤ l.item-index;
-  left : (entries mux_at (vec_len l.muxes + 1) (filter_map (λ v. as_table (view v)) (drop l.item-index l.items)) >>= (λ rest. Ok (l.muxes.items ++ (apart rest).0, l.files.items ++ (apart rest).1))) ≡ recordings (filter_map (λ v. as_table (view v)) l.items);
+  left : (entries mux_at (vec_len l.muxes + 1) (filter_map (λ v. as_table (view v)) (drop l.item-index l.items))
+      >>= (λ rest. Ok (l.muxes.items ++ (apart rest).0, l.files.items ++ (apart rest).1))) ≡ recordings (filter_map (λ v. as_table (view v)) l.items);
 }

@@ -16,16 +16,21 @@ pub returns-clause-not_toml : goal.returns-clause-not_toml
 returns-clause-not_toml c is = absurd (answer-key _ c.configuration_of.result NotToml c.configuration_of.ensures.value is (λ same. cc))
 
 pub returns-clause-front_count : goal.returns-clause-front_count
-returns-clause-front_count c = IfOk-weaker c.configuration_of.result Facts _ (λ x facts. facts.front_count) (read-facts _ c.configuration_of.result c.configuration_of.ensures.value)
+returns-clause-front_count c = IfOk-weaker c.configuration_of.result Facts _ (λ x facts. facts.front_count)
+    (read-facts _ c.configuration_of.result c.configuration_of.ensures.value)
 
 pub returns-clause-front_numbers : goal.returns-clause-front_numbers
-returns-clause-front_numbers c = IfOk-weaker c.configuration_of.result Facts _ (λ x facts. facts.front_numbers) (read-facts _ c.configuration_of.result c.configuration_of.ensures.value)
+returns-clause-front_numbers c = IfOk-weaker c.configuration_of.result Facts _ (λ x facts. facts.front_numbers)
+    (read-facts _ c.configuration_of.result c.configuration_of.ensures.value)
 
 pub returns-clause-mux_count : goal.returns-clause-mux_count
-returns-clause-mux_count c = IfOk-weaker c.configuration_of.result Facts _ (λ x facts. facts.mux_count) (read-facts _ c.configuration_of.result c.configuration_of.ensures.value)
+returns-clause-mux_count c = IfOk-weaker c.configuration_of.result Facts _ (λ x facts. facts.mux_count)
+    (read-facts _ c.configuration_of.result c.configuration_of.ensures.value)
 
 pub returns-clause-paired : goal.returns-clause-paired
-returns-clause-paired c = IfOk-weaker c.configuration_of.result Facts _ (λ x facts. facts.paired) (read-facts _ c.configuration_of.result c.configuration_of.ensures.value)
+returns-clause-paired c = IfOk-weaker c.configuration_of.result Facts _ (λ x facts. facts.paired)
+    (read-facts _ c.configuration_of.result c.configuration_of.ensures.value)
 
 pub returns-clause-ranges : goal.returns-clause-ranges
-returns-clause-ranges c = IfOk-weaker c.configuration_of.result Facts _ (λ x facts. facts.ranges) (read-facts _ c.configuration_of.result c.configuration_of.ensures.value)
+returns-clause-ranges c = IfOk-weaker c.configuration_of.result Facts _ (λ x facts. facts.ranges)
+    (read-facts _ c.configuration_of.result c.configuration_of.ensures.value)

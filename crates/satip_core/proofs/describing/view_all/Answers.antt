@@ -11,7 +11,8 @@ loop-place-preserved c = record {
   views = λ cfg st stands.
       c.put_view-count.ensures.views
       ∙ ap (λ (views : List StreamView). views ++ if_wanted c.args.named c.view_at.result) (c.loop-place.invariant.views cfg st stands)
-      ∙ ap (λ (view : Option StreamView). views_of st c.args.named (take c.loop-place.place st.streams) ++ if_wanted c.args.named view) (c.view_at.ensures.view cfg st stands)
+      ∙ ap (λ (view : Option StreamView). views_of st c.args.named (take c.loop-place.place st.streams) ++ if_wanted c.args.named view)
+      (c.view_at.ensures.view cfg st stands)
       ∙ more_views st c.args.named c.loop-place.place st.streams;
 }
 

@@ -24,6 +24,7 @@ returns c = record {
       let fronts = ap length c.as_slice.ensures.value ∙ ap (λ (x : Configuration). length x.fronts) c.config.view_is in
       let shown = c.split_at.ensures.front ∙ c.view_all-count.ensures.views c.args.config.now st stands in
       subst (λ (text : List ℕ). Wrote c.args.out.now text c.write_sdp.new.out)
-      (text_same c.args.cseq _ c.args.config.now.address _ (length c.args.config.now.fronts) c.sdp_length-size.result _ _ address fronts shown c.sdp_length-size.ensures.length)
+      (text_same c.args.cseq _ c.args.config.now.address _ (length c.args.config.now.fronts) c.sdp_length-size.result _ _ address fronts shown
+      c.sdp_length-size.ensures.length)
       whole;
 }

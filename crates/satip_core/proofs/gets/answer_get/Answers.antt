@@ -16,6 +16,7 @@ returns-in-None c = record {
       let cfg = c.args.config.now in
       let decided = c.in-None.ensures.decided cfg st stands in
       subst (λ (d : Option Refused). Did cfg c.start.new.parts (Get c.start.result) c.start.new.out
-      (option_map_or (λ refused. outcome (settle st) (Get (GetRefused refused.status)) (http_refusal refused.status refused.body)) d (start cfg c.args.peer c.args.draw c.args.request.now st))) decided
+      (option_map_or (λ refused. outcome (settle st) (Get (GetRefused refused.status)) (http_refusal refused.status refused.body)) d
+      (start cfg c.args.peer c.args.draw c.args.request.now st))) decided
       (c.start.ensures.did st stands (get_room cfg st c.args.request.now (sym decided)));
 }

@@ -27,10 +27,14 @@ returns-in-Some c = record {
   did = λ st stands room.
       let cfg = c.args.config.now in
       let begun : State = found true c.args.peer c.args.draw no_ports st in
-      let same = both_same c.in-Some.id (next_id st c.args.draw) c.in-Some.number (least_free st.streams) (c.in-Some.ensures.made cfg st stands ∙ ap (unless (next_id st c.args.draw, least_free st.streams)) room) in
+      let same = both_same c.in-Some.id (next_id st c.args.draw) c.in-Some.number (least_free st.streams)
+      (c.in-Some.ensures.made cfg st stands ∙ ap (unless (next_id st c.args.draw, least_free st.streams)) room) in
       let standing = subst (StandsFor cfg c.found.new.self) (ap (λ (full : Bool). cond full st begun) room) (c.in-Some.ensures.founded cfg st stands) in
-      let lives : is_some (stream_of begun c.in-Some.number) ≡ true = ap (λ (n : ℕ). is_some (stream_of begun n)) same.1 ∙ founded_lives true c.args.peer c.args.draw no_ports st in
+      let lives : is_some (stream_of begun c.in-Some.number) ≡ true =
+      ap (λ (n : ℕ). is_some (stream_of begun n)) same.1 ∙ founded_lives true c.args.peer c.args.draw no_ports st in
       let moved = c.change_by.ensures.moved cfg begun standing lives in
-      let did = did_reply_move cfg _ c.args.out.now c.write_http_start.new.out _ _ _ (Get (Started (next_id st c.args.draw))) _ c.requires.cleared (ap (λ (i : SessionId). Get (Started i)) same.0) c.write_http_start.ensures.wrote moved in
-      subst (λ (n : ℕ). Did cfg c.change_by.new.self (Get (Started c.in-Some.id)) c.change_by.new.out (outcome (change_by cfg n c.args.request.now.query begun) (Get (Started (next_id st c.args.draw))) start_head)) same.1 did;
+      let did = did_reply_move cfg _ c.args.out.now c.write_http_start.new.out _ _ _ (Get (Started (next_id st c.args.draw))) _ c.requires.cleared
+      (ap (λ (i : SessionId). Get (Started i)) same.0) c.write_http_start.ensures.wrote moved in
+      subst (λ (n : ℕ). Did cfg c.change_by.new.self (Get (Started c.in-Some.id)) c.change_by.new.out
+      (outcome (change_by cfg n c.args.request.now.query begun) (Get (Started (next_id st c.args.draw))) start_head)) same.1 did;
 }

@@ -30,7 +30,8 @@ returns-in-None c = record {
   did = λ st stands.
       let cfg = c.args.config.now in
       let none = map_nothing row_of (session_named st c.args.request.now.session) (sym (c.in-None.ensures.session cfg st stands)) in
-      subst (λ (o : Option Session). Did cfg c.args.parts.now (Replied c.accepted.result) c.args.out.now (option_map_or (play_of cfg c.args.request.now st) o (accepted (settle st) []))) (sym none)
+      subst (λ (o : Option Session). Did cfg c.args.parts.now (Replied c.accepted.result) c.args.out.now
+      (option_map_or (play_of cfg c.args.request.now st) o (accepted (settle st) []))) (sym none)
       (did_nothing cfg _ c.args.out.now st _ _ c.requires.cleared (ap Replied c.accepted.ensures.accepted) stands);
 }
 
@@ -43,7 +44,8 @@ returns-in-Some c = record {
       let moved = c.change_by.ensures.moved cfg st stands lives in
       let after = (change_by cfg c.in-Some.session.stream c.args.request.now.query st).state in
       let plays = c.play.ensures.plays cfg after moved.stands in
-      did_play cfg c.change_by.new.self c.play.new.self c.args.out.now c.change_by.new.out c.write_playing.new.out c.args.request.now st c.in-Some.session _ c.next_number-seq.result _
+      did_play cfg c.change_by.new.self c.play.new.self c.args.out.now c.change_by.new.out c.write_playing.new.out c.args.request.now st c.in-Some.session _
+      c.next_number-seq.result _
       c.requires.cleared (ap Replied c.accepted-in-Some.ensures.accepted) named (c.in-Some.ensures.rtsp cfg st stands) moved plays
       (c.next_number-seq.ensures.number cfg _ plays) (ap (λ (x : Configuration). x.address) c.config.view_is) c.write_playing.ensures.wrote;
 }

@@ -25,8 +25,10 @@ returns-in-Some c = record {
       let lives : is_some (stream_of (set_up c.args.peer c.args.draw ports r st) c.in-Some.number) ≡ true =
       ap (λ (n : ℕ). is_some (stream_of (set_up c.args.peer c.args.draw ports r st) n)) same.1 ∙ set_up_lives c.args.peer c.args.draw ports r st may in
       let moved = c.change_by.ensures.moved c.args.config.now (set_up c.args.peer c.args.draw ports r st) placed.stands lives in
-      let did = did_reply_move c.args.config.now _ c.args.out.now c.write_set_up.new.out _ _ _ _ _ c.requires.cleared (ap Replied c.accepted.ensures.accepted) c.write_set_up.ensures.wrote moved in
+      let did = did_reply_move c.args.config.now _ c.args.out.now c.write_set_up.new.out _ _ _ _ _ c.requires.cleared (ap Replied c.accepted.ensures.accepted)
+      c.write_set_up.ensures.wrote moved in
       subst (Did c.args.config.now c.change_by.new.self (Replied c.accepted.result) c.change_by.new.out)
-      (setup_as c.args.config.now c.args.peer c.args.draw r st ports c.in-Some.id c.in-Some.number _ c.ports_of-ports.ensures.ports same.0 same.1 (ap (λ (x : Configuration). x.timeout) c.config.view_is))
+      (setup_as c.args.config.now c.args.peer c.args.draw r st ports c.in-Some.id c.in-Some.number _ c.ports_of-ports.ensures.ports same.0 same.1
+      (ap (λ (x : Configuration). x.timeout) c.config.view_is))
       did;
 }

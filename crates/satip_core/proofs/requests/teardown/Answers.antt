@@ -20,6 +20,8 @@ pub returns-in-Some : goal.returns-in-Some
 returns-in-Some c = record {
   did = λ cfg st stands.
       let is = c.in-Some.ensures.id ∙ ap id_in (c.session_named.ensures.session cfg st stands) ∙ id_row (session_named st c.args.name) in
-      subst (λ (id : Option SessionId). Did cfg c.end_session-lived.new.self (Replied c.accepted-in-Some.result) c.end_session-lived.new.out (torn_down c.args.cseq st id)) is
-      (did_reply_move cfg _ c.args.out.now c.write_plain.new.out _ _ _ _ _ c.requires.cleared (ap Replied c.accepted-in-Some.ensures.accepted) c.write_plain.ensures.wrote (c.end_session-lived.ensures.moved cfg st stands));
+      subst (λ (id : Option SessionId). Did cfg c.end_session-lived.new.self (Replied c.accepted-in-Some.result) c.end_session-lived.new.out
+      (torn_down c.args.cseq st id)) is
+      (did_reply_move cfg _ c.args.out.now c.write_plain.new.out _ _ _ _ _ c.requires.cleared (ap Replied c.accepted-in-Some.ensures.accepted)
+      c.write_plain.ensures.wrote (c.end_session-lived.ensures.moved cfg st stands));
 }

@@ -21,7 +21,8 @@ loop-root-preserved g c =
     let joined = i.joined.1 in
     let alone : AreAlone x.cell x.pass (x.cell c.args.root.now) (seat ∷ c.take_first.new.items.items) =
     subst (λ (ss : List (Seat g.row.X.Denot g.row.K.Denot g.row.M.Denot)). AreAlone x.cell x.pass (x.cell c.args.root.now) ss) first.first i.alone in
-    let joins = joins_more x.pass (x.pass c.args.root.now) (x.pass c.loop-root.root) (x.pass c.join_one-kit.new.root) i.joined.0 seat joined.joins one.joined alone.0.1 one.mine one.theirs in
+    let joins = joins_more x.pass (x.pass c.args.root.now) (x.pass c.loop-root.root) (x.pass c.join_one-kit.new.root) i.joined.0 seat joined.joins one.joined
+    alone.0.1 one.mine one.theirs in
     record {
       knows = subst (λ (k : Cell Setting). Knows (x.legal k.setting) (x.pass c.join_one-kit.new.root)) joined.cell_is one.knows;
       alone = alone.1;

@@ -19,7 +19,8 @@ loop-number-preserved g c =
     let count : length c.put_last.new.items.items ≡ length before + 1 = ap length put.last ∙ length-append before (seat ∷ []) in
     record {
       seated = subst (λ (ss : List (Seat g.row.X.Denot g.row.K.Denot g.row.M.Denot)).
-          Seated x.cell x.pass x.gear c.args.root.now c.seat_one-seat.new.root c.args.kits.now.items c.take_first-kit.new.items.items c.args.gears.now.items c.take_first-gear.new.items.items ss)
+          Seated x.cell x.pass x.gear c.args.root.now c.seat_one-seat.new.root c.args.kits.now.items c.take_first-kit.new.items.items c.args.gears.now.items
+          c.take_first-gear.new.items.items ss)
           (sym put.last)
           (seated_more x.cell x.pass x.gear c.args.root.now c.loop-number.root c.seat_one-seat.new.root c.args.kits.now.items c.loop-number.kits.items
           c.take_first-kit.new.items.items c.args.gears.now.items c.loop-number.gears.items c.take_first-gear.new.items.items c.take_first-kit.result

@@ -5,7 +5,8 @@ use Rattle.satip_crew.proofs.callers.seat_all.Given as goal
 
 abbrev pub invariant-loop-number : goal.invariant-loop-number
 invariant-loop-number g l = record {
-  seated : Seated g.X.Crew.cell g.X.Crew.pass g.X.Crew.gear l.initial.root l.root l.initial.kits.items l.kits.items l.initial.gears.items l.gears.items l.seats.items;
+  seated : Seated g.X.Crew.cell g.X.Crew.pass g.X.Crew.gear l.initial.root l.root l.initial.kits.items l.kits.items l.initial.gears.items l.gears.items
+      l.seats.items;
   gears : vec_len l.gears ≡ vec_len l.kits;
   rooms : vec_len l.rooms ≡ vec_len l.kits;
   space : vec_len l.seats + vec_len l.kits ≤ vec_capacity l.seats;

@@ -7,7 +7,8 @@ pub join_all-worst-requires-clause-alone : goal.join_all-worst-requires-clause-a
 join_all-worst-requires-clause-alone g c κs within =
     let x = g.X.Crew in
     let front = c.args.front.now in
-    alone_after x.cell x.pass (x.cell front.root) _ (same_seat x.cell x.pass g.F.Fn c.args.work.now c.requires.work) front.workers.items _ c.run_seats.ensures.worked c.requires.ready.new
+    alone_after x.cell x.pass (x.cell front.root) _ (same_seat x.cell x.pass g.F.Fn c.args.work.now c.requires.work) front.workers.items _
+    c.run_seats.ensures.worked c.requires.ready.new
 
 pub join_all-worst-requires-clause-kit_space : goal.join_all-worst-requires-clause-kit_space
 join_all-worst-requires-clause-kit_space g c κs within =

@@ -16,7 +16,8 @@ join_all-pumped-requires-clause-alone g c κs within =
     let pumps = c.run_both.new.back.pumps.items in
     let is = c.run_both.ensures.front.cell_is ∙ c.seat_one-ticker_seat.ensures.cell ∙ c.seat_all-2.ensures.cell in
     subst (λ (k : Cell Setting). AreAlone x.cell x.pass k pumps) (sym is)
-    (alone_after x.cell x.pass (x.cell c.seat_all.new.root) _ (same_seat x.cell x.pass g.G.Fn c.args.pump.now c.requires.pump) c.seat_all-2.new.seats.items pumps
+    (alone_after x.cell x.pass (x.cell c.seat_all.new.root) _ (same_seat x.cell x.pass g.G.Fn c.args.pump.now c.requires.pump)
+    c.seat_all-2.new.seats.items pumps
     c.run_both.ensures.pumps c.seat_all-2.ensures.begun.new)
 
 pub join_all-pumped-requires-clause-kit_space : goal.join_all-pumped-requires-clause-kit_space
@@ -36,8 +37,10 @@ join_all-pumped-requires-clause-gear_space g c κs within =
 pub join_one-ticker-requires-clause-cell : goal.join_one-ticker-requires-clause-cell
 join_one-ticker-requires-clause-cell g c κs within =
     let x = g.X.Crew in
-    let still = same_seat x.cell x.pass g.H.Fn c.args.tick.now c.requires.tick c.seat_one-ticker_seat.result c.run_both.new.back.ticker c.run_both.ensures.ticker in
-    still.cell_is ∙ c.seat_one-ticker_seat.ensures.same_cell ∙ sym (c.join_all-pumped.ensures.cell ∙ c.run_both.ensures.front.cell_is ∙ c.seat_one-ticker_seat.ensures.cell)
+    let still = same_seat x.cell x.pass g.H.Fn c.args.tick.now c.requires.tick c.seat_one-ticker_seat.result c.run_both.new.back.ticker
+    c.run_both.ensures.ticker in
+    still.cell_is ∙ c.seat_one-ticker_seat.ensures.same_cell
+    ∙ sym (c.join_all-pumped.ensures.cell ∙ c.run_both.ensures.front.cell_is ∙ c.seat_one-ticker_seat.ensures.cell)
 
 pub returns-clause-did : goal.returns-clause-did
 returns-clause-did g c =
@@ -62,7 +65,8 @@ returns-clause-did g c =
       second = second;
       third = third;
       first_begun = workers.begun;
-      second_begun = subst (λ (k : Cell Setting). Begun x.cell x.pass x.gear k c.args.posts.pumps.items c.args.posts.pump_gears.items second) workers.cell pumps.begun;
+      second_begun = subst (λ (k : Cell Setting). Begun x.cell x.pass x.gear k c.args.posts.pumps.items c.args.posts.pump_gears.items second)
+          workers.cell pumps.begun;
       third_begun = record {
         kits_are = ap (λ (t : g.row.T.Denot). t ∷ []) one.kit;
         gears_are = ap (λ (t : g.row.X-Gear.Denot). t ∷ []) one.gear;

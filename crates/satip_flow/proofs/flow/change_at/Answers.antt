@@ -32,6 +32,8 @@ returns-then-place-stream-clause-shown c =
     let of_stream : is_of c.args.stream (get_or xs at d) ≡ true =
     eq-eqb (get_or xs at d).place.stream c.args.stream (ap (λ p. p.stream) (sym place) ∙ c.if-place-stream.true) in
     subst (λ y. AllShown c.remark.new.rows.items (set xs at y)) (sym (c.change.ensures.changed ∙ ap f c.index_mut.ensures.value))
-    (shown_changed c.args.rows.now.items c.args.rows.now.items c.remark.new.rows.items xs at d c.args.stream c.args.front c.args.pids.now one.result.now.place.slot
-    within c.requires.apart of_stream (ap (λ s. s.place.slot) here) (λ place other below differs. refl) c.remark.ensures.others c.requires.front c.remark.ensures.marked
+    (shown_changed c.args.rows.now.items c.args.rows.now.items c.remark.new.rows.items xs at d c.args.stream c.args.front c.args.pids.now
+    one.result.now.place.slot
+    within c.requires.apart of_stream (ap (λ s. s.place.slot) here) (λ place other below differs. refl) c.remark.ensures.others c.requires.front
+    c.remark.ensures.marked
     c.requires.shown)

@@ -14,7 +14,8 @@ loop-at-init c =
     let is = c.next_bit-at.ensures.next in
     record {
       given_to = passed c.args.front c.args.packet.now c.args.clock xs c.args.out.now 0 c.next_bit-at.result xs c.args.out.now 0 is.behind
-          (λ i le lt d inside. not_selected (bit_at c.args.places i) (selects c.args.front c.args.packet.now (get_or xs i d)) (c.requires.selected i inside d) (is.clear i le lt))
+          (λ i le lt d inside. not_selected (bit_at c.args.places i) (selects c.args.front c.args.packet.now (get_or xs i d)) (c.requires.selected i inside d)
+          (is.clear i le lt))
           (given_none c.args.front c.args.packet.now c.args.clock xs c.args.out.now);
       within = is.within;
       few = omega (arith, at_most_64 xs c.requires.apart, c.args.subscribers.now.ok.0);
@@ -59,7 +60,8 @@ loop-at-preserved c =
     let marked = bit_or c.loop-at.overrun one.result in
     let long = still_all front packet clock xs before i now c.loop-at.out c.loop-at.overrun so_far.given_to in
     let inside : i < length xs = omega (arith, long, c.loop-at-test.true) in
-    let more = given_more front packet clock xs before i now c.loop-at.out c.loop-at.overrun one.new.subscribers.items one.new.out one.result inside so_far.given_to
+    let more = given_more front packet clock xs before i now c.loop-at.out c.loop-at.overrun one.new.subscribers.items one.new.out one.result inside
+    so_far.given_to
     one.ensures.changed one.ensures.sent one.ensures.overrun one.ensures.bytes_spare one.ensures.count_spare in
     record {
       given_to = passed front packet clock xs before (i + 1) next.result one.new.subscribers.items one.new.out marked is.behind

@@ -16,4 +16,5 @@ remark_front-requires-clause-marked c =
     let slot : c.place-slot.result.slot ≡ s.place.slot = ap (λ p. p.slot) c.place-slot.ensures.place in
     λ pid below has.
     let had : has_pid s.pids pid ≡ true = ap (λ (p : Pids). has_pid p pid) (sym c.pids.ensures.pids) ∙ has in
-    marked_there rows c.place-slot.result.slot front s.front s.pids (subst (λ n. IsMarked rows n s.front s.pids) (sym slot) c.requires.shown.marked) own low pid below had
+    marked_there rows c.place-slot.result.slot front s.front s.pids (subst (λ n. IsMarked rows n s.front s.pids) (sym slot) c.requires.shown.marked) own
+    low pid below had

@@ -25,17 +25,20 @@ loop-header-preserved c =
           let next = values_passed (codes "Content-Length") _ _ _ _ _ c.loop-header-test.true c.of.ensures c.is_named.ensures.test w.if-is_named.false in
           c.loop-header.invariant
           ∙ ap (λ (t : List (List ℕ)). option_to_list (option_copied c.loop-header.said) ++ t) next
-          ∙ ap (λ s. option_to_list (option_copied s) ++ values_of (codes "Content-Length") (map (header_bytes c.args.head.now) (drop (c.loop-header.header-index + 1) c.args.headers.now))) (sym w.said-is)
+          ∙ ap (λ s. option_to_list (option_copied s) ++ values_of (codes "Content-Length")
+          (map (header_bytes c.args.head.now) (drop (c.loop-header.header-index + 1) c.args.headers.now))) (sym w.said-is)
     ]
 
 pub returns-in-Some : goal.returns-in-Some
 returns-in-Some c = record {
   value =
       c.read_number.ensures.value
-      ∙ sym (length_of_all _ _ _ _ c.loop-header.said c.loop-header-test.false c.loop-header.invariant ∙ ap (λ s. length_from (option_to_list (option_copied s))) c.in-Some.is);
+      ∙ sym (length_of_all _ _ _ _ c.loop-header.said c.loop-header-test.false c.loop-header.invariant
+      ∙ ap (λ s. length_from (option_to_list (option_copied s))) c.in-Some.is);
 }
 
 pub returns-in-None : goal.returns-in-None
 returns-in-None c = record {
-  value = sym (length_of_all _ _ _ _ c.loop-header.said c.loop-header-test.false c.loop-header.invariant ∙ ap (λ s. length_from (option_to_list (option_copied s))) c.in-None.is);
+  value = sym (length_of_all _ _ _ _ c.loop-header.said c.loop-header-test.false c.loop-header.invariant
+      ∙ ap (λ s. length_from (option_to_list (option_copied s))) c.in-None.is);
 }

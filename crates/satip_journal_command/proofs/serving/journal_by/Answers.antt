@@ -22,7 +22,8 @@ returns-in-Ok-clause-ends g c =
     let left = left_from _ _ _ _ run.result.last run.result.unused end opened.no_fault from_mid in
     record {
       status_is = has_end end;
-      served_by = served_by g.K.Config.Source.tells _ given left_of_it run.result.last (λ l a b. Configured g.K.Config.Source.tells a b l.server.setting.config) opened.started run.ensures.config;
+      served_by = served_by g.K.Config.Source.tells _ given left_of_it run.result.last (λ l a b. Configured g.K.Config.Source.tells a b l.server.setting.config)
+          opened.started run.ensures.config;
       ran = run.ensures.ran;
       config = faults_told _ _ _ run.result.last run.result.unused end left;
       read = λ other. run.ensures.read_through (λ is. other (ap journal_status is)) ∙ opened.started.faults;
@@ -56,7 +57,8 @@ returns-in-Err-clause-ends g c = record {
   fresh = rw (c.in-Err.ensures.kits ∙ c.requires.new) tt;
   kits_unused = tt;
   asked_for = c.in-Err.ensures.journaled ∙ sym (append-nil (g.K.Desk.journaled c.args.desk.now))
-      ∙ ap (λ (js : List g.row.K-Journal.Denot). g.K.Desk.journaled c.args.desk.now ++ first_jobs (length (map g.K.Journal.Sink.drain js))) (sym c.new.ensures.items);
+      ∙ ap (λ (js : List g.row.K-Journal.Denot). g.K.Desk.journaled c.args.desk.now ++ first_jobs (length (map g.K.Journal.Sink.drain js)))
+      (sym c.new.ensures.items);
   empty = λ none.
       let P : List g.row.K-Journal.Denot → Type 0 = λ js. Each (λ (d : Drain). d ≡ fresh_drain) (map g.K.Journal.Sink.drain js) in
       subst P (sym c.new.ensures.items) tt;

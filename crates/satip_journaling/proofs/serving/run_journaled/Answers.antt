@@ -33,7 +33,8 @@ returns-clause-journaled g c =
     let before = c.begin_journals-gears.result in
     let after = c.run_gears-ran.result.journals in
     record {
-      journals = journals_written g.K.Sink.tells g.K.Sink.drain c.args.start _ c.args.sinks.items _ before.root after.root (others_of before) (others_of after) _ _ _
+      journals = journals_written g.K.Sink.tells g.K.Sink.drain c.args.start _ c.args.sinks.items _ before.root after.root (others_of before)
+          (others_of after) _ _ _
           c.begin_journals-gears.ensures.begun ran.went_on c.end_journals-failed.ensures.sinks c.end_journals-failed.ensures.failed c.requires.start;
       callers = ran.callers;
       typed = ran.typed;

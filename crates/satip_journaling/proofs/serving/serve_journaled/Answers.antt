@@ -37,7 +37,8 @@ returns-in-Ok-serve_all-clause-run g c = λ accepts fresh.
     c.in-Ok-serve_all.ensures.ran.run accepts (record {
       workers_are = fresh.workers_are;
       pumps_are = fresh.pumps_are;
-      ticker_is = subst (λ s. ReadOnce s (tick_view {P = g.row.P.Denot} g.C.Clock.dial g.O.Outlet.outbox tick)) (sym (ap (λ (s : Setting). s.start) setting)) read;
+      ticker_is = subst (λ s. ReadOnce s (tick_view {P = g.row.P.Denot} g.C.Clock.dial g.O.Outlet.outbox tick))
+          (sym (ap (λ (s : Setting). s.start) setting)) read;
     })
 
 pub returns-in-Ok-serve_all-clause-ended : goal.returns-in-Ok-serve_all-clause-ended
@@ -50,7 +51,8 @@ returns-in-Ok-serve_all-clause-ended g c = λ accepts fresh.
     c.in-Ok-serve_all.ensures.ran.ended accepts (record {
       workers_are = fresh.workers_are;
       pumps_are = fresh.pumps_are;
-      ticker_is = subst (λ s. ReadOnce s (tick_view {P = g.row.P.Denot} g.C.Clock.dial g.O.Outlet.outbox tick)) (sym (ap (λ (s : Setting). s.start) setting)) read;
+      ticker_is = subst (λ s. ReadOnce s (tick_view {P = g.row.P.Denot} g.C.Clock.dial g.O.Outlet.outbox tick))
+          (sym (ap (λ (s : Setting). s.start) setting)) read;
     })
 
 pub returns-in-Ok-serve_all-clause-yes : goal.returns-in-Ok-serve_all-clause-yes

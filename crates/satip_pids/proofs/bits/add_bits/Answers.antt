@@ -11,7 +11,8 @@ returns-in_default-clause-added c =
     let i = c.loop-pid.pid-index in
     let before = members c.args.words.now in
     let pid = get_or list i 0 in
-    let more : put_all before (take (i + 1) list) ≡ put pid (members c.loop-pid.words) = put_all_more before list i c.loop-pid-test.true ∙ ap (put pid) (sym c.loop-pid.invariant.added) in
+    let more : put_all before (take (i + 1) list) ≡ put pid (members c.loop-pid.words) =
+    put_all_more before list i c.loop-pid-test.true ∙ ap (put pid) (sym c.loop-pid.invariant.added) in
     omega (arith, c.in_default.ensures.added, ap length more, length-put_all-take before list (i + 1))
 
 pub loop-pid-preserved : goal.loop-pid-preserved

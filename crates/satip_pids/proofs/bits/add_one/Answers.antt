@@ -16,4 +16,5 @@ returns-clause-added c = members-put c.args.words.now c.set_bit.new.words c.args
 
 pub returns-clause-listed : goal.returns-clause-listed
 returns-clause-listed c =
-    listed_more c.args.words.now c.set_bit.new.words c.args.count c.args.pid c.requires.listed c.requires.below (sym c.has_bit.ensures.is_set ∙ c.if-has_bit.false) c.if-count-eq-LISTED.false (returns-clause-added c)
+    listed_more c.args.words.now c.set_bit.new.words c.args.count c.args.pid c.requires.listed c.requires.below
+    (sym c.has_bit.ensures.is_set ∙ c.if-has_bit.false) c.if-count-eq-LISTED.false (returns-clause-added c)

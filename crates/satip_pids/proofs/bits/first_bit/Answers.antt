@@ -11,6 +11,8 @@ returns-then-word-ne0 c =
     let word = get_or ws at 0 in
     let lowest = trailing_zeros w64 word in
     let low = 64 * c.args.place in
-    let is : IsNextFrom ws low (64 * at + 0 + lowest) = next_in_word ws low at 0 word word lowest c.loop-at-test.true (omega arith) (omega arith) refl (let fits = c.type_inv.words at in omega arith) (omega arith) (omega arith) refl (λ n le lt. c.loop-at.invariant n le (omega arith)) in
+    let is : IsNextFrom ws low (64 * at + 0 + lowest) =
+    next_in_word ws low at 0 word word lowest c.loop-at-test.true (omega arith) (omega arith) refl (let fits = c.type_inv.words at in omega arith) (omega arith)
+    (omega arith) refl (λ n le lt. c.loop-at.invariant n le (omega arith)) in
     let next : 64 * at + 0 + lowest ≡ 64 * at + lowest = omega arith in
     record { first = subst (IsNextFrom ws low) next is }

@@ -13,7 +13,9 @@ returns-then-rest-ne0 c =
     let word = get_or ws at 0 in
     let rest = word / 2 ^ skip in
     let lowest = trailing_zeros w64 rest in
-    let is : IsNextFrom ws from (64 * at + skip + lowest) = next_in_word ws from at skip word rest lowest (omega arith) (omega arith) (omega arith) refl (let fits = c.type_inv.words at in omega arith) refl (omega arith) refl (λ n le lt. absurd (omega arith)) in
+    let is : IsNextFrom ws from (64 * at + skip + lowest) =
+    next_in_word ws from at skip word rest lowest (omega arith) (omega arith) (omega arith) refl (let fits = c.type_inv.words at in omega arith) refl
+    (omega arith) refl (λ n le lt. absurd (omega arith)) in
     let next : 64 * at + skip + lowest ≡ from + lowest = omega arith in
     record { next = subst (IsNextFrom ws from) next is }
 

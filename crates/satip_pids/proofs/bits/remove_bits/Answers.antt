@@ -12,6 +12,7 @@ loop-pid-preserved c =
     let list = c.args.list.now in
     let i = c.loop-pid.pid-index in
     record {
-      left = c.remove_one-total.ensures.left ∙ ap (λ xs. without xs (get_or list i 0 ∷ [])) c.loop-pid.invariant.left ∙ without_more c.args.words.now list i c.loop-pid-test.true;
+      left = c.remove_one-total.ensures.left ∙ ap (λ xs. without xs (get_or list i 0 ∷ [])) c.loop-pid.invariant.left
+          ∙ without_more c.args.words.now list i c.loop-pid-test.true;
       listed = c.remove_one-total.ensures.listed;
     }

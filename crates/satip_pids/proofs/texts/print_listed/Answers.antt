@@ -11,7 +11,8 @@ use Rattle.satip_pids.proofs.texts.print_listed.Goals as goal
 pub returns-in_default-clause-printed : goal.returns-in_default-clause-printed
 returns-in_default-clause-printed c =
     let ws = c.args.words.now in
-    subst (λ bs. Printed c.args.strip.now bs c.write.new.self) (sym (listed_text-nil (members ws) (ap length (members_none ws c.in_default.ensures.next)))) c.write.ensures.printed
+    subst (λ bs. Printed c.args.strip.now bs c.write.new.self) (sym (listed_text-nil (members ws) (ap length (members_none ws c.in_default.ensures.next))))
+    c.write.ensures.printed
 
 pub returns-in_default-clause-bound : goal.returns-in_default-clause-bound
 returns-in_default-clause-bound c = length-listed_text (members c.args.words.now) c.requires.few (below-members c.args.words.now)
@@ -28,7 +29,8 @@ returns-clause-printed c =
     let ws = c.args.words.now in
     let first = c.in-Some.first in
     let parts : members ws ≡ first ∷ members_above ws (first + 1) = members_are ws ∙ above_next ws 0 first c.in-Some.ensures.next in
-    let text : listed_text (members ws) ≡ decimal first ++ flat_map next_text (members_above ws (first + 1)) = ap listed_text parts ∙ listed_text-cons first (members_above ws (first + 1)) in
+    let text : listed_text (members ws) ≡ decimal first ++ flat_map next_text (members_above ws (first + 1)) =
+    ap listed_text parts ∙ listed_text-cons first (members_above ws (first + 1)) in
     subst (λ bs. Printed c.args.strip.now bs c.print_more.new.strip) (sym text) (c.write_number.ensures.printed then_printed c.print_more.ensures.printed)
 
 pub returns-clause-bound : goal.returns-clause-bound

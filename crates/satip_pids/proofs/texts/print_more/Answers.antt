@@ -16,7 +16,15 @@ write-requires c =
 pub write_number-requires : goal.write_number-requires
 write_number-requires c =
     let next = above_next c.args.words.now c.loop-pid.from c.in-Some.pid c.in-Some.ensures.next in
-    record { room = omega (arith, ap length next, c.loop-pid.invariant.room, c.write.ensures.printed.count, length-decimal_pid c.in-Some.pid c.in-Some.ensures.next.below) }
+    record {
+      room = omega (
+        arith,
+        ap length next,
+        c.loop-pid.invariant.room,
+        c.write.ensures.printed.count,
+        length-decimal_pid c.in-Some.pid c.in-Some.ensures.next.below,
+      );
+    }
 
 pub loop-pid-preserved : goal.loop-pid-preserved
 loop-pid-preserved c =
@@ -27,8 +35,17 @@ loop-pid-preserved c =
     record {
       within = omega (arith, c.in-Some.ensures.next.below);
       printed = λ n printed.
-          c.loop-pid.invariant.printed n (subst (λ pids. Printed c.loop-pid.strip (flat_map next_text pids) n) (sym next) (c.write.ensures.printed then_printed c.write_number.ensures.printed then_printed printed));
-      room = omega (arith, ap length next, c.loop-pid.invariant.room, c.write.ensures.printed.count, c.write_number.ensures.printed.count, length-decimal_pid pid c.in-Some.ensures.next.below);
+          c.loop-pid.invariant.printed n
+          (subst (λ pids. Printed c.loop-pid.strip (flat_map next_text pids) n) (sym next)
+          (c.write.ensures.printed then_printed c.write_number.ensures.printed then_printed printed));
+      room = omega (
+        arith,
+        ap length next,
+        c.loop-pid.invariant.room,
+        c.write.ensures.printed.count,
+        c.write_number.ensures.printed.count,
+        length-decimal_pid pid c.in-Some.ensures.next.below,
+      );
     }
 
 -- nothing is printed

@@ -8,7 +8,8 @@ use Rattle.satip_pids.proofs.texts.print_more.Given as goal
 abbrev pub invariant-loop-pid : goal.invariant-loop-pid
 invariant-loop-pid l = record {
   within : l.from ≤ 8192;
-  printed : (n : List ℕ) → Printed l.strip (flat_map next_text (members_above l.words l.from)) n → Printed l.fn.strip (flat_map next_text (members_above l.words l.first)) n;
+  printed : (n : List ℕ) → Printed l.strip (flat_map next_text (members_above l.words l.from)) n
+      → Printed l.fn.strip (flat_map next_text (members_above l.words l.first)) n;
   room : length l.strip + 5 * length (members_above l.words l.from) ≤ 1600;
 }
 

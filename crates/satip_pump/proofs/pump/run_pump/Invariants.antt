@@ -13,7 +13,8 @@ invariant-loop g l =
     × (l.pump.front ≡ l.fn.front)
     × (l.pump.since < 64)
     × (l.pump.since + length l.pump.reading.buffer.packets ≤ 64)
-    × Answered (g.S.Service.may_want l.fn.service) l.fn.front (g.M.MuxStore.shelf l.fn.kit.store).recording g.O.Outlet.tells g.M.From.Source.tells g.M.From.Source.feed
+    × Answered (g.S.Service.may_want l.fn.service) l.fn.front (g.M.MuxStore.shelf l.fn.kit.store).recording g.O.Outlet.tells g.M.From.Source.tells
+    g.M.From.Source.feed
     (g.S.Service.known l.fn.service) (g.S.Service.known l.service) (g.O.Outlet.outbox l.fn.kit.outlet) (g.O.Outlet.outbox l.kit.outlet)
     (g.M.MuxStore.shelf l.fn.kit.store).faults (g.M.MuxStore.shelf l.kit.store).faults l.pump.reading l.answer
     × Paced (g.S.Service.known l.fn.service).own (g.S.Service.known l.service).own (g.P.Pacer.pauses l.fn.kit.pacer) (g.P.Pacer.pauses l.kit.pacer)

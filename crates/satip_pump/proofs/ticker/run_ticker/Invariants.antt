@@ -10,5 +10,6 @@ invariant-loop g l =
     × g.S.Service.same l.initial.service l.service
     × Ticks (g.S.Service.known l.initial.service) (g.S.Service.known l.service) (g.C.Clock.dial l.initial.kit.clock) (g.C.Clock.dial l.kit.clock)
     g.O.Outlet.tells (g.O.Outlet.outbox l.initial.kit.outlet) (g.O.Outlet.outbox l.kit.outlet)
-    × TicksPaced (g.S.Service.known l.initial.service).own (g.S.Service.known l.service).own (g.P.Pacer.pauses l.initial.kit.pacer) (g.P.Pacer.pauses l.kit.pacer)
+    × TicksPaced (g.S.Service.known l.initial.service).own (g.S.Service.known l.service).own (g.P.Pacer.pauses l.initial.kit.pacer)
+    (g.P.Pacer.pauses l.kit.pacer)
     × ((g.O.Outlet.outbox l.kit.outlet).held ≡ false)

@@ -7,7 +7,8 @@ pub returns-in_default-clause-read : goal.returns-in_default-clause-read
 returns-in_default-clause-read c =
     let size = c.kept.invariant.1 in
     too_few c.args.count c.args.bytes.now
-    (reading_fails c.kept.place c.args.count c.args.bytes.now c.kept.bytes c.kept.places c.kept-test.true (omega (arith, c.kept-test.true, c.requires.few, size))
+    (reading_fails c.kept.place c.args.count c.args.bytes.now c.kept.bytes c.kept.places c.kept-test.true
+    (omega (arith, c.kept-test.true, c.requires.few, size))
     c.in_default.ensures.read c.kept.invariant.0)
 
 pub kept-preserved : goal.kept-preserved

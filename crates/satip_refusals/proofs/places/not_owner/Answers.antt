@@ -13,7 +13,8 @@ use Rattle.satip_refusals.proofs.places.not_owner.Goals as goal
 pub returns-then-not-given : goal.returns-then-not-given
 returns-then-not-given c = record {
   other = λ cfg st stands.
-      failed_first (option_map_or (λ (t : Stream). not (owns st t.number (session_named st c.args.request.now.session))) (stream_meant st c.args.request.now) false)
+      failed_first (option_map_or (λ (t : Stream). not (owns st t.number (session_named st c.args.request.now.session)))
+      (stream_meant st c.args.request.now) false)
       (and_same c.changes.ensures.changes c.any.ensures.given) (search rules);
 }
 

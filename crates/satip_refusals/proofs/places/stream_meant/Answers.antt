@@ -10,5 +10,6 @@ returns-in-None c = record {
 
 pub returns-in-Some : goal.returns-in-Some
 returns-in-Some c = record {
-  stream = λ cfg st stands. c.stream.ensures.stream cfg st stands ∙ ap (λ (n : Option ℕ). option_and_then (stream_of st) n) (c.in-Some.ensures.number cfg st stands);
+  stream = λ cfg st stands. c.stream.ensures.stream cfg st stands
+      ∙ ap (λ (n : Option ℕ). option_and_then (stream_of st) n) (c.in-Some.ensures.number cfg st stands);
 }

@@ -9,5 +9,6 @@ returns c = record {
   missing = λ cfg st stands.
       and_same c.looks_at_stream.ensures.looks
       (c.is_absent.ensures.absent cfg st stands
-      ∙ ap (λ (b : Bool). option_map_or (λ number. is_none (stream_of st number)) c.args.request.now.stream b) (and_same c.is_describe.ensures.describe (c.has_no_streams.ensures.none cfg st stands)));
+      ∙ ap (λ (b : Bool). option_map_or (λ number. is_none (stream_of st number)) c.args.request.now.stream b)
+      (and_same c.is_describe.ensures.describe (c.has_no_streams.ensures.none cfg st stands)));
 }

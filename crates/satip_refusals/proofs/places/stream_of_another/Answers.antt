@@ -9,7 +9,8 @@ use Rattle.satip_refusals.proofs.places.stream_of_another.Goals as goal
 pub returns-then-not-used : goal.returns-then-not-used
 returns-then-not-used c = record {
   another = λ cfg st stands.
-      failed_first (option_map_or (λ s. option_map_or (λ number. not (s.stream == number)) c.args.request.now.stream false) (session_named st c.args.request.now.session) false)
+      failed_first (option_map_or (λ s. option_map_or (λ number. not (s.stream == number)) c.args.request.now.stream false)
+      (session_named st c.args.request.now.session) false)
       (or_same c.is_setup.ensures.setup c.needs_session.ensures.needs) (search rules);
 }
 
@@ -19,6 +20,7 @@ returns c = record {
       c.is_of_another.ensures.another
       ∙ ap (λ (s : Option Row). of_another s c.args.request.now.stream) (c.session_named.ensures.session cfg st stands)
       ∙ another_row (session_named st c.args.request.now.session) c.args.request.now.stream
-      ∙ tried_first (option_map_or (λ s. option_map_or (λ number. not (s.stream == number)) c.args.request.now.stream false) (session_named st c.args.request.now.session) false)
+      ∙ tried_first (option_map_or (λ s. option_map_or (λ number. not (s.stream == number)) c.args.request.now.stream false)
+      (session_named st c.args.request.now.session) false)
       (or_same c.is_setup.ensures.setup c.needs_session.ensures.needs) (search rules);
 }

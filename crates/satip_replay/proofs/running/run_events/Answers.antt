@@ -31,12 +31,14 @@ events-preserved g c = (
 pub returns-in-Whole-pass_on : goal.returns-in-Whole-pass_on
 returns-in-Whole-pass_on g c = record {
   ends = λ events stands script.
-      ends_midway _ _ _ _ _ events _ _ c.events.lines c.answer_next.new.lines (c.events.invariant.1 events stands script) c.in_default.ensures.answered _ c.in-Whole-pass_on.ensures.passes
+      ends_midway _ _ _ _ _ events _ _ c.events.lines c.answer_next.new.lines (c.events.invariant.1 events stands script) c.in_default.ensures.answered _
+      c.in-Whole-pass_on.ensures.passes
       (c.in-Whole-pass_on.ensures.all refl refl);
 }
 
 pub returns-in-Failed-pass_on : goal.returns-in-Failed-pass_on
 returns-in-Failed-pass_on g c = record {
   ends = λ events stands script.
-      fails_at_end _ _ _ _ _ events _ _ c.events.lines c.answer_next.new.lines (c.events.invariant.1 events stands script) c.in_default.ensures.answered c.in-Failed-pass_on.ensures.passes;
+      fails_at_end _ _ _ _ _ events _ _ c.events.lines c.answer_next.new.lines (c.events.invariant.1 events stands script) c.in_default.ensures.answered
+      c.in-Failed-pass_on.ensures.passes;
 }

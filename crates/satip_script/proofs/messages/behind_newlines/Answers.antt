@@ -9,7 +9,8 @@ newlines-preserved c = λ text h.
     let first = sym (c.newlines-test.ensures.test before.0 before.1) in
     let some = some_first before.0 first in (
       drop 1 before.0,
-      back_read c.newlines.rest.now c.split_at.result.1.now before.0 1 before.1 (omega (arith, some, length-digits c.newlines.rest.now before.0 before.1)) c.split_at.ensures.back,
+      back_read c.newlines.rest.now c.split_at.result.1.now before.0 1 before.1 (omega (arith, some, length-digits c.newlines.rest.now before.0 before.1))
+          c.split_at.ensures.back,
       before.2 ∙ skip_first before.0 first,
     )
 

@@ -54,7 +54,8 @@ returns-in-More c = record {
       let one : length (drop count text) ≡ 1 = omega (arith, length-drop count text, short, len, c.min-count.ensures, c.requires.some) in
       let back = back_read c.args.digits.now c.split_at.result.1.now text count h within c.split_at.ensures.back in
       let whole = subst (λ (t : List ℕ). skip_newlines t ≡ t) (sym (take-append-drop count text)) clean in
-      joined_sees text count c.look_at_last.new.framer c.look_at_last.result (c.look_at_last.ensures.sees (take count text) (drop count text) back one (skip_taken count text clean) whole told.0 told.1);
+      joined_sees text count c.look_at_last.new.framer c.look_at_last.result
+      (c.look_at_last.ensures.sees (take count text) (drop count text) back one (skip_taken count text clean) whole told.0 told.1);
 }
 
 pub returns-in-Bad : goal.returns-in-Bad

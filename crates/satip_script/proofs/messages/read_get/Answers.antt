@@ -7,8 +7,10 @@ use Rattle.satip_script.proofs.messages.read_get.Goals as goal
 
 pub returns-in-Whole-clause-asked : goal.returns-in-Whole-clause-asked
 returns-in-Whole-clause-asked c =
-    asks_whole (bytes_of c.args.digits.now) c.look_in.new.framer asked get_of (λ m. refl) c.read_found_get.new.into c.in-Whole.ensures.sees c.read_found_get.ensures.asked
+    asks_whole (bytes_of c.args.digits.now) c.look_in.new.framer asked get_of (λ m. refl) c.read_found_get.new.into c.in-Whole.ensures.sees
+    c.read_found_get.ensures.asked
 
 pub returns-in-NotWhole-clause-asked : goal.returns-in-NotWhole-clause-asked
 returns-in-NotWhole-clause-asked c =
-    asks_broken (bytes_of c.args.digits.now) c.look_in.new.framer c.in-NotWhole.cause get_of c.break_get.new.into c.in-NotWhole.ensures.sees c.break_get.ensures.broken
+    asks_broken (bytes_of c.args.digits.now) c.look_in.new.framer c.in-NotWhole.cause get_of c.break_get.new.into c.in-NotWhole.ensures.sees
+    c.break_get.ensures.broken

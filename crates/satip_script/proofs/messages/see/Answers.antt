@@ -8,7 +8,8 @@ use Rattle.satip_script.proofs.messages.see.Goals as goal
 pub returns-then-is_empty : goal.returns-then-is_empty
 returns-then-is_empty c = record {
   sees = λ text h.
-      nothing_left text (empty_rest (skip_newlines text) c.behind_newlines-rest.result.now c.is_empty.result c.is_empty.ensures c.if-is_empty.true (c.behind_newlines-rest.ensures.rest text h));
+      nothing_left text (empty_rest (skip_newlines text) c.behind_newlines-rest.result.now c.is_empty.result c.is_empty.ensures c.if-is_empty.true
+      (c.behind_newlines-rest.ensures.rest text h));
 }
 
 pub look_at-seen-requires-clause-hex : goal.look_at-seen-requires-clause-hex
@@ -19,7 +20,8 @@ look_at-seen-requires-clause-hex c =
 pub look_at-seen-requires-clause-some : goal.look_at-seen-requires-clause-some
 look_at-seen-requires-clause-some c =
     let read = read_bytes (decode_of c.args.digits.now) c.requires in
-    two_left (skip_newlines read.0) c.behind_newlines-rest.result.now c.is_empty.result c.is_empty.ensures c.if-is_empty.false (c.behind_newlines-rest.ensures.rest read.0 read.1)
+    two_left (skip_newlines read.0) c.behind_newlines-rest.result.now c.is_empty.result c.is_empty.ensures c.if-is_empty.false
+    (c.behind_newlines-rest.ensures.rest read.0 read.1)
 
 pub look_at-seen-requires-clause-clean : goal.look_at-seen-requires-clause-clean
 look_at-seen-requires-clause-clean c = λ other h.

@@ -9,6 +9,8 @@ pub pieces-preserved : goal.pieces-preserved
 pieces-preserved c =
     let before = c.pieces.invariant in (
       before.0 ++ c.split_at.result.0.now,
-      passed_more c.args.bytes.now before.0 c.pieces.rest.now c.split_at.result.0.now c.split_at.result.1.now c.min.result before.1 c.split_at.ensures.front c.split_at.ensures.back,
-      digits_more c.args.text.now.items c.pieces.text.items c.append_piece.new.text.items before.0 c.split_at.result.0.now before.2 c.in_ok-append_piece.ensures.appended,
+      passed_more c.args.bytes.now before.0 c.pieces.rest.now c.split_at.result.0.now c.split_at.result.1.now c.min.result before.1 c.split_at.ensures.front
+          c.split_at.ensures.back,
+      digits_more c.args.text.now.items c.pieces.text.items c.append_piece.new.text.items before.0 c.split_at.result.0.now before.2
+          c.in_ok-append_piece.ensures.appended,
     )

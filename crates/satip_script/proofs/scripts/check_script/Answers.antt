@@ -8,7 +8,8 @@ lines-init c = reads_none c.args.text.now c.of-script.result c.of-script.ensures
 
 pub returns-in-Wrong-clause-wrong : goal.returns-in-Wrong-clause-wrong
 returns-in-Wrong-clause-wrong c =
-    reads_wrong c.args.text.now c.lines.number c.in-Some.line.now c.lines.script c.next_line.new.self c.in-Some.ensures.line c.lines.invariant c.in-Wrong.ensures.check
+    reads_wrong c.args.text.now c.lines.number c.in-Some.line.now c.lines.script c.next_line.new.self c.in-Some.ensures.line c.lines.invariant
+    c.in-Wrong.ensures.check
 
 pub overflow_add-number : goal.overflow_add-number
 overflow_add-number c =
@@ -17,8 +18,10 @@ overflow_add-number c =
 pub lines-preserved : goal.lines-preserved
 lines-preserved c =
     elim c.match-check_line.branch [
-      | in-Skip w ↦ reads_skip c.args.text.now c.lines.number c.in-Some.line.now c.lines.script c.next_line.new.self c.in-Some.ensures.line c.lines.invariant w.in-Skip.ensures.check
-      | in-Right w ↦ reads_event c.args.text.now c.lines.number c.in-Some.line.now c.lines.script c.next_line.new.self c.in-Some.ensures.line c.lines.invariant w.in-Right.ensures.check.0 w.in-Right.ensures.check.1
+      | in-Skip w ↦ reads_skip c.args.text.now c.lines.number c.in-Some.line.now c.lines.script c.next_line.new.self c.in-Some.ensures.line c.lines.invariant
+          w.in-Skip.ensures.check
+      | in-Right w ↦ reads_event c.args.text.now c.lines.number c.in-Some.line.now c.lines.script c.next_line.new.self c.in-Some.ensures.line c.lines.invariant
+          w.in-Right.ensures.check.0 w.in-Right.ensures.check.1
     ]
 
 pub returns-clause-right : goal.returns-clause-right

@@ -9,4 +9,5 @@ pub returns-clause-length : goal.returns-clause-length
 unfolding sdp
 returns-clause-length c =
     c.loop-stream.invariant.total
-    ∙ ap (λ (streams : List StreamView). length (head_lines c.args.address c.args.fronts ++ flat_map stream_lines streams)) (take_all c.loop-stream.stream-index c.args.streams.now c.loop-stream-test.false)
+    ∙ ap (λ (streams : List StreamView). length (head_lines c.args.address c.args.fronts ++ flat_map stream_lines streams))
+    (take_all c.loop-stream.stream-index c.args.streams.now c.loop-stream-test.false)

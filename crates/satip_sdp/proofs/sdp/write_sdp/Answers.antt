@@ -9,7 +9,8 @@ use Rattle.satip_sdp.proofs.sdp.write_sdp.Goals as goal
 wrote : (c : goal.After-loop-stream) → Wrote c.args.out.now (sdp c.args.address c.args.fronts c.args.streams.now) c.loop-stream.out
 unfolding sdp
 wrote c =
-    subst (λ (streams : List StreamView). Wrote c.args.out.now (head_lines c.args.address c.args.fronts ++ flat_map stream_lines streams) c.loop-stream.out) (take_all c.loop-stream.stream-index c.args.streams.now c.loop-stream-test.false) c.loop-stream.invariant.wrote
+    subst (λ (streams : List StreamView). Wrote c.args.out.now (head_lines c.args.address c.args.fronts ++ flat_map stream_lines streams) c.loop-stream.out)
+    (take_all c.loop-stream.stream-index c.args.streams.now c.loop-stream-test.false) c.loop-stream.invariant.wrote
 
 pub returns-clause-wrote : goal.returns-clause-wrote
 returns-clause-wrote c = wrote c

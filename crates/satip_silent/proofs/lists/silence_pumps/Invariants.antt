@@ -6,8 +6,10 @@ use Rattle.satip_silent.proofs.lists.silence_pumps.Given as goal
 
 abbrev pub invariant-loop-kits : goal.invariant-loop-kits
 invariant-loop-kits g l = record {
-  silent : l.silent.items ++ map (λ (kit : PumpKit g.row.M.Denot g.row.O.Denot g.row.P.Denot). silent_pump kit) l.kits.items ≡ map (λ (kit : PumpKit g.row.M.Denot g.row.O.Denot g.row.P.Denot). silent_pump kit) l.initial.kits.items;
-  outlets : l.outlets.items ++ map (λ (kit : PumpKit g.row.M.Denot g.row.O.Denot g.row.P.Denot). kit.outlet) l.kits.items ≡ map (λ (kit : PumpKit g.row.M.Denot g.row.O.Denot g.row.P.Denot). kit.outlet) l.initial.kits.items;
+  silent : l.silent.items ++ map (λ (kit : PumpKit g.row.M.Denot g.row.O.Denot g.row.P.Denot). silent_pump kit) l.kits.items
+      ≡ map (λ (kit : PumpKit g.row.M.Denot g.row.O.Denot g.row.P.Denot). silent_pump kit) l.initial.kits.items;
+  outlets : l.outlets.items ++ map (λ (kit : PumpKit g.row.M.Denot g.row.O.Denot g.row.P.Denot). kit.outlet) l.kits.items
+      ≡ map (λ (kit : PumpKit g.row.M.Denot g.row.O.Denot g.row.P.Denot). kit.outlet) l.initial.kits.items;
   space : vec_len l.silent + vec_len l.kits ≤ vec_capacity l.silent;
   outlet_space : vec_len l.outlets + vec_len l.kits ≤ vec_capacity l.outlets;
   capacity : vec_len l.initial.kits ≤ vec_capacity l.kits;

@@ -5,7 +5,8 @@ use Rattle.satip_silent.proofs.lists.sound_workers.Given as goal
 
 abbrev pub invariant-loop-silent : goal.invariant-loop-silent
 invariant-loop-silent g l = record {
-  kits : l.kits.items ++ each_two (λ kit outlet. worker_with kit outlet) l.silent.items l.outlets.items ≡ each_two (λ kit outlet. worker_with kit outlet) l.initial.silent.items l.initial.outlets.items;
+  kits : l.kits.items ++ each_two (λ kit outlet. worker_with kit outlet) l.silent.items l.outlets.items
+      ≡ each_two (λ kit outlet. worker_with kit outlet) l.initial.silent.items l.initial.outlets.items;
   count : vec_len l.outlets ≡ vec_len l.silent;
   space : vec_len l.kits + vec_len l.silent ≤ vec_capacity l.kits;
 }

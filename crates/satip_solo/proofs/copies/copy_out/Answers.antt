@@ -21,6 +21,7 @@ loop-place-preserved c = copied_more _ _ _ _ _ c.loop-place.invariant c.copy_dat
 
 pub returns : goal.returns
 returns c = record {
-  same = copied_all c.args.from.now c.args.to.now c.write.new.self c.loop-place.to c.reply.result.now c.loop-place.place c.requires.cleared c.reply.ensures.reply
+  same = copied_all c.args.from.now c.args.to.now c.write.new.self c.loop-place.to c.reply.result.now c.loop-place.place c.requires.cleared
+      c.reply.ensures.reply
       c.write.ensures.wrote (omega (arith, c.count-count.ensures.count, c.loop-place-test.false)) c.loop-place.invariant c.count-count.ensures.room;
 }

@@ -16,11 +16,13 @@ returns-clause-opens c =
     (c.setup_request-founding.ensures.request ∙ ap (λ (q : Query). setup 1 None q 1400) c.founding_query.ensures.query) c.request.ensures.made)
     c.request.ensures.setting
     (makes_asked _ _ _ _ _ _ _ _ (ap (λ (x : Client). x.peer) one) c.draw_of_number-2.ensures.draw
-    (c.play_request-playing.ensures.request ∙ ap (λ (x : Client). play 2 x c.new.result) one ∙ ap (λ (q : Query). play 2 first q) c.new.ensures.empty) c.request-2.ensures.made)
+    (c.play_request-playing.ensures.request ∙ ap (λ (x : Client). play 2 x c.new.result) one ∙ ap (λ (q : Query). play 2 first q) c.new.ensures.empty)
+    c.request-2.ensures.made)
     c.request-2.ensures.setting
     (makes_asked _ _ _ _ _ _ _ _ (ap (λ (x : Client). x.peer) two) c.draw_of_number-3.ensures.draw
     (c.setup_request-joining.ensures.request ∙ ap (λ (q : Query). setup 3 (Some 1) q 1500) c.new-2.ensures.empty) c.request-3.ensures.made)
     c.request-3.ensures.setting
     (makes_asked _ _ _ _ _ _ _ _ (ap (λ (x : Client). x.peer) two) c.draw_of_number-4.ensures.draw
-    (c.play_request-playing-2.ensures.request ∙ ap (λ (x : Client). play 4 x c.new-3.result) two ∙ ap (λ (q : Query). play 4 second q) c.new-3.ensures.empty) c.request-4.ensures.made)
+    (c.play_request-playing-2.ensures.request ∙ ap (λ (x : Client). play 4 x c.new-3.result) two ∙ ap (λ (q : Query). play 4 second q) c.new-3.ensures.empty)
+    c.request-4.ensures.made)
     c.request-4.ensures.setting

@@ -21,7 +21,8 @@ run_in_tunnel-root-requires-clause-work g c κs within = record {
 
 pub returns-clause-worker_count : goal.returns-clause-worker_count
 returns-clause-worker_count g c =
-    as_long (λ (kit : WorkerKit g.row.D.Denot Silent g.row.P.Denot). kit.key) (λ (kit : WorkerKit g.row.D.Denot Silent g.row.P.Denot). kit.key) _ _ c.run_in_tunnel-root.ensures.keys
+    as_long (λ (kit : WorkerKit g.row.D.Denot Silent g.row.P.Denot). kit.key) (λ (kit : WorkerKit g.row.D.Denot Silent g.row.P.Denot). kit.key) _ _
+    c.run_in_tunnel-root.ensures.keys
 
 pub returns-clause-pump_count : goal.returns-clause-pump_count
 returns-clause-pump_count g c =

@@ -52,19 +52,22 @@ loop-preserved g c = (
 pub returns-in-Broken-drain_all : goal.returns-in-Broken-drain_all
 returns-in-Broken-drain_all g c = record {
   talked = talked_to_break _ _ _ _ _ _
-      (drains_to_break _ _ _ _ _ _ _ _ _ (listens_idle _ _ _ _ _ _ _ _ c.loop.invariant.0.1 c.in-Idle.ensures.receives) (c.in-Broken-drain_all.ensures.drains Free tt));
+      (drains_to_break _ _ _ _ _ _ _ _ _ (listens_idle _ _ _ _ _ _ _ _ c.loop.invariant.0.1 c.in-Idle.ensures.receives)
+      (c.in-Broken-drain_all.ensures.drains Free tt));
 }
 
 pub returns-in-Lost-drain_all : goal.returns-in-Lost-drain_all
 returns-in-Lost-drain_all g c = record {
   talked = talked_to_write_fault _ _ _ _ _ _ ((c.in-Lost-drain_all.ensures.drains Free tt).talks.input ∙ c.in-Idle.ensures.receives.after)
-      (drains_to_lose _ _ _ _ _ _ _ _ _ (listens_idle _ _ _ _ _ _ _ _ c.loop.invariant.0.1 c.in-Idle.ensures.receives) (c.in-Lost-drain_all.ensures.drains Free tt));
+      (drains_to_lose _ _ _ _ _ _ _ _ _ (listens_idle _ _ _ _ _ _ _ _ c.loop.invariant.0.1 c.in-Idle.ensures.receives)
+      (c.in-Lost-drain_all.ensures.drains Free tt));
 }
 
 pub returns-in-Spent-drain_all : goal.returns-in-Spent-drain_all
 returns-in-Spent-drain_all g c = record {
   talked = talked_to_stop _ _ _ _ _ _
-      (drains_to_stop _ _ _ _ _ _ _ _ _ (listens_idle _ _ _ _ _ _ _ _ c.loop.invariant.0.1 c.in-Idle.ensures.receives) (c.in-Spent-drain_all.ensures.drains Free tt));
+      (drains_to_stop _ _ _ _ _ _ _ _ _ (listens_idle _ _ _ _ _ _ _ _ c.loop.invariant.0.1 c.in-Idle.ensures.receives)
+      (c.in-Spent-drain_all.ensures.drains Free tt));
 }
 
 pub returns-in-End : goal.returns-in-End

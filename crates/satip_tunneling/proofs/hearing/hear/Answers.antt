@@ -30,7 +30,8 @@ returns-in-Closed-clause-hears g c = λ course received text same listens.
     let before = c.piece.invariant.0 course received text same listens in
     let s = before.2.stands in
     let fed = stands_fed _ course _ _ _ received (text ++ before.0) _ _ _ c.feed-count.new.self s (c.feed-count.ensures.follows _ _ s.leads) in
-    let closed = closed_stays _ course _ _ _ received _ (drop c.feed-count.result c.piece.rest.now) (c.in-Closed.ensures.hears course received _ before.2.messages same fed) in
+    let closed = closed_stays _ course _ _ _ received _ (drop c.feed-count.result c.piece.rest.now)
+    (c.in-Closed.ensures.hears course received _ before.2.messages same fed) in
     rw (← text_parts text before.0 _ _ c.feed-count.result before.1) closed
 
 pub returns-in-Broken-clause-hears : goal.returns-in-Broken-clause-hears
@@ -38,7 +39,8 @@ returns-in-Broken-clause-hears g c = λ course received text same listens.
     let before = c.piece.invariant.0 course received text same listens in
     let s = before.2.stands in
     let fed = stands_fed _ course _ _ _ received (text ++ before.0) _ _ _ c.feed-count.new.self s (c.feed-count.ensures.follows _ _ s.leads) in
-    let first = first_stays _ course _ _ _ received _ (drop c.feed-count.result c.piece.rest.now) end_broken tt (c.in-Broken.ensures.hears course received _ before.2.messages same fed) in
+    let first = first_stays _ course _ _ _ received _ (drop c.feed-count.result c.piece.rest.now) end_broken tt
+    (c.in-Broken.ensures.hears course received _ before.2.messages same fed) in
     rw (← text_parts text before.0 _ _ c.feed-count.result before.1) first
 
 pub returns-in-Lost-clause-hears : goal.returns-in-Lost-clause-hears
@@ -46,7 +48,8 @@ returns-in-Lost-clause-hears g c = λ course received text same listens.
     let before = c.piece.invariant.0 course received text same listens in
     let s = before.2.stands in
     let fed = stands_fed _ course _ _ _ received (text ++ before.0) _ _ _ c.feed-count.new.self s (c.feed-count.ensures.follows _ _ s.leads) in
-    let lost = lost_stays _ course _ _ _ received _ (drop c.feed-count.result c.piece.rest.now) (c.in-Lost.ensures.hears course received _ before.2.messages same fed) in
+    let lost = lost_stays _ course _ _ _ received _ (drop c.feed-count.result c.piece.rest.now)
+    (c.in-Lost.ensures.hears course received _ before.2.messages same fed) in
     rw (← text_parts text before.0 _ _ c.feed-count.result before.1) lost
 
 pub returns-in-Spent-clause-hears : goal.returns-in-Spent-clause-hears
@@ -54,5 +57,6 @@ returns-in-Spent-clause-hears g c = λ course received text same listens.
     let before = c.piece.invariant.0 course received text same listens in
     let s = before.2.stands in
     let fed = stands_fed _ course _ _ _ received (text ++ before.0) _ _ _ c.feed-count.new.self s (c.feed-count.ensures.follows _ _ s.leads) in
-    let stopped = stopped_stays _ course _ _ _ received _ (drop c.feed-count.result c.piece.rest.now) (c.in-Spent.ensures.hears course received _ before.2.messages same fed) in
+    let stopped = stopped_stays _ course _ _ _ received _ (drop c.feed-count.result c.piece.rest.now)
+    (c.in-Spent.ensures.hears course received _ before.2.messages same fed) in
     rw (← text_parts text before.0 _ _ c.feed-count.result before.1) stopped

@@ -10,7 +10,9 @@ join_seat-requires g c =
       c.requires.cell_too,
       c.requires.other.idle.slots,
       omega arith,
-      joins g.S.Served.setting g.S.Served.legal g.S.Served.stands_for (g.S.Served.setting c.args.table.now.key.value) c.args.seat.now.id c.args.other.id c.args.seat.now.me.0 c.args.other.me.0 c.requires.resting.idle.turn c.requires.resting.idle.live c.requires.resting.drawn c.requires.other.idle.turn c.requires.other.idle.live c.requires.other.drawn,
+      joins g.S.Served.setting g.S.Served.legal g.S.Served.stands_for (g.S.Served.setting c.args.table.now.key.value) c.args.seat.now.id c.args.other.id
+          c.args.seat.now.me.0 c.args.other.me.0 c.requires.resting.idle.turn c.requires.resting.idle.live c.requires.resting.drawn c.requires.other.idle.turn
+          c.requires.other.idle.live c.requires.other.drawn,
     )
 
 pub load-requires : goal.load-requires
@@ -18,5 +20,7 @@ load-requires g c =
     let words = c.requires.cell.1.words in (
       c.join_seat.ensures.0 ∙ c.requires.cell.0,
       omega arith,
-      hears g.S.Served.setting g.S.Served.legal g.S.Served.stands_for (g.S.Served.setting c.args.table.now.key.value) c.args.table.now.table_id.slots c.join_seat.new.seat.id c.join_seat.new.seat.me (ap (λ m. m.0.turn) c.join_seat.ensures.2 ∙ c.requires.resting.idle.turn) (ap (λ m. m.0.spent) c.join_seat.ensures.2 ∙ c.requires.resting.idle.live),
+      hears g.S.Served.setting g.S.Served.legal g.S.Served.stands_for (g.S.Served.setting c.args.table.now.key.value) c.args.table.now.table_id.slots
+          c.join_seat.new.seat.id c.join_seat.new.seat.me (ap (λ m. m.0.turn) c.join_seat.ensures.2 ∙ c.requires.resting.idle.turn)
+          (ap (λ m. m.0.spent) c.join_seat.ensures.2 ∙ c.requires.resting.idle.live),
     )

@@ -8,5 +8,7 @@ swap-requires g c =
     let words = c.requires.cell.1.words in (
       c.exchange.ensures.0 ∙ c.requires.cell.0,
       omega arith,
-      gives_back g.S.Served.setting g.S.Served.legal g.S.Served.stands_for (g.S.Served.setting c.args.table.now.key.value) c.args.table.now.table_id.slots c.exchange.new.seat.id c.args.seat.now.me c.exchange.new.seat.me c.args.served c.requires.cell.1.slots c.requires.holds c.requires.served c.exchange.ensures.3,
+      gives_back g.S.Served.setting g.S.Served.legal g.S.Served.stands_for (g.S.Served.setting c.args.table.now.key.value) c.args.table.now.table_id.slots
+          c.exchange.new.seat.id c.args.seat.now.me c.exchange.new.seat.me c.args.served c.requires.cell.1.slots c.requires.holds c.requires.served
+          c.exchange.ensures.3,
     )

@@ -8,5 +8,6 @@ load-requires g c =
     let words = c.requires.cell.1.words in (
       c.requires.cell.0,
       omega arith,
-      looks g.S.Served.setting g.S.Served.legal g.S.Served.stands_for (g.S.Served.setting c.args.table.now.key.value) c.args.table.now.table_id.slots c.args.seat.now.id c.args.seat.now.me c.requires.holds.turn c.requires.holds.live,
+      looks g.S.Served.setting g.S.Served.legal g.S.Served.stands_for (g.S.Served.setting c.args.table.now.key.value) c.args.table.now.table_id.slots
+          c.args.seat.now.id c.args.seat.now.me c.requires.holds.turn c.requires.holds.live,
     )

@@ -9,10 +9,13 @@ compare_exchange-requires g c =
     let words = c.requires.cell.1.words in (
       c.requires.cell.0,
       omega arith,
-      tries g.S.Served.setting g.S.Served.legal g.S.Served.stands_for (g.S.Served.setting c.args.table.now.key.value) c.args.table.now.table_id.slots c.args.seat.now.id c.args.seat.now.me c.requires.idle.turn c.requires.idle.live,
+      tries g.S.Served.setting g.S.Served.legal g.S.Served.stands_for (g.S.Served.setting c.args.table.now.key.value) c.args.table.now.table_id.slots
+          c.args.seat.now.id c.args.seat.now.me c.requires.idle.turn c.requires.idle.live,
     )
 
 pub exchange-requires : goal.exchange-requires
 exchange-requires g c =
-    let t = c.compare_exchange.ensures.2.free c.if-compare_exchange-ne0.false in
-    (c.compare_exchange.ensures.0 ∙ c.requires.cell.0, (Home t.value, first_back c.compare_exchange.new.seat.me.1 c.args.seat.now.me.1 (0, Home t.value) t.slots))
+    let t = c.compare_exchange.ensures.2.free c.if-compare_exchange-ne0.false in (
+      c.compare_exchange.ensures.0 ∙ c.requires.cell.0,
+      (Home t.value, first_back c.compare_exchange.new.seat.me.1 c.args.seat.now.me.1 (0, Home t.value) t.slots),
+    )

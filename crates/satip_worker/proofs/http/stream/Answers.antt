@@ -18,7 +18,8 @@ loop-preserved-in-Sent g c = (
 
 pub returns-in-Cut-clause-streams : goal.returns-in-Cut-clause-streams
 returns-in-Cut-clause-streams g c =
-    streams_cut _ _ _ _ _ _ _ _ _ (g.C.Conn.line c.pull.new.conn) _ c.loop.invariant.3 _ (c.pull.ensures.input ∙ c.loop.invariant.1) c.in-Cut.ensures.turns c.close.ensures.closes
+    streams_cut _ _ _ _ _ _ _ _ _ (g.C.Conn.line c.pull.new.conn) _ c.loop.invariant.3 _ (c.pull.ensures.input ∙ c.loop.invariant.1) c.in-Cut.ensures.turns
+    c.close.ensures.closes
 
 pub returns-in-Gone-clause-streams : goal.returns-in-Gone-clause-streams
 returns-in-Gone-clause-streams g c = streams_gone _ _ _ _ _ _ _ _ _ c.loop.invariant.3 (c.pull.ensures.input ∙ c.loop.invariant.1) c.in-Gone.ensures.turns

@@ -3,4 +3,5 @@ use Rattle.satip_core.proofs.HistoryLemmas.{stands_more}
 use Rattle.satip_core.proofs.served.ServerServed.serve.Goals as goal
 
 pub returns-clause-stands : goal.returns-clause-stands
-returns-clause-stands c h n stands = stands_more c.args.self.now c.event.new.self h n c.args.event.now c.event.result c.event.new.out c.known_event.ensures.value c.event.ensures.setting c.event.ensures.steps stands
+returns-clause-stands c h n stands = stands_more c.args.self.now c.event.new.self h n c.args.event.now c.event.result c.event.new.out
+    c.known_event.ensures.value c.event.ensures.setting c.event.ensures.steps stands

@@ -10,4 +10,5 @@ use Rattle.satip_core.proofs.server.Server.ask.Goals as goal
 pub returns-clause-steps : goal.returns-clause-steps
 returns-clause-steps c = λ st stands.
     let at = subst (λ (s : Held). Stands s st) (sym c.self.view_is) stands in
-    did_quietly c.args.self.now.setting.config _ c.clear.new.self _ (step c.args.self.now.setting.config st (Ask c.args.front)) c.clear.ensures.empty stands (ap Work (c.work.ensures.work c.self.inside.setting.config st at)) refl refl
+    did_quietly c.args.self.now.setting.config _ c.clear.new.self _ (step c.args.self.now.setting.config st (Ask c.args.front)) c.clear.ensures.empty stands
+    (ap Work (c.work.ensures.work c.self.inside.setting.config st at)) refl refl

@@ -9,16 +9,22 @@ use Rattle.satip_core.proofs.server.Server.close.Goals as goal
 pub invariant_of-self : goal.invariant_of-self
 invariant_of-self c =
     let standing = c.self.invariant in
-    record { few = standing.few; state = (step c.self.inside.setting.config standing.state (Close c.args.session)).state; stands = (c.close.ensures.did c.self.inside.setting.config standing.state standing.stands).stands }
+    record {
+      few = standing.few;
+      state = (step c.self.inside.setting.config standing.state (Close c.args.session)).state;
+      stands = (c.close.ensures.did c.self.inside.setting.config standing.state standing.stands).stands;
+    }
 
 pub returns-clause-setting : goal.returns-clause-setting
 returns-clause-setting c = ap (λ (s : Held). s.setting) c.self.view_is
 
 pub returns-clause-steps : goal.returns-clause-steps
-returns-clause-steps c = steps_of _ c.args.self.now _ (Close c.args.session) _ _ c.self.view_is (λ st stands. c.close.ensures.did c.self.inside.setting.config st stands)
+returns-clause-steps c = steps_of _ c.args.self.now _ (Close c.args.session) _ _ c.self.view_is
+    (λ st stands. c.close.ensures.did c.self.inside.setting.config st stands)
 
 pub returns-clause-gone : goal.returns-clause-gone
 returns-clause-gone c = λ st stands e.
     let at = subst (λ (s : Held). Stands s st) (sym c.self.view_is) stands in
-    let r = rests c.self.inside.setting.config _ _ _ _ _ (c.close.ensures.did c.self.inside.setting.config st at) ((c.gone_changes_nothing.ensures.law c.self.inside.setting.config st c.args.session e).1) in
+    let r = rests c.self.inside.setting.config _ _ _ _ _ (c.close.ensures.did c.self.inside.setting.config st at)
+    ((c.gone_changes_nothing.ensures.law c.self.inside.setting.config st c.args.session e).1) in
     record { stands = r.0; sent = r.1 }

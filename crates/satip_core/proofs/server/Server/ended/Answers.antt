@@ -8,10 +8,17 @@ use Rattle.satip_core.proofs.server.Server.ended.Goals as goal
 pub invariant_of-self : goal.invariant_of-self
 invariant_of-self c =
     let standing = c.self.invariant in
-    record { few = standing.few; state = (step c.self.inside.setting.config standing.state (Ended c.args.front c.args.tune)).state; stands = c.ended.ensures.stands c.self.inside.setting.config standing.state standing.stands }
+    record {
+      few = standing.few;
+      state = (step c.self.inside.setting.config standing.state (Ended c.args.front c.args.tune)).state;
+      stands = c.ended.ensures.stands c.self.inside.setting.config standing.state standing.stands;
+    }
 
 pub returns-clause-setting : goal.returns-clause-setting
 returns-clause-setting c = ap (λ (s : Held). s.setting) c.self.view_is
 
 pub returns-clause-steps : goal.returns-clause-steps
-returns-clause-steps c = steps_of _ c.args.self.now _ (Ended c.args.front c.args.tune) _ _ c.self.view_is (λ st stands. did_quietly c.self.inside.setting.config _ c.clear.new.self _ (step c.self.inside.setting.config st (Ended c.args.front c.args.tune)) c.clear.ensures.empty (c.ended.ensures.stands c.self.inside.setting.config st stands) (c.ended.ensures.work c.self.inside.setting.config st stands) refl refl)
+returns-clause-steps c = steps_of _ c.args.self.now _ (Ended c.args.front c.args.tune) _ _ c.self.view_is
+    (λ st stands. did_quietly c.self.inside.setting.config _ c.clear.new.self _ (step c.self.inside.setting.config st (Ended c.args.front c.args.tune))
+    c.clear.ensures.empty (c.ended.ensures.stands c.self.inside.setting.config st stands)
+    (c.ended.ensures.work c.self.inside.setting.config st stands) refl refl)

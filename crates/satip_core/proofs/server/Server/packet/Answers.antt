@@ -9,16 +9,22 @@ use Rattle.satip_core.proofs.server.Server.packet.Goals as goal
 pub invariant_of-self : goal.invariant_of-self
 invariant_of-self c =
     let standing = c.self.invariant in
-    record { few = standing.few; state = (step c.self.inside.setting.config standing.state (Packet c.args.front c.args.tune c.args.packet.now)).state; stands = (c.packet.ensures.did c.self.inside.setting.config standing.state standing.stands).stands }
+    record {
+      few = standing.few;
+      state = (step c.self.inside.setting.config standing.state (Packet c.args.front c.args.tune c.args.packet.now)).state;
+      stands = (c.packet.ensures.did c.self.inside.setting.config standing.state standing.stands).stands;
+    }
 
 pub returns-clause-setting : goal.returns-clause-setting
 returns-clause-setting c = ap (λ (s : Held). s.setting) c.self.view_is
 
 pub returns-clause-steps : goal.returns-clause-steps
-returns-clause-steps c = steps_of _ c.args.self.now _ (Packet c.args.front c.args.tune c.args.packet.now) _ _ c.self.view_is (λ st stands. c.packet.ensures.did c.self.inside.setting.config st stands)
+returns-clause-steps c = steps_of _ c.args.self.now _ (Packet c.args.front c.args.tune c.args.packet.now) _ _ c.self.view_is
+    (λ st stands. c.packet.ensures.did c.self.inside.setting.config st stands)
 
 pub returns-clause-stale : goal.returns-clause-stale
 returns-clause-stale c = λ st stands e.
     let at = subst (λ (s : Held). Stands s st) (sym c.self.view_is) stands in
-    let r = rests c.self.inside.setting.config _ _ _ _ _ (c.packet.ensures.did c.self.inside.setting.config st at) (c.stale_changes_nothing.ensures.law c.self.inside.setting.config st c.args.front c.args.tune c.args.packet.now e) in
+    let r = rests c.self.inside.setting.config _ _ _ _ _ (c.packet.ensures.did c.self.inside.setting.config st at)
+    (c.stale_changes_nothing.ensures.law c.self.inside.setting.config st c.args.front c.args.tune c.args.packet.now e) in
     record { stands = r.0; sent = r.1 }

@@ -10,16 +10,23 @@ use Rattle.satip_core.proofs.server.Server.request.Goals as goal
 pub invariant_of-self : goal.invariant_of-self
 invariant_of-self c =
     let standing = c.self.invariant in
-    record { few = standing.few; state = (step c.self.inside.setting.config standing.state (Asked c.args.peer c.args.draw c.args.request.now)).state; stands = (c.answer_request.ensures.did standing.state standing.stands).stands }
+    record {
+      few = standing.few;
+      state = (step c.self.inside.setting.config standing.state (Asked c.args.peer c.args.draw c.args.request.now)).state;
+      stands = (c.answer_request.ensures.did standing.state standing.stands).stands;
+    }
 
 pub returns-clause-setting : goal.returns-clause-setting
 returns-clause-setting c = ap (λ (s : Held). s.setting) c.self.view_is
 
 pub returns-clause-steps : goal.returns-clause-steps
-returns-clause-steps c = steps_of _ c.args.self.now _ (Asked c.args.peer c.args.draw c.args.request.now) _ _ c.self.view_is (λ st stands. c.answer_request.ensures.did st stands)
+returns-clause-steps c = steps_of _ c.args.self.now _ (Asked c.args.peer c.args.draw c.args.request.now) _ _ c.self.view_is
+    (λ st stands. c.answer_request.ensures.did st stands)
 
 pub returns-clause-refused : goal.returns-clause-refused
 returns-clause-refused c = λ st refused stands e.
     let at = subst (λ (s : Held). Stands s st) (sym c.self.view_is) stands in
-    let r = rests c.self.inside.setting.config _ _ _ _ _ (c.answer_request.ensures.did st at) (c.refused_changes_nothing.ensures.law c.self.inside.setting.config st c.args.peer c.args.draw c.args.request.now refused (subst (λ (s : Held). decide s.setting.config st c.args.request.now ≡ Some refused) (sym c.self.view_is) e)) in
+    let r = rests c.self.inside.setting.config _ _ _ _ _ (c.answer_request.ensures.did st at)
+    (c.refused_changes_nothing.ensures.law c.self.inside.setting.config st c.args.peer c.args.draw c.args.request.now refused
+    (subst (λ (s : Held). decide s.setting.config st c.args.request.now ≡ Some refused) (sym c.self.view_is) e)) in
     record { stands = r.0; sent = r.1 }

@@ -8,10 +8,16 @@ use Rattle.satip_core.proofs.server.Server.stop.Goals as goal
 pub invariant_of-self : goal.invariant_of-self
 invariant_of-self c =
     let standing = c.self.invariant in
-    record { few = standing.few; state = (step c.self.inside.setting.config standing.state (Stop)).state; stands = c.stop.ensures.stopped c.self.inside.setting.config standing.state standing.stands }
+    record {
+      few = standing.few;
+      state = (step c.self.inside.setting.config standing.state (Stop)).state;
+      stands = c.stop.ensures.stopped c.self.inside.setting.config standing.state standing.stands;
+    }
 
 pub returns-clause-setting : goal.returns-clause-setting
 returns-clause-setting c = ap (λ (s : Held). s.setting) c.self.view_is
 
 pub returns-clause-steps : goal.returns-clause-steps
-returns-clause-steps c = steps_of _ c.args.self.now _ (Stop) _ _ c.self.view_is (λ st stands. did_quietly c.self.inside.setting.config _ c.clear.new.self _ (step c.self.inside.setting.config st (Stop)) c.clear.ensures.empty (c.stop.ensures.stopped c.self.inside.setting.config st stands) (refl) refl refl)
+returns-clause-steps c = steps_of _ c.args.self.now _ (Stop) _ _ c.self.view_is
+    (λ st stands. did_quietly c.self.inside.setting.config _ c.clear.new.self _ (step c.self.inside.setting.config st (Stop)) c.clear.ensures.empty
+    (c.stop.ensures.stopped c.self.inside.setting.config st stands) (refl) refl refl)

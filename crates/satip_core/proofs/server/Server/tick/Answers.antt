@@ -8,7 +8,11 @@ use Rattle.satip_core.proofs.server.Server.tick.Goals as goal
 pub invariant_of-self : goal.invariant_of-self
 invariant_of-self c =
     let standing = c.self.invariant in
-    record { few = standing.few; state = (step c.self.inside.setting.config standing.state (Tick c.args.now)).state; stands = (c.tick.ensures.did standing.state standing.stands).stands }
+    record {
+      few = standing.few;
+      state = (step c.self.inside.setting.config standing.state (Tick c.args.now)).state;
+      stands = (c.tick.ensures.did standing.state standing.stands).stands;
+    }
 
 pub returns-clause-setting : goal.returns-clause-setting
 returns-clause-setting c = ap (λ (s : Held). s.setting) c.self.view_is

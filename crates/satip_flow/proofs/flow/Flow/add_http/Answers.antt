@@ -31,7 +31,8 @@ note_places-requires-clause-apart c =
     let free = rw (← c.self.view_is) at c.requires.free in
     let xs = c.self.inside.subscribers.items in
     subst (λ ys. SlotsApart ys) (sym (c.deref.ensures.value ∙ c.insert_ordered.ensures.added))
-    (apart-put s xs (subst (λ s. s.place.slot < 64) (sym is) c.requires.slot) (subst (λ s. list_any (has_slot s.place.slot) xs ≡ false) (sym is) free) c.self.invariant.apart)
+    (apart-put s xs (subst (λ s. s.place.slot < 64) (sym is) c.requires.slot) (subst (λ s. list_any (has_slot s.place.slot) xs ≡ false) (sym is) free)
+    c.self.invariant.apart)
 
 pub invariant_of-self : goal.invariant_of-self
 invariant_of-self c =
@@ -40,8 +41,14 @@ invariant_of-self c =
     let free = rw (← c.self.view_is) at c.requires.free in
     let xs = c.self.inside.subscribers.items in
     let left = rw c.unwrap-queue.ensures at c.pop.ensures.len in
-    let rest = All-pop (λ queue. queue ≡ buffer [] 4096) c.self.inside.spare_queues.items c.pop.new.self.items c.pop.result c.pop.ensures.items c.self.invariant.queues in
-    sound_put c.self.inside (record { subscribers = c.insert_ordered.new.subscribers; spare_queues = c.pop.new.self; rows = c.mark.new.rows; places = c.note_places.new.places }) s
+    let rest = All-pop (λ queue. queue ≡ buffer [] 4096) c.self.inside.spare_queues.items c.pop.new.self.items c.pop.result c.pop.ensures.items
+    c.self.invariant.queues in
+    sound_put c.self.inside (record {
+      subscribers = c.insert_ordered.new.subscribers;
+      spare_queues = c.pop.new.self;
+      rows = c.mark.new.rows;
+      places = c.note_places.new.places;
+    }) s
     (subst (λ s. s.place.slot < 64) (sym is) c.requires.slot)
     (subst (λ s. list_any (has_slot s.place.slot) xs ≡ false) (sym is) free)
     c.insert_ordered.ensures.added c.insert_ordered.ensures.capacity c.pop.ensures.capacity rest.0

@@ -24,7 +24,8 @@ note_places-requires-clause-apart c =
     let free = rw (← c.self.view_is) at c.requires.free in
     let xs = c.self.inside.subscribers.items in
     subst (λ ys. SlotsApart ys) (sym (c.deref.ensures.value ∙ c.insert_ordered.ensures.added))
-    (apart-put s xs (subst (λ s. s.place.slot < 64) (sym is) c.requires.slot) (subst (λ s. list_any (has_slot s.place.slot) xs ≡ false) (sym is) free) c.self.invariant.apart)
+    (apart-put s xs (subst (λ s. s.place.slot < 64) (sym is) c.requires.slot) (subst (λ s. list_any (has_slot s.place.slot) xs ≡ false) (sym is) free)
+    c.self.invariant.apart)
 
 pub invariant_of-self : goal.invariant_of-self
 invariant_of-self c =
@@ -32,13 +33,19 @@ invariant_of-self c =
     let is = c.packed-subscriber.ensures.subscription in
     let free = rw (← c.self.view_is) at c.requires.free in
     let xs = c.self.inside.subscribers.items in
-    sound_put c.self.inside (record { subscribers = c.insert_ordered.new.subscribers; spare_queues = c.self.inside.spare_queues; rows = c.mark.new.rows; places = c.note_places.new.places }) s
+    sound_put c.self.inside (record {
+      subscribers = c.insert_ordered.new.subscribers;
+      spare_queues = c.self.inside.spare_queues;
+      rows = c.mark.new.rows;
+      places = c.note_places.new.places;
+    }) s
     (subst (λ s. s.place.slot < 64) (sym is) c.requires.slot)
     (subst (λ s. list_any (has_slot s.place.slot) xs ≡ false) (sym is) free)
     c.insert_ordered.ensures.added c.insert_ordered.ensures.capacity refl c.self.invariant.queues
     (ap (λ s. vec_len c.self.inside.spare_queues + cond (has_queue s) 1 0) is ∙ omega arith)
     c.mark.ensures.count c.note_places.ensures.count
-    (shown_added c.self.inside.rows.items c.mark.new.rows.items xs s c.args.place c.args.front c.args.pids.now (ToAddress c.args.to c.new.result) is c.requires.front
+    (shown_added c.self.inside.rows.items c.mark.new.rows.items xs s c.args.place c.args.front c.args.pids.now (ToAddress c.args.to c.new.result) is
+    c.requires.front
     c.mark.ensures.marked c.mark.ensures.others c.self.invariant.apart free c.self.invariant.shown)
     (subst (λ ys. IsPlaced c.note_places.new.places ys) c.deref.ensures.value c.note_places.ensures.placed)
     c.self.invariant

@@ -32,7 +32,12 @@ returns-clause-readdressed c =
 pub invariant_of-self : goal.invariant_of-self
 invariant_of-self c =
     let stands = rw c.deref.ensures.value at c.in-Some.ensures.found in
-    sound_kept c.self.inside (record { subscribers = c.readdress_at.new.subscribers; spare_queues = c.self.inside.spare_queues; rows = c.self.inside.rows; places = c.self.inside.places })
+    sound_kept c.self.inside (record {
+      subscribers = c.readdress_at.new.subscribers;
+      spare_queues = c.self.inside.spare_queues;
+      rows = c.self.inside.rows;
+      places = c.self.inside.places;
+    })
     (λ s. cond (has_slot c.args.slot s) (readdressed c.args.to s) s)
     (keeps_some (has_slot c.args.slot) (readdressed c.args.to) (readdressed_keeps c.args.to))
     (some_shown (has_slot c.args.slot) (readdressed c.args.to) (feed_shown (λ s. readdressed_feed c.args.to s.feed)))

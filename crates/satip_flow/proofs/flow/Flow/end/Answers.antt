@@ -36,7 +36,8 @@ pub note_places-requires-clause-apart : goal.note_places-requires-clause-apart
 note_places-requires-clause-apart c =
     let stands = rw c.deref.ensures.value at c.in-Some.ensures.found in
     let xs = c.self.inside.subscribers.items in
-    subst (λ ys. SlotsApart ys) (sym (c.deref-2.ensures.value ∙ c.remove.ensures.items ∙ sym stands.others)) (apart-without c.args.slot xs c.self.invariant.apart)
+    subst (λ ys. SlotsApart ys) (sym (c.deref-2.ensures.value ∙ c.remove.ensures.items ∙ sym stands.others))
+    (apart-without c.args.slot xs c.self.invariant.apart)
 
 -- there is room for the queue of the one that goes
 pub give_back-requires-clause-room : goal.give_back-requires-clause-room

@@ -46,7 +46,12 @@ returns-clause-sent c =
 pub invariant_of-self : goal.invariant_of-self
 invariant_of-self c =
     let stands = rw c.deref.ensures.value at c.in-Some.ensures.found in
-    sound_kept c.self.inside (record { subscribers = c.flush_at.new.subscribers; spare_queues = c.self.inside.spare_queues; rows = c.self.inside.rows; places = c.self.inside.places })
+    sound_kept c.self.inside (record {
+      subscribers = c.flush_at.new.subscribers;
+      spare_queues = c.self.inside.spare_queues;
+      rows = c.self.inside.rows;
+      places = c.self.inside.places;
+    })
     (λ s. cond (has_slot c.args.slot s) (flushed s) s)
     (keeps_some (has_slot c.args.slot) flushed flushed_keeps)
     (some_shown (has_slot c.args.slot) flushed (feed_shown (λ s. flushed_feed s.feed)))

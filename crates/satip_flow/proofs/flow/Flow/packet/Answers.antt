@@ -17,6 +17,11 @@ give_all-requires-clause-selected c =
 
 pub invariant_of-self : goal.invariant_of-self
 invariant_of-self c =
-    sound_kept c.self.inside (record { subscribers = c.give_all.new.subscribers; spare_queues = c.self.inside.spare_queues; rows = c.self.inside.rows; places = c.self.inside.places })
+    sound_kept c.self.inside (record {
+      subscribers = c.give_all.new.subscribers;
+      spare_queues = c.self.inside.spare_queues;
+      rows = c.self.inside.rows;
+      places = c.self.inside.places;
+    })
     (given c.args.front c.args.packet.now) (given_keeps c.args.front c.args.packet.now) (given_shown c.args.front c.args.packet.now)
     c.give_all.ensures.given c.give_all.ensures.capacity refl refl refl c.self.invariant

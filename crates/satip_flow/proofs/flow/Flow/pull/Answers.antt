@@ -51,7 +51,12 @@ returns-clause-wrote c =
 pub invariant_of-self : goal.invariant_of-self
 invariant_of-self c =
     let stands = rw c.deref.ensures.value at c.in-Some.ensures.found in
-    sound_kept c.self.inside (record { subscribers = c.pull_at.new.subscribers; spare_queues = c.self.inside.spare_queues; rows = c.self.inside.rows; places = c.self.inside.places })
+    sound_kept c.self.inside (record {
+      subscribers = c.pull_at.new.subscribers;
+      spare_queues = c.self.inside.spare_queues;
+      rows = c.self.inside.rows;
+      places = c.self.inside.places;
+    })
     (λ s. cond (has_slot c.args.slot s) (pulled s) s)
     (keeps_some (has_slot c.args.slot) pulled pulled_keeps)
     (some_shown (has_slot c.args.slot) pulled (feed_shown (λ s. pulled_feed s.feed)))

@@ -102,10 +102,12 @@ pub returns-in-Ended-clause-told : goal.returns-in-Ended-clause-told
 returns-in-Ended-clause-told c =
     let held = ap (λ (v : Held). v.bytes) c.self.view_is in
     let rests = subst (IsState c.self.inside.buffer.items c.self.inside.start c.self.inside.headers) c.in-Ended.is c.self.invariant.rests in
-    ended_told c.args.self.now c.in-Ended.cause c.step_of.result c.step_of.ensures.step (subst (λ b. Ends (skip_newlines b) (Broken c.in-Ended.cause)) held rests)
+    ended_told c.args.self.now c.in-Ended.cause c.step_of.result c.step_of.ensures.step
+    (subst (λ b. Ends (skip_newlines b) (Broken c.in-Ended.cause)) held rests)
 
 pub returns-in-Ended-clause-exact : goal.returns-in-Ended-clause-exact
 returns-in-Ended-clause-exact c =
     let held = ap (λ (v : Held). v.bytes) c.self.view_is in
     let rests = subst (IsState c.self.inside.buffer.items c.self.inside.start c.self.inside.headers) c.in-Ended.is c.self.invariant.rests in
-    ended_exact c.args.self.now.bytes c.in-Ended.cause c.step_of.result c.step_of.ensures.step (subst (λ b. Ends (skip_newlines b) (Broken c.in-Ended.cause)) held rests)
+    ended_exact c.args.self.now.bytes c.in-Ended.cause c.step_of.result c.step_of.ensures.step
+    (subst (λ b. Ends (skip_newlines b) (Broken c.in-Ended.cause)) held rests)

@@ -20,8 +20,10 @@ returns-then-burst-clause-bursts g c =
     let lot = c.burst-burst.new.feed.lot.now in
     let made = c.burst-burst.result.made in
     let name = call.history.has.0 in
-    at_last (λ l. Bursts false (known_by p) (known_by q) (g.L.Lot.ended l) (g.L.Lot.given l) (g.L.Lot.has_taken c.args.lot.now l) (Err Spent)) _ lot (search rules)
-    (bursts_by c.args.self.now.server.now.setting p q made (g.L.Lot.ended lot) (g.L.Lot.given lot) _ (g.L.Lot.has_taken c.args.lot.now lot) (Err Spent) call.knows.lawful call.most call.history
+    at_last (λ l. Bursts false (known_by p) (known_by q) (g.L.Lot.ended l) (g.L.Lot.given l) (g.L.Lot.has_taken c.args.lot.now l) (Err Spent)) _ lot
+    (search rules)
+    (bursts_by c.args.self.now.server.now.setting p q made (g.L.Lot.ended lot) (g.L.Lot.given lot) _ (g.L.Lot.has_taken c.args.lot.now lot) (Err Spent)
+    call.knows.lawful call.most call.history
     (ends_spent q made (g.L.Lot.ended lot) c.burst-burst.result.spent (g.L.Lot.given lot) c.if-burst.true call.spent call.full))
 
 pub returns-clause-same : goal.returns-clause-same
@@ -39,5 +41,6 @@ returns-clause-bursts g c =
     let made = c.burst-burst.result.made in
     let name = call.history.has.0 in
     at_last (λ l. Bursts false (known_by p) (known_by q) (g.L.Lot.ended l) (g.L.Lot.given l) (g.L.Lot.has_taken c.args.lot.now l) (Ok tt)) _ lot (search rules)
-    (bursts_by c.args.self.now.server.now.setting p q made (g.L.Lot.ended lot) (g.L.Lot.given lot) _ (g.L.Lot.has_taken c.args.lot.now lot) (Ok tt) call.knows.lawful call.most call.history
+    (bursts_by c.args.self.now.server.now.setting p q made (g.L.Lot.ended lot) (g.L.Lot.given lot) _ (g.L.Lot.has_taken c.args.lot.now lot) (Ok tt)
+    call.knows.lawful call.most call.history
     (ends_well q made (g.L.Lot.ended lot) c.burst-burst.result.spent (g.L.Lot.given lot) c.if-burst.false call.most call.few call.spent))

@@ -8,7 +8,8 @@ use Rattle.satip_interleave.proofs.caller.TunnelCallerService.call.Goals as goal
 pub returns-in-Ok-clause-same : goal.returns-in-Ok-clause-same
 returns-in-Ok-clause-same g c =
     let p = c.args.self.now.pass in
-    same_turned c.args.self.now.server.now p c.call.new.pass (entry p.number (Inner c.copy_of.result) c.in-Ok.answer c.call.new.out ∷ []) c.call.ensures.keeps c.in-Ok.ensures.history refl
+    same_turned c.args.self.now.server.now p c.call.new.pass (entry p.number (Inner c.copy_of.result) c.in-Ok.answer c.call.new.out ∷ []) c.call.ensures.keeps
+    c.in-Ok.ensures.history refl
 
 pub returns-in-Ok-clause-called : goal.returns-in-Ok-clause-called
 returns-in-Ok-clause-called g c =
@@ -16,7 +17,8 @@ returns-in-Ok-clause-called g c =
     let p = c.args.self.now.pass in
     let q = c.call.new.pass in
     let inner = answered_by k.setting p q c.copy_of.result c.in-Ok.answer c.call.new.out c.call.ensures.knows.lawful c.in-Ok.ensures.history in
-    made_by k.setting p q c.args.event.now c.copy_of.result c.in-Ok.answer c.server_answer.result c.call.new.out c.copy_of.ensures.same (c.server_answer.ensures.told inner)
+    made_by k.setting p q c.args.event.now c.copy_of.result c.in-Ok.answer c.server_answer.result c.call.new.out c.copy_of.ensures.same
+    (c.server_answer.ensures.told inner)
     c.call.ensures.knows.lawful c.in-Ok.ensures.history
 
 pub returns-in-Err-clause-called : goal.returns-in-Err-clause-called

@@ -46,4 +46,5 @@ returns-else-self-clause-called g c =
 pub returns-in-Err-clause-same : goal.returns-in-Err-clause-same
 returns-in-Err-clause-same g c =
     not_entered g.K.Sink.tells _ _ (record { server = refl; pass = c.call.ensures.keeps }) refl
-    c.args.self.now.own c.call.ensures.knows.own_is c.in-Err.ensures.history (logs_none g.K.Sink.tells (g.K.Sink.drain c.args.self.now.sink) c.args.self.now.failed)
+    c.args.self.now.own c.call.ensures.knows.own_is c.in-Err.ensures.history
+    (logs_none g.K.Sink.tells (g.K.Sink.drain c.args.self.now.sink) c.args.self.now.failed)

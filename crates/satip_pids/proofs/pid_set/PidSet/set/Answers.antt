@@ -28,7 +28,8 @@ returns-clause-exact c =
 pub returns-clause-members : goal.returns-clause-members
 returns-clause-members c =
     let list = c.args.list.now in
-    let made = grown_view (Only []) (replicate 128 0) c.add_bits.new.words c.in-Some.count list (ap Only (sym none_members)) c.in-Some.ensures.added c.in-Some.ensures.listed in
+    let made = grown_view (Only []) (replicate 128 0) c.add_bits.new.words c.in-Some.count list (ap Only (sym none_members)) c.in-Some.ensures.added
+    c.in-Some.ensures.listed in
     added_members (Only []) _ list made
 
 pub returns-clause-too_many : goal.returns-clause-too_many

@@ -12,5 +12,6 @@ returns c =
       bits = λ i below.
           let pid = 64 * at + i in
           let within : pid < 8192 = omega arith in
-          bit_of_word s.words at i below ∙ ap (λ b. if b then 1 else 0) (has_pid_view s.words s.count pid c.self.invariant within ∙ ap (λ set. has_pid set pid) c.self.view_is);
+          bit_of_word s.words at i below ∙ ap (λ b. if b then 1 else 0)
+          (has_pid_view s.words s.count pid c.self.invariant within ∙ ap (λ set. has_pid set pid) c.self.view_is);
     }

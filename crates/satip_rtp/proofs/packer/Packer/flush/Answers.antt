@@ -32,7 +32,11 @@ returns-then-self-eq0-clause-sent c =
 pub returns-clause-nothing : goal.returns-clause-nothing
 returns-clause-nothing c =
     let i = c.self.inside in
-    rw (← c.self.view_is) (λ e. absurd (cc e), λ h. absurd (omega (arith, ap (λ packets. length packets) h, length-packets_in i.bytes i.count, c.if-self-eq0.false)))
+    rw (← c.self.view_is) (
+      λ e. absurd (cc e),
+      λ h.
+          absurd (omega (arith, ap (λ packets. length packets) h, length-packets_in i.bytes i.count, c.if-self-eq0.false)),
+    )
 
 -- what was held has left
 pub returns-clause-packing : goal.returns-clause-packing

@@ -22,4 +22,7 @@ returns c =
     let some = not_empty (length pids) c.if-is_empty.ensures in
     let text = listed_text-parts pids some in
     let pieces = ap (λ rest. decimal (get_or pids 0 0) ++ flat_map next_text rest) c.split_at.ensures.back in
-    record { printed = subst (λ bs. Printed c.args.strip.now bs c.print_others.new.strip) (pieces ∙ sym text) (c.write_number.ensures.printed then_printed c.print_others.ensures.printed) }
+    record {
+      printed = subst (λ bs. Printed c.args.strip.now bs c.print_others.new.strip) (pieces ∙ sym text)
+          (c.write_number.ensures.printed then_printed c.print_others.ensures.printed);
+    }

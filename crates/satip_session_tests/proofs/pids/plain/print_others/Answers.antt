@@ -12,6 +12,7 @@ loop-pid-preserved c =
     let number = c.write_number.ensures.printed in
     let short : length (decimal (get_or pids i 0)) ≤ 4 = length-decimal_pid (get_or pids i 0) (c.requires.below i 0 c.loop-pid-test.true) in
     record {
-      printed = subst (λ bs. Printed c.args.strip.now bs c.write_number.new.self) (next_more pids i c.loop-pid-test.true) (c.loop-pid.invariant.printed then_printed (comma then_printed number));
+      printed = subst (λ bs. Printed c.args.strip.now bs c.write_number.new.self) (next_more pids i c.loop-pid-test.true)
+          (c.loop-pid.invariant.printed then_printed (comma then_printed number));
       room = omega (arith, c.loop-pid.invariant.room, comma.count, number.count, short);
     }

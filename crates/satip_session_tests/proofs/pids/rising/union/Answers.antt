@@ -9,7 +9,8 @@ returns-then-not-put-clause-too_many c =
     let list = c.args.list.now in
     let i = c.loop-pid.pid-index in
     let pid = get_or list i 0 in
-    let more : put_all c.args.pids.now (take (i + 1) list) ≡ put pid c.loop-pid.all.items = put_all_more c.args.pids.now list i c.loop-pid-test.true ∙ ap (put pid) (sym c.loop-pid.invariant.united) in
+    let more : put_all c.args.pids.now (take (i + 1) list) ≡ put pid c.loop-pid.all.items =
+    put_all_more c.args.pids.now list i c.loop-pid-test.true ∙ ap (put pid) (sym c.loop-pid.invariant.united) in
     omega (arith, c.if-not-put.ensures.added, ap length more, length-put_all-take c.args.pids.now list (i + 1))
 
 pub loop-pid-preserved : goal.loop-pid-preserved

@@ -25,7 +25,8 @@ pub returns-clause-counted : goal.returns-clause-counted
 returns-clause-counted c =
     let ds = c.args.out.now.datagrams in
     c.loop-place.invariant
-    ∙ ap (λ (x : List Datagram). with_datagrams c.add_answer.new.self x) (take_all c.loop-place.place ds (omega (arith, c.count-place-end.ensures.count, c.loop-place-test.false)))
+    ∙ ap (λ (x : List Datagram). with_datagrams c.add_answer.new.self x)
+    (take_all c.loop-place.place ds (omega (arith, c.count-place-end.ensures.count, c.loop-place-test.false)))
     ∙ ap (λ (x : Counts). with_datagrams x ds) c.add_answer.ensures.counted
 
 pub returns-clause-events : goal.returns-clause-events
@@ -34,5 +35,6 @@ returns-clause-events c = ap (λ (x : Counts). x.events) (returns-clause-counted
 pub returns-clause-bounded : goal.returns-clause-bounded
 returns-clause-bounded c =
     let room = c.count-place-end.ensures.room in
-    entry_bounded c.args.self.now c.loop-place.self c.args.answer c.args.out.now.datagrams c.requires.room (omega (arith, room.count)) (omega (arith, room.bytes))
+    entry_bounded c.args.self.now c.loop-place.self c.args.answer c.args.out.now.datagrams c.requires.room (omega (arith, room.count))
+    (omega (arith, room.bytes))
     (returns-clause-counted c)

@@ -15,9 +15,11 @@ loop-parent-preserved c =
     let in_parent : (c.loop-parent.at - 1) / 2 < before.count = omega (arith, c.loop-parent.invariant.within) in
     record {
       within = omega (arith, in_parent, c.swap.ensures.count);
-      placed = moved_within dues before after c.loop-parent.at ((c.loop-parent.at - 1) / 2) c.loop-parent.invariant.within in_parent c.swap.ensures.count c.swap.ensures.moved c.loop-parent.invariant.placed;
+      placed = moved_within dues before after c.loop-parent.at ((c.loop-parent.at - 1) / 2) c.loop-parent.invariant.within in_parent c.swap.ensures.count
+          c.swap.ensures.moved c.loop-parent.invariant.placed;
       heap = subst (λ n. IsHeapBut (ranks dues after) n ((c.loop-parent.at - 1) / 2)) (sym c.swap.ensures.count)
-          (risen (ranks dues before) (ranks dues after) before.count c.loop-parent.at up c.loop-parent.invariant.within c.loop-parent.invariant.heap less (moved_ranks dues before after _ _ c.swap.ensures.moved));
+          (risen (ranks dues before) (ranks dues after) before.count c.loop-parent.at up c.loop-parent.invariant.within c.loop-parent.invariant.heap less
+          (moved_ranks dues before after _ _ c.swap.ensures.moved));
     }
 
 pub returns : goal.returns

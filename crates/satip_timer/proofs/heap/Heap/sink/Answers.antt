@@ -14,7 +14,9 @@ loop-child-preserved c =
     let less : ranks dues before c.in-Some.child < ranks dues before c.loop-child.at = c.if-not-is_before.ensures.before in
     record {
       within = omega (arith, first.within, c.swap.ensures.count);
-      placed = moved_within dues before after c.loop-child.at c.in-Some.child c.loop-child.invariant.within first.within c.swap.ensures.count c.swap.ensures.moved c.loop-child.invariant.placed;
+      placed = moved_within dues before after c.loop-child.at c.in-Some.child c.loop-child.invariant.within first.within c.swap.ensures.count
+          c.swap.ensures.moved c.loop-child.invariant.placed;
       heap = subst (λ n. IsHeapUnder (ranks dues after) n c.in-Some.child) (sym c.swap.ensures.count)
-          (sunk (ranks dues before) (ranks dues after) before.count c.loop-child.at c.in-Some.child c.loop-child.invariant.heap first less (moved_ranks dues before after _ _ c.swap.ensures.moved));
+          (sunk (ranks dues before) (ranks dues after) before.count c.loop-child.at c.in-Some.child c.loop-child.invariant.heap first less
+          (moved_ranks dues before after _ _ c.swap.ensures.moved));
     }

@@ -6,4 +6,5 @@ pub remove-requires-clause-before : goal.remove-requires-clause-before
 remove-requires-clause-before c =
     let now : c.deref.result.now ≡ set c.self.inside.dues.items c.args.key None = search rules in
     let some : is_some c.index.result.now ≡ true = search rules in
-    was_some c.self.inside.dues.items c.args.key c.index.result.now c.index.ensures (omega (arith, c.requires.key, c.self.invariant.placed.whole)) c.self.inside.heap _ _ now c.self.invariant some
+    was_some c.self.inside.dues.items c.args.key c.index.result.now c.index.ensures (omega (arith, c.requires.key, c.self.invariant.placed.whole))
+    c.self.inside.heap _ _ now c.self.invariant some

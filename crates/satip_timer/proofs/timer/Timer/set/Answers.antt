@@ -11,7 +11,8 @@ pub add-requires-clause-before : goal.add-requires-clause-before
 add-requires-clause-before c =
     let now : c.deref.result.now ≡ set c.self.inside.dues.items c.args.key (Some c.args.due) = search rules in
     let none : is_some c.index.result.now ≡ false = search rules in
-    was_none c.self.inside.dues.items c.args.key c.index.result.now c.index.ensures (omega (arith, c.requires.key, c.self.invariant.placed.whole)) c.self.inside.heap _ _ now c.self.invariant none
+    was_none c.self.inside.dues.items c.args.key c.index.result.now c.index.ensures (omega (arith, c.requires.key, c.self.invariant.placed.whole))
+    c.self.inside.heap _ _ now c.self.invariant none
 
 pub replace-requires-clause-due : goal.replace-requires-clause-due
 replace-requires-clause-due c =
@@ -22,4 +23,5 @@ pub replace-requires-clause-before : goal.replace-requires-clause-before
 replace-requires-clause-before c =
     let now : c.deref-else-is_none.result.now ≡ set c.self.inside.dues.items c.args.key (Some c.args.due) = search rules in
     let some : is_some c.index.result.now ≡ true = search rules in
-    was_some c.self.inside.dues.items c.args.key c.index.result.now c.index.ensures (omega (arith, c.requires.key, c.self.invariant.placed.whole)) c.self.inside.heap _ _ now c.self.invariant some
+    was_some c.self.inside.dues.items c.args.key c.index.result.now c.index.ensures (omega (arith, c.requires.key, c.self.invariant.placed.whole))
+    c.self.inside.heap _ _ now c.self.invariant some

@@ -14,12 +14,14 @@ synced places old s e k view within drops = held-drop places s e k within ∙ dr
 
 pub packet_at_front-requires : goal.packet_at_front-requires
 packet_at_front-requires c =
-    let front = synced c.self.inside.places c.args.self.now c.self.inside.start c.self.inside.end c.bytes_before_sync-skipped.result c.self.view_is (search rules) c.bytes_before_sync-skipped.ensures.sync in
+    let front = synced c.self.inside.places c.args.self.now c.self.inside.start c.self.inside.end c.bytes_before_sync-skipped.result c.self.view_is
+    (search rules) c.bytes_before_sync-skipped.ensures.sync in
     record { synchronized = λ h. subst (λ t. get_or t 0 0 ≡ 71) (sym front) (from_sync-first c.args.self.now (subst (λ t. 0 < length t) front h)) }
 
 pub returns-in_default-clause-held : goal.returns-in_default-clause-held
 returns-in_default-clause-held c =
-    let front = synced c.self.inside.places c.args.self.now c.self.inside.start c.self.inside.end c.bytes_before_sync-skipped.result c.self.view_is (search rules) c.bytes_before_sync-skipped.ensures.sync in
+    let front = synced c.self.inside.places c.args.self.now c.self.inside.start c.self.inside.end c.bytes_before_sync-skipped.result c.self.view_is
+    (search rules) c.bytes_before_sync-skipped.ensures.sync in
     (front, c.in_default.ensures.packet)
 
 pub returns-clause-held : goal.returns-clause-held
@@ -29,7 +31,8 @@ returns-clause-held c =
     let places = c.self.inside.places in
     let held = take (e - s) (drop s places) in
     let found = c.in-Some.ensures.packet in
-    let front = synced places c.args.self.now c.self.inside.start e c.bytes_before_sync-skipped.result c.self.view_is (search rules) c.bytes_before_sync-skipped.ensures.sync in
+    let front = synced places c.args.self.now c.self.inside.start e c.bytes_before_sync-skipped.result c.self.view_is (search rules)
+    c.bytes_before_sync-skipped.ensures.sync in
     let inside : s + 188 ≤ e = omega (arith, found.1, length-take (e - s) (drop s places)) in (
       ap (λ p. p ++ take (e - (s + 188)) (drop (s + 188) places)) found.0
           ∙ ap (λ rest. take 188 held ++ rest) (held-drop places s e 188 inside)

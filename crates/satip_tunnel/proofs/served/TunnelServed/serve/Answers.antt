@@ -4,4 +4,5 @@ use Rattle.satip_tunnel.proofs.served.TunnelServed.serve.Goals as goal
 
 pub returns-clause-stands : goal.returns-clause-stands
 returns-clause-stands c h n stands =
-    stands_more c.args.self.now c.event.new.self h n c.args.event.now c.event.result c.event.new.out c.event.ensures.answered c.event.ensures.lanes c.event.ensures.server stands
+    stands_more c.args.self.now c.event.new.self h n c.args.event.now c.event.result c.event.new.out c.event.ensures.answered c.event.ensures.lanes
+    c.event.ensures.server stands

@@ -16,7 +16,8 @@ returns-in-Inner-clause-lanes c =
 
 pub returns-in-Inner-clause-server : goal.returns-in-Inner-clause-server
 returns-in-Inner-clause-server c =
-    subst (λ (e : TunnelEvent). MatchInner c.args.self.now.server e (InnerAnswer c.inner.result) c.inner.new.out c.inner.new.self.server) (sym c.in-Inner.is) c.inner.ensures.done
+    subst (λ (e : TunnelEvent). MatchInner c.args.self.now.server e (InnerAnswer c.inner.result) c.inner.new.out c.inner.new.self.server) (sym c.in-Inner.is)
+    c.inner.ensures.done
 
 pub returns-in-Enter-clause-answered : goal.returns-in-Enter-clause-answered
 returns-in-Enter-clause-answered c =
