@@ -4,7 +4,8 @@ use Rattle.std.specs.List.{refill}
 use Rattle.std.proofs.lemmas.List.Edits.{map_over_more}
 
 -- one more element of a list is replaced by what f makes of it
-pub map_step : {X : Type 0} (f : X → X) (xs ys : List X) (i : ℕ) (y d : X) → i < length xs → length ys ≡ length xs → ys ≡ map f (take i xs) ++ drop i xs → y ≡ f (get_or ys i d) → set ys i y ≡ map f (take (i + 1) xs) ++ drop (i + 1) xs
+pub map_step : {X : Type 0} (f : X → X) (xs ys : List X) (i : ℕ) (y d : X) → i < length xs → length ys ≡ length xs → ys ≡ map f (take i xs) ++ drop i xs
+    → y ≡ f (get_or ys i d) → set ys i y ≡ map f (take (i + 1) xs) ++ drop (i + 1) xs
 map_step f xs ys i y d below long so_far made =
     let inside : i < length ys = omega arith in
     ap (λ z. set ys i z) made ∙ map_over_more f xs ys i (get_or ys i d) below so_far (get_or_default ys i d _ inside)

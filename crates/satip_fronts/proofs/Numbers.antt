@@ -1,5 +1,6 @@
 -- Rows and front ends have the same numbers.
-use Rattle.std.proofs.Common.{◌≡◌, ◌∙◌, ℕ, ◌+◌, ◌<◌, ◌≤◌, ◌==◌, ◌||◌, nat_lt, Bool, true, false, cond, List, [], ◌∷◌, None, Some, find, position, is_some, map, length, suc, refl, sym, ap, arith}
+use Rattle.std.proofs.Common.{◌≡◌, ◌∙◌, ℕ, ◌+◌, ◌<◌, ◌≤◌, ◌==◌, ◌||◌, nat_lt, Bool, true, false, cond, List, [], ◌∷◌, None, Some, find, position, is_some}
+use Rattle.std.proofs.Common.{map, length, suc, refl, sym, ap, arith}
 use Rattle.std.specs.List.{list_any, position_or_len}
 use Rattle.std.specs.Option.{option_map}
 use Rattle.std.proofs.lemmas.Bool.{ltb-true, le-leb, and_from, eqb-true, true≢false}
@@ -18,7 +19,8 @@ abbrev pub front_numbers : List Front → List ℕ
 front_numbers fronts = map (λ (front : Front). front.number) fronts
 
 -- a front end has a row exactly where it is there
-pub row_known : (number : ℕ) (rows : List FrontRow) (fronts : List Front) → row_numbers rows ≡ front_numbers fronts → is_some (find (is_row number) rows) ≡ list_any (is_front number) fronts
+pub row_known : (number : ℕ) (rows : List FrontRow) (fronts : List Front) → row_numbers rows ≡ front_numbers fronts
+    → is_some (find (is_row number) rows) ≡ list_any (is_front number) fronts
 row_known number [] [] same = refl
 row_known number [] (front ∷ fronts) same = cc
 row_known number (row ∷ rows) [] same = cc
@@ -27,7 +29,8 @@ row_known number (row ∷ rows) (front ∷ fronts) same =
     let tail : row_numbers rows ≡ front_numbers fronts = cc in
     each (row.number == number) (row_known number rows fronts tail) ∙ ap (λ n. (n == number) || list_any (is_front number) fronts) head
   where
-    each : (b : Bool) → is_some (find (is_row number) rows) ≡ list_any (is_front number) fronts → is_some (cond b (Some row) (find (is_row number) rows)) ≡ (b || list_any (is_front number) fronts)
+    each : (b : Bool) → is_some (find (is_row number) rows) ≡ list_any (is_front number) fronts
+        → is_some (cond b (Some row) (find (is_row number) rows)) ≡ (b || list_any (is_front number) fronts)
     each true rest = refl
     each false rest = rest
 
@@ -35,7 +38,8 @@ row_known number (row ∷ rows) (front ∷ fronts) same =
 pub is_mux-position : {X : Type 0} (p : X → Bool) (xs : List X) → is_mux (length xs) (option_map (λ place. place + 1) (position p xs)) ≡ true
 is_mux-position p xs = each (nat_lt (position_or_len p xs) (length xs)) refl
   where
-    each : (b : Bool) → nat_lt (position_or_len p xs) (length xs) ≡ b → is_mux (length xs) (option_map (λ place. place + 1) (cond b (Some (position_or_len p xs)) None)) ≡ true
+    each : (b : Bool) → nat_lt (position_or_len p xs) (length xs) ≡ b
+        → is_mux (length xs) (option_map (λ place. place + 1) (cond b (Some (position_or_len p xs)) None)) ≡ true
     each false _ = refl
     each true below =
         let inside : position_or_len p xs < length xs = ltb-true _ _ below in

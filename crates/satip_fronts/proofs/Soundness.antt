@@ -1,12 +1,14 @@
 -- What holds of the front ends at all times goes on to hold.
-use Rattle.std.proofs.Common.{◌≡◌, ◌∙◌, ℕ, ◌≤◌, ◌&&◌, ◌-◌, not, is_some, Bool, true, false, cond, List, [], ◌∷◌, Option, None, Some, map, length, replicate, set, refl, ap, sym, length-set, zero, suc}
+use Rattle.std.proofs.Common.{◌≡◌, ◌∙◌, ℕ, ◌≤◌, ◌&&◌, ◌-◌, not, is_some, Bool, true, false, cond, List, [], ◌∷◌, Option, None, Some, map, length, replicate}
+use Rattle.std.proofs.Common.{set, refl, ap, sym, length-set, zero, suc}
 use Rattle.std.specs.List.{list_any, list_all}
 use Rattle.std.proofs.lemmas.Bool.{and_parts, and_from, eqb-true}
 use Rattle.satip_tune.specs.declared.frontends.Front.{Front}
 use Rattle.satip_tune.specs.declared.frontends.Mux.{Mux}
 use Rattle.satip_fronts.specs.declared.rows.FrontRow.{FrontRow}
 use Rattle.satip_fronts.specs.Rows.{is_at, is_row, freed, free_row, tuned_at, tuned_row, ended_at}
-use Rattle.satip_fronts.specs.FrontEnds.{FrontEnds, Sound, IsNumbered, after_choice, all_free, blocked, choice, ended, is_mux, is_place, left, moved, new_row, outlook, placed_at, settled, taken, tuned_rows}
+use Rattle.satip_fronts.specs.FrontEnds.{FrontEnds, Sound, IsNumbered, after_choice, all_free, blocked, choice, ended, is_mux, is_place, left, moved, new_row}
+use Rattle.satip_fronts.specs.FrontEnds.{outlook, placed_at, settled, taken, tuned_rows}
 use Rattle.satip_fronts.specs.Choice.{choose}
 use Rattle.satip_fronts.specs.declared.choice.Place.{Place}
 use Rattle.satip_tune.specs.Frontends.{mux_of}
@@ -47,7 +49,9 @@ sound_new fronts muxes few received numbered = record {
 }
 
 -- front ends with new rows and no places are all free
-pub all_free-made : (fronts : List Front) (muxes : List Mux) (given : List Front) (rows : List FrontRow) (places : List (Option ℕ)) → given ≡ fronts → rows ≡ map new_row given → places ≡ replicate 64 None → ◌≡◌ {A = FrontEnds} (record { fronts = fronts; muxes = muxes; rows = rows; places = places }) (all_free fronts muxes)
+pub all_free-made : (fronts : List Front) (muxes : List Mux) (given : List Front) (rows : List FrontRow) (places : List (Option ℕ)) → given ≡ fronts
+    → rows ≡ map new_row given → places ≡ replicate 64 None
+    → ◌≡◌ {A = FrontEnds} (record { fronts = fronts; muxes = muxes; rows = rows; places = places }) (all_free fronts muxes)
 unfolding all_free
 all_free-made fronts muxes given rows places same new none =
     ap (λ r. record { fronts = fronts; muxes = muxes; rows = r; places = places }) (new ∙ ap (map new_row) same)
@@ -95,7 +99,8 @@ freed_all_twice places (row ∷ rows) =
     ap (λ r. r ∷ map (freed places) (map (freed places) rows)) (freed_twice places row) ∙ ap (λ rs. freed places row ∷ rs) (freed_all_twice places rows)
 
 -- front ends whose streams are at other places
-pub sound_settled : (v : FrontEnds) (rows : List FrontRow) (places : List (Option ℕ)) → Sound v → row_numbers rows ≡ row_numbers v.rows → HasMux (length v.muxes) rows → length places ≡ 64 → list_all (is_place v.fronts) places ≡ true → Sound (settled (record v { rows = rows }) places)
+pub sound_settled : (v : FrontEnds) (rows : List FrontRow) (places : List (Option ℕ)) → Sound v → row_numbers rows ≡ row_numbers v.rows
+    → HasMux (length v.muxes) rows → length places ≡ 64 → list_all (is_place v.fronts) places ≡ true → Sound (settled (record v { rows = rows }) places)
 unfolding settled
 sound_settled v rows places sound numbers muxes long known = record {
   few = sound.few;
@@ -109,7 +114,8 @@ sound_settled v rows places sound numbers muxes long known = record {
 }
 
 -- one place is written
-pub all_places : (p : Option ℕ → Bool) (places : List (Option ℕ)) (at : ℕ) (place : Option ℕ) → list_all p places ≡ true → p place ≡ true → list_all p (set places at place) ≡ true
+pub all_places : (p : Option ℕ → Bool) (places : List (Option ℕ)) (at : ℕ) (place : Option ℕ) → list_all p places ≡ true → p place ≡ true
+    → list_all p (set places at place) ≡ true
 all_places p [] at place all one = refl
 all_places p (other ∷ places) zero place all one = let parts = and_parts _ _ all in and_from _ _ one parts.1
 all_places p (other ∷ places) (suc at) place all one = let parts = and_parts _ _ all in and_from _ _ parts.0 (all_places p places at place parts.1 one)
@@ -123,7 +129,8 @@ tuned_number front mux row = each (is_row front row)
     each true = refl
     each false = refl
 
-tuned_mux : (count front : ℕ) (mux : Option ℕ) (row : FrontRow) → is_mux count mux ≡ true → is_mux count row.mux ≡ true → is_mux count (tuned_at front mux row).mux ≡ true
+tuned_mux : (count front : ℕ) (mux : Option ℕ) (row : FrontRow) → is_mux count mux ≡ true → is_mux count row.mux ≡ true
+    → is_mux count (tuned_at front mux row).mux ≡ true
 unfolding tuned_at tuned_row
 tuned_mux count front mux row new old = each (is_row front row)
   where
@@ -136,7 +143,8 @@ tuned_numbers front mux [] = refl
 tuned_numbers front mux (row ∷ rows) =
     ap (λ n. n ∷ row_numbers (map (tuned_at front mux) rows)) (tuned_number front mux row) ∙ ap (λ ns. row.number ∷ ns) (tuned_numbers front mux rows)
 
-pub tuned_muxes : (count front : ℕ) (mux : Option ℕ) (rows : List FrontRow) → is_mux count mux ≡ true → HasMux count rows → HasMux count (map (tuned_at front mux) rows)
+pub tuned_muxes : (count front : ℕ) (mux : Option ℕ) (rows : List FrontRow) → is_mux count mux ≡ true → HasMux count rows
+    → HasMux count (map (tuned_at front mux) rows)
 tuned_muxes count front mux [] new has = refl
 tuned_muxes count front mux (row ∷ rows) new has =
     let parts = and_parts _ _ has in
@@ -151,7 +159,8 @@ tuned_place_numbers place mux rows = each place.anew
     each true = tuned_numbers place.front mux rows
     each false = refl
 
-tuned_place_muxes : (count : ℕ) (place : Place) (mux : Option ℕ) (rows : List FrontRow) → is_mux count mux ≡ true → HasMux count rows → HasMux count (tuned_rows place mux rows)
+tuned_place_muxes : (count : ℕ) (place : Place) (mux : Option ℕ) (rows : List FrontRow) → is_mux count mux ≡ true → HasMux count rows
+    → HasMux count (tuned_rows place mux rows)
 unfolding tuned_rows
 tuned_place_muxes count place mux rows new has = each place.anew
   where
@@ -159,7 +168,8 @@ tuned_place_muxes count place mux rows new has = each place.anew
     each true = tuned_muxes count place.front mux rows new has
     each false = has
 
-pub sound_moved : (v : FrontEnds) (stream : ℕ) (tuning : Tuning) (place : Place) → Sound v → choice v stream tuning ≡ Some place → Sound (moved v stream tuning place)
+pub sound_moved : (v : FrontEnds) (stream : ℕ) (tuning : Tuning) (place : Place) → Sound v → choice v stream tuning ≡ Some place
+    → Sound (moved v stream tuning place)
 unfolding moved choice outlook
 sound_moved v stream tuning place sound chosen =
     let mux = mux_of v.muxes tuning in
@@ -171,29 +181,34 @@ sound_moved v stream tuning place sound chosen =
     (all_places (is_place v.fronts) v.places (stream - 1) (Some place.front) sound.places known)
 
 -- what was chosen, where the multiplexes were read from the stored fields
-pub choice_is : (stored v : FrontEnds) (stream : ℕ) (tuning : Tuning) (read : List Mux) (mux : Option ℕ) (place : Option Place) → stored ≡ v → read ≡ stored.muxes → mux ≡ mux_of read tuning → place ≡ choose (outlook v stream) mux tuning → choice v stream tuning ≡ place
+pub choice_is : (stored v : FrontEnds) (stream : ℕ) (tuning : Tuning) (read : List Mux) (mux : Option ℕ) (place : Option Place) → stored ≡ v
+    → read ≡ stored.muxes → mux ≡ mux_of read tuning → place ≡ choose (outlook v stream) mux tuning → choice v stream tuning ≡ place
 unfolding choice
 choice_is stored v stream tuning read mux place same muxes wanted chosen =
     ap (λ ms. choose (outlook v stream) (mux_of ms tuning) tuning) (ap (λ (w : FrontEnds). w.muxes) (sym same) ∙ sym muxes)
     ∙ ap (λ m. choose (outlook v stream) m tuning) (sym wanted) ∙ sym chosen
 
 -- none is chosen exactly where none is to be had
-pub some_unless_blocked : (v : FrontEnds) (stream : ℕ) (tuning : Tuning) (place : Option Place) → choice v stream tuning ≡ place → is_some place ≡ not (blocked v stream tuning)
+pub some_unless_blocked : (v : FrontEnds) (stream : ℕ) (tuning : Tuning) (place : Option Place) → choice v stream tuning ≡ place
+    → is_some place ≡ not (blocked v stream tuning)
 unfolding choice blocked
 some_unless_blocked v stream tuning place chosen = ap is_some (sym chosen) ∙ chosen_unless_blocked (outlook v stream) (mux_of v.muxes tuning) tuning
 
 -- the fields once a stream moved
 pub moved_made : (v : FrontEnds) (stream : ℕ) (tuning : Tuning) (place : Place) (mux : Option ℕ) (given new out : List FrontRow) (places : List (Option ℕ)) →
-    mux ≡ mux_of v.muxes tuning → given ≡ v.rows → places ≡ placed_at v.places stream (Some place.front) → new ≡ map (freed places) (tuned_rows place mux given) → out ≡ new →
+    mux ≡ mux_of v.muxes tuning → given ≡ v.rows → places ≡ placed_at v.places stream (Some place.front)
+    → new ≡ map (freed places) (tuned_rows place mux given) → out ≡ new →
     ◌≡◌ {A = FrontEnds} (record v { rows = out; places = places }) (moved v stream tuning place)
 unfolding moved settled
 moved_made v stream tuning place mux given new out places wanted same at changed written =
     let first : out ≡ map (freed places) (tuned_rows place (mux_of v.muxes tuning) v.rows) =
-    written ∙ changed ∙ ap (λ m. map (freed places) (tuned_rows place m given)) wanted ∙ ap (λ rs. map (freed places) (tuned_rows place (mux_of v.muxes tuning) rs)) same in
+    written ∙ changed ∙ ap (λ m. map (freed places) (tuned_rows place m given)) wanted
+    ∙ ap (λ rs. map (freed places) (tuned_rows place (mux_of v.muxes tuning) rs)) same in
     ap (λ (rs : List FrontRow). record v { rows = rs; places = places }) first
     ∙ ap (λ (ps : List (Option ℕ)). record v { rows = map (freed ps) (tuned_rows place (mux_of v.muxes tuning) v.rows); places = ps }) at
 
-pub taken_some : (v : FrontEnds) (stream : ℕ) (tuning : Tuning) (place : Place) → choice v stream tuning ≡ Some place → moved v stream tuning place ≡ taken v stream tuning
+pub taken_some : (v : FrontEnds) (stream : ℕ) (tuning : Tuning) (place : Place) → choice v stream tuning ≡ Some place
+    → moved v stream tuning place ≡ taken v stream tuning
 unfolding taken
 taken_some v stream tuning place chosen = ap (after_choice v stream tuning) (sym chosen)
 
@@ -209,7 +224,8 @@ sound_left v stream sound =
     (length-set v.places (stream - 1) None ∙ sound.streams)
     (all_places (is_place v.fronts) v.places (stream - 1) None sound.places refl)
 
-pub left_made : (v : FrontEnds) (stream : ℕ) (given new out : List FrontRow) → given ≡ v.rows → new ≡ map (freed (placed_at v.places stream None)) given → out ≡ new →
+pub left_made : (v : FrontEnds) (stream : ℕ) (given new out : List FrontRow) → given ≡ v.rows → new ≡ map (freed (placed_at v.places stream None)) given
+    → out ≡ new →
     ◌≡◌ {A = FrontEnds} (record v { rows = out; places = placed_at v.places stream None }) (left v stream)
 unfolding left settled
 left_made v stream given new out same changed written =
@@ -222,7 +238,8 @@ unfolding ended_at
 ended_numbers front [] = refl
 ended_numbers front (row ∷ rows) = each (is_row front row) (ended_numbers front rows)
   where
-    each : (b : Bool) → row_numbers (map (ended_at front) rows) ≡ row_numbers rows → ◌≡◌ {A = List ℕ} ((cond b (record row { ended = true }) row).number ∷ row_numbers (map (ended_at front) rows)) (row.number ∷ row_numbers rows)
+    each : (b : Bool) → row_numbers (map (ended_at front) rows) ≡ row_numbers rows
+        → ◌≡◌ {A = List ℕ} ((cond b (record row { ended = true }) row).number ∷ row_numbers (map (ended_at front) rows)) (row.number ∷ row_numbers rows)
     each true rest = ap (λ ns. row.number ∷ ns) rest
     each false rest = ap (λ ns. row.number ∷ ns) rest
 
@@ -233,11 +250,13 @@ ended_muxes count front (row ∷ rows) has =
     let parts = and_parts _ _ has in
     each (is_row front row) parts.0 (ended_muxes count front rows parts.1)
   where
-    each : (b : Bool) → is_mux count row.mux ≡ true → HasMux count (map (ended_at front) rows) → (is_mux count (cond b (record row { ended = true }) row).mux && list_all (λ (r : FrontRow). is_mux count r.mux) (map (ended_at front) rows)) ≡ true
+    each : (b : Bool) → is_mux count row.mux ≡ true → HasMux count (map (ended_at front) rows)
+        → (is_mux count (cond b (record row { ended = true }) row).mux && list_all (λ (r : FrontRow). is_mux count r.mux) (map (ended_at front) rows)) ≡ true
     each true one rest = and_from _ _ one rest
     each false one rest = and_from _ _ one rest
 
-freed_ended : (places : List (Option ℕ)) (front : ℕ) (row : FrontRow) → list_any (is_at front) places ≡ true → freed places row ≡ row → freed places (ended_at front row) ≡ ended_at front row
+freed_ended : (places : List (Option ℕ)) (front : ℕ) (row : FrontRow) → list_any (is_at front) places ≡ true → freed places row ≡ row
+    → freed places (ended_at front row) ≡ ended_at front row
 unfolding freed ended_at
 freed_ended places front row served free = each (is_row front row) refl
   where
@@ -247,7 +266,8 @@ freed_ended places front row served free = each (is_row front row) refl
         ap (λ b. cond b (record row { ended = true }) (free_row (record row { ended = true }))) (ap (λ n. list_any (is_at n) places) same ∙ served)
     each false elsewhere = free
 
-ended_free : (places : List (Option ℕ)) (front : ℕ) (rows : List FrontRow) → list_any (is_at front) places ≡ true → map (freed places) rows ≡ rows → map (freed places) (map (ended_at front) rows) ≡ map (ended_at front) rows
+ended_free : (places : List (Option ℕ)) (front : ℕ) (rows : List FrontRow) → list_any (is_at front) places ≡ true → map (freed places) rows ≡ rows
+    → map (freed places) (map (ended_at front) rows) ≡ map (ended_at front) rows
 ended_free places front [] served free = refl
 ended_free places front (row ∷ rows) served free =
     let head : freed places row ≡ row = cc in

@@ -1,5 +1,6 @@
 -- What a contract sees of all front ends.
-use Rattle.std.specs.Prelude.{◌≡◌, ℕ, ◌+◌, ◌-◌, ◌≤◌, ◌==◌, ◌&&◌, nat_le, Bool, true, false, if◌then◌else◌, List, [], ◌∷◌, Option, None, Some, length, map, find, slice_get, slice_set, count_by, replicate}
+use Rattle.std.specs.Prelude.{◌≡◌, ℕ, ◌+◌, ◌-◌, ◌≤◌, ◌==◌, ◌&&◌, nat_le, Bool, true, false, if◌then◌else◌, List, [], ◌∷◌, Option, None, Some, length, map}
+use Rattle.std.specs.Prelude.{find, slice_get, slice_set, count_by, replicate}
 use Rattle.std.specs.List.{list_any, list_all}
 use Rattle.std.specs.Option.{option_map, option_flatten, option_and_then}
 use Rattle.satip_tune.specs.Frontends.{mux_of}

@@ -1,5 +1,6 @@
 -- Lists and tests of them.
-use Rattle.std.proofs.Common.{◌≡◌, ◌∙◌, ◌<◌, ◌≤◌, ◌&&◌, ◌||◌, not, Bool, true, false, cond, List, [], ◌∷◌, length, map, filter, refl, ap, sym, arith, find, is_some, Option, None, Some}
+use Rattle.std.proofs.Common.{◌≡◌, ◌∙◌, ◌<◌, ◌≤◌, ◌&&◌, ◌||◌, not, Bool, true, false, cond, List, [], ◌∷◌, length, map, filter, refl, ap, sym, arith, find}
+use Rattle.std.proofs.Common.{is_some, Option, None, Some}
 use Rattle.std.specs.List.{list_any, list_all}
 use Rattle.std.specs.Option.{option_map}
 use Rattle.std.proofs.lemmas.Bool.{and_parts, and_from, or_parts, true≢false}
@@ -55,7 +56,8 @@ module _ {X : Type 0} where
   length-filter-lt p [] some = cc
   length-filter-lt p (x ∷ xs) some = each (p x) some (length-filter-lt p xs) (length-filter-le (λ y. not (p y)) xs)
     where
-      each : (b : Bool) → (b || list_any p xs) ≡ true → (list_any p xs ≡ true → length (filter (λ y. not (p y)) xs) < length xs) → length (filter (λ y. not (p y)) xs) ≤ length xs
+      each : (b : Bool) → (b || list_any p xs) ≡ true → (list_any p xs ≡ true → length (filter (λ y. not (p y)) xs) < length xs)
+          → length (filter (λ y. not (p y)) xs) ≤ length xs
           → length (cond (not b) (x ∷ filter (λ y. not (p y)) xs) (filter (λ y. not (p y)) xs)) < length (x ∷ xs)
       each true _ rest le = omega arith
       each false some rest le = let lt = rest some in omega (arith, lt)
@@ -110,7 +112,8 @@ module _ {X : Type 0} where
       each false rest = rest
 
 -- a result that stands for what is found is there exactly where one passes
-pub found_lives : {X Y Z : Type 0} (p : X → Bool) (xs : List X) (f : X → Z) (g : Y → Z) (r : Option Y) → option_map g r ≡ option_map f (find p xs) → is_some r ≡ list_any p xs
+pub found_lives : {X Y Z : Type 0} (p : X → Bool) (xs : List X) (f : X → Z) (g : Y → Z) (r : Option Y) → option_map g r ≡ option_map f (find p xs)
+    → is_some r ≡ list_any p xs
 found_lives p xs f g r same = sym (some_map g r) ∙ ap is_some same ∙ some_map f (find p xs) ∙ find_any p xs
   where
     some_map : {A B : Type 0} (h : A → B) (o : Option A) → is_some (option_map h o) ≡ is_some o

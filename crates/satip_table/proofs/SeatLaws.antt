@@ -1,5 +1,6 @@
 -- Sessions in order of making, each in its slot.
-use Rattle.std.proofs.Common.{◌≡◌, ◌∙◌, ℕ, ◌+◌, ◌<◌, ◌≤◌, ◌==◌, ◌&&◌, ◌||◌, Bool, true, false, cond, List, [], ◌∷◌, ◌++◌, zero, suc, Option, None, Some, filter, find, map, IfSome, refl, ap, sym, subst, arith}
+use Rattle.std.proofs.Common.{◌≡◌, ◌∙◌, ℕ, ◌+◌, ◌<◌, ◌≤◌, ◌==◌, ◌&&◌, ◌||◌, Bool, true, false, cond, List, [], ◌∷◌, ◌++◌, zero, suc, Option, None, Some}
+use Rattle.std.proofs.Common.{filter, find, map, IfSome, refl, ap, sym, subst, arith}
 use Rattle.std.specs.List.{list_any, list_all, slice_get}
 use Rattle.std.specs.Option.{option_map}
 use Rattle.std.proofs.lemmas.Bool.{ne_eqb, eq-eqb, or_parts, or_from, or_left, or_right, false≢true}
@@ -11,7 +12,8 @@ use Rattle.satip_table.specs.Living.{CountsRise, SlotsApart}
 use Rattle.satip_table.proofs.Listing.{any-filter}
 
 -- a session with a greater count comes last
-pub counts_more : (above last : ℕ) (seats : List Seat) (seat : Seat) → seat.session.id.count ≡ last + 1 → CountsRise above last seats → CountsRise above (last + 1) (seats ++ seat ∷ [])
+pub counts_more : (above last : ℕ) (seats : List Seat) (seat : Seat) → seat.session.id.count ≡ last + 1 → CountsRise above last seats
+    → CountsRise above (last + 1) (seats ++ seat ∷ [])
 counts_more above last [] seat next rise = (omega arith, omega arith)
 counts_more above last (other ∷ seats) seat next rise = (rise.0, counts_more other.session.id.count last seats seat next rise.1)
 
@@ -29,7 +31,8 @@ counts_filter p above last (seat ∷ seats) rise = each (p seat) (counts_filter 
     each false rest = counts_lower seat.session.id.count above last (filter p seats) (omega (arith, rise.0)) rest
 
 -- a session with a free slot comes last
-pub slots_more : (seats : List Seat) (seat : Seat) → seat.slot < 64 → list_any (has_slot seat.slot) seats ≡ false → SlotsApart seats → SlotsApart (seats ++ seat ∷ [])
+pub slots_more : (seats : List Seat) (seat : Seat) → seat.slot < 64 → list_any (has_slot seat.slot) seats ≡ false → SlotsApart seats
+    → SlotsApart (seats ++ seat ∷ [])
 slots_more [] seat within free apart = (within, refl, tt)
 slots_more (other ∷ seats) seat within free apart =
     let parts = or_parts _ _ free in
@@ -51,24 +54,28 @@ pub owner_kept : (seats more : List Seat) (stream : ℕ) (owner : SessionId) →
 owner_kept [] more stream owner owned = cc
 owner_kept (seat ∷ seats) more stream owner owned = each (is_in stream seat) owned (owner_kept seats more stream owner)
   where
-    each : (b : Bool) → option_map (λ (s : Seat). s.session.id) (cond b (Some seat) (find (is_in stream) seats)) ≡ Some owner → (owner_of seats stream ≡ Some owner → owner_of (seats ++ more) stream ≡ Some owner)
+    each : (b : Bool) → option_map (λ (s : Seat). s.session.id) (cond b (Some seat) (find (is_in stream) seats)) ≡ Some owner
+        → (owner_of seats stream ≡ Some owner → owner_of (seats ++ more) stream ≡ Some owner)
         → option_map (λ (s : Seat). s.session.id) (cond b (Some seat) (find (is_in stream) (seats ++ more))) ≡ Some owner
     each true here rest = here
     each false later rest = rest later
 
 -- the first session of a stream is its owner
-pub owner_new : (seats : List Seat) (seat : Seat) (stream : ℕ) → list_any (is_in stream) seats ≡ false → seat.session.stream ≡ stream → owner_of (seats ++ seat ∷ []) stream ≡ Some seat.session.id
+pub owner_new : (seats : List Seat) (seat : Seat) (stream : ℕ) → list_any (is_in stream) seats ≡ false → seat.session.stream ≡ stream
+    → owner_of (seats ++ seat ∷ []) stream ≡ Some seat.session.id
 owner_new [] seat stream none at = ap (λ b. option_map (λ (s : Seat). s.session.id) (cond b (Some seat) None)) (eq-eqb seat.session.stream stream at)
 owner_new (other ∷ seats) seat stream none at =
     let parts = or_parts _ _ none in
-    ap (λ b. option_map (λ (s : Seat). s.session.id) (cond b (Some other) (find (is_in stream) (seats ++ seat ∷ [])))) parts.0 ∙ owner_new seats seat stream parts.1 at
+    ap (λ b. option_map (λ (s : Seat). s.session.id) (cond b (Some other) (find (is_in stream) (seats ++ seat ∷ [])))) parts.0
+    ∙ owner_new seats seat stream parts.1 at
 
 -- a stream has an owner exactly where it has a session
 pub owner_some : (seats : List Seat) (stream : ℕ) → list_any (is_in stream) seats ≡ true → (owner : SessionId) × (owner_of seats stream ≡ Some owner)
 owner_some [] stream some = cc
 owner_some (seat ∷ seats) stream some = each (is_in stream seat) some (owner_some seats stream)
   where
-    each : (b : Bool) → (b || list_any (is_in stream) seats) ≡ true → (list_any (is_in stream) seats ≡ true → (owner : SessionId) × (owner_of seats stream ≡ Some owner))
+    each : (b : Bool) → (b || list_any (is_in stream) seats) ≡ true
+        → (list_any (is_in stream) seats ≡ true → (owner : SessionId) × (owner_of seats stream ≡ Some owner))
         → (owner : SessionId) × (option_map (λ (s : Seat). s.session.id) (cond b (Some seat) (find (is_in stream) seats)) ≡ Some owner)
     each true _ rest = (seat.session.id, refl)
     each false later rest = rest later
@@ -77,15 +84,18 @@ pub some_owner : (seats : List Seat) (stream : ℕ) (owner : SessionId) → owne
 some_owner [] stream owner owned = cc
 some_owner (seat ∷ seats) stream owner owned = each (is_in stream seat) owned (some_owner seats stream owner)
   where
-    each : (b : Bool) → option_map (λ (s : Seat). s.session.id) (cond b (Some seat) (find (is_in stream) seats)) ≡ Some owner → (owner_of seats stream ≡ Some owner → list_any (is_in stream) seats ≡ true) → (b || list_any (is_in stream) seats) ≡ true
+    each : (b : Bool) → option_map (λ (s : Seat). s.session.id) (cond b (Some seat) (find (is_in stream) seats)) ≡ Some owner
+        → (owner_of seats stream ≡ Some owner → list_any (is_in stream) seats ≡ true) → (b || list_any (is_in stream) seats) ≡ true
     each true _ rest = refl
     each false later rest = rest later
 
 -- each session's stream has a session
-pub each_in : (seats all : List Seat) → ((stream : ℕ) → list_any (is_in stream) seats ≡ true → list_any (is_in stream) all ≡ true) → list_all (λ (seat : Seat). list_any (is_in seat.session.stream) all) seats ≡ true
+pub each_in : (seats all : List Seat) → ((stream : ℕ) → list_any (is_in stream) seats ≡ true → list_any (is_in stream) all ≡ true)
+    → list_all (λ (seat : Seat). list_any (is_in seat.session.stream) all) seats ≡ true
 each_in [] all among = refl
 each_in (seat ∷ seats) all among =
-    ap (λ b. b && list_all (λ (s : Seat). list_any (is_in s.session.stream) all) seats) (among seat.session.stream (or_left _ _ (eq-eqb seat.session.stream seat.session.stream refl)))
+    ap (λ b. b && list_all (λ (s : Seat). list_any (is_in s.session.stream) all) seats)
+    (among seat.session.stream (or_left _ _ (eq-eqb seat.session.stream seat.session.stream refl)))
     ∙ each_in seats all (λ stream some. among stream (or_right _ _ some))
 
 -- what a change of sessions keeps
@@ -107,8 +117,12 @@ slot_map g keeps slot (seat ∷ seats) =
 
 pub slots_map : (g : Seat → Seat) → Keeps g → (seats : List Seat) → SlotsApart seats → SlotsApart (map g seats)
 slots_map g keeps [] apart = tt
-slots_map g keeps (seat ∷ seats) apart =
-    (omega (arith, apart.0, keeps.slot seat), ap (λ n. list_any (has_slot n) (map g seats)) (keeps.slot seat) ∙ slot_map g keeps seat.slot seats ∙ apart.1, slots_map g keeps seats apart.2)
+slots_map g keeps (seat ∷ seats) apart = (
+  omega (arith, apart.0, keeps.slot seat),
+  ap (λ n. list_any (has_slot n) (map g seats)) (keeps.slot seat) ∙ slot_map g keeps seat.slot seats
+      ∙ apart.1,
+  slots_map g keeps seats apart.2,
+)
 
 pub owner_map : (g : Seat → Seat) → Keeps g → (stream : ℕ) (seats : List Seat) → owner_of (map g seats) stream ≡ owner_of seats stream
 owner_map g keeps stream [] = refl
@@ -117,21 +131,25 @@ owner_map g keeps stream (seat ∷ seats) =
     ∙ each (is_in stream seat) (owner_map g keeps stream seats)
   where
     each : (b : Bool) → owner_of (map g seats) stream ≡ owner_of seats stream
-        → option_map (λ (s : Seat). s.session.id) (cond b (Some (g seat)) (find (is_in stream) (map g seats))) ≡ option_map (λ (s : Seat). s.session.id) (cond b (Some seat) (find (is_in stream) seats))
+        → option_map (λ (s : Seat). s.session.id) (cond b (Some (g seat)) (find (is_in stream) (map g seats))) ≡ option_map (λ (s : Seat). s.session.id)
+        (cond b (Some seat) (find (is_in stream) seats))
     each true rest = ap Some (keeps.id seat)
     each false rest = rest
 
-pub housed_map : (g : Seat → Seat) → Keeps g → (lives : ℕ → Bool) (seats : List Seat) → list_all (λ (seat : Seat). lives seat.session.stream) (map g seats) ≡ list_all (λ (seat : Seat). lives seat.session.stream) seats
+pub housed_map : (g : Seat → Seat) → Keeps g → (lives : ℕ → Bool) (seats : List Seat)
+    → list_all (λ (seat : Seat). lives seat.session.stream) (map g seats) ≡ list_all (λ (seat : Seat). lives seat.session.stream) seats
 housed_map g keeps lives [] = refl
 housed_map g keeps lives (seat ∷ seats) =
-    ap (λ n. lives n && list_all (λ (s : Seat). lives s.session.stream) (map g seats)) (keeps.stream seat) ∙ ap (λ b. lives seat.session.stream && b) (housed_map g keeps lives seats)
+    ap (λ n. lives n && list_all (λ (s : Seat). lives s.session.stream) (map g seats)) (keeps.stream seat)
+    ∙ ap (λ b. lives seat.session.stream && b) (housed_map g keeps lives seats)
 
 -- the slot of a session that is found is below 64
 pub slot_within : (p : Seat → Bool) (seats : List Seat) → SlotsApart seats → IfSome (option_map (λ (seat : Seat). seat.slot) (find p seats)) (λ slot. slot < 64)
 slot_within p [] apart = tt
 slot_within p (seat ∷ seats) apart = each (p seat) (slot_within p seats apart.2)
   where
-    each : (b : Bool) → IfSome (option_map (λ (s : Seat). s.slot) (find p seats)) (λ slot. slot < 64) → IfSome (option_map (λ (s : Seat). s.slot) (cond b (Some seat) (find p seats))) (λ slot. slot < 64)
+    each : (b : Bool) → IfSome (option_map (λ (s : Seat). s.slot) (find p seats)) (λ slot. slot < 64)
+        → IfSome (option_map (λ (s : Seat). s.slot) (cond b (Some seat) (find p seats))) (λ slot. slot < 64)
     each true rest = apart.0
     each false rest = rest
 
@@ -151,7 +169,8 @@ place_within (seat ∷ seats) zero apart = apart.0
 place_within (seat ∷ seats) (suc place) apart = place_within seats place apart.2
 
 -- what is lent of them
-pub lent_within : {X : Type 0} (see : X → Seat) (lent : Option X) {found : Option Seat} → option_map see lent ≡ found → IfSome found (λ (seat : Seat). seat.slot < 64)
+pub lent_within : {X : Type 0} (see : X → Seat) (lent : Option X) {found : Option Seat} → option_map see lent ≡ found
+    → IfSome found (λ (seat : Seat). seat.slot < 64)
     → IfSome lent (λ x. (see x).slot < 64)
 lent_within see None e within = tt
 lent_within see (Some x) e within = subst (λ (o : Option Seat). IfSome o (λ (seat : Seat). seat.slot < 64)) (sym e) within

@@ -9,10 +9,20 @@ use Rattle.satip_fronts.proofs.Soundness.{ended_made, sound_ended}
 use Rattle.satip_fronts.proofs.fronts.Fronts.end.Goals as goal
 
 -- what the fields are once the recording ended
-fields : (c : goal.After-self-1) → front_ends (record { fronts = c.self.inside.fronts; muxes = c.self.inside.muxes; rows = record { items = refill (length c.self.inside.rows.items) c.self.inside.rows.items c.end_front.new.rows }; places = c.self.inside.places; counts = c.self.inside.counts }) ≡ ended c.args.self.now c.args.front
+fields : (c : goal.After-self-1)
+    → front_ends (record {
+      fronts = c.self.inside.fronts;
+      muxes = c.self.inside.muxes;
+      rows =
+          record { items = refill (length c.self.inside.rows.items) c.self.inside.rows.items c.end_front.new.rows };
+      places = c.self.inside.places;
+      counts =
+          c.self.inside.counts;
+    }) ≡ ended c.args.self.now c.args.front
 fields c =
     let long = c.end_front.auto.rows ∙ ap length c.deref_mut.ensures.value in
-    ended_made (front_ends c.self.inside) c.args.front c.deref_mut.result.now c.end_front.new.rows _ c.deref_mut.ensures.value c.end_front.ensures.ended (refill_same c.self.inside.rows.items c.end_front.new.rows long)
+    ended_made (front_ends c.self.inside) c.args.front c.deref_mut.result.now c.end_front.new.rows _ c.deref_mut.ensures.value c.end_front.ensures.ended
+    (refill_same c.self.inside.rows.items c.end_front.new.rows long)
     ∙ ap (λ (v : FrontEnds). ended v c.args.front) c.self.view_is
 
 pub invariant_of-self : goal.invariant_of-self

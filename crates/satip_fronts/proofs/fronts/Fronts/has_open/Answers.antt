@@ -8,13 +8,15 @@ use Rattle.satip_fronts.proofs.fronts.Fronts.has_open.Goals as goal
 pub returns-then-is_open_at : goal.returns-then-is_open_at
 returns-then-is_open_at c =
     let opening = is_open c.args.self.now.rows c.args.mux c.args.others.now c.args.tuning.now in
-    let here = find_here opening c.deref-front-items.result.now c.loop-front.front-index _ c.loop-front-test.true c.loop-front.invariant (sym (c.if-is_open_at.ensures).opening) in
+    let here = find_here opening c.deref-front-items.result.now c.loop-front.front-index _ c.loop-front-test.true c.loop-front.invariant
+    (sym (c.if-is_open_at.ensures).opening) in
     let same = c.deref-front-items.ensures.value ∙ ap (λ (v : FrontEnds). v.fronts) c.self.view_is in
     record { found = ap is_some (here ∙ ap (λ (fronts : List Front). find opening fronts) same) }
 
 pub loop-front-preserved : goal.loop-front-preserved
 loop-front-preserved c =
-    find_further (is_open c.args.self.now.rows c.args.mux c.args.others.now c.args.tuning.now) c.deref-front-items.result.now c.loop-front.front-index _ c.loop-front-test.true c.loop-front.invariant (sym (c.if-is_open_at.ensures).opening)
+    find_further (is_open c.args.self.now.rows c.args.mux c.args.others.now c.args.tuning.now) c.deref-front-items.result.now c.loop-front.front-index _
+    c.loop-front-test.true c.loop-front.invariant (sym (c.if-is_open_at.ensures).opening)
 
 pub returns : goal.returns
 returns c =

@@ -9,4 +9,7 @@ pub returns : goal.returns
 returns c =
     let muxes = c.deref.ensures.value ∙ ap (λ (v : FrontEnds). v.muxes) c.self.view_is in
     let wanted = c.mux_of-mux.ensures.found ∙ ap (λ (ms : List Mux). mux_of ms c.args.tuning.now) muxes in
-    record { blocked = blocked_where c.args.self.now c.args.stream c.mux_of-mux.result c.others-others.result c.args.tuning.now c.has_open.result wanted c.others-others.ensures.places c.has_open.ensures.found }
+    record {
+      blocked = blocked_where c.args.self.now c.args.stream c.mux_of-mux.result c.others-others.result c.args.tuning.now c.has_open.result wanted
+          c.others-others.ensures.places c.has_open.ensures.found;
+    }

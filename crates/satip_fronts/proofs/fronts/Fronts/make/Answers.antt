@@ -6,7 +6,8 @@ use Rattle.satip_fronts.proofs.fronts.Fronts.make.Goals as goal
 
 pub invariant_of-result : goal.invariant_of-result
 invariant_of-result c =
-    let made = all_free-made c.args.fronts.items c.args.muxes.items c.deref.result.now c.new_rows-rows.result.items c.no_places-places.result c.deref.ensures.value c.new_rows-rows.ensures.rows c.no_places-places.ensures.places in
+    let made = all_free-made c.args.fronts.items c.args.muxes.items c.deref.result.now c.new_rows-rows.result.items c.no_places-places.result
+    c.deref.ensures.value c.new_rows-rows.ensures.rows c.no_places-places.ensures.places in
     let few : length c.args.fronts.items ≤ 16 = search rules in
     let received : length c.args.muxes.items ≤ 256 = search rules in
     record {
@@ -16,6 +17,7 @@ invariant_of-result c =
 
 pub returns : goal.returns
 returns c = record {
-  free = all_free-made c.args.fronts.items c.args.muxes.items c.deref.result.now c.new_rows-rows.result.items c.no_places-places.result c.deref.ensures.value c.new_rows-rows.ensures.rows c.no_places-places.ensures.places;
+  free = all_free-made c.args.fronts.items c.args.muxes.items c.deref.result.now c.new_rows-rows.result.items c.no_places-places.result c.deref.ensures.value
+      c.new_rows-rows.ensures.rows c.no_places-places.ensures.places;
   sound = (invariant_of-result c).sound;
 }

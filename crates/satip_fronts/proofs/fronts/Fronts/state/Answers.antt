@@ -40,7 +40,8 @@ returns-in-Some-clause-state c =
     let row = c.in-Some.row in
     let rows = ap (λ (rows : List FrontRow). find (is_row c.args.front) rows) c.deref.ensures.0 in
     let found = sym (sym c.in-Some.is ∙ c.row_at.ensures.row ∙ rows) in
-    let w = row_within c.args.front i.rows.items i.fronts.items c.self.invariant.sound.rows c.self.invariant.sound.numbered c.self.invariant.sound.few (ap is_some found) in
+    let w = row_within c.args.front i.rows.items i.fronts.items c.self.invariant.sound.rows c.self.invariant.sound.numbered c.self.invariant.sound.few
+    (ap is_some found) in
     let one : c.args.front - 1 + 1 ≡ c.args.front = omega (arith, w.0) in
     let counted = c.self.invariant.counted (c.args.front - 1) (omega (arith, w.0, w.1)) ∙ ap (λ f. count_by (is_at f) i.places) one in
     let shown : ℕ → FrontState = λ n. record { streams = n; mux = row.mux; tune = row.tune; ended = row.ended } in

@@ -13,18 +13,29 @@ use Rattle.satip_fronts.proofs.fronts.Fronts.take.Goals as goal
 -- what was chosen
 none_chosen : (c : goal.In-None) → choice c.args.self.now c.args.stream c.args.tuning.now ≡ None
 none_chosen c =
-    choice_is (front_ends c.self.inside) c.args.self.now c.args.stream c.args.tuning.now c.deref.result.now c.mux_of-mux.result None c.self.view_is c.deref.ensures.value c.mux_of-mux.ensures.found (c.in-None.ensures).place
+    choice_is (front_ends c.self.inside) c.args.self.now c.args.stream c.args.tuning.now c.deref.result.now c.mux_of-mux.result None c.self.view_is
+    c.deref.ensures.value c.mux_of-mux.ensures.found (c.in-None.ensures).place
 
 place_chosen : (c : goal.After-self-in-Some-1) → choice c.args.self.now c.args.stream c.args.tuning.now ≡ Some c.in-Some.place
 place_chosen c =
-    choice_is (front_ends c.self.inside) c.args.self.now c.args.stream c.args.tuning.now c.deref.result.now c.mux_of-mux.result (Some c.in-Some.place) c.self.view_is c.deref.ensures.value c.mux_of-mux.ensures.found (c.in-Some.ensures).place
+    choice_is (front_ends c.self.inside) c.args.self.now c.args.stream c.args.tuning.now c.deref.result.now c.mux_of-mux.result
+    (Some c.in-Some.place) c.self.view_is c.deref.ensures.value c.mux_of-mux.ensures.found (c.in-Some.ensures).place
 
 -- what the fields are once the stream moved
-fields : (c : goal.After-self-in-Some-1) → front_ends (record { fronts = c.self.inside.fronts; muxes = c.self.inside.muxes; rows = record { items = refill (length c.self.inside.rows.items) c.self.inside.rows.items c.move_stream.new.rows }; places = c.move_stream.new.places; counts = c.count_streams-self-inside.result }) ≡ moved c.args.self.now c.args.stream c.args.tuning.now c.in-Some.place
+fields : (c : goal.After-self-in-Some-1)
+    → front_ends (record {
+      fronts = c.self.inside.fronts;
+      muxes = c.self.inside.muxes;
+      rows =
+          record { items = refill (length c.self.inside.rows.items) c.self.inside.rows.items c.move_stream.new.rows };
+      places = c.move_stream.new.places;
+      counts = c.count_streams-self-inside.result;
+    }) ≡ moved c.args.self.now c.args.stream c.args.tuning.now c.in-Some.place
 fields c =
     let wanted = c.mux_of-mux.ensures.found ∙ ap (λ (muxes : List Mux). mux_of muxes c.args.tuning.now) c.deref.ensures.value in
     let long = c.move_stream.auto.rows ∙ ap length c.deref_mut.ensures.value in
-    moved_made (front_ends c.self.inside) c.args.stream c.args.tuning.now c.in-Some.place c.mux_of-mux.result c.deref_mut.result.now c.move_stream.new.rows _ c.move_stream.new.places
+    moved_made (front_ends c.self.inside) c.args.stream c.args.tuning.now c.in-Some.place c.mux_of-mux.result c.deref_mut.result.now c.move_stream.new.rows _
+    c.move_stream.new.places
     wanted c.deref_mut.ensures.value c.move_stream.ensures.places c.move_stream.ensures.rows (refill_same c.self.inside.rows.items c.move_stream.new.rows long)
     ∙ ap (λ (v : FrontEnds). moved v c.args.stream c.args.tuning.now c.in-Some.place) c.self.view_is
 

@@ -8,7 +8,8 @@ use Rattle.satip_table.proofs.order.Order.free.Goals as goal
 fits : (xs : List ℕ) (number : ℕ) → ((other : ℕ) → other < number → is_there other xs ≡ true) → length xs < 64 → number < 64
 fits xs number all room = omega (arith, le-length_from_below xs number all)
 
-step : (xs : List ℕ) (number : ℕ) → ((other : ℕ) → other < number → is_there other xs ≡ true) → is_there number xs ≡ true → (other : ℕ) → other < number + 1 → is_there other xs ≡ true
+step : (xs : List ℕ) (number : ℕ) → ((other : ℕ) → other < number → is_there other xs ≡ true) → is_there number xs ≡ true → (other : ℕ) → other < number + 1
+    → is_there other xs ≡ true
 step xs number all this other below = each (cases_eq other number)
   where
     each : (other ≡ number) ⊎ (other ≡ number → ⊥) → is_there other xs ≡ true

@@ -12,4 +12,7 @@ returns-then-not-has c =
 pub returns : goal.returns
 returns c =
     let there : is_there c.args.slot c.self.inside.order ≡ true = search rules in
-    record { seat = at_some c.self.inside c.self.invariant c.args.slot there c.index.result.now c.index.ensures ∙ ap (find (has_slot c.args.slot)) c.self.view_is }
+    record {
+      seat = at_some c.self.inside c.self.invariant c.args.slot there c.index.result.now c.index.ensures
+          ∙ ap (find (has_slot c.args.slot)) c.self.view_is;
+    }

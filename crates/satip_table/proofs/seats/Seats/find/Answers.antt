@@ -9,7 +9,8 @@ use Rattle.satip_table.proofs.seats.Seats.find.Goals as goal
 
 pub slot_of-requires-clause-rising : goal.slot_of-requires-clause-rising
 slot_of-requires-clause-rising c =
-    let rise : (last : ℕ) × CountsRise 0 last (seated c.self.inside) = subst (λ (ss : List Seat). (last : ℕ) × CountsRise 0 last ss) (sym c.self.view_is) c.requires.rising in
+    let rise : (last : ℕ) × CountsRise 0 last (seated c.self.inside) =
+    subst (λ (ss : List Seat). (last : ℕ) × CountsRise 0 last ss) (sym c.self.view_is) c.requires.rising in
     subst (λ (items : List Seat). (last : ℕ) × CountsRise 0 last (in_order no_seat items c.as_slice.result.now)) (sym c.deref.ensures.value)
     (subst (λ (order : List ℕ). (last : ℕ) × CountsRise 0 last (in_order no_seat c.self.inside.seats.items order)) (sym c.as_slice.ensures.numbers) rise)
 
@@ -23,5 +24,6 @@ returns c =
     let found : Some (get_or c.self.inside.seats.items c.in-Some.slot no_seat) ≡ find (has_id c.args.id) (seated c.self.inside) = search rules in
     let there : is_there c.in-Some.slot c.self.inside.order ≡ true = search rules in
     let below = c.self.invariant.within c.in-Some.slot there in
-    let read = c.index.ensures ∙ get_or_default c.self.inside.seats.items c.in-Some.slot c.index.result.now no_seat (omega (arith, below, c.self.invariant.long)) in
+    let read = c.index.ensures ∙ get_or_default c.self.inside.seats.items c.in-Some.slot c.index.result.now no_seat
+    (omega (arith, below, c.self.invariant.long)) in
     record { seat = ap Some read ∙ found ∙ ap (find (has_id c.args.id)) c.self.view_is }

@@ -14,5 +14,6 @@ loop-slot-preserved c =
       long = ap length items ∙ length_push old seat ∙ ap (λ n. n + 1) c.loop-slot.invariant.long;
       len = c.push_reserved.ensures.len ∙ ap (λ n. n + 1) c.loop-slot.invariant.len;
       room = omega (arith, c.loop-slot.invariant.room, c.push_reserved.ensures.capacity);
-      slots = λ k below. ap (λ xs. (get_or xs k no_seat).slot) items ∙ slots_push old c.loop-slot.slot seat c.loop-slot.invariant.long refl c.loop-slot.invariant.slots k below;
+      slots = λ k below. ap (λ xs. (get_or xs k no_seat).slot) items
+          ∙ slots_push old c.loop-slot.slot seat c.loop-slot.invariant.long refl c.loop-slot.invariant.slots k below;
     }

@@ -42,12 +42,16 @@ invariant_of-self c =
     let at : c.args.number ≡ gap 1 (numbered c.self.inside) + 1 = c.requires.number ∙ ap (λ ss. gap 1 ss + 1) (sym c.self.view_is) in
     let room : length (numbered c.self.inside) < 64 = subst (λ (ss : List Stream). length ss < 64) (sym c.self.view_is) c.requires.room in
     let here = begins c.self.inside c.self.invariant c.args.number room rise at in
-    let made = fresh_at c.self.inside c.self.invariant c.args.number c.args.owner c.index_mut.result.now c.begin.new.stream here c.index_mut.ensures.value c.begin.ensures.fresh in
-    let named : c.begin.new.stream.number ≡ c.args.number - 1 + 1 = ap (λ (s : Stream). s.number) made ∙ fresh_number c.args.number c.args.owner ∙ sym here.next in
+    let made = fresh_at c.self.inside c.self.invariant c.args.number c.args.owner c.index_mut.result.now c.begin.new.stream here c.index_mut.ensures.value
+    c.begin.ensures.fresh in
+    let named : c.begin.new.stream.number ≡ c.args.number - 1 + 1 = ap (λ (s : Stream). s.number) made ∙ fresh_number c.args.number c.args.owner
+    ∙ sym here.next in
     record {
       long = length-set c.self.inside.streams.items (c.args.number - 1) c.begin.new.stream ∙ c.self.invariant.long;
-      numbers = numbers_set c.self.inside.streams.items (c.args.number - 1) c.begin.new.stream (omega (arith, here.below, c.self.invariant.long)) c.self.invariant.numbers named;
-      within = λ place there. insert_within c.self.inside.order (c.args.number - 1) (c.args.number - 1) here.below c.self.invariant.within place (ap (is_there place) (sym c.insert.ensures.inserted) ∙ there);
+      numbers = numbers_set c.self.inside.streams.items (c.args.number - 1) c.begin.new.stream
+          (omega (arith, here.below, c.self.invariant.long)) c.self.invariant.numbers named;
+      within = λ place there. insert_within c.self.inside.order (c.args.number - 1) (c.args.number - 1) here.below c.self.invariant.within place
+          (ap (is_there place) (sym c.insert.ensures.inserted) ∙ there);
     }
 
 pub returns : goal.returns
@@ -56,7 +60,8 @@ returns c =
     let at : c.args.number ≡ gap 1 (numbered c.self.inside) + 1 = c.requires.number ∙ ap (λ ss. gap 1 ss + 1) (sym c.self.view_is) in
     let room : length (numbered c.self.inside) < 64 = subst (λ (ss : List Stream). length ss < 64) (sym c.self.view_is) c.requires.room in
     let here = begins c.self.inside c.self.invariant c.args.number room rise at in
-    let made = fresh_at c.self.inside c.self.invariant c.args.number c.args.owner c.index_mut.result.now c.begin.new.stream here c.index_mut.ensures.value c.begin.ensures.fresh in
+    let made = fresh_at c.self.inside c.self.invariant c.args.number c.args.owner c.index_mut.result.now c.begin.new.stream here c.index_mut.ensures.value
+    c.begin.ensures.fresh in
     record {
       put = ap (in_order no_stream (set c.self.inside.streams.items (c.args.number - 1) c.begin.new.stream)) c.insert.ensures.inserted
           ∙ begun c.self.inside c.self.invariant c.args.number c.args.owner c.begin.new.stream here rise at made (fresh_number c.args.number c.args.owner)

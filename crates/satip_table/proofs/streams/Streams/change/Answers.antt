@@ -25,5 +25,6 @@ returns-clause-lives c =
 pub returns-clause-changed : goal.returns-clause-changed
 returns-clause-changed c =
     let at = c.in-Some.ensures.some in
-    retuned_at c.self.inside c.self.invariant c.args.tuning c.args.front c.args.pids c.args.number c.in-Some.place at.0 at.1 c.index_mut.result.now c.retune.new.stream c.index_mut.ensures.value c.retune.ensures.tuned
+    retuned_at c.self.inside c.self.invariant c.args.tuning c.args.front c.args.pids c.args.number c.in-Some.place at.0 at.1 c.index_mut.result.now
+    c.retune.new.stream c.index_mut.ensures.value c.retune.ensures.tuned
     ∙ ap (with_stream c.args.number c.args.tuning c.args.front c.args.pids) c.self.view_is

@@ -18,7 +18,8 @@ pub returns : goal.returns
 returns c =
     let at = c.in-Some.ensures.some in
     record {
-      ended = ap (in_order no_stream c.self.inside.streams.items) c.remove.ensures.removed ∙ ended_at c.self.inside c.self.invariant c.args.number c.in-Some.place at.0
+      ended = ap (in_order no_stream c.self.inside.streams.items) c.remove.ensures.removed
+          ∙ ended_at c.self.inside c.self.invariant c.args.number c.in-Some.place at.0
           ∙ ap (filter (λ stream. not (has_number c.args.number stream))) c.self.view_is;
     }
 
@@ -26,5 +27,6 @@ pub invariant_of-self : goal.invariant_of-self
 invariant_of-self c = record {
   long = c.self.invariant.long;
   numbers = c.self.invariant.numbers;
-  within = λ place there. removed_within c.self.inside.order c.in-Some.place c.self.invariant.within place (ap (is_there place) (sym c.remove.ensures.removed) ∙ there);
+  within = λ place there. removed_within c.self.inside.order c.in-Some.place c.self.invariant.within place (ap (is_there place) (sym c.remove.ensures.removed)
+      ∙ there);
 }

@@ -13,4 +13,7 @@ returns-in_default c =
 pub returns : goal.returns
 returns c =
     let at = c.in-Some.ensures.some in
-    record { stream = find_some c.self.inside c.self.invariant c.args.number c.in-Some.place at.0 at.1 c.index.result.now c.index.ensures ∙ ap (find (has_number c.args.number)) c.self.view_is }
+    record {
+      stream = find_some c.self.inside c.self.invariant c.args.number c.in-Some.place at.0 at.1 c.index.result.now c.index.ensures
+          ∙ ap (find (has_number c.args.number)) c.self.view_is;
+    }

@@ -15,4 +15,7 @@ pub returns : goal.returns
 returns c =
     let at : slice_get c.self.inside.order c.args.place ≡ Some c.in-Some.place = search rules in
     let below = c.self.invariant.within c.in-Some.place (there_at c.self.inside.order c.args.place c.in-Some.place at) in
-    record { stream = get_some c.self.inside c.self.invariant c.args.place c.in-Some.place at below c.index.result.now c.index.ensures ∙ ap (λ ss. slice_get ss c.args.place) c.self.view_is }
+    record {
+      stream = get_some c.self.inside c.self.invariant c.args.place c.in-Some.place at below c.index.result.now c.index.ensures
+          ∙ ap (λ ss. slice_get ss c.args.place) c.self.view_is;
+    }

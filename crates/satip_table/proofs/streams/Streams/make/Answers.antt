@@ -14,5 +14,6 @@ loop-place-preserved c =
       long = ap length items ∙ length_push old c.new_stream.result ∙ ap (λ n. n + 1) c.loop-place.invariant.long;
       len = c.push_reserved.ensures.len ∙ ap (λ n. n + 1) c.loop-place.invariant.len;
       room = omega (arith, c.loop-place.invariant.room, c.push_reserved.ensures.capacity);
-      numbers = λ k below. ap (λ xs. (get_or xs k no_stream).number) items ∙ numbers_push old c.loop-place.place c.new_stream.result c.loop-place.invariant.long named c.loop-place.invariant.numbers k below;
+      numbers = λ k below. ap (λ xs. (get_or xs k no_stream).number) items
+          ∙ numbers_push old c.loop-place.place c.new_stream.result c.loop-place.invariant.long named c.loop-place.invariant.numbers k below;
     }

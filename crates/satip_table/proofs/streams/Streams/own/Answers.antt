@@ -15,6 +15,7 @@ pub returns : goal.returns
 returns c =
     let at = c.in-Some.ensures.some in
     record {
-      owned = owned_at c.self.inside c.self.invariant c.args.owner c.args.number c.in-Some.place at.0 at.1 c.index_mut.result.now (record c.index_mut.result.now { owner = c.args.owner }) c.index_mut.ensures.value refl
+      owned = owned_at c.self.inside c.self.invariant c.args.owner c.args.number c.in-Some.place at.0 at.1 c.index_mut.result.now
+          (record c.index_mut.result.now { owner = c.args.owner }) c.index_mut.ensures.value refl
           ∙ ap (map (owned_where c.args.number c.args.owner)) c.self.view_is;
     }

@@ -11,5 +11,6 @@ find-requires c = record { rising = (c.self.inside.made, c.self.invariant.sound.
 
 pub returns-clause-lives : goal.returns-clause-lives
 returns-clause-lives c =
-    let found : option_map (λ (s : Bor Session). s.now) c.map.result ≡ option_map (λ (seat : Seat). seat.session) (find (has_id c.args.id) c.args.self.now.seats) = search rules in
+    let found : option_map (λ (s : Bor Session). s.now) c.map.result ≡ option_map (λ (seat : Seat). seat.session)
+    (find (has_id c.args.id) c.args.self.now.seats) = search rules in
     found_lives (has_id c.args.id) c.args.self.now.seats (λ (seat : Seat). seat.session) (λ (s : Bor Session). s.now) c.map.result found

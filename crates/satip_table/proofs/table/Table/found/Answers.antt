@@ -31,17 +31,21 @@ invariant_of-self c =
     let room : is_full (living c.self.inside) ≡ false = ap is_full c.self.view_is ∙ c.requires.room in
     let stream = fresh c.free_number-number.result c.new_session-session.result.id in
     record {
-      sound = stored_founded (living c.self.inside) c.args.session c.new_session-session.result c.add.result c.free_number-number.result c.add.new.self stream c.begin.new.self c.self.invariant.sound room c.new_session-session.ensures.session c.add.ensures.within c.add.ensures.free c.free_number-number.ensures.number refl c.begin.ensures.put c.add.ensures.last;
+      sound = stored_founded (living c.self.inside) c.args.session c.new_session-session.result c.add.result c.free_number-number.result c.add.new.self stream
+          c.begin.new.self c.self.invariant.sound room c.new_session-session.ensures.session c.add.ensures.within c.add.ensures.free
+          c.free_number-number.ensures.number refl c.begin.ensures.put c.add.ensures.last;
     }
 
 pub returns-clause-id : goal.returns-clause-id
 returns-clause-id c =
-    ap (λ (s : Session). s.id) c.new_session-session.ensures.session ∙ session_id c.self.inside.made c.args.session c.free_number-number.result ∙ ap (λ (v : Living). next_id v.made c.args.session) c.self.view_is
+    ap (λ (s : Session). s.id) c.new_session-session.ensures.session ∙ session_id c.self.inside.made c.args.session c.free_number-number.result
+    ∙ ap (λ (v : Living). next_id v.made c.args.session) c.self.view_is
 
 pub returns-clause-number : goal.returns-clause-number
 returns-clause-number c =
     let room : is_full (living c.self.inside) ≡ false = ap is_full c.self.view_is ∙ c.requires.room in
-    number_least (living c.self.inside) c.free_number-number.result c.self.invariant.sound room c.free_number-number.ensures.number ∙ ap (λ (v : Living). least_number (is_live v.streams)) c.self.view_is
+    number_least (living c.self.inside) c.free_number-number.result c.self.invariant.sound room c.free_number-number.ensures.number
+    ∙ ap (λ (v : Living). least_number (is_live v.streams)) c.self.view_is
 
 pub returns-clause-within : goal.returns-clause-within
 returns-clause-within c =

@@ -26,7 +26,8 @@ invariant_of-self-2 c =
     let was : Some c.in-Some.stream ≡ option_map (λ (seat : Seat). seat.session.stream) (find (has_id c.args.id) c.self.inside.seats) = search rules in
     let first = c.first_member-first.ensures.first ∙ ap (λ ss. owner_of ss c.in-Some.stream) removed in
     let kept : c.hand_on.new.streams ≡ kept_streams c.remove.new.self c.self.inside.streams =
-    c.hand_on.ensures.handed ∙ ap (λ o. handed c.in-Some.stream o c.self.inside.streams) first ∙ handed_on v c.args.id c.in-Some.stream c.self.invariant.sound was
+    c.hand_on.ensures.handed ∙ ap (λ o. handed c.in-Some.stream o c.self.inside.streams) first
+    ∙ handed_on v c.args.id c.in-Some.stream c.self.invariant.sound was
     ∙ ap (λ ss. kept_streams ss c.self.inside.streams) (sym removed) in
     record { sound = stored_left v c.args.id c.remove.new.self c.hand_on.new.streams c.self.invariant.sound removed kept }
 
@@ -37,7 +38,8 @@ returns-clause-streams c =
     let was : Some c.in-Some.stream ≡ option_map (λ (seat : Seat). seat.session.stream) (find (has_id c.args.id) c.self.inside.seats) = search rules in
     let first = c.first_member-first.ensures.first ∙ ap (λ ss. owner_of ss c.in-Some.stream) removed in
     let kept : c.hand_on.new.streams ≡ kept_streams c.remove.new.self c.self.inside.streams =
-    c.hand_on.ensures.handed ∙ ap (λ o. handed c.in-Some.stream o c.self.inside.streams) first ∙ handed_on v c.args.id c.in-Some.stream c.self.invariant.sound was
+    c.hand_on.ensures.handed ∙ ap (λ o. handed c.in-Some.stream o c.self.inside.streams) first
+    ∙ handed_on v c.args.id c.in-Some.stream c.self.invariant.sound was
     ∙ ap (λ ss. kept_streams ss c.self.inside.streams) (sym removed) in
     kept ∙ ap (λ (w : Living). kept_streams c.remove.new.self w.streams) c.self.view_is
 

@@ -8,4 +8,5 @@ pub find-requires : goal.find-requires
 find-requires c = record { rising = (c.self.inside.made, c.self.invariant.sound.counts) }
 
 pub returns-clause-within : goal.returns-clause-within
-returns-clause-within c = lent_within (λ (s : Bor Seat). s.now) c.find.result c.find.ensures.seat (found_within (has_id c.args.id) c.self.inside.seats c.self.invariant.sound.slots)
+returns-clause-within c = lent_within (λ (s : Bor Seat). s.now) c.find.result c.find.ensures.seat
+    (found_within (has_id c.args.id) c.self.inside.seats c.self.invariant.sound.slots)
