@@ -1,2 +1,1 @@
-pub mod PumpLemmas
 pub mod WorkerLemmas

@@ -1,6 +1,6 @@
 use Rattle.std.proofs.Common.{[]}
-use Rattle.satip_job_tests.proofs.WorkerLemmas.{refused_burst, ended_burst}
-use Rattle.satip_job_tests.proofs.worker.script.ScriptedService.burst.Goals as goal
+use Rattle.satip_worker_tests.proofs.WorkerLemmas.{refused_burst, ended_burst}
+use Rattle.satip_worker_tests.proofs.worker.script.ScriptedService.burst.Goals as goal
 
 pub returns-in-Some-clause-bursts : goal.returns-in-Some-clause-bursts
 returns-in-Some-clause-bursts g c =

@@ -1,7 +1,7 @@
 use Rattle.std.proofs.Common.{◌∙◌}
 use Rattle.satip_service.proofs.Bursting.{under_way_more}
-use Rattle.satip_job_tests.proofs.PumpLemmas.{adds_next}
-use Rattle.satip_job_tests.proofs.pump.script.ScriptedService.burst.Goals as goal
+use Rattle.satip_pump_tests.proofs.PumpLemmas.{adds_next}
+use Rattle.satip_pump_tests.proofs.pump.script.ScriptedService.burst.Goals as goal
 
 pub loop-made-preserved : goal.loop-made-preserved
 loop-made-preserved g c =

@@ -3,7 +3,7 @@ ghost use Rattle.std.specs.Prelude.{◌≡◌, ◌≤◌, ◌∷◌, ◌++◌, [
 ghost use Rattle.satip_base.specs.Output.{Wrote, empty};
 ghost use Rattle.satip_history.specs.History.{entry};
 ghost use Rattle.satip_service.specs.Suits.{Suits, closes};
-ghost use Rattle.satip_job_tests.specs.WorkerScripts.{known_of, event_of, out_of, begun, reply_text, test_setting, all_noted, short_notes};
+ghost use Rattle.satip_worker_tests.specs.WorkerScripts.{known_of, event_of, out_of, begun, reply_text, test_setting, all_noted, short_notes};
 
 use satip_base::{Address, Draw, Out, Peer, SessionId};
 use satip_http::HttpRequest;

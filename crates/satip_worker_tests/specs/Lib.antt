@@ -1,2 +1,1 @@
-pub mod PumpScripts
 pub mod WorkerScripts

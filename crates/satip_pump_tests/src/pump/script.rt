@@ -4,7 +4,7 @@ ghost use Rattle.std.proofs.lemmas.Grind.{common_steps};
 ghost use Rattle.std.specs.Prelude.{◌≡◌, ◌∷◌, ◌++◌, [], map, true, false, IsTrue, IfSome, MatchResult, refl};
 ghost use Rattle.satip_history.specs.History.{entry};
 ghost use Rattle.satip_service.specs.Suits.{Suits};
-ghost use Rattle.satip_job_tests.specs.PumpScripts.{known_of, event_of, item_of, out_of, AsksOrTicks, test_setting};
+ghost use Rattle.satip_pump_tests.specs.PumpScripts.{known_of, event_of, item_of, out_of, AsksOrTicks, test_setting};
 
 use satip_base::{Address, Out};
 use satip_plain::{Answer, Beat, Event, Work};

@@ -12,7 +12,7 @@ use Rattle.satip_service.proofs.Growing.{adds_nothing}
 use Rattle.satip_service.specs.declared.fault.ServiceFault.TheVariants.{Want}
 use Rattle.satip_service.specs.Calls.{Made, Bursts}
 use Rattle.satip_service.specs.Suits.{Suits}
-use Rattle.satip_job_tests.specs.WorkerScripts.{known_of, begun, out_of, reply_text}
+use Rattle.satip_worker_tests.specs.WorkerScripts.{known_of, begun, out_of, reply_text}
 
 pub made_next : (h i : List Item) (event : Event) (answer : Answer) (out : Output) → i ≡ h ++ entry 0 event answer out ∷ [] → Suits event answer
     → Made (known_of h) (known_of i) event answer out

@@ -8,7 +8,7 @@ use Rattle.satip_plain.specs.Histories.{Item}
 use Rattle.satip_service.specs.Known.{Adds, AddsNone}
 use Rattle.satip_service.specs.Calls.{Made}
 use Rattle.satip_service.specs.Suits.{Suits}
-use Rattle.satip_job_tests.specs.PumpScripts.{known_of}
+use Rattle.satip_pump_tests.specs.PumpScripts.{known_of}
 
 pub adds_next : (h i : List Item) (e : Item) → i ≡ h ++ e ∷ [] → Adds (known_of h) (known_of i) e
 adds_next h i e is = record {
