@@ -8,8 +8,8 @@ pub const OPTIONS_REPLY: &[u8] = b"RTSP/1.0 200 OK\r\n\
     CSeq: 1\r\n\
     Public: OPTIONS, DESCRIBE, SETUP, PLAY, TEARDOWN\r\n\r\n";
 
-/// A SETUP over UDP, to the client's ports, which founds the first stream at the first multiplex. It
-/// gives a key that the server doesn't know.
+/// A SETUP over UDP, to the client's ports, which founds the first stream at the first multiplex.
+/// It gives a key that the server doesn't know.
 pub const SETUP: &[u8] = b"SETUP rtsp://192.168.1.10/\
     ?src=1&freq=11361.75&pol=h&ro=0.35&msys=dvbs2&mtype=8psk&plts=on&sr=22000&fec=23\
     &pids=0,16,17&x_pmt=100 RTSP/1.0\r\n\
