@@ -3,33 +3,11 @@
 use satip_auditing::{AuditEnd, audit};
 use satip_base::{ReadSource, Source};
 use satip_config::{ConfigFault, ConfigKey, ConfigName};
+use satip_fixtures::texts::CONFIGURATION;
 use satip_memory::{MemorySink, MemorySource};
 use std::alloc::Global;
 use std::io::{Read, repeat};
 use std::test::Fail;
-
-pub(crate) const CONFIG: &[u8] = b"address = \"192.168.1.10\"
-[[frontend]]
-sources = [1]
-systems = [\"dvbs\", \"dvbs2\"]
-[[frontend]]
-sources = [1]
-systems = [\"dvbs\", \"dvbs2\"]
-[[mux]]
-src = 1
-freq = \"11361.75\"
-pol = \"h\"
-msys = \"dvbs2\"
-sr = 22000
-file = \"a.ts\"
-[[mux]]
-src = 1
-freq = \"12402\"
-pol = \"v\"
-msys = \"dvbs\"
-sr = 27500
-file = \"b.ts\"
-";
 
 // The stop, answered `Stopping`, by caller 0 at place 0.
 const STOP: &[u8] = b"start 0\nentry 0 0 080201000000000000\n";
@@ -66,13 +44,13 @@ fn run_over<C: Source, I: Source + Drop>(
 
 // Whether an audit of the text ends well, and writes this.
 fn is_judged(alloc: Global, text: &[u8], line: &[u8]) -> Result<bool, Fail> {
-    let report = run(alloc, CONFIG, text, &[])?;
+    let report = run(alloc, CONFIGURATION.as_bytes(), text, &[])?;
     Ok(report.end == AuditEnd::Done && report.output.sent() == line)
 }
 
 // Whether this line of the text is its first wrong one, and nothing is written.
 fn is_wrong(alloc: Global, text: &[u8], number: u64) -> Result<bool, Fail> {
-    let report = run(alloc, CONFIG, text, &[])?;
+    let report = run(alloc, CONFIGURATION.as_bytes(), text, &[])?;
     Ok(report.end == AuditEnd::Journal(number) && report.output.sent().is_empty())
 }
 
@@ -172,7 +150,7 @@ fn a_wrong_configuration_is_told(rt: HostRuntime) -> Result<(), Fail> {
     let alloc = rt.alloc();
     let mut config = Vec::new(alloc);
     config.extend_from_slice(b"timeout = 5\n")?;
-    config.extend_from_slice(CONFIG)?;
+    config.extend_from_slice(CONFIGURATION.as_bytes())?;
     let report = run(alloc, &config, b"wrong\n", &[])?;
     let fault = ConfigFault::Value(ConfigKey::top(ConfigName::Timeout));
     assert!(rt; report.end == AuditEnd::Configuration(fault));
@@ -183,11 +161,11 @@ fn a_wrong_configuration_is_told(rt: HostRuntime) -> Result<(), Fail> {
 #[test]
 fn a_fault_of_either_source_is_an_input_fault(rt: HostRuntime) -> Result<(), Fail> {
     let alloc = rt.alloc();
-    let mut failing = MemorySource::make(alloc, CONFIG, &[20], &[2])?;
+    let mut failing = MemorySource::make(alloc, CONFIGURATION.as_bytes(), &[20], &[2])?;
     let input = MemorySource::make(alloc, STOP, &[], &[])?;
     let report = run_over(alloc, &mut failing, input, &[])?;
     assert!(rt; report.end == AuditEnd::InputFault);
-    let mut config = MemorySource::make(alloc, CONFIG, &[7, 1], &[])?;
+    let mut config = MemorySource::make(alloc, CONFIGURATION.as_bytes(), &[7, 1], &[])?;
     let input = MemorySource::make(alloc, STOP, &[3], &[2])?;
     let report = run_over(alloc, &mut config, input, &[])?;
     assert!(rt; report.end == AuditEnd::InputFault);
@@ -197,7 +175,7 @@ fn a_fault_of_either_source_is_an_input_fault(rt: HostRuntime) -> Result<(), Fai
 
 #[test]
 fn a_fault_of_the_output_leaves_a_beginning(rt: HostRuntime) -> Result<(), Fail> {
-    let report = run(rt.alloc(), CONFIG, STOP, &[1])?;
+    let report = run(rt.alloc(), CONFIGURATION.as_bytes(), STOP, &[1])?;
     assert!(rt; report.end == AuditEnd::OutputFault);
     assert_eq!(rt; report.output.sent(), b"yes 1".as_slice());
     Ok(())
@@ -206,7 +184,7 @@ fn a_fault_of_the_output_leaves_a_beginning(rt: HostRuntime) -> Result<(), Fail>
 #[test]
 fn an_input_of_one_byte_too_many_is_too_long(rt: HostRuntime) -> Result<(), Fail> {
     let alloc = rt.alloc();
-    let mut config = MemorySource::make(alloc, CONFIG, &[], &[])?;
+    let mut config = MemorySource::make(alloc, CONFIGURATION.as_bytes(), &[], &[])?;
     let input = ReadSource::new(repeat(b'\n').take(67108865));
     let report = run_over(alloc, &mut config, input, &[])?;
     assert!(rt; report.end == AuditEnd::TooLong);

@@ -1,6 +1,6 @@
 //! Journals of which one byte is another.
 
-use crate::audits::{CONFIG, run};
+use crate::audits::run;
 use std::alloc::Global;
 use std::test::Fail;
 
@@ -93,7 +93,7 @@ fn is_yes(alloc: Global, text: &[u8], at: usize, byte: u8) -> Result<bool, Fail>
     if let Some(place) = text.get_mut(at) {
         *place = byte;
     }
-    let report = run(alloc, CONFIG, &text, &[])?;
+    let report = run(alloc, CONFIGURATION.as_bytes(), &text, &[])?;
     Ok(report.output.sent().starts_with(b"yes"))
 }
 

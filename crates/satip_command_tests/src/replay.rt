@@ -6,40 +6,12 @@ ghost use Rattle.satip_replay.specs.Replays.{replayed};
 
 use satip_base::{ReadSource, Source};
 use satip_config::{ConfigFault, ConfigKey, ConfigName};
+use satip_fixtures::texts::{CONFIGURATION, SETUP};
 use satip_memory::{MemorySink, MemorySource};
 use satip_replay::{ReplayEnd, replay};
 use std::alloc::Global;
 use std::io::{Read, repeat};
 use std::test::Fail;
-
-const CONFIG: &[u8] = b"address = \"192.168.1.10\"
-[[frontend]]
-sources = [1]
-systems = [\"dvbs\", \"dvbs2\"]
-[[frontend]]
-sources = [1]
-systems = [\"dvbs\", \"dvbs2\"]
-[[mux]]
-src = 1
-freq = \"11361.75\"
-pol = \"h\"
-msys = \"dvbs2\"
-sr = 22000
-file = \"a.ts\"
-[[mux]]
-src = 1
-freq = \"12402\"
-pol = \"v\"
-msys = \"dvbs\"
-sr = 27500
-file = \"b.ts\"
-";
-
-const SETUP: &[u8] =
-    b"SETUP rtsp://192.168.1.10/?src=1&freq=11361.75&pol=h&ro=0.35&msys=dvbs2&mtype=8psk&plts=on\
-    &sr=22000&fec=23&pids=0,16,17&x_pmt=100 RTSP/1.0\r\n\
-    CSeq: 1\r\n\
-    Transport: RTP/AVP;unicast;client_port=1400-1401\r\n\r\n";
 
 const FOUNDED: &[u8] = b"RTSP/1.0 200 OK\r\n\
     CSeq: 1\r\n\
@@ -147,7 +119,7 @@ impl Row {
 
     // Whether a replay of the script ends well, and prints what it is to print.
     fn is_replayed(&self) -> Result<bool, Fail> {
-        let report = run(self.alloc, CONFIG, &self.script, &[])?;
+        let report = run(self.alloc, CONFIGURATION.as_bytes(), &self.script, &[])?;
         Ok(report.end == ReplayEnd::Done && report.output.sent() == self.printed.as_slice())
     }
 }
@@ -292,7 +264,13 @@ fn is_refused(alloc: Global, parts: &[(&[u8], usize)], fault: ConfigFault) -> Re
 fn a_configuration_is_refused_with_its_fault(rt: HostRuntime) -> Result<(), Fail> {
     let alloc = rt.alloc();
     let fault = ConfigFault::Value(ConfigKey::top(ConfigName::Timeout));
-    assert!(rt; is_refused(alloc, &[(b"timeout = 5\n", 1), (CONFIG, 1)], fault)?);
+    assert!(rt;
+        is_refused(
+            alloc,
+            &[(b"timeout = 5\n", 1), (CONFIGURATION.as_bytes(), 1)],
+            fault
+        )?
+    );
     let fault = ConfigFault::Shape(ConfigKey::top(ConfigName::Address));
     assert!(rt; is_refused(alloc, &[(b"\n", 1048576)], fault)?);
     assert!(rt; is_refused(alloc, &[(b"\n", 1048577)], ConfigFault::Long)?);
@@ -301,10 +279,10 @@ fn a_configuration_is_refused_with_its_fault(rt: HostRuntime) -> Result<(), Fail
 
 #[test]
 fn nothing_is_written_before_the_whole_script_is_checked(rt: HostRuntime) -> Result<(), Fail> {
-    let report = run(rt.alloc(), CONFIG, b"tick 1\ntik 5", &[])?;
+    let report = run(rt.alloc(), CONFIGURATION.as_bytes(), b"tick 1\ntik 5", &[])?;
     assert!(rt; report.end == ReplayEnd::Script(2));
     assert_eq!(rt; report.output.sent(), b"".as_slice());
-    let report = run(rt.alloc(), CONFIG, b"", &[1])?;
+    let report = run(rt.alloc(), CONFIGURATION.as_bytes(), b"", &[1])?;
     assert!(rt; report.end == ReplayEnd::Done);
     Ok(())
 }
@@ -312,11 +290,11 @@ fn nothing_is_written_before_the_whole_script_is_checked(rt: HostRuntime) -> Res
 #[test]
 fn a_fault_of_either_source_is_an_input_fault(rt: HostRuntime) -> Result<(), Fail> {
     let alloc = rt.alloc();
-    let mut failing = MemorySource::make(alloc, CONFIG, &[20], &[2])?;
+    let mut failing = MemorySource::make(alloc, CONFIGURATION.as_bytes(), &[20], &[2])?;
     let input = MemorySource::make(alloc, b"stop\n", &[], &[])?;
     let report = run_over(alloc, &mut failing, input, &[])?;
     assert!(rt; report.end == ReplayEnd::InputFault);
-    let mut config = MemorySource::make(alloc, CONFIG, &[7, 1], &[])?;
+    let mut config = MemorySource::make(alloc, CONFIGURATION.as_bytes(), &[7, 1], &[])?;
     let input = MemorySource::make(alloc, b"stop\n", &[3], &[2])?;
     let report = run_over(alloc, &mut config, input, &[])?;
     assert!(rt; report.end == ReplayEnd::InputFault);
@@ -332,7 +310,7 @@ fn a_fault_of_the_output_leaves_a_beginning(rt: HostRuntime) -> Result<(), Fail>
         row.line(b"ask 1\n", b"nothing\n")?;
     }
     assert!(rt; row.is_replayed()?);
-    let report = run(alloc, CONFIG, &row.script, &[2])?;
+    let report = run(alloc, CONFIGURATION.as_bytes(), &row.script, &[2])?;
     assert!(rt; report.end == ReplayEnd::OutputFault);
     assert_eq!(rt; report.output.sent().len(), 65541);
     assert!(rt; row.printed.starts_with(report.output.sent()));
@@ -342,7 +320,7 @@ fn a_fault_of_the_output_leaves_a_beginning(rt: HostRuntime) -> Result<(), Fail>
 #[test]
 fn an_input_of_one_byte_too_many_is_too_long(rt: HostRuntime) -> Result<(), Fail> {
     let alloc = rt.alloc();
-    let mut config = MemorySource::make(alloc, CONFIG, &[], &[])?;
+    let mut config = MemorySource::make(alloc, CONFIGURATION.as_bytes(), &[], &[])?;
     let input = ReadSource::new(repeat(b'#').take(67108865));
     let report = run_over(alloc, &mut config, input, &[])?;
     assert!(rt; report.end == ReplayEnd::TooLong);

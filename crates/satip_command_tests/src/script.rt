@@ -14,6 +14,8 @@ ghost use Rattle.satip_script.specs.Printed.{entry_text, datagram_line};
 
 use satip_base::{Address, Draw, Out, Peer, Ports, SessionId};
 use satip_digits::read_packet;
+use satip_fixtures::texts::{OPTIONS, SETUP};
+use satip_fixtures::{CLIENT, DRAW};
 use satip_frame::{Break, Framer};
 use satip_http::{HttpRefusal, HttpRequest};
 use satip_plain::{Answer, Beat, Closed, Event, GetAnswer, Pulled, Replied, Work};
@@ -80,14 +82,6 @@ fn answers_are_printed()
       bytes = 128 ∷ 200 ∷ [];
     }) ≡ codes "datagram 192.168.1.20:1401 80c8\n" }
 {}
-
-const OPTIONS: &[u8] = b"OPTIONS * RTSP/1.0\r\nCSeq: 1\r\n\r\n";
-
-const SETUP: &[u8] =
-    b"SETUP rtsp://192.168.1.10/?src=1&freq=11361.75&pol=h&ro=0.35&msys=dvbs2&mtype=8psk&plts=on\
-    &sr=22000&fec=23&pids=0,16,17&x_pmt=100 RTSP/1.0\r\n\
-    CSeq: 1\r\n\
-    Transport: RTP/AVP;unicast;client_port=1400-1401\r\n\r\n";
 
 const GET: &[u8] =
     b"GET /?src=1&freq=12402&pol=v&msys=dvbs&sr=27500&fec=34&pids=all HTTP/1.1\r\n\r\n";
@@ -322,14 +316,6 @@ enum Read {
     Broken,
     TooLong,
 }
-
-const CLIENT: Peer = Peer { ip: 0xc0a8_0114 };
-
-const DRAW: Draw = Draw {
-    word: 10,
-    ssrc: 0x1122_3344,
-    first: 65535,
-};
 
 fn kind_of(refusal: &Option<Refusal>) -> Read {
     match refusal {

@@ -2,6 +2,7 @@
 
 use satip_base::Text;
 use satip_config::Config;
+use satip_fixtures::config_with;
 use satip_kits::{KitsFault, RealKits, Settings, real_kits};
 use satip_real::{RealDoors, RealOutlet};
 use satip_recordings::RealPacer;
@@ -13,18 +14,15 @@ use std::sync::Wait;
 use std::test::Fail;
 use std::thread;
 
-// A configuration with one front end and no names of recordings.
-fn config(alloc: Global) -> Config {
-    Config {
+// A configuration for loopback, without front ends, whose ports are free ones.
+fn config(alloc: Global) -> Result<Config, Fail> {
+    Ok(Config {
         address: 0x7f00_0001,
         rtsp_port: 0,
         http_port: 0,
-        timeout: 60,
         workers: 2,
-        fronts: Vec::new(alloc),
-        muxes: Vec::new(alloc),
-        files: Vec::new(alloc),
-    }
+        ..config_with(alloc, 0, &[])?
+    })
 }
 
 // What stands in place of the kits.
@@ -35,7 +33,7 @@ fn fault<R: Wait + Copy + Drop>(host: HostRuntime, rt: R, config: &Config) -> Op
 #[test]
 fn a_missing_recording_is_named(rt: HostRuntime) -> Result<(), Fail> {
     let alloc = rt.alloc();
-    let mut config = config(alloc);
+    let mut config = config(alloc)?;
     assert!(rt; fault(rt, rt, &config).is_none());
     config.files.push(Text::of(alloc, "no/such/recording.ts")?)?;
     let Some(fault) = fault(rt, rt, &config) else {
@@ -52,7 +50,7 @@ fn a_missing_recording_is_named(rt: HostRuntime) -> Result<(), Fail> {
 fn a_directory_and_a_device_are_no_recordings(rt: HostRuntime) -> Result<(), Fail> {
     let alloc = rt.alloc();
     for name in ["/", "/dev/null"] {
-        let mut config = config(alloc);
+        let mut config = config(alloc)?;
         config.files.push(Text::of(alloc, name)?)?;
         let Some(fault) = fault(rt, rt, &config) else {
             return Err(Fail::from("kits"));
@@ -120,7 +118,7 @@ fn settings_have_one_value_each(rt: HostRuntime) {
 
 #[test]
 fn a_port_in_use_is_named(rt: HostRuntime) -> Result<(), Fail> {
-    let mut config = config(rt.alloc());
+    let mut config = config(rt.alloc())?;
     config.address = 0xc000_0201;
     assert!(rt; matches!(fault(rt, rt, &config), Some(KitsFault::RtspPort(_))));
     Ok(())
@@ -139,7 +137,7 @@ fn turn_all<R: Wait + Drop>(workers: Vec<WorkerKit<RealDoors, RealOutlet<R>, Rea
 
 #[test]
 fn kits_go_to_other_threads(rt: HostRuntime) -> Result<(), Fail> {
-    let Ok(kits) = real_kits(rt, rt, &config(rt.alloc()), 1) else {
+    let Ok(kits) = real_kits(rt, rt, &config(rt.alloc())?, 1) else {
         return Err(Fail::from("no kits"));
     };
     let RealKits {

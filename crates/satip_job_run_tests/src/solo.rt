@@ -4,13 +4,12 @@ ghost use Rattle.satip_core.specs.Serving.{StandsAfter};
 ghost use Rattle.satip_solo.specs.Log.{Before, is_at};
 
 use satip_base::Out;
-use satip_config::Config;
 use satip_core::Server;
+use satip_fixtures::config_with;
 use satip_history::Entry;
 use satip_plain::{Answer, Beat, Event, Work};
 use satip_service::Service;
 use satip_solo::Solo;
-use satip_tune::Front;
 use std::alloc::Global;
 use std::process::Abort;
 use std::test::Fail;
@@ -29,22 +28,7 @@ fn rows_of_stops(n: u64)
 fn server(alloc: Global) -> Result<Server, Fail>
     ensures history { IfOk result (λ server. StandsAfter server []) }
 {
-    let mut fronts = Vec::new(alloc);
-    fronts.push(Front {
-        number: 1,
-        sources: [true; 256],
-        systems: [true, true],
-    })?;
-    let config = Config {
-        address: 3232235786,
-        rtsp_port: 554,
-        http_port: 8875,
-        timeout: 60,
-        workers: 8,
-        fronts,
-        muxes: Vec::new(alloc),
-        files: Vec::new(alloc),
-    };
+    let config = config_with(alloc, 1, &[])?;
     Ok(Server::make(alloc, config, 0)?)
 }
 

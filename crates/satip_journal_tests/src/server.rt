@@ -1,51 +1,26 @@
 //! A shared server with one front end, and journals of its callers.
-ghost use Rattle.std.specs.Prelude.{◌≡◌, IfOk};
+ghost use Rattle.std.specs.Prelude.{IfOk};
 ghost use Rattle.satip_plain.specs.Histories.{Legal};
 ghost use Rattle.satip_turn.specs.Shown.{IsOf, Knows};
 
 use satip_base::Out;
-use satip_config::Config;
+use satip_fixtures::config_with;
 use satip_journal::{Journal, worked_journal};
 use satip_memory::MemorySink;
 use satip_plain::{Answer, Beat, Event, Work};
 use satip_records::LineRoom;
 use satip_service::Service;
 use satip_shared::{Caller, SharedPass, SharedServer, make};
-use satip_tune::Front;
 use std::alloc::Global;
 use std::sync::Wait;
 use std::test::Fail;
-
-// A front end that reaches position 1 and receives both systems.
-fn front(number: u16) -> Front
-    ensures number { result.number ≡ number }
-{
-    let mut sources = [false; 256];
-    sources[1] = true;
-    Front {
-        number,
-        sources,
-        systems: [true, true],
-    }
-}
 
 // A server at 1000 milliseconds, with one front end and no multiplex.
 pub(crate) fn shared(alloc: Global) -> Result<(SharedServer, SharedPass), Fail>
     ensures of { IfOk result (λ made. IsOf made.1 made.0) }
     ensures knows { IfOk result (λ made. Knows (Legal made.0.setting) made.1) }
 {
-    let mut fronts = Vec::new(alloc);
-    fronts.push(front(1))?;
-    let config = Config {
-        address: 3232235786,
-        rtsp_port: 554,
-        http_port: 8875,
-        timeout: 60,
-        workers: 8,
-        fronts,
-        muxes: Vec::new(alloc),
-        files: Vec::new(alloc),
-    };
+    let config = config_with(alloc, 1, &[])?;
     Ok(make(alloc, config, 1000)?)
 }
 

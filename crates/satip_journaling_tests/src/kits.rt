@@ -2,8 +2,9 @@
 
 ghost use Rattle.std.specs.Prelude.{◌≡◌, [], length, IfOk};
 
-use satip_base::Peer;
 use satip_config::Config;
+use satip_fixtures::texts::OPTIONS;
+use satip_fixtures::{CLIENT, config_with};
 use satip_memory::{
     MemoryClock, MemoryConn, MemoryDoors, MemoryOutlet, MemoryPacer, MemorySink, MemoryStore,
 };
@@ -11,31 +12,21 @@ use satip_pump::TickKit;
 use satip_serve::Jobs;
 use satip_worker::WorkerKit;
 use satip_world::DoorKind;
-use std::alloc::Global;
+use std::alloc::{AllocError, Global};
 use std::test::Fail;
-
-const CLIENT: Peer = Peer { ip: 0xc0a8_0114 };
-
-const OPTIONS: &[u8] = b"OPTIONS * RTSP/1.0\r\nCSeq: 1\r\n\r\n";
 
 pub(crate) type MemoryJobs = Jobs<MemoryDoors, MemoryOutlet, MemoryPacer, MemoryStore, MemoryClock>;
 
 // A server without front ends, with one worker.
-pub(crate) fn config(alloc: Global) -> Config
-    ensures fronts { result.fronts ≡ [] }
-    ensures muxes { result.muxes ≡ [] }
-    ensures workers { result.workers ≡ 1 }
+pub(crate) fn config(alloc: Global) -> Result<Config, AllocError>
+    ensures fronts { IfOk result (λ config. config.fronts ≡ []) }
+    ensures muxes { IfOk result (λ config. config.muxes ≡ []) }
+    ensures workers { IfOk result (λ config. config.workers ≡ 1) }
 {
-    Config {
-        address: 0xc0a8_010a,
-        rtsp_port: 5554,
-        http_port: 8875,
-        timeout: 60,
+    Ok(Config {
         workers: 1,
-        fronts: Vec::new(alloc),
-        muxes: Vec::new(alloc),
-        files: Vec::new(alloc),
-    }
+        ..config_with(alloc, 0, &[])?
+    })
 }
 
 // A worker by whose doors one connection comes, which asks for options, and a ticker.

@@ -19,7 +19,7 @@ fn served<R: Threads + Wait + Sync>(
 ) -> Result<(Written<MemorySink>, ServeEnd), Fail> {
     let sinks = three_sinks(alloc, failing)?;
     let jobs = one_worker(alloc)?;
-    match serve_journaled(rt, alloc, config(alloc), jobs, sinks) {
+    match serve_journaled(rt, alloc, config(alloc)?, jobs, sinks) {
         Ok((_last, written, end)) => Ok((written, end)),
         Err(_unused) => Err("memory".into()),
     }
@@ -48,7 +48,7 @@ fn judged(alloc: Global, text: &[u8]) -> Result<(Verdict, usize), Fail> {
         return Err("long".into());
     }
     let lines = text.iter().filter(|byte| **byte == b'\n').count();
-    match verdict(alloc, config(alloc), text) {
+    match verdict(alloc, config(alloc)?, text) {
         Ok(said) => Ok((said, lines)),
         Err(_fault) => Err("wrong".into()),
     }

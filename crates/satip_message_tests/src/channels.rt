@@ -1,37 +1,28 @@
 //! Requests and replies of a connection that carries the packets too, on the code.
 
+use crate::framed::framer_at;
 use satip_base::Ports;
 use satip_base::limits::REPLY_BYTES;
 use satip_channels::{
     ChannelReply, interleaved, read_request, request, worked_replies, worked_transports,
 };
-use satip_frame::{Break, Framer, Step};
+use satip_frame::Break;
 use satip_rtsp::Request;
 use std::alloc::Global;
 use std::test::Fail;
 
 // The ports that a text asks for, which is one message.
 fn ports_of(alloc: Global, text: &[u8]) -> Result<Option<Ports>, Fail> {
-    let mut framer = Framer::make(alloc)?;
-    framer.feed(text);
-    match framer.next() {
-        Step::Message => Ok(request(&framer.message().ok_or("message")?).ports),
-        _ => Err(Fail::from("no message")),
-    }
+    let framer = framer_at(alloc, text).ok_or("message")?;
+    Ok(request(&framer.message().ok_or("message")?).ports)
 }
 
 // The same, read over an older request.
 fn ports_over(alloc: Global, text: &[u8]) -> Result<Option<Ports>, Fail> {
-    let mut framer = Framer::make(alloc)?;
-    framer.feed(text);
-    match framer.next() {
-        Step::Message => {
-            let mut into = Request::broken(Break::Bad);
-            read_request(&framer.message().ok_or("message")?, &mut into);
-            Ok(into.ports)
-        }
-        _ => Err(Fail::from("no message")),
-    }
+    let framer = framer_at(alloc, text).ok_or("message")?;
+    let mut into = Request::broken(Break::Bad);
+    read_request(&framer.message().ok_or("message")?, &mut into);
+    Ok(into.ports)
 }
 
 // Whether a reply is turned into this text.

@@ -1,6 +1,7 @@
 //! Requests out of whole messages, and the heads' texts.
+use crate::framed::framer_at;
 use satip_base::Out;
-use satip_frame::{Break, Framer, Step};
+use satip_frame::Break;
 use satip_http::{HttpRefusal, HttpRequest, write_refusal, write_start};
 use satip_query::{QueryFault, RefusalBody};
 use satip_tune::Key;
@@ -8,18 +9,8 @@ use std::alloc::Global;
 use std::test::Fail;
 
 fn request_of(alloc: Global, text: &[u8]) -> Option<HttpRequest> {
-    let mut framer = match Framer::make(alloc) {
-        Ok(framer) => framer,
-        Err(_) => return None,
-    };
-    framer.feed(text);
-    match framer.next() {
-        Step::Message => match framer.message() {
-            Some(message) => Some(HttpRequest::of(&message)),
-            None => None,
-        },
-        _ => None,
-    }
+    let framer = framer_at(alloc, text)?;
+    Some(HttpRequest::of(&framer.message()?))
 }
 
 #[test]
@@ -39,15 +30,9 @@ fn queries_are_read(rt: HostRuntime) -> Result<(), Fail> {
 
 // Reads a message over the request of an older one.
 fn read_over(alloc: Global, request: &mut HttpRequest, text: &[u8]) -> Result<(), Fail> {
-    let mut framer = Framer::make(alloc)?;
-    framer.feed(text);
-    match framer.next() {
-        Step::Message => {
-            request.read(&framer.message().ok_or("message")?);
-            Ok(())
-        }
-        _ => Err(Fail::from("no message")),
-    }
+    let framer = framer_at(alloc, text).ok_or("message")?;
+    request.read(&framer.message().ok_or("message")?);
+    Ok(())
 }
 
 #[test]

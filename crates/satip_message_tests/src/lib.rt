@@ -9,6 +9,8 @@ mod client_requests;
 #[cfg(test)]
 mod frame;
 #[cfg(test)]
+mod framed;
+#[cfg(test)]
 mod hearing;
 #[cfg(test)]
 mod http;

@@ -3,8 +3,9 @@
 ghost use Rattle.std.specs.Prelude.{◌≡◌, [], None, false, true};
 ghost use Rattle.satip_rtsp.specs.Targets.{target_of};
 
+use crate::framed::framer_at;
 use satip_base::{Out, Ports, SessionId};
-use satip_frame::{Break, Framer, Step};
+use satip_frame::Break;
 use satip_query::{QueryFault, RefusalBody};
 use satip_rtsp::{
     Method, Refusal, Request, SessionName, Short, write_closing, write_describe, write_options,
@@ -15,18 +16,8 @@ use std::alloc::Global;
 use std::test::Fail;
 
 fn request_of(alloc: Global, text: &[u8]) -> Option<Request> {
-    let mut framer = match Framer::make(alloc) {
-        Ok(framer) => framer,
-        Err(_) => return None,
-    };
-    framer.feed(text);
-    match framer.next() {
-        Step::Message => match framer.message() {
-            Some(message) => Some(Request::of(&message)),
-            None => None,
-        },
-        _ => None,
-    }
+    let framer = framer_at(alloc, text)?;
+    Some(Request::of(&framer.message()?))
 }
 
 #[test]
@@ -41,15 +32,9 @@ fn options_is_asked(rt: HostRuntime) -> Result<(), Fail> {
 
 // Reads a message over the request of an older one.
 fn read_over(alloc: Global, request: &mut Request, text: &[u8]) -> Result<(), Fail> {
-    let mut framer = Framer::make(alloc)?;
-    framer.feed(text);
-    match framer.next() {
-        Step::Message => {
-            request.read(&framer.message().ok_or("message")?);
-            Ok(())
-        }
-        _ => Err(Fail::from("no message")),
-    }
+    let framer = framer_at(alloc, text).ok_or("message")?;
+    request.read(&framer.message().ok_or("message")?);
+    Ok(())
 }
 
 #[test]

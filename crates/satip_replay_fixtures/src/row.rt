@@ -3,35 +3,12 @@
 use crate::bytes::{datagram, packet, report};
 use crate::clients::{Client, Session};
 use satip_base::Text;
+use satip_fixtures::texts::CONFIGURATION;
 use satip_memory::{MemorySink, MemorySource};
 use satip_memory_desk::MemoryDesk;
 use satip_program::offline;
 use std::alloc::Global;
 use std::test::Fail;
-
-/// Two front ends for DVB-S and DVB-S2, and two multiplexes.
-pub const CONFIGURATION: &str = "address = \"192.168.1.10\"
-[[frontend]]
-sources = [1]
-systems = [\"dvbs\", \"dvbs2\"]
-[[frontend]]
-sources = [1]
-systems = [\"dvbs\", \"dvbs2\"]
-[[mux]]
-src = 1
-freq = \"11361.75\"
-pol = \"h\"
-msys = \"dvbs2\"
-sr = 22000
-file = \"a.ts\"
-[[mux]]
-src = 1
-freq = \"12402\"
-pol = \"v\"
-msys = \"dvbs\"
-sr = 27500
-file = \"b.ts\"
-";
 
 /// The first multiplex, with three PIDs and a key that the server doesn't know.
 pub const FIRST_MUX: &str =

@@ -1,16 +1,12 @@
 //! Faults of the words, the configuration, the script, the input and the output, with their exit
 //! statuses.
 
-use crate::row::{CONFIGURATION, Ran, run};
+use crate::row::{Ran, run};
+use satip_fixtures::texts::{CONFIGURATION, OPTIONS, OPTIONS_REPLY};
 use satip_memory::MemorySource;
 use satip_memory_desk::MemoryDesk;
 use std::alloc::Global;
 use std::test::Fail;
-
-const OPTIONS: &[u8] = b"OPTIONS * RTSP/1.0\r\nCSeq: 1\r\n\r\n";
-
-const REPLY: &[u8] =
-    b"RTSP/1.0 200 OK\r\nCSeq: 1\r\nPublic: OPTIONS, DESCRIBE, SETUP, PLAY, TEARDOWN\r\n\r\n";
 
 // A replay by this configuration.
 fn replay(
@@ -70,7 +66,7 @@ fn a_second_take_that_fails_is_an_input_fault(rt: HostRuntime) -> Result<(), Fai
         &mut MemoryDesk::make(alloc, 0),
     )?;
     assert_eq!(rt; ran.status, 5);
-    assert_eq!(rt; ran.output.sent(), REPLY);
+    assert_eq!(rt; ran.output.sent(), OPTIONS_REPLY);
     assert_eq!(rt; ran.errors.sent(), b"input fault\n".as_slice());
     let input = MemorySource::make(alloc, b"stop\n", &[3], &[2])?;
     let ran = replay(alloc, CONFIGURATION, input, &[])?;
@@ -108,7 +104,7 @@ fn a_put_that_fails_is_an_output_fault(rt: HostRuntime) -> Result<(), Fail> {
     let mut desk = MemoryDesk::make(alloc, 0);
     let ran = run(alloc, &["talk"], input, &[2], &mut desk)?;
     assert_eq!(rt; ran.status, 6);
-    assert_eq!(rt; ran.output.sent(), REPLY);
+    assert_eq!(rt; ran.output.sent(), OPTIONS_REPLY);
     Ok(())
 }
 

@@ -3,6 +3,7 @@ ghost use Rattle.std.specs.Prelude.{◌≡◌, false};
 
 use crate::setting::{CLIENT, ask_of_stream, give, letters, play, set_up, solo, tick};
 use satip_base::Out;
+pub use satip_fixtures::texts::{OPTIONS, OPTIONS_REPLY, SETUP};
 use satip_memory::{MemoryConn, MemoryOutlet, MemoryPacer};
 use satip_solo::Solo;
 use satip_worker::{Draws, Room, serve_connection};
@@ -11,19 +12,9 @@ use std::alloc::Global;
 use std::sync::Wait;
 use std::test::Fail;
 
-/// The SETUP that founds the first stream.
-pub const SETUP: &[u8] =
-    b"SETUP rtsp://192.168.1.10/?src=1&freq=11361.75&pol=h&ro=0.35&msys=dvbs2&mtype=8psk&plts=on\
-    &sr=22000&fec=23&pids=0,16,17&x_pmt=100 RTSP/1.0\r\n\
-    CSeq: 1\r\n\
-    Transport: RTP/AVP;unicast;client_port=1400-1401\r\n\r\n";
-
 /// The PLAY of the session that was made by the key's first draw.
 pub const PLAY: &[u8] =
     b"PLAY rtsp://192.168.1.10/stream=1 RTSP/1.0\r\nCSeq: 2\r\nSession: 00000001ade0b876\r\n\r\n";
-
-/// OPTIONS in no session.
-pub const OPTIONS: &[u8] = b"OPTIONS * RTSP/1.0\r\nCSeq: 1\r\n\r\n";
 
 /// The reply to the SETUP.
 pub const SETUP_REPLY: &[u8] = b"RTSP/1.0 200 OK\r\n\
@@ -31,10 +22,6 @@ pub const SETUP_REPLY: &[u8] = b"RTSP/1.0 200 OK\r\n\
     Session: 00000001ade0b876;timeout=60\r\n\
     Transport: RTP/AVP;unicast;client_port=1400-1401\r\n\
     com.ses.streamID: 1\r\n\r\n";
-
-/// The reply to OPTIONS.
-pub const OPTIONS_REPLY: &[u8] =
-    b"RTSP/1.0 200 OK\r\nCSeq: 1\r\nPublic: OPTIONS, DESCRIBE, SETUP, PLAY, TEARDOWN\r\n\r\n";
 
 /// A GET of the second multiplex.
 pub const GET: &[u8] = b"GET /?freq=12402&pol=v&msys=dvbs&sr=27500 HTTP/1.1\r\n\r\n";

@@ -3,7 +3,8 @@
 ghost use Rattle.std.specs.Prelude.{◌≡◌, None, IfOk};
 ghost use Rattle.satip_serving.specs.Handed.{nothing_handed};
 
-use crate::shared::{OPTIONS, SERVE, desk, kits, run, worker};
+use crate::shared::{SERVE, desk, kits, run, worker};
+use satip_fixtures::texts::OPTIONS;
 use satip_memory_desk::MemoryDesk;
 use std::alloc::Global;
 use std::test::Fail;

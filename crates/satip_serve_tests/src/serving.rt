@@ -1,6 +1,7 @@
 //! The commands `serve` and `journal`, over memory.
 
-use crate::shared::{JOURNAL, OPTIONS, Ran, SERVE, desk_for_one, have_served, run};
+use crate::shared::{JOURNAL, Ran, SERVE, desk_for_one, have_served, run};
+use satip_fixtures::texts::OPTIONS;
 use satip_memory_desk::MemoryDesk;
 use std::alloc::Global;
 use std::sync::Wait;

@@ -10,7 +10,9 @@ ghost use Rattle.satip_serving.specs.Handed.{nothing_handed};
 ghost use Rattle.satip_world.specs.Halls.{Hall, fresh_hall};
 ghost use Rattle.satip_world.specs.Outboxes.{Outbox, fresh_outbox};
 
-use satip_base::{Peer, Text, Want};
+use satip_base::{Text, Want};
+use satip_fixtures::CLIENT;
+use satip_fixtures::texts::OPTIONS_REPLY;
 use satip_memory::{
     MemoryClock, MemoryConn, MemoryDoors, MemoryOutlet, MemoryPacer, MemorySink, MemorySource,
     MemoryStore,
@@ -41,13 +43,6 @@ pub const ONE_WORKER: &[u8] = b"address = \"192.168.1.10\"\n\
     [[frontend]]\n\
     sources = [1]\n\
     systems = [\"dvbs\", \"dvbs2\"]\n";
-
-/// A request of the options.
-pub const OPTIONS: &[u8] = b"OPTIONS * RTSP/1.0\r\nCSeq: 1\r\n\r\n";
-
-/// The reply to it.
-pub const OK: &[u8] =
-    b"RTSP/1.0 200 OK\r\nCSeq: 1\r\nPublic: OPTIONS, DESCRIBE, SETUP, PLAY, TEARDOWN\r\n\r\n";
 
 /// How the program ended, and what it wrote.
 pub struct Ran<K: Desk> {
@@ -149,7 +144,7 @@ pub fn worker(alloc: Global, pieces: &[&[u8]]) -> Result<MemoryWorker, Want>
 {
     let mut doors = MemoryDoors::make(alloc, 1, &[], &[])?;
     let conn = MemoryConn::make(alloc, pieces, &[], &[], 0)?;
-    doors.add(DoorKind::Rtsp, Peer { ip: 0xc0a8_0114 }, conn)?;
+    doors.add(DoorKind::Rtsp, CLIENT, conn)?;
     worker_at(alloc, doors)
 }
 
@@ -210,7 +205,7 @@ pub fn desk_for_one(alloc: Global, pieces: &[&[u8]]) -> Result<MemoryDesk, Fail>
 /// Whether the one connection of each worker was served to its end.
 pub fn have_served(workers: &[MemoryWorker]) -> bool {
     workers.iter().all(|kit| match kit.doors.returned() {
-        [handed] => handed.end == ConnEnd::Done && handed.conn.sent() == OK,
+        [handed] => handed.end == ConnEnd::Done && handed.conn.sent() == OPTIONS_REPLY,
         _ => false,
     })
 }

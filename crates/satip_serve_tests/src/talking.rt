@@ -1,7 +1,8 @@
 //! A talk of two requests, of which the second stands behind the longest head, and behind one that
 //! is too long.
 
-use crate::shared::{OK, OPTIONS, run};
+use crate::shared::run;
+use satip_fixtures::texts::{OPTIONS, OPTIONS_REPLY};
 use satip_memory_desk::MemoryDesk;
 use std::alloc::Global;
 use std::sync::Wait;
@@ -38,8 +39,8 @@ fn replies<R: Threads + Wait + Sync>(
 
 #[test]
 fn behind_a_head_of_8192_bytes_a_second_request_is_answered(rt: HostRuntime) -> Result<(), Fail> {
-    let mut both = Vec::from_slice(rt.alloc(), OK)?;
-    both.extend_from_slice(OK)?;
+    let mut both = Vec::from_slice(rt.alloc(), OPTIONS_REPLY)?;
+    both.extend_from_slice(OPTIONS_REPLY)?;
     let replies = replies(&rt, rt.alloc(), 8192)?;
     assert!(rt; replies.is_some_and(|replies| replies == both));
     Ok(())

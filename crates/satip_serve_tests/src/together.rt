@@ -4,17 +4,12 @@
 //! get there.
 
 use crate::deeds::{Deeds, Gate, OPEN};
-use crate::shared::{JOURNAL, OK, OPTIONS, Ran, SERVE, run};
+use crate::shared::{JOURNAL, Ran, SERVE, run};
 use crate::waiting::Piece;
 use crate::waiting_desk::{Plan, WaitingDesk, WaitingWorker, run_plan};
+use satip_fixtures::texts::{OPTIONS, OPTIONS_REPLY, SETUP};
 use std::alloc::Global;
 use std::test::Fail;
-
-const SETUP: &[u8] =
-    b"SETUP rtsp://192.168.1.10/?src=1&freq=11361.75&pol=h&ro=0.35&msys=dvbs2&mtype=8psk&plts=on\
-    &sr=22000&fec=23&pids=0,16,17&x_pmt=100 RTSP/1.0\r\n\
-    CSeq: 1\r\n\
-    Transport: RTP/AVP;unicast;client_port=1400-1401\r\n\r\n";
 
 /// A PLAY of stream 1.
 pub const PLAY: &[u8] =
@@ -95,7 +90,7 @@ const MEETING_PLAN: Plan = Plan {
 fn told_of(workers: &[WaitingWorker], sent: &[u8]) -> &'static str {
     match workers {
         [first, second] => {
-            if first.doors.have_sent(sent) && second.doors.have_sent(OK) {
+            if first.doors.have_sent(sent) && second.doors.have_sent(OPTIONS_REPLY) {
                 "served"
             } else {
                 "wrong replies"
@@ -119,7 +114,7 @@ fn all_jobs_of_a_serve_meet(rt: HostRuntime) -> Result<(), Fail> {
     let deeds = Deeds::new();
     let ran = run_plan(&rt, rt.alloc(), SERVE, MEETING_PLAN, &deeds)?;
     assert!(rt; !deeds.gave_up());
-    assert_eq!(rt; told(&ran, OK), "served");
+    assert_eq!(rt; told(&ran, OPTIONS_REPLY), "served");
     Ok(())
 }
 

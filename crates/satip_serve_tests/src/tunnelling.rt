@@ -1,18 +1,13 @@
 //! The command `tunnel`: RTP inside the RTSP connections (RFC 2326, section 10.12).
 
 use crate::deeds::{Deeds, Gate, OPEN};
-use crate::shared::{OK, OPTIONS, Ran, TUNNEL, desk_for_one, have_served, run};
+use crate::shared::{Ran, TUNNEL, desk_for_one, have_served, run};
 use crate::together::{PLAY, SECOND, TEARDOWN};
 use crate::waiting::{Piece, Served};
 use crate::waiting_desk::{Plan, WaitingDesk, WaitingWorker, run_plan};
+use satip_fixtures::texts::{OPTIONS, OPTIONS_REPLY, SETUP_INTERLEAVED};
 use satip_world::ConnEnd;
 use std::test::Fail;
-
-const SETUP: &[u8] =
-    b"SETUP rtsp://192.168.1.10/?src=1&freq=11361.75&pol=h&ro=0.35&msys=dvbs2&mtype=8psk&plts=on\
-    &sr=22000&fec=23&pids=0,16,17&x_pmt=100 RTSP/1.0\r\n\
-    CSeq: 1\r\n\
-    Transport: RTP/AVP/TCP;interleaved=0-1\r\n\r\n";
 
 // The replies to SETUP and PLAY, with the first draw of a key of zeros for stream 1, as in a serve.
 const BEGUN: &[u8] = b"RTSP/1.0 200 OK\r\n\
@@ -35,7 +30,7 @@ const REPORT: &[u8] = &[0x24, 0x01, 0x00, 0x04, 0x00, 0x00, 0x00, 0x00];
 // PLAY, and frames were sent to it behind that.
 const FIRST: &[Piece] = &[
     Piece {
-        text: SETUP,
+        text: SETUP_INTERLEAVED,
         gate: OPEN,
     },
     Piece {
@@ -118,7 +113,7 @@ fn has_played(served: Option<&Served>) -> bool {
 fn told_of(workers: &[WaitingWorker]) -> &'static str {
     match workers {
         [first, second] => {
-            if has_played(first.doors.served()) && second.doors.have_sent(OK) {
+            if has_played(first.doors.served()) && second.doors.have_sent(OPTIONS_REPLY) {
                 "served"
             } else {
                 "wrong bytes"

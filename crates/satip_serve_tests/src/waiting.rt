@@ -5,11 +5,10 @@ ghost use Rattle.std.specs.Prelude.{◌≡◌, IfOk};
 
 use crate::deeds::{Deeds, Gate, Place, TRIES};
 use satip_base::{Peer, Put, Want};
+use satip_fixtures::CLIENT;
 use satip_world::{Conn, ConnEnd, Door, DoorKind, Doors, Received};
 use std::alloc::Global;
 use std::marker::Model;
-
-const CLIENT: Peer = Peer { ip: 0xc0a8_0114 };
 
 // More bytes than any connection of these runs is sent.
 const MOST_SENT: usize = 4096;

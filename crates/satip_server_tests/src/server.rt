@@ -1,65 +1,21 @@
 //! A small server, asked over RTSP.
 
-ghost use Rattle.std.specs.Prelude.{◌≡◌};
-
-use satip_base::{Draw, Out, Peer, Ports, SessionId};
-use satip_config::Config;
+use satip_base::{Out, SessionId};
 use satip_core::Server;
+use satip_fixtures::{CLIENT, DRAW, FIRST_MUX, PORTS, config_with, packet};
 use satip_plain::{Answer, Beat, Event, Replied, Work};
 use satip_query::{Query, read};
 use satip_rtsp::{Method, Request, SessionName};
 use satip_ts::Packet;
-use satip_tune::{Front, Mux, Pol, System};
 use std::alloc::Global;
 use std::process::Abort;
 use std::test::Fail;
 
-const PEER: Peer = Peer { ip: 3232235796 };
-
-const DRAW: Draw = Draw {
-    word: 10,
-    ssrc: 287454020,
-    first: 65535,
-};
-
 const FIRST: SessionId = SessionId { count: 1, word: 10 };
-
-/// A front end that reaches position 1 and receives both systems.
-fn front(number: u16) -> Front
-    ensures number { result.number ≡ number }
-{
-    let mut sources = [false; 256];
-    sources[1] = true;
-    Front {
-        number,
-        sources,
-        systems: [true, true],
-    }
-}
 
 /// A server with two front ends and one multiplex, at 1000 milliseconds.
 fn server(alloc: Global) -> Result<Server, Fail> {
-    let mut fronts = Vec::new(alloc);
-    fronts.push(front(1))?;
-    fronts.push(front(2))?;
-    let mut muxes = Vec::new(alloc);
-    muxes.push(Mux {
-        src: 1,
-        freq: 11361750,
-        pol: Pol::H,
-        msys: System::Dvbs2,
-        sr: 22000,
-    })?;
-    let config = Config {
-        address: 3232235786,
-        rtsp_port: 554,
-        http_port: 8875,
-        timeout: 60,
-        workers: 8,
-        fronts,
-        muxes,
-        files: Vec::new(alloc),
-    };
+    let config = config_with(alloc, 2, &[FIRST_MUX])?;
     Ok(Server::make(alloc, config, 1000)?)
 }
 
@@ -83,14 +39,6 @@ fn query(text: &[u8]) -> Result<Query, Fail> {
     Ok(query)
 }
 
-/// A packet of a PID below 256.
-fn packet(pid: u8) -> Result<Packet, Fail> {
-    let mut bytes = [0u8; 188];
-    bytes[0] = 0x47;
-    bytes[2] = pid;
-    Ok(Packet::of(&bytes).ok_or("packet")?)
-}
-
 const FIRST_QUERY: &[u8] = b"src=1&freq=11361.75&pol=h&msys=dvbs2&sr=22000&pids=0,16";
 
 /// A SETUP of no session, which founds the first stream.
@@ -100,22 +48,19 @@ fn setup(query: Query) -> Request {
         stream: None,
         session: SessionName::Absent,
         query,
-        ports: Some(Ports {
-            rtp: 1400,
-            rtcp: 1401,
-        }),
+        ports: Some(PORTS),
         ..request(Method::Setup)
     }
 }
 
 /// Makes a request, which is answered with this status.
 fn ask(rt: &impl Abort, server: &mut Server, out: &mut Out, request: &Request, status: u16) {
-    assert_eq!(rt; server.request(PEER, DRAW, request, out).status, status);
+    assert_eq!(rt; server.request(CLIENT, DRAW, request, out).status, status);
 }
 
 /// Makes a request, which is answered with this reply of status 200.
 fn ask_well(rt: &impl Abort, server: &mut Server, out: &mut Out, request: &Request, reply: &[u8]) {
-    assert_eq!(rt; server.request(PEER, DRAW, request, out).status, 200);
+    assert_eq!(rt; server.request(CLIENT, DRAW, request, out).status, 200);
     assert_eq!(rt; out.reply(), reply);
 }
 
@@ -137,7 +82,7 @@ fn give_each(
 /// Makes a TEARDOWN of the first session as an event.
 fn tear_down(rt: &impl Abort, server: &mut Server, out: &mut Out) {
     let event = Event::Request {
-        peer: PEER,
+        peer: CLIENT,
         draw: DRAW,
         request: request(Method::Teardown),
     };

@@ -4,6 +4,7 @@ mod plain;
 
 use plain::Plain;
 use satip_base::{Draw, Peer, Ports, SessionId, Want};
+use satip_fixtures::{CLIENT, DRAW, PORTS};
 use satip_pids::PidSet;
 use satip_table::{NewSession, Session, Stream, Table};
 use std::process::Abort;
@@ -12,16 +13,9 @@ use std::process::Abort;
 fn drawn(word: u32) -> NewSession {
     NewSession {
         http: false,
-        peer: Peer { ip: 3232235796 },
-        ports: Ports {
-            rtp: 1400,
-            rtcp: 1401,
-        },
-        draw: Draw {
-            word,
-            ssrc: 287454020,
-            first: 65535,
-        },
+        peer: CLIENT,
+        ports: PORTS,
+        draw: Draw { word, ..DRAW },
         heard: 1000,
     }
 }

@@ -8,54 +8,20 @@ mod gate;
 mod threads;
 
 use satip_base::Out;
-use satip_config::Config;
+use satip_fixtures::{FIRST_MUX, config_with};
 use satip_plain::{Answer, Beat, Event, Work};
 use satip_service::Service;
 use satip_shared::{Caller, SharedPass, SharedServer, make};
-use satip_tune::{Front, Mux, Pol, System};
 use std::alloc::Global;
 use std::sync::Wait;
 use std::test::Fail;
-
-// A front end that reaches position 1 and receives both systems.
-fn front(number: u16) -> Front
-    ensures number { result.number ≡ number }
-{
-    let mut sources = [false; 256];
-    sources[1] = true;
-    Front {
-        number,
-        sources,
-        systems: [true, true],
-    }
-}
 
 // A server at 1000 milliseconds.
 pub(crate) fn shared(alloc: Global) -> Result<(SharedServer, SharedPass), Fail>
     ensures of { IfOk result (λ made. IsOf made.1 made.0) }
     ensures knows { IfOk result (λ made. Knows (Legal made.0.setting) made.1) }
 {
-    let mut fronts = Vec::new(alloc);
-    fronts.push(front(1))?;
-    fronts.push(front(2))?;
-    let mut muxes = Vec::new(alloc);
-    muxes.push(Mux {
-        src: 1,
-        freq: 11361750,
-        pol: Pol::H,
-        msys: System::Dvbs2,
-        sr: 22000,
-    })?;
-    let config = Config {
-        address: 3232235786,
-        rtsp_port: 554,
-        http_port: 8875,
-        timeout: 60,
-        workers: 8,
-        fronts,
-        muxes,
-        files: Vec::new(alloc),
-    };
+    let config = config_with(alloc, 2, &[FIRST_MUX])?;
     Ok(make(alloc, config, 1000)?)
 }
 

@@ -6,8 +6,9 @@ mod beside;
 mod gated;
 mod rows;
 
-use satip_base::Peer;
 use satip_config::Config;
+use satip_fixtures::texts::{OPTIONS, OPTIONS_REPLY};
+use satip_fixtures::{CLIENT, config_with};
 use satip_memory::{MemoryClock, MemoryConn, MemoryDoors, MemoryOutlet, MemoryPacer, MemoryStore};
 use satip_pump::TickKit;
 use satip_serve::{Jobs, ServeEnd, serve};
@@ -17,13 +18,6 @@ use std::alloc::Global;
 use std::sync::Wait;
 use std::test::Fail;
 use std::thread::Threads;
-
-const CLIENT: Peer = Peer { ip: 0xc0a8_0114 };
-
-const OPTIONS: &[u8] = b"OPTIONS * RTSP/1.0\r\nCSeq: 1\r\n\r\n";
-
-const REPLY: &[u8] =
-    b"RTSP/1.0 200 OK\r\nCSeq: 1\r\nPublic: OPTIONS, DESCRIBE, SETUP, PLAY, TEARDOWN\r\n\r\n";
 
 type MemoryJobs = Jobs<MemoryDoors, MemoryOutlet, MemoryPacer, MemoryStore, MemoryClock>;
 
@@ -40,24 +34,6 @@ fn worker(alloc: Global) -> Result<MemoryKit, Fail> {
         pacer: MemoryPacer::new(),
         key: [7; 32],
     })
-}
-
-// A server without front ends.
-fn config(alloc: Global) -> Config
-    ensures fronts { result.fronts ≡ [] }
-    ensures muxes { result.muxes ≡ [] }
-    ensures workers { result.workers ≡ 2 }
-{
-    Config {
-        address: 0xc0a8_010a,
-        rtsp_port: 5554,
-        http_port: 8875,
-        timeout: 60,
-        workers: 2,
-        fronts: Vec::new(alloc),
-        muxes: Vec::new(alloc),
-        files: Vec::new(alloc),
-    }
 }
 
 fn two_workers(alloc: Global) -> Result<MemoryJobs, Fail>
@@ -83,14 +59,18 @@ fn all_replied(kits: &[MemoryKit]) -> bool {
         kit.doors
             .returned()
             .iter()
-            .all(|handed| handed.conn.sent() == REPLY)
+            .all(|handed| handed.conn.sent() == OPTIONS_REPLY)
     })
 }
 
 #[test]
 fn two_workers_serve_a_connection_each(rt: HostRuntime) -> Result<(), Fail> {
     let alloc = rt.alloc();
-    let served = serve(&rt, alloc, config(alloc), two_workers(alloc)?);
+    let config = Config {
+        workers: 2,
+        ..config_with(alloc, 0, &[])?
+    };
+    let served = serve(&rt, alloc, config, two_workers(alloc)?);
     let Ok((last, end)) = served else {
         return Err("memory".into());
     };

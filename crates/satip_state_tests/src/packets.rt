@@ -1,82 +1,34 @@
 //! Packets, ticks and pulls that can be followed by hand.
 
-ghost use Rattle.std.specs.Prelude.{◌≡◌};
-
-use satip_base::{Draw, Out, Peer, Ports, SessionId};
+use crate::requests::query;
+use satip_base::{Out, Peer, SessionId};
+use satip_fixtures::{DRAW, PORTS, SECOND_MUX, config_with, packet};
 use satip_plain::{Closed, Pulled, Work};
 use satip_query::{PidsGiven, Query};
 use satip_state::Parts;
 use satip_ts::Packet;
-use satip_tune::{Change, Front, Mux, Pol, System};
 use std::alloc::Global;
 use std::process::Abort;
 use std::test::Fail;
 
-/// The first front end, which receives position 1.
-fn front() -> Front
-    ensures number { result.number ≡ 1 }
-{
-    let mut sources = [false; 256];
-    sources[1] = true;
-    Front {
-        number: 1,
-        sources,
-        systems: [true, true],
-    }
-}
-
-/// 12402 MHz, vertical, DVB-S.
-const MUX: Mux = Mux {
-    src: 1,
-    freq: 12402000,
-    pol: Pol::V,
-    msys: System::Dvbs,
-    sr: 27500,
-};
-
 /// One front end and one multiplex, a timeout of 60 seconds, from moment 1000 on.
 fn parts(alloc: Global) -> Result<Parts, Fail> {
-    let mut fronts = Vec::new(alloc);
-    fronts.push(front())?;
-    let mut muxes = Vec::new(alloc);
-    muxes.push(MUX)?;
-    Ok(Parts::make(alloc, fronts, muxes, 60, 1000)?)
+    let config = config_with(alloc, 1, &[SECOND_MUX])?;
+    Ok(Parts::make(alloc, config.fronts, config.muxes, 60, 1000)?)
 }
 
 /// A session whose stream is tuned and selects all PIDs.
 fn tuned(rt: &impl Abort, parts: &mut Parts, out: &mut Out, http: bool) -> SessionId {
-    let draw = Draw {
-        word: 10,
-        ssrc: 287454020,
-        first: 65535,
-    };
-    let ports = Ports {
-        rtp: 1400,
-        rtcp: 1401,
-    };
     let (id, number) = parts
-        .found(http, Peer { ip: 7 }, draw, ports)
+        .found(http, Peer { ip: 7 }, DRAW, PORTS)
         .expect(rt, "room");
     let query = Query {
-        change: Change {
-            freq: Some(MUX.freq),
-            pol: Some(MUX.pol),
-            msys: Some(MUX.msys),
-            sr: Some(MUX.sr),
-            ..Query::new().change
-        },
         pids: PidsGiven::All,
-        ..Query::new()
+        ..query(SECOND_MUX)
     };
     out.clear();
     parts.change_by(number, &query, out);
     id
-}
-
-fn packet(rt: &impl Abort) -> Packet {
-    let mut bytes = [0; 188];
-    bytes[0] = 0x47;
-    Packet::of(&bytes).expect(rt, "begins with the sync byte")
 }
 
 /// How many datagrams leave as this packet comes.
@@ -94,10 +46,15 @@ fn ticked(parts: &mut Parts, out: &mut Out, now: u64) -> usize {
 }
 
 /// Gives a packet with each of these tune numbers, behind which so many datagrams leave.
-fn give_each(rt: &impl Abort, parts: &mut Parts, out: &mut Out, given: &[(u64, usize)]) {
-    let packet = packet(rt);
+fn give_each(
+    rt: &impl Abort,
+    parts: &mut Parts,
+    out: &mut Out,
+    packet: &Packet,
+    given: &[(u64, usize)],
+) {
     for (tune, datagrams) in given {
-        assert_eq!(rt; sent(parts, out, *tune, &packet), *datagrams);
+        assert_eq!(rt; sent(parts, out, *tune, packet), *datagrams);
     }
 }
 
@@ -133,13 +90,20 @@ fn close_each(rt: &impl Abort, parts: &mut Parts, out: &mut Out, id: SessionId, 
 
 #[test]
 fn seven_packets_leave_and_reports_follow(rt: HostRuntime) -> Result<(), Fail> {
+    let packet = packet(0)?;
     let mut out = Out::make(rt.alloc())?;
     let mut parts = parts(rt.alloc())?;
     let id = tuned(&rt, &mut parts, &mut out, false);
     parts.play(id);
     assert_eq!(rt; parts.work(1), Work::Tune { mux: 1, tune: 1 });
-    give_each(&rt, &mut parts, &mut out, &[(1, 0); 6]);
-    give_each(&rt, &mut parts, &mut out, &[(2, 0), (1, 1), (1, 0)]);
+    give_each(&rt, &mut parts, &mut out, &packet, &[(1, 0); 6]);
+    give_each(
+        &rt,
+        &mut parts,
+        &mut out,
+        &packet,
+        &[(2, 0), (1, 1), (1, 0)],
+    );
     tick_each(
         &rt,
         &mut parts,
@@ -159,10 +123,11 @@ fn seven_packets_leave_and_reports_follow(rt: HostRuntime) -> Result<(), Fail> {
 
 #[test]
 fn a_queue_is_pulled_and_closed(rt: HostRuntime) -> Result<(), Fail> {
+    let packet = packet(0)?;
     let mut out = Out::make(rt.alloc())?;
     let mut parts = parts(rt.alloc())?;
     let id = tuned(&rt, &mut parts, &mut out, true);
-    give_each(&rt, &mut parts, &mut out, &[(1, 0); 3]);
+    give_each(&rt, &mut parts, &mut out, &packet, &[(1, 0); 3]);
     let pulls = [(Pulled::Bytes(564), 564), (Pulled::Empty, 0)];
     pull_each(&rt, &mut parts, &mut out, id, &pulls);
     parts.ended(1, 1);
@@ -179,7 +144,7 @@ fn a_queue_is_pulled_and_closed(rt: HostRuntime) -> Result<(), Fail> {
 fn a_full_queue_ends_its_session(rt: HostRuntime) -> Result<(), Fail> {
     let mut out = Out::make(rt.alloc())?;
     let mut parts = parts(rt.alloc())?;
-    let packet = packet(&rt);
+    let packet = packet(0)?;
     let id = tuned(&rt, &mut parts, &mut out, true);
     for _queued in 0..4096 {
         sent(&mut parts, &mut out, 1, &packet);

@@ -1,69 +1,25 @@
 //! What requests change, of sessions and streams that can be followed by hand.
 
-ghost use Rattle.std.specs.Prelude.{◌≡◌, ◌<◌};
+ghost use Rattle.std.specs.Prelude.{◌<◌};
 
 use satip_base::{Draw, Out, Peer, Ports, SessionId};
+use satip_fixtures::{DRAW, FIRST_MUX, PORTS, SECOND_MUX, config_with};
 use satip_pids::PidList;
 use satip_query::{PidsGiven, Query};
 use satip_state::Parts;
-use satip_tune::{Change, Front, Mux, Pol, System, Tuning};
+use satip_tune::{Change, Mux, Tuning};
 use std::alloc::Global;
 use std::process::Abort;
 use std::test::Fail;
 
-/// A front end that reaches position 1 and receives both systems.
-fn front(number: u16) -> Front
-    ensures number { result.number ≡ number }
-{
-    let mut sources = [false; 256];
-    sources[1] = true;
-    Front {
-        number,
-        sources,
-        systems: [true, true],
-    }
-}
-
-/// 11361.75 MHz, horizontal, DVB-S2.
-const FIRST: Mux = Mux {
-    src: 1,
-    freq: 11361750,
-    pol: Pol::H,
-    msys: System::Dvbs2,
-    sr: 22000,
-};
-
-/// 12402 MHz, vertical, DVB-S.
-const SECOND: Mux = Mux {
-    src: 1,
-    freq: 12402000,
-    pol: Pol::V,
-    msys: System::Dvbs,
-    sr: 27500,
-};
-
 /// Two front ends and two multiplexes, a timeout of 60 seconds, from moment 1000 on.
 fn parts(alloc: Global) -> Result<Parts, Fail> {
-    let mut fronts = Vec::new(alloc);
-    fronts.push(front(1))?;
-    fronts.push(front(2))?;
-    let mut muxes = Vec::new(alloc);
-    muxes.push(FIRST)?;
-    muxes.push(SECOND)?;
-    Ok(Parts::make(alloc, fronts, muxes, 60, 1000)?)
+    let config = config_with(alloc, 2, &[FIRST_MUX, SECOND_MUX])?;
+    Ok(Parts::make(alloc, config.fronts, config.muxes, 60, 1000)?)
 }
 
-const PORTS: Ports = Ports {
-    rtp: 1400,
-    rtcp: 1401,
-};
-
 fn draw(word: u32) -> Draw {
-    Draw {
-        word,
-        ssrc: 287454020,
-        first: 65535,
-    }
+    Draw { word, ..DRAW }
 }
 
 fn found(rt: &impl Abort, parts: &mut Parts, word: u32) -> (SessionId, u16) {
@@ -73,7 +29,7 @@ fn found(rt: &impl Abort, parts: &mut Parts, word: u32) -> (SessionId, u16) {
 }
 
 /// A query for this multiplex, at the front end that is to be had.
-fn query(mux: Mux) -> Query {
+pub(crate) fn query(mux: Mux) -> Query {
     Query {
         change: Change {
             freq: Some(mux.freq),
@@ -99,7 +55,7 @@ fn add_sixteen(parts: &mut Parts, out: &mut Out) {
     pids.push(16);
     let asked = Query {
         addpids: Some(pids),
-        ..query(FIRST)
+        ..query(FIRST_MUX)
     };
     out.clear();
     parts.change_by(1, &asked, out);
@@ -181,9 +137,9 @@ fn streams_of_one_multiplex_come_to_share_a_front_end(rt: HostRuntime) -> Result
     let mut parts = parts(rt.alloc())?;
     found(&rt, &mut parts, 10);
     found(&rt, &mut parts, 11);
-    retune(&rt, &mut parts, &mut out, 1, FIRST, (1, 11361750));
-    retune(&rt, &mut parts, &mut out, 2, SECOND, (2, 12402000));
-    retune(&rt, &mut parts, &mut out, 2, FIRST, (1, 11361750));
+    retune(&rt, &mut parts, &mut out, 1, FIRST_MUX, (1, 11361750));
+    retune(&rt, &mut parts, &mut out, 2, SECOND_MUX, (2, 12402000));
+    retune(&rt, &mut parts, &mut out, 2, FIRST_MUX, (1, 11361750));
     assert_eq!(rt; tuned(&parts, 1), Some((1, 11361750)));
     Ok(())
 }

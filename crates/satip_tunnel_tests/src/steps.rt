@@ -1,83 +1,26 @@
 //! A small tunnel, and one event of it at a time.
 
-ghost use Rattle.std.specs.Prelude.{◌≡◌, ◌≤◌, length, IfOk};
-ghost use Rattle.satip_fronts.specs.FrontEnds.{IsNumbered};
+ghost use Rattle.std.specs.Prelude.{IfOk};
 ghost use Rattle.satip_tunnel.specs.Histories.{TunnelLegal};
 ghost use Rattle.satip_turn.specs.Shown.{IsOf, Knows};
 
-use satip_base::{Draw, Out, Peer};
+use satip_base::{Out, Peer};
 use satip_channels::request;
-use satip_config::Config;
+use satip_fixtures::{DRAW, FIRST_MUX, SECOND_MUX, config_with};
 use satip_frame::Step;
 use satip_interleave::{SharedTunnel, TunnelPass, make};
 use satip_parts::Parter;
 use satip_plain::{Answer, Beat, Event, Replied};
 use satip_rtsp::Request;
 use satip_ts::Packet;
-use satip_tune::{Front, Mux, Pol, System};
 use satip_tunnel::{Tunnel, TunnelAnswer, TunnelEvent};
 use std::alloc::Global;
 use std::process::Abort;
 use std::test::Fail;
 
-const DRAW: Draw = Draw {
-    word: 10,
-    ssrc: 287454020,
-    first: 65535,
-};
-
-/// A front end that reaches position 1 and receives both systems.
-fn front(number: u16) -> Front
-    ensures number { result.number ≡ number }
-{
-    let mut sources = [false; 256];
-    sources[1] = true;
-    Front {
-        number,
-        sources,
-        systems: [true, true],
-    }
-}
-
-/// Two front ends and two multiplexes.
-fn config(alloc: Global) -> Result<Config, Fail>
-    ensures few { IfOk result (λ config. length config.fronts ≤ 16) }
-    ensures numbered { IfOk result (λ config. IsNumbered 1 config.fronts) }
-    ensures received { IfOk result (λ config. length config.muxes ≤ 256) }
-{
-    let mut fronts = Vec::new(alloc);
-    fronts.push(front(1))?;
-    fronts.push(front(2))?;
-    let mut muxes = Vec::new(alloc);
-    muxes.push(Mux {
-        src: 1,
-        freq: 11361750,
-        pol: Pol::H,
-        msys: System::Dvbs2,
-        sr: 22000,
-    })?;
-    muxes.push(Mux {
-        src: 1,
-        freq: 12402000,
-        pol: Pol::V,
-        msys: System::Dvbs,
-        sr: 27500,
-    })?;
-    Ok(Config {
-        address: 3232235786,
-        rtsp_port: 554,
-        http_port: 8875,
-        timeout: 60,
-        workers: 8,
-        fronts,
-        muxes,
-        files: Vec::new(alloc),
-    })
-}
-
-/// A tunnel over a server of this configuration, at 0 milliseconds.
+/// A tunnel over a server with two front ends and two multiplexes, at 0 milliseconds.
 pub fn tunnel(alloc: Global) -> Result<Tunnel, Fail> {
-    let config = config(alloc)?;
+    let config = config_with(alloc, 2, &[FIRST_MUX, SECOND_MUX])?;
     Ok(Tunnel::make(alloc, config, 0)?)
 }
 
@@ -86,7 +29,7 @@ pub fn shared(alloc: Global) -> Result<(SharedTunnel, TunnelPass), Fail>
     ensures of { IfOk result (λ made. IsOf made.1 made.0) }
     ensures knows { IfOk result (λ made. Knows (TunnelLegal made.0.setting) made.1) }
 {
-    let config = config(alloc)?;
+    let config = config_with(alloc, 2, &[FIRST_MUX, SECOND_MUX])?;
     Ok(make(alloc, config, 0)?)
 }
 
@@ -99,14 +42,6 @@ fn asked(alloc: Global, text: &[u8]) -> Result<Request, Fail> {
         Step::Message => Ok(request(&parter.message().ok_or("message")?)),
         _ => Err(Fail::from("no message")),
     }
-}
-
-/// A packet of a PID below 256.
-pub fn packet(pid: u8) -> Result<Packet, Fail> {
-    let mut bytes = [0u8; 188];
-    bytes[0] = 0x47;
-    bytes[2] = pid;
-    Ok(Packet::of(&bytes).ok_or("packet")?)
 }
 
 /// Makes an event, which is answered so.

@@ -1,18 +1,14 @@
 //! Streams that go down connections as interleaved frames (RFC 2326, section 10.12).
 
-use crate::steps::{ask, drain, enter, give, leave, packet, tick, tunnel};
+use crate::steps::{ask, drain, enter, give, leave, tick, tunnel};
 use satip_base::Out;
+use satip_fixtures::packet;
+use satip_fixtures::texts::SETUP_INTERLEAVED;
 use satip_ts::Packet;
 use satip_tunnel::{Tunnel, TunnelAnswer};
 use std::alloc::Global;
 use std::process::Abort;
 use std::test::Fail;
-
-const SETUP: &[u8] =
-    b"SETUP rtsp://192.168.1.10/?src=1&freq=11361.75&pol=h&ro=0.35&msys=dvbs2&mtype=8psk&plts=on\
-    &sr=22000&fec=23&pids=0,16,17&x_pmt=100 RTSP/1.0\r\n\
-    CSeq: 1\r\n\
-    Transport: RTP/AVP/TCP;interleaved=0-1\r\n\r\n";
 
 const SETUP_REPLY: &[u8] = b"RTSP/1.0 200 OK\r\n\
     CSeq: 1\r\n\
@@ -70,7 +66,7 @@ fn play_six(
     packet: &Packet,
 ) -> Result<(), Fail> {
     enter(rt, tunnel, out, TunnelAnswer::Lane(1));
-    ask(rt, alloc, tunnel, out, 1, SETUP, 200)?;
+    ask(rt, alloc, tunnel, out, 1, SETUP_INTERLEAVED, 200)?;
     assert_eq!(rt; out.reply(), SETUP_REPLY);
     tick(rt, tunnel, out, 1000);
     ask(rt, alloc, tunnel, out, 1, PLAY, 200)?;
@@ -128,7 +124,7 @@ fn play_both(
     out: &mut Out,
 ) -> Result<(), Fail> {
     enter(rt, tunnel, out, TunnelAnswer::Lane(1));
-    ask(rt, alloc, tunnel, out, 1, SETUP, 200)?;
+    ask(rt, alloc, tunnel, out, 1, SETUP_INTERLEAVED, 200)?;
     ask(rt, alloc, tunnel, out, 1, PLAY, 200)?;
     enter(rt, tunnel, out, TunnelAnswer::Lane(2));
     ask(rt, alloc, tunnel, out, 2, JOIN, 200)?;

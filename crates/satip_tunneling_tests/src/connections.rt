@@ -3,6 +3,7 @@ ghost use Rattle.satip_tunnel.specs.Histories.{TunnelLegal};
 ghost use Rattle.satip_turn.specs.Shown.{IsOf, Knows};
 
 use crate::setting::shared;
+use satip_fixtures::texts::{OPTIONS, OPTIONS_REPLY, SETUP, SETUP_INTERLEAVED};
 use satip_interleave::{SharedTunnel, TunnelCaller, TunnelPass, TunnelRoom};
 use satip_memory::{MemoryConn, MemoryPacer};
 use satip_tunnel::TunnelEvent;
@@ -17,17 +18,6 @@ use std::test::Fail;
 const REPORT_AND_OPTIONS: &[u8] =
     b"$\x01\x00\x04\x00\x00\x00\x00OPTIONS * RTSP/1.0\r\nCSeq: 1\r\n\r\n";
 
-pub const OPTIONS: &[u8] = b"OPTIONS * RTSP/1.0\r\nCSeq: 1\r\n\r\n";
-
-pub const OPTIONS_REPLY: &[u8] =
-    b"RTSP/1.0 200 OK\r\nCSeq: 1\r\nPublic: OPTIONS, DESCRIBE, SETUP, PLAY, TEARDOWN\r\n\r\n";
-
-pub const SETUP: &[u8] =
-    b"SETUP rtsp://192.168.1.10/?src=1&freq=11361.75&pol=h&ro=0.35&msys=dvbs2&mtype=8psk&plts=on\
-    &sr=22000&fec=23&pids=0,16,17&x_pmt=100 RTSP/1.0\r\n\
-    CSeq: 1\r\n\
-    Transport: RTP/AVP/TCP;interleaved=0-1\r\n\r\n";
-
 /// The reply to the SETUP: its session was made by the key's first draw, and its transport is told
 /// in channels.
 pub const SETUP_REPLY: &[u8] = b"RTSP/1.0 200 OK\r\n\
@@ -35,12 +25,6 @@ pub const SETUP_REPLY: &[u8] = b"RTSP/1.0 200 OK\r\n\
     Session: 00000001ade0b876;timeout=60\r\n\
     Transport: RTP/AVP/TCP;unicast;interleaved=0-1\r\n\
     com.ses.streamID: 1\r\n\r\n";
-
-const SETUP_UDP: &[u8] =
-    b"SETUP rtsp://192.168.1.10/?src=1&freq=11361.75&pol=h&ro=0.35&msys=dvbs2&mtype=8psk&plts=on\
-    &sr=22000&fec=23&pids=0,16,17&x_pmt=100 RTSP/1.0\r\n\
-    CSeq: 1\r\n\
-    Transport: RTP/AVP;unicast;client_port=1400-1401\r\n\r\n";
 
 const REFUSED: &[u8] = b"RTSP/1.0 461 Unsupported Transport\r\nCSeq: 1\r\n\r\n";
 
@@ -127,19 +111,13 @@ fn serve_rows<R: Wait + Sync + Abort>(
     caller: &mut TunnelCaller<R>,
     room: &mut TunnelRoom,
 ) -> Result<(), Fail> {
+    serve(rt, alloc, caller, room, &expect_done(&[SETUP], REFUSED, 4))?;
     serve(
         rt,
         alloc,
         caller,
         room,
-        &expect_done(&[SETUP_UDP], REFUSED, 4),
-    )?;
-    serve(
-        rt,
-        alloc,
-        caller,
-        room,
-        &expect_done(&[SETUP], SETUP_REPLY, 4),
+        &expect_done(&[SETUP_INTERLEAVED], SETUP_REPLY, 4),
     )?;
     serve(
         rt,

@@ -3,9 +3,11 @@
 ghost use Rattle.satip_tunnel.specs.Histories.{TunnelLegal};
 ghost use Rattle.satip_turn.specs.Shown.{IsOf, Knows};
 
-use crate::connections::{KEY, SETUP, SETUP_REPLY};
+use crate::connections::{KEY, SETUP_REPLY};
 use crate::setting::shared;
 use satip_base::{Out, Put};
+use satip_fixtures::packet;
+use satip_fixtures::texts::SETUP_INTERLEAVED;
 use satip_interleave::{SharedTunnel, TunnelCaller, TunnelPass, TunnelRoom};
 use satip_memory::{MemoryConn, MemoryPacer};
 use satip_plain::Event;
@@ -90,14 +92,6 @@ impl<S: Service + Drop> Conn for Fed<S> {
     }
 }
 
-// A packet of PID 16.
-fn packet() -> Result<Packet, Fail> {
-    let mut bytes = [0u8; 188];
-    bytes[0] = 0x47;
-    bytes[2] = 16;
-    Ok(Packet::of(&bytes).ok_or("packet")?)
-}
-
 // The replies and the frames, one behind the other.
 fn wanted(alloc: Global, packet: &Packet) -> Result<Vec<u8>, Fail> {
     let mut bytes = Vec::new(alloc);
@@ -126,13 +120,13 @@ fn stream<R: Wait + Sync>(
     let other = server.split(&mut pass);
     let mut caller = TunnelCaller { rt, server, pass };
     let mut conn = Fed {
-        conn: MemoryConn::make(alloc, &[SETUP, PLAY, b""], &[], &[], 0)?,
+        conn: MemoryConn::make(alloc, &[SETUP_INTERLEAVED, PLAY, b""], &[], &[], 0)?,
         feeder: TunnelCaller {
             rt,
             server,
             pass: other,
         },
-        packet: packet()?,
+        packet: packet(16)?,
         out: Out::make(alloc)?,
         receives: 0,
     };
@@ -149,7 +143,7 @@ fn frames_are_sent_where_nothing_comes_in(rt: HostRuntime) -> Result<(), Fail> {
     let alloc = rt.alloc();
     let (server, pass) = shared(alloc)?;
     let (sent, end, entries) = stream(&rt, alloc, &server, pass)?;
-    let bytes = wanted(alloc, &packet()?)?;
+    let bytes = wanted(alloc, &packet(16)?)?;
     assert_eq!(rt; end, TunnelEnd::Done);
     assert_eq!(rt; sent.as_slice(), bytes.as_slice());
     assert_eq!(rt; entries, 16);

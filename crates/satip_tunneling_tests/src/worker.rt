@@ -2,9 +2,10 @@
 ghost use Rattle.satip_tunnel.specs.Histories.{TunnelLegal};
 ghost use Rattle.satip_turn.specs.Shown.{IsOf, Knows};
 
-use crate::connections::{KEY, OPTIONS, OPTIONS_REPLY};
+use crate::connections::KEY;
 use crate::setting::shared;
-use satip_base::Peer;
+use satip_fixtures::CLIENT;
+use satip_fixtures::texts::{OPTIONS, OPTIONS_REPLY};
 use satip_interleave::{SharedTunnel, TunnelCaller, TunnelPass};
 use satip_memory::{MemoryConn, MemoryDoors, MemoryPacer};
 use satip_tunnel_worker::{WorkerRoom, run_tunnel_worker};
@@ -14,8 +15,6 @@ use std::alloc::Global;
 use std::process::Abort;
 use std::sync::Wait;
 use std::test::Fail;
-
-const CLIENT: Peer = Peer { ip: 3232235796 };
 
 /// A GET of a target that isn't served.
 const GET: &[u8] = b"GET /a HTTP/1.1\r\n\r\n";

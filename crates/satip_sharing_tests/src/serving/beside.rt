@@ -1,21 +1,18 @@
 //! Two workers, a pump and the ticker, each of which waits for others.
 
-ghost use Rattle.std.specs.Prelude.{◌≡◌, ◌≤◌, length, IfOk};
-ghost use Rattle.satip_fronts.specs.FrontEnds.{IsNumbered};
+ghost use Rattle.std.specs.Prelude.{◌≡◌, length, IfOk};
 
 use super::gated::{Client, Gate, GatedClock, GatedDoors, GatedOutlet, GatedPacer, Signals};
-use satip_base::Peer;
 use satip_config::Config;
+use satip_fixtures::texts::{OPTIONS, OPTIONS_REPLY};
+use satip_fixtures::{CLIENT, FIRST_MUX, config_with, packet_bytes};
 use satip_memory::{MemoryClock, MemoryConn, MemoryDoors, MemoryOutlet, MemoryPacer, MemoryStore};
 use satip_pump::{PumpKit, TickKit};
 use satip_serve::{Jobs, ServeEnd, serve};
-use satip_tune::{Front, Mux, Pol, System};
 use satip_worker::WorkerKit;
 use satip_world::{ConnEnd, DoorKind};
 use std::alloc::Global;
 use std::test::Fail;
-
-const CLIENT: Peer = Peer { ip: 0xc0a8_0114 };
 
 const SETUP: &[u8] =
     b"SETUP rtsp://192.168.1.10/?src=1&freq=11361.75&pol=h&msys=dvbs2&sr=22000&pids=16 RTSP/1.0\r\n\
@@ -30,8 +27,6 @@ const TEARDOWN: &[u8] = b"TEARDOWN rtsp://192.168.1.10/stream=1 RTSP/1.0\r\n\
     CSeq: 3\r\n\
     Session: 0000000109737c6d\r\n\r\n";
 
-const OPTIONS: &[u8] = b"OPTIONS * RTSP/1.0\r\nCSeq: 1\r\n\r\n";
-
 // The first sequence number is the low half of the third word.
 const PLAYED: &[u8] = b"RTSP/1.0 200 OK\r\n\
     CSeq: 1\r\n\
@@ -45,9 +40,6 @@ const PLAYED: &[u8] = b"RTSP/1.0 200 OK\r\n\
     RTSP/1.0 200 OK\r\n\
     CSeq: 3\r\n\r\n";
 
-const ASKED: &[u8] =
-    b"RTSP/1.0 200 OK\r\nCSeq: 1\r\nPublic: OPTIONS, DESCRIBE, SETUP, PLAY, TEARDOWN\r\n\r\n";
-
 type Worker<'a> = WorkerKit<GatedDoors<'a>, GatedOutlet<'a>, GatedPacer<'a>>;
 
 type Pump<'a> = PumpKit<MemoryStore, GatedOutlet<'a>, GatedPacer<'a>>;
@@ -59,41 +51,6 @@ type GatedJobs<'a> = Jobs<
     MemoryStore,
     GatedClock<'a>,
 >;
-
-// One front end and one multiplex.
-fn config(alloc: Global) -> Result<Config, Fail>
-    ensures numbered { IfOk result (λ config. IsNumbered 1 config.fronts) }
-    ensures fronts { IfOk result (λ config. length config.fronts ≡ 1) }
-    ensures muxes { IfOk result (λ config. length config.muxes ≤ 256) }
-    ensures workers { IfOk result (λ config. config.workers ≡ 2) }
-{
-    let mut sources = [false; 256];
-    sources[1] = true;
-    let mut fronts = Vec::new(alloc);
-    fronts.push(Front {
-        number: 1,
-        sources,
-        systems: [true, true],
-    })?;
-    let mut muxes = Vec::new(alloc);
-    muxes.push(Mux {
-        src: 1,
-        freq: 11361750,
-        pol: Pol::H,
-        msys: System::Dvbs2,
-        sr: 22000,
-    })?;
-    Ok(Config {
-        address: 0xc0a8_010a,
-        rtsp_port: 5554,
-        http_port: 8875,
-        timeout: 60,
-        workers: 2,
-        fronts,
-        muxes,
-        files: Vec::new(alloc),
-    })
-}
 
 fn outlet<'a>(alloc: Global, signals: &'a Signals) -> Result<GatedOutlet<'a>, Fail> {
     Ok(GatedOutlet {
@@ -132,10 +89,7 @@ fn worker<'a>(alloc: Global, signals: &'a Signals, client: Client) -> Result<Wor
 
 // So many packets of PID 16.
 fn recording(alloc: Global, count: usize) -> Result<Vec<u8>, Fail> {
-    let mut packet = [0xff; 188];
-    packet[0] = 0x47;
-    packet[1] = 0;
-    packet[2] = 16;
+    let packet = packet_bytes(16);
     let mut bytes = Vec::new(alloc);
     for _ in 0..count {
         bytes.extend_from_slice(&packet)?;
@@ -189,7 +143,11 @@ fn has_served(kit: &Worker<'_>, replies: &[u8]) -> bool {
 fn jobs_that_wait_for_each_other_all_end(rt: HostRuntime) -> Result<(), Fail> {
     let alloc = rt.alloc();
     let signals = Signals::new();
-    let served = serve(&rt, alloc, config(alloc)?, kits(alloc, &signals)?);
+    let config = Config {
+        workers: 2,
+        ..config_with(alloc, 1, &[FIRST_MUX])?
+    };
+    let served = serve(&rt, alloc, config, kits(alloc, &signals)?);
     let Ok((last, end)) = served else {
         return Err("memory".into());
     };
@@ -198,6 +156,6 @@ fn jobs_that_wait_for_each_other_all_end(rt: HostRuntime) -> Result<(), Fail> {
     let workers = last.jobs.workers.as_slice();
     assert!(rt; workers.len() == 2);
     assert!(rt; has_served(&workers[0], PLAYED));
-    assert!(rt; has_served(&workers[1], ASKED));
+    assert!(rt; has_served(&workers[1], OPTIONS_REPLY));
     Ok(())
 }
