@@ -6,7 +6,6 @@ use Rattle.satip_plain.specs.declared.setting.Setting.{Setting}
 use Rattle.satip_plain.specs.Histories.{Item, Legal}
 use Rattle.satip_service.specs.Known.{Known}
 use Rattle.satip_turn.specs.Shown.{Cell, Knows}
-use Rattle.satip_world.specs.Dials.{Dial, Reads}
 use Rattle.satip_shared.specs.Calling.{ServerPass, known_by}
 use Rattle.satip_crew.specs.declared.end.ServeEnd.{ServeEnd}
 use Rattle.satip_crew.specs.declared.posts.Posts.{Posts}
@@ -18,7 +17,7 @@ use Rattle.satip_crew.proofs.WholeRuns.{run_over}
 use Rattle.satip_serve.specs.Views.{WorkerView, PumpView, TickView}
 use Rattle.satip_serve.specs.Deeds.{WorkerDid, PumpDid, TickerDid}
 use Rattle.satip_serve.specs.Done.{Caller, IsFull, WorkerDone, PumpDone, TickerDone}
-use Rattle.satip_serve.specs.Fresh.{FreshWorker, FreshPump, FreshTicker, FreshJobs, ReadOnce}
+use Rattle.satip_serve.specs.Fresh.{FreshWorker, FreshPump, FreshJobs, ReadOnce}
 use Rattle.satip_serve.specs.ServeRuns.{StopsOnce, HasNoStop, ServeRun}
 use Rattle.satip_serve.specs.Services.{Serves, SeatDid, IsFirst}
 use Rattle.satip_serve.proofs.Finishing.{worker_done, pump_done, ticker_done}
@@ -30,14 +29,6 @@ each_map P f (x ∷ xs) each = (each.0, each_map P f xs each.1)
 pub map_twice : {S T U : Type 0} (f : S → T) (h : T → U) (xs : List S) → map h (map f xs) ≡ map (λ x. h (f x)) xs
 map_twice f h [] = refl
 map_twice {U = U} f h (x ∷ xs) = ap (λ (us : List U). h (f x) ∷ us) (map_twice f h xs)
-
--- a clock that was read at the start was read once
-pub read_once : (before after : TickView) (start : ℕ) → FreshTicker before → Reads before.dial after.dial start → after.outbox ≡ before.outbox → ReadOnce start after
-read_once before after start fresh reads same = record {
-  told = fresh.told;
-  reads = subst (λ (d : Dial). Reads d after.dial start) fresh.dial reads;
-  outbox = same ∙ fresh.outbox;
-}
 
 stops_once : (is_stop : Item → Type 0) → ((e : Item) → is_stop e → e.event ≡ Stop) → (h : List Item) (callers : List Caller)
     → CrewStops is_stop h callers ⊎ CrewStopsNever h → StopsOnce h callers ⊎ HasNoStop h
@@ -126,7 +117,8 @@ module _ {X G W L P M T N : Type 0} (known : X → Known) (may_want : X → Bool
   pumps_seen = sym (map_twice (λ (s : Seat X P M). s.kit) pump_of run.second_ended) ∙ ap (λ (ps : List P). map pump_of ps) (sym run.pumps_are)
 
   pub serve_run : (accepts : ℕ) → IsFirst (pass o) → Knows (legal (cell o).setting) (pass n)
-      → FreshJobs accepts (cell o).setting.start (map worker_of before.workers.items) (map pump_of before.pumps.items) (tick_of before.ticker)
+      → FreshJobs (cell o).setting.start accepts
+      (record { workers = map worker_of before.workers.items; pumps = map pump_of before.pumps.items; ticker = tick_of before.ticker })
       → length before.workers.items ≡ (cell o).setting.config.workers → length before.pumps.items ≡ length (cell o).setting.config.fronts
       → ServeRun conn_tells outlet_tells (cell o).setting accepts (pass n).seen (pass n).kept (map worker_of after.workers.items) (map pump_of after.pumps.items) (tick_of after.ticker)
   serve_run accepts first knows fresh worker_count pump_count =
