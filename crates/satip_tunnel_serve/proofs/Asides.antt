@@ -116,9 +116,9 @@ pub have_outlets : {D O P M C : Type 0} (jobs : Jobs D O P M C) (quiet back : Jo
     → last.tick ≡ ticker_with back.tick ticker_outlet → HaveOutlets jobs last
 have_outlets {D} {O} {P} {M} {C} jobs quiet back worker_outlets pump_outlets ticker_outlet last are_workers are_pumps workers_have pumps_have ticker_has
     worker_count pump_count workers_are pumps_are tick_is = record {
-  workers = outlets_come_back (λ (q : WorkerKit D Silent P) (o : O). worker_with q o) (λ (k : WorkerKit D O P). silent_worker k) (λ (k : WorkerKit D O P). k.outlet)
-      (λ q o. refl) jobs.workers.items quiet.workers.items back.workers.items worker_outlets last.workers.items are_workers workers_have worker_count workers_are;
-  pumps = outlets_come_back (λ (q : PumpKit M Silent P) (o : O). pump_with q o) (λ (k : PumpKit M O P). silent_pump k) (λ (k : PumpKit M O P). k.outlet)
-      (λ q o. refl) jobs.pumps.items quiet.pumps.items back.pumps.items pump_outlets last.pumps.items are_pumps pumps_have pump_count pumps_are;
-  ticker = ap (λ (t : TickKit C O P). t.outlet) tick_is ∙ ticker_has;
-}
+      workers = outlets_come_back (λ (q : WorkerKit D Silent P) (o : O). worker_with q o) (λ (k : WorkerKit D O P). silent_worker k) (λ (k : WorkerKit D O P). k.outlet)
+          (λ q o. refl) jobs.workers.items quiet.workers.items back.workers.items worker_outlets last.workers.items are_workers workers_have worker_count workers_are;
+      pumps = outlets_come_back (λ (q : PumpKit M Silent P) (o : O). pump_with q o) (λ (k : PumpKit M O P). silent_pump k) (λ (k : PumpKit M O P). k.outlet)
+          (λ q o. refl) jobs.pumps.items quiet.pumps.items back.pumps.items pump_outlets last.pumps.items are_pumps pumps_have pump_count pumps_are;
+      ticker = ap (λ (t : TickKit C O P). t.outlet) tick_is ∙ ticker_has;
+    }
