@@ -57,7 +57,8 @@ pump_outboxes shelf outbox (kit ∷ kits) = ap (λ (all : List Outbox). outbox k
 pub outlets_stay : {D O P M C : Type 0} (hall : D → Hall) (outbox : O → Outbox) (shelf : M → StoreView) (dial : C → Dial) (jobs left : Jobs D O P M C)
     → HaveOutlets jobs left → OutletsStay (jobs_view hall outbox shelf dial jobs) (jobs_view hall outbox shelf dial left)
 outlets_stay {D} {O} {P} {M} {C} hall outbox shelf dial jobs left have = record {
-  workers = worker_outboxes hall outbox left.workers.items ∙ ap (λ (os : List O). map outbox os) have.workers ∙ sym (worker_outboxes hall outbox jobs.workers.items);
+  workers = worker_outboxes hall outbox left.workers.items
+      ∙ ap (λ (os : List O). map outbox os) have.workers ∙ sym (worker_outboxes hall outbox jobs.workers.items);
   pumps = pump_outboxes shelf outbox left.pumps.items ∙ ap (λ (os : List O). map outbox os) have.pumps ∙ sym (pump_outboxes shelf outbox jobs.pumps.items);
   ticker = ap outbox have.ticker;
 }
@@ -66,7 +67,8 @@ outlets_stay {D} {O} {P} {M} {C} hall outbox shelf dial jobs left have = record 
 workers_fresh : {D O P : Type 0} (accepts : ℕ) (hall : D → Hall) (outbox : O → Outbox) (kits : List (WorkerKit D O P))
     → Each (FreshWorker accepts) (map (worker_view hall outbox) kits) → Each (FreshWorker accepts) (map (worker_seen hall) kits)
 workers_fresh accepts hall outbox [] fresh = tt
-workers_fresh accepts hall outbox (k ∷ ks) fresh = (record { told = fresh.0.told; hall = fresh.0.hall; outbox = refl }, workers_fresh accepts hall outbox ks fresh.1)
+workers_fresh accepts hall outbox (k ∷ ks) fresh =
+    (record { told = fresh.0.told; hall = fresh.0.hall; outbox = refl }, workers_fresh accepts hall outbox ks fresh.1)
 
 pumps_fresh : {M O P : Type 0} (shelf : M → StoreView) (outbox : O → Outbox) (kits : List (PumpKit M O P))
     → Each FreshPump (map (pump_view shelf outbox) kits) → Each FreshPump (map (pump_seen shelf) kits)

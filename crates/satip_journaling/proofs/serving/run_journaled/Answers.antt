@@ -42,5 +42,6 @@ returns-clause-journaled g c =
       journals = journals;
       callers = ran.callers;
       typed = ran.typed;
-      yes = λ unfailed. judged_yes g.K.Sink.tells c.args.server.now.setting pass.seen (numbers_of pass.kept) _ _ _ ran.ran.knows.lawful ran.typed ran.callers journals unfailed;
+      yes = λ unfailed. judged_yes g.K.Sink.tells c.args.server.now.setting pass.seen (numbers_of pass.kept) _ _ _ ran.ran.knows.lawful
+          ran.typed ran.callers journals unfailed;
     }

@@ -31,4 +31,5 @@ returns-in-Err-clause-kits_unused g c =
 
 pub returns-in-Err-clause-unused_kits : goal.returns-in-Err-clause-unused_kits
 returns-in-Err-clause-unused_kits g c =
-    unused_of g.D.Doors.hall g.O.Outlet.outbox g.M.MuxStore.shelf g.C.Clock.dial c.args._accepts c.args.jobs c.in-Err.jobs c.requires.fresh c.in-Err.ensures.unused
+    unused_of g.D.Doors.hall g.O.Outlet.outbox g.M.MuxStore.shelf g.C.Clock.dial c.args._accepts c.args.jobs c.in-Err.jobs
+    c.requires.fresh c.in-Err.ensures.unused
