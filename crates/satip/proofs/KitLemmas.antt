@@ -19,9 +19,11 @@ each_of_all f P Q holds (x ∷ xs) all = (holds x (All-head P x xs all), each_of
 
 pub kits_fresh : (accepts : ℕ) (workers : List (WorkerKit Hall Outbox ℕ)) (pumps : List (PumpKit StoreCounts Outbox ℕ)) (tick : TickKit Dial Outbox ℕ)
     → All (IsUnusedWorker accepts) workers → All IsUnusedPump pumps → IsUnusedTick tick
-    → AreFresh accepts (map (worker_view (λ (h : Hall). h) (λ (o : Outbox). o)) workers)
-    (map (pump_view counts_view (λ (o : Outbox). o)) pumps)
-    (tick_view (λ (d : Dial). d) (λ (o : Outbox). o) tick)
+    → AreFresh accepts (record {
+      workers = map (worker_view (λ (h : Hall). h) (λ (o : Outbox). o)) workers;
+      pumps = map (pump_view counts_view (λ (o : Outbox). o)) pumps;
+      ticker = tick_view (λ (d : Dial). d) (λ (o : Outbox). o) tick;
+    })
 kits_fresh accepts workers pumps tick new_workers new_pumps new_tick = record {
   workers_are = each_of_all (worker_view (λ (h : Hall). h) (λ (o : Outbox). o)) (IsUnusedWorker accepts) (FreshWorker accepts)
       (λ kit new. record { told = false; hall = new.doors; outbox = new.outlet }) workers new_workers;

@@ -1,16 +1,10 @@
 -- What the journals of a run were sent, from the beginning on.
-use Rattle.std.proofs.Common.{◌≡◌, ℕ, inl, Bool, true, false, List, [], ◌∷◌, length, map, refl, subst, arith}
-use Rattle.std.specs.List.Sorted.{IsPermutation}
+use Rattle.std.proofs.Common.{◌≡◌, ℕ, inl, Bool, true, false, List, [], ◌∷◌, length, map, refl, ap, arith}
 use Rattle.satip_base.specs.Streams.{Drain, fresh_drain}
 use Rattle.satip_history.specs.Lists.{Each}
-use Rattle.satip_plain.specs.Histories.{Legal}
-use Rattle.satip_turn.specs.Views.{numbers_of}
-use Rattle.satip_journal.specs.Journals.{AreCallersOf}
-use Rattle.satip_journal.specs.Typed.{IsTyped}
-use Rattle.satip_journal_laws.specs.Laws.{JournalsAreOneHistory}
+use Rattle.satip_history.proofs.Elements.{each_follows}
 use Rattle.satip_journaling.specs.Sent.{AreSent, AreWhole, AreWritten}
-use Rattle.satip_serve.specs.declared.serving.Last.{Last}
-use Rattle.satip_journal_command.specs.Ran.{AreJudgedYes, journals_left, new_journals}
+use Rattle.satip_journal_command.specs.Ran.{new_journals}
 
 -- each element is so where its image is
 pub each_map : {A B : Type 0} (f : A → B) (P : B → Type 0) (xs : List A) → Each (λ x. P (f x)) xs → Each P (map f xs)
@@ -32,8 +26,7 @@ whole_sent tells (o ∷ os) [] (t ∷ ts) whole = absurd whole
 whole_sent tells (o ∷ os) (n ∷ ns) [] whole = absurd whole
 whole_sent tells (o ∷ os) (n ∷ ns) (t ∷ ts) whole = (inl whole.0, whole_sent tells os ns ts whole.1)
 
-pub written_sent : (tells : Type 0) (failed : Bool) (os ns : List Drain) (texts : List (List ℕ)) → AreWritten tells failed os ns texts
-    → AreSent tells os ns texts
+pub written_sent : (tells : Type 0) (failed : Bool) (os ns : List Drain) (texts : List (List ℕ)) → AreWritten tells failed os ns texts → AreSent tells os ns texts
 written_sent tells false os ns texts written = whole_sent tells os ns texts written
 written_sent tells true os ns texts written = written.0
 
@@ -59,17 +52,6 @@ were_new tells (o ∷ os) [] (t ∷ ts) new sent = absurd sent
 were_new tells (o ∷ os) (n ∷ ns) [] new sent = absurd sent
 were_new tells (o ∷ os) (n ∷ ns) (t ∷ ts) new sent = λ i. new.0 i ∷ were_new tells os ns ts new.1 sent.1 i
 
--- whole journals that tell their bytes are their texts
-pub texts_are : (tells : Type 0) (ns : List Drain) (texts : List (List ℕ)) → AreWhole tells (new_journals ns) ns texts → tells
-    → map (λ (d : Drain). d.sent) ns ≡ texts
-texts_are tells [] [] whole told = refl
-texts_are tells [] (t ∷ ts) whole told = absurd whole
-texts_are tells (n ∷ ns) [] whole told = absurd whole
-texts_are tells (n ∷ ns) (t ∷ ts) whole told = λ i. whole.0.content told i ∷ texts_are tells ns ts whole.1 told i
-
--- texts of a legal history are judged `yes`
-pub judged_yes : {D O P M C : Type 0} (l : Last D O P M C) (texts : List (List ℕ)) → JournalsAreOneHistory → Legal l.server.setting l.pass.seen
-    → Each IsTyped l.pass.seen → AreCallersOf (0 ∷ numbers_of l.pass.kept) l.pass.seen → texts ≡ journals_left l → AreJudgedYes l texts
-judged_yes l texts law legal typed callers are = λ shuffled perm.
-    let P : List (List ℕ) → Type 0 = λ ts. IsPermutation ts shuffled in
-    law l.server.setting l.pass.seen 0 (numbers_of l.pass.kept) shuffled legal typed callers (subst P are perm)
+-- nothing was sent to new journals
+pub new_sent : (ds : List Drain) → Each (λ d. d ≡ fresh_drain) ds → Each (λ d. d.sent ≡ []) ds
+new_sent ds new = each_follows (λ d. d ≡ fresh_drain) (λ d. d.sent ≡ []) (λ d is. ap (λ (e : Drain). e.sent) is) ds new

@@ -8,7 +8,8 @@ use Rattle.satip_reading.specs.Configurations.{Configured, Refused}
 use Rattle.satip_serve.specs.declared.kits.Jobs.{Jobs}
 use Rattle.satip_serve.specs.declared.serving.Last.{Last}
 use Rattle.satip_serve.specs.Fresh.{AreFresh}
-use Rattle.satip_serving.specs.Given.{JobsView, ComeUnused}
+use Rattle.satip_serve.specs.Views.{JobsView}
+use Rattle.satip_serving.specs.Given.{ComeUnused}
 use Rattle.satip_serving.specs.Servings.{GivenFrom, IsOneOf, IsNeitherOf}
 use Rattle.satip_telling.specs.Lines.{Says, configuration_line}
 use Rattle.satip_journal_command.specs.Asked.{first_jobs}
@@ -37,7 +38,7 @@ pub record JournalEnds {S D O P M C : Type 0} (config_tells conn_tells outlet_te
   pub read : (status ≡ 5 → ⊥) → IsSomeAnd source (λ s. (seen s).faults ≡ 0)
   -- the kits that the desk gave are what the jobs left, or no job began with them, and they come back untouched
   pub kits : MatchOption given (IsNeitherOf last unused) (λ _. IsOneOf last unused)
-  pub fresh : IfSome given (λ g. AreFresh accepts g.workers g.pumps g.ticker)
+  pub fresh : IfSome given (AreFresh accepts)
   pub kits_unused : IfSome unused (λ k. IsSomeAnd given (λ g. AreUntouched g (view k)))
   -- the journals that the desk gave to jobs, from job 0 on, come back, and where no job began nothing was sent to them
   pub asked_for : asked ≡ asked_before ++ first_jobs (length drains)

@@ -8,9 +8,9 @@ ghost use Rattle.satip_fronts.specs.FrontEnds.{IsNumbered};
 ghost use Rattle.satip_history.specs.Lists.{Each};
 ghost use Rattle.satip_reading.specs.Configurations.{Configured, IsServed, Refused};
 ghost use Rattle.satip_serve.specs.Fresh.{AreFresh};
-ghost use Rattle.satip_serve.specs.Views.{worker_view, pump_view, tick_view};
+ghost use Rattle.satip_serve.specs.Views.{jobs_view};
 ghost use Rattle.satip_world.specs.Counts.{Rises};
-ghost use Rattle.satip_serving.specs.Given.{jobs_view, ComeUnused};
+ghost use Rattle.satip_serving.specs.Given.{ComeUnused};
 ghost use Rattle.satip_serving.specs.Servings.{IsOneOf, IsNeitherOf};
 ghost use Rattle.satip_journal_command.specs.Asked.{first_jobs};
 ghost use Rattle.satip_journal_command.specs.Ends.{AreUntouched, JournalEnds};
@@ -23,7 +23,6 @@ use crate::ends::JournalEnd;
 use crate::telling::tell_journal;
 use satip_base::{Failed, Sink, Text};
 use satip_config::Config;
-use satip_journal_laws::journals_are_one_history;
 use satip_journaling::serve_journaled;
 use satip_reading::read_configuration;
 use satip_serve::{Jobs, Last};
@@ -83,10 +82,7 @@ fn run_jobs<
     requires pumps { length jobs.pumps.items ≡ length config.fronts }
     requires sinks { length sinks.items ≡ config.workers + length config.fronts + 2 }
     requires empty { Each (λ j. J.drain j ≡ fresh_drain) sinks.items }
-    requires fresh { AreFresh _accepts
-        (map (worker_view D.hall O.outbox) jobs.workers.items)
-        (map (pump_view M.shelf O.outbox) jobs.pumps.items)
-        (tick_view C.dial O.outbox jobs.tick) }
+    requires fresh { AreFresh _accepts (jobs_view D.hall O.outbox M.shelf C.dial jobs) }
     ensures one { IsOneOf result.last result.unused }
     ensures config { IfSome result.last (λ last. last.server.setting.config ≡ config) }
     ensures ran { IfSome result.last (λ last. JournalRun D.Conn.tells O.tells J.tells _accepts
@@ -105,7 +101,6 @@ fn run_jobs<
     match serve_journaled(rt, alloc, config, jobs, sinks) {
         Ok((last, written, end)) => {
             keeps_laws(&last.server, &last.pass);
-            journals_are_one_history();
             Left {
                 end: JournalEnd::of_run(end, written.failed),
                 last: Some(last),
@@ -130,9 +125,7 @@ fn run_kits<R: Threads + Wait + Sync, K: Desk>(
     requires workers { length jobs.workers.items ≡ config.workers }
     requires pumps { length jobs.pumps.items ≡ length config.fronts }
     requires fresh { AreFresh accepts
-        (map (worker_view K.Doors.hall K.Outlet.outbox) jobs.workers.items)
-        (map (pump_view K.Store.shelf K.Outlet.outbox) jobs.pumps.items)
-        (tick_view K.Clock.dial K.Outlet.outbox jobs.tick) }
+        (jobs_view K.Doors.hall K.Outlet.outbox K.Store.shelf K.Clock.dial jobs) }
     ensures texts { K.text desk.new ≡ K.text desk.old }
     ensures handed { K.handed desk.new ≡ K.handed desk.old }
     ensures kits { K.given desk.new ≡ K.given desk.old }
@@ -179,8 +172,7 @@ fn run_source<R: Threads + Wait + Sync, K: Desk>(
     ensures handed { K.handed desk.new ≡ K.handed desk.old }
     ensures kits { MatchOption (K.given desk.new) (IsNeitherOf result.last result.unused)
         (λ _. IsOneOf result.last result.unused) }
-    ensures fresh { IfSome (K.given desk.new)
-        (λ given. AreFresh accepts given.workers given.pumps given.ticker) }
+    ensures fresh { IfSome (K.given desk.new) (AreFresh accepts) }
     ensures config { IfSome result.last (λ last. Configured K.Config.tells
         (K.Config.feed source.old) (K.Config.feed source.new)
         last.server.setting.config) }

@@ -1,24 +1,20 @@
 //! The server with all its jobs, each with a journal, from the first reading of the clock to the
 //! last join.
 
-ghost use Rattle.std.specs.Prelude.{◌≡◌, ◌+◌, ◌≤◌, ◌<◌, ◌^◌, ◌∷◌, false, map, length, vec_capacity, IfOk, IfErr};
+ghost use Rattle.std.specs.Prelude.{◌≡◌, ◌+◌, ◌≤◌, ◌<◌, ◌^◌, ◌∷◌, length, vec_capacity, IfOk, IfErr};
 ghost use Rattle.satip_fronts.specs.FrontEnds.{IsNumbered};
 ghost use Rattle.satip_history.specs.Lists.{Each};
 ghost use Rattle.satip_plain.specs.Histories.{Legal};
-ghost use Rattle.satip_turn.specs.Shown.{IsOf, Knows};
 ghost use Rattle.satip_turn.specs.Views.{numbers_of};
-ghost use Rattle.satip_serve.specs.Fresh.{AreFresh, Unused};
+ghost use Rattle.satip_serve.specs.Fresh.{AreFresh, FreshJobs, Unused};
 ghost use Rattle.satip_serve.specs.Ran.{CanRun, HaveRun};
-ghost use Rattle.satip_serve.specs.ServeRuns.{ServeRun, EndTells};
-ghost use Rattle.satip_serve.specs.Views.{worker_view, pump_view, tick_view};
-ghost use Rattle.satip_journal.specs.Journals.{AreCallersOf, journals};
+ghost use Rattle.satip_serve.specs.Views.{jobs_view};
+ghost use Rattle.satip_journal.specs.Journals.{AreCallersOf};
 ghost use Rattle.satip_journal.specs.Typed.{IsTyped};
 ghost use Rattle.satip_crew.specs.Crews.{IsSpace};
 ghost use Rattle.satip_journaling.specs.Gears.{WentOn, others_of};
 ghost use Rattle.satip_journaling.specs.Journaled.{Journaled};
-ghost use Rattle.satip_journaling.specs.Judged.{AreOneHistory};
 ghost use Rattle.satip_journaling.specs.Memories.{IsMemory};
-ghost use Rattle.satip_journaling.specs.Sent.{AreWritten};
 
 use crate::gears::{Gears, begin_journals, end_journals};
 use crate::memory::{Memory, take_memory};
@@ -68,13 +64,14 @@ fn run_gears<
     gears: Gears<K>,
     space: ServeSpace<Journal<'_, R, K>, D, O, P, M>,
 ) -> Ran<D, O, P, M, C, Gears<K>>
-    requires ready { CanRun server.now pass jobs }
+    requires ready { CanRun Legal server.now pass jobs }
     requires worker_space { IsSpace jobs.workers.items gears.workers.items
         space.worker_rooms.items space.workers.items (vec_capacity space.workers) }
     requires pump_space { IsSpace jobs.pumps.items gears.pumps.items
         space.pump_rooms.items space.pumps.items (vec_capacity space.pumps) }
-    ensures ran { HaveRun D.Conn.tells O.tells D.hall O.outbox M.shelf C.dial server.now jobs
-        result.pass result.jobs result.end }
+    ensures ran { HaveRun D.Conn.tells O.tells (FreshJobs server.now.setting.start) server.now
+        (jobs_view D.hall O.outbox M.shelf C.dial jobs) result.pass
+        (jobs_view D.hall O.outbox M.shelf C.dial result.jobs) result.end }
     ensures went_on { WentOn K.tells K.drain gears.root (others_of gears) result.journals.root
         (others_of result.journals) (numbers_of result.pass.kept) result.pass.seen }
     ensures worker_gears { length result.journals.workers.items ≡ length gears.workers.items }
@@ -141,7 +138,7 @@ fn run_journaled<
     mut sinks: Vec<K>,
     memory: Memory<'_, R, D, O, P, M, K>,
 ) -> Ran<D, O, P, M, C, Written<K>>
-    requires ready { CanRun server.now pass jobs }
+    requires ready { CanRun Legal server.now pass jobs }
     requires start { server.now.setting.start ≡ start }
     requires few_workers { length jobs.workers.items < 2 ^ 16 }
     requires few { length jobs.pumps.items ≤ 16 }
@@ -152,9 +149,10 @@ fn run_journaled<
         memory.space.pumps.items (vec_capacity memory.space.pumps) memory.lines.items
         memory.worker_gears.items (vec_capacity memory.worker_gears) memory.pump_gears.items
         (vec_capacity memory.pump_gears) }
-    ensures ran { HaveRun D.Conn.tells O.tells D.hall O.outbox M.shelf C.dial server.now jobs
-        result.pass result.jobs result.end }
-    ensures journaled { Journaled K.tells K.drain server.now.setting.start sinks.items result.pass
+    ensures ran { HaveRun D.Conn.tells O.tells (FreshJobs server.now.setting.start) server.now
+        (jobs_view D.hall O.outbox M.shelf C.dial jobs) result.pass
+        (jobs_view D.hall O.outbox M.shelf C.dial result.jobs) result.end }
+    ensures journaled { Journaled K.tells K.drain server.now.setting sinks.items result.pass
         result.journals }
 {
     let Memory {
@@ -184,47 +182,11 @@ fn run_journaled<
     }
 }
 
-// Takes all memory and runs the jobs; gives them and the sinks back where memory was refused.
-fn serve_all<
-    R: Threads + Wait + Sync,
-    D: Doors + Send + Drop,
-    O: Outlet + Send + Drop,
-    P: Pacer + Send + Drop,
-    M: MuxStore + Send + Drop,
-    C: Clock + Send + Drop,
-    K: Sink + Send + Drop,
->(
-    rt: &R,
-    alloc: Global,
-    server: &SharedServer,
-    pass: SharedPass,
-    start: u64,
-    jobs: Jobs<D, O, P, M, C>,
-    sinks: Vec<K>,
-) -> Result<Ran<D, O, P, M, C, Written<K>>, (Jobs<D, O, P, M, C>, Vec<K>)>
-    requires ready { CanRun server.now pass jobs }
-    requires start { server.now.setting.start ≡ start }
-    requires few_workers { length jobs.workers.items < 2 ^ 16 }
-    requires few { length jobs.pumps.items ≤ 16 }
-    requires sinks { length sinks.items ≡ length jobs.workers.items + length jobs.pumps.items + 2 }
-    ensures ran { IfOk result (λ ran. HaveRun D.Conn.tells O.tells D.hall O.outbox M.shelf C.dial
-        server.now jobs ran.pass ran.jobs ran.end) }
-    ensures journaled { IfOk result (λ ran. Journaled K.tells K.drain server.now.setting.start
-        sinks.items ran.pass ran.journals) }
-    ensures unused { IfErr result (λ back. back.0 ≡ jobs) }
-    ensures unused_sinks { IfErr result (λ back. back.1.items ≡ sinks.items) }
-{
-    match take_memory(alloc, jobs.workers.len(), jobs.pumps.len()) {
-        Ok(memory) => Ok(run_journaled(rt, server, pass, start, jobs, sinks, memory)),
-        Err(Want) => Err((jobs, sinks)),
-    }
-}
-
 /// Serves as `serve` does, and writes a journal for each job: one for caller 0, which makes the
 /// stop, then for the workers, the pumps in the order of front ends, and the ticker. Each has the
-/// lines of its job's entries, in order, with the places in the history and the job's number in
-/// that order, from 0; job 0's has the start line before them. Behind a put that failed nothing
-/// more is put on that sink; the jobs go on.
+/// lines of its job's entries, in order, with the places in the history and the job's number in that
+/// order, from 0; job 0's has the start line before them. Behind a put that failed nothing more is
+/// put on that sink; the jobs go on.
 ///
 /// All memory is taken before any job begins: where it was refused the kits come back, of which the
 /// clock alone was used, once, and the sinks as they were. It waits.
@@ -250,58 +212,22 @@ pub fn serve_journaled<
     requires pumps { length jobs.pumps.items ≡ length config.fronts }
     requires sinks { length sinks.items ≡ config.workers + length config.fronts + 2 }
 
-    // the configuration that was given, and a pass of the server
     ensures config { IfOk result (λ served. served.0.server.setting.config ≡ config) }
-    ensures of { IfOk result (λ served. IsOf served.0.pass served.0.server) }
-    ensures knows { IfOk result (λ served. Knows (Legal served.0.server.setting) served.0.pass) }
-
-    // the kits in their order, each worker's with its key, and each pump's with its recordings
-    ensures keys { IfOk result (λ served. map (λ kit. kit.key) served.0.jobs.workers.items
-        ≡ map (λ kit. kit.key) jobs.workers.items) }
-    ensures recordings { IfOk result (λ served. map (λ kit. (M.shelf kit.store).recording)
-        served.0.jobs.pumps.items
-        ≡ map (λ kit. (M.shelf kit.store).recording) jobs.pumps.items) }
-
-    // where the kits were fresh
-    ensures run { IfOk result (λ served. (accepts : _)
-        → AreFresh accepts (map (worker_view D.hall O.outbox) jobs.workers.items)
-        (map (pump_view M.shelf O.outbox) jobs.pumps.items)
-        (tick_view C.dial O.outbox jobs.tick)
-        → ServeRun D.Conn.tells O.tells served.0.server.setting accepts served.0.pass.seen
-        served.0.pass.kept
-        (map (worker_view D.hall O.outbox) served.0.jobs.workers.items)
-        (map (pump_view M.shelf O.outbox) served.0.jobs.pumps.items)
-        (tick_view C.dial O.outbox served.0.jobs.tick)) }
-    // why it ended so: all doors ended, or those of a worker failed, or the history is full
-    ensures ended { IfOk result (λ served. (accepts : _)
-        → AreFresh accepts (map (worker_view D.hall O.outbox) jobs.workers.items)
-        (map (pump_view M.shelf O.outbox) jobs.pumps.items)
-        (tick_view C.dial O.outbox jobs.tick)
-        → EndTells served.2 served.0.pass.seen (map (worker_view D.hall O.outbox)
-        served.0.jobs.workers.items)) }
-
-    // each sink was sent the lines of its job's entries, job 0's behind the start line: all of them
-    // where no put failed, else each at least a beginning, and one count of faults rose
-    ensures journals { IfOk result (λ served. AreWritten K.tells served.1.failed
-        (map K.drain sinks.items) (map K.drain served.1.sinks.items)
-        (journals served.0.server.setting.start 0 (numbers_of served.0.pass.kept)
-        served.0.pass.seen)) }
-    // these callers made all entries, whose values are of their types; so whole journals, put
-    // together in any order, are judged `yes`
-    ensures callers { IfOk result (λ served. AreCallersOf (0 ∷ numbers_of served.0.pass.kept)
-        served.0.pass.seen) }
-    ensures typed { IfOk result (λ served. Each IsTyped served.0.pass.seen) }
-    ensures yes { IfOk result (λ served. served.1.failed ≡ false
-        → AreOneHistory K.tells served.0.server.setting served.0.pass.seen
-        (map K.drain sinks.items) (map K.drain served.1.sinks.items)) }
-    ensures unused { IfErr result (λ back. Unused C.dial jobs.workers.items back.0.workers.items
-        jobs.pumps.items back.0.pumps.items jobs.tick back.0.tick) }
+    // the kits come back in their order; where they were fresh it was a serve run
+    ensures ran { IfOk result (λ served. HaveRun D.Conn.tells O.tells AreFresh served.0.server
+        (jobs_view D.hall O.outbox M.shelf C.dial jobs) served.0.pass
+        (jobs_view D.hall O.outbox M.shelf C.dial served.0.jobs) served.2) }
+    // each sink has its job's journal: what was put on it, where a put failed, and what they say
+    ensures journaled { IfOk result (λ served. Journaled K.tells K.drain served.0.server.setting
+        sinks.items served.0.pass served.1) }
+    ensures unused { IfErr result (λ back. Unused C.dial jobs back.0) }
     ensures unused_sinks { IfErr result (λ back. back.1.items ≡ sinks.items) }
 {
     let start = jobs.tick.clock.now();
     match make(alloc, config, start) {
-        Ok((server, pass)) => match serve_all(rt, alloc, &server, pass, start, jobs, sinks) {
-            Ok(ran) => {
+        Ok((server, pass)) => match take_memory(alloc, jobs.workers.len(), jobs.pumps.len()) {
+            Ok(memory) => {
+                let ran = run_journaled(rt, &server, pass, start, jobs, sinks, memory);
                 let last = Last {
                     server,
                     pass: ran.pass,
@@ -309,7 +235,7 @@ pub fn serve_journaled<
                 };
                 Ok((last, ran.journals, ran.end))
             }
-            Err((jobs, sinks)) => Err((jobs, sinks)),
+            Err(Want) => Err((jobs, sinks)),
         },
         Err(Want) => Err((jobs, sinks)),
     }

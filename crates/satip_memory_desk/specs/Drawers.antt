@@ -2,13 +2,12 @@
 use Rattle.std.specs.Prelude.{ℕ, List, map}
 use Rattle.satip_serve.specs.declared.kits.Jobs.{Jobs}
 use Rattle.satip_serve.specs.Fresh.{AreFresh}
-use Rattle.satip_serve.specs.Views.{PumpView, worker_view, pump_view, tick_view}
+use Rattle.satip_serve.specs.Views.{PumpView, JobsView, jobs_view, worker_view, tick_view}
 use Rattle.satip_pump.specs.declared.kits.PumpKit.{PumpKit}
 use Rattle.satip_world.specs.Dials.{Dial}
 use Rattle.satip_world.specs.Halls.{Hall}
 use Rattle.satip_world.specs.Outboxes.{Outbox}
 use Rattle.satip_memory.specs.Shelves.{Shelf, recording_in, store_view}
-use Rattle.satip_serving.specs.Given.{JobsView, jobs_view}
 use Rattle.satip_memory_desk.specs.Cabinets.{ShelfKit, GivenKits}
 use Rattle.satip_memory_desk.specs.declared.desk.Drawer.{Drawer}
 
@@ -16,12 +15,13 @@ use Rattle.satip_memory_desk.specs.declared.desk.Drawer.{Drawer}
 abbrev pub row_of : Drawer → List ℕ × List ℕ
 row_of drawer = (drawer.name.items, drawer.text.items)
 
+-- what is seen of kits over memory
+abbrev pub memory_view : {P : Type 0} → Jobs Hall Outbox P Shelf Dial → JobsView
+memory_view jobs = jobs_view (λ (h : Hall). h) (λ (o : Outbox). o) store_view (λ (d : Dial). d) jobs
+
 -- nothing was done with these kits, and their doors end after so many connections
 abbrev pub AreNewKits : {P : Type 0} → ℕ → Jobs Hall Outbox P Shelf Dial → Type 0
-AreNewKits accepts jobs = AreFresh accepts
-    (map (worker_view (λ (h : Hall). h) (λ (o : Outbox). o)) jobs.workers.items)
-    (map (pump_view store_view (λ (o : Outbox). o)) jobs.pumps.items)
-    (tick_view (λ (d : Dial). d) (λ (o : Outbox). o) jobs.tick)
+AreNewKits accepts jobs = AreFresh accepts (memory_view jobs)
 
 -- what is kept of kits over memory that are given
 abbrev pub shelf_kit : {P : Type 0} → PumpKit Shelf Outbox P → ShelfKit
@@ -46,7 +46,3 @@ shelf_view kit = record {
 
 abbrev pub given_view : GivenKits → JobsView
 given_view kits = record { workers = kits.workers; pumps = map shelf_view kits.pumps; ticker = kits.ticker }
-
--- what is seen of kits over memory
-abbrev pub memory_view : {P : Type 0} → Jobs Hall Outbox P Shelf Dial → JobsView
-memory_view jobs = jobs_view (λ (h : Hall). h) (λ (o : Outbox). o) store_view (λ (d : Dial). d) jobs

@@ -14,18 +14,22 @@ use Rattle.satip_world.specs.Halls.{Hall}
 use Rattle.satip_world.specs.Outboxes.{Outbox}
 use Rattle.satip_worker.specs.declared.kits.WorkerKit.{WorkerKit}
 use Rattle.satip_worker.specs.declared.worker.WorkerEnd.{WorkerEnd}
+use Rattle.satip_worker.specs.Progress.{Stage}
 use Rattle.satip_worker.specs.WorkerRun.{ServesDoors}
 use Rattle.satip_crew.specs.declared.end.ServeEnd.{ServeEnd}
 use Rattle.satip_serve.specs.Ends.{end_of_worker, end_of_job}
 use Rattle.satip_serve.specs.Views.{WorkerView, PumpView, TickView, worker_view, pump_view, tick_view}
+
+-- a service that knows this and always has memory, and an outlet
+abbrev pub never_wanting : Known → Outbox → Stage
+never_wanting known outbox = record { may_want = false; known = known; outbox = outbox }
 
 -- a worker served the connections that came by its doors, with this stream of its key
 pub record WorkerDid (conn_tells outlet_tells : Type 0) (number : ℕ) (o : WorkerView) (k : Known) (n : WorkerView) (l : Known) (end : ServeEnd) : Type 0 where
   pub ended : WorkerEnd
   pub end_is : end ≡ end_of_worker ended
   pub key : n.key ≡ o.key
-  pub serves : ServesDoors conn_tells outlet_tells o.key number (record { may_want = false; known = k; outbox = o.outbox })
-      (record { may_want = false; known = l; outbox = n.outbox }) o.hall n.hall ended
+  pub serves : ServesDoors conn_tells outlet_tells o.key number (never_wanting k o.outbox) (never_wanting l n.outbox) o.hall n.hall ended
 
 -- a pump asked and fed the packets of recordings for the front end of this number, and handed back each source that its
 -- store lent, one at a time

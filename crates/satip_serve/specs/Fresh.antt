@@ -1,12 +1,11 @@
 -- Kits on which no job began.
-use Rattle.std.specs.Prelude.{◌≡◌, ℕ, Bool, List}
+use Rattle.std.specs.Prelude.{◌≡◌, ℕ, Bool}
 use Rattle.satip_history.specs.Lists.{Each}
 use Rattle.satip_world.specs.Dials.{Dial, Reads, fresh_dial}
 use Rattle.satip_world.specs.Halls.{fresh_hall}
 use Rattle.satip_world.specs.Outboxes.{fresh_outbox}
-use Rattle.satip_pump.specs.declared.kits.PumpKit.{PumpKit}
-use Rattle.satip_pump.specs.declared.kits.TickKit.{TickKit}
-use Rattle.satip_serve.specs.Views.{WorkerView, PumpView, TickView}
+use Rattle.satip_serve.specs.declared.kits.Jobs.{Jobs}
+use Rattle.satip_serve.specs.Views.{WorkerView, PumpView, TickView, JobsView}
 
 -- doors with this limit by which nothing came yet, and an outlet that was given nothing
 pub record FreshWorker (accepts : ℕ) (worker : WorkerView) : Type 0 where
@@ -34,22 +33,22 @@ pub record ReadOnce (start : ℕ) (ticker : TickView) : Type 0 where
   pub outbox : ticker.outbox ≡ fresh_outbox
 
 -- all kits are fresh
-pub record AreFresh (accepts : ℕ) (workers : List WorkerView) (pumps : List PumpView) (ticker : TickView) : Type 0 where
-  pub workers_are : Each (FreshWorker accepts) workers
-  pub pumps_are : Each FreshPump pumps
-  pub ticker_is : FreshTicker ticker
+pub record AreFresh (accepts : ℕ) (kits : JobsView) : Type 0 where
+  pub workers_are : Each (FreshWorker accepts) kits.workers
+  pub pumps_are : Each FreshPump kits.pumps
+  pub ticker_is : FreshTicker kits.ticker
 
 -- the kits are the same but for one reading of the clock
-pub record Unused {W M O P C : Type 0} (dial : C → Dial) (workers workers' : List W) (pumps pumps' : List (PumpKit M O P)) (tick tick' : TickKit C O P) : Type 0 where
-  pub workers_same : workers' ≡ workers
-  pub pumps_same : pumps' ≡ pumps
+pub record Unused {D O P M C : Type 0} (dial : C → Dial) (given left : Jobs D O P M C) : Type 0 where
+  pub workers_same : left.workers.items ≡ given.workers.items
+  pub pumps_same : left.pumps.items ≡ given.pumps.items
   pub moment : ℕ
-  pub read : Reads (dial tick.clock) (dial tick'.clock) moment
-  pub outlet : tick'.outlet ≡ tick.outlet
-  pub pacer : tick'.pacer ≡ tick.pacer
+  pub read : Reads (dial given.tick.clock) (dial left.tick.clock) moment
+  pub outlet : left.tick.outlet ≡ given.tick.outlet
+  pub pacer : left.tick.pacer ≡ given.tick.pacer
 
 -- all kits are fresh, but that the clock was read once, for the start
-pub record FreshJobs (accepts start : ℕ) (workers : List WorkerView) (pumps : List PumpView) (ticker : TickView) : Type 0 where
-  pub workers_are : Each (FreshWorker accepts) workers
-  pub pumps_are : Each FreshPump pumps
-  pub ticker_is : ReadOnce start ticker
+pub record FreshJobs (start accepts : ℕ) (kits : JobsView) : Type 0 where
+  pub workers_are : Each (FreshWorker accepts) kits.workers
+  pub pumps_are : Each FreshPump kits.pumps
+  pub ticker_is : ReadOnce start kits.ticker

@@ -4,7 +4,7 @@ use Rattle.satip_plain.specs.declared.events.Event.TheVariants.{Stop}
 use Rattle.satip_plain.specs.declared.setting.Setting.{Setting}
 use Rattle.satip_plain.specs.Histories.{Item, Legal}
 use Rattle.satip_service.specs.Known.{Known}
-use Rattle.satip_turn.specs.Shown.{Cell, Keeps}
+use Rattle.satip_turn.specs.Shown.{Cell, Keeps, Shown}
 use Rattle.satip_shared.specs.Calling.{ServerPass, known_by}
 use Rattle.satip_crew.specs.declared.end.ServeEnd.{ServeEnd}
 use Rattle.satip_crew.specs.declared.seat.Seat.{Seat}
@@ -26,7 +26,7 @@ pub record Serves {X : Type 0} (known : X → Known) (may_want : X → Bool) (sa
   pub stops : (e : Item) → is_stop e → e.event ≡ Stop
 
 -- the pass of caller 0, which has made no entry, and from which none was split off
-pub record IsFirst (p : ServerPass) : Type 0 where
+pub record IsFirst {E A O C : Type 0} (p : Shown E A O C) : Type 0 where
   pub number : p.number ≡ 0
   pub own : p.own ≡ []
   pub kept : p.kept ≡ []

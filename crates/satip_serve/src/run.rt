@@ -1,6 +1,6 @@
 //! The run of all jobs over any service of the server.
 
-ghost use Rattle.std.specs.Prelude.{◌≡◌, map, length, vec_capacity};
+ghost use Rattle.std.specs.Prelude.{◌≡◌, length, vec_capacity};
 ghost use Rattle.std.specs.Thread.{IsSync};
 ghost use Rattle.satip_base.specs.Output.{Output};
 ghost use Rattle.satip_turn.specs.Shown.{Knows};
@@ -10,9 +10,9 @@ ghost use Rattle.satip_crew.specs.Crews.{IsSpace};
 ghost use Rattle.satip_serve.specs.declared.seat.PumpRoom.{PumpRoom};
 ghost use Rattle.satip_serve.specs.Deeds.{worker_deed, pump_deed, ticker_deed};
 ghost use Rattle.satip_serve.specs.Fresh.{FreshJobs};
-ghost use Rattle.satip_serve.specs.ServeRuns.{ServeRun, EndTells};
+ghost use Rattle.satip_serve.specs.Ran.{JobsRan};
 ghost use Rattle.satip_serve.specs.Services.{Serves, NeverWants, SeatDid, IsFirst};
-ghost use Rattle.satip_serve.specs.Views.{worker_view, pump_view, tick_view};
+ghost use Rattle.satip_serve.specs.Views.{posts_view};
 
 use crate::seat::{PumpRoom, pump_seat, tick_seat, work_seat};
 use crate::space::ServeSpace;
@@ -70,31 +70,11 @@ pub fn run_services<
         (SeatDid X.same X.known (ticker_deed O.tells C.dial O.outbox))
         root posts result.0 result.1 result.2 }
 
-    // the kits in their order, each worker's with its key, and each pump's with its recordings
-    ensures keys { map (λ kit. kit.key) result.1.workers.items
-        ≡ map (λ kit. kit.key) posts.workers.items }
-    ensures recordings { map (λ kit. (M.shelf kit.store).recording) result.1.pumps.items
-        ≡ map (λ kit. (M.shelf kit.store).recording) posts.pumps.items }
-
-    // where the kits were fresh, and the clock read once, for the start
-    ensures run { (accepts : _)
-        → FreshJobs accepts (X.cell root).setting.start
-        (map (worker_view D.hall O.outbox) posts.workers.items)
-        (map (pump_view M.shelf O.outbox) posts.pumps.items)
-        (tick_view C.dial O.outbox posts.ticker)
-        → ServeRun D.Conn.tells O.tells (X.cell root).setting accepts (X.pass result.0).seen
-        (X.pass result.0).kept
-        (map (worker_view D.hall O.outbox) result.1.workers.items)
-        (map (pump_view M.shelf O.outbox) result.1.pumps.items)
-        (tick_view C.dial O.outbox result.1.ticker) }
-    // why it ended so: all doors ended, or those of a worker failed, or the history is full
-    ensures ended { (accepts : _)
-        → FreshJobs accepts (X.cell root).setting.start
-        (map (worker_view D.hall O.outbox) posts.workers.items)
-        (map (pump_view M.shelf O.outbox) posts.pumps.items)
-        (tick_view C.dial O.outbox posts.ticker)
-        → EndTells result.2 (X.pass result.0).seen
-        (map (worker_view D.hall O.outbox) result.1.workers.items) }
+    // the kits come back in their order; where they were fresh, and the clock was read once, for
+    // the start, it was a serve run
+    ensures ran { JobsRan D.Conn.tells O.tells (FreshJobs (X.cell root).setting.start)
+        (X.cell root).setting (posts_view D.hall O.outbox M.shelf C.dial posts)
+        (X.pass result.0) (posts_view D.hall O.outbox M.shelf C.dial result.1) result.2 }
 {
     run_jobs(
         rt,

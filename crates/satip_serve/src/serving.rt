@@ -1,14 +1,12 @@
 //! The server with all its jobs, from the first reading of the clock to the last join.
 
-ghost use Rattle.std.specs.Prelude.{◌≡◌, ◌≤◌, map, length, vec_capacity, IfOk, IfErr};
+ghost use Rattle.std.specs.Prelude.{◌≡◌, ◌≤◌, length, vec_capacity, IfOk, IfErr};
 ghost use Rattle.satip_fronts.specs.FrontEnds.{IsNumbered};
 ghost use Rattle.satip_plain.specs.Histories.{Legal};
-ghost use Rattle.satip_turn.specs.Shown.{IsOf, Knows};
-ghost use Rattle.satip_serve.specs.Fresh.{AreFresh, Unused};
+ghost use Rattle.satip_serve.specs.Fresh.{AreFresh, FreshJobs, Unused};
 ghost use Rattle.satip_serve.specs.Ran.{CanRun, HaveRun};
-ghost use Rattle.satip_serve.specs.ServeRuns.{ServeRun, EndTells};
 ghost use Rattle.satip_serve.specs.Spaces.{IsSpaceFor};
-ghost use Rattle.satip_serve.specs.Views.{worker_view, pump_view, tick_view};
+ghost use Rattle.satip_serve.specs.Views.{jobs_view};
 
 use crate::kits::Jobs;
 use crate::run::run_services;
@@ -73,10 +71,12 @@ fn serve_all<
     pass: SharedPass,
     jobs: Jobs<D, O, P, M, C>,
 ) -> Result<(SharedPass, Jobs<D, O, P, M, C>, ServeEnd), Jobs<D, O, P, M, C>>
-    requires ready { CanRun server.now pass jobs }
+    requires ready { CanRun Legal server.now pass jobs }
     requires few { length jobs.pumps.items ≤ 16 }
-    ensures ran { IfOk result (λ served. HaveRun D.Conn.tells O.tells D.hall O.outbox M.shelf
-        C.dial server.now jobs served.0 served.1 served.2) }
+    ensures ran { IfOk result (λ served. HaveRun D.Conn.tells O.tells
+        (FreshJobs server.now.setting.start) server.now
+        (jobs_view D.hall O.outbox M.shelf C.dial jobs) served.0
+        (jobs_view D.hall O.outbox M.shelf C.dial served.1) served.2) }
     ensures unused { IfErr result (λ back. back ≡ jobs) }
 {
     match take_memory(alloc, jobs.workers.len(), jobs.pumps.len()) {
@@ -139,37 +139,12 @@ pub fn serve<
     requires workers { length jobs.workers.items ≡ config.workers }
     requires pumps { length jobs.pumps.items ≡ length config.fronts }
 
-    // the configuration that was given, and a pass of the server
     ensures config { IfOk result (λ served. served.0.server.setting.config ≡ config) }
-    ensures of { IfOk result (λ served. IsOf served.0.pass served.0.server) }
-    ensures knows { IfOk result (λ served. Knows (Legal served.0.server.setting) served.0.pass) }
-
-    // the kits in their order, each worker's with its key, and each pump's with its recordings
-    ensures keys { IfOk result (λ served. map (λ kit. kit.key) served.0.jobs.workers.items
-        ≡ map (λ kit. kit.key) jobs.workers.items) }
-    ensures recordings { IfOk result (λ served. map (λ kit. (M.shelf kit.store).recording)
-        served.0.jobs.pumps.items
-        ≡ map (λ kit. (M.shelf kit.store).recording) jobs.pumps.items) }
-
-    // where the kits were fresh
-    ensures run { IfOk result (λ served. (accepts : _)
-        → AreFresh accepts (map (worker_view D.hall O.outbox) jobs.workers.items)
-        (map (pump_view M.shelf O.outbox) jobs.pumps.items)
-        (tick_view C.dial O.outbox jobs.tick)
-        → ServeRun D.Conn.tells O.tells served.0.server.setting accepts served.0.pass.seen
-        served.0.pass.kept
-        (map (worker_view D.hall O.outbox) served.0.jobs.workers.items)
-        (map (pump_view M.shelf O.outbox) served.0.jobs.pumps.items)
-        (tick_view C.dial O.outbox served.0.jobs.tick)) }
-    // why it ended so: all doors ended, or those of a worker failed, or the history is full
-    ensures ended { IfOk result (λ served. (accepts : _)
-        → AreFresh accepts (map (worker_view D.hall O.outbox) jobs.workers.items)
-        (map (pump_view M.shelf O.outbox) jobs.pumps.items)
-        (tick_view C.dial O.outbox jobs.tick)
-        → EndTells served.1 served.0.pass.seen (map (worker_view D.hall O.outbox)
-        served.0.jobs.workers.items)) }
-    ensures unused { IfErr result (λ back. Unused C.dial jobs.workers.items back.workers.items
-        jobs.pumps.items back.pumps.items jobs.tick back.tick) }
+    // the kits come back in their order; where they were fresh it was a serve run
+    ensures ran { IfOk result (λ served. HaveRun D.Conn.tells O.tells AreFresh served.0.server
+        (jobs_view D.hall O.outbox M.shelf C.dial jobs) served.0.pass
+        (jobs_view D.hall O.outbox M.shelf C.dial served.0.jobs) served.1) }
+    ensures unused { IfErr result (Unused C.dial jobs) }
 {
     let start = jobs.tick.clock.now();
     match make(alloc, config, start) {

@@ -10,11 +10,11 @@ use Rattle.satip_reading.specs.Configurations.{Configured, Refused}
 use Rattle.satip_crew.specs.declared.end.ServeEnd.{ServeEnd}
 use Rattle.satip_crew.specs.declared.end.ServeEnd.TheVariants as serves
 use Rattle.satip_serve.specs.ServeRuns.{HasFault, MatchEnd}
-use Rattle.satip_serve.specs.Views.{WorkerView}
+use Rattle.satip_serve.specs.Views.{WorkerView, JobsView}
 use Rattle.satip_serving.specs.declared.serving.ServingEnd.{ServingEnd}
 use Rattle.satip_serving.specs.declared.serving.ServingEnd.TheVariants.{Served, Configuration as OfConfiguration, InputFault, DoorsFault, HistoryFull, OutOfMemory}
 use Rattle.satip_serving.specs.Ends.{ServingEnds}
-use Rattle.satip_serving.specs.Given.{JobsView, ComeUnused}
+use Rattle.satip_serving.specs.Given.{ComeUnused}
 use Rattle.satip_serving.specs.Ran.{JobsEnd}
 use Rattle.satip_serving.specs.Servings.{GivenFrom, end_of_run, IsServingOf, IsEndOfRun, AreUnused, IsOneOf, IsNeitherOf}
 use Rattle.satip_serving.specs.Statuses.{serve_statuses, serving_status}
@@ -182,7 +182,7 @@ ends_by : {S L J : Type 0} (ct : Type 0) (accepts : ℕ) (text : Option (List �
     (a : Feed) → IsStarted ct a text → IsRead ct a (seen s) end → IsLeft before now given last unused end
     → IfSome last (λ l. IsSomeAnd given (λ g. Ran g l)) → IfSome last (λ l. GivenFrom ct text (λ from. Configured ct from (seen s) (config_of l)))
     → MatchOption given (IsNeitherOf last unused) (λ _. IsOneOf last unused) → IfSome unused (λ k. IsSomeAnd given (λ g. ComeUnused g (view k)))
-    → IfSome unused (λ k. AreUnused accepts (view k).workers (view k).pumps (view k).ticker)
+    → IfSome unused (λ k. AreUnused accepts (view k))
     → ServingEnds ct (λ fault. end ≡ OfConfiguration fault) accepts text before now seen (Some s) view given config_of Ran last unused (serving_status end)
 ends_by ct accepts text before now seen s view given config_of Ran last unused end a started read left ran served_by kits kits_unused unused_kits = record {
   status_is = has_end end;
@@ -247,7 +247,7 @@ pub kits_ends : {S L J ct : Type 0} {accepts : ℕ} {text : Option (List ℕ)} {
     {a : Feed} (c : Configuration) (jobs : J) → IsStarted ct a text → Configured ct a (seen s) c → given ≡ Some (view jobs) → now ≡ before
     → IsOneOf last unused → IfSome last (λ l. config_of l ≡ c) → IfSome last (λ l. Ran (view jobs) l)
     → MatchOption last (end ≡ OutOfMemory) (λ _. IsEndOfRun end) → IfSome unused (λ k. ComeUnused (view jobs) (view k))
-    → IfSome unused (λ k. AreUnused accepts (view k).workers (view k).pumps (view k).ticker)
+    → IfSome unused (λ k. AreUnused accepts (view k))
     → ServingEnds ct (λ fault. end ≡ OfConfiguration fault) accepts text before now seen (Some s) view given config_of Ran last unused (serving_status end)
 kits_ends {ct = ct} {accepts = accepts} {text = text} {before = before} {now = now} {seen = seen} {s = s} {view = view} {given = given}
     {config_of = config_of} {Ran = Ran} {last = last} {unused = unused} end {a = a} c jobs started well is same one config ran begun kits_unused unused_kits =

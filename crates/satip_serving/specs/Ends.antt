@@ -8,7 +8,8 @@ use Rattle.satip_history.specs.Lists.{Has}
 use Rattle.satip_reading.specs.Configurations.{Configured, Refused}
 use Rattle.satip_serve.specs.declared.kits.Jobs.{Jobs}
 use Rattle.satip_serve.specs.declared.serving.Last.{Last}
-use Rattle.satip_serving.specs.Given.{JobsView, ComeUnused}
+use Rattle.satip_serve.specs.Views.{JobsView}
+use Rattle.satip_serving.specs.Given.{ComeUnused}
 use Rattle.satip_serving.specs.Ran.{ServingRun}
 use Rattle.satip_serving.specs.Servings.{GivenFrom, AreUnused, IsOneOf, IsNeitherOf}
 use Rattle.satip_serving.specs.Statuses.{serve_statuses, IsServeSettled}
@@ -32,7 +33,7 @@ pub record ServingEnds {S L J : Type 0} (config_tells : Type 0) (Told : ConfigFa
   -- one reading of the clock
   pub kits : MatchOption given (IsNeitherOf last unused) (λ _. IsOneOf last unused)
   pub kits_unused : IfSome unused (λ k. IsSomeAnd given (λ g. ComeUnused g (view k)))
-  pub unused_kits : IfSome unused (λ k. AreUnused accepts (view k).workers (view k).pumps (view k).ticker)
+  pub unused_kits : IfSome unused (λ k. AreUnused accepts (view k))
   -- when each status comes; how jobs ended with 0, 7 or 9 their run says
   pub unused_status : IfSome unused (λ _. status ≡ 70)
   pub served : (status ≡ 0) ⊎ (status ≡ 9) → IsSome last

@@ -5,9 +5,9 @@ use Rattle.satip_turn.specs.Shown.{IsOf}
 use Rattle.satip_serve.specs.declared.kits.Jobs.{Jobs}
 use Rattle.satip_serve.specs.declared.serving.Last.{Last}
 use Rattle.satip_serve.specs.Done.{IsFull}
+use Rattle.satip_serve.specs.Ran.{ComeBack}
 use Rattle.satip_serve.specs.ServeRuns.{ServeRun, HasFault}
-use Rattle.satip_serve.specs.Views.{WorkerView}
-use Rattle.satip_serving.specs.Given.{JobsView, ComeBack}
+use Rattle.satip_serve.specs.Views.{WorkerView, JobsView}
 use Rattle.satip_serving.specs.Laws.{SendsSelected, ObeysOwners, TellsBusy, PlaysRecordings}
 
 -- jobs ended with this status: all doors of the workers ended, or those of one failed, or the history is full

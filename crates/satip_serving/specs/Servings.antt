@@ -10,7 +10,7 @@ use Rattle.satip_crew.specs.declared.end.ServeEnd.{ServeEnd}
 use Rattle.satip_crew.specs.declared.end.ServeEnd.TheVariants as serves
 use Rattle.satip_history.specs.Lists.{Each}
 use Rattle.satip_serve.specs.Fresh.{FreshWorker, FreshPump, ReadOnce}
-use Rattle.satip_serve.specs.Views.{WorkerView, PumpView, TickView}
+use Rattle.satip_serve.specs.Views.{JobsView}
 use Rattle.satip_serving.specs.declared.serving.ServingEnd.{ServingEnd}
 use Rattle.satip_serving.specs.declared.serving.ServingEnd.TheVariants as ends
 
@@ -51,11 +51,11 @@ IsEndOfRun ends.HistoryFull = Unit {0}
 IsEndOfRun ends.OutOfMemory = ⊥
 
 -- no job began with these kits: nothing was done with them but that the ticker's clock was read once
-pub record AreUnused (accepts : ℕ) (workers : List WorkerView) (pumps : List PumpView) (ticker : TickView) : Type 0 where
-  pub workers_are : Each (FreshWorker accepts) workers
-  pub pumps_are : Each FreshPump pumps
+pub record AreUnused (accepts : ℕ) (kits : JobsView) : Type 0 where
+  pub workers_are : Each (FreshWorker accepts) kits.workers
+  pub pumps_are : Each FreshPump kits.pumps
   pub start : ℕ
-  pub ticker_is : ReadOnce start ticker
+  pub ticker_is : ReadOnce start kits.ticker
 
 -- one of both is there
 abbrev pub IsOneOf : {S T : Type 0} → Option S → Option T → Type 0

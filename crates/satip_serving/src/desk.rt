@@ -1,14 +1,13 @@
 //! What opens the files that the words name, and makes the kits of a server's jobs.
 
-ghost use Rattle.std.specs.Prelude.{◌≡◌, ℕ, List, [], ◌∷◌, ◌++◌, Option, Some, None, true, false, length, map, IfOk, IfErr, OnOk, OnErr};
+ghost use Rattle.std.specs.Prelude.{◌≡◌, ℕ, List, [], ◌∷◌, ◌++◌, Option, Some, None, true, false, length, IfOk, IfErr, OnOk, OnErr};
 ghost use Rattle.satip_base.specs.Streams.{fresh_drain};
 ghost use Rattle.satip_world.specs.Counts.{Rises};
-ghost use Rattle.satip_serve.specs.Views.{worker_view, pump_view, tick_view};
+ghost use Rattle.satip_serve.specs.Views.{JobsView, jobs_view};
 ghost use Rattle.satip_serve.specs.Fresh.{AreFresh};
 ghost use Rattle.satip_serving.specs.Desks.{FailsFor};
 ghost use Rattle.satip_inlet.specs.Inboxes.{fresh_inbox};
 ghost use Rattle.satip_world.specs.Lines.{fresh_line};
-ghost use Rattle.satip_serving.specs.Given.{JobsView, jobs_view};
 ghost use Rattle.satip_serving.specs.Handed.{Handed};
 
 use satip_base::{Address, Failed, Sink, Source, Text};
@@ -108,10 +107,8 @@ pub trait Desk {
         ensures kept { OnErr result (given self.new ≡ None) }
         ensures workers { IfOk result (λ jobs. length jobs.workers.items ≡ config.now.workers) }
         ensures pumps { IfOk result (λ jobs. length jobs.pumps.items ≡ length config.now.fronts) }
-        ensures fresh { IfOk result (λ jobs. AreFresh accepts
-            (map (worker_view Self.Doors.hall Self.Outlet.outbox) jobs.workers.items)
-            (map (pump_view Self.Store.shelf Self.Outlet.outbox) jobs.pumps.items)
-            (tick_view Self.Clock.dial Self.Outlet.outbox jobs.tick)) }
+        ensures fresh { IfOk result (λ jobs. AreFresh accepts (jobs_view
+            Self.Doors.hall Self.Outlet.outbox Self.Store.shelf Self.Clock.dial jobs)) }
         ensures no_fault { IfOk result (λ _. faults self.new ≡ faults self.old) }
         ensures failed { IfErr result (FailsFor (faults self.old) (faults self.new)) };
 

@@ -1,13 +1,13 @@
 //! `serve`: a configuration is read, the desk gives the kits of all jobs, and the jobs serve.
 
-ghost use Rattle.std.specs.Prelude.{◌≡◌, ℕ, List, Option, Some, None, length, map, IfSome, MatchOption};
+ghost use Rattle.std.specs.Prelude.{◌≡◌, ℕ, List, Option, Some, None, length, IfSome, MatchOption};
 ghost use Rattle.satip_fronts.specs.FrontEnds.{IsNumbered};
 ghost use Rattle.satip_reading.specs.Configurations.{IsServed};
 ghost use Rattle.satip_serve.specs.Fresh.{AreFresh};
-ghost use Rattle.satip_serve.specs.Views.{worker_view, pump_view, tick_view};
+ghost use Rattle.satip_serve.specs.Views.{jobs_view};
 ghost use Rattle.satip_world.specs.Recordings.{IsStarted};
 ghost use Rattle.satip_serving.specs.Ends.{Serves};
-ghost use Rattle.satip_serving.specs.Given.{jobs_view, ComeUnused};
+ghost use Rattle.satip_serving.specs.Given.{ComeUnused};
 ghost use Rattle.satip_serving.specs.Ran.{ServingRun};
 ghost use Rattle.satip_serving.specs.Servings.{end_of_reading, end_of_run, IsEndOfRun, AreUnused, IsOneOf};
 ghost use Rattle.satip_serving.specs.Statuses.{serving_status};
@@ -108,10 +108,7 @@ fn serve_jobs<
     requires served { IsServed config }
     requires workers { length jobs.workers.items ≡ config.workers }
     requires pumps { length jobs.pumps.items ≡ length config.fronts }
-    requires fresh { AreFresh _accepts
-        (map (worker_view D.hall O.outbox) jobs.workers.items)
-        (map (pump_view M.shelf O.outbox) jobs.pumps.items)
-        (tick_view C.dial O.outbox jobs.tick) }
+    requires fresh { AreFresh _accepts (jobs_view D.hall O.outbox M.shelf C.dial jobs) }
     ensures one { IsOneOf result.last result.unused }
     ensures config { IfSome result.last (λ last. last.server.setting.config ≡ config) }
     ensures ran { IfSome result.last (λ last. ServingRun D.Conn.tells O.tells _accepts
@@ -123,9 +120,7 @@ fn serve_jobs<
         (jobs_view D.hall O.outbox M.shelf C.dial jobs)
         (jobs_view D.hall O.outbox M.shelf C.dial kits)) }
     ensures unused_kits { IfSome result.unused (λ kits. AreUnused _accepts
-        (map (worker_view D.hall O.outbox) kits.workers.items)
-        (map (pump_view M.shelf O.outbox) kits.pumps.items)
-        (tick_view C.dial O.outbox kits.tick)) }
+        (jobs_view D.hall O.outbox M.shelf C.dial kits)) }
 {
     match serve(rt, alloc, config, jobs) {
         Ok((last, end)) => {

@@ -6,7 +6,8 @@ use Rattle.satip_turn.specs.Shown.{IsOf}
 use Rattle.satip_crew.specs.Passes.{IsFull}
 use Rattle.satip_serve.specs.declared.kits.Jobs.{Jobs}
 use Rattle.satip_serving.specs.Ends.{ServingEnds}
-use Rattle.satip_serving.specs.Given.{JobsView, ComeBack}
+use Rattle.satip_serve.specs.Ran.{ComeBack}
+use Rattle.satip_serve.specs.Views.{JobsView}
 use Rattle.satip_serving.specs.Laws.{SendsSelected, ObeysOwners, TellsBusy}
 use Rattle.satip_serving.specs.Ran.{JobsEnd}
 use Rattle.satip_tunnel.specs.Histories.{inners}

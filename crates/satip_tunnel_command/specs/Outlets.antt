@@ -1,7 +1,6 @@
 -- The outlets of kits that jobs left.
 use Rattle.std.specs.Prelude.{◌≡◌, map}
-use Rattle.satip_serving.specs.Given.{JobsView}
-use Rattle.satip_serve.specs.Views.{WorkerView, PumpView}
+use Rattle.satip_serve.specs.Views.{WorkerView, PumpView, JobsView}
 
 -- they show what those of the kits showed that were given, each at its place: nothing was sent
 pub record OutletsStay (given left : JobsView) : Type 0 where

@@ -4,3 +4,4 @@ mod Seating
 mod Ended
 mod WholeRuns
 mod Asides
+mod Starting

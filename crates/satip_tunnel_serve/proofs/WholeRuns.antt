@@ -16,11 +16,11 @@ use Rattle.satip_crew.specs.Runs.{HasOne, HasNoStop, MatchEnd, Run, StopsOnce}
 use Rattle.satip_crew.proofs.Ended.{end_over}
 use Rattle.satip_crew.proofs.WholeRuns.{run_over}
 use Rattle.satip_serve.specs.Fresh.{FreshWorker, FreshPump, FreshJobs, ReadOnce}
+use Rattle.satip_serve.specs.Services.{IsFirst}
 use Rattle.satip_serve.specs.Views.{WorkerView, PumpView, TickView}
 use Rattle.satip_serve.proofs.WholeRuns.{each_map, map_twice}
 use Rattle.satip_tunnel_serve.specs.Deeds.{SeatDid, TunnelWorkerDid, TunnelPumpDid, TunnelTickerDid}
 use Rattle.satip_tunnel_serve.specs.Done.{TunnelRow, TunnelWorkerDone, TunnelPumpDone, TunnelTickerDone}
-use Rattle.satip_tunnel_serve.specs.Services.{IsFirst}
 use Rattle.satip_tunnel_serve.specs.TunnelRuns.{IsTunnelStop, TunnelEndTells, TunnelServeRun}
 use Rattle.satip_tunnel_serve.proofs.Ended.{one_worker_tells, one_pump_tells, one_ticker_tells}
 use Rattle.satip_tunnel_serve.proofs.Finishing.{worker_done, tunnel_pump_done, tunnel_ticker_done}
@@ -61,9 +61,10 @@ run_is_tunnels is_stop legal stops lawful conn_tells c accepts seen kept workers
   covered = run.covered;
 }
 
--- lists of which the same is seen are as long
-pub as_long : {S T U : Type 0} (f : S → U) (h : T → U) (xs : List S) (ys : List T) → map f xs ≡ map h ys → length xs ≡ length ys
-as_long {U = U} f h xs ys same = sym (length-map xs f) ∙ ap (λ (us : List U). length us) same ∙ length-map ys h
+-- kits of which a part is seen to be the same are as many
+pub as_many : {K V U : Type 0} (see : K → V) (part : V → U) (xs ys : List K) → map part (map see xs) ≡ map part (map see ys) → length xs ≡ length ys
+as_many {U = U} see part xs ys same =
+    sym (length-map xs see) ∙ sym (length-map (map see xs) part) ∙ ap (λ (us : List U). length us) same ∙ length-map (map see ys) part ∙ length-map ys see
 
 -- what each kind of job did, as a relation of kits
 abbrev pub works : {W : Type 0} → (conn_tells : Type 0) → (W → WorkerView) → ℕ → W → CallerSeat → W → CallerSeat → ServeEnd → Type 0
@@ -109,7 +110,8 @@ module _ {X G W L P M T N : Type 0} (cell : X → Cell Setting) (pass : X → Sh
 
   pub tunnel_run : ((t : TunnelItem) → is_stop t → IsTunnelStop t) → ((c : Setting) (h : List TunnelItem) → legal c h → TunnelLegal c h) → (accepts : ℕ)
       → IsFirst (pass o) → Knows (legal (cell o).setting) (pass n)
-      → FreshJobs accepts (cell o).setting.start (map worker_of before.workers.items) (map pump_of before.pumps.items) (tick_of before.ticker)
+      → FreshJobs (cell o).setting.start accepts
+      (record { workers = map worker_of before.workers.items; pumps = map pump_of before.pumps.items; ticker = tick_of before.ticker })
       → length before.workers.items ≡ (cell o).setting.config.workers → length before.pumps.items ≡ length (cell o).setting.config.fronts
       → TunnelServeRun conn_tells (cell o).setting accepts (pass n).seen (pass n).kept (map worker_of after.workers.items) (map pump_of after.pumps.items)
       (tick_of after.ticker)

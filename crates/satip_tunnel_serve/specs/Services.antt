@@ -1,5 +1,5 @@
 -- Callers of a tunnel that are services of its server, at the seats of its jobs.
-use Rattle.std.specs.Prelude.{◌≡◌, ℕ, Bool, List, []}
+use Rattle.std.specs.Prelude.{◌≡◌, ℕ, Bool, List}
 use denote.Ref.{MutBor}
 use denote.Param.Members.{Shared}
 use Rattle.satip_plain.specs.declared.setting.Setting.{Setting}
@@ -30,13 +30,6 @@ pub record ServesInTunnel {X : Type 0} (known : X → Known) (may_want : X → B
   pub same_caller : (x y : X) → same x y → SameCaller (cell x) (pass x) (cell y) (pass y)
   pub lawful : (c : Setting) (h : List TunnelItem) → legal c h → TunnelLegal c h
   pub stops : (t : TunnelItem) → is_stop t → IsTunnelStop t
-
--- the pass of caller 0, which has made no entry, and from which none was split off
-pub record IsFirst (p : ShownPass) : Type 0 where
-  pub number : p.number ≡ 0
-  pub own : p.own ≡ []
-  pub kept : p.kept ≡ []
-  pub made : p.made ≡ []
 
 -- a pump was run at its seat, and the ticker, over the same service, with an outlet that sends nothing
 abbrev pub PumpedAtSeat : {X M P L : Type 0} → (same : X → X → Type 0) → (X → Known) → (M → StoreView) → Seat X (PumpKit M Silent P) L → Seat X (PumpKit M Silent P) L → Type 0

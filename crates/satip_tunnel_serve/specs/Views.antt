@@ -5,7 +5,9 @@ use Rattle.satip_world.specs.Recordings.{StoreView}
 use Rattle.satip_pump.specs.declared.kits.PumpKit.{PumpKit}
 use Rattle.satip_pump.specs.declared.kits.TickKit.{TickKit}
 use Rattle.satip_worker.specs.declared.kits.WorkerKit.{WorkerKit}
-use Rattle.satip_serve.specs.Views.{WorkerView, PumpView, TickView, worker_view, pump_view, tick_view}
+use Rattle.satip_crew.specs.declared.posts.Posts.{Posts}
+use Rattle.satip_serve.specs.declared.kits.Jobs.{Jobs}
+use Rattle.satip_serve.specs.Views.{WorkerView, PumpView, TickView, JobsView, worker_view, pump_view, tick_view, jobs_view, posts_view}
 use Rattle.satip_silent.specs.Silences.{no_outbox}
 
 abbrev pub worker_seen : {D O P : Type 0} → (D → Hall) → WorkerKit D O P → WorkerView
@@ -16,3 +18,9 @@ pump_seen shelf kit = pump_view shelf no_outbox kit
 
 abbrev pub ticker_seen : {C O P : Type 0} → (C → Dial) → TickKit C O P → TickView
 ticker_seen dial kit = tick_view dial no_outbox kit
+
+abbrev pub jobs_seen : {D O P M C : Type 0} → (D → Hall) → (M → StoreView) → (C → Dial) → Jobs D O P M C → JobsView
+jobs_seen hall shelf dial jobs = jobs_view hall no_outbox shelf dial jobs
+
+abbrev pub posts_seen : {D O P M C G : Type 0} → (D → Hall) → (M → StoreView) → (C → Dial) → Posts (WorkerKit D O P) (PumpKit M O P) (TickKit C O P) G → JobsView
+posts_seen hall shelf dial posts = posts_view hall no_outbox shelf dial posts

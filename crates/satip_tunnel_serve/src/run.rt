@@ -1,15 +1,15 @@
 //! The run of all jobs of a tunnel.
 
-ghost use Rattle.std.specs.Prelude.{◌≡◌, map, length, vec_capacity};
+ghost use Rattle.std.specs.Prelude.{◌≡◌, length, vec_capacity};
 ghost use Rattle.std.specs.Thread.{IsSync};
 ghost use Rattle.satip_turn.specs.Shown.{Knows};
 ghost use Rattle.satip_crew.specs.Crews.{IsSpace};
 ghost use Rattle.satip_serve.specs.Fresh.{FreshJobs};
-ghost use Rattle.satip_serve.specs.Services.{NeverWants};
+ghost use Rattle.satip_serve.specs.Services.{IsFirst, NeverWants};
 ghost use Rattle.satip_tunnel_serve.specs.Deeds.{worker_deed};
-ghost use Rattle.satip_tunnel_serve.specs.Services.{IsFirst, PumpedAtSeat, ServesInTunnel, TickedAtSeat, WorksSo};
-ghost use Rattle.satip_tunnel_serve.specs.TunnelRuns.{TunnelEndTells, TunnelServeRun};
-ghost use Rattle.satip_tunnel_serve.specs.Views.{worker_seen, pump_seen, ticker_seen};
+ghost use Rattle.satip_tunnel_serve.specs.Ran.{TunnelJobsRan};
+ghost use Rattle.satip_tunnel_serve.specs.Services.{PumpedAtSeat, ServesInTunnel, TickedAtSeat, WorksSo};
+ghost use Rattle.satip_tunnel_serve.specs.Views.{posts_seen};
 
 use satip_base::Out;
 use satip_crew::{Crew, Posts, Seat, ServeEnd, Space, run_jobs};
@@ -77,28 +77,11 @@ pub fn run_in_tunnel<
     ensures cell { X.cell result.0 ≡ X.cell root }
     ensures knows { Knows (X.Crew.legal (X.cell root).setting) (X.pass result.0) }
 
-    // the kits in their order, each worker's with its key, and each pump's with its recordings
-    ensures keys { map (λ kit. kit.key) result.1.workers.items
-        ≡ map (λ kit. kit.key) posts.workers.items }
-    ensures recordings { map (λ kit. (M.shelf kit.store).recording) result.1.pumps.items
-        ≡ map (λ kit. (M.shelf kit.store).recording) posts.pumps.items }
-
-    // where the kits were fresh, and the clock read once, for the start
-    ensures run { (accepts : _)
-        → FreshJobs accepts (X.cell root).setting.start
-        (map (worker_seen D.hall) posts.workers.items) (map (pump_seen M.shelf) posts.pumps.items)
-        (ticker_seen C.dial posts.ticker)
-        → TunnelServeRun D.Conn.tells (X.cell root).setting accepts (X.pass result.0).seen
-        (X.pass result.0).kept
-        (map (worker_seen D.hall) result.1.workers.items)
-        (map (pump_seen M.shelf) result.1.pumps.items) (ticker_seen C.dial result.1.ticker) }
-    // why it ended so: all doors ended, or those of a worker failed, or the history is full
-    ensures ended { (accepts : _)
-        → FreshJobs accepts (X.cell root).setting.start
-        (map (worker_seen D.hall) posts.workers.items) (map (pump_seen M.shelf) posts.pumps.items)
-        (ticker_seen C.dial posts.ticker)
-        → TunnelEndTells result.2 (X.pass result.0).seen
-        (map (worker_seen D.hall) result.1.workers.items) }
+    // the kits come back in their order; where they were fresh, and the clock was read once, for
+    // the start, it was a run of the tunnel
+    ensures ran { TunnelJobsRan D.Conn.tells (FreshJobs (X.cell root).setting.start)
+        (X.cell root).setting (posts_seen D.hall M.shelf C.dial posts) (X.pass result.0)
+        (posts_seen D.hall M.shelf C.dial result.1) result.2 }
 {
     run_jobs(
         rt,

@@ -1,18 +1,16 @@
 //! A tunnel with all its jobs, from the first reading of the clock to the last join.
 
-ghost use Rattle.std.specs.Prelude.{◌≡◌, ◌≤◌, map, length, vec_capacity, IfOk, IfErr};
+ghost use Rattle.std.specs.Prelude.{◌≡◌, ◌≤◌, length, vec_capacity, IfOk, IfErr};
 ghost use Rattle.std.specs.Thread.{IsSync};
 ghost use Rattle.satip_fronts.specs.FrontEnds.{IsNumbered};
-ghost use Rattle.satip_turn.specs.Shown.{IsOf, Knows};
 ghost use Rattle.satip_serve.specs.Fresh.{AreFresh, FreshJobs, Unused};
+ghost use Rattle.satip_serve.specs.Ran.{CanRun};
 ghost use Rattle.satip_serve.specs.Spaces.{IsSpaceFor};
-ghost use Rattle.satip_serve.specs.Views.{worker_view, pump_view, tick_view};
 ghost use Rattle.satip_tunnel.specs.Histories.{TunnelLegal};
 ghost use Rattle.satip_tunneling.specs.Seats.{seated};
 ghost use Rattle.satip_tunnel_serve.specs.Deeds.{WorkedAtSeat};
-ghost use Rattle.satip_tunnel_serve.specs.Services.{IsFirst};
-ghost use Rattle.satip_tunnel_serve.specs.TunnelRuns.{TunnelEndTells, TunnelServeRun};
-ghost use Rattle.satip_tunnel_serve.specs.Views.{worker_seen, pump_seen, ticker_seen};
+ghost use Rattle.satip_tunnel_serve.specs.Ran.{HaveOutlets, HaveTunneled};
+ghost use Rattle.satip_tunnel_serve.specs.Views.{worker_seen, jobs_seen};
 
 use crate::aside::{put_aside, take_back};
 use crate::run::{TunnelSpace, run_in_tunnel};
@@ -63,37 +61,17 @@ fn run_silent<
     gears: Gears,
     space: TunnelSpace<TunnelCaller<'a, R>, D, WorkerRoom, P, M>,
 ) -> (TunnelPass, Jobs<D, Silent, P, M, C>, ServeEnd)
-    requires of { IsOf pass server.now }
-    requires knows { Knows (TunnelLegal server.now.setting) pass }
-    requires first { IsFirst pass }
+    requires ready { CanRun TunnelLegal server.now pass jobs }
     requires worker_space { IsSpaceFor (length jobs.workers.items) gears.workers.items
         space.worker_rooms.items space.workers.items (vec_capacity space.workers) }
     requires pump_space { IsSpaceFor (length jobs.pumps.items) gears.pumps.items
         space.pump_rooms.items space.pumps.items (vec_capacity space.pumps) }
-    requires workers { length jobs.workers.items ≡ server.now.setting.config.workers }
-    requires pumps { length jobs.pumps.items ≡ length server.now.setting.config.fronts }
     requires few { length jobs.pumps.items ≤ 16 }
-    ensures of { IsOf result.0 server.now }
-    ensures knows { Knows (TunnelLegal server.now.setting) result.0 }
+    ensures ran { HaveTunneled D.Conn.tells (FreshJobs server.now.setting.start) server.now
+        (jobs_seen D.hall M.shelf C.dial jobs) result.0
+        (jobs_seen D.hall M.shelf C.dial result.1) result.2 }
     ensures worker_count { length result.1.workers.items ≡ length jobs.workers.items }
     ensures pump_count { length result.1.pumps.items ≡ length jobs.pumps.items }
-    ensures keys { map (λ kit. kit.key) result.1.workers.items
-        ≡ map (λ kit. kit.key) jobs.workers.items }
-    ensures recordings { map (λ kit. (M.shelf kit.store).recording) result.1.pumps.items
-        ≡ map (λ kit. (M.shelf kit.store).recording) jobs.pumps.items }
-    ensures run { (accepts : _)
-        → FreshJobs accepts server.now.setting.start
-        (map (worker_seen D.hall) jobs.workers.items) (map (pump_seen M.shelf) jobs.pumps.items)
-        (ticker_seen C.dial jobs.tick)
-        → TunnelServeRun D.Conn.tells server.now.setting accepts result.0.seen result.0.kept
-        (map (worker_seen D.hall) result.1.workers.items)
-        (map (pump_seen M.shelf) result.1.pumps.items) (ticker_seen C.dial result.1.tick) }
-    ensures ended { (accepts : _)
-        → FreshJobs accepts server.now.setting.start
-        (map (worker_seen D.hall) jobs.workers.items) (map (pump_seen M.shelf) jobs.pumps.items)
-        (ticker_seen C.dial jobs.tick)
-        → TunnelEndTells result.2 result.0.seen
-        (map (worker_seen D.hall) result.1.workers.items) }
 {
     let posts = Posts {
         workers: jobs.workers,
@@ -146,39 +124,12 @@ fn serve_all<
     pass: TunnelPass,
     jobs: Jobs<D, O, P, M, C>,
 ) -> Result<(TunnelPass, Jobs<D, O, P, M, C>, ServeEnd), Jobs<D, O, P, M, C>>
-    requires of { IsOf pass server.now }
-    requires knows { Knows (TunnelLegal server.now.setting) pass }
-    requires first { IsFirst pass }
-    requires workers { length jobs.workers.items ≡ server.now.setting.config.workers }
-    requires pumps { length jobs.pumps.items ≡ length server.now.setting.config.fronts }
+    requires ready { CanRun TunnelLegal server.now pass jobs }
     requires few { length jobs.pumps.items ≤ 16 }
-    ensures of { IfOk result (λ served. IsOf served.0 server.now) }
-    ensures knows { IfOk result (λ served. Knows (TunnelLegal server.now.setting) served.0) }
-    ensures keys { IfOk result (λ served. map (λ kit. kit.key) served.1.workers.items
-        ≡ map (λ kit. kit.key) jobs.workers.items) }
-    ensures recordings { IfOk result (λ served. map (λ kit. (M.shelf kit.store).recording)
-        served.1.pumps.items
-        ≡ map (λ kit. (M.shelf kit.store).recording) jobs.pumps.items) }
-    ensures worker_outlets { IfOk result (λ served. map (λ kit. kit.outlet)
-        served.1.workers.items ≡ map (λ kit. kit.outlet) jobs.workers.items) }
-    ensures pump_outlets { IfOk result (λ served. map (λ kit. kit.outlet)
-        served.1.pumps.items ≡ map (λ kit. kit.outlet) jobs.pumps.items) }
-    ensures ticker_outlet { IfOk result (λ served. served.1.tick.outlet ≡ jobs.tick.outlet) }
-    ensures run { IfOk result (λ served. (accepts : _)
-        → FreshJobs accepts server.now.setting.start
-        (map (worker_view D.hall O.outbox) jobs.workers.items)
-        (map (pump_view M.shelf O.outbox) jobs.pumps.items)
-        (tick_view C.dial O.outbox jobs.tick)
-        → TunnelServeRun D.Conn.tells server.now.setting accepts served.0.seen served.0.kept
-        (map (worker_seen D.hall) served.1.workers.items)
-        (map (pump_seen M.shelf) served.1.pumps.items) (ticker_seen C.dial served.1.tick)) }
-    ensures ended { IfOk result (λ served. (accepts : _)
-        → FreshJobs accepts server.now.setting.start
-        (map (worker_view D.hall O.outbox) jobs.workers.items)
-        (map (pump_view M.shelf O.outbox) jobs.pumps.items)
-        (tick_view C.dial O.outbox jobs.tick)
-        → TunnelEndTells served.2 served.0.seen
-        (map (worker_seen D.hall) served.1.workers.items)) }
+    ensures ran { IfOk result (λ served. HaveTunneled D.Conn.tells
+        (FreshJobs server.now.setting.start) server.now (jobs_seen D.hall M.shelf C.dial jobs)
+        served.0 (jobs_seen D.hall M.shelf C.dial served.1) served.2) }
+    ensures outlets { IfOk result (λ served. HaveOutlets jobs served.1) }
     ensures unused { IfErr result (λ back. back ≡ jobs) }
 {
     match take_memory(alloc, jobs.workers.len(), jobs.pumps.len()) {
@@ -229,45 +180,14 @@ pub fn serve_through_tunnel<
     requires workers { length jobs.workers.items ≡ config.workers }
     requires pumps { length jobs.pumps.items ≡ length config.fronts }
 
-    // the configuration that was given, and a pass of the tunnel, whose history is legal
     ensures config { IfOk result (λ served. served.0.server.setting.config ≡ config) }
-    ensures of { IfOk result (λ served. IsOf served.0.pass served.0.server) }
-    ensures knows { IfOk result (λ served. Knows (TunnelLegal served.0.server.setting)
-        served.0.pass) }
-
-    // the kits in their order, each worker's with its key, and each pump's with its recordings
-    ensures keys { IfOk result (λ served. map (λ kit. kit.key) served.0.jobs.workers.items
-        ≡ map (λ kit. kit.key) jobs.workers.items) }
-    ensures recordings { IfOk result (λ served. map (λ kit. (M.shelf kit.store).recording)
-        served.0.jobs.pumps.items
-        ≡ map (λ kit. (M.shelf kit.store).recording) jobs.pumps.items) }
-
-    // and the outlets as they were
-    ensures worker_outlets { IfOk result (λ served. map (λ kit. kit.outlet)
-        served.0.jobs.workers.items ≡ map (λ kit. kit.outlet) jobs.workers.items) }
-    ensures pump_outlets { IfOk result (λ served. map (λ kit. kit.outlet)
-        served.0.jobs.pumps.items ≡ map (λ kit. kit.outlet) jobs.pumps.items) }
-    ensures ticker_outlet { IfOk result (λ served. served.0.jobs.tick.outlet
-        ≡ jobs.tick.outlet) }
-
-    // where the kits were fresh
-    ensures run { IfOk result (λ served. (accepts : _)
-        → AreFresh accepts (map (worker_view D.hall O.outbox) jobs.workers.items)
-        (map (pump_view M.shelf O.outbox) jobs.pumps.items)
-        (tick_view C.dial O.outbox jobs.tick)
-        → TunnelServeRun D.Conn.tells served.0.server.setting accepts served.0.pass.seen
-        served.0.pass.kept (map (worker_seen D.hall) served.0.jobs.workers.items)
-        (map (pump_seen M.shelf) served.0.jobs.pumps.items)
-        (ticker_seen C.dial served.0.jobs.tick)) }
-    // why it ended so: all doors ended, or those of a worker failed, or the history is full
-    ensures ended { IfOk result (λ served. (accepts : _)
-        → AreFresh accepts (map (worker_view D.hall O.outbox) jobs.workers.items)
-        (map (pump_view M.shelf O.outbox) jobs.pumps.items)
-        (tick_view C.dial O.outbox jobs.tick)
-        → TunnelEndTells served.1 served.0.pass.seen
-        (map (worker_seen D.hall) served.0.jobs.workers.items)) }
-    ensures unused { IfErr result (λ back. Unused C.dial jobs.workers.items back.workers.items
-        jobs.pumps.items back.pumps.items jobs.tick back.tick) }
+    // the kits come back in their order, with their outlets as they were; where they were fresh,
+    // whatever was sent by their outlets, it was a run of the tunnel
+    ensures ran { IfOk result (λ served. HaveTunneled D.Conn.tells AreFresh served.0.server
+        (jobs_seen D.hall M.shelf C.dial jobs) served.0.pass
+        (jobs_seen D.hall M.shelf C.dial served.0.jobs) served.1) }
+    ensures outlets { IfOk result (λ served. HaveOutlets jobs served.0.jobs) }
+    ensures unused { IfErr result (Unused C.dial jobs) }
 {
     let start = jobs.tick.clock.now();
     match make(alloc, config, start) {

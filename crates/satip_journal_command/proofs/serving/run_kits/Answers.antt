@@ -1,5 +1,6 @@
 use Rattle.std.proofs.Common.{◌≡◌}
-use Rattle.satip_serving.specs.Given.{jobs_view, ComeUnused}
+use Rattle.satip_serve.specs.Views.{jobs_view}
+use Rattle.satip_serving.specs.Given.{ComeUnused}
 use Rattle.satip_journal_command.proofs.Endings.{always, begun_of, right_of}
 use Rattle.satip_journal_command.proofs.serving.run_kits.Goals as goal
 

@@ -11,7 +11,7 @@ run_services-journal-requires-send-X g c κs within = search crossing depth 16
 pub returns-clause-ran : goal.returns-clause-ran
 returns-clause-ran g c =
     let ran = c.run_services-journal.ensures in
-    record { of = search rules; knows = ran.knows; keys = ran.keys; recordings = ran.recordings; run = ran.run; ended = ran.ended }
+    record { of = search rules; knows = ran.knows; jobs = ran.ran }
 
 pub returns-clause-went_on : goal.returns-clause-went_on
 returns-clause-went_on g c =

@@ -1,6 +1,8 @@
 -- Each sink came back with its job's journal.
 use Rattle.std.proofs.Common.{arith}
+use Rattle.satip_turn.specs.Views.{numbers_of}
 use Rattle.satip_journaling.specs.Gears.{others_of}
+use Rattle.satip_journaling.proofs.Judging.{judged_yes}
 use Rattle.satip_journaling.proofs.Logging.{journals_written}
 use Rattle.satip_journaling.proofs.serving.run_journaled.Goals as goal
 
@@ -32,10 +34,14 @@ returns-clause-journaled g c =
     let ran = c.run_gears-ran.ensures in
     let before = c.begin_journals-gears.result in
     let after = c.run_gears-ran.result.journals in
+    let pass = c.run_gears-ran.result.pass in
+    let journals = journals_written g.K.Sink.tells g.K.Sink.drain c.args.start c.args.server.now.setting.start c.args.sinks.items _ before.root after.root
+    (others_of before) (others_of after) (numbers_of pass.kept) pass.seen _
+    c.begin_journals-gears.ensures.begun ran.went_on c.end_journals-failed.ensures.sinks c.end_journals-failed.ensures.failed c.requires.start in
     record {
-      journals = journals_written g.K.Sink.tells g.K.Sink.drain c.args.start _ c.args.sinks.items _ before.root after.root (others_of before)
-          (others_of after) _ _ _
-          c.begin_journals-gears.ensures.begun ran.went_on c.end_journals-failed.ensures.sinks c.end_journals-failed.ensures.failed c.requires.start;
+      journals = journals;
       callers = ran.callers;
       typed = ran.typed;
+      yes = λ unfailed. judged_yes g.K.Sink.tells c.args.server.now.setting pass.seen (numbers_of pass.kept) _ _ _ ran.ran.knows.lawful
+          ran.typed ran.callers journals unfailed;
     }

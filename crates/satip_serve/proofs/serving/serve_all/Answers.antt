@@ -9,11 +9,4 @@ run_services-root-requires-send-X g c κs within = search crossing depth 14
 pub returns-in-Ok-clause-ran : goal.returns-in-Ok-clause-ran
 returns-in-Ok-clause-ran g c =
     let ran = c.run_services-root.ensures in
-    record {
-      of = search rules;
-      knows = ran.knows;
-      keys = ran.keys;
-      recordings = ran.recordings;
-      run = ran.run;
-      ended = ran.ended;
-    }
+    record { of = search rules; knows = ran.knows; jobs = ran.ran }

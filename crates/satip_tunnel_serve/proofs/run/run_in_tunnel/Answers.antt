@@ -5,6 +5,8 @@ use Rattle.satip_silent.specs.declared.silent.Silent.{Silent}
 use Rattle.satip_worker.specs.declared.kits.WorkerKit.{WorkerKit}
 use Rattle.satip_crew.proofs.Beside.{worked_as}
 use Rattle.satip_crew.proofs.Following.{pumps_keep, run_as, workers_keep}
+use Rattle.satip_serve.proofs.LeftKits.{come_back}
+use Rattle.satip_silent.specs.Silences.{no_outbox}
 use Rattle.satip_tunnel_serve.specs.Deeds.{SeatDid, worker_deed, pump_deed, ticker_deed}
 use Rattle.satip_tunnel_serve.specs.Views.{worker_seen, pump_seen, ticker_seen}
 use Rattle.satip_tunnel_serve.proofs.Seating.{pumped_at_seat, still_seated, ticked_at_seat}
@@ -20,24 +22,24 @@ run_jobs-requires-clause-work g c κs within = record {
 pub run_jobs-requires-clause-pump : goal.run_jobs-requires-clause-pump
 run_jobs-requires-clause-pump g c κs within = record {
   takes = let memory = c.requires.serves.never_wants in λ argument. grind serving steps 40000000;
-  same = λ before after call. still_seated g.X.Service.known g.X.Service.may_want g.X.Service.same g.X.Crew.cell g.X.Crew.pass g.X.Crew.legal g.X.Crew.is_stop
-      c.requires.serves before.now after.now call.same_is call.number;
+  same = λ before after call. still_seated g.X.Service.known g.X.Service.may_want g.X.Service.same g.X.Crew.cell g.X.Crew.pass g.X.Crew.legal g.X.Crew.is_stop c.requires.serves before.now after.now call.same_is call.number;
 }
 
 pub run_jobs-requires-clause-tick : goal.run_jobs-requires-clause-tick
 run_jobs-requires-clause-tick g c κs within = record {
   takes = let memory = c.requires.serves.never_wants in λ argument. grind serving steps 40000000;
-  same = λ before after call. still_seated g.X.Service.known g.X.Service.may_want g.X.Service.same g.X.Crew.cell g.X.Crew.pass g.X.Crew.legal g.X.Crew.is_stop
-      c.requires.serves before.now after.now call.same_is call.number;
+  same = λ before after call. still_seated g.X.Service.known g.X.Service.may_want g.X.Service.same g.X.Crew.cell g.X.Crew.pass g.X.Crew.legal g.X.Crew.is_stop c.requires.serves before.now after.now call.same_is call.number;
 }
 
-pub returns-clause-keys : goal.returns-clause-keys
-returns-clause-keys g c =
-    workers_keep g.X.Crew.cell g.X.Crew.pass g.X.Crew.gear g.X.Crew.legal g.X.Crew.is_stop g.X.Crew.goes_on _ _ _ c.args.root c.args.posts c.run_jobs.result.0
-    c.run_jobs.result.1
-    c.run_jobs.result.2 (
-    run_as g.X.Crew.cell g.X.Crew.pass g.X.Crew.gear g.X.Crew.legal g.X.Crew.is_stop g.X.Crew.goes_on _ _ _ c.args.root c.args.posts c.run_jobs.result.0
-    c.run_jobs.result.1
+pub returns-clause-ran : goal.returns-clause-ran
+returns-clause-ran g c =
+    let worker_of = worker_seen {O = Silent} {P = g.row.P.Denot} g.D.Doors.hall in
+    let pump_of = pump_seen {O = Silent} {P = g.row.P.Denot} g.M.MuxStore.shelf in
+    let tick_of = ticker_seen {O = Silent} {P = g.row.P.Denot} g.C.Clock.dial in
+    let root = c.run_jobs.result.0 in
+    let posts = c.run_jobs.result.1 in
+    let did =
+    run_as g.X.Crew.cell g.X.Crew.pass g.X.Crew.gear g.X.Crew.legal g.X.Crew.is_stop g.X.Crew.goes_on _ _ _ c.args.root c.args.posts root posts
     c.run_jobs.result.2 c.run_jobs.ensures.did
     (SeatDid g.X.Crew.cell g.X.Crew.pass (worker_deed {O = Silent} {P = g.row.P.Denot} g.D.Conn.Conn.tells g.D.Doors.hall))
     (SeatDid g.X.Crew.cell g.X.Crew.pass (pump_deed {O = Silent} {P = g.row.P.Denot} g.M.MuxStore.shelf))
@@ -45,81 +47,24 @@ returns-clause-keys g c =
     (λ x y work. worked_as _ _ (SeatDid g.X.Crew.cell g.X.Crew.pass (worker_deed {O = Silent} {P = g.row.P.Denot} g.D.Conn.Conn.tells g.D.Doors.hall))
     (λ a b call. c.requires.work.does a b call) x y work)
     (λ x y work. worked_as _ _ (SeatDid g.X.Crew.cell g.X.Crew.pass (pump_deed {O = Silent} {P = g.row.P.Denot} g.M.MuxStore.shelf))
-    (λ a b call. pumped_at_seat g.X.Service.known g.X.Service.may_want g.X.Service.same g.X.Crew.cell g.X.Crew.pass g.X.Crew.legal g.X.Crew.is_stop
-    c.requires.serves
+    (λ a b call. pumped_at_seat g.X.Service.known g.X.Service.may_want g.X.Service.same g.X.Crew.cell g.X.Crew.pass g.X.Crew.legal g.X.Crew.is_stop c.requires.serves
     g.M.MuxStore.shelf a.now b.now call) x y work)
     (λ x y work. worked_as _ _ (SeatDid g.X.Crew.cell g.X.Crew.pass (ticker_deed {O = Silent} {P = g.row.P.Denot} g.C.Clock.dial))
-    (λ a b call. ticked_at_seat g.X.Service.known g.X.Service.may_want g.X.Service.same g.X.Crew.cell g.X.Crew.pass g.X.Crew.legal g.X.Crew.is_stop
-    c.requires.serves
-    g.C.Clock.dial a.now b.now call) x y work)) (λ (kit : WorkerKit g.row.D.Denot Silent g.row.P.Denot). kit.key) (λ x y did. did.deed.key)
-
-pub returns-clause-recordings : goal.returns-clause-recordings
-returns-clause-recordings g c =
-    pumps_keep g.X.Crew.cell g.X.Crew.pass g.X.Crew.gear g.X.Crew.legal g.X.Crew.is_stop g.X.Crew.goes_on _ _ _ c.args.root c.args.posts c.run_jobs.result.0
-    c.run_jobs.result.1
-    c.run_jobs.result.2 (
-    run_as g.X.Crew.cell g.X.Crew.pass g.X.Crew.gear g.X.Crew.legal g.X.Crew.is_stop g.X.Crew.goes_on _ _ _ c.args.root c.args.posts c.run_jobs.result.0
-    c.run_jobs.result.1
-    c.run_jobs.result.2 c.run_jobs.ensures.did
-    (SeatDid g.X.Crew.cell g.X.Crew.pass (worker_deed {O = Silent} {P = g.row.P.Denot} g.D.Conn.Conn.tells g.D.Doors.hall))
-    (SeatDid g.X.Crew.cell g.X.Crew.pass (pump_deed {O = Silent} {P = g.row.P.Denot} g.M.MuxStore.shelf))
-    (SeatDid g.X.Crew.cell g.X.Crew.pass (ticker_deed {O = Silent} {P = g.row.P.Denot} g.C.Clock.dial))
-    (λ x y work. worked_as _ _ (SeatDid g.X.Crew.cell g.X.Crew.pass (worker_deed {O = Silent} {P = g.row.P.Denot} g.D.Conn.Conn.tells g.D.Doors.hall))
-    (λ a b call. c.requires.work.does a b call) x y work)
-    (λ x y work. worked_as _ _ (SeatDid g.X.Crew.cell g.X.Crew.pass (pump_deed {O = Silent} {P = g.row.P.Denot} g.M.MuxStore.shelf))
-    (λ a b call. pumped_at_seat g.X.Service.known g.X.Service.may_want g.X.Service.same g.X.Crew.cell g.X.Crew.pass g.X.Crew.legal g.X.Crew.is_stop
-    c.requires.serves
-    g.M.MuxStore.shelf a.now b.now call) x y work)
-    (λ x y work. worked_as _ _ (SeatDid g.X.Crew.cell g.X.Crew.pass (ticker_deed {O = Silent} {P = g.row.P.Denot} g.C.Clock.dial))
-    (λ a b call. ticked_at_seat g.X.Service.known g.X.Service.may_want g.X.Service.same g.X.Crew.cell g.X.Crew.pass g.X.Crew.legal g.X.Crew.is_stop
-    c.requires.serves
-    g.C.Clock.dial a.now b.now call) x y work)) (λ (kit : PumpKit g.row.M.Denot Silent g.row.P.Denot). (g.M.MuxStore.shelf kit.store).recording)
-    (λ x y did. did.deed.pumped.recordings)
-
-pub returns-clause-run : goal.returns-clause-run
-returns-clause-run g c = λ accepts fresh.
-    tunnel_run g.X.Crew.cell g.X.Crew.pass g.X.Crew.gear g.X.Crew.legal g.X.Crew.is_stop g.X.Crew.goes_on g.D.Conn.Conn.tells
-    (worker_seen {O = Silent} {P = g.row.P.Denot} g.D.Doors.hall) (pump_seen {O = Silent} {P = g.row.P.Denot} g.M.MuxStore.shelf)
-    (ticker_seen {O = Silent} {P = g.row.P.Denot} g.C.Clock.dial) c.args.root c.args.posts c.run_jobs.result.0 c.run_jobs.result.1
-    c.run_jobs.result.2 (
-    run_as g.X.Crew.cell g.X.Crew.pass g.X.Crew.gear g.X.Crew.legal g.X.Crew.is_stop g.X.Crew.goes_on _ _ _ c.args.root c.args.posts c.run_jobs.result.0
-    c.run_jobs.result.1
-    c.run_jobs.result.2 c.run_jobs.ensures.did
-    (SeatDid g.X.Crew.cell g.X.Crew.pass (worker_deed {O = Silent} {P = g.row.P.Denot} g.D.Conn.Conn.tells g.D.Doors.hall))
-    (SeatDid g.X.Crew.cell g.X.Crew.pass (pump_deed {O = Silent} {P = g.row.P.Denot} g.M.MuxStore.shelf))
-    (SeatDid g.X.Crew.cell g.X.Crew.pass (ticker_deed {O = Silent} {P = g.row.P.Denot} g.C.Clock.dial))
-    (λ x y work. worked_as _ _ (SeatDid g.X.Crew.cell g.X.Crew.pass (worker_deed {O = Silent} {P = g.row.P.Denot} g.D.Conn.Conn.tells g.D.Doors.hall))
-    (λ a b call. c.requires.work.does a b call) x y work)
-    (λ x y work. worked_as _ _ (SeatDid g.X.Crew.cell g.X.Crew.pass (pump_deed {O = Silent} {P = g.row.P.Denot} g.M.MuxStore.shelf))
-    (λ a b call. pumped_at_seat g.X.Service.known g.X.Service.may_want g.X.Service.same g.X.Crew.cell g.X.Crew.pass g.X.Crew.legal g.X.Crew.is_stop
-    c.requires.serves
-    g.M.MuxStore.shelf a.now b.now call) x y work)
-    (λ x y work. worked_as _ _ (SeatDid g.X.Crew.cell g.X.Crew.pass (ticker_deed {O = Silent} {P = g.row.P.Denot} g.C.Clock.dial))
-    (λ a b call. ticked_at_seat g.X.Service.known g.X.Service.may_want g.X.Service.same g.X.Crew.cell g.X.Crew.pass g.X.Crew.legal g.X.Crew.is_stop
-    c.requires.serves
-    g.C.Clock.dial a.now b.now call) x y work))
-    c.requires.serves.stops c.requires.serves.lawful accepts c.requires.first c.run_jobs.ensures.knows fresh c.requires.worker_count c.requires.pump_count
-
-pub returns-clause-ended : goal.returns-clause-ended
-returns-clause-ended g c = λ accepts fresh.
-    end_tells g.X.Crew.cell g.X.Crew.pass g.X.Crew.gear g.X.Crew.legal g.X.Crew.is_stop g.X.Crew.goes_on g.D.Conn.Conn.tells
-    (worker_seen {O = Silent} {P = g.row.P.Denot} g.D.Doors.hall) (pump_seen {O = Silent} {P = g.row.P.Denot} g.M.MuxStore.shelf)
-    (ticker_seen {O = Silent} {P = g.row.P.Denot} g.C.Clock.dial) c.args.root c.args.posts c.run_jobs.result.0 c.run_jobs.result.1
-    c.run_jobs.result.2 (
-    run_as g.X.Crew.cell g.X.Crew.pass g.X.Crew.gear g.X.Crew.legal g.X.Crew.is_stop g.X.Crew.goes_on _ _ _ c.args.root c.args.posts c.run_jobs.result.0
-    c.run_jobs.result.1
-    c.run_jobs.result.2 c.run_jobs.ensures.did
-    (SeatDid g.X.Crew.cell g.X.Crew.pass (worker_deed {O = Silent} {P = g.row.P.Denot} g.D.Conn.Conn.tells g.D.Doors.hall))
-    (SeatDid g.X.Crew.cell g.X.Crew.pass (pump_deed {O = Silent} {P = g.row.P.Denot} g.M.MuxStore.shelf))
-    (SeatDid g.X.Crew.cell g.X.Crew.pass (ticker_deed {O = Silent} {P = g.row.P.Denot} g.C.Clock.dial))
-    (λ x y work. worked_as _ _ (SeatDid g.X.Crew.cell g.X.Crew.pass (worker_deed {O = Silent} {P = g.row.P.Denot} g.D.Conn.Conn.tells g.D.Doors.hall))
-    (λ a b call. c.requires.work.does a b call) x y work)
-    (λ x y work. worked_as _ _ (SeatDid g.X.Crew.cell g.X.Crew.pass (pump_deed {O = Silent} {P = g.row.P.Denot} g.M.MuxStore.shelf))
-    (λ a b call. pumped_at_seat g.X.Service.known g.X.Service.may_want g.X.Service.same g.X.Crew.cell g.X.Crew.pass g.X.Crew.legal g.X.Crew.is_stop
-    c.requires.serves
-    g.M.MuxStore.shelf a.now b.now call) x y work)
-    (λ x y work. worked_as _ _ (SeatDid g.X.Crew.cell g.X.Crew.pass (ticker_deed {O = Silent} {P = g.row.P.Denot} g.C.Clock.dial))
-    (λ a b call. ticked_at_seat g.X.Service.known g.X.Service.may_want g.X.Service.same g.X.Crew.cell g.X.Crew.pass g.X.Crew.legal g.X.Crew.is_stop
-    c.requires.serves
-    g.C.Clock.dial a.now b.now call) x y work))
-    accepts c.run_jobs.ensures.knows fresh.workers_are
+    (λ a b call. ticked_at_seat g.X.Service.known g.X.Service.may_want g.X.Service.same g.X.Crew.cell g.X.Crew.pass g.X.Crew.legal g.X.Crew.is_stop c.requires.serves
+    g.C.Clock.dial a.now b.now call) x y work) in
+    record {
+      kits_left = come_back g.D.Doors.hall no_outbox g.M.MuxStore.shelf c.args.posts.workers.items posts.workers.items
+          c.args.posts.pumps.items posts.pumps.items (tick_of c.args.posts.ticker) (tick_of posts.ticker)
+          (workers_keep g.X.Crew.cell g.X.Crew.pass g.X.Crew.gear g.X.Crew.legal g.X.Crew.is_stop g.X.Crew.goes_on _ _ _ c.args.root c.args.posts root posts
+          c.run_jobs.result.2 did (λ (kit : WorkerKit g.row.D.Denot Silent g.row.P.Denot). kit.key) (λ x y did. did.deed.key))
+          (pumps_keep g.X.Crew.cell g.X.Crew.pass g.X.Crew.gear g.X.Crew.legal g.X.Crew.is_stop g.X.Crew.goes_on _ _ _ c.args.root c.args.posts root posts
+          c.run_jobs.result.2 did (λ (kit : PumpKit g.row.M.Denot Silent g.row.P.Denot). (g.M.MuxStore.shelf kit.store).recording)
+          (λ x y did. did.deed.pumped.recordings));
+      run = λ accepts fresh.
+          tunnel_run g.X.Crew.cell g.X.Crew.pass g.X.Crew.gear g.X.Crew.legal g.X.Crew.is_stop g.X.Crew.goes_on g.D.Conn.Conn.tells worker_of pump_of tick_of
+          c.args.root c.args.posts root posts c.run_jobs.result.2 did c.requires.serves.stops c.requires.serves.lawful accepts c.requires.first
+          c.run_jobs.ensures.knows fresh c.requires.worker_count c.requires.pump_count;
+      ended = λ accepts fresh.
+          end_tells g.X.Crew.cell g.X.Crew.pass g.X.Crew.gear g.X.Crew.legal g.X.Crew.is_stop g.X.Crew.goes_on g.D.Conn.Conn.tells worker_of pump_of tick_of
+          c.args.root c.args.posts root posts c.run_jobs.result.2 did accepts c.run_jobs.ensures.knows fresh.workers_are;
+    }

@@ -1,10 +1,11 @@
 -- The callers of jobs may go to other threads, and as many kits come back.
+use Rattle.std.proofs.Common.{rules}
 use Rattle.std.proofs.iter.Serving.{serving}
-use Rattle.satip_pump.specs.declared.kits.PumpKit.{PumpKit}
 use Rattle.satip_silent.specs.declared.silent.Silent.{Silent}
-use Rattle.satip_worker.specs.declared.kits.WorkerKit.{WorkerKit}
 use Rattle.satip_interleave.proofs.Crossing.{crossing}
-use Rattle.satip_tunnel_serve.proofs.WholeRuns.{as_long}
+use Rattle.satip_serve.specs.Views.{WorkerView, PumpView}
+use Rattle.satip_tunnel_serve.specs.Views.{worker_seen, pump_seen}
+use Rattle.satip_tunnel_serve.proofs.WholeRuns.{as_many}
 use Rattle.satip_tunnel_serve.proofs.serving.run_silent.Goals as goal
 
 pub run_in_tunnel-root-requires-send-X : goal.run_in_tunnel-root-requires-send-X
@@ -19,12 +20,15 @@ run_in_tunnel-root-requires-clause-work g c κs within = record {
   };
 }
 
+pub returns-clause-ran : goal.returns-clause-ran
+returns-clause-ran g c =
+    let ran = c.run_in_tunnel-root.ensures in
+    record { of = search rules; knows = ran.knows; jobs = ran.ran }
+
 pub returns-clause-worker_count : goal.returns-clause-worker_count
 returns-clause-worker_count g c =
-    as_long (λ (kit : WorkerKit g.row.D.Denot Silent g.row.P.Denot). kit.key) (λ (kit : WorkerKit g.row.D.Denot Silent g.row.P.Denot). kit.key) _ _
-    c.run_in_tunnel-root.ensures.keys
+    as_many (worker_seen {O = Silent} {P = g.row.P.Denot} g.D.Doors.hall) (λ (w : WorkerView). w.key) _ _ c.run_in_tunnel-root.ensures.ran.kits_left.keys
 
 pub returns-clause-pump_count : goal.returns-clause-pump_count
 returns-clause-pump_count g c =
-    as_long (λ (kit : PumpKit g.row.M.Denot Silent g.row.P.Denot). (g.M.MuxStore.shelf kit.store).recording)
-    (λ (kit : PumpKit g.row.M.Denot Silent g.row.P.Denot). (g.M.MuxStore.shelf kit.store).recording) _ _ c.run_in_tunnel-root.ensures.recordings
+    as_many (pump_seen {O = Silent} {P = g.row.P.Denot} g.M.MuxStore.shelf) (λ (p : PumpView). p.recording) _ _ c.run_in_tunnel-root.ensures.ran.kits_left.recordings

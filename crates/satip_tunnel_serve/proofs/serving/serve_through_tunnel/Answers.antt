@@ -1,48 +1,40 @@
 -- The kits were fresh, but that the clock was read once, for the start.
-use Rattle.std.proofs.Common.{rules, ◌≡◌, refl, sym, ap, subst}
+use Rattle.std.proofs.Common.{rules, ◌≡◌, refl, ap}
 use Rattle.satip_plain.specs.declared.setting.Setting.{Setting}
-use Rattle.satip_pump.specs.declared.kits.TickKit.{TickKit}
 use Rattle.satip_turn.specs.Shown.{first_pass}
-use Rattle.satip_interleave.specs.Calling.{ShownPass}
-use Rattle.satip_serve.specs.Fresh.{ReadOnce}
-use Rattle.satip_serve.specs.Views.{tick_view}
-use Rattle.satip_serve.proofs.WholeRuns.{read_once}
+use Rattle.satip_serve.specs.Views.{JobsView}
+use Rattle.satip_serve.specs.declared.kits.Jobs.{Jobs}
+use Rattle.satip_serve.proofs.Starting.{is_first}
+use Rattle.satip_tunnel_serve.specs.Views.{jobs_seen}
+use Rattle.satip_tunnel_serve.proofs.Starting.{from_start}
 use Rattle.satip_tunnel_serve.proofs.serving.serve_through_tunnel.Goals as goal
 
-pub serve_all-requires-clause-first : goal.serve_all-requires-clause-first
-serve_all-requires-clause-first g c κs within =
+pub serve_all-requires-clause-ready : goal.serve_all-requires-clause-ready
+serve_all-requires-clause-ready g c κs within =
     let first : c.in-Ok.pass ≡ first_pass c.in-Ok.server = search rules in
     record {
-      number = ap (λ (p : ShownPass). p.number) first;
-      own = ap (λ (p : ShownPass). p.own) first;
-      kept = ap (λ (p : ShownPass). p.kept) first;
-      made = ap (λ (p : ShownPass). p.made) first;
+      of = search rules;
+      knows = search rules;
+      first = is_first c.in-Ok.pass c.in-Ok.server first;
+      workers = search rules;
+      pumps = search rules;
     }
 
-pub returns-in-Ok-serve_all-clause-run : goal.returns-in-Ok-serve_all-clause-run
-returns-in-Ok-serve_all-clause-run g c = λ accepts fresh.
+pub returns-in-Ok-serve_all-clause-ran : goal.returns-in-Ok-serve_all-clause-ran
+returns-in-Ok-serve_all-clause-ran g c =
     let setting : c.in-Ok.server.setting ≡ record { config = c.args.config; start = c.now-start.result } = search rules in
-    let tick : TickKit g.row.C.Denot g.row.O.Denot g.row.P.Denot = record c.args.jobs.tick { clock = c.now-start.new.self } in
-    let read : ReadOnce c.now-start.result (tick_view {P = g.row.P.Denot} g.C.Clock.dial g.O.Outlet.outbox tick) =
-    read_once (tick_view g.C.Clock.dial g.O.Outlet.outbox c.args.jobs.tick) (tick_view g.C.Clock.dial g.O.Outlet.outbox tick) c.now-start.result
-    fresh.ticker_is c.now-start.ensures.reads refl in
-    c.in-Ok-serve_all.ensures.run accepts (record {
-      workers_are = fresh.workers_are;
-      pumps_are = fresh.pumps_are;
-      ticker_is = subst (λ s. ReadOnce s (tick_view {P = g.row.P.Denot} g.C.Clock.dial g.O.Outlet.outbox tick))
-          (sym (ap (λ (s : Setting). s.start) setting)) read;
-    })
+    let jobs : Jobs g.row.D.Denot g.row.O.Denot g.row.P.Denot g.row.M.Denot g.row.C.Denot =
+    record c.args.jobs { tick = record c.args.jobs.tick { clock = c.now-start.new.self } } in
+    let given : JobsView = jobs_seen g.D.Doors.hall g.M.MuxStore.shelf g.C.Clock.dial c.args.jobs in
+    let now : JobsView = jobs_seen g.D.Doors.hall g.M.MuxStore.shelf g.C.Clock.dial jobs in
+    let ran = c.in-Ok-serve_all.ensures.ran in
+    record {
+      of = ran.of;
+      knows = ran.knows;
+      jobs = from_start _ _ c.now-start.result given now _ _ _ (ap (λ (s : Setting). s.start) setting) refl refl c.now-start.ensures.reads refl ran.jobs;
+    }
 
-pub returns-in-Ok-serve_all-clause-ended : goal.returns-in-Ok-serve_all-clause-ended
-returns-in-Ok-serve_all-clause-ended g c = λ accepts fresh.
-    let setting : c.in-Ok.server.setting ≡ record { config = c.args.config; start = c.now-start.result } = search rules in
-    let tick : TickKit g.row.C.Denot g.row.O.Denot g.row.P.Denot = record c.args.jobs.tick { clock = c.now-start.new.self } in
-    let read : ReadOnce c.now-start.result (tick_view {P = g.row.P.Denot} g.C.Clock.dial g.O.Outlet.outbox tick) =
-    read_once (tick_view g.C.Clock.dial g.O.Outlet.outbox c.args.jobs.tick) (tick_view g.C.Clock.dial g.O.Outlet.outbox tick) c.now-start.result
-    fresh.ticker_is c.now-start.ensures.reads refl in
-    c.in-Ok-serve_all.ensures.ended accepts (record {
-      workers_are = fresh.workers_are;
-      pumps_are = fresh.pumps_are;
-      ticker_is = subst (λ s. ReadOnce s (tick_view {P = g.row.P.Denot} g.C.Clock.dial g.O.Outlet.outbox tick))
-          (sym (ap (λ (s : Setting). s.start) setting)) read;
-    })
+pub returns-in-Ok-serve_all-clause-outlets : goal.returns-in-Ok-serve_all-clause-outlets
+returns-in-Ok-serve_all-clause-outlets g c =
+    let outlets = c.in-Ok-serve_all.ensures.outlets in
+    record { workers = outlets.workers; pumps = outlets.pumps; ticker = outlets.ticker }

@@ -1,0 +1,25 @@
+-- Jobs of a tunnel that ran with kits that were fresh, but that the clock was read once, for the start.
+use Rattle.std.proofs.Common.{◌≡◌, sym, ap, ◌∙◌, subst, ℕ, List, map}
+use Rattle.satip_plain.specs.declared.setting.Setting.{Setting}
+use Rattle.satip_world.specs.Dials.{Reads}
+use Rattle.satip_interleave.specs.Calling.{ShownPass}
+use Rattle.satip_crew.specs.declared.end.ServeEnd.{ServeEnd}
+use Rattle.satip_serve.specs.Fresh.{AreFresh, FreshJobs}
+use Rattle.satip_serve.specs.Views.{WorkerView, PumpView, JobsView}
+use Rattle.satip_serve.proofs.Starting.{fresh_at}
+use Rattle.satip_tunnel_serve.specs.Ran.{TunnelJobsRan}
+
+pub from_start : (conn_tells : Type 0) (c : Setting) (start : ℕ) (given now : JobsView) (pass : ShownPass) (left : JobsView) (end : ServeEnd)
+    → c.start ≡ start → now.workers ≡ given.workers → now.pumps ≡ given.pumps → Reads given.ticker.dial now.ticker.dial start
+    → now.ticker.outbox ≡ given.ticker.outbox → TunnelJobsRan conn_tells (FreshJobs c.start) c now pass left end
+    → TunnelJobsRan conn_tells AreFresh c given pass left end
+from_start conn_tells c start given now pass left end is workers pumps reads outbox ran =
+    let at_start : Reads given.ticker.dial now.ticker.dial c.start = subst (λ (s : ℕ). Reads given.ticker.dial now.ticker.dial s) (sym is) reads in
+    record {
+      kits_left = record {
+        keys = ran.kits_left.keys ∙ ap (λ (ws : List WorkerView). map (λ (w : WorkerView). w.key) ws) workers;
+        recordings = ran.kits_left.recordings ∙ ap (λ (ps : List PumpView). map (λ (p : PumpView). p.recording) ps) pumps;
+      };
+      run = λ accepts fresh. ran.run accepts (fresh_at c.start accepts given now workers pumps at_start outbox fresh);
+      ended = λ accepts fresh. ran.ended accepts (fresh_at c.start accepts given now workers pumps at_start outbox fresh);
+    }
