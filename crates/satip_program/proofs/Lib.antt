@@ -1,14 +1,10 @@
-pub mod GatherLemmas
-pub mod TalkLemmas
-pub mod TalkerLemmas
-pub mod TurnLemmas
-pub mod OutcomeLemmas
 pub mod AcceptsLemmas
 pub mod ServingLemmas
-mod StatusLemmas
-mod ReplayLemmas
 mod RunLemmas
-mod ServiceLemmas
-mod RecordingLemmas
+mod TalkLemmas
+mod ReplayLemmas
+mod StressLemmas
 mod AuditLemmas
+mod RecordingLemmas
+mod ServiceLemmas
 mod JournalLemmas

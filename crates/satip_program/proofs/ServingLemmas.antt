@@ -1,36 +1,12 @@
--- How a serve is told, and what no other command answers.
-use Rattle.std.proofs.Common.{◌≡◌, ℕ, List, sym, subst, arith}
+-- How a serve is told.
+use Rattle.std.proofs.Common.{◌≡◌, ℕ, List, sym, subst}
 use Rattle.satip_config.specs.declared.fault.ConfigFault.{ConfigFault}
 use Rattle.satip_serving.specs.declared.serving.ServingEnd.{ServingEnd}
 use Rattle.satip_serving.specs.declared.serving.ServingEnd.TheVariants as serving
 use Rattle.satip_serving.specs.Statuses.{serving_status}
 use Rattle.satip_telling.specs.Lines.{configuration_line}
 use Rattle.satip_program.specs.Commands.{line_of}
-use Rattle.satip_program.specs.Outcomes.{status_of}
 use Rattle.satip_program.specs.Serving.{serving_line}
-use Rattle.satip_program.specs.declared.outcomes.Outcome.{Outcome}
-use Rattle.satip_program.specs.declared.outcomes.Outcome.TheVariants as outcomes
-
--- no other command answers 7 or 9
-pub never_doors : (outcome : Outcome) → status_of outcome ≡ 7 → ⊥
-never_doors outcomes.Done is = omega (arith, is)
-never_doors outcomes.Usage is = omega (arith, is)
-never_doors (outcomes.Configuration fault) is = omega (arith, is)
-never_doors (outcomes.Script number) is = omega (arith, is)
-never_doors outcomes.InputFault is = omega (arith, is)
-never_doors outcomes.OutputFault is = omega (arith, is)
-never_doors outcomes.TooLong is = omega (arith, is)
-never_doors outcomes.OutOfMemory is = omega (arith, is)
-
-pub never_full : (outcome : Outcome) → status_of outcome ≡ 9 → ⊥
-never_full outcomes.Done is = omega (arith, is)
-never_full outcomes.Usage is = omega (arith, is)
-never_full (outcomes.Configuration fault) is = omega (arith, is)
-never_full (outcomes.Script number) is = omega (arith, is)
-never_full outcomes.InputFault is = omega (arith, is)
-never_full outcomes.OutputFault is = omega (arith, is)
-never_full outcomes.TooLong is = omega (arith, is)
-never_full outcomes.OutOfMemory is = omega (arith, is)
 
 -- the line of each status but 3
 pub line_told : (Line : List ℕ → Type 0) (end : ServingEnd) (status : ℕ) → status ≡ serving_status end → Line (serving_line end) → (status ≡ 3 → ⊥)

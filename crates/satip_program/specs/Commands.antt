@@ -1,5 +1,5 @@
 -- The words of the command line, and the lines that the program writes of itself.
-use Rattle.std.specs.Prelude.{ℕ, ◌≤◌, ◌==◌, Bool, true, false, List, [], ◌∷◌, ◌++◌, codes, decimal, Option, Some, None, if◌then◌else◌}
+use Rattle.std.specs.Prelude.{ℕ, ◌≤◌, ◌==◌, Bool, true, false, List, [], ◌∷◌, ◌++◌, codes, Option, Some, None, if◌then◌else◌}
 use Rattle.std.specs.Str.{bytes_eq}
 use Rattle.satip_base.specs.Numbers.{number_of}
 use Rattle.satip_record_command.specs.Words.{Wanted, wanted, wanted_of}
@@ -196,7 +196,3 @@ line_of status =
     else if status == 9 then codes "history full\n"
     else if status == 70 then codes "out of memory\n"
     else []
-
--- the line for status 4: the number of the script's first wrong line
-abbrev pub script_line : ℕ → List ℕ
-script_line number = codes "script: line " ++ decimal number ++ codes "\n"

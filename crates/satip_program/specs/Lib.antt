@@ -1,10 +1,4 @@
 pub mod Commands
-pub mod Talk
-pub mod Talking
-pub mod Gathering
-pub mod Hearing
-pub mod Outcomes
-pub mod Replaying
 pub mod Serving
 pub mod Tunneling
 pub mod Ends

@@ -1,17 +1,24 @@
 -- What a run comes to by its words, what it asks of the desk and gives back, and what its status tells.
 use Rattle.std.specs.Prelude.{◌≡◌, ℕ, ◌+◌, ◌-◌, ◌<◌, ◌≤◌, ◌⊎◌, ◌↔◌, true, false, List, [], Option, Some, None, IsSome, IsNone, IsSomeAnd}
-use Rattle.satip_base.specs.Streams.{Feed, Drain, Rose}
+use Rattle.satip_base.specs.Streams.{Feed, Drain, Rose, PutAll, FailedToPut}
 use Rattle.satip_audit_command.specs.Ends.{AuditEnds}
 use Rattle.satip_inlet.specs.Inboxes.{Inbox}
 use Rattle.satip_record_command.specs.Ends.{RecordEnds, Left, left_of}
+use Rattle.satip_replay_command.specs.Ends.{ReplayEnds}
 use Rattle.satip_serving.specs.Given.{JobsView}
 use Rattle.satip_serving.specs.Handed.{Handed}
+use Rattle.satip_stress_command.specs.Ends.{StressEnds}
+use Rattle.satip_talk_command.specs.Ends.{TalkEnds}
+use Rattle.satip_talk_command.specs.Runs.{input_limit, NothingDone}
 use Rattle.satip_telling.specs.Lines.{Says}
 use Rattle.satip_world.specs.Dials.{Dial}
 use Rattle.satip_world.specs.Lines.{Line}
 use Rattle.satip_program.specs.Commands.{Form, Talk, Replay, Stress, Audit, Record, Help, Version, Serving, config_named, recording_in, is_tunnel, is_journal, help, version, line_of}
-use Rattle.satip_program.specs.Outcomes.{input_limit, NothingDone, Shows}
-use Rattle.satip_program.specs.Ends.{TalkEnds, ReplayEnds, StressEnds}
+
+-- a text was written as a whole, or in part where the output failed; and nothing was taken
+abbrev pub Shows : (tells : Type 0) (i j : Feed) (o n : Drain) (text : List ℕ) (status : ℕ) → Type 0
+Shows tells i j o n text status =
+    (j ≡ i) × (((status ≡ 0) × PutAll tells o n text) ⊎ ((status ≡ 6) × FailedToPut tells o n text))
 
 -- what a command that waits for nobody comes to, by the form of its words: the text of each configuration where the desk
 -- tells it, the desk's count of faults before and behind it, what the desk gave a client, the source of the configuration

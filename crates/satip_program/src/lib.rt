@@ -2,13 +2,7 @@
 #![tactic(auto)]
 
 mod commands;
-mod conversation;
-mod gathered;
-mod outcomes;
 mod serving;
-mod talk;
-mod talker;
-mod telling;
 mod top;
 
 pub use satip_serve::{Jobs, Last};

@@ -1,7 +1,7 @@
 //! The top call: what the program does with its words, its input, its output, its errors and its
 //! desk.
 
-ghost use Rattle.std.specs.Prelude.{◌≡◌, ◌⊎◌, ℕ, ◌≤◌, List, [], Option, Some, None, option_map, IsNone, IsSomeAnd, map};
+ghost use Rattle.std.specs.Prelude.{◌≡◌, ◌⊎◌, ℕ, List, [], Option, Some, None, IsNone, IsSomeAnd, map};
 ghost use Rattle.satip_base.specs.Streams.{Feed, Rose};
 ghost use Rattle.satip_serving.specs.Given.{jobs_view};
 ghost use Rattle.satip_serving.specs.Handed.{nothing_handed};
@@ -9,32 +9,33 @@ ghost use Rattle.satip_record_command.specs.Words.{Wanted};
 ghost use Rattle.satip_journal_command.specs.Ends.{JournalEnds};
 ghost use Rattle.satip_telling.specs.Lines.{Says};
 ghost use Rattle.satip_silent.specs.Silences.{no_outbox};
-ghost use Rattle.satip_program.specs.Commands.{Form, Replay, Record, Serve, Tunnel, Journal, command_of, serving_of, config_named, line_of};
+ghost use Rattle.satip_program.specs.Commands.{Form, Record, Serve, Tunnel, Journal, command_of, serving_of, config_named, line_of};
 ghost use Rattle.satip_program.specs.Ends.{ServeEnds};
 ghost use Rattle.satip_program.specs.Tunneling.{TunnelEnds};
-ghost use Rattle.satip_program.specs.Runs.{AsksOnly, GivesBack, RunEnds};
+ghost use Rattle.satip_program.specs.Runs.{GivesBack, RunEnds, Shows};
 ghost use Rattle.satip_program.specs.Journaling.{IsOfJournal};
-ghost use Rattle.satip_program.specs.Outcomes.{line_for, status_of, PrintEnds, StressRuns};
-ghost use Rattle.satip_program.specs.Replaying.{ReplayRuns};
 
 use crate::commands::{Command, Service, read_service, read_words};
-use crate::outcomes::Outcome;
 use crate::serving::{status_of_serving, tell_serving};
-use crate::talk::talk;
-use crate::telling::tell;
 use satip_audit_command::{Audited, audit_by};
-use satip_base::{Failed, Put, Sink, Source, Text};
+use satip_base::{Put, Sink, Source, Text};
 use satip_journal_command::{Journaled, journal_by};
 use satip_record_command::{Recorded, record};
-use satip_replay::replay;
+use satip_replay_command::{Replayed, replay_by};
 use satip_serve::{Jobs, Last};
 use satip_serving::{Desk, Served, serve_by};
-use satip_stress::{StressEnd, stress};
+use satip_stress_command::stress_by;
+use satip_talk_command::talk;
+use satip_telling::say;
 use satip_tunnel_command::{Tunneled, tunnel_by};
 use satip_tunnel_serve::TunnelLast;
 use std::alloc::Global;
 use std::sync::Wait;
 use std::thread::Threads;
+
+const USAGE: &[u8] =
+    b"usage: satip talk | replay CONFIG | serve CONFIG ACCEPTS | stress SEED COUNT \
+    | tunnel CONFIG ACCEPTS | journal CONFIG ACCEPTS | audit CONFIG | record ADDRESS QUERY COUNT\n";
 
 const HELP: &[u8] = b"usage: satip talk | replay CONFIG | serve CONFIG ACCEPTS | stress SEED COUNT \
     | tunnel CONFIG ACCEPTS | journal CONFIG ACCEPTS | audit CONFIG | record ADDRESS QUERY COUNT\n\
@@ -107,12 +108,6 @@ impl<K: Desk> Drop for Ended<K> {
             journals: _,
         } = self;
     }
-}
-
-// How a replay ended, and the configuration that the desk gave for it.
-struct Replayed<K: Desk> {
-    outcome: Outcome,
-    config: Option<K::Config>,
 }
 
 /// The program. Its words are those behind its name.
@@ -351,14 +346,21 @@ pub fn offline<K: Desk, I: Source, O: Sink, E: Sink>(
         result.journals.items result.status }
 {
     match read_words(words) {
-        None => told(alloc, Outcome::Usage, None, errors),
-        Some(Command::Talk) => told(alloc, talk(alloc, input, output), None, errors),
+        None => {
+            say(USAGE, errors);
+            without_jobs(alloc, 2, None)
+        }
+        Some(Command::Talk) => {
+            let end = talk(alloc, input, output, errors);
+            without_jobs(alloc, satip_talk_command::status_of(end), None)
+        }
         Some(Command::Replay(name)) => {
-            let Replayed { outcome, config } = replay_by(alloc, name, input, output, desk);
-            told(alloc, outcome, config, errors)
+            let Replayed { end, config } = replay_by(alloc, name, input, output, errors, desk);
+            without_jobs(alloc, satip_replay_command::status_of(end), config)
         }
         Some(Command::Stress { seed, count }) => {
-            told(alloc, count_by(alloc, seed, count, output), None, errors)
+            let end = stress_by(alloc, seed, count, output, errors);
+            without_jobs(alloc, satip_stress_command::status_of(end), None)
         }
         Some(Command::Audit(name)) => {
             let Audited { end, config } = audit_by(alloc, name, input, output, errors, desk);
@@ -373,30 +375,9 @@ pub fn offline<K: Desk, I: Source, O: Sink, E: Sink>(
             } = record(alloc, &recording, output, errors, desk);
             with_client(alloc, end.status(), wire, inlet, moment)
         }
-        Some(Command::Help) => told(alloc, print(HELP, output), None, errors),
-        Some(Command::Version) => told(alloc, print(VERSION, output), None, errors),
+        Some(Command::Help) => without_jobs(alloc, show(HELP, output, errors), None),
+        Some(Command::Version) => without_jobs(alloc, show(VERSION, output, errors), None),
     }
-}
-
-// Tells how a run ended that has no jobs and no client.
-fn told<K: Desk, E: Sink>(
-    alloc: Global,
-    outcome: Outcome,
-    config: Option<K::Config>,
-    errors: &mut E,
-) -> Ended<K>
-    ensures status { result.status ≡ status_of outcome }
-    ensures says { Says E.tells
-        (E.drain errors.old) (E.drain errors.new)
-        (line_for outcome) }
-    ensures config { result.config ≡ config }
-    ensures back { (form : Option Form) → (config_named form ≡ None → IsNone config)
-        → GivesBack form None
-        result.config result.last result.tunnel result.unused
-        result.wire result.inlet result.moment result.journals.items }
-{
-    tell(outcome, errors);
-    without_jobs(alloc, outcome.status(), config)
 }
 
 // The end of a run that has no jobs and no client.
@@ -448,59 +429,20 @@ fn with_client<K: Desk>(
     }
 }
 
-// A replay by the configuration of this name.
-fn replay_by<K: Desk, I: Source, O: Sink>(
-    alloc: Global,
-    name: &Text,
-    input: &mut I,
-    output: &mut O,
-    desk: &mut K,
-) -> Replayed<K>
-    ensures runs { ReplayRuns K.Config.tells I.tells O.tells
-        (K.text desk.old name.now) (K.faults desk.old) (K.faults desk.new)
-        (I.feed input.old) (I.feed input.new)
-        (O.drain output.old) (O.drain output.new)
-        (option_map K.Config.feed result.config)
-        result.outcome }
-    ensures asks { AsksOnly (Some (Replay name.now)) None
-        K.text K.given K.handed K.journaled desk.old desk.new }
-{
-    match desk.config(name) {
-        Ok(mut config) => {
-            let end = replay(alloc, &mut config, input, output);
-            Replayed {
-                outcome: Outcome::of(end),
-                config: Some(config),
-            }
-        }
-        Err(Failed) => Replayed {
-            outcome: Outcome::InputFault,
-            config: None,
-        },
-    }
-}
-
-// A stress run, of whose input nothing is taken.
-fn count_by<O: Sink>(alloc: Global, seed: u64, count: u32, output: &mut O) -> Outcome
-    requires few { count ≤ 1000000 }
-    ensures ends { (i : Feed) → StressRuns O.tells i i
-        (O.drain output.old) (O.drain output.new)
-        seed count result }
-{
-    match stress(alloc, seed, count, output) {
-        StressEnd::Done => Outcome::Done,
-        StressEnd::OutputFault => Outcome::OutputFault,
-        StressEnd::OutOfMemory => Outcome::OutOfMemory,
-    }
-}
-
-fn print<O: Sink>(text: &[u8], output: &mut O) -> Outcome
-    ensures ends { (i : Feed) → PrintEnds O.tells i i
+// Writes a text, and tells where the output failed.
+fn show<O: Sink, E: Sink>(text: &[u8], output: &mut O, errors: &mut E) -> u8
+    ensures shows { (i : Feed) → Shows O.tells i i
         (O.drain output.old) (O.drain output.new)
         text.now result }
+    ensures says { Says E.tells
+        (E.drain errors.old) (E.drain errors.new)
+        (line_of result) }
 {
     match output.put(text) {
-        Put::Whole => Outcome::Done,
-        Put::Failed => Outcome::OutputFault,
+        Put::Whole => 0,
+        Put::Failed => {
+            say(b"output fault\n", errors);
+            6
+        }
     }
 }

@@ -1,0 +1,26 @@
+-- The statuses of a stress run, and its lines.
+use Rattle.std.proofs.Common.{◌≡◌, ℕ, List, Option, Some, None}
+use Rattle.satip_base.specs.Streams.{Feed, Drain, Rose}
+use Rattle.satip_history.specs.Lists.{Has}
+use Rattle.satip_stress.specs.declared.ends.StressEnd.{StressEnd}
+use Rattle.satip_stress.specs.declared.ends.StressEnd.TheVariants.{Done, OutputFault, OutOfMemory}
+use Rattle.satip_stress_command.specs.Ends.{stress_statuses, stress_status, stress_line}
+use Rattle.satip_stress_command.proofs.EndLemmas.{ends_output}
+use Rattle.satip_telling.specs.Lines.{Says}
+use Rattle.satip_program.specs.Commands.{Stress, line_of}
+use Rattle.satip_program.specs.Runs.{StatusTells}
+use Rattle.satip_program.proofs.RunLemmas.{output_tells}
+
+-- the line of each status
+stress_told : (Line : List ℕ → Type 0) (end : StressEnd) → Line (stress_line end) → Line (line_of (stress_status end))
+stress_told Line Done line = line
+stress_told Line OutputFault line = line
+stress_told Line OutOfMemory line = line
+
+-- what the status of a stress run tells
+pub stress_tells : {C : Type 0} (et : Type 0) (seed count before now : ℕ) (view : C → Feed) (source : Option C) (i : Feed) (o n e m : Drain)
+    (end : StressEnd) → Has (stress_status end) stress_statuses → (end ≡ OutputFault → Rose o.faults n.faults) → Says et e m (stress_line end)
+    → StatusTells et (Some (Stress seed count)) None before now view source i i o n e m (stress_status end)
+stress_tells et seed count before now view source i o n e m end has output line =
+    output_tells et (Stress seed count) before now view source i o n e m (stress_status end) has (λ is. output (ends_output end is))
+    (stress_told (λ (l : List ℕ). Says et e m l) end line)

@@ -1,0 +1,56 @@
+-- What a talk comes to, by its status.
+use Rattle.std.specs.Prelude.{◌≡◌, ℕ, ◌≤◌, ◌⊎◌, List, [], ◌∷◌, ◌++◌, codes, length}
+use Rattle.satip_base.specs.Streams.{Feed, Drain, Rose}
+use Rattle.satip_history.specs.Lists.{Has}
+use Rattle.satip_talk_command.specs.Talk.{Answered}
+use Rattle.satip_talk_command.specs.Runs.{input_limit, IsBroken, EndsEarly, ReadsInTime, NothingDone}
+use Rattle.satip_talk_command.specs.declared.ends.TalkEnd.{TalkEnd}
+use Rattle.satip_talk_command.specs.declared.ends.TalkEnd.TheVariants.{Done, InputFault, OutputFault, TooLong, OutOfMemory}
+
+-- the statuses of a talk
+abbrev pub talk_statuses : List ℕ
+talk_statuses = 0 ∷ 5 ∷ 6 ∷ 8 ∷ 70 ∷ []
+
+-- the status where a talk ends so
+abbrev pub talk_status : TalkEnd → ℕ
+talk_status Done = 0
+talk_status InputFault = 5
+talk_status OutputFault = 6
+talk_status TooLong = 8
+talk_status OutOfMemory = 70
+
+-- the line on the errors sink
+abbrev pub talk_line : TalkEnd → List ℕ
+talk_line Done = []
+talk_line InputFault = codes "input fault\n"
+talk_line OutputFault = codes "output fault\n"
+talk_line TooLong = codes "input too long\n"
+talk_line OutOfMemory = codes "out of memory\n"
+
+-- a closing reply answers to a beginning of the text that is within the limit
+pub record ClosesInTime (text : List ℕ) : Type 0 where
+  pub earlier : List ℕ
+  pub later : List ℕ
+  pub whole : text ≡ earlier ++ later
+  pub short : length earlier ≤ input_limit
+  pub broken : IsBroken earlier
+
+-- the text ends within the limit, or a closing reply comes sooner
+abbrev pub IsWithinLimit : List ℕ → Type 0
+IsWithinLimit text = (length text ≤ input_limit) ⊎ ClosesInTime text
+
+-- a talk: its input before and behind it, its output before and behind it, and its status
+pub record TalkEnds (in_tells out_tells : Type 0) (i j : Feed) (o n : Drain) (status : ℕ) : Type 0 where
+  pub status_is : Has status talk_statuses
+  -- with 0 the replies to the whole input were sent, no count rose, and nothing was taken behind a closing reply
+  pub replies : status ≡ 0 → in_tells → Answered out_tells o.sent n.sent i.left
+  pub in_faults : status ≡ 0 → j.faults ≡ i.faults
+  pub out_faults : status ≡ 0 → n.faults ≡ o.faults
+  pub in_time : status ≡ 0 → ReadsInTime in_tells i j
+  -- with another status a beginning of the replies to what was taken was sent
+  pub beginning : (status ≡ 0 → ⊥) → EndsEarly in_tells out_tells i j o n
+  -- with 70 nothing was taken, and nothing was sent
+  pub out_of_memory : status ≡ 70 → NothingDone i j o n
+  -- where neither failed and the input is within the limit, all of it was answered, or there was no memory
+  pub settled : in_tells → IsWithinLimit i.left → (Rose i.faults j.faults → ⊥) → (Rose o.faults n.faults → ⊥)
+      → (status ≡ 0) ⊎ (status ≡ 70)

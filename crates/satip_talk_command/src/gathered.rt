@@ -1,0 +1,98 @@
+//! Replies that wait to be put together.
+
+ghost use Rattle.std.specs.Prelude.{◌≡◌, ◌+◌, ◌≤◌, [], ◌++◌, length, vec_len, vec_capacity, IfOk};
+ghost use Rattle.satip_base.specs.Streams.{Puts};
+ghost use Rattle.satip_talk_command.specs.Gathering.{Gathers};
+
+use satip_base::{Put, Sink, Want};
+use std::alloc::Global;
+use std::marker::Model;
+
+const ROOM: usize = 65536;
+
+/// Bytes that wait to be put, at most 65536. All memory is taken when it is made. The first bytes
+/// behind a flush are put at once, so that nobody waits for them.
+#[derive(Drop)]
+pub(crate) struct Gathered {
+    waiting: Vec<u8>,
+    begun: bool,
+}
+
+impl Model for Gathered {
+    ghost use Rattle.std.specs.Prelude.{List, ℕ, ◌≤◌, vec_len, vec_capacity};
+
+    ghost Value = { List ℕ };
+
+    ghost view = { λ g. g.waiting.items };
+
+    ghost invariant = { λ g. (vec_len g.waiting ≤ 65536) × (65536 ≤ vec_capacity g.waiting) };
+}
+
+impl Gathered {
+    /// Takes all the memory that it ever uses. No bytes wait yet.
+    pub(crate) fn make(alloc: Global) -> Result<Gathered, Want>
+        ensures empty { IfOk result (λ gathered. gathered ≡ []) }
+    {
+        match Vec::with_capacity(alloc, ROOM) {
+            Ok(waiting) => Ok(Gathered {
+                waiting,
+                begun: false,
+            }),
+            Err(_) => Err(Want),
+        }
+    }
+
+    /// Has bytes wait behind the others. The first bytes, and bytes for which there is no room, are
+    /// put behind those that wait.
+    pub(crate) fn gather<O: Sink>(&mut self, bytes: &[u8], output: &mut O) -> Put
+        ensures gathers { Gathers O.tells
+            (O.drain output.old) (O.drain output.new)
+            self.old self.new bytes.now result }
+    {
+        if self.begun && bytes.len() <= ROOM - self.waiting.len() {
+            append(&mut self.waiting, bytes);
+            return Put::Whole;
+        }
+        match self.flush(output) {
+            Put::Whole => self.begin(bytes, output),
+            Put::Failed => Put::Failed,
+        }
+    }
+
+    // Puts bytes where none wait; others will wait behind them.
+    fn begin<O: Sink>(&mut self, bytes: &[u8], output: &mut O) -> Put
+        ensures puts { Puts O.tells
+            (O.drain output.old) (O.drain output.new)
+            bytes.now result }
+        ensures same { self.new ≡ self.old }
+    {
+        self.begun = true;
+        output.put(bytes)
+    }
+
+    /// Puts the bytes that wait, by one call, or by none where there are none.
+    pub(crate) fn flush<O: Sink>(&mut self, output: &mut O) -> Put
+        ensures puts { Puts O.tells
+            (O.drain output.old) (O.drain output.new)
+            self.old result }
+        ensures empty { self.new ≡ [] }
+    {
+        self.begun = false;
+        if self.waiting.is_empty() {
+            return Put::Whole;
+        }
+        let put = output.put(&self.waiting);
+        self.waiting.clear();
+        put
+    }
+}
+
+// Appends within the memory that the list has.
+fn append(list: &mut Vec<u8>, bytes: &[u8])
+    requires room { vec_len list.old + length bytes.now ≤ vec_capacity list.old }
+    ensures items { list.new.items ≡ list.old.items ++ bytes.now }
+    ensures count { vec_len list.new ≡ vec_len list.old + length bytes.now }
+    ensures capacity { vec_capacity list.old ≤ vec_capacity list.new }
+{
+    list.extend_from_slice(bytes).unwrap();
+}
