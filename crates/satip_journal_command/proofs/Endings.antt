@@ -1,5 +1,6 @@
 -- How serving with journals ends, by its status.
-use Rattle.std.proofs.Common.{◌≡◌, ◌∙◌, ℕ, ◌<◌, ◌≤◌, ◌⊎◌, ◌↔◌, inl, inr, List, Option, Some, None, IfSome, IsNone, IsSome, MatchOption, refl, sym, ap, subst, ⊎_elim, arith}
+use Rattle.std.proofs.Common.{◌≡◌, ◌∙◌, ℕ, ◌<◌, ◌≤◌, ◌⊎◌, ◌↔◌, inl, inr, List, Option, Some, None, IfSome, IsNone, IsSome, MatchOption, refl, sym, ap, subst}
+use Rattle.std.proofs.Common.{⊎_elim, arith}
 use Rattle.satip_base.specs.Streams.{Feed, Rose}
 use Rattle.satip_world.specs.Counts.{Rises}
 use Rattle.satip_world.specs.Recordings.{IsStarted}
@@ -8,8 +9,10 @@ use Rattle.satip_history.specs.Lists.{Has}
 use Rattle.satip_serving.specs.Servings.{GivenFrom}
 use Rattle.satip_telling.specs.Lines.{configuration_line}
 use Rattle.satip_journal_command.specs.declared.ends.JournalEnd.{JournalEnd}
-use Rattle.satip_journal_command.specs.declared.ends.JournalEnd.TheVariants.{Served, Configuration, InputFault, JournalFault, DoorsFault, HistoryFull, OutOfMemory}
-use Rattle.satip_journal_command.specs.Statuses.{journal_statuses, journal_status, journal_line, IsEndOfRun, IsUnusedEnd, IsUnready, IsJournalOf, IsJournalSettled}
+use Rattle.satip_journal_command.specs.declared.ends.JournalEnd.TheVariants.{Served, Configuration, InputFault, JournalFault, DoorsFault, HistoryFull}
+use Rattle.satip_journal_command.specs.declared.ends.JournalEnd.TheVariants.{OutOfMemory}
+use Rattle.satip_journal_command.specs.Statuses.{journal_statuses, journal_status, journal_line, IsEndOfRun, IsUnusedEnd, IsUnready, IsJournalOf}
+use Rattle.satip_journal_command.specs.Statuses.{IsJournalSettled}
 
 -- the status is one of serving with journals
 pub has_end : (end : JournalEnd) → Has (journal_status end) journal_statuses

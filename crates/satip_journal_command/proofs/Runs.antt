@@ -44,7 +44,8 @@ risen_told tells os ns texts serves.HistoryFull failed written is = absurd (omeg
 
 -- the jobs ran, and wrote their journals on new sinks
 pub journal_run : {D O P M C J : Type 0} (ct ot jt : Type 0) (drain : J → Drain) (accepts : ℕ) (view : Jobs D O P M C → JobsView)
-    (given : JobsView) (l : Last D O P M C) (sinks : List J) (written : Written J) (end : ServeEnd) → ServingRun ct ot accepts view given l (serving_status (serving_end end))
+    (given : JobsView) (l : Last D O P M C) (sinks : List J) (written : Written J) (end : ServeEnd)
+    → ServingRun ct ot accepts view given l (serving_status (serving_end end))
     → Each (λ d. d ≡ fresh_drain) (map drain sinks) → Journaled jt drain l.server.setting sinks l.pass written
     → JournalRun ct ot jt accepts view given l (map drain written.sinks.items) (journal_status (end_of_run end written.failed))
 journal_run ct ot jt drain accepts view given l sinks written end run new journaled =

@@ -26,7 +26,8 @@ whole_sent tells (o ∷ os) [] (t ∷ ts) whole = absurd whole
 whole_sent tells (o ∷ os) (n ∷ ns) [] whole = absurd whole
 whole_sent tells (o ∷ os) (n ∷ ns) (t ∷ ts) whole = (inl whole.0, whole_sent tells os ns ts whole.1)
 
-pub written_sent : (tells : Type 0) (failed : Bool) (os ns : List Drain) (texts : List (List ℕ)) → AreWritten tells failed os ns texts → AreSent tells os ns texts
+pub written_sent : (tells : Type 0) (failed : Bool) (os ns : List Drain) (texts : List (List ℕ)) → AreWritten tells failed os ns texts
+    → AreSent tells os ns texts
 written_sent tells false os ns texts written = whole_sent tells os ns texts written
 written_sent tells true os ns texts written = written.0
 

@@ -21,7 +21,8 @@ is_first {E} {A} {O} {C} p k is = record {
 }
 
 -- a clock that was read at the start was read once
-read_once : (before after : TickView) (start : ℕ) → FreshTicker before → Reads before.dial after.dial start → after.outbox ≡ before.outbox → ReadOnce start after
+read_once : (before after : TickView) (start : ℕ) → FreshTicker before → Reads before.dial after.dial start → after.outbox ≡ before.outbox
+    → ReadOnce start after
 read_once before after start fresh reads same = record {
   told = fresh.told;
   reads = subst (λ (d : Dial). Reads d after.dial start) fresh.dial reads;
@@ -29,7 +30,8 @@ read_once before after start fresh reads same = record {
 }
 
 -- so fresh kits are fresh but for that reading
-pub fresh_at : (start accepts : ℕ) (given now : JobsView) → now.workers ≡ given.workers → now.pumps ≡ given.pumps → Reads given.ticker.dial now.ticker.dial start
+pub fresh_at : (start accepts : ℕ) (given now : JobsView) → now.workers ≡ given.workers → now.pumps ≡ given.pumps
+    → Reads given.ticker.dial now.ticker.dial start
     → now.ticker.outbox ≡ given.ticker.outbox → AreFresh accepts given → FreshJobs start accepts now
 fresh_at start accepts given now workers pumps reads outbox fresh = record {
   workers_are = subst (λ (ws : List WorkerView). Each (FreshWorker accepts) ws) (sym workers) fresh.workers_are;

@@ -45,9 +45,11 @@ stops_once is_stop stops h callers (inr never) = inr (record { full = never.full
 
 -- a run of these jobs is a serve run
 serve_is_run : (is_stop : Item → Type 0) (legal : Setting → List Item → Type 0) → ((e : Item) → is_stop e → e.event ≡ Stop)
-    → ((c : Setting) (h : List Item) → legal c h → Legal c h) → (conn_tells outlet_tells : Type 0) (c : Setting) (accepts : ℕ) (seen : List Item) (kept : List Caller)
+    → ((c : Setting) (h : List Item) → legal c h → Legal c h)
+    → (conn_tells outlet_tells : Type 0) (c : Setting) (accepts : ℕ) (seen : List Item) (kept : List Caller)
     (workers : List WorkerView) (pumps : List PumpView) (ticker : TickView)
-    → Run c legal is_stop (WorkerDone conn_tells outlet_tells (IsFull seen) accepts) (PumpDone outlet_tells (IsFull seen)) (TickerDone outlet_tells (IsFull seen) c.start)
+    → Run c legal is_stop (WorkerDone conn_tells outlet_tells (IsFull seen) accepts) (PumpDone outlet_tells (IsFull seen))
+    (TickerDone outlet_tells (IsFull seen) c.start)
     seen kept workers pumps ticker
     → ServeRun conn_tells outlet_tells c accepts seen kept workers pumps ticker
 serve_is_run is_stop legal stops lawful conn_tells outlet_tells c accepts seen kept workers pumps ticker run = record {
@@ -67,9 +69,11 @@ serve_is_run is_stop legal stops lawful conn_tells outlet_tells c accepts seen k
 }
 
 module _ {X G : Type 0} (known : X → Known) (may_want : X → Bool) (same : X → X → Type 0) (cell : X → Cell Setting) (pass : X → ServerPass) (gear : X → G)
-    (legal : Setting → List Item → Type 0) (is_stop : Item → Type 0) (goes_on : X → X → Type 0) (serves : Serves known may_want same cell pass legal is_stop) where
+    (legal : Setting → List Item → Type 0) (is_stop : Item → Type 0) (goes_on : X → X → Type 0)
+    (serves : Serves known may_want same cell pass legal is_stop) where
   -- a job that was done is at its seat still
-  pub seat_same : {K M : Type 0} (did : ℕ → K → Known → K → Known → ServeEnd → Type 0) (x y : Seat X K M) → SeatDid same known did x y → IsSameSeat cell pass x y
+  pub seat_same : {K M : Type 0} (did : ℕ → K → Known → K → Known → ServeEnd → Type 0) (x y : Seat X K M) → SeatDid same known did x y
+      → IsSameSeat cell pass x y
   seat_same did x y d = record { cell_is = serves.same_cell x.caller y.caller d.same_is; keeps = serves.keeps x.caller y.caller d.same_is; number = d.number }
 
   -- what it did, as its pass knows it
@@ -89,13 +93,15 @@ pumps_so outlet_tells pump_of n o k m l e = PumpDid outlet_tells n (pump_of o) k
 abbrev pub ticks : {T : Type 0} → (outlet_tells : Type 0) → (T → TickView) → ℕ → T → Known → T → Known → ServeEnd → Type 0
 ticks outlet_tells tick_of n o k m l e = TickerDid outlet_tells (tick_of o) k (tick_of m) l e
 
-module _ {X G W L P M T N : Type 0} (known : X → Known) (may_want : X → Bool) (same : X → X → Type 0) (cell : X → Cell Setting) (pass : X → ServerPass) (gear : X → G)
+module _ {X G W L P M T N : Type 0} (known : X → Known) (may_want : X → Bool) (same : X → X → Type 0) (cell : X → Cell Setting) (pass : X → ServerPass)
+    (gear : X → G)
     (legal : Setting → List Item → Type 0) (is_stop : Item → Type 0) (goes_on : X → X → Type 0) (serves : Serves known may_want same cell pass legal is_stop)
     (conn_tells outlet_tells : Type 0) (worker_of : W → WorkerView) (pump_of : P → PumpView) (tick_of : T → TickView) (o : X) (before : Posts W P T G) (n : X)
     (after : Posts W P T G) (end : ServeEnd)
     (run : RunDid cell pass gear legal is_stop goes_on {L = L} {M = M} {N = N} (SeatDid same known (works conn_tells outlet_tells worker_of))
     (SeatDid same known (pumps_so outlet_tells pump_of)) (SeatDid same known (ticks outlet_tells tick_of)) o before n after end) where
-  pub workers_fresh : (accepts : ℕ) → Each (FreshWorker accepts) (map worker_of before.workers.items) → Each (λ s. FreshWorker accepts (worker_of s.kit)) run.first
+  pub workers_fresh : (accepts : ℕ) → Each (FreshWorker accepts) (map worker_of before.workers.items)
+      → Each (λ s. FreshWorker accepts (worker_of s.kit)) run.first
   workers_fresh accepts fresh =
       each_map (λ (w : W). FreshWorker accepts (worker_of w)) (λ (s : Seat X W L). s.kit) run.first
       (subst (λ (ws : List W). Each (λ (w : W). FreshWorker accepts (worker_of w)) ws) (sym run.first_begun.kits_are)
@@ -104,7 +110,8 @@ module _ {X G W L P M T N : Type 0} (known : X → Known) (may_want : X → Bool
   pumps_fresh : Each FreshPump (map pump_of before.pumps.items) → Each (λ s. FreshPump (pump_of s.kit)) run.second
   pumps_fresh fresh =
       each_map (λ (w : P). FreshPump (pump_of w)) (λ (s : Seat X P M). s.kit) run.second
-      (subst (λ (ws : List P). Each (λ (w : P). FreshPump (pump_of w)) ws) (sym run.second_begun.kits_are) (each_map FreshPump pump_of before.pumps.items fresh))
+      (subst (λ (ws : List P). Each (λ (w : P). FreshPump (pump_of w)) ws) (sym run.second_begun.kits_are)
+      (each_map FreshPump pump_of before.pumps.items fresh))
 
   ticker_fresh : ReadOnce (cell o).setting.start (tick_of before.ticker) → ReadOnce (cell o).setting.start (tick_of run.third.kit)
   ticker_fresh read = (subst (λ (ts : List T). Each (λ (t : T). ReadOnce (cell o).setting.start (tick_of t)) ts) (sym run.third_begun.kits_are) (read, tt)).0
@@ -120,7 +127,8 @@ module _ {X G W L P M T N : Type 0} (known : X → Known) (may_want : X → Bool
       → FreshJobs (cell o).setting.start accepts
       (record { workers = map worker_of before.workers.items; pumps = map pump_of before.pumps.items; ticker = tick_of before.ticker })
       → length before.workers.items ≡ (cell o).setting.config.workers → length before.pumps.items ≡ length (cell o).setting.config.fronts
-      → ServeRun conn_tells outlet_tells (cell o).setting accepts (pass n).seen (pass n).kept (map worker_of after.workers.items) (map pump_of after.pumps.items) (tick_of after.ticker)
+      → ServeRun conn_tells outlet_tells (cell o).setting accepts (pass n).seen (pass n).kept (map worker_of after.workers.items)
+      (map pump_of after.pumps.items) (tick_of after.ticker)
   serve_run accepts first knows fresh worker_count pump_count =
       let c : Setting = (cell o).setting in
       let full : Type 0 = IsFull (pass n).seen in
@@ -132,9 +140,11 @@ module _ {X G W L P M T N : Type 0} (known : X → Known) (may_want : X → Bool
       (tick_of run.third_ended.kit) =
       run_over cell pass gear legal is_stop goes_on (SeatDid same known worked) (SeatDid same known pumped) (SeatDid same known ticked) o before n after end run
       (λ (s : Seat X W L). worker_of s.kit) (λ (s : Seat X P M). pump_of s.kit) (λ (s : Seat X T N). tick_of s.kit)
-      (λ (s : Seat X W L). FreshWorker accepts (worker_of s.kit)) (λ (s : Seat X P M). FreshPump (pump_of s.kit)) (λ (s : Seat X T N). ReadOnce c.start (tick_of s.kit))
+      (λ (s : Seat X W L). FreshWorker accepts (worker_of s.kit)) (λ (s : Seat X P M). FreshPump (pump_of s.kit))
+      (λ (s : Seat X T N). ReadOnce c.start (tick_of s.kit))
       (WorkerDone conn_tells outlet_tells full accepts) (PumpDone outlet_tells full) (TickerDone outlet_tells full c.start)
-      (λ (x y : Seat X W L) did kit none filled. worker_done conn_tells outlet_tells full accepts x.number (pass y.caller).number kit.told (worker_of x.kit) (worker_of y.kit)
+      (λ (x y : Seat X W L) did kit none filled. worker_done conn_tells outlet_tells full accepts x.number (pass y.caller).number kit.told (worker_of x.kit)
+      (worker_of y.kit)
       (known_by (pass x.caller)) (known_by (pass y.caller)) y.end
       (deed_by known may_want same cell pass gear legal is_stop goes_on serves worked x y did) kit.hall kit.outbox none filled)
       (λ (x y : Seat X P M) did kit none filled. pump_done outlet_tells full x.number (pass y.caller).number (pump_of x.kit) (pump_of y.kit)
@@ -143,15 +153,19 @@ module _ {X G W L P M T N : Type 0} (known : X → Known) (may_want : X → Bool
       (λ (x y : Seat X T N) did kit none filled. ticker_done outlet_tells full c.start (pass y.caller).number kit.told (tick_of x.kit) (tick_of y.kit)
       (known_by (pass x.caller)) (known_by (pass y.caller)) y.end
       (deed_by known may_want same cell pass gear legal is_stop goes_on serves ticked x y did) kit.reads kit.outbox none filled)
-      (seat_same known may_want same cell pass gear legal is_stop goes_on serves worked) (seat_same known may_want same cell pass gear legal is_stop goes_on serves pumped)
+      (seat_same known may_want same cell pass gear legal is_stop goes_on serves worked)
+      (seat_same known may_want same cell pass gear legal is_stop goes_on serves pumped)
       (seat_same known may_want same cell pass gear legal is_stop goes_on serves ticked)
       first.number first.own first.kept first.made knows (workers_fresh accepts fresh.workers_are) (pumps_fresh fresh.pumps_are) (ticker_fresh fresh.ticker_is)
       worker_count pump_count in
       serve_is_run is_stop legal serves.stops serves.lawful conn_tells outlet_tells c accepts (pass n).seen (pass n).kept (map worker_of after.workers.items)
       (map pump_of after.pumps.items) (tick_of after.ticker)
-      (subst (λ (t : T). Run c legal is_stop (WorkerDone conn_tells outlet_tells full accepts) (PumpDone outlet_tells full) (TickerDone outlet_tells full c.start)
+      (subst (λ (t : T). Run c legal is_stop (WorkerDone conn_tells outlet_tells full accepts) (PumpDone outlet_tells full)
+      (TickerDone outlet_tells full c.start)
       (pass n).seen (pass n).kept (map worker_of after.workers.items) (map pump_of after.pumps.items) (tick_of t)) (sym run.ticker_is)
-      (subst (λ (ps : List PumpView). Run c legal is_stop (WorkerDone conn_tells outlet_tells full accepts) (PumpDone outlet_tells full) (TickerDone outlet_tells full c.start)
+      (subst (λ (ps : List PumpView). Run c legal is_stop (WorkerDone conn_tells outlet_tells full accepts) (PumpDone outlet_tells full)
+      (TickerDone outlet_tells full c.start)
       (pass n).seen (pass n).kept (map worker_of after.workers.items) ps (tick_of run.third_ended.kit)) pumps_seen
-      (subst (λ (ws : List WorkerView). Run c legal is_stop (WorkerDone conn_tells outlet_tells full accepts) (PumpDone outlet_tells full) (TickerDone outlet_tells full c.start)
+      (subst (λ (ws : List WorkerView). Run c legal is_stop (WorkerDone conn_tells outlet_tells full accepts) (PumpDone outlet_tells full)
+      (TickerDone outlet_tells full c.start)
       (pass n).seen (pass n).kept ws (map (λ (s : Seat X P M). pump_of s.kit) run.second_ended) (tick_of run.third_ended.kit)) workers_seen whole)))

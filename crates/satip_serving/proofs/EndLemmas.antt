@@ -18,7 +18,8 @@ pub unused_of : {D O P M C : Type 0} (hall : D → Hall) (outbox : O → Outbox)
     (jobs left : Jobs D O P M C) → AreFresh accepts (jobs_view hall outbox shelf dial jobs) → Unused dial jobs left
     → AreUnused accepts (jobs_view hall outbox shelf dial left)
 unused_of {D} {O} {P} {M} hall outbox shelf dial accepts jobs left fresh same = record {
-  workers_are = subst (λ (ks : List (WorkerKit D O P)). Each (FreshWorker accepts) (map (worker_view hall outbox) ks)) (sym same.workers_same) fresh.workers_are;
+  workers_are = subst (λ (ks : List (WorkerKit D O P)). Each (FreshWorker accepts) (map (worker_view hall outbox) ks))
+      (sym same.workers_same) fresh.workers_are;
   pumps_are = subst (λ (ks : List (PumpKit M O P)). Each FreshPump (map (pump_view shelf outbox) ks)) (sym same.pumps_same) fresh.pumps_are;
   start = same.moment;
   ticker_is = record {

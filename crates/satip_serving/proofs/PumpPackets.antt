@@ -1,5 +1,6 @@
 -- In a serve run the packets of a front end are its pump's, so that they are of recordings.
-use Rattle.std.proofs.Common.{◌≡◌, ℕ, ◌+◌, ◌<◌, ◌⊎◌, ◌==◌, inl, inr, Bool, true, false, List, [], ◌∷◌, ◌++◌, length, Option, None, arith, refl, sym, ap, ◌∙◌, subst, ⊎_elim, append_assoc, length-append}
+use Rattle.std.proofs.Common.{◌≡◌, ℕ, ◌+◌, ◌<◌, ◌⊎◌, ◌==◌, inl, inr, Bool, true, false, List, [], ◌∷◌, ◌++◌, length, Option, None, arith, refl, sym, ap, ◌∙◌}
+use Rattle.std.proofs.Common.{subst, ⊎_elim, append_assoc, length-append}
 use Rattle.std.proofs.lemmas.Bool.{eqb-true, false≢true}
 use Rattle.satip_history.specs.Lists.{Each, Has}
 use Rattle.satip_history.specs.History.{kept_if, own_of}

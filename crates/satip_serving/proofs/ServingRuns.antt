@@ -13,7 +13,8 @@ use Rattle.satip_serving.specs.Statuses.{serving_status}
 use Rattle.satip_serving.proofs.PumpPackets.{plays_recordings}
 use Rattle.satip_serving.proofs.StatusLemmas.{jobs_end}
 
-pub serving_run : {D O P M C : Type 0} (conn_tells outlet_tells : Type 0) (accepts : ℕ) (view : Jobs D O P M C → JobsView) (given : JobsView) (l : Last D O P M C)
+pub serving_run : {D O P M C : Type 0} (conn_tells outlet_tells : Type 0) (accepts : ℕ) (view : Jobs D O P M C → JobsView) (given : JobsView)
+    (l : Last D O P M C)
     (end : ServeEnd) → AreFresh accepts given → HaveRun conn_tells outlet_tells AreFresh l.server given l.pass (view l.jobs) end
     → SendsSelected l.server.setting l.pass.seen → ObeysOwners l.server.setting l.pass.seen → TellsBusy l.server.setting l.pass.seen
     → GivesRecordings l.server.setting l.pass.seen → ServingRun conn_tells outlet_tells accepts view given l (serving_status (end_of_run end))

@@ -1,5 +1,6 @@
 -- What serving comes to, by its status, from how it ended.
-use Rattle.std.proofs.Common.{◌≡◌, ◌∙◌, ℕ, ◌<◌, ◌≤◌, ◌⊎◌, ◌↔◌, inl, inr, true, List, Option, Some, None, IfSome, IsNone, IsSome, IsSomeAnd, MatchOption, refl, sym, ap, subst, ⊎_elim, arith}
+use Rattle.std.proofs.Common.{◌≡◌, ◌∙◌, ℕ, ◌<◌, ◌≤◌, ◌⊎◌, ◌↔◌, inl, inr, true, List, Option, Some, None, IfSome, IsNone, IsSome, IsSomeAnd, MatchOption, refl}
+use Rattle.std.proofs.Common.{sym, ap, subst, ⊎_elim, arith}
 use Rattle.satip_base.specs.Streams.{Feed, Rose}
 use Rattle.satip_world.specs.Counts.{Rises}
 use Rattle.satip_world.specs.Recordings.{IsStarted}
@@ -12,7 +13,8 @@ use Rattle.satip_crew.specs.declared.end.ServeEnd.TheVariants as serves
 use Rattle.satip_serve.specs.ServeRuns.{HasFault, MatchEnd}
 use Rattle.satip_serve.specs.Views.{WorkerView, JobsView}
 use Rattle.satip_serving.specs.declared.serving.ServingEnd.{ServingEnd}
-use Rattle.satip_serving.specs.declared.serving.ServingEnd.TheVariants.{Served, Configuration as OfConfiguration, InputFault, DoorsFault, HistoryFull, OutOfMemory}
+use Rattle.satip_serving.specs.declared.serving.ServingEnd.TheVariants.{Served, Configuration as OfConfiguration, InputFault, DoorsFault, HistoryFull}
+use Rattle.satip_serving.specs.declared.serving.ServingEnd.TheVariants.{OutOfMemory}
 use Rattle.satip_serving.specs.Ends.{ServingEnds}
 use Rattle.satip_serving.specs.Given.{ComeUnused}
 use Rattle.satip_serving.specs.Ran.{JobsEnd}

@@ -15,7 +15,8 @@ use Rattle.satip_tunnel_serve.specs.Ran.{HaveOutlets}
 use Rattle.satip_tunnel_serve.specs.Views.{worker_seen, pump_seen, ticker_seen, jobs_seen}
 
 -- what is the same of each is the same of all
-pub map_same : {S T U : Type 0} (f : S → T) (part : T → U) (part' : S → U) → ((x : S) → part (f x) ≡ part' x) → (xs : List S) → map part (map f xs) ≡ map part' xs
+pub map_same : {S T U : Type 0} (f : S → T) (part : T → U) (part' : S → U) → ((x : S) → part (f x) ≡ part' x) → (xs : List S)
+    → map part (map f xs) ≡ map part' xs
 map_same f part part' same [] = refl
 map_same {U = U} f part part' same (x ∷ xs) =
     ap (λ (u : U). u ∷ map part (map f xs)) (same x) ∙ ap (λ (us : List U). part' x ∷ us) (map_same f part part' same xs)
@@ -32,7 +33,8 @@ pub first_of_two : {S T U V : Type 0} (f : S → T → U) (part : U → V) (part
 first_of_two f part part' same [] ys is = refl
 first_of_two f part part' same (x ∷ xs) [] is = nothing_as_long x xs (sym is)
 first_of_two {V = V} f part part' same (x ∷ xs) (y ∷ ys) is =
-    ap (λ (v : V). v ∷ map part (each_two f xs ys)) (same x y) ∙ ap (λ (vs : List V). part' x ∷ vs) (first_of_two f part part' same xs ys (rest_as_long x xs y ys is))
+    ap (λ (v : V). v ∷ map part (each_two f xs ys)) (same x y)
+    ∙ ap (λ (vs : List V). part' x ∷ vs) (first_of_two f part part' same xs ys (rest_as_long x xs y ys is))
 
 -- and where it is the second
 pub second_of_two : {S T U : Type 0} (f : S → T → U) (part : U → T) → ((x : S) (y : T) → part (f x y) ≡ y) → (xs : List S) (ys : List T)
@@ -49,8 +51,10 @@ still_as_many {K} {Q} {O} silence outlet kits quiet back outlets are outlets_are
     ap (λ (os : List O). length os) outlets_are ∙ length-map kits outlet ∙ sym (length-map kits silence) ∙ sym (ap (λ (qs : List Q). length qs) are) ∙ sym count
 
 -- kits that come back with their outlets: a part that isn't the outlet's is as the jobs left it
-pub part_is_seen : {K Q O V : Type 0} (with_outlet : Q → O → K) (silence : K → Q) (outlet : K → O) (part : K → V) (part' : Q → V) → ((q : Q) (o : O) → part (with_outlet q o) ≡ part' q)
-    → (kits : List K) (quiet back : List Q) (outlets : List O) (last : List K) → quiet ≡ map silence kits → outlets ≡ map outlet kits → length back ≡ length quiet
+pub part_is_seen : {K Q O V : Type 0} (with_outlet : Q → O → K) (silence : K → Q) (outlet : K → O) (part : K → V) (part' : Q → V)
+    → ((q : Q) (o : O) → part (with_outlet q o) ≡ part' q)
+    → (kits : List K) (quiet back : List Q) (outlets : List O) (last : List K) → quiet ≡ map silence kits → outlets ≡ map outlet kits
+    → length back ≡ length quiet
     → last ≡ each_two with_outlet back outlets → map part last ≡ map part' back
 part_is_seen {K} {Q} {O} {V} with_outlet silence outlet part part' same kits quiet back outlets last are outlets_are count last_is =
     ap (λ (ks : List K). map part ks) last_is
@@ -58,7 +62,8 @@ part_is_seen {K} {Q} {O} {V} with_outlet silence outlet part part' same kits qui
 
 -- and the outlets are those that were put aside
 pub outlets_come_back : {K Q O : Type 0} (with_outlet : Q → O → K) (silence : K → Q) (outlet : K → O) → ((q : Q) (o : O) → outlet (with_outlet q o) ≡ o)
-    → (kits : List K) (quiet back : List Q) (outlets : List O) (last : List K) → quiet ≡ map silence kits → outlets ≡ map outlet kits → length back ≡ length quiet
+    → (kits : List K) (quiet back : List Q) (outlets : List O) (last : List K) → quiet ≡ map silence kits → outlets ≡ map outlet kits
+    → length back ≡ length quiet
     → last ≡ each_two with_outlet back outlets → map outlet last ≡ map outlet kits
 outlets_come_back {K} {Q} {O} with_outlet silence outlet same kits quiet back outlets last are outlets_are count last_is =
     ap (λ (ks : List K). map outlet ks) last_is
@@ -116,8 +121,10 @@ pub have_outlets : {D O P M C : Type 0} (jobs : Jobs D O P M C) (quiet back : Jo
     → last.tick ≡ ticker_with back.tick ticker_outlet → HaveOutlets jobs last
 have_outlets {D} {O} {P} {M} {C} jobs quiet back worker_outlets pump_outlets ticker_outlet last are_workers are_pumps workers_have pumps_have ticker_has
     worker_count pump_count workers_are pumps_are tick_is = record {
-      workers = outlets_come_back (λ (q : WorkerKit D Silent P) (o : O). worker_with q o) (λ (k : WorkerKit D O P). silent_worker k) (λ (k : WorkerKit D O P). k.outlet)
-          (λ q o. refl) jobs.workers.items quiet.workers.items back.workers.items worker_outlets last.workers.items are_workers workers_have worker_count workers_are;
+      workers = outlets_come_back (λ (q : WorkerKit D Silent P) (o : O). worker_with q o) (λ (k : WorkerKit D O P). silent_worker k)
+          (λ (k : WorkerKit D O P). k.outlet)
+          (λ q o. refl) jobs.workers.items quiet.workers.items back.workers.items worker_outlets last.workers.items are_workers workers_have worker_count
+          workers_are;
       pumps = outlets_come_back (λ (q : PumpKit M Silent P) (o : O). pump_with q o) (λ (k : PumpKit M O P). silent_pump k) (λ (k : PumpKit M O P). k.outlet)
           (λ q o. refl) jobs.pumps.items quiet.pumps.items back.pumps.items pump_outlets last.pumps.items are_pumps pumps_have pump_count pumps_are;
       ticker = ap (λ (t : TickKit C O P). t.outlet) tick_is ∙ ticker_has;

@@ -7,7 +7,8 @@ use Rattle.satip_telling.specs.Lines.{Says}
 use Rattle.satip_journal_command.specs.Asked.{first_jobs}
 use Rattle.satip_journal_command.specs.Statuses.{journal_status}
 use Rattle.satip_journal_command.proofs.Sending.{each_map, length_map}
-use Rattle.satip_journal_command.proofs.Endings.{IsLeft, begun_told, doors_told, fault_told, faults_told, has_end, input_status, input_told, journals_told, left_from, served_by, settled_told, unused_told}
+use Rattle.satip_journal_command.proofs.Endings.{IsLeft, begun_told, doors_told, fault_told, faults_told, has_end, input_status, input_told, journals_told}
+use Rattle.satip_journal_command.proofs.Endings.{left_from, served_by, settled_told, unused_told}
 use Rattle.satip_journal_command.proofs.serving.journal_by.Goals as goal
 
 pub returns-in-Ok-clause-ends : goal.returns-in-Ok-clause-ends

@@ -15,34 +15,40 @@ use Rattle.satip_serve.proofs.run.run_services.Goals as goal
 pub run_jobs-requires-clause-work : goal.run_jobs-requires-clause-work
 run_jobs-requires-clause-work g c κs within = record {
   takes = let memory = c.requires.serves.never_wants in λ argument. search sendable depth 14;
-  same = λ before after call. seat_same g.X.Service.known g.X.Service.may_want g.X.Service.same g.X.Crew.cell g.X.Crew.pass g.X.Crew.gear g.X.Crew.legal g.X.Crew.is_stop g.X.Crew.goes_on
+  same = λ before after call. seat_same g.X.Service.known g.X.Service.may_want g.X.Service.same g.X.Crew.cell g.X.Crew.pass g.X.Crew.gear g.X.Crew.legal
+      g.X.Crew.is_stop g.X.Crew.goes_on
       c.requires.serves (worker_deed {P = g.row.P.Denot} g.D.Conn.Conn.tells g.O.Outlet.tells g.D.Doors.hall g.O.Outlet.outbox) before.now after.now call;
 }
 
 pub run_jobs-requires-clause-pump : goal.run_jobs-requires-clause-pump
 run_jobs-requires-clause-pump g c κs within = record {
   takes = let memory = c.requires.serves.never_wants in λ argument. search sendable depth 14;
-  same = λ before after call. seat_same g.X.Service.known g.X.Service.may_want g.X.Service.same g.X.Crew.cell g.X.Crew.pass g.X.Crew.gear g.X.Crew.legal g.X.Crew.is_stop g.X.Crew.goes_on
+  same = λ before after call. seat_same g.X.Service.known g.X.Service.may_want g.X.Service.same g.X.Crew.cell g.X.Crew.pass g.X.Crew.gear g.X.Crew.legal
+      g.X.Crew.is_stop g.X.Crew.goes_on
       c.requires.serves (pump_deed {P = g.row.P.Denot} g.O.Outlet.tells g.M.MuxStore.shelf g.O.Outlet.outbox) before.now after.now call;
 }
 
 pub run_jobs-requires-clause-tick : goal.run_jobs-requires-clause-tick
 run_jobs-requires-clause-tick g c κs within = record {
   takes = let memory = c.requires.serves.never_wants in λ argument. search sendable depth 14;
-  same = λ before after call. seat_same g.X.Service.known g.X.Service.may_want g.X.Service.same g.X.Crew.cell g.X.Crew.pass g.X.Crew.gear g.X.Crew.legal g.X.Crew.is_stop g.X.Crew.goes_on
+  same = λ before after call. seat_same g.X.Service.known g.X.Service.may_want g.X.Service.same g.X.Crew.cell g.X.Crew.pass g.X.Crew.gear g.X.Crew.legal
+      g.X.Crew.is_stop g.X.Crew.goes_on
       c.requires.serves (ticker_deed {P = g.row.P.Denot} g.O.Outlet.tells g.C.Clock.dial g.O.Outlet.outbox) before.now after.now call;
 }
 
 pub returns-clause-did : goal.returns-clause-did
 returns-clause-did g c =
-    run_as g.X.Crew.cell g.X.Crew.pass g.X.Crew.gear g.X.Crew.legal g.X.Crew.is_stop g.X.Crew.goes_on _ _ _ c.args.root c.args.posts c.run_jobs.result.0 c.run_jobs.result.1
+    run_as g.X.Crew.cell g.X.Crew.pass g.X.Crew.gear g.X.Crew.legal g.X.Crew.is_stop g.X.Crew.goes_on _ _ _ c.args.root c.args.posts c.run_jobs.result.0
+    c.run_jobs.result.1
     c.run_jobs.result.2 c.run_jobs.ensures.did
     (SeatDid g.X.Service.same g.X.Service.known (worker_deed {P = g.row.P.Denot} g.D.Conn.Conn.tells g.O.Outlet.tells g.D.Doors.hall g.O.Outlet.outbox))
     (SeatDid g.X.Service.same g.X.Service.known (pump_deed {P = g.row.P.Denot} g.O.Outlet.tells g.M.MuxStore.shelf g.O.Outlet.outbox))
     (SeatDid g.X.Service.same g.X.Service.known (ticker_deed {P = g.row.P.Denot} g.O.Outlet.tells g.C.Clock.dial g.O.Outlet.outbox))
-    (λ x y work. worked_as _ _ (SeatDid g.X.Service.same g.X.Service.known (worker_deed {P = g.row.P.Denot} g.D.Conn.Conn.tells g.O.Outlet.tells g.D.Doors.hall g.O.Outlet.outbox))
+    (λ x y work. worked_as _ _ (SeatDid g.X.Service.same g.X.Service.known
+    (worker_deed {P = g.row.P.Denot} g.D.Conn.Conn.tells g.O.Outlet.tells g.D.Doors.hall g.O.Outlet.outbox))
     (λ a b call. call) x y work)
-    (λ x y work. worked_as _ _ (SeatDid g.X.Service.same g.X.Service.known (pump_deed {P = g.row.P.Denot} g.O.Outlet.tells g.M.MuxStore.shelf g.O.Outlet.outbox))
+    (λ x y work. worked_as _ _ (SeatDid g.X.Service.same g.X.Service.known
+    (pump_deed {P = g.row.P.Denot} g.O.Outlet.tells g.M.MuxStore.shelf g.O.Outlet.outbox))
     (λ a b call. call) x y work)
     (λ x y work. worked_as _ _ (SeatDid g.X.Service.same g.X.Service.known (ticker_deed {P = g.row.P.Denot} g.O.Outlet.tells g.C.Clock.dial g.O.Outlet.outbox))
     (λ a b call. call) x y work)
@@ -61,13 +67,16 @@ returns-clause-ran g c =
           (workers_keep g.X.Crew.cell g.X.Crew.pass g.X.Crew.gear g.X.Crew.legal g.X.Crew.is_stop g.X.Crew.goes_on _ _ _ c.args.root c.args.posts root posts
           c.run_jobs.result.2 did (λ (kit : WorkerKit g.row.D.Denot g.row.O.Denot g.row.P.Denot). kit.key) (λ x y did. did.deed.key))
           (pumps_keep g.X.Crew.cell g.X.Crew.pass g.X.Crew.gear g.X.Crew.legal g.X.Crew.is_stop g.X.Crew.goes_on _ _ _ c.args.root c.args.posts root posts
-          c.run_jobs.result.2 did (λ (kit : PumpKit g.row.M.Denot g.row.O.Denot g.row.P.Denot). (g.M.MuxStore.shelf kit.store).recording) (λ x y did. did.deed.recordings));
+          c.run_jobs.result.2 did (λ (kit : PumpKit g.row.M.Denot g.row.O.Denot g.row.P.Denot). (g.M.MuxStore.shelf kit.store).recording)
+          (λ x y did. did.deed.recordings));
       run = λ accepts fresh.
-          serve_run g.X.Service.known g.X.Service.may_want g.X.Service.same g.X.Crew.cell g.X.Crew.pass g.X.Crew.gear g.X.Crew.legal g.X.Crew.is_stop g.X.Crew.goes_on
+          serve_run g.X.Service.known g.X.Service.may_want g.X.Service.same g.X.Crew.cell g.X.Crew.pass g.X.Crew.gear g.X.Crew.legal g.X.Crew.is_stop
+          g.X.Crew.goes_on
           c.requires.serves g.D.Conn.Conn.tells g.O.Outlet.tells worker_of pump_of tick_of c.args.root c.args.posts root posts c.run_jobs.result.2 did
           accepts c.requires.first c.run_jobs.ensures.knows fresh c.requires.worker_count c.requires.pump_count;
       ended = λ accepts fresh.
-          end_tells g.X.Service.known g.X.Service.may_want g.X.Service.same g.X.Crew.cell g.X.Crew.pass g.X.Crew.gear g.X.Crew.legal g.X.Crew.is_stop g.X.Crew.goes_on
+          end_tells g.X.Service.known g.X.Service.may_want g.X.Service.same g.X.Crew.cell g.X.Crew.pass g.X.Crew.gear g.X.Crew.legal g.X.Crew.is_stop
+          g.X.Crew.goes_on
           c.requires.serves g.D.Conn.Conn.tells g.O.Outlet.tells worker_of pump_of tick_of c.args.root c.args.posts root posts c.run_jobs.result.2 did
           accepts c.run_jobs.ensures.knows fresh.workers_are;
     }

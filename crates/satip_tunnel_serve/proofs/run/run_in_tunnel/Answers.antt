@@ -22,13 +22,15 @@ run_jobs-requires-clause-work g c κs within = record {
 pub run_jobs-requires-clause-pump : goal.run_jobs-requires-clause-pump
 run_jobs-requires-clause-pump g c κs within = record {
   takes = let memory = c.requires.serves.never_wants in λ argument. grind serving steps 40000000;
-  same = λ before after call. still_seated g.X.Service.known g.X.Service.may_want g.X.Service.same g.X.Crew.cell g.X.Crew.pass g.X.Crew.legal g.X.Crew.is_stop c.requires.serves before.now after.now call.same_is call.number;
+  same = λ before after call. still_seated g.X.Service.known g.X.Service.may_want g.X.Service.same g.X.Crew.cell g.X.Crew.pass g.X.Crew.legal g.X.Crew.is_stop
+      c.requires.serves before.now after.now call.same_is call.number;
 }
 
 pub run_jobs-requires-clause-tick : goal.run_jobs-requires-clause-tick
 run_jobs-requires-clause-tick g c κs within = record {
   takes = let memory = c.requires.serves.never_wants in λ argument. grind serving steps 40000000;
-  same = λ before after call. still_seated g.X.Service.known g.X.Service.may_want g.X.Service.same g.X.Crew.cell g.X.Crew.pass g.X.Crew.legal g.X.Crew.is_stop c.requires.serves before.now after.now call.same_is call.number;
+  same = λ before after call. still_seated g.X.Service.known g.X.Service.may_want g.X.Service.same g.X.Crew.cell g.X.Crew.pass g.X.Crew.legal g.X.Crew.is_stop
+      c.requires.serves before.now after.now call.same_is call.number;
 }
 
 pub returns-clause-ran : goal.returns-clause-ran
@@ -47,10 +49,12 @@ returns-clause-ran g c =
     (λ x y work. worked_as _ _ (SeatDid g.X.Crew.cell g.X.Crew.pass (worker_deed {O = Silent} {P = g.row.P.Denot} g.D.Conn.Conn.tells g.D.Doors.hall))
     (λ a b call. c.requires.work.does a b call) x y work)
     (λ x y work. worked_as _ _ (SeatDid g.X.Crew.cell g.X.Crew.pass (pump_deed {O = Silent} {P = g.row.P.Denot} g.M.MuxStore.shelf))
-    (λ a b call. pumped_at_seat g.X.Service.known g.X.Service.may_want g.X.Service.same g.X.Crew.cell g.X.Crew.pass g.X.Crew.legal g.X.Crew.is_stop c.requires.serves
+    (λ a b call. pumped_at_seat g.X.Service.known g.X.Service.may_want g.X.Service.same g.X.Crew.cell g.X.Crew.pass g.X.Crew.legal g.X.Crew.is_stop
+    c.requires.serves
     g.M.MuxStore.shelf a.now b.now call) x y work)
     (λ x y work. worked_as _ _ (SeatDid g.X.Crew.cell g.X.Crew.pass (ticker_deed {O = Silent} {P = g.row.P.Denot} g.C.Clock.dial))
-    (λ a b call. ticked_at_seat g.X.Service.known g.X.Service.may_want g.X.Service.same g.X.Crew.cell g.X.Crew.pass g.X.Crew.legal g.X.Crew.is_stop c.requires.serves
+    (λ a b call. ticked_at_seat g.X.Service.known g.X.Service.may_want g.X.Service.same g.X.Crew.cell g.X.Crew.pass g.X.Crew.legal g.X.Crew.is_stop
+    c.requires.serves
     g.C.Clock.dial a.now b.now call) x y work) in
     record {
       kits_left = come_back g.D.Doors.hall no_outbox g.M.MuxStore.shelf c.args.posts.workers.items posts.workers.items

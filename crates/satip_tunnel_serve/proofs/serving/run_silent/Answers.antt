@@ -31,4 +31,5 @@ returns-clause-worker_count g c =
 
 pub returns-clause-pump_count : goal.returns-clause-pump_count
 returns-clause-pump_count g c =
-    as_many (pump_seen {O = Silent} {P = g.row.P.Denot} g.M.MuxStore.shelf) (λ (p : PumpView). p.recording) _ _ c.run_in_tunnel-root.ensures.ran.kits_left.recordings
+    as_many (pump_seen {O = Silent} {P = g.row.P.Denot} g.M.MuxStore.shelf) (λ (p : PumpView). p.recording) _ _
+    c.run_in_tunnel-root.ensures.ran.kits_left.recordings

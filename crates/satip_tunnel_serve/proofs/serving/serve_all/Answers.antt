@@ -19,7 +19,8 @@ run_silent-pass-requires-clause-ready g c κs within =
       of = ready.of;
       knows = ready.knows;
       first = ready.first;
-      workers = ap (λ (ks : List (WorkerKit g.row.D.Denot Silent g.row.P.Denot)). length ks) aside.workers ∙ length-map c.args.jobs.workers.items _ ∙ ready.workers;
+      workers = ap (λ (ks : List (WorkerKit g.row.D.Denot Silent g.row.P.Denot)). length ks) aside.workers ∙ length-map c.args.jobs.workers.items _
+          ∙ ready.workers;
       pumps = ap (λ (ks : List (PumpKit g.row.M.Denot Silent g.row.P.Denot)). length ks) aside.pumps ∙ length-map c.args.jobs.pumps.items _ ∙ ready.pumps;
     }
 
@@ -36,7 +37,8 @@ returns-in-Ok-clause-ran g c =
     let ran = c.run_silent-pass.ensures in
     let again = c.take_back.ensures in
     let given = silent_seen hall shelf dial jobs quiet aside.workers aside.pumps aside.tick in
-    let left = sounded_seen hall shelf dial jobs quiet back _ _ _ last aside.workers aside.pumps aside.worker_outlets aside.pump_outlets ran.worker_count ran.pump_count
+    let left = sounded_seen hall shelf dial jobs quiet back _ _ _ last aside.workers aside.pumps aside.worker_outlets aside.pump_outlets ran.worker_count
+    ran.pump_count
     again.workers again.pumps again.tick in
     subst (λ (v : JobsView). HaveTunneled g.D.Conn.Conn.tells (FreshJobs c.args.server.now.setting.start) c.args.server.now v c.run_silent-pass.result.0
     (jobs_seen hall shelf dial last) c.run_silent-pass.result.2) given
