@@ -1,5 +1,5 @@
 -- Jobs that served and wrote journals.
-use Rattle.std.specs.Prelude.{◌≡◌, ◌==◌, ℕ, List, map, length, flat_map}
+use Rattle.std.specs.Prelude.{if◌then◌else◌, ◌≡◌, ◌==◌, ℕ, List, map, length, flat_map}
 use Rattle.std.specs.List.Sorted.{IsPermutation}
 use Rattle.satip_base.specs.Streams.{Drain, fresh_drain}
 use Rattle.satip_turn.specs.Views.{numbers_of}
