@@ -1,6 +1,7 @@
 //! Journals of which one byte is another.
 
 use crate::audits::run;
+use satip_fixtures::texts::CONFIGURATION;
 use std::alloc::Global;
 use std::test::Fail;
 
