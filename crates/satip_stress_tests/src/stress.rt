@@ -150,12 +150,7 @@ fn counted(alloc: Global, printed: &[u8]) -> Result<String, Fail> {
         }
     }
     Ok(format!(in alloc;
-        "events {events}\n\
-        replies {replies}\n\
-        refused {refused}\n\
-        datagrams {datagrams}\n\
-        payload {payload}\n\
-        reports {reports}\n"
+        "events {events}\nreplies {replies}\nrefused {refused}\ndatagrams {datagrams}\npayload {payload}\nreports {reports}\n"
     )?)
 }
 
