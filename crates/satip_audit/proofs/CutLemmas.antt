@@ -2,7 +2,7 @@
 use Rattle.std.proofs.Common.{◌≡◌, ℕ, zero, suc, ◌+◌, ◌*◌, ◌/◌, ◌<◌, ◌≤◌, Bool, true, false, cond, not, ◌||◌, List, [], ◌∷◌, ◌++◌, length, length-append, append_assoc, take, drop, Option, None, Some, Result, Ok, Err, refl, sym, ap, ◌∙◌, subst, arith}
 use Rattle.std.specs.Prelude.{◌==◌, slice_index, ◌≢◌}
 use Rattle.std.specs.List.{list_any, position_or_len}
-use Rattle.std.proofs.lemmas.Bool.{eqb-true, eqb-false}
+use Rattle.std.proofs.lemmas.Bool.{eqb-true, eqb-false, or_parts, false_from_ne_true}
 use Rattle.std.proofs.lemmas.Bool.Decides.{nat_tests}
 use Rattle.std.proofs.lemmas.List.{take_at, drop_at}
 use Rattle.std.proofs.lemmas.List.Sums.{position_or_len_is}
@@ -13,14 +13,6 @@ use Rattle.hex.proofs.HexLemmas.{decode_sized-encode_lower, length-encode_with}
 use Rattle.memchr.specs.Find.{IsFirstByte}
 use Rattle.satip_audit.specs.Cuts.{is_byte}
 
-or_false : (a b : Bool) → (a || b) ≡ false → (a ≡ false) × (b ≡ false)
-or_false true b h = absurd (cc h)
-or_false false b h = (refl, h)
-
-no_true : (b : Bool) → (b ≡ true → ⊥) → b ≡ false
-no_true true h = absurd (h refl)
-no_true false h = refl
-
 pub same_byte : (byte : ℕ) → is_byte byte byte ≡ true
 same_byte byte = grind (arith, nat_tests)
 
@@ -29,7 +21,7 @@ place_behind : (p : ℕ → Bool) (piece : List ℕ) (y : ℕ) (rest : List ℕ)
     → position_or_len p (piece ++ y ∷ rest) ≡ length piece
 place_behind p [] y rest none here = rw here refl
 place_behind p (x ∷ xs) y rest none here =
-    let both = or_false (p x) (list_any p xs) none in
+    let both = or_parts (p x) (list_any p xs) none in
     let more = place_behind p xs y rest both.1 here in
     rw both.0 (omega (arith, more))
 
@@ -37,12 +29,12 @@ place_behind p (x ∷ xs) y rest none here =
 pub found_is : (p : ℕ → Bool) (text : List ℕ) (r : Option ℕ) → IsFirstByte p text r → position_or_len p text < length text → r ≡ Some (position_or_len p text)
 found_is p text None h inside =
     let e : position_or_len p text ≡ length text =
-    position_or_len_is p text (length text) 0 (omega arith) (λ k l. no_true _ (h k (omega arith) l)) (λ l. absurd (omega (arith, l))) in
+    position_or_len_is p text (length text) 0 (omega arith) (λ k l. false_from_ne_true _ (h k (omega arith) l)) (λ l. absurd (omega (arith, l))) in
     absurd (omega (arith, e, inside))
 found_is p text (Some k) h inside =
     let high : k < length text = h.0.high in
     let e : position_or_len p text ≡ k =
-    position_or_len_is p text k 0 (omega (arith, high)) (λ j l. no_true _ (h.0.before j (omega arith) l)) (λ l. h.1) in
+    position_or_len_is p text k 0 (omega (arith, high)) (λ j l. false_from_ne_true _ (h.0.before j (omega arith) l)) (λ l. h.1) in
     ap (λ (n : ℕ). Some n) (sym e)
 
 pub finds : (at : ℕ) (text : List ℕ) (r : Option ℕ) → IsFirstByte (is_byte at) text r → (piece rest : List ℕ) → list_any (is_byte at) piece ≡ false

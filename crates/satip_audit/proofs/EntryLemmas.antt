@@ -2,6 +2,7 @@
 use Rattle.std.proofs.Common.{◌≡◌, ℕ, zero, suc, ◌+◌, ◌-◌, ◌<◌, ◌≤◌, ◌^◌, Bool, true, false, List, [], ◌∷◌, ◌++◌, length, take, Some, None, refl, sym, ap, ◌∙◌, arith}
 use Rattle.std.specs.Prelude.{slice_index, MatchOption, IfSome}
 use Rattle.std.proofs.lemmas.List.Elements.{All-head, All-tail}
+use Rattle.std.proofs.lemmas.Option.{same_Some}
 use Rattle.hex.specs.Hex.{IsBytes, encode_lower}
 use Rattle.satip_base.specs.declared.limits.TheConstants.{REPLY_BYTES, EVENT_BYTES, EVENT_DATAGRAMS}
 use Rattle.satip_base.specs.Output.{IsWithinRoom, Output}
@@ -47,14 +48,11 @@ same_line q p place caller text =
     ∙ ap (λ (n : ℕ). words_line p.place n (encode_lower (entry_text q.entry))) caller
     ∙ ap (λ (t : List ℕ). words_line p.place p.caller (encode_lower t)) text ∙ sym (as_words p)
 
-some_is : (a b : ℕ) → Some a ≡ Some b → a ≡ b
-some_is a b e = cc e
-
 -- the bytes that were decoded
 pub front_is : (room bytes : List ℕ) (count most : ℕ) → most ≡ count → Some count ≡ Some (length bytes) → take (length bytes) room ≡ bytes
     → take most room ≡ bytes
 front_is room bytes count most same is front =
-    ap (λ (n : ℕ). take n room) (same ∙ some_is count (length bytes) is) ∙ front
+    ap (λ (n : ℕ). take n room) (same ∙ same_Some count (length bytes) is) ∙ front
 
 pub none_is : (n : ℕ) → None ≡ Some n → ⊥
 none_is n e = cc e

@@ -2,7 +2,7 @@
 use Rattle.std.proofs.Common.{◌≡◌, ℕ, ◌<◌, ◌≤◌, ◌^◌, Bool, true, false, ◌&&◌, ◌||◌, List, [], ◌∷◌, ◌++◌, length, decimal, codes, Option, None, Some, refl, sym, ap, ◌∙◌, subst, arith}
 use Rattle.std.specs.Char.{is_ascii_digit}
 use Rattle.std.specs.List.{list_all, list_any}
-use Rattle.std.proofs.lemmas.Bool.{eqb-true}
+use Rattle.std.proofs.lemmas.Bool.{eqb-true, and_parts}
 use Rattle.std.proofs.lemmas.List.Sums.{list_all-from_AllPass}
 use Rattle.std.specs.Prelude.{◌==◌}
 use Rattle.hex.specs.Hex.{IsBytes, decode_of, encode_lower, is_hex_digit}
@@ -10,10 +10,6 @@ use Rattle.hex.proofs.HexLemmas.{decode_of-encode_lower, decode_of-ok}
 use Rattle.satip_base.specs.Numbers.{number_of}
 use Rattle.satip_tune.proofs.Printed.{list_all-decimal, number_of-decimal}
 use Rattle.satip_audit.specs.Cuts.{is_byte}
-
-and_true : (a b : Bool) → (a && b) ≡ true → (a ≡ true) × (b ≡ true)
-and_true true b h = (refl, h)
-and_true false b h = absurd (cc h)
 
 lacks_by : (at x : ℕ) (q : ℕ → Bool) → q at ≡ false → q x ≡ true → (b more : Bool) → (x == at) ≡ b → more ≡ false → (b || more) ≡ false
 lacks_by at x q never here true more is none =
@@ -25,7 +21,7 @@ lacks_by at x q never here false more is none = none
 lacks : (at : ℕ) (q : ℕ → Bool) → q at ≡ false → (xs : List ℕ) → list_all q xs ≡ true → list_any (is_byte at) xs ≡ false
 lacks at q never [] h = refl
 lacks at q never (x ∷ xs) h =
-    let both = and_true (q x) (list_all q xs) h in
+    let both = and_parts (q x) (list_all q xs) h in
     lacks_by at x q never both.0 (x == at) (list_any (is_byte at) xs) refl (lacks at q never xs both.1)
 
 pub no_space : (n : ℕ) → n < 2 ^ 64 → list_any (is_byte 32) (decimal n) ≡ false

@@ -6,6 +6,7 @@ use Rattle.std.proofs.lemmas.List.{drop_more, drop_all}
 use Rattle.std.proofs.lemmas.List.Sums.{sum_by-cons}
 use Rattle.std.proofs.lemmas.List.Sorted.{IsNonDecreasingBy-drop}
 use Rattle.std.proofs.lemmas.Bool.{eqb-true, eqb-false}
+use Rattle.std.proofs.lemmas.Option.{same_Some}
 use Rattle.satip_audit.specs.Places.{Climbs, Counts, HasTwice, IsLeast, IsMissing, Rises, times}
 use Rattle.satip_audit.specs.Spots.{places_of}
 use Rattle.satip_audit.specs.declared.index.Spot.{Spot}
@@ -76,14 +77,11 @@ record Twice (x : ℕ) (xs : List ℕ) (p : ℕ) : Type 0 where
   from : x ≤ p
   once : (q : ℕ) → q < p → times (x ∷ xs) q ≤ 1
 
-some_is : (a b : ℕ) → Some a ≡ Some b → a ≡ b
-some_is a b e = cc e
-
 twice_by : (x y : ℕ) (ys : List ℕ) (p : ℕ) → x ≤ y → Climbs y ys → (repeat_behind y ys ≡ Some p → Twice y ys p) → (b : Bool) → (x == y) ≡ b
     → cond b (Some y) (repeat_behind y ys) ≡ Some p → Twice x (y ∷ ys) p
 twice_by x y ys p up climbs rest true is here =
     let same = eqb-true x y is in
-    let at = some_is y p here in
+    let at = same_Some y p here in
     let first = times_same (y ∷ ys) x p (same ∙ at) in
     let second = times_same ys y p at in
     record {
@@ -186,7 +184,7 @@ gap_by n x xs p up rises after true is more =
     }
 gap_by n x xs p up rises after false is here =
     let other = eqb-false x n is in
-    let at = some_is p n here in
+    let at = same_Some p n here in
     let mine = times_same xs x x refl in
     record {
       missing = record {

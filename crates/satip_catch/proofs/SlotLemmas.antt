@@ -1,6 +1,6 @@
 -- The places of indices: what came for them, and how far they can be handed up.
 use Rattle.std.proofs.Common.{◌≡◌, ◌⊎◌, inl, inr, ℕ, ◌+◌, ◌-◌, ◌%◌, ◌<◌, ◌≤◌, ◌||◌, nat_le, zero, suc, Bool, true, false, List, [], ◌∷◌, ◌++◌, length, take, drop, get_or, Option, None, Some, is_some, refl, sym, ap, ◌∙◌, subst, arith, if◌then◌else◌, append_assoc, append-nil}
-use Rattle.std.proofs.lemmas.Bool.{cases_lt}
+use Rattle.std.proofs.lemmas.Bool.{cases_lt, false_from_ne_true}
 use Rattle.std.proofs.lemmas.Bool.Decides.{nat_tests}
 use Rattle.std.proofs.lemmas.List.Folds.{list_any-append}
 use Rattle.satip_catch.specs.Caught.{Placed, greater, greatest, is_index, has_arrived, first_missing, passed, packets_of, with_item, items_from}
@@ -204,12 +204,8 @@ pub record IsBelowPassed (from : ℕ) (ps : List Placed) : Type 0 where
   pub arrived : (k : ℕ) → greatest ps - 63 ≤ k → k < from → has_arrived k ps ≡ true
   pub sound : IsSound from ps
 
-false_unless : (b : Bool) → (b ≡ true → ⊥) → b ≡ false
-false_unless true h = absurd (h refl)
-false_unless false h = refl
-
 pub missing-above : (i : ℕ) (ps : List Placed) → greatest ps < i → has_arrived i ps ≡ false
-missing-above i ps h = false_unless (has_arrived i ps) (λ e. absurd (omega (arith, arrived-within i ps e)))
+missing-above i ps h = false_from_ne_true (has_arrived i ps) (λ e. absurd (omega (arith, arrived-within i ps e)))
 
 reach-many : (from : ℕ) (ps : List Placed) → IsBelowPassed from ps → 64 ≤ greatest ps + 1 - from
     → from + reach (greatest ps + 1 - from - 64) (slots_from ps from (greatest ps + 1 - from)) ≡ passed ps

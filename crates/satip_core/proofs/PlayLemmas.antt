@@ -3,6 +3,7 @@ use Rattle.std.proofs.Common.{◌≡◌, ◌∙◌, ℕ, ◌&&◌, not, Bool, tr
 use Rattle.std.specs.List.{list_all}
 use Rattle.std.specs.Option.{option_map_or}
 use Rattle.std.proofs.lemmas.Bool.{and_parts}
+use Rattle.std.proofs.lemmas.Option.{same_Some}
 use Rattle.satip_base.specs.Output.{Output, Wrote, empty}
 use Rattle.satip_rtsp.specs.Replies.{play_reply}
 use Rattle.satip_rtsp.specs.declared.requests.SessionName.{SessionName}
@@ -21,7 +22,7 @@ use Rattle.satip_state.specs.Kept.{Kept}
 use Rattle.satip_state.specs.Looks.{rtsp_number}
 use Rattle.satip_state.specs.Seated.{row_of}
 use Rattle.satip_state.specs.Standing.{StandsFor, Moved}
-use Rattle.satip_state.proofs.Picking.{map_some, some_same}
+use Rattle.satip_state.proofs.Picking.{map_some}
 use Rattle.satip_core.specs.Doing.{Did}
 use Rattle.satip_core.proofs.KindLemmas.{kind, kind_changed, kind_played}
 
@@ -32,7 +33,7 @@ all_found p q (x ∷ ss) s all e =
     by (q x) e (all_found p q ss s parts.1)
   where
     by : (b : Bool) → cond b (Some x) (find q ss) ≡ Some s → (find q ss ≡ Some s → p s ≡ true) → p s ≡ true
-    by true f rest = ap p (sym (some_same x s f)) ∙ (and_parts _ _ all).0
+    by true f rest = ap p (sym (same_Some x s f)) ∙ (and_parts _ _ all).0
     by false f rest = rest f
 
 -- the stream of a session that is named lives
@@ -51,7 +52,7 @@ named_lives st name row all named =
 
 rtsp_next : (o : Option Session) → option_map (λ (s : Session). s.http) o ≡ Some false → rtsp_number o ≡ option_map_or next_number o 0
 rtsp_next None e = absurd (cc)
-rtsp_next (Some s) e = ap (λ b. cond b 0 (next_number s)) (some_same s.http false e)
+rtsp_next (Some s) e = ap (λ b. cond b 0 (next_number s)) (same_Some s.http false e)
 
 -- the session of this id plays the stream of this number
 abbrev playing : SessionId → Move → Move

@@ -4,6 +4,7 @@ use Rattle.std.specs.Option.{option_map_or}
 use Rattle.std.proofs.lemmas.Bool.{false≢true, or_left, or_right, eq-eqb}
 use Rattle.std.proofs.lemmas.List.{length-map}
 use Rattle.std.proofs.lemmas.List.Folds.{list_any-append}
+use Rattle.std.proofs.lemmas.Option.{same_Some}
 use Rattle.satip_table.proofs.Listing.{find_any}
 use Rattle.satip_rtsp.specs.declared.requests.Method.{Method}
 use Rattle.satip_rtsp.specs.declared.requests.Method.TheVariants.{Setup}
@@ -20,7 +21,7 @@ use Rattle.satip_plain.specs.Refusals.{Refused, first_given, where_true, plainly
 use Rattle.satip_plain.specs.Steps.{accepted, change_session, found, hear, heard_by, is_session, join, least_free, next_id, no_ports, put_stream, set_up, setup, setup_number, setup_session}
 use Rattle.satip_state.specs.Kept.{Kept}
 use Rattle.satip_state.specs.Standing.{StandsFor}
-use Rattle.satip_state.proofs.Picking.{map_nothing, some_same}
+use Rattle.satip_state.proofs.Picking.{map_nothing}
 use Rattle.satip_core.specs.Doing.{Accepted, MaySetUp, SetUpAs}
 use Rattle.satip_refusals.specs.Places.{of_asked, of_names, of_setup}
 
@@ -208,7 +209,7 @@ set_up_lives peer draw ports r st may = by (session_named st r.session) r.stream
 
 id_is : (o : Option Session) (id d : SessionId) → Some id ≡ option_map (λ (s : Session). s.id) o → id ≡ option_map_or (λ (s : Session). s.id) o d
 id_is None id d e = absurd (cc)
-id_is (Some s) id d e = some_same id s.id e
+id_is (Some s) id d e = same_Some id s.id e
 
 abbrev pair : SessionId → ℕ → SessionId × ℕ
 pair id n = (id, n)
@@ -225,7 +226,7 @@ moves_of st r (Some s) id may is e = may.moves s is
 moved_is : (o : Option Session) (id : SessionId) (f : Session → Session) (st d : State) → Some id ≡ option_map (λ (s : Session). s.id) o
     → change_session id f st ≡ option_map_or (λ (s : Session). change_session s.id f st) o d
 moved_is None id f st d e = absurd (cc)
-moved_is (Some s) id f st d e = ap (λ (i : SessionId). change_session i f st) (some_same id s.id e)
+moved_is (Some s) id f st d e = ap (λ (i : SessionId). change_session i f st) (same_Some id s.id e)
 
 -- a session moves
 pub placed_moved : (c : Config) (v : Kept) (peer : Peer) (draw : Draw) (ports : Ports) (r : Request) (st : State) (id : SessionId)
@@ -271,7 +272,7 @@ setup_as c peer draw r st ports id number timeout p i n t =
 
 pub both_same : (a b : SessionId) (m n : ℕ) → Some (pair a m) ≡ Some (pair b n) → (a ≡ b) × (m ≡ n)
 both_same a b m n e =
-    let same = some_same (pair a m) (pair b n) e in
+    let same = same_Some (pair a m) (pair b n) e in
     (ap (λ (x : SessionId × ℕ). x.0) same, ap (λ (x : SessionId × ℕ). x.1) same)
 
 pub none_named : (st : State) (r : Request) → None ≡ option_map (λ (s : Session). s.id) (session_named st r.session) → session_named st r.session ≡ None

@@ -1,6 +1,6 @@
 -- Subscribers stay marked where they select, when another slot is marked anew.
 use Rattle.std.proofs.Common.{ℕ, ◌≡◌, ◌≢◌, ◌+◌, ◌*◌, ◌/◌, ◌%◌, ◌<◌, ◌≤◌, zero, suc, Bool, true, false, cond, not, eqb, ◌&&◌, ◌||◌, List, [], ◌∷◌, length, map, set, get_or, bit_or, w64, ◌^◌, inl, inr, ◌⊎◌, Option, refl, sym, ap, subst, ◌∙◌, arith}
-use Rattle.std.proofs.lemmas.Bool.{false≢true, cases_eq, cases_lt, eq-eqb}
+use Rattle.std.proofs.lemmas.Bool.{false≢true, cases_eq, cases_lt, eq-eqb, and_parts, or_parts}
 use Rattle.std.proofs.lemmas.Bool.Decides.{nat_tests}
 use Rattle.std.proofs.lemmas.Grind.{get_or-set_at}
 use Rattle.std.proofs.lemmas.List.{length-map, get_or-set_other, get_or_past, set-get_or}
@@ -15,7 +15,7 @@ use Rattle.satip_flow.specs.Subscriptions.{SlotsApart, IsFrontOrNone, comes_befo
 use Rattle.satip_flow.specs.Bits.{IsNextBit}
 use Rattle.satip_flow.specs.Standing.{IsNowhere}
 use Rattle.satip_flow.specs.Rows.{marks, IsMarked, KeepsOthers, IsShown, AllShown, IsPlaced, NoneMarked}
-use Rattle.satip_flow.proofs.Slots.{or_false, slot_is, read_same, slot_below, at_most_64, nowhere}
+use Rattle.satip_flow.proofs.Slots.{slot_is, read_same, slot_below, at_most_64, nowhere}
 
 -- two changes of one slot are a change of it
 pub keeps_both : (slot : ℕ) (a b c : List ℕ) → KeepsOthers slot a b → KeepsOthers slot b c → KeepsOthers slot a c
@@ -43,7 +43,7 @@ all_kept : (slot : ℕ) (old new : List ℕ) (xs : List Subscription) → KeepsO
     → AllShown old xs → AllShown new xs
 all_kept slot old new [] keeps apart none shown = tt
 all_kept slot old new (x ∷ xs) keeps (below, apart, rest) none (one, others) =
-    let (lacks, free) = or_false (has_slot slot x) (list_any (has_slot slot) xs) none in
+    let (lacks, free) = or_parts (has_slot slot x) (list_any (has_slot slot) xs) none in
     (keeps_shown slot old new x keeps below lacks one, all_kept slot old new xs keeps rest free others)
 
 -- one more is marked, and the others stay so
@@ -51,7 +51,7 @@ pub shown_put : (old new : List ℕ) (s : Subscription) (xs : List Subscription)
     → list_any (has_slot s.place.slot) xs ≡ false → IsShown new s → AllShown old xs → AllShown new (put s xs)
 shown_put old new s [] keeps apart none one shown = (one, tt)
 shown_put old new s (x ∷ xs) keeps (below, apart, rest) none one (first, others) =
-    let (lacks, free) = or_false (has_slot s.place.slot x) (list_any (has_slot s.place.slot) xs) none in
+    let (lacks, free) = or_parts (has_slot s.place.slot x) (list_any (has_slot s.place.slot) xs) none in
     each (comes_before s.place x.place) (keeps_shown s.place.slot old new x keeps below lacks first)
     (all_kept s.place.slot old new xs keeps rest free others) (shown_put old new s xs keeps rest free one others)
   where
@@ -96,8 +96,8 @@ apart-set (x ∷ xs) (suc i) d y same h (below, apart, rest) =
 lacks_at : (slot : ℕ) (xs : List Subscription) (i : ℕ) (d : Subscription) → list_any (has_slot slot) xs ≡ false → i < length xs
     → has_slot slot (get_or xs i d) ≡ false
 lacks_at slot [] i d none h = absurd (omega (arith, h))
-lacks_at slot (x ∷ xs) zero d none h = (or_false (has_slot slot x) (list_any (has_slot slot) xs) none).0
-lacks_at slot (x ∷ xs) (suc i) d none h = lacks_at slot xs i d (or_false (has_slot slot x) (list_any (has_slot slot) xs) none).1 (omega (arith, h))
+lacks_at slot (x ∷ xs) zero d none h = (or_parts (has_slot slot x) (list_any (has_slot slot) xs) none).0
+lacks_at slot (x ∷ xs) (suc i) d none h = lacks_at slot xs i d (or_parts (has_slot slot x) (list_any (has_slot slot) xs) none).1 (omega (arith, h))
 
 eqb_other : (a b : ℕ) → eqb a b ≡ false → eqb b a ≡ false
 eqb_other a b h = grind (arith, nat_tests)
@@ -136,17 +136,13 @@ shown_at rows [] i d shown h = absurd (omega (arith, h))
 shown_at rows (x ∷ xs) zero d (one, others) h = one
 shown_at rows (x ∷ xs) (suc i) d (one, others) h = shown_at rows xs i d others (omega (arith, h))
 
-both : (a b : Bool) → (a && b) ≡ true → (a ≡ true) × (b ≡ true)
-both true b h = (refl, h)
-both false b h = absurd (false≢true h)
-
 pub is_found : (rows places : List ℕ) (xs : List Subscription) (front : ℕ) (packet : List ℕ) (slots found : ℕ) → SlotsApart xs → AllShown rows xs
     → IsPlaced places xs → pid_of packet < 8192 → slots ≡ marks rows front (pid_of packet)
     → ((slot : ℕ) → slot < 64 → bit_at slots slot ≡ 1 → bit_at found (get_or places slot 0 % 64) ≡ 1)
     → (at : ℕ) → at < length xs → (d : Subscription) → selects front packet (get_or xs at d) ≡ true → bit_at found at ≡ 1
 is_found rows places xs front packet slots found apart shown placed pid is marked at within d selected =
     let s = get_or xs at d in
-    let tests = both (is_at front s.front) (has_pid s.pids (pid_of packet)) selected in
+    let tests = and_parts (is_at front s.front) (has_pid s.pids (pid_of packet)) selected in
     let bit = ap (λ w. bit_at w s.place.slot) is ∙ (shown_at rows xs at d shown within).marked front (pid_of packet) tests.0 pid tests.1 in
     let few = at_most_64 xs apart in
     let small : at % 64 ≡ at = omega (arith, few, within) in

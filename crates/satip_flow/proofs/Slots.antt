@@ -1,6 +1,6 @@
 -- Subscribers by their slots, of which lacks two are the same.
 use Rattle.std.proofs.Common.{ℕ, ◌≡◌, ◌<◌, ◌≤◌, zero, suc, Bool, true, false, not, cond, eqb, ◌||◌, List, [], ◌∷◌, length, map, set, get_or, Some, None, refl, sym, ap, subst, ◌∙◌, arith}
-use Rattle.std.proofs.lemmas.Bool.{false≢true}
+use Rattle.std.proofs.lemmas.Bool.{false≢true, or_parts}
 use Rattle.std.proofs.lemmas.Bool.Decides.{nat_tests}
 use Rattle.std.proofs.lemmas.List.Folds.{list_any_at}
 use Rattle.std.proofs.lemmas.List.{length-map}
@@ -10,10 +10,6 @@ use Rattle.std.specs.List.{list_any, remove, AllByRecursion, IsDistinct}
 use Rattle.satip_flow.specs.Subscription.{Subscription, has_slot}
 use Rattle.satip_flow.specs.Standing.{IsNowhere, StandsAt}
 use Rattle.satip_flow.specs.Subscriptions.{of_slot, change_slot, without, comes_before, put, SlotsApart}
-
-pub or_false : (a b : Bool) → (a || b) ≡ false → (a ≡ false) × (b ≡ false)
-or_false true b h = absurd (cc)
-or_false false b h = (refl, h)
 
 false_or : (a b : Bool) → a ≡ false → b ≡ false → (a || b) ≡ false
 false_or true b h k = absurd (cc)
@@ -47,19 +43,19 @@ pub none_changed : (slot : ℕ) (f : Subscription → Subscription) (xs : List S
     → change_slot slot f xs ≡ xs
 none_changed slot f [] h = refl
 none_changed slot f (x ∷ xs) h =
-    let (lacks, none) = or_false (has_slot slot x) (list_any (has_slot slot) xs) h in
+    let (lacks, none) = or_parts (has_slot slot x) (list_any (has_slot slot) xs) h in
     ap (λ t. cond t (f x) x ∷ change_slot slot f xs) lacks ∙ ap (λ rest. x ∷ rest) (none_changed slot f xs none)
 
 pub none_found : (slot : ℕ) (xs : List Subscription) → list_any (has_slot slot) xs ≡ false → of_slot slot xs ≡ None
 none_found slot [] h = refl
 none_found slot (x ∷ xs) h =
-    let (lacks, none) = or_false (has_slot slot x) (list_any (has_slot slot) xs) h in
+    let (lacks, none) = or_parts (has_slot slot x) (list_any (has_slot slot) xs) h in
     ap (λ t. cond t (Some x) (of_slot slot xs)) lacks ∙ none_found slot xs none
 
 pub none_without : (slot : ℕ) (xs : List Subscription) → list_any (has_slot slot) xs ≡ false → without slot xs ≡ xs
 none_without slot [] h = refl
 none_without slot (x ∷ xs) h =
-    let (lacks, none) = or_false (has_slot slot x) (list_any (has_slot slot) xs) h in
+    let (lacks, none) = or_parts (has_slot slot x) (list_any (has_slot slot) xs) h in
     ap (λ t. cond (not t) (x ∷ without slot xs) (without slot xs)) lacks ∙ ap (λ rest. x ∷ rest) (none_without slot xs none)
 
 -- the one at a place has the slot
@@ -112,7 +108,7 @@ apart-map f keeps (x ∷ xs) (below, apart, rest) = (
 any-without : (slot other : ℕ) (xs : List Subscription) → list_any (has_slot other) xs ≡ false → list_any (has_slot other) (without slot xs) ≡ false
 any-without slot other [] h = refl
 any-without slot other (x ∷ xs) h =
-    let (lacks, none) = or_false (has_slot other x) (list_any (has_slot other) xs) h in
+    let (lacks, none) = or_parts (has_slot other x) (list_any (has_slot other) xs) h in
     each (has_slot slot x) lacks (any-without slot other xs none)
   where
     each : (t : Bool) → has_slot other x ≡ false → list_any (has_slot other) (without slot xs) ≡ false
@@ -134,7 +130,7 @@ any-put : (slot : ℕ) (s : Subscription) (xs : List Subscription) → has_slot 
     → list_any (has_slot slot) (put s xs) ≡ false
 any-put slot s [] lacks none = false_or (has_slot slot s) false lacks refl
 any-put slot s (x ∷ xs) lacks none =
-    let (other, others) = or_false (has_slot slot x) (list_any (has_slot slot) xs) none in
+    let (other, others) = or_parts (has_slot slot x) (list_any (has_slot slot) xs) none in
     each (comes_before s.place x.place) none other (any-put slot s xs lacks others)
   where
     each : (t : Bool) → list_any (has_slot slot) (x ∷ xs) ≡ false → has_slot slot x ≡ false → list_any (has_slot slot) (put s xs) ≡ false
@@ -146,7 +142,7 @@ pub apart-put : (s : Subscription) (xs : List Subscription) → s.place.slot < 6
     → SlotsApart (put s xs)
 apart-put s [] inside none apart = (inside, refl, tt)
 apart-put s (x ∷ xs) inside none (below, apart, rest) =
-    let (other, others) = or_false (has_slot s.place.slot x) (list_any (has_slot s.place.slot) xs) none in
+    let (other, others) = or_parts (has_slot s.place.slot x) (list_any (has_slot s.place.slot) xs) none in
     each (comes_before s.place x.place) none (any-put x.place.slot s xs (slots_differ x.place.slot s.place.slot other) apart)
     (apart-put s xs inside others rest)
   where
@@ -160,7 +156,7 @@ distinct_from : (slot : ℕ) (xs : List Subscription) → list_any (has_slot slo
     → AllByRecursion (λ y. eqb slot y ≡ false) (map (λ s. s.place.slot) xs)
 distinct_from slot [] h = tt
 distinct_from slot (x ∷ xs) h =
-    let (lacks, none) = or_false (has_slot slot x) (list_any (has_slot slot) xs) h in
+    let (lacks, none) = or_parts (has_slot slot x) (list_any (has_slot slot) xs) h in
     (slots_differ x.place.slot slot lacks, distinct_from slot xs none)
 
 distinct_slots : (xs : List Subscription) → SlotsApart xs → IsDistinct eqb (map (λ s. s.place.slot) xs)

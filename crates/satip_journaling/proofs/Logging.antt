@@ -1,5 +1,6 @@
 -- What sinks were sent, from what each was sent by whether a put on it failed.
 use Rattle.std.proofs.Common.{◌≡◌, ◌∙◌, ℕ, Bool, true, false, ◌||◌, ◌⊎◌, inl, inr, ⊎_elim, List, [], ◌∷◌, map, refl, sym, ap, subst}
+use Rattle.std.proofs.lemmas.Bool.{or_parts}
 use Rattle.satip_plain.specs.Histories.{Item}
 use Rattle.satip_base.specs.Streams.{Drain, FailedToPut, PutAll, Rose}
 use Rattle.satip_journal.specs.declared.crew.JournalGear.{JournalGear}
@@ -7,10 +8,6 @@ use Rattle.satip_journal.specs.Journals.{journals}
 use Rattle.satip_journal.specs.Logs.{Logs}
 use Rattle.satip_journaling.specs.Gears.{AreLogged, HasBegun, WentOn, has_failed, sinks_of}
 use Rattle.satip_journaling.specs.Sent.{AreSent, AreWhole, AreWritten, HasRisen}
-
-neither : (a b : Bool) → (a || b) ≡ false → (a ≡ false) × (b ≡ false)
-neither true b e = absurd (cc e)
-neither false b e = (refl, e)
 
 one_of : (a b : Bool) → (a || b) ≡ true → (a ≡ true) ⊎ (b ≡ true)
 one_of true b e = inl refl
@@ -49,7 +46,7 @@ module _ {K : Type 0} (tells : Type 0) (drain : K → Drain) where
   whole (o ∷ os) [] ts unfailed h = absurd h
   whole (o ∷ os) (g ∷ gs) [] unfailed h = absurd h
   whole (o ∷ os) (g ∷ gs) (t ∷ ts) unfailed h =
-      let both = neither g.failed (has_failed gs) unfailed in
+      let both = or_parts g.failed (has_failed gs) unfailed in
       (one_whole tells o (drain g.sink) g.failed t both.0 h.0, whole os gs ts both.1 h.1)
 
   risen : (os : List Drain) (gs : List (JournalGear K)) (ts : List (List ℕ)) → has_failed gs ≡ true → AreLogged tells drain os gs ts → HasRisen os (drains gs)

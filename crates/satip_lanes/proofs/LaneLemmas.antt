@@ -2,34 +2,31 @@
 use Rattle.std.proofs.Common.{ℕ, ◌≡◌, ◌<◌, ◌≤◌, zero, suc, Bool, true, false, cond, ◌||◌, List, [], ◌∷◌, length, take, set, get_or, Some, None, refl, sym, ap, subst, ◌∙◌, arith, eq-eqb, vec_len, vec_capacity, All, ◌+◌}
 use Rattle.std.proofs.lemmas.List.{get_or_default, length-set}
 use Rattle.std.specs.List.{list_any, remove}
+use Rattle.std.proofs.lemmas.Bool.{or_parts}
 use Rattle.satip_lanes.specs.declared.lane.Lane.{Lane}
 use Rattle.satip_lanes.specs.Lanes.{has_number, fresh_lane, lane_of, change_lane, without_lane}
 use Rattle.satip_lanes.specs.Standing.{IsNowhere, StandsAt}
 use Rattle.satip_lanes.specs.declared.lanes.Lanes.TheInside.{Inside}
 use Rattle.satip_lanes.specs.Rooms.{IsSound}
 
-or_false : (a b : Bool) → (a || b) ≡ false → (a ≡ false) × (b ≡ false)
-or_false true b h = absurd (cc)
-or_false false b h = (refl, h)
-
 -- no lane has the number
 none_found : (number : ℕ) (lanes : List Lane) → list_any (has_number number) lanes ≡ false → lane_of number lanes ≡ None
 none_found number [] none = refl
 none_found number (l ∷ ls) none =
-    let (lacks, rest_lacks) = or_false (has_number number l) (list_any (has_number number) ls) none in
+    let (lacks, rest_lacks) = or_parts (has_number number l) (list_any (has_number number) ls) none in
     ap (λ t. cond t (Some l) (lane_of number ls)) lacks ∙ none_found number ls rest_lacks
 
 none_changed : (number : ℕ) (change : Lane → Lane) (lanes : List Lane) → list_any (has_number number) lanes ≡ false
     → change_lane number change lanes ≡ lanes
 none_changed number change [] none = refl
 none_changed number change (l ∷ ls) none =
-    let (lacks, rest_lacks) = or_false (has_number number l) (list_any (has_number number) ls) none in
+    let (lacks, rest_lacks) = or_parts (has_number number l) (list_any (has_number number) ls) none in
     ap (λ t. cond t (change l ∷ ls) (l ∷ change_lane number change ls)) lacks ∙ ap (λ rest. l ∷ rest) (none_changed number change ls rest_lacks)
 
 none_without : (number : ℕ) (lanes : List Lane) → list_any (has_number number) lanes ≡ false → without_lane number lanes ≡ lanes
 none_without number [] none = refl
 none_without number (l ∷ ls) none =
-    let (lacks, rest_lacks) = or_false (has_number number l) (list_any (has_number number) ls) none in
+    let (lacks, rest_lacks) = or_parts (has_number number l) (list_any (has_number number) ls) none in
     ap (λ t. cond t ls (l ∷ without_lane number ls)) lacks ∙ ap (λ rest. l ∷ rest) (none_without number ls rest_lacks)
 
 pub nowhere : (number : ℕ) (lanes : List Lane) → list_any (has_number number) lanes ≡ false → IsNowhere number lanes
@@ -45,7 +42,7 @@ first_found : (number : ℕ) (lanes : List Lane) (at : ℕ) (d : Lane) → at < 
 first_found number [] at d within before has = absurd (omega (arith, within))
 first_found number (l ∷ ls) zero d within before has = ap (λ t. cond t (Some l) (lane_of number ls)) has
 first_found number (l ∷ ls) (suc at) d within before has =
-    let (lacks, rest_lacks) = or_false (has_number number l) (list_any (has_number number) (take at ls)) before in
+    let (lacks, rest_lacks) = or_parts (has_number number l) (list_any (has_number number) (take at ls)) before in
     ap (λ t. cond t (Some l) (lane_of number ls)) lacks ∙ first_found number ls at d (omega (arith, within)) rest_lacks has
 
 first_changed : (number : ℕ) (change : Lane → Lane) (lanes : List Lane) (at : ℕ) (d : Lane) → at < length lanes
@@ -55,7 +52,7 @@ first_changed number change [] at d within before has = absurd (omega (arith, wi
 first_changed number change (l ∷ ls) zero d within before has =
     ap (λ t. cond t (change l ∷ ls) (l ∷ change_lane number change ls)) has
 first_changed number change (l ∷ ls) (suc at) d within before has =
-    let (lacks, rest_lacks) = or_false (has_number number l) (list_any (has_number number) (take at ls)) before in
+    let (lacks, rest_lacks) = or_parts (has_number number l) (list_any (has_number number) (take at ls)) before in
     ap (λ t. cond t (change l ∷ ls) (l ∷ change_lane number change ls)) lacks
     ∙ ap (λ rest. l ∷ rest) (first_changed number change ls at d (omega (arith, within)) rest_lacks has)
 
@@ -64,7 +61,7 @@ first_without : (number : ℕ) (lanes : List Lane) (at : ℕ) (d : Lane) → at 
 first_without number [] at d within before has = absurd (omega (arith, within))
 first_without number (l ∷ ls) zero d within before has = ap (λ t. cond t ls (l ∷ without_lane number ls)) has
 first_without number (l ∷ ls) (suc at) d within before has =
-    let (lacks, rest_lacks) = or_false (has_number number l) (list_any (has_number number) (take at ls)) before in
+    let (lacks, rest_lacks) = or_parts (has_number number l) (list_any (has_number number) (take at ls)) before in
     ap (λ t. cond t ls (l ∷ without_lane number ls)) lacks
     ∙ ap (λ rest. l ∷ rest) (first_without number ls at d (omega (arith, within)) rest_lacks has)
 

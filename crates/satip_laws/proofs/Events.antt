@@ -4,6 +4,7 @@ use Rattle.std.specs.List.{list_any}
 use Rattle.std.specs.Option.{option_map_or}
 use Rattle.std.proofs.lemmas.List.{drop-drop, take-append-drop, drop_min}
 use Rattle.std.proofs.lemmas.List.Sums.{sum_by-append}
+use Rattle.satip_plain.proofs.SameIds.{same_id_is}
 use Rattle.satip_http.specs.Heads.{http_refusal}
 use Rattle.satip_rtsp.specs.declared.requests.Method.{Method}
 use Rattle.satip_rtsp.specs.declared.requests.Method.TheVariants.{Options, Describe, Setup, Play, Teardown}
@@ -25,7 +26,7 @@ use Rattle.satip_plain.specs.Steps.{Outcome, step, is_session, change_session, h
 use Rattle.satip_laws.specs.Makings.{made_by}
 use Rattle.satip_readings.specs.Given.{given_in}
 use Rattle.satip_laws.specs.Pulls.{taken_in}
-use Rattle.satip_laws.proofs.Ids.{look, or_else, or_else_none, look_append, Apart, apart_append, below_append, found_id, id_is, id_same, look_where, any_of_id}
+use Rattle.satip_laws.proofs.Ids.{look, or_else, or_else_none, look_append, Apart, apart_append, below_append, found_id, id_same, look_where, any_of_id}
 use Rattle.satip_laws.proofs.Told.{told}
 use Rattle.satip_laws.proofs.Evolving.{Fine, Becomes, Evolves, Runs, runs_fine, most_of, kept_same, evolves_same}
 use Rattle.satip_laws.proofs.Rounds.{round, round_apart, round_below, IsOwn, changing, after_of-changing}
@@ -405,7 +406,7 @@ goes_pull st x sound e http = record {
     one : (s : SessionId) (z : Session) → look s st.sessions ≡ Some z → (b : Bool) → same_id z.id x.id ≡ b
         → Evolves z [] [] (if same_id x.id s then took else []) (Some (if b then pulled st.clock took z else z))
     one s z g true h =
-        let there : s ≡ x.id = sym (found_id s st.sessions z g) ∙ id_is z.id x.id h in
+        let there : s ≡ x.id = sym (found_id s st.sessions z g) ∙ same_id_is z.id x.id h in
         let same : z ≡ x = cc in
         rw (there, id_same x.id, same) (pulled_evolves st.clock most_pulled x http)
     one s z g false h =
@@ -413,7 +414,7 @@ goes_pull st x sound e http = record {
         rw other (evolves_same z z (kept_same z) refl refl)
       where
         not_same : (b : Bool) → same_id x.id s ≡ b → b ≡ false
-        not_same true k = let same : z.id ≡ x.id = found_id s st.sessions z g ∙ sym (id_is x.id s k) in
+        not_same true k = let same : z.id ≡ x.id = found_id s st.sessions z g ∙ sym (same_id_is x.id s k) in
             let yes : same_id z.id x.id ≡ true = ap (λ i. same_id i x.id) same ∙ id_same x.id in cc
         not_same false k = refl
 
@@ -424,7 +425,7 @@ goes_pull st x sound e http = record {
         by None g = (refl, refl, absent (same_id x.id s) refl, refl)
           where
             absent : (b : Bool) → same_id x.id s ≡ b → (if b then took else []) ≡ []
-            absent true h = let there : look s st.sessions ≡ Some x = rw (← id_is x.id s h) e in cc
+            absent true h = let there : look s st.sessions ≡ Some x = rw (← same_id_is x.id s h) e in cc
             absent false h = refl
         by (Some z) g = one s z g (is_session x.id z) refl
 

@@ -1,7 +1,7 @@
 -- What is held leaves at a tick, and where a stream is retuned.
 use Rattle.std.proofs.Common.{◌≡◌, ℕ, ◌==◌, ◌&&◌, not, nat_le, Bool, true, false, cond, List, [], ◌∷◌, ◌++◌, length, filter, find, Option, Some, None, is_none, is_some, refl, ap, sym, subst, ◌∙◌, if◌then◌else◌, unwrap_or, option_and_then}
 use Rattle.std.specs.Option.{option_map_or}
-use Rattle.std.proofs.lemmas.Bool.{and_parts, eqb-true, eq-eqb}
+use Rattle.std.proofs.lemmas.Bool.{and_parts, eqb-true, eq-eqb, not-true}
 use Rattle.satip_fronts.specs.declared.choice.Place.{Place}
 use Rattle.satip_fronts.specs.Choice.{choose}
 use Rattle.satip_tune.specs.Frontends.{mux_of}
@@ -27,7 +27,7 @@ use Rattle.satip_laws.proofs.Told.{told, all_of}
 use Rattle.satip_laws.proofs.Evolving.{Fine, Runs, Becomes}
 use Rattle.satip_laws.proofs.Rounds.{round, after_of}
 use Rattle.satip_laws.proofs.Turns.{quiet, some_turn, let_go_takes, lets_go, gone_by}
-use Rattle.satip_laws.proofs.Moves.{IsSound, Goes, goes_change, goes_change_by, goes_flushed, goes_after_flush, flushed, after_flush, tick_clock, not_true, and_second, nothing}
+use Rattle.satip_laws.proofs.Moves.{IsSound, Goes, goes_change, goes_change_by, goes_flushed, goes_after_flush, flushed, after_flush, tick_clock, and_second, nothing}
 use Rattle.satip_laws.proofs.Events.{adds_sound, goes_heard, named_heard, not_missing, moved_from, made_from_none, found_adds}
 use Rattle.satip_laws.proofs.Over.{sound_after, opening_sound}
 use Rattle.satip_laws.proofs.Single.{many, has_number, least_is_free}
@@ -91,7 +91,7 @@ tick_empties c now st sound =
     let sound1 : IsSound (record st { clock = tick_clock now st }) =
     record { apart = sound.apart; below = sound.below; single = sound.single; fine = sound.fine } in
     stays_empty (λ s. not s.http) first (after_flush c first) (λ x y http stream. ap not http) goes.sound
-    (flush_empties (record st { clock = tick_clock now st }) (λ s. not s.http) (tick_clock now st) (λ x e. not_true x.http e) (λ x. refl) sound1)
+    (flush_empties (record st { clock = tick_clock now st }) (λ s. not s.http) (tick_clock now st) (λ x e. not-true x.http e) (λ x. refl) sound1)
     (goes_after_flush c first goes.sound)
 
 after_more : (c : Config) (h : List Item) (e : Item) (st : State) → after_from c st (h ++ e ∷ []) ≡ (step c (after_from c st h) e.event).state
@@ -113,7 +113,7 @@ of_stream number s = s.stream == number && not s.http
 retune_empties : (c : Config) (number : ℕ) (st : State) (tuning : Tuning) → IsSound st → IsEmpty (of_stream number) (retune c number st tuning).state
 retune_empties c number st tuning sound =
     let m : Move = each_of (of_stream number) (let_go true st.clock) st in
-    placed m.state (flush_empties st (of_stream number) st.clock (λ x e. not_true x.http (and_second (x.stream == number) (not x.http) e)) (λ x. refl) sound)
+    placed m.state (flush_empties st (of_stream number) st.clock (λ x e. not-true x.http (and_second (x.stream == number) (not x.http) e)) (λ x. refl) sound)
     (choose (outlook_of c m.state number) (mux_of c.muxes tuning) tuning)
   where
     placed : (now : State) → IsEmpty (of_stream number) now → (o : Option Place) → IsEmpty (of_stream number) (option_map_or (put_at c number tuning now) o now)

@@ -1,7 +1,7 @@
 -- How front ends stand to streams, and what moves of streams do to them.
 use Rattle.std.proofs.Common.{◌≡◌, ◌⊎◌, inl, inr, ℕ, ◌+◌, ◌%◌, ◌^◌, ◌==◌, ◌&&◌, ◌||◌, not, Bool, true, false, cond, List, [], ◌∷◌, map, filter, find, Option, Some, None, option_map, refl, ap, sym, subst, ◌∙◌, if◌then◌else◌, option_and_then}
 use Rattle.std.specs.List.{list_any}
-use Rattle.std.proofs.lemmas.Bool.{and_parts, eqb-true, eqb-false, eq-eqb, ne_eqb}
+use Rattle.std.proofs.lemmas.Bool.{and_parts, eqb-true, eqb-false, eq-eqb, ne_eqb, not-true}
 use Rattle.satip_history.specs.Lists.{Each}
 use Rattle.satip_fronts.specs.declared.choice.Place.{Place}
 use Rattle.satip_fronts.specs.declared.choice.Case.{Case}
@@ -243,10 +243,6 @@ pub record IsPlaceFor (o : Outlook) (wanted : Option ℕ) (place : Place) : Type
   pub old : place.anew ≡ false → is_tuned_to wanted (o.mux_at place.front) ≡ true
   pub new : place.anew ≡ true → o.shared place.front ≡ false
 
-not_true : (b : Bool) → not b ≡ true → b ≡ false
-not_true true e = cc
-not_true false e = refl
-
 -- the front end that is found in a case
 record IsFound (case : Case) (o : Outlook) (wanted : Option ℕ) (n : ℕ) : Type 0 where
   front : Front
@@ -282,12 +278,12 @@ share_place o wanted n found = old_place o wanted n found.front found.number fou
 retune_place : (o : Outlook) (wanted : Option ℕ) (n : ℕ) → IsFound Retune o wanted n → IsPlaceFor o wanted (record { front = n; anew = true })
 retune_place o wanted n found =
     new_place o wanted n found.front found.number
-    (not_true (o.shared found.front.number) (and_parts (is_own o found.front) (not (o.shared found.front.number)) found.taken).1)
+    (not-true (o.shared found.front.number) (and_parts (is_own o found.front) (not (o.shared found.front.number)) found.taken).1)
 
 start_place : (o : Outlook) (wanted : Option ℕ) (n : ℕ) → IsFound Start o wanted n → IsPlaceFor o wanted (record { front = n; anew = true })
 start_place o wanted n found =
     new_place o wanted n found.front found.number
-    (not_true (o.shared found.front.number) (and_parts (not (is_own o found.front)) (not (o.shared found.front.number)) found.taken).1)
+    (not-true (o.shared found.front.number) (and_parts (not (is_own o found.front)) (not (o.shared found.front.number)) found.taken).1)
 
 pub chosen_place : (o : Outlook) (wanted : Option ℕ) (tuning : Tuning) (place : Place) → choose o wanted tuning ≡ Some place → IsPlaceFor o wanted place
 unfolding choose placed

@@ -3,6 +3,7 @@ use Rattle.std.proofs.Common.{arith, ◌≡◌, ℕ, ◌+◌, ◌<◌, ◌≤◌
 use Rattle.std.specs.List.{list_any}
 use Rattle.std.specs.Option.{option_map_or}
 use Rattle.std.proofs.lemmas.Bool.{and_parts, eqb-true, eq-eqb}
+use Rattle.satip_plain.proofs.SameIds.{same_id_is}
 use Rattle.satip_plain.specs.Types.{SessionId}
 use Rattle.satip_plain.specs.State.{Session, same_id}
 use Rattle.satip_plain.specs.Steps.{is_session}
@@ -23,13 +24,6 @@ pub or_else_assoc : (a b c : Option Session) → or_else a (or_else b c) ≡ or_
 or_else_assoc None b c = refl
 or_else_assoc (Some x) b c = refl
 
-pub id_is : (a b : SessionId) → same_id a b ≡ true → a ≡ b
-id_is a b e =
-    let parts = and_parts (a.count == b.count) (a.word == b.word) e in
-    let with_count : ℕ → SessionId = λ n. record { count = n; word = a.word } in
-    let with_word : ℕ → SessionId = λ n. record { count = b.count; word = n } in
-    ap with_count (eqb-true a.count b.count parts.0) ∙ ap with_word (eqb-true a.word b.word parts.1)
-
 pub id_same : (a : SessionId) → same_id a a ≡ true
 id_same a = rw (eq-eqb a.count a.count refl, eq-eqb a.word a.word refl) refl
 
@@ -43,7 +37,7 @@ found_same s (y ∷ ys) x e = by (same_id y.id s) refl e (λ f. found_same s ys 
     by false f g rest = rest g
 
 pub found_id : (s : SessionId) (xs : List Session) (x : Session) → look s xs ≡ Some x → x.id ≡ s
-found_id s xs x e = id_is x.id s (found_same s xs x e)
+found_id s xs x e = same_id_is x.id s (found_same s xs x e)
 
 -- the first of two lists, then the second
 pub look_append : (s : SessionId) (xs ys : List Session) → look s (xs ++ ys) ≡ or_else (look s xs) (look s ys)
@@ -75,7 +69,7 @@ below_found made s [] x below e = cc
 below_found made s (y ∷ ys) x below e = by (same_id y.id s) refl e (λ f. below_found made s ys x below.1 f)
   where
     by : (b : Bool) → same_id y.id s ≡ b → (if b then Some y else look s ys) ≡ Some x → (look s ys ≡ Some x → s.count ≤ made) → s.count ≤ made
-    by true f g rest = rw (← id_is y.id s f) below.0
+    by true f g rest = rw (← same_id_is y.id s f) below.0
     by false f g rest = rest g
 
 pub below_absent : (made : ℕ) (s : SessionId) (xs : List Session) → Below made xs → made < s.count → look s xs ≡ None
@@ -90,7 +84,7 @@ above_absent made s [] above few = refl
 above_absent made s (x ∷ xs) above few = by (same_id x.id s) refl (above_absent made s xs above.1 few)
   where
     by : (b : Bool) → same_id x.id s ≡ b → look s xs ≡ None → (if b then Some x else look s xs) ≡ None
-    by true e none = let same : x.id ≡ s = id_is x.id s e in let more : made < s.count = rw (← same) above.0 in absurd (omega (arith, more, few))
+    by true e none = let same : x.id ≡ s = same_id_is x.id s e in let more : made < s.count = rw (← same) above.0 in absurd (omega (arith, more, few))
     by false e none = none
 
 pub above_less : (a b : ℕ) (xs : List Session) → a ≤ b → Above b xs → Above a xs
@@ -102,7 +96,7 @@ pub other_count : (a b : SessionId) → a.count < b.count → same_id b a ≡ fa
 other_count a b less = by (same_id b a) refl
   where
     by : (r : Bool) → same_id b a ≡ r → r ≡ false
-    by true e = let same : b ≡ a = id_is b a e in let counts : b.count ≡ a.count = ap (λ i. i.count) same in absurd (omega (arith, less, counts))
+    by true e = let same : b ≡ a = same_id_is b a e in let counts : b.count ≡ a.count = ap (λ i. i.count) same in absurd (omega (arith, less, counts))
     by false e = refl
 
 pub look_one : (s : SessionId) (new : Session) → same_id new.id s ≡ false → look s (new ∷ []) ≡ None
@@ -128,7 +122,7 @@ any_of_id s q (x ∷ xs) apart = by (same_id x.id s) refl (any_of_id s q xs apar
     by : (b : Bool) → same_id x.id s ≡ b → list_any (λ x. same_id x.id s && q x) xs ≡ option_map_or q (look s xs) false
         → ((b && q x) || list_any (λ x. same_id x.id s && q x) xs) ≡ option_map_or q (if b then Some x else look s xs) false
     by true e rest =
-        let none : look s xs ≡ None = rw (← id_is x.id s e) apart.0 in
+        let none : look s xs ≡ None = rw (← same_id_is x.id s e) apart.0 in
         let no : list_any (λ x. same_id x.id s && q x) xs ≡ false = rest ∙ (rw none refl) in
         rw no (or_false (q x))
       where
@@ -148,6 +142,6 @@ look_where s q (x ∷ xs) apart = by (same_id x.id s) (q x) refl refl (look_wher
         ≡ option_map_or (λ x. if q x then Some x else None) (if a then Some x else look s xs) None
     by true true e f rest = rw f refl
     by true false e f rest =
-        let none : look s xs ≡ None = rw (← id_is x.id s e) apart.0 in
+        let none : look s xs ≡ None = rw (← same_id_is x.id s e) apart.0 in
         rw f (rest ∙ (rw none refl))
     by false b e f rest = rest

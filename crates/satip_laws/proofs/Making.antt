@@ -2,6 +2,7 @@
 use Rattle.std.proofs.Common.{arith, ◌≡◌, inl, inr, ℕ, ◌+◌, ◌≤◌, ◌&&◌, Bool, true, false, List, [], ◌∷◌, ◌++◌, length, Option, Some, None, is_none, option_to_list, refl, ap, sym, subst, ◌∙◌, if◌then◌else◌, unwrap_or, option_and_then, append-nil, append_assoc}
 use Rattle.std.specs.Option.{option_map_or}
 use Rattle.std.proofs.lemmas.Bool.{and_parts}
+use Rattle.satip_plain.proofs.SameIds.{same_id_is}
 use Rattle.satip_history.specs.Lists.{Each, Has}
 use Rattle.satip_http.specs.Heads.{http_refusal}
 use Rattle.satip_rtsp.specs.declared.requests.Method.{Method}
@@ -27,7 +28,7 @@ use Rattle.satip_readings.proofs.Deciding.{decided_refuses}
 use Rattle.satip_readings.proofs.Law.{agrees_opening}
 use Rattle.satip_readings.proofs.Steps.{agrees_step}
 use Rattle.satip_laws.specs.Makings.{made_by, made_from, made, made_as}
-use Rattle.satip_laws.proofs.Ids.{look, id_is, id_same, Apart, above_absent}
+use Rattle.satip_laws.proofs.Ids.{look, id_same, Apart, above_absent}
 use Rattle.satip_laws.proofs.Moves.{IsSound}
 use Rattle.satip_laws.proofs.Events.{a_step}
 use Rattle.satip_laws.proofs.Over.{made_above, new_one, opening_sound}
@@ -200,7 +201,7 @@ has_found (x ∷ xs) (n ∷ ms) m makings apart (inr has) =
     (there.0, by (same_id x.id m.id) refl there.0 there.1, there.2)
   where
     by : (b : Bool) → same_id x.id m.id ≡ b → (y : Session) → look m.id xs ≡ Some y → (if b then Some x else look m.id xs) ≡ Some y
-    by true f y g = let none : look m.id xs ≡ None = rw (← id_is x.id m.id f) apart.0 in cc
+    by true f y g = let none : look m.id xs ≡ None = rw (← same_id_is x.id m.id f) apart.0 in cc
     by false f y g = g
 
 pub made_of : (c : Setting) (h : List Item) (m : Made) → Legal c h → Has m (readings c h).made → (x : Session) × (made_as c h m.id ≡ Some x) × IsMaking x m

@@ -1,6 +1,7 @@
 -- What each move does to every session.
 use Rattle.std.proofs.Common.{◌≡◌, ℕ, ◌==◌, ◌&&◌, Bool, true, false, not, List, [], ◌++◌, map, max, Option, Some, None, refl, sym, subst, ◌∙◌, if◌then◌else◌, option_and_then}
 use Rattle.std.specs.Option.{option_map_or}
+use Rattle.std.proofs.lemmas.Bool.{not-true}
 use Rattle.satip_fronts.specs.declared.choice.Place.{Place}
 use Rattle.satip_fronts.specs.Choice.{choose}
 use Rattle.satip_tune.specs.Frontends.{mux_of}
@@ -146,10 +147,6 @@ goes_hear id st sound = goes_change st id (λ s. record s { heard = st.clock })
     (λ x. quiet x (record x { heard = st.clock }) (kept_heard st.clock x) refl refl) sound
 
 -- not of what is true
-pub not_true : (b : Bool) → not b ≡ true → b ≡ false
-not_true true e = cc
-not_true false e = refl
-
 pub and_second : (a b : Bool) → (a && b) ≡ true → b ≡ true
 and_second true b e = e
 and_second false b e = cc
@@ -177,7 +174,7 @@ retuned_same c number tuning st sound (Some place) = goes_same st (put_at c numb
 pub goes_flush : (number : ℕ) (st : State) → IsSound st → Goes st (each_of (λ s. s.stream == number && not s.http) (let_go true st.clock) st) nothing nothing
 goes_flush number st sound =
     goes_some st (λ s. s.stream == number && not s.http) (let_go true st.clock)
-    (λ x e. let_go_takes true st.clock x (not_true x.http (and_second (x.stream == number) (not x.http) e))) sound
+    (λ x e. let_go_takes true st.clock x (not-true x.http (and_second (x.stream == number) (not x.http) e))) sound
 
 pub goes_retune : (c : Config) (number : ℕ) (st : State) (tuning : Tuning) → IsSound st → Goes st (retune c number st tuning) nothing nothing
 goes_retune c number st tuning sound =
@@ -217,7 +214,7 @@ goes_flushed clock st sound =
     let st1 : State = record st { clock = clock } in
     let sound1 : IsSound st1 = record { apart = sound.apart; below = sound.below; single = sound.single; fine = sound.fine } in
     let goes : Goes st1 (flushed clock st) nothing nothing =
-    goes_some st1 (λ s. not s.http) (let_go true clock) (λ x e. let_go_takes true clock x (not_true x.http e)) sound1 in
+    goes_some st1 (λ s. not s.http) (let_go true clock) (λ x e. let_go_takes true clock x (not-true x.http e)) sound1 in
     record { runs = goes.runs; sound = goes.sound; made = goes.made }
 
 -- the rest of a tick

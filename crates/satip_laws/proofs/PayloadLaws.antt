@@ -3,6 +3,7 @@ use Rattle.std.proofs.Common.{arith, ◌≡◌, ℕ, ◌+◌, ◌≤◌, ◌==�
 use Rattle.std.specs.List.{list_any}
 use Rattle.std.proofs.lemmas.List.{append_cancel_right}
 use Rattle.std.proofs.lemmas.Bool.{eq-eqb}
+use Rattle.satip_plain.proofs.SameIds.{same_id_is}
 use Rattle.satip_history.specs.Lists.{Each}
 use Rattle.satip_plain.specs.declared.setting.Setting.{Setting}
 use Rattle.satip_plain.specs.Types.{SessionId}
@@ -16,7 +17,7 @@ use Rattle.satip_laws.specs.Makings.{made, made_as, living, LivingAreMade}
 use Rattle.satip_laws.specs.Pulls.{taken}
 use Rattle.satip_laws.specs.Payload.{PayloadAndHeld, PayloadIsGiven, LivingPicked, TakenAndQueued, TakenIsGiven}
 use Rattle.satip_laws.specs.Numbers.{sent_in, CountFrom, NumbersCountFromFirst, is_rtp_of, carries, SsrcTells}
-use Rattle.satip_laws.proofs.Ids.{look, id_is, id_same}
+use Rattle.satip_laws.proofs.Ids.{look, id_same}
 use Rattle.satip_laws.proofs.Told.{Told, told, told_before, told_of, all_of, packets_in, numbers_in, packets_told, numbers_told, packets_in-told_of, numbers_in-told_of}
 use Rattle.satip_laws.proofs.Evolving.{Becomes, Follows, Evolves, Runs, told_by, most_of}
 use Rattle.satip_laws.proofs.Over.{over, opening_sound, IsFresh, fresh_fine, fresh_made}
@@ -188,7 +189,7 @@ others_differ s n (z ∷ zs) id y none e other = by (same_id z.id id) refl e non
         → (list_any (λ z. not (is_session s z) && z.ssrc == n) zs ≡ false → look id zs ≡ Some y → (y.ssrc == n) ≡ false) → (y.ssrc == n) ≡ false
     by true f g none rest =
         let same : z ≡ y = cc in
-        let not_s : same_id z.id s ≡ false = ap (λ i. same_id i s) (id_is z.id id f) ∙ other in
+        let not_s : same_id z.id s ≡ false = ap (λ i. same_id i s) (same_id_is z.id id f) ∙ other in
         ap (λ w. w.ssrc == n) (sym same) ∙ last (z.ssrc == n) refl none not_s
     by false f g none rest = rest (more (not (same_id z.id s) && z.ssrc == n) none) g
 
@@ -217,7 +218,7 @@ one_mark s x xs e alone (Rtp id to number clock ssrc packets) ts has = by (same_
     own y f g = let same : y ≡ x = cc in rw (g, same) (sym (eq-eqb x.ssrc x.ssrc refl))
 
     by : (b : Bool) → same_id id s ≡ b → b ≡ (ssrc == x.ssrc)
-    by true f = let same : id ≡ s = id_is id s f in own m.0 (rw (← same) m.1) m.2
+    by true f = let same : id ≡ s = same_id_is id s f in own m.0 (rw (← same) m.1) m.2
     by false f = other m.0 m.1 m.2 f
 
 marks_tell : (s : SessionId) (x : Session) (xs : List Session) → look s xs ≡ Some x → list_any (λ y. not (is_session s y) && y.ssrc == x.ssrc) xs ≡ false

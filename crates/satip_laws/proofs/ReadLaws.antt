@@ -2,7 +2,8 @@
 use Rattle.std.proofs.Common.{◌≡◌, ◌⊎◌, inl, inr, ℕ, ◌==◌, ◌&&◌, not, Bool, true, false, cond, List, [], ◌∷◌, ◌++◌, filter, Option, Some, None, is_some, refl, ap, sym, subst, ◌∙◌}
 use Rattle.std.specs.List.{list_any}
 use Rattle.std.specs.Option.{option_map_or}
-use Rattle.std.proofs.lemmas.Bool.{and_parts, and_from, eq-eqb}
+use Rattle.std.proofs.lemmas.Bool.{and_parts, and_from, eq-eqb, not-true}
+use Rattle.satip_plain.proofs.SameIds.{same_id_is}
 use Rattle.satip_history.specs.Lists.{Has}
 use Rattle.satip_plain.specs.declared.setting.Setting.{Setting}
 use Rattle.satip_plain.specs.Types.{SessionId, Config}
@@ -14,7 +15,6 @@ use Rattle.satip_plain.specs.Packets.{payload}
 use Rattle.satip_plain.specs.Numbering.{numbers_for}
 use Rattle.satip_plain.specs.Readings
 use Rattle.satip_plain.specs.Readings.{Made, Readings, asking, readings, read_from, read_one, nothing_read, pulled_by, packets_of}
-use Rattle.satip_readings.proofs.SameTests.{id_is as same_ids}
 use Rattle.satip_readings.proofs.Agree.{Same, Agrees, alike_has}
 use Rattle.satip_readings.proofs.Finding.{find_has}
 use Rattle.satip_readings.proofs.Law.{agrees_after, selected_is_given}
@@ -47,7 +47,7 @@ entries_but c (x ∷ h) e st legal = let rest = entries_but c h e (step c st x.e
 -- whom one finds lives, and was made
 
 found_has : (s : SessionId) (xs : List Session) (y : Session) → look s xs ≡ Some y → Has y xs × (y.id ≡ s)
-found_has s xs y e = let there = find_has (is_session s) xs y e in (there.0, same_ids y.id s there.1)
+found_has s xs y e = let there = find_has (is_session s) xs y e in (there.0, same_id_is y.id s there.1)
 
 -- the readings of a session that lives
 record IsRead (g : Readings) (s : SessionId) (y : Session) : Type 0 where
@@ -72,12 +72,8 @@ has_passed p (k ∷ ms) m has = by (p k) refl has (λ f. has_passed p ms m f)
     by true e (inr later) rest = let r = rest later in (inr r.0, r.1)
     by false e later rest = let r = rest later in (inr r.0, r.1)
 
-not_over : (b : Bool) → not b ≡ true → b ≡ false
-not_over true e = cc
-not_over false e = refl
-
 living_made : (g : Readings) (m : Made) → Has m (Readings.living g) → Has m g.made × (g.over m.id ≡ false)
-living_made g m lives = let r = has_passed (λ k. not (g.over k.id)) g.made m lives in (r.0, not_over (g.over m.id) r.1)
+living_made g m lives = let r = has_passed (λ k. not (g.over k.id)) g.made m lives in (r.0, not-true (g.over m.id) r.1)
 
 -- who is over doesn't live
 over_gone : (c : Setting) (h : List Item) (m : Made) → Legal c h → (readings c h).over m.id ≡ true → living (after c h) m.id ≡ None
@@ -158,7 +154,7 @@ payload_is_selected c h m legal has rtsp = record {
         at None f k = cc
         at (Some a) f k =
             let parts = and_parts (same_id a.home m.home) (is_some (to_set ((readings c g).tuned m.home) a.query.change)) k in
-            let home : a.home ≡ m.home = same_ids a.home m.home parts.0 in
+            let home : a.home ≡ m.home = same_id_is a.home m.home parts.0 in
             let asked : IsAsked c.config (after c g) (readings c g) e a = entry_asked c.config (after c g) (readings c g) agrees e a answered f in
             let number : asked.number ≡ y.stream = asked.read ∙ ap (read_one c.config (readings c g) e).number home ∙ sym stream in
             let tuning : tuning_of (after c g) y.stream ≡ (readings c g).tuned m.home =

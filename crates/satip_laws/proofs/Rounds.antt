@@ -2,10 +2,11 @@
 use Rattle.std.proofs.Common.{◌≡◌, ℕ, ◌≤◌, Bool, true, false, List, [], ◌∷◌, map, Option, Some, None, refl, ap, ◌∙◌, append-nil, option_and_then}
 use Rattle.std.specs.List.{filter_map, cons_option, flat_map}
 use Rattle.std.specs.Option.{option_map_or}
+use Rattle.satip_plain.proofs.SameIds.{same_id_is}
 use Rattle.satip_plain.specs.Types.{SessionId}
 use Rattle.satip_plain.specs.State.{Session, same_id}
 use Rattle.satip_plain.specs.Sending.{Sent, Turn}
-use Rattle.satip_laws.proofs.Ids.{look, Apart, Below, id_is}
+use Rattle.satip_laws.proofs.Ids.{look, Apart, Below}
 use Rattle.satip_laws.proofs.Told.{told, told-append}
 
 abbrev pub sends_of : (Session → Turn) → List Session → List Sent
@@ -42,7 +43,7 @@ found_later s x t ys own e = by t.after refl
 round_step : (s : SessionId) (turn : Session → Turn) (x : Session) (xs : List Session) → IsOwn x (turn x) → look x.id xs ≡ None → Round s turn xs
     → (b : Bool) → same_id x.id s ≡ b → Round s turn (x ∷ xs)
 round_step s turn x xs own apart rest true e =
-    let none : look s xs ≡ None = rw (← id_is x.id s e) apart in
+    let none : look s xs ≡ None = rw (← same_id_is x.id s e) apart in
     let none_after : look s (after_of turn xs) ≡ None = rest.found ∙ (rw none refl) in
     let none_told : told s (sends_of turn xs) ≡ [] = rest.tells ∙ (rw none refl) in
     record {

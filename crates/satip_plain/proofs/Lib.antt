@@ -1,2 +1,3 @@
 mod LawProofs
 mod TuningLaw
+pub mod SameIds

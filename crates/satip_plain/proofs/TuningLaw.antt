@@ -5,6 +5,7 @@ use Rattle.std.specs.Option.{option_eq}
 use Rattle.std.proofs.lemmas.Bool.{and_parts, and_from}
 use Rattle.std.proofs.lemmas.Bool.Decides.{Decides-eqb}
 use Rattle.std.proofs.lemmas.Slice.Eq.{bytes_eq-Decides}
+use Rattle.std.proofs.lemmas.Option.{same_Some}
 use Rattle.satip_tune.specs.declared.signal.Pol.{Pol}
 use Rattle.satip_tune.specs.declared.signal.System.{System}
 use Rattle.satip_tune.specs.declared.signal.Modulation.{Modulation}
@@ -20,14 +21,11 @@ decides_and : {P Q : Type 0} (r s : Bool) → Decides r P → Decides s Q → De
 decides_and r s p q = ((λ e. (p.0 (and_parts r s e).0, q.0 (and_parts r s e).1)), (λ f. and_from r s (p.1 f.0) (q.1 f.1)))
 
 -- what is given is the same where the options are
-given_same : {X : Type 0} (x y : X) → Some x ≡ Some y → x ≡ y
-given_same x y e = ap (λ o. unwrap_or o x) e
-
 -- words that are read back as their values are the same where their texts are
 same_by-decides : {X : Type 0} (text : X → List ℕ) (named : List ℕ → Option X) → ((x : X) → named (text x) ≡ Some x) → (x y : X)
     → Decides (same_by text x y) (x ≡ y)
 same_by-decides text named printed x y = (
-  (λ e. given_same x y (sym (printed x) ∙ ap named ((bytes_eq-Decides (text x) (text y)).0 e) ∙ printed y)),
+  (λ e. same_Some x y (sym (printed x) ∙ ap named ((bytes_eq-Decides (text x) (text y)).0 e) ∙ printed y)),
   (λ e. (bytes_eq-Decides (text x) (text y)).1 (ap text e)),
 )
 
@@ -35,7 +33,7 @@ option_eq-decides : {X : Type 0} (E : X → X → Bool) → ((x y : X) → Decid
 option_eq-decides E d None None = ((λ e. refl), (λ e. refl))
 option_eq-decides E d None (Some y) = ((λ e. cc), (λ e. cc))
 option_eq-decides E d (Some x) None = ((λ e. cc), (λ e. cc))
-option_eq-decides E d (Some x) (Some y) = ((λ e. ap Some ((d x y).0 e)), (λ e. (d x y).1 (given_same x y e)))
+option_eq-decides E d (Some x) (Some y) = ((λ e. ap Some ((d x y).0 e)), (λ e. (d x y).1 (same_Some x y e)))
 
 -- tunings with the same fields are the same
 same_fields : (a b : Tuning)

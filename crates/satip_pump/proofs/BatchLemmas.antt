@@ -4,6 +4,7 @@ use Rattle.std.proofs.lemmas.Bool.Decides.{nat_tests}
 use Rattle.std.proofs.lemmas.List.{take_more}
 use Rattle.std.proofs.lemmas.List.Sums.{sum_by-append, sum_by-cons}
 use Rattle.std.proofs.lemmas.Option.{slice_get_within, get_or_from_slice_get}
+use Rattle.std.proofs.lemmas.Bool.{and_parts}
 use Rattle.satip_base.specs.Output.{Datagram, datagram_bytes}
 use Rattle.satip_base.specs.Bundles.{Bundle, Bundled}
 use Rattle.satip_pump.specs.Bundles.{has_room}
@@ -13,14 +14,9 @@ pub record HasRoom (b : Bundle) : Type 0 where
   pub bytes : 262144 ≤ b.byte_spare
   pub count : 256 ≤ b.count_spare
 
-pub both_true : (a b : Bool) → (a && b) ≡ true → (a ≡ true) × (b ≡ true)
-both_true true true is = (refl, refl)
-both_true true false is = absurd (cc is)
-both_true false b is = absurd (cc is)
-
 pub room_of : (b : Bundle) → has_room b ≡ true → HasRoom b
 room_of b is =
-    let both = both_true (nat_le 262144 b.byte_spare) (nat_le 256 b.count_spare) is in
+    let both = and_parts (nat_le 262144 b.byte_spare) (nat_le 256 b.count_spare) is in
     let bytes = both.0 in
     let count = both.1 in
     record { bytes = grind (arith, nat_tests); count = grind (arith, nat_tests) }

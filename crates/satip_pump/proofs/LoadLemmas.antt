@@ -1,6 +1,7 @@
 -- A load, packet by packet.
 use Rattle.std.proofs.Common.{◌≡◌, ℕ, Bool, true, false, List, [], ◌∷◌, ◌++◌, flat_map, Some, refl, sym, ap, ◌∙◌, append_assoc, append-nil}
 use Rattle.std.proofs.lemmas.List.Concat.{flat_map-append}
+use Rattle.std.proofs.lemmas.Bool.{and_parts}
 use Rattle.satip_base.specs.Output.{Datagram, Output}
 use Rattle.satip_history.specs.declared.entry.Taken.{Taken}
 use Rattle.satip_history.specs.History.{taken}
@@ -13,7 +14,6 @@ use Rattle.satip_pump.specs.Bundles.{has_room}
 use Rattle.satip_pump.specs.Loads.{Loaded, is_of, may_give, given_event, Gives, Took}
 use Rattle.satip_plain.specs.Pumping.{work_told}
 use Rattle.satip_plain.specs.Pumping.{rest_of}
-use Rattle.satip_pump.proofs.BatchLemmas.{both_true}
 
 -- what an event that was given tells
 pub record IsGiven (may : Bool) (front tune : ℕ) (packets : List (List ℕ)) (e : Event) : Type 0 where
@@ -61,7 +61,7 @@ pub took_more : (a b c : Loaded) (flag : Bool) (bundle : Bundle) (ts : List (Tak
     → Took a c (ts ++ taken e answer out ∷ [])
 took_more a b c flag bundle ts e answer out given took passed =
     let told = given_tells flag (may_give b.tune b.work bundle) b.front b.tune b.buffered.packets e given in
-    let both = both_true (is_of b.tune b.work) (has_room bundle) told.allowed in
+    let both = and_parts (is_of b.tune b.work) (has_room bundle) told.allowed in
     let event : e ≡ Packet a.front a.tune told.packet =
     told.event ∙ ap (λ (n : ℕ). Packet n b.tune told.packet) took.front ∙ ap (λ (n : ℕ). Packet a.front n told.packet) took.tune in
     let more = gives_more a.front a.tune a.buffered.packets a.work ts b.buffered.packets b.work (taken e answer out) told.packet (rest_of b.buffered.packets)

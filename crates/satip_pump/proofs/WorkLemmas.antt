@@ -1,5 +1,6 @@
 -- What a burst gave.
 use Rattle.std.proofs.Common.{◌≡◌, ℕ, ◌≤◌, Bool, true, false, List, [], ◌∷◌, ◌++◌, length, flat_map, IsSome, Result, Ok, Err, refl, ap, ◌∙◌, subst, arith}
+use Rattle.std.proofs.lemmas.Bool.{and_parts}
 use Rattle.satip_base.specs.Output.{Datagram, Output}
 use Rattle.satip_history.specs.declared.entry.Taken.{Taken}
 use Rattle.satip_history.specs.History.{entries}
@@ -20,7 +21,6 @@ use Rattle.satip_pump.specs.Events.{Makes}
 use Rattle.satip_pump.specs.Loads.{Loaded, is_of, may_give, given_event, Gives, Took}
 use Rattle.satip_plain.specs.Pumping.{work_told}
 use Rattle.satip_pump.specs.Works.{Gave, GaveEnds}
-use Rattle.satip_pump.proofs.BatchLemmas.{both_true}
 
 -- no more packets are left than there were
 pub gives_fewer : (front tune : ℕ) (packets : List (List ℕ)) (work : Work) (ts : List (Taken Event Answer Output)) (left : List (List ℕ)) (last : Work)
@@ -40,7 +40,7 @@ given_is_of flag front tune work bundle packets some = allowed flag (may_give tu
   where
     allowed : (flag may : Bool) (packets : List (List ℕ)) → may_give tune work bundle ≡ may → IsSome (given_event flag may front tune packets)
         → is_of tune work ≡ true
-    allowed true true (p ∷ ps) is some = (both_true (is_of tune work) (has_room bundle) is).0
+    allowed true true (p ∷ ps) is some = (and_parts (is_of tune work) (has_room bundle) is).0
     allowed true true [] is some = absurd (cc some)
     allowed true false packets is some = absurd (cc some)
     allowed false may packets is some = absurd (cc some)

@@ -5,12 +5,9 @@ use Rattle.std.specs.List.{list_all, list_any, join_with_byte, slice_split, posi
 use Rattle.std.proofs.Math.Seq.{take-append_seam, drop-append-add}
 use Rattle.std.proofs.lemmas.Bool.Decides.{nat_tests}
 use Rattle.std.proofs.lemmas.List.Folds.{list_any-append}
+use Rattle.std.proofs.lemmas.Bool.{or_parts}
 use Rattle.satip_tune.specs.Pieces.{is_byte}
 use Rattle.satip_tune.proofs.Places.{slice_split-no, slice_split-join}
-
-or-false : (a b : Bool) → (a || b) ≡ false → (a ≡ false) × (b ≡ false)
-or-false true b h = absurd (cc)
-or-false false b h = (refl, h)
 
 -- no byte of two texts one behind the other
 pub no-append : (p : ℕ → Bool) (xs ys : List ℕ) → list_any p xs ≡ false → list_any p ys ≡ false → list_any p (xs ++ ys) ≡ false
@@ -23,7 +20,7 @@ pub no-take : (p : ℕ → Bool) (n : ℕ) (xs : List ℕ) → list_any p xs ≡
 no-take p zero xs h = refl
 no-take p (suc n) [] h = refl
 no-take p (suc n) (x ∷ xs) h =
-    let both = or-false (p x) (list_any p xs) h in
+    let both = or_parts (p x) (list_any p xs) h in
     no-cons p x (take n xs) both.0 (no-take p n xs both.1)
 
 -- digits have no separator
@@ -65,7 +62,7 @@ place-join : (p : ℕ → Bool) (xs : List ℕ) (y : ℕ) (ys : List ℕ) → li
     → position_or_len p (xs ++ (y ∷ ys)) ≡ length xs
 place-join p [] y ys none here = rw here refl
 place-join p (x ∷ xs) y ys none here =
-    let both = or-false (p x) (list_any p xs) none in
+    let both = or_parts (p x) (list_any p xs) none in
     let rest : position_or_len p (xs ++ (y ∷ ys)) ≡ length xs = place-join p xs y ys both.1 here in
     rw (both.0, rest) (omega arith)
 

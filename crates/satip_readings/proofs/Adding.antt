@@ -2,7 +2,7 @@
 use Rattle.std.proofs.Common.{arith, ◌≡◌, ◌⊎◌, inl, inr, ℕ, zero, suc, ◌+◌, ◌≤◌, ◌==◌, ◌||◌, not, Bool, true, false, cond, List, [], ◌∷◌, ◌++◌, find, length, take, Option, Some, None, is_some, refl, ap, sym, subst, ◌∙◌, length-append}
 use Rattle.std.specs.List.{list_any}
 use Rattle.std.specs.Option.{option_map}
-use Rattle.std.proofs.lemmas.Bool.{eqb-true}
+use Rattle.std.proofs.lemmas.Bool.{eqb-true, false_from_ne_true}
 use Rattle.satip_history.specs.Lists.{Has}
 use Rattle.satip_pids.specs.Pids.{Only}
 use Rattle.satip_plain.specs.Types.{SessionId, Config, Peer, Draw, Ports}
@@ -10,7 +10,7 @@ use Rattle.satip_plain.specs.State.{Session, Stream, State, same_id, stream_of, 
 use Rattle.satip_plain.specs.Steps.{least_free, put_stream, join, found, new_session}
 use Rattle.satip_plain.specs.Readings.{Made, Readings, living, home_of_number, next_made, put}
 use Rattle.satip_readings.specs.Agreement.{stream_told}
-use Rattle.satip_readings.proofs.SameTests.{none_true, is_false, id_itself, id_other, none_some}
+use Rattle.satip_readings.proofs.SameTests.{none_true, id_itself, id_other, none_some}
 use Rattle.satip_readings.proofs.Finding.{find_has, find_fails, find_agree, find_append, find_before, any_append, any_no, has_any, filter_append, has_parts}
 use Rattle.satip_readings.proofs.Agree.{Same, Alike, Apart, IsTold, IsUnmade, Agrees, serves, alike_read, alike_append, here}
 use Rattle.satip_readings.proofs.Quiet.{same_again}
@@ -258,7 +258,7 @@ module _ (c : Config) (st : State) (g : Readings) (a : Agrees c st g) (http : Bo
           ≡ option_map (stream_told g2) (option_map (λ x. x.home) (cond (is_some o) o (cond (founded_numbers id == n) (Some (making g http id draw)) None)))
       by (Some x) e =
           let there = find_has (λ y. g.number y.home == n) (living g) x e in
-          let other : (k == n) ≡ false = is_false (k == n)
+          let other : (k == n) ≡ false = false_from_ne_true (k == n)
           (λ f. none_some (stream_of st k) (stream_told g x.home) stream_none (ap (stream_of st) (eqb-true k n f) ∙ at_home (Some x) e)) in
           rw other (at_home (Some x) e ∙ ap (λ i. Some (record { number = i; tuning = g.tuned x.home; front = g.front x.home; pids = g.pids x.home }))
           (sym (old_number x.home (a.loosely.told.homes x there.0))))

@@ -2,7 +2,9 @@
 use Rattle.std.proofs.Common.{arith, ◌≡◌, inl, inr, ℕ, ◌<◌, ◌≤◌, ◌==◌, ◌&&◌, ◌||◌, not, Bool, true, false, cond, List, [], ◌∷◌, ◌++◌, map, filter, find, length, sum, take, Option, Some, None, is_some, refl, ap, sym, subst, ◌∙◌, option_and_then}
 use Rattle.std.specs.List.{list_any, filter_map, cons_option}
 use Rattle.std.specs.Option.{option_map}
-use Rattle.std.proofs.lemmas.Bool.{eqb-true, eq-eqb}
+use Rattle.std.proofs.lemmas.Bool.{eqb-true, eq-eqb, false_from_ne_true}
+use Rattle.std.proofs.lemmas.Option.{same_Some}
+use Rattle.satip_plain.proofs.SameIds.{same_id_is}
 use Rattle.satip_history.specs.Lists.{Has, Each}
 use Rattle.satip_pids.specs.Pids.{Only}
 use Rattle.satip_plain.specs.Types.{SessionId, Config}
@@ -11,7 +13,7 @@ use Rattle.satip_plain.specs.Streams.{outlook_of}
 use Rattle.satip_plain.specs.Refusals.{new_outlook}
 use Rattle.satip_plain.specs.Readings.{Made, Readings, living, living_session, home_of_number, outlook_in}
 use Rattle.satip_readings.specs.Agreement.{stream_told, tune_at, mux_at}
-use Rattle.satip_readings.proofs.SameTests.{same_bool, none_true, is_false, id_other, id_is, id_same, id_itself, given_same}
+use Rattle.satip_readings.proofs.SameTests.{same_bool, none_true, id_other, id_same, id_itself}
 use Rattle.satip_readings.proofs.Finding.{find_has, find_fails, find_only, any_has, has_any, any_agree, any_filter}
 
 -- the packets that left the queue of an HTTP session are those that were pulled
@@ -197,7 +199,7 @@ alike_back g m (n ∷ ms) (t ∷ ss) alike (inr h) = let r = alike_back g m ms s
 
 module _ (g : Readings) (told : IsTold g) where
   pub living_found : (m : Made) → Has m (living g) → living_session g m.id ≡ Some m
-  living_found m h = find_only (λ n. same_id n.id m.id) (living g) m h (id_itself m.id) (λ n k e. told.ids n m k h (id_is n.id m.id e))
+  living_found m h = find_only (λ n. same_id n.id m.id) (living g) m h (id_itself m.id) (λ n k e. told.ids n m k h (same_id_is n.id m.id e))
 
   pub home_found : (m : Made) → Has m (living g) → home_of_number g (g.number m.home) ≡ Some m.home
   home_found m h = by (find (λ n. g.number n.home == g.number m.home) (living g)) refl
@@ -216,7 +218,7 @@ module _ (g : Readings) (told : IsTold g) where
           → (m : Made) × Has m (living g) × (m.home ≡ home) × (g.number m.home ≡ n)
       by None f k = cc
       by (Some m) f k = let there = find_has (λ x. g.number x.home == n) (living g) m f in
-          (m, there.0, given_same m.home home k, eqb-true (g.number m.home) n there.1)
+          (m, there.0, same_Some m.home home k, eqb-true (g.number m.home) n there.1)
 
 module _ (st : State) (g : Readings)
     (told : IsTold g)
@@ -235,7 +237,7 @@ module _ (st : State) (g : Readings)
           → (m : Made) × Has m (living g) × (t ≡ stream_told g m.home)
       by None f e = cc
       by (Some home) f e = let r = home_has g told t.number home f in
-          (r.0, r.1, given_same t (stream_told g home) e ∙ ap (stream_told g) (sym r.2))
+          (r.0, r.1, same_Some t (stream_told g home) e ∙ ap (stream_told g) (sym r.2))
 
   pub any_stream : (q : Stream → Bool) → list_any q st.streams ≡ list_any (λ m. q (stream_told g m.home)) (living g)
   any_stream q = same_bool (list_any q st.streams) (list_any (λ m. q (stream_told g m.home)) (living g))
@@ -264,7 +266,7 @@ module _ (c : Config) (st : State) (g : Readings) (agrees : Agrees c st g) where
 pub number_home : (g : Readings) → IsTold g → (m n : Made) → Has m (living g) → Has n (living g) → (g.number m.home == g.number n.home) ≡ same_id m.home n.home
 number_home g told m n h k = same_bool (g.number m.home == g.number n.home) (same_id m.home n.home)
     (λ e. id_same m.home n.home (told.numbers m n h k (eqb-true (g.number m.home) (g.number n.home) e)))
-    (λ e. eq-eqb (g.number m.home) (g.number n.home) (ap g.number (id_is m.home n.home e)))
+    (λ e. eq-eqb (g.number m.home) (g.number n.home) (ap g.number (same_id_is m.home n.home e)))
 
 and_turned : (a b : Bool) → (a && b) ≡ (b && a)
 and_turned true true = refl
@@ -300,7 +302,7 @@ outlook_new c st g agrees id above = λ i. record { fronts = c.fronts; mux_at = 
     other n k = id_other n.home id (λ e. let few = agrees.loosely.told.homes n k in let same : n.home.count ≡ id.count = ap (λ x. x.count) e in omega arith)
 
     numbered : (n : Made) → Has n (living g) → (g.number n.home == 0) ≡ false
-    numbered n k = is_false (g.number n.home == 0) (λ e.
+    numbered n k = false_from_ne_true (g.number n.home == 0) (λ e.
         let zero_is : g.number n.home ≡ 0 = eqb-true (g.number n.home) 0 e in
         let there = find_has (λ t. t.number == g.number n.home) st.streams (stream_told g n.home) (stream_here c st g agrees n k) in
         let above_zero : 1 ≤ g.number n.home = agrees.loosely.kept.positive (stream_told g n.home) there.0 in omega arith)

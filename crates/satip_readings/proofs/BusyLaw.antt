@@ -1,6 +1,7 @@
 -- The busy law.
 use Rattle.std.proofs.Common.{arith, ◌≡◌, ℕ, ◌==◌, ◌<◌, ◌&&◌, ◌||◌, not, Bool, true, false, cond, List, [], ◌∷◌, ◌++◌, length, unwrap_or, Option, Some, None, is_some, is_none, Result, Ok, Err, refl, ap, sym, subst, ◌∙◌}
 use Rattle.std.specs.Option.{option_map, option_and_then, option_map_or}
+use Rattle.std.proofs.lemmas.Option.{same_Some}
 use Rattle.satip_history.specs.Lists.{Has, Each}
 use Rattle.satip_pids.specs.Pids.{Pids, Only}
 use Rattle.satip_pids.specs.declared.fault.PidFault.{PidFault}
@@ -36,7 +37,7 @@ use Rattle.satip_plain.specs.Steps.{outcome, step, on_request, on_get, refuse, d
 use Rattle.satip_plain.specs.Readings.{Made, Readings, living, home_of_number, named_in, names, next_made, outlook_in, readings}
 use Rattle.satip_readings.specs.Agreement.{stream_told}
 use Rattle.satip_readings.specs.Busy.{query_before, all_before, home_meant, IsBlocked, IsBlockedRequest, IsBlockedGet, IsBlockedHere, IsToldBusy, BusyWhereBlocked}
-use Rattle.satip_readings.proofs.SameTests.{none_true, given_same}
+use Rattle.satip_readings.proofs.SameTests.{none_true}
 use Rattle.satip_readings.proofs.Agree.{Agrees, outlook_same, outlook_new, home_found, home_has}
 use Rattle.satip_readings.proofs.Deciding.{IsNone, all_none, where_none, named_present, named_facts, own_stream, meant_number, meant_named}
 use Rattle.satip_readings.proofs.Latest.{latest}
@@ -206,7 +207,7 @@ module _ (c : Config) (st : State) (peer : Peer) (draw : Draw) (r : Request) whe
 
           changing : changes r.method ≡ true → (o : Option Refused) → first_given (all_before st r) ≡ o → IsLast c st r
           changing e (Some y) f =
-              let same : y ≡ x = given_same y x (sym (first_sooner (all_before st r) (where_true (front_line c st r (stream_meant st r)) busy ∷ []) y f)
+              let same : y ≡ x = same_Some y x (sym (first_sooner (all_before st r) (where_true (front_line c st r (stream_meant st r)) busy ∷ []) y f)
               ∙ sym (decided_change c st r e) ∙ is) in
               absurd (first_other r.cseq (all_before st r) y
               (before_other r.cseq st r (query_before st r (stream_meant st r)) (query_other r.cseq st r (stream_meant st r))) f
@@ -227,7 +228,7 @@ module _ (c : Config) (st : State) (peer : Peer) (draw : Draw) (r : Request) whe
       refused x is None f text = last x is text
       refused x is (Some m) f text =
           let first : decide c st r ≡ Some (of_message m) = ap (λ o. first_given (option_map of_message o ∷ later)) f in
-          let same : of_message m ≡ x = given_same (of_message m) x (sym first ∙ is) in
+          let same : of_message m ≡ x = same_Some (of_message m) x (sym first ∙ is) in
           absurd (reply_other r.cseq m (ap (λ y. message_reply r.cseq y m) same ∙ text))
         where
           later : List (Option Refused)
@@ -493,7 +494,7 @@ module _ (c : Config) (st : State) (peer : Peer) (draw : Draw) (r : HttpRequest)
           → http_refusal x.status x.body ≡ http_refusal 503 (Some NoMoreFrontends)
           → (o : Option Refused) → first_given (get_before st r) ≡ o → (first_given (get_before st r) ≡ None) × (get_line c st r ≡ true)
       last x is text (Some y) f =
-          let same : y ≡ x = given_same y x (sym (first_sooner (get_before st r) (where_true (get_line c st r) busy ∷ []) y f) ∙ is) in
+          let same : y ≡ x = same_Some y x (sym (first_sooner (get_before st r) (where_true (get_line c st r) busy ∷ []) y f) ∙ is) in
           absurd (first_other_get (get_before st r) y (get_before_other st r) f (ap (λ z. http_refusal z.status z.body) same ∙ text))
       last x is text None f = (f, front (get_line c st r) (sym (first_later (get_before st r) (where_true (get_line c st r) busy ∷ []) f) ∙ is))
         where

@@ -2,8 +2,10 @@
 use Rattle.std.proofs.Common.{arith, ◌≡◌, ℕ, ◌+◌, ◌%◌, ◌^◌, ◌<◌, ◌≤◌, ◌==◌, ◌&&◌, not, Bool, true, false, cond, map, length, Option, Some, None, is_some, refl, ap, sym, subst, ◌∙◌, option_and_then}
 use Rattle.std.specs.List.{list_any}
 use Rattle.std.specs.Option.{option_map, option_map_or}
-use Rattle.std.proofs.lemmas.Bool.{eqb-true, eq-eqb, and_parts}
+use Rattle.std.proofs.lemmas.Bool.{eqb-true, eq-eqb, and_parts, false_from_ne_true, not-true}
 use Rattle.std.proofs.lemmas.List.{length-map}
+use Rattle.std.proofs.lemmas.Option.{same_Some}
+use Rattle.satip_plain.proofs.SameIds.{same_id_is}
 use Rattle.satip_history.specs.Lists.{Has}
 use Rattle.satip_pids.specs.Pids.{Pids}
 use Rattle.satip_tune.specs.Frontends.{mux_of}
@@ -18,7 +20,7 @@ use Rattle.satip_plain.specs.Sending.{settle, each_of, let_go}
 use Rattle.satip_plain.specs.Streams.{tuned, put_at, retune, change_by, change_stream, to_set, new_pids}
 use Rattle.satip_plain.specs.Readings.{Made, Readings, Asking, Placing, living, home_of_number, frees, put, outlook_in, placing_of, with_tuning, with_place, with_asked, tunes_front, mux_in}
 use Rattle.satip_readings.specs.Agreement.{stream_told}
-use Rattle.satip_readings.proofs.SameTests.{none_true, same_bool, not_true, is_false, id_is, id_turned, id_other, given_same}
+use Rattle.satip_readings.proofs.SameTests.{none_true, same_bool, id_turned, id_other}
 use Rattle.satip_readings.proofs.Finding.{find_has, find_is_any, any_map, any_agree, map_has}
 use Rattle.satip_readings.proofs.Agree.{IsTold, IsKept, Loosely, Agrees, alike_read, home_has, number_home, outlook_same, stream_here, serves}
 use Rattle.satip_readings.proofs.Quiet.{same_again, agrees_flush}
@@ -187,7 +189,7 @@ loosely_tuned c st g at anew mux known l = record {
     tuning_number r = number_by r (anew && r.number == at)
 
     other : (f : ℕ) → row_of st f ≡ None → (anew && at == f) ≡ false
-    other f e = is_false (anew && at == f) (λ t.
+    other f e = false_from_ne_true (anew && at == f) (λ t.
         let same : at ≡ f = eqb-true at f (and_parts anew (at == f) t).1 in
         none_true (is_some (row_of st at)) known (ap (λ x. is_some (row_of st x)) same ∙ ap is_some e))
 
@@ -232,7 +234,7 @@ pub agrees_put : (c : Config) (st : State) (g : Readings) (m : Made) (tuning : T
 agrees_put c st g m tuning place lives known a =
     agrees_swept c _ _ (loosely_tuned c _ _ place.front place.anew (mux_of c.muxes tuning) row
     (loosely_stream c st g m lives (λ t. record t { tuning = Some tuning; front = Some place.front }) (λ t. refl)
-    (λ t at h e. subst (λ x. is_some (row_of st x) ≡ true) (given_same place.front at e) row)
+    (λ t at h e. subst (λ x. is_some (row_of st x) ≡ true) (same_Some place.front at e) row)
     (put m.home (Some tuning) g.tuned) (put m.home (Some place.front) g.front) g.pids unmade (λ n h. by n (same_id m.home n.home)) a.loosely))
   where
     row : is_some (row_of st place.front) ≡ true
@@ -271,7 +273,7 @@ abbrev pub retuned_read : Config → Readings → SessionId → Option Tuning �
 retuned_read c g home o = with_placing c g o home (placing_for c g home o)
 
 not_http : (a b : Bool) → (a && not b) ≡ true → b ≡ false
-not_http a b e = not_true b (and_parts a (not b) e).1
+not_http a b e = not-true b (and_parts a (not b) e).1
 
 pub agrees_retuned : (c : Config) (st : State) (g : Readings) (m : Made) → Has m (living g) → (o : Option Tuning)
     → ((tuning : Tuning) → o ≡ Some tuning → is_some (choose (outlook_in c g m.home) (mux_of c.muxes tuning) tuning) ≡ true)
@@ -340,5 +342,5 @@ agrees_change_by c st g m query lives ready a =
           pids = cond b (new_pids (g.pids m.home) query) (g.pids n.home);
         }
     by n true e = ap (λ x. record { number = g1.number n.home; tuning = g1.tuned n.home; front = g1.front n.home; pids = new_pids (g.pids x) query })
-        (sym (id_is m.home n.home e))
+        (sym (same_id_is m.home n.home e))
     by n false e = refl

@@ -1,7 +1,8 @@
 -- What holds of a request that is accepted, and that no refusal has status 200.
 use Rattle.std.proofs.Common.{ℕ, ◌||◌, ◌≡◌, ◌<◌, ◌==◌, ◌&&◌, not, Bool, true, false, cond, List, [], ◌∷◌, length, Option, Some, None, is_some, is_none, Result, Ok, Err, refl, ap, sym, subst, ◌∙◌}
 use Rattle.std.specs.Option.{option_map, option_map_or, option_and_then}
-use Rattle.std.proofs.lemmas.Bool.{and_parts, and_from, eqb-true}
+use Rattle.std.proofs.lemmas.Bool.{and_parts, and_from, eqb-true, not-true}
+use Rattle.satip_plain.proofs.SameIds.{same_id_is}
 use Rattle.satip_history.specs.Lists.{Has, Each}
 use Rattle.satip_pids.specs.declared.fault.PidFault.{PidFault}
 use Rattle.satip_pids.specs.declared.fault.PidFault.TheVariants.{TooMany, UnderAll}
@@ -25,7 +26,7 @@ use Rattle.satip_plain.specs.Streams.{to_set, changed_tuning, asked_pids, outloo
 use Rattle.satip_plain.specs.Refusals.{needs_session, Refused, first_given, where_true, of_message, of_http_message, of_query_fault, of_tuning, of_pids, key_missing, of_change, of_query, decide, decide_get, session_missing, stream_missing, stream_of_another, not_owner, stream_meant, names_none, is_setup, changes, session_named, makes_session, is_full, front_missing, new_outlook, plainly, telling}
 use Rattle.satip_plain.specs.Readings.{Made, Readings, living, named_in, names, outlook_in}
 use Rattle.satip_readings.specs.Agreement.{stream_told}
-use Rattle.satip_readings.proofs.SameTests.{same_bool, not_true, id_is, id_same, id_turned, none_true, either_false, double_not}
+use Rattle.satip_readings.proofs.SameTests.{same_bool, id_same, id_turned, none_true, either_false, double_not}
 use Rattle.satip_readings.proofs.Finding.{find_has, find_fails}
 use Rattle.satip_readings.proofs.Agree.{stream_here, Same, IsTold, Agrees, Matched, alike_find, outlook_same, outlook_new}
 
@@ -242,12 +243,12 @@ named_facts g Absent m e = cc
 named_facts g (Named id) m e =
     let there = find_has (λ x. same_id x.id id && not x.http) (living g) m e in
     let parts = and_parts (same_id m.id id) (not m.http) there.1 in
-    (there.0, id_turned id m.id ∙ parts.0, not_true m.http parts.1)
+    (there.0, id_turned id m.id ∙ parts.0, not-true m.http parts.1)
 named_facts g Other m e = cc
 
 names_one : (n : SessionName) (x y : SessionId) → names n x ≡ true → names n y ≡ true → x ≡ y
 names_one Absent x y e f = cc
-names_one (Named id) x y e f = sym (id_is id x e) ∙ id_is id y f
+names_one (Named id) x y e f = sym (same_id_is id x e) ∙ same_id_is id y f
 names_one Other x y e f = cc
 
 -- what is named is the session of this id
@@ -257,7 +258,7 @@ names_it g told n m other e is k s h same =
     let found = named_facts g n m e in
     same_bool (names n k.id) (same_id s.id other)
     (λ f. id_same s.id other (same.id ∙ names_one n k.id m.id f found.1 ∙ sym is))
-    (λ f. ap (names n) (sym same.id ∙ id_is s.id other f ∙ is) ∙ found.1)
+    (λ f. ap (names n) (sym same.id ∙ same_id_is s.id other f ∙ is) ∙ found.1)
 
 pub rtsp_named : (g : Readings) (told : IsTold g) (n : SessionName) (m : Made) → named_in g n ≡ Some m → (k : Made) → Has k (living g)
     → (not k.http && names n k.id) ≡ names n k.id

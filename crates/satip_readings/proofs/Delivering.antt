@@ -2,8 +2,9 @@
 use Rattle.std.proofs.Common.{arith, ◌≡◌, ◌⊎◌, inl, inr, ℕ, ◌+◌, ◌-◌, ◌<◌, ◌≤◌, ◌==◌, ◌&&◌, ◌||◌, not, Bool, true, false, cond, List, [], ◌∷◌, ◌++◌, map, filter, length, sum, take, Option, Some, None, is_some, refl, ap, sym, subst, ◌∙◌, append-nil, length-drop}
 use Rattle.std.specs.List.{list_any, filter_map, flat_map}
 use Rattle.std.specs.Option.{option_map_or}
-use Rattle.std.proofs.lemmas.Bool.{and_parts, and_from, eqb-true, eq-eqb}
+use Rattle.std.proofs.lemmas.Bool.{and_parts, and_from, eqb-true, eq-eqb, false_from_ne_true, not-true}
 use Rattle.std.proofs.lemmas.List.{take-append-le, length-take}
+use Rattle.satip_plain.proofs.SameIds.{same_id_is}
 use Rattle.satip_history.specs.Lists.{Has, Each}
 use Rattle.satip_history.proofs.Elements.{Each-append}
 use Rattle.satip_pids.specs.Pids.{has_pid}
@@ -20,7 +21,7 @@ use Rattle.satip_plain.specs.Steps.{is_current, picks, is_overrun, given, give, 
 use Rattle.satip_plain.specs.Readings.{Made, Readings, living, living_session, any_where, plays, is_accepted, frees, ends, keeps_alive, is_selected, pulled_by, read_one}
 use Rattle.satip_readings.specs.Agreement.{stream_told, tune_at}
 use Rattle.satip_readings.specs.Given.{gives_to}
-use Rattle.satip_readings.proofs.SameTests.{same_bool, none_true, is_false, not_true, id_is, id_same, either_false}
+use Rattle.satip_readings.proofs.SameTests.{same_bool, none_true, id_same, either_false}
 use Rattle.satip_readings.proofs.Finding.{either_way, find_has, any_has, any_no, has_any, filter_has, has_filter, has_left, has_right, has_parts}
 use Rattle.satip_readings.proofs.Agree.{Same, Apart, IsTold, IsQueue, Agrees, alike_map, alike_read, alike_has, alike_back, living_found, stream_here, stream_back}
 use Rattle.satip_readings.proofs.Quiet.{same_again}
@@ -124,7 +125,7 @@ gives_is_selected c st g front tune packet s a = same_bool _ (gives_to st (Packe
         let one = any_has (λ x. same_id x.id s && picks some.0 packet x) st.sessions some.2 in
         let is = and_parts (same_id one.0.id s) (picks some.0 packet one.0) one.2 in
         let m = alike_has g one.0 (living g) st.sessions a.loosely.sessions one.1 in
-        let same : m.0.id ≡ s = sym m.2.id ∙ id_is one.0.id s is.0 in
+        let same : m.0.id ≡ s = sym m.2.id ∙ same_id_is one.0.id s is.0 in
         let found : living_session g s ≡ Some m.0 = ap (living_session g) (sym same) ∙ living_found g a.loosely.told m.0 m.1 in
         ap (any_where (is_selected g (Packet front tune packet))) found ∙ sym (gives_selected c st g front tune packet a m.0 one.0 m.1 m.2)
         ∙ and_from (is_current st front tune) (list_any (λ t. picks t packet one.0) (served_by st front)) parts.0
@@ -214,7 +215,7 @@ got_once packet (t ∷ ts) s apart = by (picks t packet s) refl (got_once packet
         got_keeps (λ x. x.stream) packet s refl refl ∙ eqb-true s.stream t.number (and_parts (s.stream == t.number) s.playing parts.0).0
 
     other : picks t packet s ≡ true → (u : Stream) → Has u ts → picks u packet (got packet s) ≡ false
-    other e u h = is_false (picks u packet (got packet s)) (λ f.
+    other e u h = false_from_ne_true (picks u packet (got packet s)) (λ f.
         let parts = and_parts ((got packet s).stream == u.number && (got packet s).playing) (has_pid u.pids (pid_of packet)) f in
         let number : (got packet s).stream ≡ u.number =
         eqb-true (got packet s).stream u.number (and_parts ((got packet s).stream == u.number) (got packet s).playing parts.0).0 in
@@ -476,7 +477,7 @@ module _ (c : Config) (st : State) (g : Readings) (a : Agrees c st g) (front tun
           let passed = filter_has (λ x. picks flat.0 packet x && is_overrun x) st.sessions one.0 flat.2 in
           let parts = and_parts (picks flat.0 packet one.0) (is_overrun one.0) passed.1 in
           let n = alike_has g one.0 (living g) st.sessions a.loosely.sessions passed.0 in
-          let same : n.0 ≡ m = a.loosely.told.ids n.0 m n.1 h (sym n.2.id ∙ id_is one.0.id s.id one.2 ∙ e.id) in
+          let same : n.0 ≡ m = a.loosely.told.ids n.0 m n.1 h (sym n.2.id ∙ same_id_is one.0.id s.id one.2 ∙ e.id) in
           let http : one.0.http ≡ true = (and_parts one.0.http (length (held one.0) == most_queued) parts.1).0 in
           let sel : is_selected g ev n.0 ≡ true = sym (selected_is n.0 one.0 n.1 n.2) ∙ has_any (λ u. picks u packet one.0) served flat.0 flat.1 parts.0 in
           let n_http : n.0.http ≡ true = sym n.2.http ∙ http in
@@ -521,7 +522,7 @@ module _ (c : Config) (st : State) (g : Readings) (a : Agrees c st g) (front tun
           let there = filter_has (λ n. not (overruns n)) (living g) m
           (subst (Has m) (living_over (selected_read more_mid g) given_mid.loosely.told overruns) h) in
           let found = living_found g a.loosely.told m there.0 in
-          let stays : overruns m ≡ false = not_true (overruns m) there.1 in
+          let stays : overruns m ≡ false = not-true (overruns m) there.1 in
           ap (λ o. g.selected m.id ++ cond {A = List (List ℕ)} (any_where (is_selected g ev) o) (packet ∷ []) []) found
           ∙ ap (λ b. g.selected m.id ++ cond {A = List (List ℕ)} b (packet ∷ []) []) (and_true (is_selected g ev m) (not (overruns m)) there.1)
           ∙ sym (ap (λ o. g.selected m.id ++ cond {A = List (List ℕ)} (any_where (λ n. is_selected g ev n && not (overruns n)) o) (packet ∷ []) []) found)

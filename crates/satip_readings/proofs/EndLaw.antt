@@ -1,6 +1,8 @@
 -- The ending law.
 use Rattle.std.proofs.Common.{arith, ◌≡◌, ◌⊎◌, inl, inr, not, true, false, Some, ap, sym, ◌∙◌}
 use Rattle.std.specs.List.{list_any}
+use Rattle.std.proofs.lemmas.Bool.{not-true}
+use Rattle.satip_plain.proofs.SameIds.{same_id_is}
 use Rattle.satip_history.specs.Lists.{Has}
 use Rattle.satip_plain.specs.Types.{SessionId, Config}
 use Rattle.satip_plain.specs.State.{State, same_id}
@@ -9,7 +11,7 @@ use Rattle.satip_plain.specs.Histories.{Item, Fits}
 use Rattle.satip_plain.specs.Values.{IsEvent}
 use Rattle.satip_plain.specs.Readings.{Made, Readings, living, living_session, any_where, makes, ends, read_one, readings}
 use Rattle.satip_readings.specs.Ending.{lives_in, is_ended_by, EndsByItsCauses}
-use Rattle.satip_readings.proofs.SameTests.{same_bool, not_true, id_is}
+use Rattle.satip_readings.proofs.SameTests.{same_bool}
 use Rattle.satip_readings.proofs.Finding.{any_has, has_any}
 use Rattle.satip_readings.proofs.Agree.{Agrees, alike_any, living_found}
 use Rattle.satip_readings.proofs.Steps.{agrees_step}
@@ -36,15 +38,15 @@ ends_here c st g e s is fits a lives = sym (lives_read c (step c st e.event).sta
     stays m i (inr made) =
         let few = a.loosely.told.few one.0 one.1 in
         let new = makes_new g e m made in
-        let same : m.id.count ≡ one.0.id.count = ap (λ x. x.count) (i ∙ sym (id_is one.0.id s one.2)) in absurd (omega (arith, few, new, same))
+        let same : m.id.count ≡ one.0.id.count = ap (λ x. x.count) (i ∙ sym (same_id_is one.0.id s one.2)) in absurd (omega (arith, few, new, same))
 
     there : list_any (λ m. same_id m.id s) (living (read_one c g e)) ≡ true → not (is_ended_by c g e s) ≡ true
     there t = let r = any_has (λ m. same_id m.id s) (living (read_one c g e)) t in
-        stays r.0 (id_is r.0.id s r.2) (lived_before c g e a.loosely.told r.0 r.1)
+        stays r.0 (same_id_is r.0.id s r.2) (lived_before c g e a.loosely.told r.0 r.1)
 
     back : not (is_ended_by c g e s) ≡ true → list_any (λ m. same_id m.id s) (living (read_one c g e)) ≡ true
     back t = has_any (λ m. same_id m.id s) (living (read_one c g e)) one.0
-        (lives_on c g e a.loosely.told one.0 one.1 (sym (found one.0 one.1 (id_is one.0.id s one.2)) ∙ not_true (is_ended_by c g e s) t)) one.2
+        (lives_on c g e a.loosely.told one.0 one.1 (sym (found one.0 one.1 (same_id_is one.0.id s one.2)) ∙ not-true (is_ended_by c g e s) t)) one.2
 
 pub ends_by_its_causes : EndsByItsCauses
 ends_by_its_causes c h e s legal lives =

@@ -2,8 +2,9 @@
 use Rattle.std.proofs.Common.{arith, ◌≡◌, ◌⊎◌, inl, inr, suc, ◌≤◌, ◌&&◌, ◌||◌, Bool, true, false, cond, List, [], ◌∷◌, ◌++◌, map, filter, find, length, Option, Some, None, is_some, refl, ap, sym, ◌∙◌}
 use Rattle.std.specs.List.{list_any}
 use Rattle.std.specs.Option.{option_map}
+use Rattle.std.proofs.lemmas.Bool.{false_from_ne_true}
 use Rattle.satip_history.specs.Lists.{Has}
-use Rattle.satip_readings.proofs.SameTests.{none_true, is_false}
+use Rattle.satip_readings.proofs.SameTests.{none_true}
 
 pub either_way : {A : Type 0} (o : A) (b : Bool) → o ≡ cond b o o
 either_way o true = refl
@@ -103,10 +104,10 @@ module _ {X : Type 0} where
       by false f = f
 
   pub any_no : (p : X → Bool) (xs : List X) (x : X) → list_any p xs ≡ false → Has x xs → p x ≡ false
-  any_no p xs x none h = is_false (p x) (λ e. none_true (list_any p xs) (has_any p xs x h e) none)
+  any_no p xs x none h = false_from_ne_true (p x) (λ e. none_true (list_any p xs) (has_any p xs x h e) none)
 
   pub no_any : (p : X → Bool) (xs : List X) → ((x : X) → Has x xs → p x ≡ true → ⊥) → list_any p xs ≡ false
-  no_any p xs never = is_false (list_any p xs) (λ e. let r = any_has p xs e in never r.0 r.1 r.2)
+  no_any p xs never = false_from_ne_true (list_any p xs) (λ e. let r = any_has p xs e in never r.0 r.1 r.2)
 
   pub any_agree : (p q : X → Bool) (xs : List X) → ((x : X) → Has x xs → p x ≡ q x) → list_any p xs ≡ list_any q xs
   any_agree p q [] same = refl

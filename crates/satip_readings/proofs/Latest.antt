@@ -1,6 +1,7 @@
 -- One more entry at the end of a legal history.
 use Rattle.std.proofs.Common.{◌≡◌, ◌⊎◌, inl, inr, ◌+◌, ◌&&◌, ◌||◌, not, Bool, true, false, cond, List, [], ◌∷◌, ◌++◌, length, unwrap_or, Option, Some, None, refl, ap, sym, ◌∙◌}
 use Rattle.std.specs.Option.{option_and_then, option_to_list}
+use Rattle.std.proofs.lemmas.Bool.{not-true}
 use Rattle.satip_history.specs.Lists.{Has, Each}
 use Rattle.satip_plain.specs.declared.setting.Setting.{Setting}
 use Rattle.satip_plain.specs.declared.events.Event.{Event}
@@ -12,7 +13,6 @@ use Rattle.satip_plain.specs.Steps.{step}
 use Rattle.satip_plain.specs.Values.{IsEvent}
 use Rattle.satip_plain.specs.Histories.{Item, Legal, LegalFrom, Fits, opening, after, after_from}
 use Rattle.satip_plain.specs.Readings.{Made, Readings, living, living_session, home_of_number, next_made, is_accepted, made_by, any_where, makes, ends, nothing_read, read_one, read_from, readings}
-use Rattle.satip_readings.proofs.SameTests.{not_true}
 use Rattle.satip_readings.proofs.Finding.{filter_has, has_filter, has_left, has_parts}
 use Rattle.satip_readings.proofs.Agree.{IsTold, Agrees, living_found}
 use Rattle.satip_readings.proofs.Law.{agrees_after}
@@ -67,7 +67,7 @@ lives_on c g e told m h stays =
     let there = filter_has (λ n. not (g.over n.id)) g.made m h in
     has_filter (λ n. not (g.over n.id || any_where (ends c g e) (living_session g n.id))) (g.made ++ option_to_list (makes g e)) m
     (has_left m g.made (option_to_list (makes g e)) there.0)
-    (by (g.over m.id) (not_true (g.over m.id) there.1) (ended_here c g e told m h ∙ stays))
+    (by (g.over m.id) (not-true (g.over m.id) there.1) (ended_here c g e told m h ∙ stays))
   where
     by : (b : Bool) → b ≡ false → any_where (ends c g e) (living_session g m.id) ≡ false → not (b || any_where (ends c g e) (living_session g m.id)) ≡ true
     by b f k = rw (f, k) refl

@@ -2,7 +2,8 @@
 use Rattle.std.proofs.Common.{◌≡◌, ℕ, ◌+◌, ◌*◌, ◌&&◌, not, Bool, true, false, cond, [], map, max, Option, Some, None, is_some, refl, ap, sym, subst, ◌∙◌}
 use Rattle.std.specs.Prelude.{nat_le}
 use Rattle.std.specs.Option.{option_and_then, option_map, option_map_or}
-use Rattle.std.proofs.lemmas.Bool.{and_parts, and_from}
+use Rattle.std.proofs.lemmas.Bool.{and_parts, and_from, not-true}
+use Rattle.satip_plain.proofs.SameIds.{same_id_is}
 use Rattle.satip_history.specs.Lists.{Has}
 use Rattle.satip_base.specs.Output.{Output}
 use Rattle.satip_plain.specs.Types.{SessionId, Config}
@@ -12,7 +13,7 @@ use Rattle.satip_plain.specs.State.{Session, Row, State, same_id, row_of, http_s
 use Rattle.satip_plain.specs.Sending.{each_of, let_go}
 use Rattle.satip_plain.specs.Steps.{tick, capped, is_expired}
 use Rattle.satip_plain.specs.Readings.{Made, Readings, living, living_session, any_where, is_accepted, frees, ends, keeps_alive, is_selected, pulled_by, read_one, living_http}
-use Rattle.satip_readings.proofs.SameTests.{same_bool, not_true, id_is, id_same, id_turned}
+use Rattle.satip_readings.proofs.SameTests.{same_bool, id_same, id_turned}
 use Rattle.satip_readings.proofs.Finding.{either_way, find_has, find_fails}
 use Rattle.satip_readings.proofs.Agree.{Same, IsTold, Agrees, Matched, serves, alike_find, alike_read}
 use Rattle.satip_readings.proofs.Quiet.{same_again, agrees_flush, agrees_reports}
@@ -77,7 +78,7 @@ agrees_tick c st g caller now answer out a = subst (Agrees c (tick c now st).sta
     (agrees_reports c _ _ (agrees_ended c flushed (record g { clock = later_read }) (λ m. nat_le (g.heard m.id + c.timeout * 1000) later_read)
     (is_expired c later)
     (λ m s h e. ap (λ n. nat_le (n + c.timeout * 1000) later_read) (sym e.heard) ∙ ap (nat_le (s.heard + c.timeout * 1000)) (sym clocks))
-    (agrees_flush c (record st { clock = later }) (record g { clock = later_read }) (λ s. not s.http) true later (λ x e. not_true x.http e)
+    (agrees_flush c (record st { clock = later }) (record g { clock = later_read }) (λ s. not s.http) true later (λ x e. not-true x.http e)
     (agrees_clock c st g later later_read clocks a))))
   where
     later : ℕ
@@ -166,7 +167,7 @@ http_none g id none m h = by m.http (same_id id m.id)
 pub http_some : (g : Readings) (told : IsTold g) (id : SessionId) (m : Made) → living_http g id ≡ Some m → Has m (living g) × (m.id ≡ id) × (m.http ≡ true)
 http_some g told id m e =
     let there = find_has (λ n. same_id n.id id && n.http) (living g) m e in
-    let parts = and_parts (same_id m.id id) m.http there.1 in (there.0, id_is m.id id parts.0, parts.1)
+    let parts = and_parts (same_id m.id id) m.http there.1 in (there.0, same_id_is m.id id parts.0, parts.1)
 
 -- the named one is the only one of its id
 pub http_only : (g : Readings) (told : IsTold g) (id : SessionId) (m : Made) (other : SessionId) → living_http g id ≡ Some m → other ≡ m.id
@@ -174,8 +175,8 @@ pub http_only : (g : Readings) (told : IsTold g) (id : SessionId) (m : Made) (ot
 http_only g told id m other e is n s h same =
     let found = http_some g told id m e in
     same_bool (is_this_http id n) (same_id s.id other)
-    (λ f. let parts = and_parts n.http (same_id id n.id) f in id_same s.id other (same.id ∙ sym (id_is id n.id parts.1) ∙ sym found.1 ∙ sym is))
-    (λ f. let ids : n.id ≡ m.id = sym same.id ∙ id_is s.id other f ∙ is in
+    (λ f. let parts = and_parts n.http (same_id id n.id) f in id_same s.id other (same.id ∙ sym (same_id_is id n.id parts.1) ∙ sym found.1 ∙ sym is))
+    (λ f. let ids : n.id ≡ m.id = sym same.id ∙ same_id_is s.id other f ∙ is in
     let one : n ≡ m = told.ids n m h found.0 ids in
     and_from n.http (same_id id n.id) (ap (λ x. x.http) one ∙ found.2) (id_same id n.id (sym found.1 ∙ sym ids)))
 

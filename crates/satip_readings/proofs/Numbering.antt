@@ -2,14 +2,14 @@
 use Rattle.std.proofs.Common.{arith, ◌≡◌, ◌⊎◌, inl, inr, ℕ, zero, suc, ◌+◌, ◌<◌, ◌≤◌, ◌==◌, ◌&&◌, ◌||◌, not, Bool, true, false, cond, List, [], ◌∷◌, ◌++◌, filter, find, length, Option, Some, None, is_some, is_none, refl, ap, sym, ◌∙◌, unwrap_or, length-append}
 use Rattle.std.specs.List.{list_any, range_with_len}
 use Rattle.std.specs.Prelude.{nat_le}
-use Rattle.std.proofs.lemmas.Bool.{eqb-true, eq-eqb}
+use Rattle.std.proofs.lemmas.Bool.{eqb-true, eq-eqb, not-true}
 use Rattle.satip_history.specs.Lists.{Has}
 use Rattle.satip_plain.specs.Types.{Config}
 use Rattle.satip_plain.specs.State.{Stream, State}
 use Rattle.satip_plain.specs.Steps.{least_free, put_stream}
 use Rattle.satip_plain.specs.Readings.{Readings, home_of_number, number_free}
 use Rattle.satip_readings.specs.Agreement.{stream_told}
-use Rattle.satip_readings.proofs.SameTests.{none_true, not_true}
+use Rattle.satip_readings.proofs.SameTests.{none_true}
 use Rattle.satip_readings.proofs.Finding.{find_has, find_fails, find_is_any, find_only, find_no, find_agree, any_agree, any_filter, any_append, any_no, no_any, filter_has, has_filter, length_filter, has_parts, has_left, has_right}
 use Rattle.satip_readings.proofs.Agree.{Agrees, Apart}
 use Rattle.satip_readings.proofs.Sweeping.{is_some_map, apart_filter}
@@ -83,7 +83,7 @@ least_is_new ts =
     let r = free_some (length ts + 1) 1 ts (omega arith) in
     let e : least_free ts ≡ r.0 = ap (λ o. unwrap_or o 0) r.1 in
     let there = find_has (is_free ts) (range_with_len 1 (length ts + 1)) r.0 r.1 in
-    rw e (record { free = not_true (list_any (λ t. t.number == r.0) ts) there.1; positive = range_has r.0 1 (length ts + 1) there.0 })
+    rw e (record { free = not-true (list_any (λ t. t.number == r.0) ts) there.1; positive = range_has r.0 1 (length ts + 1) there.0 })
 
 -- it is the number that is read
 pub number_is_free : (c : Config) (st : State) (g : Readings) → Agrees c st g → number_free g ≡ least_free st.streams
@@ -166,7 +166,7 @@ module _ (new : Stream) (ts : List Stream) (once : (t u : Stream) → Has t ts �
           other : (u : Stream) → Has u (new ∷ above) → u.number ≡ t.number → ⊥
           other u (inl same) e = not_new t p.0 (sym e ∙ ap (λ x. x.number) same)
           other u (inr h) e = none_true (below t) p.1 (sym (ap (λ n. nat_le n new.number) e)
-              ∙ not_true (below u) (filter_has (λ u. not (nat_le u.number new.number)) ts u h).1)
+              ∙ not-true (below u) (filter_has (λ u. not (nat_le u.number new.number)) ts u h).1)
 
       back : Apart (new ∷ above)
       back = (

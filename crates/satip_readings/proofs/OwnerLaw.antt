@@ -2,6 +2,8 @@
 use Rattle.std.proofs.Common.{arith, ◌≡◌, ◌⊎◌, inl, inr, ℕ, ◌+◌, ◌≤◌, ◌&&◌, ◌||◌, not, Bool, true, false, cond, List, length, unwrap_or, Option, Some, None, is_some, is_none, refl, ap, sym, subst, ◌∙◌}
 use Rattle.std.specs.Option.{option_map, option_and_then, option_map_or}
 use Rattle.std.proofs.lemmas.Bool.{and_from}
+use Rattle.std.proofs.lemmas.Option.{same_Some}
+use Rattle.satip_plain.proofs.SameIds.{same_id_is}
 use Rattle.satip_history.specs.Lists.{Has}
 use Rattle.satip_base.specs.Output.{Output}
 use Rattle.satip_pids.specs.Pids.{Pids, Unsaid, apply}
@@ -26,7 +28,7 @@ use Rattle.satip_plain.specs.Histories.{Item, Fits}
 use Rattle.satip_plain.specs.Readings.{Made, Readings, Asking, living, owner, home_of_number, next_made, any_where, is_accepted, made_by, session_in, query_in, asking, named_in, names, put, with_tuning, with_asked, read_one, readings}
 use Rattle.satip_readings.specs.Agreement.{stream_told}
 use Rattle.satip_readings.specs.Ownership.{asks_in, is_asked_by_owner, StaysAs, OnlyOwnerChanges}
-use Rattle.satip_readings.proofs.SameTests.{none_true, id_is, id_same, given_same, none_some, double_not}
+use Rattle.satip_readings.proofs.SameTests.{none_true, id_same, none_some, double_not}
 use Rattle.satip_readings.proofs.Finding.{either_way, find_has, any_no, no_any}
 use Rattle.satip_readings.proofs.Agree.{Same, IsTold, Agrees, Matched, home_found}
 use Rattle.satip_readings.proofs.Adding.{making}
@@ -107,7 +109,7 @@ asked_stays c g e home (Some a) is none = by (same_id a.home home) refl
 
     by : (b : Bool) → same_id a.home home ≡ b → StaysAs g (read_one c g e) home
     by true f =
-        let same : a.home ≡ home = id_is a.home home f in
+        let same : a.home ≡ home = same_id_is a.home home f in
         let no_key : gives_key a.query ≡ false = none a refl same in
         record {
           tuned = ap (λ o. with_tuning g o home) is ∙ tuned_by true f (to_set (g.tuned a.home) a.query.change)
@@ -129,7 +131,7 @@ lives_made g told home lives = by (owner g home) refl lives
     by (Some m) f e =
         let there = find_has (λ x. same_id x.home home) (living g) m f in
         let few = told.homes m there.0 in
-        let same : m.home.count ≡ home.count = ap (λ x. x.count) (id_is m.home home there.1) in omega (arith, few, same)
+        let same : m.home.count ≡ home.count = ap (λ x. x.count) (same_id_is m.home home there.1) in omega (arith, few, same)
 
 abbrev Either : Config → Readings → Item → SessionId → Type 0
 Either c g e home = (is_asked_by_owner g e home ≡ true) ⊎ StaysAs g (read_one c g e) home
@@ -153,7 +155,7 @@ module _ (c : Config) (st : State) (g : Readings) (a : Agrees c st g) (caller : 
           → (w : Made) × (owner g m.home ≡ Some w) × (w.id ≡ m.id)
       told o None f i k = cc
       told None (Some x) f i k = cc
-      told (Some w) (Some x) f i k = (w, f, sym (given_same x.id w.id i) ∙ id_is x.id s.id k ∙ same.id)
+      told (Some w) (Some x) f i k = (w, f, sym (same_Some x.id w.id i) ∙ same_id_is x.id s.id k ∙ same.id)
 
       by : (q : Option Session) → owner_of st (g.number m.home) ≡ q → option_map_or (λ y. same_id y.id s.id) q false ≡ true
           → (w : Made) × (owner g m.home ≡ Some w) × (w.id ≡ m.id)
@@ -182,7 +184,7 @@ module _ (c : Config) (st : State) (g : Readings) (a : Agrees c st g) (caller : 
             f) in_session
 
         made : is_setup r.method ≡ true → m.home ≡ home_made c st g a caller peer draw r answer out
-        made setup = ap (λ x. x.home) (sym (given_same (making g false (home_made c st g a caller peer draw r answer out) draw) m
+        made setup = ap (λ x. x.home) (sym (same_Some (making g false (home_made c st g a caller peer draw r answer out) draw) m
             (sym (ap (λ b. cond b (made_by g (Asked peer draw r)) (named_in g r.session)) none
             ∙ ap (λ b. cond {A = Option Made} (b && names_none r.session) (Some (making g false (home_made c st g a caller peer draw r answer out) draw)) None)
             setup
@@ -276,7 +278,7 @@ module _ (c : Config) (st : State) (g : Readings) (a : Agrees c st g) (caller : 
               → ((m : Made) → o ≡ Some m → m.home ≡ home → gives_key r.query ≡ false) → gives_key x.query ≡ false
           by None x k i f = cc
           by (Some m) x k i f =
-              let same = given_same (record { home = m.home; query = r.query }) x k in
+              let same = same_Some (record { home = m.home; query = r.query }) x k in
               ap (λ y. gives_key y.query) (sym same) ∙ f m refl (ap (λ y. y.home) same ∙ i)
 
       with_key : (acc : is_accepted answer ≡ true) (p : Passes c st r) → changes r.method ≡ true → (o : Option Made) → session_in g (Asked peer draw r) ≡ o
@@ -287,9 +289,9 @@ module _ (c : Config) (st : State) (g : Readings) (a : Agrees c st g) (caller : 
       with_key acc p change (Some m) is true key = by (same_id m.home home) refl
         where
           by : (b : Bool) → same_id m.home home ≡ b → (is_asked_by_owner g entry home ≡ true) ⊎ StaysAs g (read_one c g entry) home
-          by true f = inl (asked_by_owner acc p change m is (id_is m.home home f) key)
+          by true f = inl (asked_by_owner acc p change m is (same_id_is m.home home f) key)
           by false f = inr (stays change acc (Some m) is
-              (λ n k i. none_true (same_id m.home home) (id_same m.home home (ap (λ x. x.home) (given_same m n k) ∙ i)) f))
+              (λ n k i. none_true (same_id m.home home) (id_same m.home home (ap (λ x. x.home) (same_Some m n k) ∙ i)) f))
 
       change_by : (acc : is_accepted answer ≡ true) → Passes c st r → (b : Bool) → changes r.method ≡ b
           → (is_asked_by_owner g entry home ≡ true) ⊎ StaysAs g (read_one c g entry) home
@@ -319,7 +321,7 @@ get_changes c st g a caller peer draw r answer out home lives = by (is_accepted 
     by true acc = asked_stays c g (item caller (Got peer draw r) answer out) home (Some (record { home = next_made g draw.word; query = r.query }))
         (ap (λ b. cond b (Some (record { home = next_made g draw.word; query = r.query })) None) acc)
         (λ x k i. let few = lives_made g a.loosely.told home lives in
-        let same : record { home = next_made g draw.word; query = r.query } ≡ x = given_same (record { home = next_made g draw.word; query = r.query }) x k in
+        let same : record { home = next_made g draw.word; query = r.query } ≡ x = same_Some (record { home = next_made g draw.word; query = r.query }) x k in
         let count : length g.made + 1 ≡ home.count = ap (λ y. y.count) (ap (λ y. y.home) same ∙ i) in absurd (omega (arith, few, count)))
     by false acc = asked_stays c g (item caller (Got peer draw r) answer out) home None
         (ap (λ b. cond b (Some (record { home = next_made g draw.word; query = r.query })) None) acc) (λ x k. cc)

@@ -3,6 +3,7 @@ use Rattle.std.proofs.Common.{arith, ◌≡◌, ◌⊎◌, inl, inr, ℕ, ◌+�
 use Rattle.std.specs.Option.{option_map_or}
 use Rattle.std.proofs.lemmas.List.{take-append-drop}
 use Rattle.std.proofs.lemmas.Bool.{eq-eqb, and_from}
+use Rattle.satip_plain.proofs.SameIds.{same_id_is}
 use Rattle.satip_history.specs.Lists.{Has, Each, Begins}
 use Rattle.satip_base.specs.Output.{Output}
 use Rattle.satip_plain.specs.declared.answers.Answer.{Answer}
@@ -18,7 +19,7 @@ use Rattle.satip_plain.specs.Values.{IsEvent}
 use Rattle.satip_plain.specs.Histories.{Item, LegalFrom, Fits, opening}
 use Rattle.satip_plain.specs.Readings.{Made, Readings, living, living_session, living_http, any_where, makes, ends, is_selected, packet_in, pulled_by, nothing_read, read_one, read_from}
 use Rattle.satip_readings.specs.Pulling.{PullsInOrder}
-use Rattle.satip_readings.proofs.SameTests.{none_true, id_is}
+use Rattle.satip_readings.proofs.SameTests.{none_true}
 use Rattle.satip_readings.proofs.Finding.{either_way}
 use Rattle.satip_readings.proofs.Agree.{Agrees, Matched, alike_back, living_found}
 use Rattle.satip_readings.proofs.Sweeping.{living_none}
@@ -97,7 +98,7 @@ module _ (c : Config) (st : State) (g : Readings) (a : Agrees c st g) (e : Item)
       pulled id f m there true k =
           let found = http_some g a.loosely.told id m there in
           let lives : Has m (living (read_one c g e)) = lives_on c g e a.loosely.told m found.0 (rw f refl) in
-          subst (λ x. Begins ((read_one c g e).pulled x) ((read_one c g e).selected x)) (found.1 ∙ id_is id s k)
+          subst (λ x. Begins ((read_one c g e).pulled x) ((read_one c g e).selected x)) (found.1 ∙ same_id_is id s k)
           (begins_living c (step c st e.event).state (read_one c g e) later m lives found.2)
       pulled id f m there false k = begins_on c g e s (not_it e.answer refl) (order.begins s)
         where

@@ -2,10 +2,11 @@
 use Rattle.std.proofs.Common.{arith, ◌≡◌, ℕ, zero, suc, ◌+◌, ◌<◌, ◌≤◌, ◌&&◌, Bool, true, false, cond, List, [], ◌∷◌, ◌++◌, map, length, sum, take, drop, Option, Some, None, refl, ap, sym, subst, ◌∙◌, append-nil, length-append}
 use Rattle.std.specs.List.{concat}
 use Rattle.std.specs.Option.{option_map_or}
-use Rattle.std.proofs.lemmas.Bool.{and_parts}
+use Rattle.std.proofs.lemmas.Bool.{and_parts, false_from_ne_true}
 use Rattle.std.proofs.lemmas.List.{take_at, take_min, length-take}
 use Rattle.std.proofs.lemmas.List.Sums.{sum_by-append}
 use Rattle.std.proofs.Math.Seq.{take-add, drop-append_seam}
+use Rattle.satip_plain.proofs.SameIds.{same_id_is}
 use Rattle.satip_history.specs.Lists.{Has, Each}
 use Rattle.satip_base.specs.Output.{Output}
 use Rattle.satip_plain.specs.Types.{SessionId, Config}
@@ -18,7 +19,7 @@ use Rattle.satip_plain.specs.Sending.{settle}
 use Rattle.satip_plain.specs.Steps.{outcome, on_pull, pull_some, most_pulled, is_session, hear}
 use Rattle.satip_plain.specs.Histories.{Item, Fits}
 use Rattle.satip_plain.specs.Readings.{Made, Readings, living, living_session, living_http, any_where, is_accepted, frees, ends, keeps_alive, is_selected, pulled_by, packets_of, read_one}
-use Rattle.satip_readings.proofs.SameTests.{none_true, is_false, id_is, id_other, either_false}
+use Rattle.satip_readings.proofs.SameTests.{none_true, id_other, either_false}
 use Rattle.satip_readings.proofs.Finding.{either_way}
 use Rattle.satip_readings.proofs.Agree.{Same, Agrees, Matched, alike_map, living_found}
 use Rattle.satip_readings.proofs.Quiet.{same_again, heard_read, agrees_heard}
@@ -216,15 +217,15 @@ module _ (c : Config) (st : State) (g : Readings) (a : Agrees c st g) (caller : 
           rw (id_other id x (λ i. let same : m.id.count ≡ x.count = ap (λ y. y.count) (found.1 ∙ i) in omega arith)) refl
 
       others : (x : Made) → Has x (living g) → is_this_http id x ≡ false → more x.id ≡ []
-      others x h i = rw (is_false (same_id id x.id) (λ j.
-          let one : x ≡ m = a.loosely.told.ids x m h found.0 (sym (id_is id x.id j) ∙ sym found.1) in
+      others x h i = rw (false_from_ne_true (same_id id x.id) (λ j.
+          let one : x ≡ m = a.loosely.told.ids x m h found.0 (sym (same_id_is id x.id j) ∙ sym found.1) in
           none_true (x.http && same_id id x.id) (rw (ap (λ y. y.http) one ∙ found.2, j) refl) i)) refl
 
       taken : (x : Made) (t : Session) → Has x (living g) → Same g x t → is_this_http id x ≡ true
           → (t.http ≡ true) × (length (more x.id) ≡ length packets) × (take (length (g.pulled x.id) + length packets) t.picked ≡ g.pulled x.id ++ more x.id)
       taken x t h k i =
           let parts = and_parts x.http (same_id id x.id) i in
-          let one : x ≡ m = a.loosely.told.ids x m h found.0 (sym (id_is id x.id parts.1) ∙ sym found.1) in
+          let one : x ≡ m = a.loosely.told.ids x m h found.0 (sym (same_id_is id x.id parts.1) ∙ sym found.1) in
           let http : t.http ≡ true = k.http ∙ parts.0 in
           let q = same.queue (same.http ∙ found.2) in
           let mine = k.queue http in

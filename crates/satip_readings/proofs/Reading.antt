@@ -1,6 +1,7 @@
 -- The readings after one more entry, in parts.
 use Rattle.std.proofs.Common.{◌≡◌, ℕ, ◌+◌, ◌%◌, ◌^◌, ◌&&◌, ◌||◌, not, Bool, true, false, cond, List, [], ◌++◌, Option, Some, None, refl, ap, sym, ◌∙◌, append-nil}
 use Rattle.std.specs.Option.{option_and_then, option_to_list}
+use Rattle.satip_plain.proofs.SameIds.{same_id_is}
 use Rattle.satip_history.specs.Lists.{Has}
 use Rattle.satip_base.specs.Output.{Output}
 use Rattle.satip_plain.specs.Types.{SessionId, Config}
@@ -9,7 +10,6 @@ use Rattle.satip_plain.specs.declared.events.Event.{Event}
 use Rattle.satip_plain.specs.State.{same_id}
 use Rattle.satip_plain.specs.Histories.{Item}
 use Rattle.satip_plain.specs.Readings.{Made, Readings, Asking, living, living_session, any_where, makes, asking, placing_of, with_tuning, with_place, with_asked, tunes_front, mux_in, numbered, clock_after, ends, keeps_alive, starts_playing, is_selected, packet_in, pulled_by, frees, read_one}
-use Rattle.satip_readings.proofs.SameTests.{id_is}
 use Rattle.satip_readings.proofs.Finding.{either_way, find_has}
 use Rattle.satip_readings.proofs.Alter.{same_readings}
 
@@ -59,7 +59,7 @@ where_agree p q None f = refl
 where_agree p q (Some m) f = f m refl
 
 pub found_living : (g : Readings) (s : SessionId) (m : Made) → living_session g s ≡ Some m → Has m (living g) × (m.id ≡ s)
-found_living g s m e = let there = find_has (λ n. same_id n.id s) (living g) m e in (there.0, id_is m.id s there.1)
+found_living g s m e = let there = find_has (λ n. same_id n.id s) (living g) m e in (there.0, same_id_is m.id s there.1)
 
 pub or_never : (a b d : Bool) → d ≡ false → (a || (b && d)) ≡ a
 or_never a b d e = rw e (by a b)

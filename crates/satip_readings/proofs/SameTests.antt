@@ -1,6 +1,8 @@
 -- Tests that have the same answer, and ids.
 use Rattle.std.proofs.Common.{◌&&◌, ◌≡◌, ℕ, ◌==◌, not, Bool, true, false, Option, Some, None, refl, ap, sym, ◌∙◌}
-use Rattle.std.proofs.lemmas.Bool.{and_parts, and_from, eqb-true, eq-eqb}
+use Rattle.std.proofs.lemmas.Bool.{and_parts, and_from, eqb-true, eq-eqb, false_from_ne_true, not-true}
+use Rattle.std.proofs.lemmas.Option.{same_Some}
+use Rattle.satip_plain.proofs.SameIds.{same_id_is}
 use Rattle.satip_plain.specs.Types.{SessionId}
 use Rattle.satip_plain.specs.State.{same_id}
 
@@ -12,14 +14,6 @@ same_bool false false f g = refl
 pub none_true : {A : Type 0} → (b : Bool) → b ≡ true → b ≡ false → A
 none_true true e f = absurd (cc)
 none_true false e f = absurd (cc)
-
-pub is_false : (b : Bool) → (b ≡ true → ⊥) → b ≡ false
-is_false true f = absurd (f refl)
-is_false false f = refl
-
-pub not_true : (b : Bool) → not b ≡ true → b ≡ false
-not_true true e = cc
-not_true false e = refl
 
 pub not_false : (b : Bool) → b ≡ false → not b ≡ true
 not_false b e = rw e refl
@@ -40,20 +34,10 @@ pub double_not : (b : Bool) → not b ≡ false → b ≡ true
 double_not true e = refl
 double_not false e = cc
 
-pub given_same : {X : Type 0} (x y : X) → Some x ≡ Some y → x ≡ y
-given_same x y e = cc
-
 pub none_some : {X A : Type 0} (o : Option X) (x : X) → o ≡ None → o ≡ Some x → A
 none_some o x e f = absurd (cc)
 
 -- ids
-
-pub id_is : (a b : SessionId) → same_id a b ≡ true → a ≡ b
-id_is a b e =
-    let parts = and_parts (a.count == b.count) (a.word == b.word) e in
-    let with_count : ℕ → SessionId = λ n. record { count = n; word = a.word } in
-    let with_word : ℕ → SessionId = λ n. record { count = b.count; word = n } in
-    ap with_count (eqb-true a.count b.count parts.0) ∙ ap with_word (eqb-true a.word b.word parts.1)
 
 pub id_same : (a b : SessionId) → a ≡ b → same_id a b ≡ true
 id_same a b e = and_from (a.count == b.count) (a.word == b.word) (eq-eqb a.count b.count (ap (λ i. i.count) e)) (eq-eqb a.word b.word (ap (λ i. i.word) e))
@@ -62,7 +46,7 @@ pub id_itself : (a : SessionId) → same_id a a ≡ true
 id_itself a = id_same a a refl
 
 pub id_turned : (a b : SessionId) → same_id a b ≡ same_id b a
-id_turned a b = same_bool (same_id a b) (same_id b a) (λ e. id_same b a (sym (id_is a b e))) (λ e. id_same a b (sym (id_is b a e)))
+id_turned a b = same_bool (same_id a b) (same_id b a) (λ e. id_same b a (sym (same_id_is a b e))) (λ e. id_same a b (sym (same_id_is b a e)))
 
 pub id_other : (a b : SessionId) → (a ≡ b → ⊥) → same_id a b ≡ false
-id_other a b f = is_false (same_id a b) (λ e. f (id_is a b e))
+id_other a b f = false_from_ne_true (same_id a b) (λ e. f (same_id_is a b e))

@@ -3,6 +3,7 @@ use Rattle.std.proofs.Common.{arith, ◌≡◌, ℕ, ◌<◌, ◌==◌, ◌&&◌
 use Rattle.std.specs.List.{list_any}
 use Rattle.std.specs.Option.{option_map, option_map_or}
 use Rattle.std.proofs.lemmas.Bool.{eqb-true}
+use Rattle.satip_plain.proofs.SameIds.{same_id_is}
 use Rattle.satip_history.specs.Lists.{Has}
 use Rattle.satip_plain.specs.Types.{SessionId, Config}
 use Rattle.satip_plain.specs.State.{Session, Stream, Row, State, same_id, is_at, stream_of, row_of}
@@ -10,7 +11,7 @@ use Rattle.satip_plain.specs.Streams.{sweep, freed}
 use Rattle.satip_plain.specs.Steps.{part, end_where}
 use Rattle.satip_plain.specs.Readings.{Made, Readings, living, living_session, home_of_number, any_where, frees}
 use Rattle.satip_readings.specs.Agreement.{stream_told, tune_at, mux_at}
-use Rattle.satip_readings.proofs.SameTests.{none_true, id_is}
+use Rattle.satip_readings.proofs.SameTests.{none_true}
 use Rattle.satip_readings.proofs.Finding.{either_way, find_has, find_is_any, find_agree, find_filter, find_map, find_no, any_no, no_any, any_map, any_agree, filter_has, filter_agree, filter_twice, length_filter}
 use Rattle.satip_readings.proofs.Alter.{same_readings}
 use Rattle.satip_readings.proofs.Agree.{Same, Alike, Apart, IsTold, IsKept, Loosely, Agrees, Turned, alike_any, alike_read, alike_turn, living_found, any_stream, here, serves}
@@ -205,7 +206,7 @@ living_over g told p =
 -- an id that isn't made isn't that of a living session
 pub living_none : (g : Readings) → IsTold g → (s : SessionId) → length g.made < s.count → living_session g s ≡ None
 living_none g told s above = find_no (λ n. same_id n.id s) (living g)
-    (λ n h e. let few = told.few n h in let same : n.id.count ≡ s.count = ap (λ x. x.count) (id_is n.id s e) in omega arith)
+    (λ n h e. let few = told.few n h in let same : n.id.count ≡ s.count = ap (λ x. x.count) (same_id_is n.id s e) in omega arith)
 
 told_over : (g : Readings) → IsTold g → (p : Made → Bool) → IsTold (over_part p g)
 told_over g told p = record {

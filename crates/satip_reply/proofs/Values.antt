@@ -11,6 +11,7 @@ use Rattle.std.proofs.lemmas.List.Folds.{list_all-append}
 use Rattle.std.proofs.lemmas.List.Sums.{AllPass-from_list_all}
 use Rattle.std.proofs.lemmas.Slice.Eq.{bytes_eq-Decides}
 use Rattle.std.proofs.lemmas.Str.Parse.{digits_value-take-le}
+use Rattle.std.proofs.lemmas.Bool.{false_from_ne_true, and_parts}
 use Rattle.httparse.specs.Grammar.{AllPass, is_ows, skip_ows, trim_ows, Field, field_value}
 use Rattle.httparse.specs.Spans.{name_and_value}
 use Rattle.httparse.proofs.TrimLemmas.{AllPass-reverse}
@@ -92,17 +93,13 @@ length-with fs f named o =
     subst IsLength (sym (lengths-append fs (f ∷ []) ∙ ap (λ vs. vs ++ lengths (f ∷ [])) o.none ∙ lengths-one f true named))
     (record { body = o.number; is = o.is; short = o.short })
 
-false_unless : (b : Bool) → (b ≡ true → ⊥) → b ≡ false
-false_unless true h = absurd (h refl)
-false_unless false h = refl
-
 -- a name that is one byte longer is another name
 pub longer-name : (name : List ℕ) (b : ℕ) → str_eq_ignore_ascii_case name length_name ≡ true
     → str_eq_ignore_ascii_case (name ++ b ∷ []) length_name ≡ false
 longer-name name b e =
     let same = (bytes_eq-Decides (str_to_ascii_lowercase name) (str_to_ascii_lowercase length_name)).0 e in
     let size : length name ≡ 14 = sym (length-map name to_ascii_lowercase) ∙ ap length same in
-    false_unless (str_eq_ignore_ascii_case (name ++ b ∷ []) length_name) (λ t.
+    false_from_ne_true (str_eq_ignore_ascii_case (name ++ b ∷ []) length_name) (λ t.
     let other = (bytes_eq-Decides (str_to_ascii_lowercase (name ++ b ∷ [])) (str_to_ascii_lowercase length_name)).0 t in
     omega (arith, ap length other, length-map (name ++ b ∷ []) to_ascii_lowercase, length-append name (b ∷ []), size))
 
@@ -114,11 +111,6 @@ pub record AreDigits (bytes : List ℕ) : Type 0 where
   pub all : list_all is_ascii_digit bytes ≡ true
   pub fits : digits_value 10 bytes ≤ most
 
-both : (a b : Bool) → (a && b) ≡ true → (a ≡ true) × (b ≡ true)
-both true true e = (refl, refl)
-both true false e = absurd (cc)
-both false b e = absurd (cc)
-
 number-if : (b : Bool) (n m : ℕ) → (if b then Some n else None) ≡ Some m → (b ≡ true) × (n ≡ m)
 number-if true n m e = (refl, cc)
 number-if false n m e = absurd (cc)
@@ -127,9 +119,9 @@ pub number-digits : (bytes : List ℕ) (n : ℕ) → number_of most bytes ≡ So
 unfolding number_of
 number-digits bytes n e =
     let t = number-if (are_digits 20 bytes && nat_le (digits_value 10 bytes) most) (digits_value 10 bytes) n e in
-    let all = both (are_digits 20 bytes) (nat_le (digits_value 10 bytes) most) t.0 in
-    let front = both (nat_le 1 (length bytes) && nat_le (length bytes) 20) (list_all is_ascii_digit bytes) all.0 in
-    let sizes = both (nat_le 1 (length bytes)) (nat_le (length bytes) 20) front.0 in
+    let all = and_parts (are_digits 20 bytes) (nat_le (digits_value 10 bytes) most) t.0 in
+    let front = and_parts (nat_le 1 (length bytes) && nat_le (length bytes) 20) (list_all is_ascii_digit bytes) all.0 in
+    let sizes = and_parts (nat_le 1 (length bytes)) (nat_le (length bytes) 20) front.0 in
     let some = sizes.0 in
     let few = sizes.1 in
     let fits = all.1 in
@@ -151,7 +143,7 @@ digits-front xs ys some d =
     record {
       some = some;
       few = omega (arith, d.few, length-append xs ys);
-      all = (both (list_all is_ascii_digit xs) (list_all is_ascii_digit ys) (sym (list_all-append is_ascii_digit xs ys) ∙ d.all)).0;
+      all = (and_parts (list_all is_ascii_digit xs) (list_all is_ascii_digit ys) (sym (list_all-append is_ascii_digit xs ys) ∙ d.all)).0;
       fits = omega (arith, less, d.fits);
     }
 

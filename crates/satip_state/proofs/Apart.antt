@@ -4,6 +4,8 @@ use Rattle.std.proofs.Common.{arith}
 use Rattle.std.specs.List.{list_any, slice_get}
 use Rattle.std.proofs.lemmas.Bool.{or_from, and_left, and_parts, ne_eqb, eq-eqb, eqb-true, and_from}
 use Rattle.std.proofs.lemmas.Bool.Decides.{nat_tests}
+use Rattle.std.proofs.lemmas.Option.{same_Some}
+use Rattle.satip_plain.proofs.SameIds.{same_id_is}
 use Rattle.satip_base.specs.declared.identity.SessionId.{SessionId}
 use Rattle.satip_table.specs.declared.session.Seat.{Seat}
 use Rattle.satip_table.specs.declared.session.Session.{Session as Row}
@@ -12,7 +14,7 @@ use Rattle.satip_table.specs.Living.{CountsRise, SlotsApart}
 use Rattle.satip_plain.specs.State.{Session, same_id}
 use Rattle.satip_plain.specs.Steps.{is_session}
 use Rattle.satip_state.specs.Seated.{Seated, seat_of, row_of, is_seat}
-use Rattle.satip_state.proofs.Picking.{some_same, any_get, any-map}
+use Rattle.satip_state.proofs.Picking.{any_get, any-map}
 
 abbrev pub has_session : SessionId → Seated → Bool
 has_session id x = is_session id x.session
@@ -35,12 +37,6 @@ pub id_turned : (a b : SessionId) → same_id a b ≡ same_id b a
 id_turned a b = ap (λ t. t && (a.word == b.word)) (eq_turned_round a.count b.count) ∙ ap (λ t. (b.count == a.count) && t) (eq_turned_round a.word b.word)
 
 -- ids that are found the same are the same
-pub same_id_is : (a b : SessionId) → same_id a b ≡ true → a ≡ b
-same_id_is a b e =
-    let parts = and_parts (a.count == b.count) (a.word == b.word) e in
-    let make : ℕ → ℕ → SessionId = λ count word. record { count = count; word = word } in
-    ap (λ n. make n a.word) (eqb-true a.count b.count parts.0) ∙ ap (make b.count) (eqb-true a.word b.word parts.1)
-
 -- no later session has the slot or the id of an earlier one
 abbrev pub Apart : List Seated → Type 0
 Apart [] = Unit {0}
@@ -84,7 +80,7 @@ pub record AloneAt (seated : List Seated) (at : ℕ) (x : Seated) : Type 0 where
 pub alone_at : (seated : List Seated) (place : ℕ) (x : Seated) → Apart seated → slice_get seated place ≡ Some x → AloneAt seated place x
 alone_at [] place x apart got = absurd (cc)
 alone_at (y ∷ ys) zero x apart got =
-    let same : y ≡ x = some_same y x got in
+    let same : y ≡ x = same_Some y x got in
     record {
       alone = record {
         before = [];

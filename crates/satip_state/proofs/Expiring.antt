@@ -4,6 +4,7 @@ use Rattle.std.proofs.Common.{Option, Some, None, refl, sym, ap, subst, ◌∙�
 use Rattle.std.specs.List.{list_any, slice_get}
 use Rattle.std.specs.Option.{option_map}
 use Rattle.std.proofs.lemmas.Bool.{or_parts, or_cases, and_parts, eqb-true, true≢false, le-leb, lt-leb, cases_Bool, and_from}
+use Rattle.std.proofs.lemmas.Option.{same_Some}
 use Rattle.satip_history.specs.Lists.{Has}
 use Rattle.satip_table.specs.declared.session.Seat.{Seat}
 use Rattle.satip_table.specs.Sessions.{has_id, has_slot}
@@ -17,7 +18,7 @@ use Rattle.satip_plain.specs.Steps.{is_expired, is_session, end_where}
 use Rattle.satip_state.specs.Kept.{Kept}
 use Rattle.satip_state.specs.Seated.{Seated, seat_of, row_of, is_seat, due_of, end_of}
 use Rattle.satip_state.specs.Standing.{StandsFor}
-use Rattle.satip_state.proofs.Picking.{some_same, find_place, find_one, get-map, any-map, find-map, map_some, map_nothing}
+use Rattle.satip_state.proofs.Picking.{find_place, find_one, get-map, any-map, find-map, map_some, map_nothing}
 use Rattle.satip_state.proofs.Apart.{AloneAt, alone_at, slot_itself, id_itself}
 use Rattle.satip_state.proofs.Mapped.{sessions_of, stands_apart}
 use Rattle.satip_state.proofs.Flushes.{seated_at, between}
@@ -63,7 +64,7 @@ get_low (y ∷ ys) (suc k) x got = let rest = get_low ys k x got in omega (arith
 
 pub slot_low : (seats : List Seat) (k : ℕ) (seat : Seat) → SlotsApart seats → slice_get seats k ≡ Some seat → seat.slot < 64
 slot_low [] k seat apart got = absurd (cc)
-slot_low (y ∷ ys) zero seat apart got = subst (λ (z : Seat). z.slot < 64) (some_same y seat got) apart.0
+slot_low (y ∷ ys) zero seat apart got = subst (λ (z : Seat). z.slot < 64) (same_Some y seat got) apart.0
 slot_low (y ∷ ys) (suc k) seat apart got = slot_low ys k seat apart.2 got
 
 pub low_slot : (c : Config) (v : Kept) (st : State) (stands : StandsFor c v st) → Sound v.table → (k : ℕ) (x : Seated) → slice_get stands.seated k ≡ Some x
@@ -122,8 +123,8 @@ one_more_ended c v w st sound e slot seat found next after =
     let due : HasDeadline v.dues slot (x.session.heard + v.timeout * 1000) =
     subst (λ k. HasDeadline v.dues k (x.session.heard + v.timeout * 1000)) own (deadline c v now e.stands sound p.0 x r.1) in
     let moment : next.moment ≡ x.session.heard + v.timeout * 1000 =
-    some_same next.moment (x.session.heard + v.timeout * 1000)
-    (some_same (Some next.moment) (Some (x.session.heard + v.timeout * 1000)) (sym next.its ∙ due)) in
+    same_Some next.moment (x.session.heard + v.timeout * 1000)
+    (same_Some (Some next.moment) (Some (x.session.heard + v.timeout * 1000)) (sym next.its ∙ due)) in
     let early : x.session.heard + c.timeout * 1000 ≤ st.clock =
     subst (λ k. k ≤ st.clock) (ap (λ t. x.session.heard + t * 1000) e.stands.timeout)
     (subst (λ k. x.session.heard + v.timeout * 1000 ≤ k) e.stands.clock (subst (λ k. k ≤ v.clock) moment next.passed)) in
@@ -160,7 +161,7 @@ due_seated c v st e slot low next none =
     map_nothing seat_of (find (is_seat slot) e.stands.seated) (sym (find-map seat_of (has_slot slot) e.stands.seated)
     ∙ ap (find (has_slot slot)) (sym e.stands.seats) ∙ sym none) in
     let due : Some (Some next.moment) ≡ Some None = sym next.its ∙ e.stands.dues slot low ∙ ap (λ o. Some (option_map (end_of v.timeout) o)) nobody in
-    let apart : Some next.moment ≡ None = some_same (Some next.moment) None due in
+    let apart : Some next.moment ≡ None = same_Some (Some next.moment) None due in
     cc
 
 -- where no deadline passed, all ended that were to end

@@ -3,6 +3,7 @@ use Rattle.std.proofs.Common.{◌≡◌, inl, inr, ◌++◌, ℕ, ◌==◌, ◌<
 use Rattle.std.proofs.Common.{ap, subst, ◌∙◌, arith}
 use Rattle.std.specs.List.{list_any, slice_get}
 use Rattle.std.proofs.lemmas.Bool.{eqb-true, cases_Bool}
+use Rattle.satip_plain.proofs.SameIds.{same_id_is}
 use Rattle.satip_base.specs.Output.{Output}
 use Rattle.satip_base.specs.declared.identity.SessionId.{SessionId}
 use Rattle.satip_rtp.specs.Sending.{SendsAll}
@@ -28,7 +29,7 @@ use Rattle.satip_state.specs.Ending.{Removed}
 use Rattle.satip_state.specs.Seated.{Seated, seat_of, row_of}
 use Rattle.satip_state.specs.Standing.{StandsFor, Moved, IsKept, stream_in}
 use Rattle.satip_state.proofs.Picking.{any-map, find_place, get_has}
-use Rattle.satip_state.proofs.Apart.{Alone, AloneAt, alone_at, has_session, same_id_is}
+use Rattle.satip_state.proofs.Apart.{Alone, AloneAt, alone_at, has_session}
 use Rattle.satip_state.proofs.Mapped.{sessions_of, seated_kept, stands_apart, stream_lives, all_kept, lives_in}
 use Rattle.satip_state.proofs.Flushes.{seated_at}
 use Rattle.satip_state.proofs.Swept.{rising_at}

@@ -5,11 +5,11 @@ use Rattle.std.specs.List.{list_any, filter_map, flat_map, cons_option}
 use Rattle.std.specs.Option.{option_map, option_or}
 use Rattle.std.proofs.lemmas.Bool.{or_parts}
 use Rattle.std.proofs.lemmas.List.{map-append}
+use Rattle.std.proofs.lemmas.Option.{same_Some}
 use Rattle.satip_history.specs.Lists.{Has}
 use Rattle.satip_flow.specs.Subscription.{Subscription, Feed, has_slot}
 use Rattle.satip_plain.specs.State.{Stream}
 use Rattle.satip_state.specs.Seated.{Seated, row_of, feed_of, is_seat, seated_in, subscriber, subscribers}
-use Rattle.satip_state.proofs.Picking.{some_same}
 use Rattle.satip_state.proofs.Apart.{eq_turned_round}
 
 -- the subscription of a session of a stream, with this feed
@@ -233,7 +233,7 @@ streams_find slot a x b (u ∷ us) before here behind t found =
         → (find (λ v. v.number == x.session.stream) us ≡ Some t → rest ≡ subscriber t x)
         → (x.session.playing ≡ false → rest ≡ None)
         → option_or (cond c (subscriber u x) None) rest ≡ subscriber t x
-    by rest true same next idle = ap (λ v. option_or (subscriber v x) rest) (some_same u t same) ∙ or_itself t x rest idle
+    by rest true same next idle = ap (λ v. option_or (subscriber v x) rest) (same_Some u t same) ∙ or_itself t x rest idle
     by rest false same next idle = next same
 
 pub subscribers_find : (slot : ℕ) (a : List Seated) (x : Seated) (b : List Seated) (ts : List Stream)

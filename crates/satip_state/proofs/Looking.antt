@@ -5,7 +5,8 @@ use Rattle.std.specs.List.{list_any, list_all}
 use Rattle.std.specs.Option.{option_map}
 use Rattle.std.proofs.lemmas.Bool.{eqb-true, ne_eqb, le-leb, lt-leb, and_parts, or_parts, or_from, false≢true}
 use Rattle.std.proofs.lemmas.List.{length-map}
-use Rattle.std.proofs.lemmas.Option.{slice_get-map}
+use Rattle.std.proofs.lemmas.Option.{slice_get-map, same_Some}
+use Rattle.satip_plain.proofs.SameIds.{same_id_is}
 use Rattle.satip_base.specs.declared.identity.SessionId.{SessionId}
 use Rattle.satip_table.specs.declared.session.Session.{Session as Row}
 use Rattle.satip_table.specs.declared.session.Seat.{Seat}
@@ -18,7 +19,6 @@ use Rattle.satip_plain.specs.Types.{Config}
 use Rattle.satip_plain.specs.State.{Session, Stream, State, same_id, rtsp_session, http_session, stream_of}
 use Rattle.satip_plain.specs.Refusals.{is_full as is_full_state}
 use Rattle.satip_plain.specs.Steps.{is_session}
-use Rattle.satip_state.proofs.Picking.{some_same}
 use Rattle.satip_state.specs.Kept.{Kept}
 use Rattle.satip_state.specs.Seated.{Seated, row_of, seat_of}
 use Rattle.satip_state.specs.Standing.{StandsFor, stream_in}
@@ -251,19 +251,12 @@ full_looked c v st stands sound =
     ∙ ap (λ n. nat_le 64 (length st.sessions) || nat_le 4294967295 n) stands.made
 
 -- the session that is found is the one of its id, and no HTTP session
-pub same_ids : (a b : SessionId) → same_id a b ≡ true → a ≡ b
-same_ids a b same =
-    let parts = and_parts (a.count == b.count) (a.word == b.word) same in
-    let with_count : ℕ → SessionId = λ n. record { count = n; word = a.word } in
-    let with_word : ℕ → SessionId = λ n. record { count = b.count; word = n } in
-    ap with_count (eqb-true a.count b.count parts.0) ∙ ap with_word (eqb-true a.word b.word parts.1)
-
 pub found_holds : (p : Session → Bool) (xs : List Session) (s : Session) → find p xs ≡ Some s → p s ≡ true
 found_holds p [] s e = absurd (cc)
 found_holds p (x ∷ xs) s e = by (p x) refl e (found_holds p xs s)
   where
     by : (b : Bool) → p x ≡ b → cond b (Some x) (find p xs) ≡ Some s → (find p xs ≡ Some s → p s ≡ true) → p s ≡ true
-    by true h f rest = ap p (sym (some_same x s f)) ∙ h
+    by true h f rest = ap p (sym (same_Some x s f)) ∙ h
     by false h f rest = rest f
 
 row_http : (s : Session) → (row_of s).http ≡ s.http
@@ -281,9 +274,9 @@ only_by id ss row b None found kind is same at = tt
 only_by id ss row true (Some r) found kind is same at = absurd (cc)
 only_by id ss row false (Some r) None kind is same at = absurd (cc)
 only_by id ss row false (Some r) (Some s) kind is same at =
-    let one : r ≡ row = some_same r row is in
-    let other : row ≡ row_of s = some_same row (row_of s) same in
-    let own : r.id ≡ id = ap (λ (x : Row). x.id) (one ∙ other) ∙ row_id s ∙ same_ids s.id id (found_holds (is_session id) ss s at) in
+    let one : r ≡ row = same_Some r row is in
+    let other : row ≡ row_of s = same_Some row (row_of s) same in
+    let own : r.id ≡ id = ap (λ (x : Row). x.id) (one ∙ other) ∙ row_id s ∙ same_id_is s.id id (found_holds (is_session id) ss s at) in
     let http : s.http ≡ false = sym (row_http s) ∙ ap (λ (x : Row). x.http) (sym other) ∙ kind in
     ap (λ (i : SessionId). option_map (λ (s : Session). s.http) (find (is_session i) ss)) own ∙ ap (option_map (λ (s : Session). s.http)) at ∙ ap Some http
 

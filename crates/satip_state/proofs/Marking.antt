@@ -6,6 +6,8 @@ use Rattle.std.specs.List.{slice_get}
 use Rattle.std.specs.Option.{option_map}
 use Rattle.std.proofs.lemmas.Nat.Bits.{bit_at-zero}
 use Rattle.std.proofs.lemmas.Bool.{or_cases, and_parts, and_from, eqb-true, eq-eqb, true≢false, cases_Bool, not-true, cases_eq}
+use Rattle.std.proofs.lemmas.Option.{same_Some}
+use Rattle.satip_plain.proofs.SameIds.{same_id_is}
 use Rattle.satip_base.specs.declared.identity.SessionId.{SessionId}
 use Rattle.satip_history.specs.Lists.{Each, Has}
 use Rattle.satip_history.proofs.Elements.{each_at, each_has}
@@ -19,8 +21,8 @@ use Rattle.satip_state.specs.Kept.{Kept}
 use Rattle.satip_state.specs.Seated.{Seated, seat_of}
 use Rattle.satip_state.specs.Standing.{StandsFor}
 use Rattle.satip_state.specs.Ending.{EndedMarked, IsMarked}
-use Rattle.satip_state.proofs.Picking.{some_same, find_place, get_has, get-map, map_some}
-use Rattle.satip_state.proofs.Apart.{same_id_is, id_itself}
+use Rattle.satip_state.proofs.Picking.{find_place, get_has, get-map, map_some}
+use Rattle.satip_state.proofs.Apart.{id_itself}
 use Rattle.satip_state.proofs.Swept.{each_filter}
 use Rattle.satip_state.proofs.Ended.{filter_passing}
 use Rattle.satip_state.proofs.Endings.{lose, end_loses, lose_then, lose_same}
@@ -111,7 +113,7 @@ slots_once (y ∷ ys) slot seat other apart found has same = by (has_slot slot y
   where
     by : (b : Bool) → has_slot slot y ≡ b → cond b (Some y) (find (has_slot slot) ys) ≡ Some seat → (other ≡ y) ⊎ Has other ys
         → (find (has_slot slot) ys ≡ Some seat → Has other ys → other ≡ seat) → other ≡ seat
-    by true e f (inl it) rest = it ∙ some_same y seat f
+    by true e f (inl it) rest = it ∙ same_Some y seat f
     by true e f (inr h) rest =
         let differ : has_slot y.slot other ≡ false = lacks (has_slot y.slot) ys other apart.1 h in
         absurd (true≢false (sym (eq-eqb other.slot y.slot (same ∙ sym (eqb-true y.slot slot e))) ∙ differ))

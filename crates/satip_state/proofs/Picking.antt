@@ -4,11 +4,9 @@ use Rattle.std.proofs.Common.{refl, sym, ap, subst, ◌∙◌, inl, inr}
 use Rattle.std.specs.List.{list_any, list_all, slice_get}
 use Rattle.std.specs.Option.{option_map}
 use Rattle.std.proofs.lemmas.Bool.{or_parts, and_parts}
+use Rattle.std.proofs.lemmas.Option.{same_Some}
 use Rattle.satip_history.specs.Lists.{Has}
 use Rattle.satip_table.proofs.Listing.{filter_none}
-
-pub some_same : {X : Type 0} (x y : X) → Some x ≡ Some y → x ≡ y
-some_same x y e = ap (λ o. unwrap_or o x) e
 
 module _ {X : Type 0} where
   pub find_none : (p : X → Bool) (xs : List X) → list_any p xs ≡ false → find p xs ≡ None
@@ -51,14 +49,14 @@ module _ {X : Type 0} where
   -- who stands at a place
   pub get_has : (xs : List X) (k : ℕ) (x : X) → slice_get xs k ≡ Some x → Has x xs
   get_has [] k x got = absurd (cc)
-  get_has (y ∷ xs) zero x got = inl (sym (some_same y x got))
+  get_has (y ∷ xs) zero x got = inl (sym (same_Some y x got))
   get_has (y ∷ xs) (suc k) x got = inr (get_has xs k x got)
 
   pub any_get : (p : X → Bool) (xs : List X) (k : ℕ) (x : X) → list_any p xs ≡ false → slice_get xs k ≡ Some x → p x ≡ false
   any_get p [] k x none got = absurd (cc)
   any_get p (y ∷ xs) zero x none got =
       let parts = or_parts (p y) (list_any p xs) none in
-      ap p (sym (some_same y x got)) ∙ parts.0
+      ap p (sym (same_Some y x got)) ∙ parts.0
   any_get p (y ∷ xs) (suc k) x none got =
       let parts = or_parts (p y) (list_any p xs) none in
       any_get p xs k x parts.1 got
@@ -70,7 +68,7 @@ module _ {X : Type 0} where
       by : (b : Bool) → p y ≡ b → cond b (Some y) (find p xs) ≡ Some x
           → (find p xs ≡ Some x → (k : ℕ) × (slice_get xs k ≡ Some x) × (p x ≡ true))
           → (k : ℕ) × (slice_get (y ∷ xs) k ≡ Some x) × (p x ≡ true)
-      by true e same rest = (zero, same, subst (λ z. p z ≡ true) (some_same y x same) e)
+      by true e same rest = (zero, same, subst (λ z. p z ≡ true) (same_Some y x same) e)
       by false e same rest = let r = rest same in (suc r.0, r.1, r.2)
 
 pub find-map : {X Y : Type 0} (f : X → Y) (p : Y → Bool) (xs : List X) → find p (map f xs) ≡ option_map f (find (λ x. p (f x)) xs)
@@ -93,7 +91,7 @@ any-map f p (x ∷ xs) = ap (λ b. p (f x) || b) (any-map f p xs)
 
 pub map_some : {X Y : Type 0} (f : X → Y) (o : Option X) (y : Y) → option_map f o ≡ Some y → (x : X) × (o ≡ Some x) × (f x ≡ y)
 map_some f None y e = absurd (cc)
-map_some f (Some x) y e = (x, refl, some_same (f x) y e)
+map_some f (Some x) y e = (x, refl, same_Some (f x) y e)
 
 pub map_nothing : {X Y : Type 0} (f : X → Y) (o : Option X) → option_map f o ≡ None → o ≡ None
 map_nothing f None e = refl
@@ -106,7 +104,7 @@ find_agree p q (x ∷ xs) same = ap (λ b. cond b (Some x) (find p xs)) (same x)
 
 pub all_get : {X : Type 0} (p : X → Bool) (xs : List X) (k : ℕ) (x : X) → list_all p xs ≡ true → slice_get xs k ≡ Some x → p x ≡ true
 all_get p [] k x all got = absurd (cc)
-all_get p (y ∷ xs) zero x all got = let parts = and_parts (p y) (list_all p xs) all in ap p (sym (some_same y x got)) ∙ parts.0
+all_get p (y ∷ xs) zero x all got = let parts = and_parts (p y) (list_all p xs) all in ap p (sym (same_Some y x got)) ∙ parts.0
 all_get p (y ∷ xs) (suc k) x all got = let parts = and_parts (p y) (list_all p xs) all in all_get p xs k x parts.1 got
 
 module _ {X : Type 0} where

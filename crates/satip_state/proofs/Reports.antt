@@ -6,6 +6,7 @@ use Rattle.std.specs.Option.{option_map, option_map_or}
 use Rattle.std.proofs.lemmas.Bool.{and_parts, not-true}
 use Rattle.std.proofs.lemmas.List.{map-append, map-id}
 use Rattle.std.proofs.lemmas.List.Sums.{sum_by-cons}
+use Rattle.std.proofs.lemmas.Option.{same_Some}
 use Rattle.satip_base.specs.declared.network.Address.{Address}
 use Rattle.satip_base.specs.declared.identity.SessionId.{SessionId}
 use Rattle.satip_base.specs.Output.{Output, Datagram, Sends}
@@ -31,7 +32,7 @@ use Rattle.satip_state.specs.Kept.{Kept}
 use Rattle.satip_state.specs.Seated.{Seated, seat_of, row_of, is_seat, due_of, end_of, feed_of, packing_of, address_of, subscriber, subscribers}
 use Rattle.satip_state.specs.Standing.{StandsFor, Moved, IsKept}
 use Rattle.satip_state.specs.Turns.{Round, turn_of, first_turns, after_round, report_turn, is_row_due}
-use Rattle.satip_state.proofs.Picking.{map_one, get-map, map_nothing, some_same}
+use Rattle.satip_state.proofs.Picking.{map_one, get-map, map_nothing}
 use Rattle.satip_state.proofs.Apart.{Alone, AloneAt, alone_at, has_session, slot_itself, id_itself}
 use Rattle.satip_state.proofs.Listed.{listed, subscriber_is, subscribers_map, subscribers_find}
 use Rattle.satip_state.proofs.Mapped.{sessions_of, each_mapped, stands_apart, stream_lives, all_kept}
@@ -253,8 +254,8 @@ report_seated c v o n st stands sound place x got due view viewed told tells sen
     let alone : Alone stands.seated x = at.alone in
     let lives = stream_lives c v st stands sound place x got in
     let parts = due_parts st.clock s due in
-    let view_is : view ≡ view_of st lives.0 = some_same view (view_of st lives.0) (viewed ∙ ap (option_map (view_of st)) lives.1) in
-    let told_is : told ≡ told_of s = some_same told (told_of s) (tells ∙ packer_told c v st stands sound place x got parts.0 parts.1) in
+    let view_is : view ≡ view_of st lives.0 = same_Some view (view_of st lives.0) (viewed ∙ ap (option_map (view_of st)) lives.1) in
+    let told_is : told ≡ told_of s = same_Some told (told_of s) (tells ∙ packer_told c v st stands sound place x got parts.0 parts.1) in
     let sender_is : sender ≡ sender_of c st s = sender_same c st x sender told told_is to ssrc (clock ∙ stands.clock) datagrams octets address in
     let after : Session = record s { reported = Some st.clock } in
     let sent : List Sent = Report s.id (view_of st lives.0) (sender_of c st s) ∷ [] in

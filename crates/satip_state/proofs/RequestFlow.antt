@@ -4,13 +4,14 @@ use Rattle.std.proofs.Common.{find, refl, ap, sym, arith, append_assoc}
 use Rattle.std.specs.List.{cons_option}
 use Rattle.std.proofs.lemmas.Bool.{eqb-true, eqb-false, eq-eqb, ne_eqb, lt-ltb, le-ltb, and_from, and_left, and_right, or_from, or_left, or_right}
 use Rattle.std.proofs.lemmas.List.Elements.{filter-append, filter_map-append}
+use Rattle.std.proofs.lemmas.Option.{same_Some}
 use Rattle.satip_history.specs.Lists.{Each}
 use Rattle.satip_flow.specs.declared.place.Place.{Place}
 use Rattle.satip_flow.specs.Subscription.{Subscription}
 use Rattle.satip_flow.specs.Subscriptions.{put, comes_before}
 use Rattle.satip_plain.specs.State.{Stream}
 use Rattle.satip_state.specs.Seated.{Seated, feed_of, seated_in, subscriber, subscribers}
-use Rattle.satip_state.proofs.RequestLists.{each_append, each_weaker, some_same, none_some}
+use Rattle.satip_state.proofs.RequestLists.{each_append, each_weaker, none_some}
 
 -- the streams' numbers rise, from above this number
 abbrev pub Rise : ℕ → List Stream → Type 0
@@ -69,7 +70,7 @@ sub_place t x u is = by x.session.playing is
   where
     by : (b : Bool) → cond b (Some (record { place = place_of t x; front = t.front; pids = t.pids; feed = feed_of x.session })) None ≡ Some u
         → u.place ≡ place_of t x
-    by true is = ap (λ (w : Subscription). w.place) (sym (some_same _ u is))
+    by true is = ap (λ (w : Subscription). w.place) (sym (same_Some _ u is))
     by false is = absurd (none_some u is)
 
 -- where they stand
@@ -162,7 +163,7 @@ found_above n number at (t ∷ ts) rise found = by (t.number == number) found (f
   where
     by : (b : Bool) → cond b (Some t) (find (λ s. s.number == number) ts) ≡ Some at → (find (λ s. s.number == number) ts ≡ Some at → t.number < at.number)
         → n < at.number
-    by true found rest = omega (arith, rise.0, ap (λ (s : Stream). s.number) (some_same t at found))
+    by true found rest = omega (arith, rise.0, ap (λ (s : Stream). s.number) (same_Some t at found))
     by false found rest = omega (arith, rise.0, rest found)
 
 -- one that begins to play is put in its place
@@ -219,5 +220,5 @@ put_into front back x u at above (t ∷ ts) rise found is before after =
     by : (b : Bool) → (t.number == x.session.stream) ≡ b → cond b (Some t) (find (λ s. s.number == x.session.stream) ts) ≡ Some at
         → (find (λ s. s.number == x.session.stream) ts ≡ Some at → subscribers (front ++ x ∷ back) ts ≡ put u rest)
         → subscribers (front ++ x ∷ back) (t ∷ ts) ≡ put u (subscribers (front ++ back) (t ∷ ts))
-    by true is found rec = here (some_same t at found) (eqb-true t.number x.session.stream is)
+    by true is found rec = here (same_Some t at found) (eqb-true t.number x.session.stream is)
     by false is found rec = later is found (rec found)

@@ -10,6 +10,7 @@ use Rattle.std.proofs.lemmas.Bool.{leb-false, true≢false}
 use Rattle.std.proofs.lemmas.List.Concat.{flat_map-append}
 use Rattle.std.proofs.lemmas.List.Folds.{find-append}
 use Rattle.std.proofs.lemmas.List.{length-map}
+use Rattle.std.proofs.lemmas.Option.{same_Some}
 use Rattle.satip_history.specs.Lists.{Each}
 use Rattle.satip_base.specs.declared.identity.SessionId.{SessionId}
 use Rattle.satip_base.specs.declared.identity.Draw.{Draw}
@@ -37,7 +38,7 @@ use Rattle.satip_state.specs.Standing.{IsKept, StandsFor, stream_in}
 use Rattle.satip_state.specs.Subscribing.{subscription_of}
 use Rattle.satip_state.specs.Beginning.{Begins, begun, with_queue}
 use Rattle.satip_state.proofs.RequestLists.{each_append, each_any, each_weaker, filter-map, filter_agree, filter_all, filter_none, get-set_other}
-use Rattle.satip_state.proofs.RequestLists.{get-set_same, map-append, none_each, some_same}
+use Rattle.satip_state.proofs.RequestLists.{get-set_same, map-append, none_each}
 use Rattle.satip_state.proofs.RequestSeats.{none_of_slot, session_in}
 use Rattle.satip_state.proofs.RequestFlow.{Rise, each_filter, idle_skipped, put_into}
 use Rattle.satip_state.proofs.RequestStreams.{live_in, rise_above, rise_in}
@@ -357,9 +358,9 @@ pub begin_is : (v w : Kept) (id : SessionId) (at : ℕ) (its : TableRow) (its_st
 unfolding begun
 begin_is v w id at its its_stream dues flow due same slots rows streams subscribed ends set slot row t seat stream known =
     let seats : find (has_id id) v.table.seats ≡ Some (record { slot = slot; session = row }) = ap (λ (k : Kept). find (has_id id) k.table.seats) same ∙ seat in
-    let at_is : at ≡ slot = some_same at slot (slots ∙ ap (option_map (λ (x : Seat). x.slot)) seats) in
-    let its_is : its ≡ row = some_same its row (rows ∙ ap (option_map (λ (x : Seat). x.session)) seats) in
-    let t_is : its_stream ≡ t = some_same its_stream t (streams ∙ ap (λ (r : TableRow). find (has_number r.stream) v.table.streams) its_is
+    let at_is : at ≡ slot = same_Some at slot (slots ∙ ap (option_map (λ (x : Seat). x.slot)) seats) in
+    let its_is : its ≡ row = same_Some its row (rows ∙ ap (option_map (λ (x : Seat). x.session)) seats) in
+    let t_is : its_stream ≡ t = same_Some its_stream t (streams ∙ ap (λ (r : TableRow). find (has_number r.stream) v.table.streams) its_is
     ∙ ap (λ (k : Kept). find (has_number row.stream) k.table.streams) same ∙ stream) in
     let new_flow : flow ≡ with_queue slot row t v.flow =
     subscribed (subst (λ (x : StreamRow). IsFrontOrNone x.front) (sym t_is) known) ∙ ap (λ n. with_queue n its its_stream v.flow) at_is

@@ -4,6 +4,7 @@ use Rattle.std.proofs.Common.{slice_get, slice_set, refl, ap, sym, zero, suc}
 use Rattle.std.specs.List.{list_any, cons_option}
 use Rattle.std.specs.Option.{option_map}
 use Rattle.std.proofs.lemmas.Bool.{true≢false}
+use Rattle.std.proofs.lemmas.Option.{same_Some}
 use Rattle.satip_history.specs.Lists.{Each}
 
 -- two facts of each element
@@ -101,13 +102,6 @@ flat_map-mapped g h [] = refl
 flat_map-mapped g h (x ∷ xs) = ap (λ ys. map g (h x) ++ ys) (flat_map-mapped g h xs) ∙ sym (map-append g (h x) (flat_map h xs))
 
 -- what is there is there
-pub some_same : {X : Type 0} (x y : X) → Some x ≡ Some y → x ≡ y
-some_same {X = X} x y e = ap (λ o. or_else o) e
-  where
-    or_else : Option X → X
-    or_else None = x
-    or_else (Some z) = z
-
 pub none_some : {X : Type 0} (x : X) → None ≡ Some x → ⊥
 none_some {X = X} x e = true≢false (ap (λ o. lacks o) e)
   where

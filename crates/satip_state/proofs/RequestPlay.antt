@@ -4,6 +4,7 @@ use Rattle.std.proofs.Common.{None, Some, map, find, length, sum, drop, slice_ge
 use Rattle.std.specs.List.{list_any, list_all}
 use Rattle.std.specs.Option.{option_map, option_and_then, option_flatten}
 use Rattle.std.proofs.lemmas.Bool.{and_parts, eqb-true, eqb-false, eq-eqb, ne_eqb, true≢false}
+use Rattle.std.proofs.lemmas.Option.{same_Some}
 use Rattle.satip_history.specs.Lists.{Each}
 use Rattle.satip_base.specs.declared.identity.SessionId.{SessionId}
 use Rattle.satip_table.specs.declared.session.Seat.{Seat}
@@ -25,7 +26,7 @@ use Rattle.satip_state.specs.Kept.{Kept}
 use Rattle.satip_state.specs.Seated.{Seated, address_of, feed_of, packing_of, row_of, seat_of, subscriber, subscribers}
 use Rattle.satip_state.specs.Standing.{IsKept, StandsFor, stream_in}
 use Rattle.satip_state.specs.Subscribing.{new_feed, subscription_of}
-use Rattle.satip_state.proofs.RequestLists.{each_weaker, filter_all, none_some, some_same}
+use Rattle.satip_state.proofs.RequestLists.{each_weaker, filter_all, none_some}
 use Rattle.satip_state.proofs.RequestSeats.{changed_seated, due_same, session_in, sessions_changed, none_of_slot}
 use Rattle.satip_state.proofs.RequestSession.{IsChange, agrees, session_changed}
 use Rattle.satip_state.proofs.RequestFlow.{MadeAfter, MadeBefore, Rise, each_subscriber, idle_skipped, put_into, sub_place}
@@ -80,7 +81,7 @@ number_within from f (x ∷ fronts) numbered there = by (x.number == f) refl the
 place_known : (fronts : List Front) (places : List (Option ℕ)) (i : ℕ) (o : Option ℕ) → list_all (is_place fronts) places ≡ true → slice_get places i ≡ Some o
     → is_place fronts o ≡ true
 place_known fronts [] i o all there = absurd (none_some o there)
-place_known fronts (p ∷ places) zero o all there = ap (is_place fronts) (sym (some_same p o there)) ∙ (and_parts _ _ all).0
+place_known fronts (p ∷ places) zero o all there = ap (is_place fronts) (sym (same_Some p o there)) ∙ (and_parts _ _ all).0
 place_known fronts (p ∷ places) (suc i) o all there = place_known fronts places i o (and_parts _ _ all).1 there
 
 pub front_or_none : (v : FrontEnds) → FrontsSound v → (o : Option ℕ) → is_place v.fronts o ≡ true → IsFrontOrNone o
@@ -182,7 +183,7 @@ among id slot row above last (y ∷ ys) rise apart found = by (is_session id y.s
 
     by : (b : Bool) → is_session id y.session ≡ b → cond b (Some (seat_of y)) (seat_found id ys) ≡ Some (record { slot = slot; session = row })
         → (seat_found id ys ≡ Some (record { slot = slot; session = row }) → IsAmong id slot row ys) → IsAmong id slot row (y ∷ ys)
-    by true is found rest = here (some_same (seat_of y) _ found)
+    by true is found rest = here (same_Some (seat_of y) _ found)
     by false is found rest = later (rest found)
 
 -- the others stay as they are
@@ -322,8 +323,8 @@ seat_is seats id slot row at its = by (find (has_id id) seats) at its
     by : (o : Option Seat) → option_map (λ (seat : Seat). seat.slot) o ≡ Some slot → option_map (λ (seat : Seat). seat.session) o ≡ Some row
         → o ≡ Some (record { slot = slot; session = row })
     by None at its = absurd (none_some slot at)
-    by (Some seat) at its = ap (λ n. Some (record { slot = n; session = seat.session })) (some_same seat.slot slot at)
-        ∙ ap (λ r. Some (record { slot = slot; session = r })) (some_same seat.session row its)
+    by (Some seat) at its = ap (λ n. Some (record { slot = n; session = seat.session })) (same_Some seat.slot slot at)
+        ∙ ap (λ r. Some (record { slot = slot; session = r })) (same_Some seat.session row its)
 
 pub plays_already : (c : Config) (o v : Kept) (st : State) (s : StandsFor c v st) (id : SessionId) (slot : ℕ) (row : TableRow) → o ≡ v → Sound o.table
     → find (has_id id) o.table.seats ≡ Some (record { slot = slot; session = row }) → row.playing ≡ true
@@ -406,7 +407,7 @@ housed_in c v st s id slot row sound found none =
         by : (b : Bool) → cond b (Some x) (find (has_id id) xs) ≡ Some (record { slot = slot; session = row })
             → (find (has_id id) xs ≡ Some (record { slot = slot; session = row }) → p (record { slot = slot; session = row }) ≡ true)
             → p (record { slot = slot; session = row }) ≡ true
-        by true there rest = ap p (sym (some_same x _ there)) ∙ (and_parts _ _ all).0
+        by true there rest = ap p (sym (same_Some x _ there)) ∙ (and_parts _ _ all).0
         by false there rest = rest there
 
     none_live : (number : ℕ) (rows : List StreamRow) → find (has_number number) rows ≡ None → is_live rows number ≡ false

@@ -5,6 +5,7 @@ use Rattle.std.proofs.Common.{inl, inr, ◌⊎◌, Ok}
 use Rattle.std.specs.List.{list_any}
 use Rattle.std.specs.Option.{option_map, option_and_then, option_flatten, option_map_or}
 use Rattle.std.proofs.lemmas.Bool.{cases_eq, eqb-true, eq-eqb, ne_eqb, true≢false}
+use Rattle.std.proofs.lemmas.Option.{same_Some}
 use Rattle.satip_base.specs.Output.{Output}
 use Rattle.satip_rtp.specs.Sending.{SendsAll}
 use Rattle.satip_tune.specs.declared.tunings.Tuning.{Tuning}
@@ -35,7 +36,7 @@ use Rattle.satip_state.specs.Standing.{Moved, StandsFor, row_in, stream_in}
 use Rattle.satip_state.proofs.Outlooks.{outlook_same}
 use Rattle.satip_state.proofs.Swept.{Rising, freed_same, get_within, rising_of, served_same}
 use Rattle.satip_state.proofs.Ended.{swept_same}
-use Rattle.satip_state.proofs.RequestLists.{get-set_other, get-set_same, none_some, some_same}
+use Rattle.satip_state.proofs.RequestLists.{get-set_other, get-set_same, none_some}
 use Rattle.satip_state.proofs.RequestStreams.{change_sets, changed_found, found_each, found_number, rows_changed, set_stream}
 use Rattle.satip_state.proofs.RequestFlow.{Rise}
 use Rattle.satip_state.proofs.RequestPlay.{front_or_none, stream_is}
@@ -62,7 +63,7 @@ taken_known v number front tuning sound chosen = by (choice v number tuning) ref
     by : (o : Option Place) → choice v number tuning ≡ o → Some front ≡ option_map (λ (place : Place). place.front) o → IsFrontOrNone (Some front)
     by None is chosen = absurd (none_some front (sym chosen))
     by (Some place) is chosen =
-        let same : place.front ≡ front = some_same place.front front (sym chosen) in
+        let same : place.front ≡ front = same_Some place.front front (sym chosen) in
         subst (λ n. IsFrontOrNone (Some n)) same
         (front_or_none v sound (Some place.front) (chosen_known (outlook v number) (mux_of v.muxes tuning) tuning place is))
 
@@ -257,7 +258,7 @@ placed_stands c v st s number front tuning row table fronts flow sound fronts_so
         → StandsFor c w (placed_in c number tuning st)
     by None which chosen = absurd (none_some front (sym chosen))
     by (Some place) which chosen =
-        let same : front ≡ place.front = some_same front place.front chosen in
+        let same : front ≡ place.front = same_Some front place.front chosen in
         subst (λ o. StandsFor c w (option_map_or (put_at c number tuning st) o st)) (sym which ∙ choice_same c v st number tuning s sound some)
         (put_stands c v st s number tuning place row table fronts flow sound fronts_sound new_sound new_fronts some within found (took
         ∙ sym (taken_some v.fronts number tuning place which))

@@ -4,6 +4,7 @@ use Rattle.std.proofs.Common.{find, refl, ap, sym, arith}
 use Rattle.std.specs.List.{list_any}
 use Rattle.std.specs.Option.{option_map}
 use Rattle.std.proofs.lemmas.Bool.{eqb-true, eq-eqb, ne_eqb, and_left, and_parts, or_left, or_right, true≢false}
+use Rattle.std.proofs.lemmas.Option.{same_Some}
 use Rattle.satip_history.specs.Lists.{Each}
 use Rattle.satip_base.specs.declared.identity.SessionId.{SessionId}
 use Rattle.satip_table.specs.declared.session.Seat.{Seat}
@@ -16,7 +17,7 @@ use Rattle.satip_plain.specs.Steps.{is_session}
 use Rattle.satip_state.specs.Seated.{Seated, due_of, end_of, is_seat, row_of, seat_of, seated_in, subscriber, subscribers}
 use Rattle.satip_state.specs.Standing.{IsKept}
 use Rattle.satip_state.proofs.RequestLists.{filter_agree, each_both, each_weaker, filter-map, filter_map-map, filter_map-mapped, filter_map_agree}
-use Rattle.satip_state.proofs.RequestLists.{flat_map-mapped, flat_map_agree, each_any, some_same, none_some}
+use Rattle.satip_state.proofs.RequestLists.{flat_map-mapped, flat_map_agree, each_any, none_some}
 
 -- the session of this slot is changed
 abbrev pub changed_seated : ℕ → (Session → Session) → Seated → Seated
@@ -92,7 +93,7 @@ slot_there id slot (x ∷ xs) found = by (has_id id (seat_of x)) (slot_there id 
     by : (b : Bool) → (slot_found id xs ≡ Some slot → list_any (has_slot slot) (map seat_of xs) ≡ true)
         → option_map (λ (seat : Seat). seat.slot) (cond b (Some (seat_of x)) (find (has_id id) (map seat_of xs))) ≡ Some slot
         → list_any (has_slot slot) (map seat_of (x ∷ xs)) ≡ true
-    by true rest found = or_left _ _ (eq-eqb x.slot slot (some_same x.slot slot found))
+    by true rest found = or_left _ _ (eq-eqb x.slot slot (same_Some x.slot slot found))
     by false rest found = or_right _ _ (rest found)
 
 pub agree : (id : SessionId) (slot above last : ℕ) (seated : List Seated) → CountsRise above last (map seat_of seated) → SlotsApart (map seat_of seated)
@@ -107,7 +108,7 @@ agree id slot above last (x ∷ xs) rise apart found = by (is_session id x.sessi
     by : (b : Bool) → is_session id x.session ≡ b → (slot_found id xs ≡ Some slot → Each (Agrees id slot) xs)
         → option_map (λ (seat : Seat). seat.slot) (cond b (Some (seat_of x)) (find (has_id id) (map seat_of xs))) ≡ Some slot → Each (Agrees id slot) (x ∷ xs)
     by true is rest found =
-        let at : x.slot ≡ slot = some_same x.slot slot found in
+        let at : x.slot ≡ slot = same_Some x.slot slot found in
         let count : x.session.id.count ≡ id.count = eqb-true x.session.id.count id.count (and_parts _ _ is).0 in
         let ids = none_of_id id x.session.id.count last xs rise.1 (omega (arith, count)) in
         let slots = none_of_slot slot xs (ap (λ n. list_any (has_slot n) (map seat_of xs)) (sym at) ∙ apart.1) in

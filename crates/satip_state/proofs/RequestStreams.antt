@@ -4,6 +4,7 @@ use Rattle.std.proofs.Common.{subst, arith}
 use Rattle.std.specs.List.{list_any}
 use Rattle.std.specs.Option.{option_map}
 use Rattle.std.proofs.lemmas.Bool.{eqb-true, true≢false}
+use Rattle.std.proofs.lemmas.Option.{same_Some}
 use Rattle.satip_history.specs.Lists.{Each}
 use Rattle.satip_tune.specs.declared.tunings.Tuning.{Tuning}
 use Rattle.satip_pids.specs.Pids.{Pids}
@@ -14,7 +15,7 @@ use Rattle.satip_flow.specs.Subscription.{Subscription, changed}
 use Rattle.satip_plain.specs.State.{Stream, change_where}
 use Rattle.satip_state.specs.Seated.{Seated, feed_of, seated_in, subscriber, subscribers}
 use Rattle.satip_state.specs.Standing.{stream_in}
-use Rattle.satip_state.proofs.RequestLists.{any-map, each_any, each_weaker, filter_map_agree, filter_map-mapped, find-map, map-append, none_each, some_same}
+use Rattle.satip_state.proofs.RequestLists.{any-map, each_any, each_weaker, filter_map_agree, filter_map-mapped, find-map, map-append, none_each}
 use Rattle.satip_state.proofs.RequestLists.{none_some}
 use Rattle.satip_state.proofs.RequestFlow.{Rise}
 
@@ -45,7 +46,7 @@ found_number number at (t ∷ ts) found = by (t.number == number) refl found (fo
   where
     by : (b : Bool) → (t.number == number) ≡ b → cond b (Some t) (find (λ s. s.number == number) ts) ≡ Some at
         → (find (λ s. s.number == number) ts ≡ Some at → at.number ≡ number) → at.number ≡ number
-    by true is found rest = ap (λ (s : Stream). s.number) (sym (some_same t at found)) ∙ eqb-true t.number number is
+    by true is found rest = ap (λ (s : Stream). s.number) (sym (same_Some t at found)) ∙ eqb-true t.number number is
     by false is found rest = rest found
 
 pub found_each : (P : Stream → Type 0) (number : ℕ) (at : Stream) (streams : List Stream) → Each P streams → find (λ t. t.number == number) streams ≡ Some at
@@ -54,7 +55,7 @@ found_each P number at [] all found = absurd (none_some at found)
 found_each P number at (t ∷ ts) all found = by (t.number == number) found (found_each P number at ts all.1)
   where
     by : (b : Bool) → cond b (Some t) (find (λ s. s.number == number) ts) ≡ Some at → (find (λ s. s.number == number) ts ≡ Some at → P at) → P at
-    by true found rest = subst P (some_same t at found) all.0
+    by true found rest = subst P (same_Some t at found) all.0
     by false found rest = rest found
 
 -- and is the only one of its number
@@ -67,7 +68,7 @@ only_one number above at (t ∷ ts) rise found = by (t.number == number) refl fo
         → (find (λ s. s.number == number) ts ≡ Some at → Each (λ s. (s.number == number) ≡ true → s ≡ at) ts)
         → Each (λ s. (s.number == number) ≡ true → s ≡ at) (t ∷ ts)
     by true is found rest =
-        (λ _. some_same t at found, each_weaker _ _ (λ s more same. absurd (differs s more (eqb-true s.number number same))) ts (rise_above t.number ts rise.1))
+        (λ _. same_Some t at found, each_weaker _ _ (λ s more same. absurd (differs s more (eqb-true s.number number same))) ts (rise_above t.number ts rise.1))
       where
         differs : (s : Stream) → t.number < s.number → s.number ≡ number → ⊥
         differs s more same = omega (arith, more, same, eqb-true t.number number is)

@@ -1,9 +1,9 @@
 -- Rounds of turns, one session after another.
 use Rattle.std.proofs.Common.{◌≡◌, ℕ, zero, suc, ◌≤◌, List, [], ◌∷◌, ◌++◌, length, Some, None, refl, sym, ap, ◌∙◌, arith, append-nil, append_assoc}
 use Rattle.std.specs.List.{slice_get, filter_map, flat_map, cons_option}
+use Rattle.std.proofs.lemmas.Option.{same_Some}
 use Rattle.satip_plain.specs.State.{Session}
 use Rattle.satip_plain.specs.Sending.{Turn}
-use Rattle.satip_state.proofs.Picking.{some_same}
 use Rattle.satip_state.specs.Turns.{Round, turn_of, first_turns}
 
 -- turns in which no session ends
@@ -57,7 +57,7 @@ pub turn_idle : (turn : Session → Turn) (k : ℕ) (ss : List Session) (s : Ses
     → turn_of k turn ss ≡ record { sessions = ss; sent = [] }
 turn_idle turn k [] s got idle = absurd (cc)
 turn_idle turn zero (x ∷ xs) s got idle =
-    let same : turn x ≡ record { sends = []; after = Some s } = ap turn (some_same x s got) ∙ idle in
+    let same : turn x ≡ record { sends = []; after = Some s } = ap turn (same_Some x s got) ∙ idle in
     ap (λ (t : Turn). record { sessions = cons_option t.after xs; sent = t.sends }) same
-    ∙ ap (λ (y : Session). record { sessions = y ∷ xs; sent = [] }) (sym (some_same x s got))
+    ∙ ap (λ (y : Session). record { sessions = y ∷ xs; sent = [] }) (sym (same_Some x s got))
 turn_idle turn (suc k) (x ∷ xs) s got idle = ap (λ (r : Round). record { sessions = x ∷ r.sessions; sent = r.sent }) (turn_idle turn k xs s got idle)

@@ -4,6 +4,7 @@ use Rattle.std.proofs.Common.{Option, Some, None, refl, sym, ap, subst, ◌∙�
 use Rattle.std.specs.List.{list_any, slice_get}
 use Rattle.std.specs.Option.{option_flatten}
 use Rattle.std.proofs.lemmas.Bool.{or_parts, or_from, true≢false, ne_eqb, eq-eqb}
+use Rattle.std.proofs.lemmas.Option.{same_Some}
 use Rattle.satip_history.specs.Lists.{Each, Has}
 use Rattle.satip_table.specs.declared.stream.Stream.{Stream as StreamRow}
 use Rattle.satip_table.specs.Living.{NumbersRise}
@@ -14,7 +15,7 @@ use Rattle.satip_fronts.specs.FrontEnds.{front_of}
 use Rattle.satip_plain.specs.State.{Stream, Row, is_at, change_where}
 use Rattle.satip_plain.specs.Streams.{freed}
 use Rattle.satip_state.specs.Standing.{stream_in, row_in}
-use Rattle.satip_state.proofs.Picking.{some_same, find_place}
+use Rattle.satip_state.proofs.Picking.{find_place}
 
 pub same_tests : (a b : Bool) → (a ≡ true → b ≡ true) → (b ≡ true → a ≡ true) → a ≡ b
 same_tests true b there back = sym (there refl)
@@ -24,7 +25,7 @@ same_tests false false there back = refl
 module _ {X : Type 0} where
   pub any_from_get : (p : X → Bool) (xs : List X) (k : ℕ) (x : X) → slice_get xs k ≡ Some x → p x ≡ true → list_any p xs ≡ true
   any_from_get p [] k x got e = absurd (cc)
-  any_from_get p (y ∷ xs) zero x got e = ap (λ b. b || list_any p xs) (ap p (some_same y x got) ∙ e)
+  any_from_get p (y ∷ xs) zero x got e = ap (λ b. b || list_any p xs) (ap p (same_Some y x got) ∙ e)
   any_from_get p (y ∷ xs) (suc k) x got e = ap (λ b. p y || b) (any_from_get p xs k x got e) ∙ or_true (p y)
     where
       or_true : (b : Bool) → (b || true) ≡ true
@@ -115,14 +116,14 @@ rising_of above (row ∷ rows) rise = (rise.0, rising_of row.number rows rise.1)
 
 pub rising_at : (above : ℕ) (ts : List Stream) (k : ℕ) (t : Stream) → Rising above ts → slice_get ts k ≡ Some t → above < t.number
 rising_at above [] k t rise got = absurd (cc)
-rising_at above (u ∷ us) zero t rise got = subst (λ (z : Stream). above < z.number) (some_same u t got) rise.0
+rising_at above (u ∷ us) zero t rise got = subst (λ (z : Stream). above < z.number) (same_Some u t got) rise.0
 rising_at above (u ∷ us) (suc k) t rise got = let later = rising_at u.number us k t rise.1 got in omega (arith, rise.0, later)
 
 pub found_number : (above : ℕ) (ts : List Stream) (k : ℕ) (t : Stream) → Rising above ts → slice_get ts k ≡ Some t
     → find (λ (u : Stream). u.number == t.number) ts ≡ Some t
 found_number above [] k t rise got = absurd (cc)
 found_number above (u ∷ us) zero t rise got =
-    let same : u ≡ t = some_same u t got in
+    let same : u ≡ t = same_Some u t got in
     ap (λ b. cond b (Some u) (find (λ (z : Stream). z.number == t.number) us)) (eq-eqb u.number t.number (ap (λ (z : Stream). z.number) same)) ∙ ap Some same
 found_number above (u ∷ us) (suc k) t rise got =
     let later = rising_at u.number us k t rise.1 got in

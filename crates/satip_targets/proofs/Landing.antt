@@ -2,6 +2,7 @@
 use Rattle.std.proofs.Common.{◌≡◌, ℕ, ◌+◌, ◌==◌, ◌&&◌, not, Bool, true, false, List, [], ◌∷◌, ◌++◌, length, max, Option, Some, None, refl, ap, if◌then◌else◌, option_map, option_and_then}
 use Rattle.std.specs.List.{filter_map, cons_option, flat_map, list_any}
 use Rattle.std.specs.Option.{option_map_or}
+use Rattle.std.proofs.lemmas.Bool.{not-true}
 use Rattle.satip_fronts.specs.declared.choice.Place.{Place}
 use Rattle.satip_fronts.specs.Choice.{choose}
 use Rattle.satip_tune.specs.Frontends.{mux_of}
@@ -118,10 +119,6 @@ report_goes us c st x is None = tt
 report_goes us c st x is (Some t) = (ap (option_map rtcp_address) is, tt)
 
 -- not of what is true
-not_true : (b : Bool) → not b ≡ true → b ≡ false
-not_true true e = cc
-not_true false e = refl
-
 and_first : (a b : Bool) → (a && b) ≡ true → a ≡ true
 and_first true b e = refl
 and_first false b e = e
@@ -131,7 +128,7 @@ and_second true b e = e
 and_second false b e = cc
 
 due_rtsp : (clock : ℕ) (x : Session) (rest : Bool) → (x.playing && not x.http && rest) ≡ true → x.http ≡ false
-due_rtsp clock x rest e = not_true x.http (and_second x.playing (not x.http) (and_first (x.playing && not x.http) rest e))
+due_rtsp clock x rest e = not-true x.http (and_second x.playing (not x.http) (and_first (x.playing && not x.http) rest e))
 
 -- moves
 
@@ -150,7 +147,7 @@ lands_retune us c number st tuning grounded =
     lands_then us (each_of (λ s. s.stream == number && not s.http) (let_go true st.clock) st)
     (λ now. settle (option_map_or (put_at c number tuning now) (choose (outlook_of c now number) (mux_of c.muxes tuning) tuning) now))
     (lands_some us (λ s. s.stream == number && not s.http) (let_go true st.clock) st
-    (λ x e is. let_go_lands us true st.clock x (not_true x.http (and_second (x.stream == number) (not x.http) e)) is) grounded)
+    (λ x e is. let_go_lands us true st.clock x (not-true x.http (and_second (x.stream == number) (not x.http) e)) is) grounded)
     (λ now g. lands_still us (option_map_or (put_at c number tuning now) (choose (outlook_of c now number) (mux_of c.muxes tuning) tuning) now)
     (retuned_grounded us c number tuning now g (choose (outlook_of c now number) (mux_of c.muxes tuning) tuning)))
 
@@ -194,7 +191,7 @@ lands_tick us c now st grounded =
     let clock : ℕ = max st.clock (capped now) in
     lands_then us (each_of (λ s. not s.http) (let_go true clock) (record st { clock = clock }))
     (λ flushed. then_move (end_where (is_expired c flushed.clock) flushed) (λ left. send_reports c left))
-    (lands_some us (λ s. not s.http) (let_go true clock) (record st { clock = clock }) (λ x e is. let_go_lands us true clock x (not_true x.http e) is) grounded)
+    (lands_some us (λ s. not s.http) (let_go true clock) (record st { clock = clock }) (λ x e is. let_go_lands us true clock x (not-true x.http e) is) grounded)
     (λ flushed g. lands_then us (end_where (is_expired c flushed.clock) flushed) (λ left. send_reports c left)
     (lands_end us flushed (is_expired c flushed.clock) g)
     (λ left k. lands_some us (is_due left.clock) (λ s. record { sends = report_of c left s; after = Some (record s { reported = Some left.clock }) }) left

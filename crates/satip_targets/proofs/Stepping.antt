@@ -3,6 +3,7 @@ use Rattle.std.proofs.Common.{◌≡◌, ◌∙◌, ℕ, ◌+◌, ◌≤◌, ◌
 use Rattle.std.specs.Prelude.{take}
 use Rattle.std.specs.Option.{option_map_or}
 use Rattle.std.proofs.lemmas.Bool.{true≢false, and_parts}
+use Rattle.satip_plain.proofs.SameIds.{same_id_is}
 use Rattle.satip_history.specs.Lists.{Each, Has}
 use Rattle.satip_history.proofs.Elements.{Each-append, Has-append_left, each_follows}
 use Rattle.satip_http.specs.Heads.{http_refusal}
@@ -34,7 +35,7 @@ use Rattle.satip_readings.proofs.Deciding.{decided_refuses}
 use Rattle.satip_readings.proofs.Law.{agrees_opening}
 use Rattle.satip_readings.proofs.Steps.{agrees_step}
 use Rattle.satip_laws.proofs.Events.{a_step, named_heard, not_missing}
-use Rattle.satip_laws.proofs.Ids.{Below, id_is, id_same}
+use Rattle.satip_laws.proofs.Ids.{Below, id_same}
 use Rattle.satip_laws.proofs.Moves.{IsSound}
 use Rattle.satip_laws.proofs.Over.{opening_sound}
 use Rattle.satip_targets.specs.Targets.{DatagramsGoToLast, DatagramsGoToOne, GoesToLast, GoesToOne, GoesWhere, SetUp, last_of, later_or, rtcp_address, rtp_address, session_of, set_up_by, set_up_in, set_ups_from}
@@ -64,7 +65,7 @@ other_way : (a b : SessionId) → same_id a b ≡ false → same_id b a ≡ fals
 other_way a b differ = by (same_id b a) refl
   where
     by : (t : Bool) → same_id b a ≡ t → t ≡ false
-    by true e = absurd (true≢false (sym (ap (λ i. same_id a i) (id_is b a e) ∙ id_same a) ∙ differ))
+    by true e = absurd (true≢false (sym (ap (λ i. same_id a i) (same_id_is b a e) ∙ id_same a) ∙ differ))
     by false e = refl
 
 -- the session of a SETUP
@@ -90,7 +91,7 @@ rtsp_id id (y ∷ ys) x e = by (same_id y.id id && not y.http) refl e (λ f. rts
   where
     by : (b : Bool) → (same_id y.id id && not y.http) ≡ b → (if b then Some y else find (λ s. same_id s.id id && not s.http) ys) ≡ Some x
         → (find (λ s. same_id s.id id && not s.http) ys ≡ Some x → x.id ≡ id) → x.id ≡ id
-    by true e f rest = ap (λ o. (unwrap_or o y).id) (sym f) ∙ id_is y.id id (and_parts (same_id y.id id) (not y.http) e).0
+    by true e f rest = ap (λ o. (unwrap_or o y).id) (sym f) ∙ same_id_is y.id id (and_parts (same_id y.id id) (not y.http) e).0
     by false e f rest = rest f
 
 named_id : (st : State) (g : Readings) (draw : Draw) (n : SessionName) (x : Session) → session_named st n ≡ Some x → session_of g draw n ≡ x.id
@@ -111,7 +112,7 @@ next_other : (st : State) (draw : Draw) (x : Session) → x.id.count ≤ st.made
 next_other st draw x few = by (same_id (next_id st draw) x.id) refl
   where
     by : (t : Bool) → same_id (next_id st draw) x.id ≡ t → t ≡ false
-    by true e = let same : st.made + 1 ≡ x.id.count = ap (λ i. i.count) (id_is (next_id st draw) x.id e) in absurd (omega (arith, same, few))
+    by true e = let same : st.made + 1 ≡ x.id.count = ap (λ i. i.count) (same_id_is (next_id st draw) x.id e) in absurd (omega (arith, same, few))
     by false e = refl
 
 still_grounded : (us : List SetUp) (u : SetUp) (st : State) (draw : Draw) → u.session ≡ next_id st draw → (xs : List Session) → Below st.made xs
@@ -158,7 +159,7 @@ moved_grounded us u peer draw ports r st s grounded named is =
 
     on : (x : Session) → is_session s.id x ≡ true → IsGrounded (us ++ u ∷ []) (record x { peer = peer; ports = ports })
     on x e =
-        let same : x.id ≡ s.id = id_is x.id s.id e in
+        let same : x.id ≡ s.id = same_id_is x.id s.id e in
         let placed : SessionId → SetUp = λ i. record { session = i; peer = peer; ports = ports } in
         λ rtsp. last_this x.id us u (session ∙ sym same) ∙ ap (λ (v : SetUp). Some v) (is ∙ ap placed (sym same))
 
@@ -422,7 +423,7 @@ last_is s (v ∷ vs) u e = by (last_of s vs) refl (same_id v.session s) refl e (
     by (Some w) f b g h rest = let one = rest (f ∙ h) in record { has = inr one.has; session = one.session }
     by None f true g h rest =
         let same : v ≡ u = cc h in
-        record { has = inl (sym same); session = ap (λ (w : SetUp). w.session) (sym same) ∙ id_is v.session s g }
+        record { has = inl (sym same); session = ap (λ (w : SetUp). w.session) (sym same) ∙ same_id_is v.session s g }
     by None f false g h rest = cc
 
 goes_where : (us : List SetUp) (s : SessionId) (to : Address) (address : SetUp → Address) → option_map address (last_of s us) ≡ Some to

@@ -1,6 +1,6 @@
 -- A place is found exactly where an element passes.
 use Rattle.std.proofs.Common.{◌≡◌, ℕ, suc, ◌+◌, Bool, true, false, cond, not, ◌||◌, List, [], ◌∷◌, ◌++◌, length, None, Some, is_some, position, nat_lt, take, drop, ◌<◌, ◌≤◌, refl, sym, ap, ◌∙◌, arith}
-use Rattle.std.proofs.lemmas.Bool.{ltb-true, ltb-false}
+use Rattle.std.proofs.lemmas.Bool.{ltb-true, ltb-false, or_parts}
 use Rattle.std.proofs.lemmas.List.{take_all, drop_all, drop-drop}
 use Rattle.std.proofs.lemmas.List.Splits.{slice_split-cons_no, slice_split-cons_yes, slice_split_first}
 use Rattle.std.proofs.lemmas.Bool.Decides.{nat_tests}
@@ -28,14 +28,10 @@ position_or_len-lt p (x ∷ xs) =
 pub is_some-position : {X : Type 0} (p : X → Bool) → (xs : List X) → is_some (position p xs) ≡ list_any p xs
 is_some-position p xs = is_some-cond (nat_lt (position_or_len p xs) (length xs)) (position_or_len p xs) ∙ position_or_len-lt p xs
 
-or-false : (a b : Bool) → (a || b) ≡ false → (a ≡ false) × (b ≡ false)
-or-false true b h = absurd (cc)
-or-false false b h = (refl, h)
-
 pub slice_split-no : {X : Type 0} (p : X → Bool) → (xs : List X) → list_any p xs ≡ false → slice_split p xs ≡ xs ∷ []
 slice_split-no p [] none = refl
 slice_split-no p (x ∷ xs) none =
-    let both : (p x ≡ false) × (list_any p xs ≡ false) = or-false (p x) (list_any p xs) none in
+    let both : (p x ≡ false) × (list_any p xs ≡ false) = or_parts (p x) (list_any p xs) none in
     slice_split-cons_no p x xs both.0 ∙ ap (λ parts. onto_first x parts) (slice_split-no p xs both.1)
 
 -- a list that is cut behind its first part
@@ -43,7 +39,7 @@ pub slice_split-join : {X : Type 0} (p : X → Bool) → (xs : List X) (y : X) (
     → slice_split p (xs ++ y ∷ ys) ≡ xs ∷ slice_split p ys
 slice_split-join p [] y ys none here = slice_split-cons_yes p y ys here
 slice_split-join p (x ∷ xs) y ys none here =
-    let both : (p x ≡ false) × (list_any p xs ≡ false) = or-false (p x) (list_any p xs) none in
+    let both : (p x ≡ false) × (list_any p xs ≡ false) = or_parts (p x) (list_any p xs) none in
     slice_split-cons_no p x (xs ++ y ∷ ys) both.0 ∙ ap (λ parts. onto_first x parts) (slice_split-join p xs y ys both.1 here)
 
 -- where no element passes, the list is not cut

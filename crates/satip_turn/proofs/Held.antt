@@ -1,5 +1,6 @@
 -- Who holds the turn, where a view changes.
 use Rattle.std.proofs.Common.{◌≡◌, ◌≢◌, ℕ, Bool, true, false, true≢false, List, [], ◌∷◌, ◌++◌, length, set, refl, sym, ap, ◌∙◌, subst, ⊎_elim, arith}
+use Rattle.std.proofs.lemmas.Bool.{false_from_ne_true}
 use mathlib.Core.Option.{some}
 use lib.ListN.{get_elem?}
 use Rattle.atomic_table.proofs.Lists.{at_set, set_else, at_snoc}
@@ -12,10 +13,6 @@ use Rattle.satip_turn.proofs.Moves.{set_there}
 -- a test that is both
 pub both_ways : {P : Type 0} (b : Bool) → b ≡ true → b ≡ false → P
 both_ways b t f = absurd (true≢false (sym t ∙ f))
-
-pub not_true : (b : Bool) → (b ≡ true → ⊥) → b ≡ false
-not_true true h = absurd (h refl)
-not_true false h = refl
 
 pub no_turn : {E A O C : Type 0} (views : List (View E A O C)) (j : ℕ) (w : View E A O C)
     → ((i : ℕ) (u : View E A O C) → i ≢ j → get_elem? views i ≡ some u → u.turn ≡ false) → w.turn ≡ false
@@ -69,7 +66,7 @@ module _ {E A O C : Type 0} (log log' : List (Entry E A O)) (views : List (View 
   -- the holder gives it up, and then nobody holds it
   pub nobody_holds : v.turn ≡ true → w.turn ≡ false → (i : ℕ) (u : View E A O C) → get_elem? (set views j w) i ≡ some u → u.turn ≡ false
   nobody_holds holds idle = no_turn views j w
-      (λ i u apart e. not_true u.turn (λ turn. apart (b.alone i u e turn ∙ sym (b.alone j v at holds)))) idle
+      (λ i u apart e. false_from_ne_true u.turn (λ turn. apart (b.alone i u e turn ∙ sym (b.alone j v at holds)))) idle
 
 -- the holder is new, where nobody held the turn
 pub busy_begins : {E A O C : Type 0} (log : List (Entry E A O)) (views : List (View E A O C)) (j : ℕ) (v w : View E A O C)

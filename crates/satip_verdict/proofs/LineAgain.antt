@@ -3,8 +3,9 @@ use Rattle.std.proofs.Common.{◌≡◌, ◌≢◌, ℕ, zero, suc, ◌/◌, ◌
 use Rattle.std.specs.Prelude.{slice_index}
 use Rattle.std.specs.Bool.{MatchBool}
 use Rattle.std.specs.List.{list_any}
-use Rattle.std.proofs.lemmas.Bool.{eqb-false}
+use Rattle.std.proofs.lemmas.Bool.{eqb-false, or_parts}
 use Rattle.std.proofs.lemmas.List.{append_cancel_left, append_cancel_right, get_or_past}
+use Rattle.std.proofs.lemmas.Option.{same_Some}
 use Rattle.hex.specs.Hex.{IsBytes, encode_lower, encode_with, hex_digit_value, lower_digits}
 use Rattle.hex.proofs.HexLemmas.{IsDigits-lower_digits}
 use Rattle.satip_base.specs.Output.{Datagram, Output}
@@ -28,12 +29,8 @@ use Rattle.satip_verdict.specs.Replaying.{DoesOther, DoesSo}
 
 -- ---- texts that are cut at the same byte
 
-or_false : (a b : Bool) → (a || b) ≡ false → (a ≡ false) × (b ≡ false)
-or_false true b h = absurd (cc h)
-or_false false b h = (refl, h)
-
 head_lacks : (at c : ℕ) (b : List ℕ) → list_any (is_byte at) (c ∷ b) ≡ false → (c ≡ at → ⊥) × (list_any (is_byte at) b ≡ false)
-head_lacks at c b h = let both = or_false (is_byte at c) (list_any (is_byte at) b) h in (eqb-false c at both.0, both.1)
+head_lacks at c b h = let both = or_parts (is_byte at c) (list_any (is_byte at) b) h in (eqb-false c at both.0, both.1)
 
 pub cut_same : (at : ℕ) (a b x y : List ℕ) → list_any (is_byte at) a ≡ false → list_any (is_byte at) b ≡ false → a ++ at ∷ x ≡ b ++ at ∷ y → x ≡ y
 cut_same at [] [] x y no_a no_b e = cc e
@@ -48,13 +45,10 @@ cut_same at (c ∷ a) (d ∷ b) x y no_a no_b e =
 none_is : (n : ℕ) → None ≡ Some n → ⊥
 none_is n e = cc e
 
-some_is : (a b : ℕ) → Some a ≡ Some b → a ≡ b
-some_is a b e = cc e
-
 same_digit : (i j : ℕ) → j < 16 → slice_index lower_digits i ≡ slice_index lower_digits j → i ≡ j
 same_digit i j small e =
     let read : hex_digit_value (slice_index lower_digits i) ≡ Some j = ap hex_digit_value e ∙ IsDigits-lower_digits j small in
-    let within : i < 16 → i ≡ j = λ h. some_is i j (sym (IsDigits-lower_digits i h) ∙ read) in
+    let within : i < 16 → i ≡ j = λ h. same_Some i j (sym (IsDigits-lower_digits i h) ∙ read) in
     let beyond : 16 ≤ i → 1 ≤ 0 = λ h.
     let past : slice_index lower_digits i ≡ 0 = get_or_past lower_digits i 0 h in
     absurd (none_is j (sym (ap hex_digit_value past) ∙ read)) in

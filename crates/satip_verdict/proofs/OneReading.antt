@@ -2,6 +2,7 @@
 use Rattle.std.proofs.Common.{◌≡◌, ℕ, ◌<◌, ◌^◌, List, [], ◌∷◌, ◌++◌, length, length-append, append_assoc, append-nil, flat_map, decimal, codes, false, Some, Ok, Err, Result, refl, sym, ap, ◌∙◌, arith}
 use Rattle.std.specs.List.{list_any}
 use Rattle.std.proofs.lemmas.List.{append_cancel_left, append_cancel_right}
+use Rattle.std.proofs.lemmas.Option.{same_Some}
 use Rattle.hex.specs.Hex.{encode_lower}
 use Rattle.satip_history.specs.Lists.{Each}
 use Rattle.satip_records.specs.Lines.{entry_line, start_line}
@@ -19,11 +20,8 @@ cut_both at a b x y no_a no_b e =
     let behind = cut_same at a b x y no_a no_b e in
     (append_cancel_right a b (at ∷ x) (e ∙ ap (λ (t : List ℕ). b ++ at ∷ t) (sym behind)), behind)
 
-some_is : (a b : ℕ) → Some a ≡ Some b → a ≡ b
-some_is a b e = cc e
-
 same_decimal : (n m : ℕ) → n < 2 ^ 64 → m < 2 ^ 64 → decimal n ≡ decimal m → n ≡ m
-same_decimal n m small other e = some_is n m (sym (number_read (decimal n) n small refl) ∙ number_read (decimal n) m other e)
+same_decimal n m small other e = same_Some n m (sym (number_read (decimal n) n small refl) ∙ number_read (decimal n) m other e)
 
 same_start : (n m : ℕ) → n < 2 ^ 64 → m < 2 ^ 64 → start_line n ≡ start_line m → n ≡ m
 unfolding start_line
