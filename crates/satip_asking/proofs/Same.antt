@@ -11,7 +11,7 @@ use Rattle.satip_tune.specs.contracts.signal.RollOff as roll_off
 use Rattle.satip_tune.specs.contracts.signal.System as system
 use Rattle.satip_tune.specs.contracts.signal.Modulation as modulation
 use Rattle.satip_tune.specs.contracts.signal.Fec as fec
-use Rattle.satip_tune.specs.Words.{pol_text, system_text, modulation_text, roll_off_text, fec_text, pilots_text, pol_named, system_named, modulation_named, roll_off_named, fec_named, pilots_named}
+use Rattle.satip_tune.specs.Words.{pol_text, system_text, modulation_text, roll_off_text, fec_text, pilots_text_of, pol_named, system_named, modulation_named, roll_off_named, fec_named, pilots_named_of}
 use Rattle.satip_tune.proofs.WordLaws.{pol_printed, system_printed, modulation_printed, roll_off_printed, fec_printed, pilots_printed}
 use Rattle.satip_plain.specs.Types.{Tuning}
 use Rattle.satip_plain.specs.SameTuning.{same_by, tuning_eq}
@@ -28,8 +28,8 @@ same_word : (D : Declared) → Bare D.parts → (text : D.D → List ℕ) (named
     → sameb D x y ≡ same_by text x y
 same_word D bare text named printed x y = one_answer _ _ (same_true D bare x y, true_same D x y) (by_text text named printed x y)
 
-same_pilots : (x y : Bool) → beq x y ≡ same_by pilots_text x y
-same_pilots x y = one_answer _ _ (decided x y) (by_text pilots_text pilots_named pilots_printed x y)
+same_pilots : (x y : Bool) → beq x y ≡ same_by pilots_text_of x y
+same_pilots x y = one_answer _ _ (decided x y) (by_text pilots_text_of pilots_named_of pilots_printed x y)
   where
     decided : (a b : Bool) → Decides (beq a b) (a ≡ b)
     decided true true = ((λ e. refl), (λ e. refl))
@@ -85,5 +85,5 @@ derived_same a b =
     (same_word system.the_type tt system_text system_named system_printed a.msys b.msys)
     (same_given (λ x y. sameb modulation.the_type x y) (same_by modulation_text)
     (same_word modulation.the_type tt modulation_text modulation_named modulation_printed) a.mtype b.mtype)
-    (same_given beq (same_by pilots_text) same_pilots a.plts b.plts)
+    (same_given beq (same_by pilots_text_of) same_pilots a.plts b.plts)
     (same_given (λ x y. sameb fec.the_type x y) (same_by fec_text) (same_word fec.the_type tt fec_text fec_named fec_printed) a.fec b.fec)

@@ -9,10 +9,10 @@ use Rattle.satip_base.specs.Numbers.{number_of}
 use Rattle.satip_base.specs.declared.network.Ports.{Ports}
 use Rattle.satip_base.proofs.NumberLemmas.{length-decimal_u16}
 use Rattle.satip_tune.specs.Pieces.{is_byte}
-use Rattle.satip_rtsp.specs.Targets.{begins_with}
-use Rattle.satip_rtsp.specs.Transports.{both_ports, port_up_to}
+use Rattle.satip_rtsp.specs.Targets.{is_begun_with}
+use Rattle.satip_rtsp.specs.Transports.{both_ports, port_at_most}
 use Rattle.satip_rtsp.proofs.CseqLemmas.{number_of-le}
-use Rattle.satip_channels.specs.Turned.{channel_line, is_empty_line, ports_between, ports_name, ports_told, turned, turned_line, turned_lines, without_return}
+use Rattle.satip_channels.specs.Turned.{channel_line, is_empty_line, ports_beside, ports_name, told_ports, turned, turned_line, turned_lines, return_left}
 
 -- as many pieces as before
 same_count : (line : List ℕ) (parts turned_parts : List (List ℕ)) (b : Bool) → length turned_parts ≡ length parts
@@ -73,7 +73,7 @@ turned_last left line split =
 abbrev ArePorts : Ports → Type 0
 ArePorts ports = (ports.rtp < 2 ^ 16) × (ports.rtcp < 2 ^ 16)
 
-port_within : (text : List ℕ) → IfSome (port_up_to 65535 text) (λ n. n < 2 ^ 16)
+port_within : (text : List ℕ) → IfSome (port_at_most 65535 text) (λ n. n < 2 ^ 16)
 port_within text = by (number_of 65535 text) refl
   where
     not_zero : (n : ℕ) (b : Bool) → n ≤ 65535 → IfSome (cond b None (Some n)) (λ m. m < 2 ^ 16)
@@ -89,7 +89,7 @@ both_within (Some a) (Some b) first second = (first, second)
 both_within (Some a) None first second = tt
 both_within None b first second = tt
 
-between_within : (text : Option (List ℕ)) → IfSome (option_and_then ports_between text) ArePorts
+between_within : (text : Option (List ℕ)) → IfSome (option_and_then ports_beside text) ArePorts
 between_within None = tt
 between_within (Some text) = both_within _ _ (port_within (before_first (is_byte 45) text)) (port_within (after_first (is_byte 45) text))
 
@@ -99,24 +99,24 @@ length-channel_line-le ports (rtp, rtcp) =
     simp length-append (omega (arith, length-decimal_u16 (ports.rtp - 1) (omega arith), length-decimal_u16 (ports.rtcp - 1) (omega arith)))
 
 -- a line that begins like one that tells ports is as long as that
-named_long : (line : List ℕ) → begins_with ports_name line ≡ true → 39 ≤ length line
+named_long : (line : List ℕ) → is_begun_with ports_name line ≡ true → 39 ≤ length line
 named_long line is =
     let same : take 39 line ≡ ports_name = (bytes_eq-Decides (take 39 line) ports_name).0 is in
     let size : length (take 39 line) ≡ 39 = ap length same in
     omega (arith, size, length-take 39 line)
 
 length-turned_line-le : (line : List ℕ) → length (turned_line line) ≤ 2 * length line
-unfolding ports_told
-length-turned_line-le line = by (begins_with ports_name line) refl
+unfolding told_ports
+length-turned_line-le line = by (is_begun_with ports_name line) refl
   where
     of_ports : (told : Option Ports) → IfSome told ArePorts → 39 ≤ length line → length (option_map_or channel_line told line) ≤ 2 * length line
     of_ports None within long = omega arith
     of_ports (Some ports) within long = omega (arith, long, length-channel_line-le ports within)
 
-    by : (b : Bool) → begins_with ports_name line ≡ b
-        → length (option_map_or channel_line (option_and_then ports_between (option_and_then without_return (cond b (Some (drop 39 line)) None))) line)
+    by : (b : Bool) → is_begun_with ports_name line ≡ b
+        → length (option_map_or channel_line (option_and_then ports_beside (option_and_then return_left (cond b (Some (drop 39 line)) None))) line)
         ≤ 2 * length line
-    by true is = of_ports _ (between_within (without_return (drop 39 line))) (named_long line is)
+    by true is = of_ports _ (between_within (return_left (drop 39 line))) (named_long line is)
     by false is = omega arith
 
 twice_front : (line : List ℕ) (parts turned_parts : List (List ℕ)) (b : Bool) → 0 < length parts → 0 < length turned_parts

@@ -6,11 +6,11 @@ use Rattle.satip_rtsp.specs.declared.requests.Method.{Method}
 use Rattle.satip_rtsp.specs.declared.requests.Method.TheVariants.{Setup}
 use Rattle.satip_rtsp.specs.declared.requests.Request.{Request}
 use Rattle.satip_rtsp.specs.Asked.{asked}
-use Rattle.satip_channels.specs.Channels.{interleaved}
+use Rattle.satip_channels.specs.Channels.{interleaved_by}
 
 -- the channels that a method asks for
 abbrev pub channels_asked : Method → Option (List ℕ) → Option Ports
-channels_asked Setup value = option_and_then interleaved value
+channels_asked Setup value = option_and_then interleaved_by value
 channels_asked method value = None
 
 -- a request with its channels in place of UDP ports; one that is refused has the method Options

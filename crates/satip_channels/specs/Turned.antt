@@ -5,28 +5,28 @@ use Rattle.std.specs.Option.{option_map_or}
 use Rattle.std.specs.Str.{bytes_eq}
 use Rattle.satip_base.specs.declared.network.Ports.{Ports}
 use Rattle.satip_tune.specs.Pieces.{is_byte}
-use Rattle.satip_rtsp.specs.Targets.{begins_with}
-use Rattle.satip_rtsp.specs.Transports.{both_ports, port_up_to}
+use Rattle.satip_rtsp.specs.Targets.{is_begun_with}
+use Rattle.satip_rtsp.specs.Transports.{both_ports, port_at_most}
 
 -- how a line begins that tells UDP ports
 abbrev pub ports_name : List ℕ
 ports_name = codes "Transport: RTP/AVP;unicast;client_port="
 
 -- the ports p and q of `p-q`, neither of them 0
-abbrev pub ports_between : List ℕ → Option Ports
-ports_between text = both_ports (port_up_to 65535 (before_first (is_byte 45) text)) (port_up_to 65535 (after_first (is_byte 45) text))
+abbrev pub ports_beside : List ℕ → Option Ports
+ports_beside text = both_ports (port_at_most 65535 (before_first (is_byte 45) text)) (port_at_most 65535 (after_first (is_byte 45) text))
 
 -- what stands before the carriage return that ends a line
-abbrev pub without_return : List ℕ → Option (List ℕ)
-without_return line = if ends_with nat_eq line (13 ∷ []) then Some (take (length line - 1) line) else None
+abbrev pub return_left : List ℕ → Option (List ℕ)
+return_left line = if ends_with nat_eq line (13 ∷ []) then Some (take (length line - 1) line) else None
 
 -- what stands behind the beginning of a line that tells UDP ports
-abbrev pub behind_name : List ℕ → Option (List ℕ)
-behind_name line = if begins_with ports_name line then Some (drop 39 line) else None
+abbrev pub name_left : List ℕ → Option (List ℕ)
+name_left line = if is_begun_with ports_name line then Some (drop 39 line) else None
 
 -- the UDP ports that a line tells, which ends with its carriage return
-unfoldable pub ports_told : List ℕ → Option Ports
-ports_told line = option_and_then ports_between (option_and_then without_return (behind_name line))
+unfoldable pub told_ports : List ℕ → Option Ports
+told_ports line = option_and_then ports_beside (option_and_then return_left (name_left line))
 
 -- the line that tells channels, without its line feed
 unfoldable pub channel_line : Ports → List ℕ
@@ -35,7 +35,7 @@ channel_line ports =
 
 -- a line that tells ports, told in channels; any other as it is
 abbrev pub turned_line : List ℕ → List ℕ
-turned_line line = option_map_or channel_line (ports_told line) line
+turned_line line = option_map_or channel_line (told_ports line) line
 
 -- the line that ends a head, without its line feed
 abbrev pub is_empty_line : List ℕ → Bool

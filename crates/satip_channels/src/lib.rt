@@ -9,15 +9,15 @@ mod replies;
 mod requests;
 #[rattlefmt::skip]
 #[tactic(auto, unfolding(
-    crate::specs::Channels::interleaved,
-    crate::specs::Channels::channels_of,
-    crate::specs::Channels::channels_in,
-    crate::specs::Channels::gives_channels,
-    crate::specs::Channels::is_tcp,
+    crate::specs::Channels::interleaved_by,
+    crate::specs::Channels::channels_by,
+    crate::specs::Channels::channels_text,
+    crate::specs::Channels::is_channel_text,
+    crate::specs::Channels::is_tcp_text,
     satip_base::specs::Numbers::number_of,
-    satip_rtsp::specs::Blanks::trimmed,
+    satip_rtsp::specs::Blanks::text_trimmed,
     crate::specs::Turned::turned,
-    crate::specs::Turned::ports_told,
+    crate::specs::Turned::told_ports,
     crate::specs::Turned::channel_line,
 ))]
 mod rows;

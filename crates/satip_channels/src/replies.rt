@@ -2,8 +2,8 @@
 ghost use Rattle.std.specs.Prelude.{◌≡◌, ◌+◌, ◌≤◌, [], ◌++◌, length, vec_len, vec_capacity, decimal, IfSome, IfNone, IfOk};
 ghost use Rattle.std.specs.Option.{option_copied, option_and_then};
 ghost use Rattle.satip_base.specs.declared.limits.TheConstants.{REPLY_BYTES as MOST};
-ghost use Rattle.satip_channels.specs.Turned.{behind_name as name_left, channel_line, ports_between as ports_beside, ports_told as told_ports, IsFirstLine, HasNoLine, turned, turned_line, without_return as return_left};
-ghost use Rattle.satip_rtsp.specs.Transports.{port_up_to};
+ghost use Rattle.satip_channels.specs.Turned.{name_left, channel_line, ports_beside, told_ports, IsFirstLine, HasNoLine, turned, turned_line, return_left};
+ghost use Rattle.satip_rtsp.specs.Transports.{port_at_most};
 
 use crate::texts::text_of;
 use itoa::Buffer;
@@ -139,7 +139,7 @@ fn append_number(text: &mut Vec<u8>, number: u16)
     append(text, Buffer::new().format(number).as_bytes());
 }
 
-#[tactic(auto, unfolding(crate::specs::Turned::ports_told))]
+#[tactic(auto, unfolding(crate::specs::Turned::told_ports))]
 fn ports_told(line: &[u8]) -> Option<Ports>
     ensures told { result ≡ told_ports line.now }
 {
@@ -176,7 +176,7 @@ fn ports_between(text: &[u8]) -> Option<Ports>
 
 #[tactic(auto, using(satip_rtsp::proofs::CseqLemmas::cseq_bounds))]
 fn read_port(text: &[u8]) -> Option<u16>
-    ensures port { result ≡ port_up_to 65535 text.now }
+    ensures port { result ≡ port_at_most 65535 text.now }
 {
     match read_number(text, 65535) {
         None => None,

@@ -1,30 +1,30 @@
 //! Transports and replies worked out by hand, as contracts of functions with empty bodies.
 ghost use Rattle.std.specs.Prelude.{◌≡◌, ◌++◌, None, Some, codes};
-ghost use Rattle.satip_channels.specs.Channels.{interleaved as channels};
+ghost use Rattle.satip_channels.specs.Channels.{interleaved_by};
 ghost use Rattle.satip_channels.specs.Rows.{body_of, setup_with};
 ghost use Rattle.satip_channels.specs.Turned.{turned};
 ghost use Rattle.satip_rtsp.specs.Replies.{line_end};
 
 /// Which transports are acceptable, and what channels they give.
 pub fn worked_transports()
-    ensures both { channels (codes "RTP/AVP/TCP;interleaved=0-1")
+    ensures both { interleaved_by (codes "RTP/AVP/TCP;interleaved=0-1")
         ≡ Some (record { rtp = 1; rtcp = 2 }) }
-    ensures one { channels (codes "RTP/AVP/TCP;unicast;interleaved=4")
+    ensures one { interleaved_by (codes "RTP/AVP/TCP;unicast;interleaved=4")
         ≡ Some (record { rtp = 5; rtcp = 6 }) }
-    ensures last_one { channels (codes "RTP/AVP/TCP;interleaved=254")
+    ensures last_one { interleaved_by (codes "RTP/AVP/TCP;interleaved=254")
         ≡ Some (record { rtp = 255; rtcp = 256 }) }
-    ensures without_next { channels (codes "RTP/AVP/TCP;interleaved=255") ≡ None }
-    ensures falling { channels (codes "RTP/AVP/TCP;interleaved=255-0")
+    ensures without_next { interleaved_by (codes "RTP/AVP/TCP;interleaved=255") ≡ None }
+    ensures falling { interleaved_by (codes "RTP/AVP/TCP;interleaved=255-0")
         ≡ Some (record { rtp = 256; rtcp = 1 }) }
-    ensures equal { channels (codes "RTP/AVP/TCP;interleaved=7-7") ≡ None }
-    ensures too_large { channels (codes "RTP/AVP/TCP;interleaved=0-256") ≡ None }
-    ensures in_any_case { channels (codes " rtp/avp/tcp ; Interleaved=00-1 ")
+    ensures equal { interleaved_by (codes "RTP/AVP/TCP;interleaved=7-7") ≡ None }
+    ensures too_large { interleaved_by (codes "RTP/AVP/TCP;interleaved=0-256") ≡ None }
+    ensures in_any_case { interleaved_by (codes " rtp/avp/tcp ; Interleaved=00-1 ")
         ≡ Some (record { rtp = 1; rtcp = 2 }) }
-    ensures first_counts { channels (codes "RTP/AVP/TCP;interleaved=x;interleaved=0-1") ≡ None }
-    ensures without { channels (codes "RTP/AVP/TCP;unicast") ≡ None }
-    ensures over_udp { channels (codes "RTP/AVP;unicast;client_port=1400-1401") ≡ None }
-    ensures udp_interleaved { channels (codes "RTP/AVP/UDP;interleaved=0-1") ≡ None }
-    ensures second { channels
+    ensures first_counts { interleaved_by (codes "RTP/AVP/TCP;interleaved=x;interleaved=0-1") ≡ None }
+    ensures without { interleaved_by (codes "RTP/AVP/TCP;unicast") ≡ None }
+    ensures over_udp { interleaved_by (codes "RTP/AVP;unicast;client_port=1400-1401") ≡ None }
+    ensures udp_interleaved { interleaved_by (codes "RTP/AVP/UDP;interleaved=0-1") ≡ None }
+    ensures second { interleaved_by
         (codes "RTP/AVP/UDP;unicast;client_port=1400-1401,RTP/AVP/TCP;interleaved=2-3")
         ≡ Some (record { rtp = 3; rtcp = 4 }) }
 {}

@@ -1,10 +1,10 @@
 //! Texts without the blanks at their ends, and how they begin.
 ghost use Rattle.std.specs.Prelude.{◌≡◌};
 ghost use Rattle.satip_tune.specs.Pieces.{text_left};
-ghost use Rattle.satip_rtsp.specs.Blanks.{is_blank as is_space_or_tab, trimmed as text_trimmed, trimmed_start as start_trimmed, trimmed_end as end_trimmed};
+ghost use Rattle.satip_rtsp.specs.Blanks.{is_space_or_tab, text_trimmed, start_trimmed, end_trimmed};
 
 /// The text without the spaces and tabs at its ends.
-#[tactic(auto, unfolding(satip_rtsp::specs::Blanks::trimmed))]
+#[tactic(auto, unfolding(satip_rtsp::specs::Blanks::text_trimmed))]
 pub fn trimmed(text: &[u8]) -> &[u8]
     ensures trimmed { result.now ≡ text_trimmed text.now }
 {

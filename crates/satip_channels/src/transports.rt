@@ -1,7 +1,7 @@
 //! The channels that a `Transport` header asks for (RFC 2326, sections 10.12 and 12.39).
 ghost use Rattle.std.specs.Prelude.{◌≡◌, take, drop, Some};
 ghost use Rattle.satip_base.specs.Numbers.{number_of};
-ghost use Rattle.satip_channels.specs.Channels.{interleaved as value_interleaved, channels_of as channels_by, is_tcp as is_tcp_text, gives_channels as is_channel_text, first_channels as channels_first, channels_in as channels_text, channels_from as channels_beginning, both_channels};
+ghost use Rattle.satip_channels.specs.Channels.{interleaved_by, channels_by, is_tcp_text, is_channel_text, channels_first, channels_text, channels_beginning, both_channels};
 ghost use Rattle.satip_rtsp.specs.Transports.{parameters};
 
 use crate::texts::{text_of, trimmed};
@@ -13,9 +13,9 @@ use satip_tune::cut;
 /// and its first parameter that begins with `interleaved=` goes on as `a-b`, two different numbers
 /// up to 255, or as `a` up to 254, which stands for `a` and the next channel. None where no
 /// transport is acceptable; a UDP transport never is.
-#[tactic(auto, unfolding(crate::specs::Channels::interleaved))]
+#[tactic(auto, unfolding(crate::specs::Channels::interleaved_by))]
 pub fn interleaved(value: &[u8]) -> Option<Ports>
-    ensures channels { result ≡ value_interleaved value.now }
+    ensures channels { result ≡ interleaved_by value.now }
 {
     let mut left = Some(value);
     while let Some(rest) = left {
@@ -28,7 +28,7 @@ pub fn interleaved(value: &[u8]) -> Option<Ports>
     None
 }
 
-#[tactic(auto, unfolding(crate::specs::Channels::channels_of))]
+#[tactic(auto, unfolding(crate::specs::Channels::channels_by))]
 fn channels_of(transport: &[u8]) -> Option<Ports>
     ensures channels { result ≡ channels_by transport.now }
 {
@@ -53,14 +53,14 @@ fn first_channels(transport: &[u8]) -> Option<Ports>
     None
 }
 
-#[tactic(auto, unfolding(crate::specs::Channels::is_tcp))]
+#[tactic(auto, unfolding(crate::specs::Channels::is_tcp_text))]
 fn is_tcp(parameter: &[u8]) -> bool
     ensures test { result ≡ is_tcp_text parameter.now }
 {
     trimmed(parameter).eq_ignore_ascii_case(b"RTP/AVP/TCP")
 }
 
-#[tactic(auto, unfolding(crate::specs::Channels::gives_channels))]
+#[tactic(auto, unfolding(crate::specs::Channels::is_channel_text))]
 fn gives_channels(parameter: &[u8]) -> bool
     ensures test { result ≡ is_channel_text parameter.now }
 {
@@ -81,7 +81,7 @@ fn behind_name(text: &[u8]) -> &[u8]
     if text.len() < 12 { b"" } else { &text[12..] }
 }
 
-#[tactic(auto, unfolding(crate::specs::Channels::channels_in))]
+#[tactic(auto, unfolding(crate::specs::Channels::channels_text))]
 fn read_channels(text: &[u8]) -> Option<Ports>
     ensures channels { result ≡ channels_text text.now }
 {

@@ -11,18 +11,18 @@ use Rattle.satip_client.specs.declared.ending.RecordEnd.{RecordEnd}
 use Rattle.satip_client.specs.declared.ending.RecordEnd.TheVariants.{Done, OutputFault, Refused, BadReply, Silent, PeerFault, Closed, OutOfMemory}
 
 -- whether half of the time has gone by: so many seconds are twice as many half seconds
-abbrev pub is_due : (timeout mark now : ℕ) → Bool
-is_due timeout mark now = nat_le (mark + timeout * 500) now
+abbrev pub is_due_at : (timeout mark now : ℕ) → Bool
+is_due_at timeout mark now = nat_le (mark + timeout * 500) now
 
 -- a reading of the clock after which a request is sent is the next mark
 abbrev pub after_reading : ℕ → Pulse → ℕ → Pulse
 after_reading timeout pulse now =
-    if is_due timeout pulse.mark now then record { mark = now; cseq = pulse.cseq + 1 } else pulse
+    if is_due_at timeout pulse.mark now then record { mark = now; cseq = pulse.cseq + 1 } else pulse
 
 -- what is sent after a reading
 abbrev pub sent_at : (address : List ℕ) → Terms → Pulse → ℕ → List ℕ
 sent_at address terms pulse now =
-    if is_due terms.timeout pulse.mark now then options_request address pulse.cseq terms.session else []
+    if is_due_at terms.timeout pulse.mark now then options_request address pulse.cseq terms.session else []
 
 -- after this reading what was due was sent
 pub record Beat (tells : Type 0) (o n : Line) (address : List ℕ) (terms : Terms) (before now : Pulse) (moment : ℕ) : Type 0 where

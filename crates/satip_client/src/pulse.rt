@@ -1,7 +1,7 @@
 //! Keeping a session alive.
 
 ghost use Rattle.std.specs.Prelude.{◌≡◌, ◌+◌, ◌<◌, ◌≤◌};
-ghost use Rattle.satip_client.specs.Pulses.{Beats, is_due as is_due_at};
+ghost use Rattle.satip_client.specs.Pulses.{Beats, is_due_at};
 
 use crate::ending::RecordEnd;
 use crate::lease::Lease;

@@ -8,7 +8,7 @@ ghost use Rattle.satip_plain.specs.declared.answers.Beat.TheVariants.{Going, Sto
 ghost use Rattle.satip_plain.specs.declared.answers.Work.TheVariants.{Tune, Nothing};
 ghost use Rattle.satip_plain.specs.declared.answers.Pulled.TheVariants.{Bytes, Empty, Gone};
 ghost use Rattle.satip_plain.specs.declared.answers.Closed.TheVariants.{Yes};
-ghost use Rattle.satip_script.specs.Lines.{lines_of, words_of, is_skipped};
+ghost use Rattle.satip_script.specs.Lines.{lines_of, words_of, is_skipped_text};
 ghost use Rattle.satip_script.specs.Forms.{Other, Rtsp, form_of};
 ghost use Rattle.satip_script.specs.Printed.{entry_text, datagram_line};
 
@@ -27,7 +27,7 @@ use std::alloc::Global;
 use std::test::Fail;
 
 // What lines of each kind ask for, by their words.
-#[tactic(auto, unfolding(satip_script::specs::Forms::form_named, satip_script::specs::Forms::event_of, satip_script::specs::Lines::one_word, satip_script::specs::Lines::two_words, satip_script::specs::Lines::three_words, satip_script::specs::Parts::draw_of, satip_base::specs::Numbers::number_of, satip_base::specs::Numbers::ip_of, satip_base::specs::Texts::id_of, hex::proofs::OnLiterals::hex_on_literals))]
+#[tactic(auto, unfolding(satip_script::specs::Forms::form_named, satip_script::specs::Forms::event_of, satip_script::specs::Lines::one_word_of, satip_script::specs::Lines::two_words_of, satip_script::specs::Lines::three_words_of, satip_script::specs::Parts::draw_of, satip_base::specs::Numbers::number_of, satip_base::specs::Numbers::ip_of, satip_base::specs::Texts::id_of, hex::proofs::OnLiterals::hex_on_literals))]
 fn lines_ask_for_events()
     ensures tick { form_of (words_of (codes "tick 59999")) ≡ Some (Other (Tick 59999)) }
     ensures ended { form_of (words_of (codes "ended 1 2")) ≡ Some (Other (Ended 1 2)) }
@@ -50,8 +50,8 @@ fn lines_ask_for_events()
           text = 13 ∷ 10 ∷ [];
         })) }
     ensures odd { form_of (words_of (codes "rtsp 192.168.1.20 0000000a11223344ffff 0d0")) ≡ None }
-    ensures comment { is_skipped (codes "# tick 5") ≡ true }
-    ensures only_carriage_return { is_skipped (codes "\r") ≡ false }
+    ensures comment { is_skipped_text (codes "# tick 5") ≡ true }
+    ensures only_carriage_return { is_skipped_text (codes "\r") ≡ false }
     ensures last_line { lines_of (codes "ask 1\nstop") ≡ codes "ask 1" ∷ codes "stop" ∷ [] }
     ensures line_behind { lines_of (codes "ask 1\n") ≡ codes "ask 1" ∷ [] ∷ [] }
 {}

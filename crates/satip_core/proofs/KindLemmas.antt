@@ -4,7 +4,7 @@ use Rattle.std.specs.List.{filter_map, cons_option}
 use Rattle.std.specs.Option.{option_map, option_map_or, option_and_then}
 use Rattle.satip_fronts.specs.declared.choice.Place.{Place}
 use Rattle.satip_fronts.specs.Choice.{choose}
-use Rattle.satip_tune.specs.Frontends.{mux_of}
+use Rattle.satip_tune.specs.Frontends.{mux_for}
 use Rattle.satip_plain.specs.Types.{Config, Query, SessionId, Tuning}
 use Rattle.satip_plain.specs.State.{Session, State, change_where, stream_of}
 use Rattle.satip_plain.specs.Sending.{Turn, each_of, let_go, settle, then_move}
@@ -52,7 +52,7 @@ kind_retune : (c : Config) (n : ℕ) (st : State) (tuning : Tuning) (id : Sessio
 kind_retune c n st tuning id =
     let p : Session → Bool = λ s. s.stream == n && not s.http in
     let now : State = (each_of p (let_go true st.clock) st).state in
-    ap (kind id) (put_keeps c n tuning now (choose (outlook_of c now n) (mux_of c.muxes tuning) tuning)) ∙ kind_turned id p st.clock st.sessions
+    ap (kind id) (put_keeps c n tuning now (choose (outlook_of c now n) (mux_for c.muxes tuning) tuning)) ∙ kind_turned id p st.clock st.sessions
 
 pub kind_changed : (c : Config) (n : ℕ) (q : Query) (st : State) (id : SessionId) → kind id (change_by c n q st).state.sessions ≡ kind id st.sessions
 kind_changed c n q st id = by (to_set (option_and_then (λ t. t.tuning) (stream_of st n)) q.change)

@@ -4,7 +4,7 @@ use Rattle.std.proofs.lemmas.List.{map-append}
 use Rattle.std.proofs.lemmas.List.Elements.{filter-append}
 use Rattle.satip_plain.specs.State.{State, Stream}
 use Rattle.satip_plain.specs.Steps.{view_of}
-use Rattle.satip_core.specs.Describing.{is_wanted, if_wanted, views_of}
+use Rattle.satip_core.specs.Describing.{is_wanted_stream, if_wanted, views_of}
 
 one_of : Option Stream → List Stream
 one_of None = []
@@ -20,7 +20,7 @@ take_one (suc n) (t ∷ ts) = ap (λ xs. t ∷ xs) (take_one n ts)
 wanted_one : (st : State) (named : Option ℕ) (o : Option Stream) → if_wanted named (option_map (view_of st) o) ≡ views_of st named (one_of o)
 unfolding one_of
 wanted_one st named None = refl
-wanted_one st named (Some t) = by (is_wanted named t.number)
+wanted_one st named (Some t) = by (is_wanted_stream named t.number)
   where
     by : (b : Bool) → cond b (view_of st t ∷ []) [] ≡ map (view_of st) (cond b (t ∷ []) [])
     by true = refl
@@ -30,7 +30,7 @@ wanted_one st named (Some t) = by (is_wanted named t.number)
 pub more_views : (st : State) (named : Option ℕ) (n : ℕ) (ts : List Stream)
     → views_of st named (take n ts) ++ if_wanted named (option_map (view_of st) (slice_get ts n)) ≡ views_of st named (take (n + 1) ts)
 more_views st named n ts =
-    let wanted : Stream → Bool = λ t. is_wanted named t.number in
+    let wanted : Stream → Bool = λ t. is_wanted_stream named t.number in
     let next : n + 1 ≡ suc n = omega arith in
     ap (λ xs. views_of st named (take n ts) ++ xs) (wanted_one st named (slice_get ts n))
     ∙ sym (map-append (view_of st) (filter wanted (take n ts)) (filter wanted (one_of (slice_get ts n))))

@@ -6,14 +6,14 @@ use Rattle.satip_plain.specs.State.{State, Stream}
 use Rattle.satip_plain.specs.Steps.{view_of}
 
 -- whether a stream of this number is wanted: the named one, or all
-abbrev pub is_wanted : Option ℕ → ℕ → Bool
-is_wanted named number = option_map_or (λ n. number == n) named true
+abbrev pub is_wanted_stream : Option ℕ → ℕ → Bool
+is_wanted_stream named number = option_map_or (λ n. number == n) named true
 
 -- the stream, where it is wanted
 abbrev pub if_wanted : Option ℕ → Option StreamView → List StreamView
 if_wanted named None = []
-if_wanted named (Some view) = if is_wanted named view.number then view ∷ [] else []
+if_wanted named (Some view) = if is_wanted_stream named view.number then view ∷ [] else []
 
 -- the wanted ones of these streams
 abbrev pub views_of : State → Option ℕ → List Stream → List StreamView
-views_of st named streams = map (view_of st) (filter (λ t. is_wanted named t.number) streams)
+views_of st named streams = map (view_of st) (filter (λ t. is_wanted_stream named t.number) streams)

@@ -7,7 +7,7 @@ ghost use Rattle.satip_plain.specs.Types.{Config as Configured};
 ghost use Rattle.satip_plain.specs.State.{State};
 ghost use Rattle.satip_plain.specs.Steps.{description};
 ghost use Rattle.satip_state.specs.Standing.{StandsFor};
-ghost use Rattle.satip_core.specs.Describing.{if_wanted, is_wanted as is_wanted_stream, views_of};
+ghost use Rattle.satip_core.specs.Describing.{if_wanted, is_wanted_stream, views_of};
 
 use satip_base::Out;
 use satip_base::limits::SESSIONS;

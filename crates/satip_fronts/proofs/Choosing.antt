@@ -4,7 +4,7 @@ use Rattle.std.proofs.Common.{sym, eq-eqb}
 use Rattle.std.specs.List.{list_any, list_all}
 use Rattle.std.specs.Option.{option_map}
 use Rattle.std.proofs.lemmas.Bool.{or_right, or_left}
-use Rattle.satip_tune.specs.Frontends.{fits}
+use Rattle.satip_tune.specs.Frontends.{fits_of}
 use Rattle.satip_tune.specs.declared.frontends.Front.{Front}
 use Rattle.satip_tune.specs.declared.tunings.Tuning.{Tuning}
 use Rattle.satip_fronts.specs.declared.choice.Place.{Place}
@@ -13,7 +13,7 @@ use Rattle.satip_fronts.specs.declared.choice.Case.TheVariants.{Keep, Share, Ret
 use Rattle.satip_fronts.specs.Choice.{Outlook, blocked, choose, first_placed, is_empty, is_occupied, is_own, is_tuned, least, may_take, placed, suits}
 use Rattle.satip_fronts.specs.FrontEnds.{FrontEnds, is_front, outlook}
 use Rattle.satip_fronts.specs.Openings.{blocked_for, is_open, new_outlook, other_places, outlook_for}
-use Rattle.satip_tune.specs.Frontends.{mux_of}
+use Rattle.satip_tune.specs.Frontends.{mux_for}
 
 module _ {X : Type 0} where
   -- tests of one list
@@ -56,25 +56,25 @@ module _ {X : Type 0} where
       each true false fails rest = ap (λ b. not (b && list_all p (filter f xs))) (sym fails)
 
   -- one of the four cases applies somewhere, unless none is to be had
-  chosen_of : (fits own tuned shared : X → Bool) (xs : List X) →
-      (list_any (λ x. fits x && (own x && tuned x)) xs
-      || (list_any (λ x. fits x && tuned x) xs
-      || (list_any (λ x. fits x && (own x && not (shared x))) xs
-      || list_any (λ x. fits x && (not (own x) && not (shared x))) xs)))
-      ≡ not (is_empty (filter fits xs) || list_all (λ x. shared x && not (tuned x)) (filter fits xs))
-  chosen_of fits own tuned shared xs =
-      let keeps : X → Bool = λ x. fits x && (own x && tuned x) in
-      let shares : X → Bool = λ x. fits x && tuned x in
-      let retunes : X → Bool = λ x. fits x && (own x && not (shared x)) in
-      let starts : X → Bool = λ x. fits x && (not (own x) && not (shared x)) in
+  chosen_of : (fits_of own tuned shared : X → Bool) (xs : List X) →
+      (list_any (λ x. fits_of x && (own x && tuned x)) xs
+      || (list_any (λ x. fits_of x && tuned x) xs
+      || (list_any (λ x. fits_of x && (own x && not (shared x))) xs
+      || list_any (λ x. fits_of x && (not (own x) && not (shared x))) xs)))
+      ≡ not (is_empty (filter fits_of xs) || list_all (λ x. shared x && not (tuned x)) (filter fits_of xs))
+  chosen_of fits_of own tuned shared xs =
+      let keeps : X → Bool = λ x. fits_of x && (own x && tuned x) in
+      let shares : X → Bool = λ x. fits_of x && tuned x in
+      let retunes : X → Bool = λ x. fits_of x && (own x && not (shared x)) in
+      let starts : X → Bool = λ x. fits_of x && (not (own x) && not (shared x)) in
       let occupied : X → Bool = λ x. shared x && not (tuned x) in
       ap (λ b. list_any keeps xs || (list_any shares xs || b)) (any_or retunes starts xs)
       ∙ ap (λ b. list_any keeps xs || b) (any_or shares (λ x. retunes x || starts x) xs)
       ∙ any_or keeps (λ x. shares x || (retunes x || starts x)) xs
-      ∙ any_agree (λ x. keeps x || (shares x || (retunes x || starts x))) (λ x. fits x && not (occupied x))
-      (λ x. table (fits x) (own x) (tuned x) (shared x)) xs
-      ∙ any_all fits occupied xs
-      ∙ ap not (sym (empty_all occupied (filter fits xs)))
+      ∙ any_agree (λ x. keeps x || (shares x || (retunes x || starts x))) (λ x. fits_of x && not (occupied x))
+      (λ x. table (fits_of x) (own x) (tuned x) (shared x)) xs
+      ∙ any_all fits_of occupied xs
+      ∙ ap not (sym (empty_all occupied (filter fits_of xs)))
     where
       table : (f o t s : Bool) → ((f && (o && t)) || ((f && t) || ((f && (o && not s)) || (f && (not o && not s))))) ≡ (f && not (s && not t))
       table false o t s = refl
@@ -119,7 +119,7 @@ chosen_unless_blocked o wanted tuning =
     || (list_any (suits Share o wanted tuning) o.fronts || (b || is_some (least Start o wanted tuning)))) (least_any Retune o wanted tuning)
     ∙ ap (λ b. list_any (suits Keep o wanted tuning) o.fronts
     || (list_any (suits Share o wanted tuning) o.fronts || (list_any (suits Retune o wanted tuning) o.fronts || b))) (least_any Start o wanted tuning)
-    ∙ chosen_of (λ front. fits front tuning) (is_own o) (is_tuned o wanted) (λ front. o.shared front.number) o.fronts
+    ∙ chosen_of (λ front. fits_of front tuning) (is_own o) (is_tuned o wanted) (λ front. o.shared front.number) o.fronts
 
 -- what is found has its number in the list
 found_number : (p : Front → Bool) (fronts : List Front) (front : Front) → find p fronts ≡ Some front → list_any (is_front front.number) fronts ≡ true
@@ -172,10 +172,10 @@ not_not false = refl
 
 -- none is to be had exactly where none that fits is tuned as wanted or unshared
 blocked_unless : (o : Outlook) (wanted : Option ℕ) (tuning : Tuning)
-    → blocked o wanted tuning ≡ not (is_some (find (λ front. fits front tuning && not (is_occupied o wanted front)) o.fronts))
+    → blocked o wanted tuning ≡ not (is_some (find (λ front. fits_of front tuning && not (is_occupied o wanted front)) o.fronts))
 unfolding blocked
 blocked_unless o wanted tuning =
-    let passes : Front → Bool = λ front. fits front tuning in
+    let passes : Front → Bool = λ front. fits_of front tuning in
     let occupied : Front → Bool = is_occupied o wanted in
     empty_all occupied (filter passes o.fronts)
     ∙ sym (not_not (list_all occupied (filter passes o.fronts)))
@@ -183,16 +183,16 @@ blocked_unless o wanted tuning =
 
 -- the same with the places of all other streams
 pub blocked_open : (v : FrontEnds) (stream : Option ℕ) (tuning : Tuning)
-    → blocked_for v stream tuning ≡ not (is_some (find (is_open v.rows (mux_of v.muxes tuning) (other_places v.places stream) tuning) v.fronts))
+    → blocked_for v stream tuning ≡ not (is_some (find (is_open v.rows (mux_for v.muxes tuning) (other_places v.places stream) tuning) v.fronts))
 unfolding blocked_for new_outlook outlook
-blocked_open v None tuning = blocked_unless (outlook_for v None) (mux_of v.muxes tuning) tuning
-blocked_open v (Some stream) tuning = blocked_unless (outlook_for v (Some stream)) (mux_of v.muxes tuning) tuning
+blocked_open v None tuning = blocked_unless (outlook_for v None) (mux_for v.muxes tuning) tuning
+blocked_open v (Some stream) tuning = blocked_unless (outlook_for v (Some stream)) (mux_for v.muxes tuning) tuning
 
-pub blocked_where : (v : FrontEnds) (stream wanted : Option ℕ) (others : List (Option ℕ)) (tuning : Tuning) (found : Bool) → wanted ≡ mux_of v.muxes tuning
+pub blocked_where : (v : FrontEnds) (stream wanted : Option ℕ) (others : List (Option ℕ)) (tuning : Tuning) (found : Bool) → wanted ≡ mux_for v.muxes tuning
     → others ≡ other_places v.places stream
     → found ≡ is_some (find (is_open v.rows wanted others tuning) v.fronts) → not found ≡ blocked_for v stream tuning
 blocked_where v stream wanted others tuning found w o is =
     ap not (is
     ∙ ap (λ m. is_some (find (is_open v.rows m others tuning) v.fronts)) w
-    ∙ ap (λ ps. is_some (find (is_open v.rows (mux_of v.muxes tuning) ps tuning) v.fronts)) o)
+    ∙ ap (λ ps. is_some (find (is_open v.rows (mux_for v.muxes tuning) ps tuning) v.fronts)) o)
     ∙ sym (blocked_open v stream tuning)

@@ -7,7 +7,7 @@ use Rattle.std.proofs.lemmas.Bool.{ltb-true, le-leb, and_from, eqb-true, true≢
 use Rattle.satip_tune.specs.declared.frontends.Front.{Front}
 use Rattle.satip_tune.specs.declared.frontends.Mux.{Mux}
 use Rattle.satip_tune.specs.declared.tunings.Tuning.{Tuning}
-use Rattle.satip_tune.specs.Frontends.{mux_of, is_meant}
+use Rattle.satip_tune.specs.Frontends.{mux_for, is_meant_of}
 use Rattle.satip_fronts.specs.declared.rows.FrontRow.{FrontRow}
 use Rattle.satip_fronts.specs.Rows.{is_row}
 use Rattle.satip_fronts.specs.FrontEnds.{IsNumbered, is_front, is_mux}
@@ -45,8 +45,8 @@ is_mux-position p xs = each (nat_lt (position_or_len p xs) (length xs)) refl
         let inside : position_or_len p xs < length xs = ltb-true _ _ below in
         and_from _ _ (le-leb 1 (position_or_len p xs + 1) (omega arith)) (le-leb (position_or_len p xs + 1) (length xs) (omega arith))
 
-pub is_mux-mux_of : (muxes : List Mux) (tuning : Tuning) → is_mux (length muxes) (mux_of muxes tuning) ≡ true
-is_mux-mux_of muxes tuning = is_mux-position (is_meant tuning) muxes
+pub is_mux-mux_of : (muxes : List Mux) (tuning : Tuning) → is_mux (length muxes) (mux_for muxes tuning) ≡ true
+is_mux-mux_of muxes tuning = is_mux-position (is_meant_of tuning) muxes
 
 -- where a front end is there, its number is one of theirs
 pub number_within : (from number : ℕ) (fronts : List Front) → IsNumbered from fronts → list_any (is_front number) fronts ≡ true

@@ -11,7 +11,7 @@ use Rattle.satip_fronts.specs.FrontEnds.{FrontEnds, Sound, IsNumbered, after_cho
 use Rattle.satip_fronts.specs.FrontEnds.{outlook, placed_at, settled, taken, tuned_rows}
 use Rattle.satip_fronts.specs.Choice.{choose}
 use Rattle.satip_fronts.specs.declared.choice.Place.{Place}
-use Rattle.satip_tune.specs.Frontends.{mux_of}
+use Rattle.satip_tune.specs.Frontends.{mux_for}
 use Rattle.satip_tune.specs.declared.tunings.Tuning.{Tuning}
 use Rattle.satip_fronts.proofs.Numbers.{row_numbers, front_numbers, is_mux-mux_of}
 use Rattle.satip_fronts.proofs.Choosing.{chosen_known, chosen_unless_blocked}
@@ -172,7 +172,7 @@ pub sound_moved : (v : FrontEnds) (stream : ℕ) (tuning : Tuning) (place : Plac
     → Sound (moved v stream tuning place)
 unfolding moved choice outlook
 sound_moved v stream tuning place sound chosen =
-    let mux = mux_of v.muxes tuning in
+    let mux = mux_for v.muxes tuning in
     let known = chosen_known (outlook v stream) mux tuning place chosen in
     sound_settled v (tuned_rows place mux v.rows) (placed_at v.places stream (Some place.front)) sound
     (tuned_place_numbers place mux v.rows)
@@ -182,30 +182,30 @@ sound_moved v stream tuning place sound chosen =
 
 -- what was chosen, where the multiplexes were read from the stored fields
 pub choice_is : (stored v : FrontEnds) (stream : ℕ) (tuning : Tuning) (read : List Mux) (mux : Option ℕ) (place : Option Place) → stored ≡ v
-    → read ≡ stored.muxes → mux ≡ mux_of read tuning → place ≡ choose (outlook v stream) mux tuning → choice v stream tuning ≡ place
+    → read ≡ stored.muxes → mux ≡ mux_for read tuning → place ≡ choose (outlook v stream) mux tuning → choice v stream tuning ≡ place
 unfolding choice
 choice_is stored v stream tuning read mux place same muxes wanted chosen =
-    ap (λ ms. choose (outlook v stream) (mux_of ms tuning) tuning) (ap (λ (w : FrontEnds). w.muxes) (sym same) ∙ sym muxes)
+    ap (λ ms. choose (outlook v stream) (mux_for ms tuning) tuning) (ap (λ (w : FrontEnds). w.muxes) (sym same) ∙ sym muxes)
     ∙ ap (λ m. choose (outlook v stream) m tuning) (sym wanted) ∙ sym chosen
 
 -- none is chosen exactly where none is to be had
 pub some_unless_blocked : (v : FrontEnds) (stream : ℕ) (tuning : Tuning) (place : Option Place) → choice v stream tuning ≡ place
     → is_some place ≡ not (blocked v stream tuning)
 unfolding choice blocked
-some_unless_blocked v stream tuning place chosen = ap is_some (sym chosen) ∙ chosen_unless_blocked (outlook v stream) (mux_of v.muxes tuning) tuning
+some_unless_blocked v stream tuning place chosen = ap is_some (sym chosen) ∙ chosen_unless_blocked (outlook v stream) (mux_for v.muxes tuning) tuning
 
 -- the fields once a stream moved
 pub moved_made : (v : FrontEnds) (stream : ℕ) (tuning : Tuning) (place : Place) (mux : Option ℕ) (given new out : List FrontRow) (places : List (Option ℕ)) →
-    mux ≡ mux_of v.muxes tuning → given ≡ v.rows → places ≡ placed_at v.places stream (Some place.front)
+    mux ≡ mux_for v.muxes tuning → given ≡ v.rows → places ≡ placed_at v.places stream (Some place.front)
     → new ≡ map (freed places) (tuned_rows place mux given) → out ≡ new →
     ◌≡◌ {A = FrontEnds} (record v { rows = out; places = places }) (moved v stream tuning place)
 unfolding moved settled
 moved_made v stream tuning place mux given new out places wanted same at changed written =
-    let first : out ≡ map (freed places) (tuned_rows place (mux_of v.muxes tuning) v.rows) =
+    let first : out ≡ map (freed places) (tuned_rows place (mux_for v.muxes tuning) v.rows) =
     written ∙ changed ∙ ap (λ m. map (freed places) (tuned_rows place m given)) wanted
-    ∙ ap (λ rs. map (freed places) (tuned_rows place (mux_of v.muxes tuning) rs)) same in
+    ∙ ap (λ rs. map (freed places) (tuned_rows place (mux_for v.muxes tuning) rs)) same in
     ap (λ (rs : List FrontRow). record v { rows = rs; places = places }) first
-    ∙ ap (λ (ps : List (Option ℕ)). record v { rows = map (freed ps) (tuned_rows place (mux_of v.muxes tuning) v.rows); places = ps }) at
+    ∙ ap (λ (ps : List (Option ℕ)). record v { rows = map (freed ps) (tuned_rows place (mux_for v.muxes tuning) v.rows); places = ps }) at
 
 pub taken_some : (v : FrontEnds) (stream : ℕ) (tuning : Tuning) (place : Place) → choice v stream tuning ≡ Some place
     → moved v stream tuning place ≡ taken v stream tuning

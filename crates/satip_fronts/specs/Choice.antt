@@ -2,7 +2,7 @@
 use Rattle.std.specs.Prelude.{ℕ, ◌&&◌, ◌||◌, not, Bool, true, false, List, [], ◌∷◌, Option, None, Some, find, filter}
 use Rattle.std.specs.List.{list_all}
 use Rattle.std.specs.Option.{option_map}
-use Rattle.satip_tune.specs.Frontends.{fits}
+use Rattle.satip_tune.specs.Frontends.{fits_of}
 use Rattle.satip_tune.specs.declared.frontends.Front.{Front}
 use Rattle.satip_tune.specs.declared.tunings.Tuning.{Tuning}
 use Rattle.satip_fronts.specs.declared.choice.Place.{Place}
@@ -48,7 +48,7 @@ may_take case o wanted front = may_take_if case (is_own o front) (is_tuned o wan
 
 -- whether the front end fits and may be taken in this case
 abbrev pub suits : Case → Outlook → Option ℕ → Tuning → Front → Bool
-suits case o wanted tuning front = fits front tuning && may_take case o wanted front
+suits case o wanted tuning front = fits_of front tuning && may_take case o wanted front
 
 -- the least front end that may be taken in this case
 unfoldable pub least : Case → Outlook → Option ℕ → Tuning → Option ℕ
@@ -76,7 +76,7 @@ choose o wanted tuning = first_placed
 
 -- the front ends that fit
 abbrev pub fitting : Outlook → Tuning → List Front
-fitting o tuning = filter (λ front. fits front tuning) o.fronts
+fitting o tuning = filter (λ front. fits_of front tuning) o.fronts
 
 -- whether the front end serves another stream and isn't tuned to the wanted multiplex
 abbrev pub is_occupied : Outlook → Option ℕ → Front → Bool

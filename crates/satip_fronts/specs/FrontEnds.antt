@@ -3,7 +3,7 @@ use Rattle.std.specs.Prelude.{◌≡◌, ℕ, ◌+◌, ◌-◌, ◌≤◌, ◌==
 use Rattle.std.specs.Prelude.{find, slice_get, slice_set, count_by, replicate}
 use Rattle.std.specs.List.{list_any, list_all}
 use Rattle.std.specs.Option.{option_map, option_flatten, option_and_then}
-use Rattle.satip_tune.specs.Frontends.{mux_of}
+use Rattle.satip_tune.specs.Frontends.{mux_for}
 use Rattle.satip_tune.specs.declared.frontends.Front.{Front}
 use Rattle.satip_tune.specs.declared.frontends.Mux.{Mux}
 use Rattle.satip_tune.specs.declared.tunings.Tuning.{Tuning}
@@ -67,11 +67,11 @@ outlook v stream = record {
 
 -- where the stream comes to be with this tuning
 unfoldable pub choice : FrontEnds → ℕ → Tuning → Option Place
-choice v stream tuning = choose (outlook v stream) (mux_of v.muxes tuning) tuning
+choice v stream tuning = choose (outlook v stream) (mux_for v.muxes tuning) tuning
 
 -- whether no front end is to be had for the stream with this tuning
 unfoldable pub blocked : FrontEnds → ℕ → Tuning → Bool
-blocked v stream tuning = blocked_at (outlook v stream) (mux_of v.muxes tuning) tuning
+blocked v stream tuning = blocked_at (outlook v stream) (mux_for v.muxes tuning) tuning
 
 -- the front ends with these places; one that serves no stream is free
 unfoldable pub settled : FrontEnds → List (Option ℕ) → FrontEnds
@@ -84,7 +84,7 @@ tuned_rows place mux rows = if place.anew then map (tuned_at place.front mux) ro
 -- the front ends once the stream came to this place
 unfoldable pub moved : FrontEnds → ℕ → Tuning → Place → FrontEnds
 moved v stream tuning place =
-    settled (record v { rows = tuned_rows place (mux_of v.muxes tuning) v.rows }) (placed_at v.places stream (Some place.front))
+    settled (record v { rows = tuned_rows place (mux_for v.muxes tuning) v.rows }) (placed_at v.places stream (Some place.front))
 
 -- the front ends once the stream came to a place, where there is one
 abbrev pub after_choice : FrontEnds → ℕ → Tuning → Option Place → FrontEnds

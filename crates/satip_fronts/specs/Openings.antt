@@ -1,7 +1,7 @@
 -- Whether a front end is to be had for a stream, or for one that is yet to be founded.
 use Rattle.std.specs.Prelude.{ℕ, ◌≤◌, ◌&&◌, not, Bool, List, Option, None, Some}
 use Rattle.std.specs.List.{list_any}
-use Rattle.satip_tune.specs.Frontends.{fits, mux_of}
+use Rattle.satip_tune.specs.Frontends.{fits_of, mux_for}
 use Rattle.satip_tune.specs.declared.frontends.Front.{Front}
 use Rattle.satip_tune.specs.declared.tunings.Tuning.{Tuning}
 use Rattle.satip_fronts.specs.declared.rows.FrontRow.{FrontRow}
@@ -34,9 +34,9 @@ outlook_for v (Some stream) = outlook v stream
 
 -- whether no front end is to be had for the stream with this tuning
 unfoldable pub blocked_for : FrontEnds → Option ℕ → Tuning → Bool
-blocked_for v stream tuning = blocked (outlook_for v stream) (mux_of v.muxes tuning) tuning
+blocked_for v stream tuning = blocked (outlook_for v stream) (mux_for v.muxes tuning) tuning
 
 -- whether the front end fits, and is tuned to the wanted multiplex or at none of these places
 abbrev pub is_open : List FrontRow → Option ℕ → List (Option ℕ) → Tuning → Front → Bool
 is_open rows wanted places tuning front =
-    fits front tuning && not (list_any (is_at front.number) places && not (is_tuned_to wanted (mux_at rows front.number)))
+    fits_of front tuning && not (list_any (is_at front.number) places && not (is_tuned_to wanted (mux_at rows front.number)))

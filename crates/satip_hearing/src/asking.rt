@@ -28,7 +28,7 @@ pub trait Asks {
 }
 
 impl Asks for Request {
-    ghost use Rattle.satip_rtsp.specs.Asked.{asked, broken as broken_request};
+    ghost use Rattle.satip_rtsp.specs.Asked.{asked, broken_request};
 
     ghost asked = { λ message. asked message };
 
@@ -44,7 +44,7 @@ impl Asks for Request {
 }
 
 impl Asks for HttpRequest {
-    ghost use Rattle.satip_http.specs.Gets.{asked as asked_get, broken as broken_get};
+    ghost use Rattle.satip_http.specs.Gets.{asked_get, broken_get};
 
     ghost asked = { λ message. asked_get message };
 

@@ -5,7 +5,7 @@ ghost use Rattle.satip_frame.specs.declared.framing.Break.TheVariants.{Bad, TooL
 ghost use Rattle.satip_frame.specs.Held.{new_framer};
 ghost use Rattle.satip_hearing.specs.Asking.{AsksAll, AsksSoFar, Hears};
 ghost use Rattle.satip_hearing.specs.Rows.{bad, begun, options_1, too_long, whole};
-ghost use Rattle.satip_rtsp.specs.Asked.{asked, blank, broken};
+ghost use Rattle.satip_rtsp.specs.Asked.{asked, blank, broken_request};
 
 use crate::hearing::Next;
 
@@ -19,15 +19,15 @@ pub fn worked_rows()
     ensures not_left { ¬ (AsksSoFar asked whole [] whole) }
 
     // Nothing behind what is no message is heard.
-    ensures bad { AsksAll asked broken (bad ++ whole) (broken Bad ∷ []) }
-    ensures too_long { AsksAll asked broken (too_long ++ whole) (broken TooLong ∷ []) }
-    ensures whole_and_bad { AsksAll asked broken (whole ++ bad) (options_1 ∷ broken Bad ∷ []) }
-    ensures not_behind { ¬ (AsksAll asked broken (bad ++ whole) (broken Bad ∷ options_1 ∷ [])) }
+    ensures bad { AsksAll asked broken_request (bad ++ whole) (broken_request Bad ∷ []) }
+    ensures too_long { AsksAll asked broken_request (too_long ++ whole) (broken_request TooLong ∷ []) }
+    ensures whole_and_bad { AsksAll asked broken_request (whole ++ bad) (options_1 ∷ broken_request Bad ∷ []) }
+    ensures not_behind { ¬ (AsksAll asked broken_request (bad ++ whole) (broken_request Bad ∷ options_1 ∷ [])) }
 
     // A piece that lacks the last byte, and the last byte.
-    ensures first_piece { Hears asked broken begun [] blank (record new_framer { bytes = begun })
+    ensures first_piece { Hears asked broken_request begun [] blank (record new_framer { bytes = begun })
         [] Next.Nothing }
-    ensures second_piece { Hears asked broken whole [] options_1 new_framer [] Next.Asked }
-    ensures last { Hears asked broken (whole ++ bad) (options_1 ∷ []) (broken Bad) new_framer
+    ensures second_piece { Hears asked broken_request whole [] options_1 new_framer [] Next.Asked }
+    ensures last { Hears asked broken_request (whole ++ bad) (options_1 ∷ []) (broken_request Bad) new_framer
         [] Next.Last }
 {}

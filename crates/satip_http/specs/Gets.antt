@@ -9,7 +9,7 @@ use Rattle.satip_query.specs.Queries.{new_query}
 use Rattle.satip_query.specs.Reading.{query_of}
 use Rattle.satip_query.specs.declared.queries.Query.{Query}
 use Rattle.satip_query.specs.declared.faults.QueryFault.{QueryFault}
-use Rattle.satip_rtsp.specs.Targets.{behind_front}
+use Rattle.satip_rtsp.specs.Targets.{front_left}
 use Rattle.satip_http.specs.declared.requests.HttpRefusal.{HttpRefusal}
 use Rattle.satip_http.specs.declared.requests.HttpRefusal.TheVariants.{Broken, TooLong, Version, Method, Target, NotFound, Query as QueryAt}
 use Rattle.satip_http.specs.declared.requests.HttpRequest.{HttpRequest}
@@ -19,39 +19,39 @@ abbrev pub refused : HttpRefusal → HttpRequest
 refused refusal = record { refusal = Some refusal; query = new_query }
 
 -- whether a version is served
-unfoldable pub is_served : List ℕ → Bool
-is_served version = bytes_eq version (codes "HTTP/1.0") || bytes_eq version (codes "HTTP/1.1")
+unfoldable pub is_served_text : List ℕ → Bool
+is_served_text version = bytes_eq version (codes "HTTP/1.0") || bytes_eq version (codes "HTTP/1.1")
 
 -- what a target says behind its front, if it has one
-unfoldable pub rest_of : List ℕ → List ℕ
-rest_of target = unwrap_or (behind_front (codes "http://") target) target
+unfoldable pub rest_text : List ℕ → List ℕ
+rest_text target = unwrap_or (front_left (codes "http://") target) target
 
 -- the request of a query
-abbrev pub with_query : Result Query QueryFault → HttpRequest
-with_query (Ok query) = record { refusal = None; query = query }
-with_query (Err fault) = refused (QueryAt fault)
+abbrev pub of_query : Result Query QueryFault → HttpRequest
+of_query (Ok query) = record { refusal = None; query = query }
+of_query (Err fault) = refused (QueryAt fault)
 
 -- the request of a path with its query: `/` is the only path
-abbrev pub with_path : List ℕ → HttpRequest
-with_path path =
-    if starts_with nat_eq path (codes "/?") then with_query (query_of (drop 2 path))
+abbrev pub of_path : List ℕ → HttpRequest
+of_path path =
+    if starts_with nat_eq path (codes "/?") then of_query (query_of (drop 2 path))
     else if starts_with nat_eq path (codes "/") then refused NotFound
     else refused Target
 
 -- the request of what a target says behind its front: a path, or a query alone
-unfoldable pub with_rest : List ℕ → HttpRequest
-with_rest rest = if starts_with nat_eq rest (codes "?") then with_query (query_of (drop 1 rest)) else with_path rest
+unfoldable pub of_rest : List ℕ → HttpRequest
+of_rest rest = if starts_with nat_eq rest (codes "?") then of_query (query_of (drop 1 rest)) else of_path rest
 
 -- the request of a message: the first refusal counts, in the order version, method, target, query
-unfoldable pub asked : Said → HttpRequest
-asked m =
-    if is_served m.version then
-    (if bytes_eq m.method (codes "GET") then with_rest (rest_of m.target) else refused Method)
+unfoldable pub asked_get : Said → HttpRequest
+asked_get m =
+    if is_served_text m.version then
+    (if bytes_eq m.method (codes "GET") then of_rest (rest_text m.target) else refused Method)
     else refused Version
 
 -- the message has a version that is served, and is a GET
 pub record IsGet (m : Said) : Type 0 where
-  pub version : is_served m.version ≡ true
+  pub version : is_served_text m.version ≡ true
   pub method : bytes_eq m.method (codes "GET") ≡ true
 
 -- whether what a target says behind its front begins with a path
@@ -71,6 +71,6 @@ AsksAtFault fault None = ⊥
 AsksAtFault fault (Some text) = query_of text ≡ Err fault
 
 -- the request of what is no message
-abbrev pub broken : Break → HttpRequest
-broken Bad = refused Broken
-broken too_long = refused TooLong
+abbrev pub broken_get : Break → HttpRequest
+broken_get Bad = refused Broken
+broken_get too_long = refused TooLong

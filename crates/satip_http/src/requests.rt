@@ -3,7 +3,7 @@ ghost use Rattle.std.specs.Prelude.{◌≡◌, ◌≢◌, ◌↔◌, Some, None,
 ghost use Rattle.std.specs.Str.{bytes_eq};
 ghost use Rattle.satip_query.specs.Queries.{new_query};
 ghost use Rattle.satip_query.specs.Reading.{query_of};
-ghost use Rattle.satip_http.specs.Gets.{AsksAtFault, IsGet, asked, broken as broken_request, is_path, is_served as is_served_text, query_in, rest_of as rest_text, with_path as of_path, with_query as of_query, with_rest as of_rest};
+ghost use Rattle.satip_http.specs.Gets.{AsksAtFault, IsGet, asked_get, broken_get, is_path, is_served_text, query_in, rest_text, of_path, of_query, of_rest};
 
 use satip_frame::{Break, Message};
 use satip_query::{Query, QueryFault, read};
@@ -39,7 +39,7 @@ pub struct HttpRequest {
 impl HttpRequest {
     /// The request of a message. The first refusal counts, in the order of `HttpRefusal`.
     pub fn of(message: &Message<'_>) -> HttpRequest
-        ensures asked { result ≡ asked message.now }
+        ensures asked { result ≡ asked_get message.now }
         ensures version { (result.refusal ≡ Some HttpRefusal.Version)
             ↔ (is_served_text message.now.version ≡ false) }
         ensures method { (result.refusal ≡ Some HttpRefusal.Method)
@@ -64,7 +64,7 @@ impl HttpRequest {
     /// Puts the request of a message in the place of an older one, whatever that was: a request is
     /// large, and moves cost time.
     pub fn read(&mut self, message: &Message<'_>)
-        ensures asked { self.new ≡ asked message.now }
+        ensures asked { self.new ≡ asked_get message.now }
     {
         self.query.clear();
         self.refusal = fill(message, &mut self.query);
@@ -72,7 +72,7 @@ impl HttpRequest {
 
     /// The request of what is no message.
     pub fn broken(cause: Break) -> HttpRequest
-        ensures broken { result ≡ broken_request cause }
+        ensures broken { result ≡ broken_get cause }
     {
         let mut request = blank();
         request.refusal = Some(match cause {
@@ -95,10 +95,10 @@ fn blank() -> HttpRequest
 
 // Puts what a message asks for in the place of a query that gives nothing; the first refusal, where
 // there is one.
-#[tactic(auto, unfolding(crate::specs::Gets::asked))]
+#[tactic(auto, unfolding(crate::specs::Gets::asked_get))]
 fn fill(message: &Message<'_>, into: &mut Query) -> Option<HttpRefusal>
     requires empty { into.old ≡ new_query }
-    ensures asked { record { refusal = result; query = into.new } ≡ asked message.now }
+    ensures asked { record { refusal = result; query = into.new } ≡ asked_get message.now }
 {
     if !is_served(message.version()) {
         return Some(HttpRefusal::Version);
@@ -109,14 +109,14 @@ fn fill(message: &Message<'_>, into: &mut Query) -> Option<HttpRefusal>
     fill_rest(rest_of(message.target()), into)
 }
 
-#[tactic(auto, unfolding(crate::specs::Gets::is_served))]
+#[tactic(auto, unfolding(crate::specs::Gets::is_served_text))]
 fn is_served(version: &[u8]) -> bool
     ensures test { result ≡ is_served_text version.now }
 {
     same_bytes(version, b"HTTP/1.0") || same_bytes(version, b"HTTP/1.1")
 }
 
-#[tactic(auto, unfolding(crate::specs::Gets::rest_of))]
+#[tactic(auto, unfolding(crate::specs::Gets::rest_text))]
 fn rest_of(target: &[u8]) -> &[u8]
     ensures rest { result.now ≡ rest_text target.now }
 {
@@ -126,7 +126,7 @@ fn rest_of(target: &[u8]) -> &[u8]
     }
 }
 
-#[tactic(auto, unfolding(crate::specs::Gets::with_rest))]
+#[tactic(auto, unfolding(crate::specs::Gets::of_rest))]
 fn fill_rest(rest: &[u8], into: &mut Query) -> Option<HttpRefusal>
     requires empty { into.old ≡ new_query }
     ensures request { record { refusal = result; query = into.new } ≡ of_rest rest.now }

@@ -24,7 +24,7 @@ mod http;
     satip_tune::specs::Words::modulation_text,
     satip_tune::specs::Words::roll_off_text,
     satip_tune::specs::Words::fec_text,
-    satip_tune::specs::Words::pilots_text,
+    satip_tune::specs::Words::pilots_text_of,
     satip_rtp::specs::Bytes::rtp_header,
     satip_rtp::specs::Bytes::rtp_datagram,
 ))]

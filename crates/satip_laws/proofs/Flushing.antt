@@ -4,7 +4,7 @@ use Rattle.std.specs.Option.{option_map_or}
 use Rattle.std.proofs.lemmas.Bool.{and_parts, eqb-true, eq-eqb, not-true}
 use Rattle.satip_fronts.specs.declared.choice.Place.{Place}
 use Rattle.satip_fronts.specs.Choice.{choose}
-use Rattle.satip_tune.specs.Frontends.{mux_of}
+use Rattle.satip_tune.specs.Frontends.{mux_for}
 use Rattle.satip_rtsp.specs.declared.requests.Method.{Method}
 use Rattle.satip_rtsp.specs.declared.requests.Method.TheVariants.{Options, Describe, Setup, Play, Teardown}
 use Rattle.satip_http.specs.Heads.{http_refusal}
@@ -114,7 +114,7 @@ retune_empties : (c : Config) (number : ℕ) (st : State) (tuning : Tuning) → 
 retune_empties c number st tuning sound =
     let m : Move = each_of (of_stream number) (let_go true st.clock) st in
     placed m.state (flush_empties st (of_stream number) st.clock (λ x e. not-true x.http (and_second (x.stream == number) (not x.http) e)) (λ x. refl) sound)
-    (choose (outlook_of c m.state number) (mux_of c.muxes tuning) tuning)
+    (choose (outlook_of c m.state number) (mux_for c.muxes tuning) tuning)
   where
     placed : (now : State) → IsEmpty (of_stream number) now → (o : Option Place) → IsEmpty (of_stream number) (option_map_or (put_at c number tuning now) o now)
     placed now empty None = empty

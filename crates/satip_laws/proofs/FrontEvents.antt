@@ -6,7 +6,7 @@ use Rattle.std.proofs.lemmas.List.Folds.{list_any-append}
 use Rattle.satip_history.specs.Lists.{Each}
 use Rattle.satip_fronts.specs.declared.choice.Place.{Place}
 use Rattle.satip_fronts.specs.Choice.{choose}
-use Rattle.satip_tune.specs.Frontends.{mux_of}
+use Rattle.satip_tune.specs.Frontends.{mux_for}
 use Rattle.satip_http.specs.Heads.{http_refusal}
 use Rattle.satip_rtsp.specs.declared.requests.Method.{Method}
 use Rattle.satip_rtsp.specs.declared.requests.Method.TheVariants.{Options, Describe, Setup, Play, Teardown}
@@ -132,7 +132,7 @@ found_quiet c http peer draw ports st fronts = record {
 
 retune_shifts : (c : Config) (number : ℕ) (st : State) (tuning : Tuning) → AreFronts c st → Shifts c st (retune c number st tuning).state
 retune_shifts c number st tuning fronts = quiet_shifts c st now (retune c number st tuning).state first
-    (by (choose (outlook_of c now number) (mux_of c.muxes tuning) tuning) refl)
+    (by (choose (outlook_of c now number) (mux_for c.muxes tuning) tuning) refl)
   where
     now : State
     now = (each_of (λ s. s.stream == number && not s.http) (let_go true st.clock) st).state
@@ -140,10 +140,10 @@ retune_shifts c number st tuning fronts = quiet_shifts c st now (retune c number
     first : Quiet c st now
     first = quiet_same c st now fronts refl refl
 
-    by : (o : Option Place) → choose (outlook_of c now number) (mux_of c.muxes tuning) tuning ≡ o
+    by : (o : Option Place) → choose (outlook_of c now number) (mux_for c.muxes tuning) tuning ≡ o
         → Shifts c now (option_map_or (put_at c number tuning now) o now)
     by None e = shifts_of c now now (quiet_same c now now first.fronts refl refl)
-    by (Some place) e = put_at_shifts c number tuning now place first.fronts (chosen_place (outlook_of c now number) (mux_of c.muxes tuning) tuning place e)
+    by (Some place) e = put_at_shifts c number tuning now place first.fronts (chosen_place (outlook_of c now number) (mux_for c.muxes tuning) tuning place e)
 
 change_shifts : (c : Config) (number : ℕ) (query : Query) (st : State) → AreFronts c st → Shifts c st (change_by c number query st).state
 change_shifts c number query st fronts = shifts_quiet c st middle (change_by c number query st).state first last

@@ -7,7 +7,7 @@ use Rattle.satip_fronts.specs.declared.choice.Place.{Place}
 use Rattle.satip_fronts.specs.declared.choice.Case.{Case}
 use Rattle.satip_fronts.specs.declared.choice.Case.TheVariants.{Keep, Share, Retune, Start}
 use Rattle.satip_fronts.specs.Choice.{Outlook, choose, least, placed, may_take, may_take_if, suits, first_placed, is_own, is_tuned, is_tuned_to}
-use Rattle.satip_tune.specs.Frontends.{mux_of, fits}
+use Rattle.satip_tune.specs.Frontends.{mux_for, fits_of}
 use Rattle.satip_tune.specs.declared.frontends.Front.{Front}
 use Rattle.satip_plain.specs.Types.{Config, Tuning}
 use Rattle.satip_plain.specs.State.{State, Stream, Row, is_at, row_of, served_by}
@@ -25,7 +25,7 @@ mux_at st f = option_and_then (λ r. r.mux) (row_of st f)
 
 -- a stream at a front end is tuned to the front end's multiplex
 abbrev pub IsMatched : Config → List Row → Stream → Type 0
-IsMatched c rows t = (f : ℕ) (r : Row) → is_at t.front f ≡ true → find (λ r. r.number == f) rows ≡ Some r → r.mux ≡ option_and_then (mux_of c.muxes) t.tuning
+IsMatched c rows t = (f : ℕ) (r : Row) → is_at t.front f ≡ true → find (λ r. r.number == f) rows ≡ Some r → r.mux ≡ option_and_then (mux_for c.muxes) t.tuning
 
 pub record AreFronts (c : Config) (st : State) : Type 0 where
   pub matched : Each (IsMatched c st.rows) st.streams
@@ -258,7 +258,7 @@ least_found case o wanted tuning n e = by (find (suits case o wanted tuning) o.f
     by (Some front) f g = record {
       front = front;
       number = cc;
-      taken = (and_parts (fits front tuning) (may_take case o wanted front) (find_passes (suits case o wanted tuning) o.fronts front f)).1;
+      taken = (and_parts (fits_of front tuning) (may_take case o wanted front) (find_passes (suits case o wanted tuning) o.fronts front f)).1;
     }
 
 old_place : (o : Outlook) (wanted : Option ℕ) (n : ℕ) (front : Front) → front.number ≡ n → is_tuned o wanted front ≡ true
@@ -314,7 +314,7 @@ tune_row anew front mux r = if anew && r.number == front then tuned mux r else r
 abbrev placed_state : Config → ℕ → Tuning → State → Place → State
 placed_state c number tuning st place = record st {
   streams = map (place_stream number tuning place.front) st.streams;
-  rows = map (tune_row place.anew place.front (mux_of c.muxes tuning)) st.rows;
+  rows = map (tune_row place.anew place.front (mux_for c.muxes tuning)) st.rows;
 }
 
 tune_number : (anew : Bool) (front : ℕ) (mux : Option ℕ) (r : Row) → (tune_row anew front mux r).number ≡ r.number
@@ -388,12 +388,12 @@ true_unless false h = absurd (h refl)
 
 -- what the place does to each front end
 placed_each : (c : Config) (number : ℕ) (tuning : Tuning) (st : State) (place : Place) → AreFronts c st
-    → IsPlaceFor (outlook_of c st number) (mux_of c.muxes tuning) place → (f : ℕ)
+    → IsPlaceFor (outlook_of c st number) (mux_for c.muxes tuning) place → (f : ℕ)
     → Keeps f st (placed_state c number tuning st place) ⊎ Anew f st (placed_state c number tuning st place)
 placed_each c number tuning st place fronts known f = by (is_place f place.front) place.anew refl
   where
     mux : Option ℕ
-    mux = mux_of c.muxes tuning
+    mux = mux_for c.muxes tuning
 
     new : State
     new = placed_state c number tuning st place
@@ -458,9 +458,9 @@ shared_rest number f t ts none = by (is_at t.front f) none
 
 -- each stream is at a front end with its multiplex, once the stream has its place
 placed_matched : (c : Config) (number : ℕ) (tuning : Tuning) (rows : List Row) (place : Place) (ts : List Stream)
-    → (place.anew ≡ false → (r : Row) → find (λ r. r.number == place.front) rows ≡ Some r → r.mux ≡ mux_of c.muxes tuning)
+    → (place.anew ≡ false → (r : Row) → find (λ r. r.number == place.front) rows ≡ Some r → r.mux ≡ mux_for c.muxes tuning)
     → (place.anew ≡ true → list_any (λ u. not (u.number == number)) (filter (λ u. is_at u.front place.front) ts) ≡ false)
-    → Each (IsMatched c rows) ts → Each (IsMatched c (map (tune_row place.anew place.front (mux_of c.muxes tuning)) rows))
+    → Each (IsMatched c rows) ts → Each (IsMatched c (map (tune_row place.anew place.front (mux_for c.muxes tuning)) rows))
     (map (place_stream number tuning place.front) ts)
 placed_matched c number tuning rows place [] old new each = tt
 placed_matched c number tuning rows place (t ∷ ts) old new each = (
@@ -469,7 +469,7 @@ placed_matched c number tuning rows place (t ∷ ts) old new each = (
 )
   where
     mux : Option ℕ
-    mux = mux_of c.muxes tuning
+    mux = mux_for c.muxes tuning
 
     at_place : (f : ℕ) (r : Row) → f ≡ place.front → (anew : Bool) → place.anew ≡ anew
         → find (λ r. r.number == f) (map (tune_row place.anew place.front mux) rows) ≡ Some r → r.mux ≡ mux
@@ -486,7 +486,7 @@ placed_matched c number tuning rows place (t ∷ ts) old new each = (
         ap (λ x. x.mux) (sym was.2 ∙ is) ∙ old e was.0 (ap (λ n. find (λ r. r.number == n) rows) (sym here) ∙ was.1)
 
     elsewhere : (f : ℕ) (r : Row) → (place.anew && f == place.front) ≡ false → is_at t.front f ≡ true
-        → find (λ r. r.number == f) (map (tune_row place.anew place.front mux) rows) ≡ Some r → r.mux ≡ option_and_then (mux_of c.muxes) t.tuning
+        → find (λ r. r.number == f) (map (tune_row place.anew place.front mux) rows) ≡ Some r → r.mux ≡ option_and_then (mux_for c.muxes) t.tuning
     elsewhere f r other here found =
         let was = some_row (find (λ r. r.number == f) rows) (tune_row place.anew place.front mux) r
         (sym (placed_row f place.anew place.front mux rows) ∙ found) in
@@ -507,15 +507,15 @@ placed_matched c number tuning rows place (t ∷ ts) old new each = (
     one false e f r here found = elsewhere f r (untuned f e here place.anew (f == place.front) refl refl) here found
 
 pub put_at_shifts : (c : Config) (number : ℕ) (tuning : Tuning) (st : State) (place : Place) → AreFronts c st
-    → IsPlaceFor (outlook_of c st number) (mux_of c.muxes tuning) place → Shifts c st (put_at c number tuning st place)
+    → IsPlaceFor (outlook_of c st number) (mux_for c.muxes tuning) place → Shifts c st (put_at c number tuning st place)
 put_at_shifts c number tuning st place fronts known =
     record { each = λ f. by f (placed_each c number tuning st place fronts known f); fronts = swept.fronts }
   where
     middle : State
     middle = placed_state c number tuning st place
 
-    old : place.anew ≡ false → (r : Row) → find (λ r. r.number == place.front) st.rows ≡ Some r → r.mux ≡ mux_of c.muxes tuning
-    old e r found = let has : mux_at st place.front ≡ mux_of c.muxes tuning = wanted_mux (mux_of c.muxes tuning) (mux_at st place.front) (known.old e) in
+    old : place.anew ≡ false → (r : Row) → find (λ r. r.number == place.front) st.rows ≡ Some r → r.mux ≡ mux_for c.muxes tuning
+    old e r found = let has : mux_at st place.front ≡ mux_for c.muxes tuning = wanted_mux (mux_for c.muxes tuning) (mux_at st place.front) (known.old e) in
         rw found at has
 
     swept : Quiet c middle (sweep middle)

@@ -4,7 +4,7 @@ use Rattle.std.specs.Option.{option_map_or}
 use Rattle.std.proofs.lemmas.Bool.{not-true}
 use Rattle.satip_fronts.specs.declared.choice.Place.{Place}
 use Rattle.satip_fronts.specs.Choice.{choose}
-use Rattle.satip_tune.specs.Frontends.{mux_of}
+use Rattle.satip_tune.specs.Frontends.{mux_for}
 use Rattle.satip_plain.specs.Types.{SessionId, Config, Query, Tuning}
 use Rattle.satip_plain.specs.State.{Session, State, Stream, stream_of, change_where}
 use Rattle.satip_plain.specs.Sending.{Turn, Move, settle, then_move, each, each_of, let_go}
@@ -180,8 +180,8 @@ pub goes_retune : (c : Config) (number : ℕ) (st : State) (tuning : Tuning) →
 goes_retune c number st tuning sound =
     let m : Move = each_of (λ s. s.stream == number && not s.http) (let_go true st.clock) st in
     let first : Goes st m nothing nothing = goes_flush number st sound in
-    goes_on st m (λ now. settle (option_map_or (put_at c number tuning now) (choose (outlook_of c now number) (mux_of c.muxes tuning) tuning) now)) first
-    (retuned_same c number tuning m.state first.sound (choose (outlook_of c m.state number) (mux_of c.muxes tuning) tuning))
+    goes_on st m (λ now. settle (option_map_or (put_at c number tuning now) (choose (outlook_of c now number) (mux_for c.muxes tuning) tuning) now)) first
+    (retuned_same c number tuning m.state first.sound (choose (outlook_of c m.state number) (mux_for c.muxes tuning) tuning))
 
 retune_if : (c : Config) (number : ℕ) (st : State) → IsSound st → (o : Option Tuning)
     → Goes st (option_map_or (retune c number st) o (settle st)) nothing nothing

@@ -3,7 +3,7 @@ use Rattle.std.proofs.Common.{◌≡◌, ◌⊎◌, inl, inr, ℕ, ◌==◌, ◌
 use Rattle.std.specs.Option.{option_map_or}
 use Rattle.std.proofs.lemmas.Bool.{eqb-true}
 use Rattle.satip_history.specs.Lists.{Each, Has}
-use Rattle.satip_tune.specs.Frontends.{mux_of}
+use Rattle.satip_tune.specs.Frontends.{mux_for}
 use Rattle.satip_ts.specs.Recording.{cut_packets}
 use Rattle.satip_plain.specs.declared.events.Event.{Event}
 use Rattle.satip_plain.specs.declared.events.Event.TheVariants.{Request as Asked, Get as Got, Tick, Packet, Ended, Ask, Pull, Close, Stop}
@@ -106,15 +106,15 @@ each_has P (x ∷ ts) t each (inr later) = each_has P ts t each.1 later
 
 read_at : (c : Config) (st : State) (g : Readings) (f mux : ℕ) → Agrees c st g → AreTunedTo c mux (served_by st f) → (ms : List Made)
     → ((m : Made) → Has m ms → Has m (living g))
-    → Each (λ m. is_at (g.front m.home) f ≡ true → option_and_then (mux_of c.muxes) (g.tuned m.home) ≡ Some mux) ms
+    → Each (λ m. is_at (g.front m.home) f ≡ true → option_and_then (mux_for c.muxes) (g.tuned m.home) ≡ Some mux) ms
 read_at c st g f mux agrees tuned [] lives = tt
 read_at c st g f mux agrees tuned (m ∷ ms) lives = (one, read_at c st g f mux agrees tuned ms (λ k h. lives k (inr h)))
   where
-    one : is_at (g.front m.home) f ≡ true → option_and_then (mux_of c.muxes) (g.tuned m.home) ≡ Some mux
+    one : is_at (g.front m.home) f ≡ true → option_and_then (mux_for c.muxes) (g.tuned m.home) ≡ Some mux
     one here =
         let there : Has (stream_told g m.home) st.streams =
         (find_has (λ t. t.number == g.number m.home) st.streams (stream_told g m.home) (stream_here c st g agrees m (lives m (inl refl)))).0 in
-        each_has (λ t. option_and_then (mux_of c.muxes) t.tuning ≡ Some mux) (served_by st f) (stream_told g m.home) tuned
+        each_has (λ t. option_and_then (mux_for c.muxes) t.tuning ≡ Some mux) (served_by st f) (stream_told g m.home) tuned
         (served_has f st.streams (stream_told g m.home) there here)
 
 pub packets_of_recordings : PacketsAreOfRecordings

@@ -3,7 +3,7 @@ use Rattle.std.specs.Prelude.{ℕ, ◌≡◌, ◌==◌, ◌&&◌, ◌<◌, ◌^�
 use Rattle.std.specs.List.{list_any}
 use Rattle.satip_history.specs.History.{own_of}
 use Rattle.satip_history.specs.Lists.{Each}
-use Rattle.satip_tune.specs.Frontends.{mux_of}
+use Rattle.satip_tune.specs.Frontends.{mux_for}
 use Rattle.satip_ts.specs.Recording.{cut_packets}
 use Rattle.satip_plain.specs.declared.events.Event.{Event}
 use Rattle.satip_plain.specs.declared.events.Event.TheVariants.{Packet}
@@ -37,7 +37,7 @@ fresh_packets c h front tune = fresh_from c.config (nothing_read c) h front tune
 
 -- each living stream that is at the front end is tuned to this multiplex
 abbrev pub AreReadAt : Config → Readings → ℕ → ℕ → Type 0
-AreReadAt c g front mux = Each (λ m. is_at (g.front m.home) front ≡ true → option_and_then (mux_of c.muxes) (g.tuned m.home) ≡ Some mux) (living g)
+AreReadAt c g front mux = Each (λ m. is_at (g.front m.home) front ≡ true → option_and_then (mux_for c.muxes) (g.tuned m.home) ≡ Some mux) (living g)
 
 -- the packets of one tuning number are a beginning of the recording of one multiplex, and before each of them the streams at
 -- the front end are tuned to that multiplex

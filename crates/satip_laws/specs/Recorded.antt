@@ -2,7 +2,7 @@
 use Rattle.std.specs.Prelude.{ℕ, ◌≡◌, ◌==◌, ◌&&◌, ◌<◌, ◌^◌, Bool, true, false, List, [], ◌∷◌, ◌++◌, length, Option, Some, None, option_map, option_and_then, if◌then◌else◌}
 use Rattle.satip_history.specs.History.{own_of}
 use Rattle.satip_history.specs.Lists.{Each, Begins}
-use Rattle.satip_tune.specs.Frontends.{mux_of}
+use Rattle.satip_tune.specs.Frontends.{mux_for}
 use Rattle.satip_ts.specs.Recording.{cut_packets}
 use Rattle.satip_plain.specs.declared.events.Event.{Event}
 use Rattle.satip_plain.specs.declared.events.Event.TheVariants.{Packet}
@@ -41,7 +41,7 @@ BeginsTold packets (Some all) = Begins packets all
 
 -- each stream is tuned to this multiplex
 abbrev pub AreTunedTo : Config → ℕ → List Stream → Type 0
-AreTunedTo c mux streams = Each (λ t. option_and_then (mux_of c.muxes) t.tuning ≡ Some mux) streams
+AreTunedTo c mux streams = Each (λ t. option_and_then (mux_for c.muxes) t.tuning ≡ Some mux) streams
 
 -- the packets of one tuning number are a beginning of the recording of one multiplex, and at each of them all streams of
 -- the front end are tuned to that multiplex

@@ -13,7 +13,7 @@ use Rattle.satip_history.proofs.Elements.{Each-append}
 use Rattle.satip_query.specs.Bodies.{body_text}
 use Rattle.satip_query.specs.declared.bodies.RefusalBody.{RefusalBody}
 use Rattle.satip_rtsp.specs.Replies.{base_line, body_part, closing_reply, cseq_line, describe_head, line_end, number_line, options_reply, phrase_of, plain_reply, play_reply, rtp_info_line, session_line, setup_reply, status_line, text_reply, unsupported_reply}
-use Rattle.satip_rtsp.specs.Targets.{begins_with}
+use Rattle.satip_rtsp.specs.Targets.{is_begun_with}
 use Rattle.satip_rtsp.proofs.ReplyLemmas.{length-body_text-le}
 use Rattle.satip_piece_laws.specs.Pieces.{IsLine, IsReply, lined, size_name, told_size}
 use Rattle.satip_piece_laws.specs.Replies.{IsId, IsNamed, IsNumbered}
@@ -23,14 +23,14 @@ use Rattle.satip_piece_laws.proofs.Plain.{IsPlain, plain-append, plain_address, 
 pub record IsHead (text : List ℕ) (lines : List (List ℕ)) : Type 0 where
   pub text_is : text ≡ lined lines
   pub each : Each IsLine lines
-  pub none : Each (λ (l : List ℕ). begins_with size_name l ≡ false) lines
+  pub none : Each (λ (l : List ℕ). is_begun_with size_name l ≡ false) lines
 
 -- a first line, and such lines behind it
 pub record IsBegun (text status : List ℕ) (lines : List (List ℕ)) : Type 0 where
   pub text_is : text ≡ lined ((codes "RTSP/1.0 " ++ status) ∷ lines)
   pub plain : IsPlain status
   pub each : Each IsLine lines
-  pub none : Each (λ (l : List ℕ). begins_with size_name l ≡ false) lines
+  pub none : Each (λ (l : List ℕ). is_begun_with size_name l ≡ false) lines
 
 lined-append : (a b : List (List ℕ)) → lined (a ++ b) ≡ lined a ++ lined b
 lined-append [] b = refl
@@ -39,7 +39,7 @@ lined-append (l ∷ ls) b = ap (λ rest. l ++ 13 ∷ 10 ∷ rest) (lined-append 
 no_lines : IsHead [] []
 no_lines = record { text_is = refl; each = tt; none = tt }
 
-one_line : (l : List ℕ) → IsPlain l → 0 < length l → begins_with size_name l ≡ false → IsHead (l ++ line_end) (l ∷ [])
+one_line : (l : List ℕ) → IsPlain l → 0 < length l → is_begun_with size_name l ≡ false → IsHead (l ++ line_end) (l ∷ [])
 one_line l plain some none = record { text_is = refl; each = ((some, plain), tt); none = (none, tt) }
 
 begun_then : (a b status : List ℕ) (ls ks : List (List ℕ)) → IsBegun a status ls → IsHead b ks → IsBegun (a ++ b) status (ls ++ ks)
@@ -48,16 +48,16 @@ begun_then a b status ls ks first second = record {
       ∙ sym (lined-append ((codes "RTSP/1.0 " ++ status) ∷ ls) ks);
   plain = first.plain;
   each = Each-append IsLine ls ks first.each second.each;
-  none = Each-append (λ (l : List ℕ). begins_with size_name l ≡ false) ls ks first.none second.none;
+  none = Each-append (λ (l : List ℕ). is_begun_with size_name l ≡ false) ls ks first.none second.none;
 }
 
 -- the size that a head tells
 
-no_size : (ls : List (List ℕ)) → Each (λ (l : List ℕ). begins_with size_name l ≡ false) ls → told_size ls ≡ 0
+no_size : (ls : List (List ℕ)) → Each (λ (l : List ℕ). is_begun_with size_name l ≡ false) ls → told_size ls ≡ 0
 no_size [] none = refl
 no_size (l ∷ ls) none = ap (λ b. cond b (digits_value 10 (drop 16 l)) (told_size ls)) none.0 ∙ no_size ls none.1
 
-then_size : (ls ks : List (List ℕ)) → Each (λ (l : List ℕ). begins_with size_name l ≡ false) ls → told_size (ls ++ ks) ≡ told_size ks
+then_size : (ls ks : List (List ℕ)) → Each (λ (l : List ℕ). is_begun_with size_name l ≡ false) ls → told_size (ls ++ ks) ≡ told_size ks
 then_size [] ks none = refl
 then_size (l ∷ ls) ks none = ap (λ b. cond b (digits_value 10 (drop 16 l)) (told_size (ls ++ ks))) none.0 ∙ then_size ls ks none.1
 

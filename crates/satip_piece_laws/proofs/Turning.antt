@@ -12,10 +12,10 @@ use Rattle.satip_base.specs.Numbers.{number_of}
 use Rattle.satip_base.specs.declared.network.Ports.{Ports}
 use Rattle.satip_history.specs.Lists.{Each}
 use Rattle.satip_tune.specs.Pieces.{is_byte}
-use Rattle.satip_rtsp.specs.Targets.{begins_with}
-use Rattle.satip_rtsp.specs.Transports.{both_ports, port_up_to}
+use Rattle.satip_rtsp.specs.Targets.{is_begun_with}
+use Rattle.satip_rtsp.specs.Transports.{both_ports, port_at_most}
 use Rattle.satip_rtsp.proofs.CseqLemmas.{number_of-le}
-use Rattle.satip_channels.specs.Turned.{behind_name, channel_line, is_empty_line, ports_between, ports_name, ports_told, turned, turned_line, without_return}
+use Rattle.satip_channels.specs.Turned.{name_left, channel_line, is_empty_line, ports_beside, ports_name, told_ports, turned, turned_line, return_left}
 use Rattle.satip_channels.proofs.TurnedLemmas.{turned_end, turned_step}
 use Rattle.satip_piece_laws.specs.Pieces.{IsLine, IsReply, is_plain, lined, size_name, told_size}
 use Rattle.satip_piece_laws.proofs.Plain.{IsPlain, plain-append, plain_decimal}
@@ -25,11 +25,11 @@ abbrev channels_text : Ports → List ℕ
 channels_text ports = ((codes "Transport: RTP/AVP/TCP;unicast;interleaved=" ++ decimal (ports.rtp - 1)) ++ codes "-") ++ decimal (ports.rtcp - 1)
 
 abbrev turned_text : List ℕ → List ℕ
-turned_text l = option_map_or channels_text (ports_told (l ++ 13 ∷ [])) l
+turned_text l = option_map_or channels_text (told_ports (l ++ 13 ∷ [])) l
 
 line_is : (l : List ℕ) → turned_line (l ++ 13 ∷ []) ≡ turned_text l ++ 13 ∷ []
 unfolding channel_line
-line_is l = by (ports_told (l ++ 13 ∷ []))
+line_is l = by (told_ports (l ++ 13 ∷ []))
   where
     by : (o : Option Ports) → option_map_or channel_line o (l ++ 13 ∷ []) ≡ option_map_or channels_text o l ++ 13 ∷ []
     by None = refl
@@ -40,7 +40,7 @@ line_is l = by (ports_told (l ++ 13 ∷ []))
 abbrev ArePorts : Ports → Type 0
 ArePorts ports = (ports.rtp < 2 ^ 16) × (ports.rtcp < 2 ^ 16)
 
-port_within : (text : List ℕ) → IfSome (port_up_to 65535 text) (λ n. n < 2 ^ 16)
+port_within : (text : List ℕ) → IfSome (port_at_most 65535 text) (λ n. n < 2 ^ 16)
 port_within text = by (number_of 65535 text) refl
   where
     not_zero : (n : ℕ) (b : Bool) → n ≤ 65535 → IfSome (cond b None (Some n)) (λ m. m < 2 ^ 16)
@@ -56,44 +56,44 @@ both_within (Some a) (Some b) first second = (first, second)
 both_within (Some a) None first second = tt
 both_within None b first second = tt
 
-between_within : (text : Option (List ℕ)) → IfSome (option_and_then ports_between text) ArePorts
+between_within : (text : Option (List ℕ)) → IfSome (option_and_then ports_beside text) ArePorts
 between_within None = tt
 between_within (Some text) = both_within _ _ (port_within (before_first (is_byte 45) text)) (port_within (after_first (is_byte 45) text))
 
-told_within : (line : List ℕ) → IfSome (ports_told line) ArePorts
-unfolding ports_told
-told_within line = between_within (option_and_then without_return (behind_name line))
+told_within : (line : List ℕ) → IfSome (told_ports line) ArePorts
+unfolding told_ports
+told_within line = between_within (option_and_then return_left (name_left line))
 
 -- a line that tells ports begins as one
 
-told_named : (line : List ℕ) (ports : Ports) → ports_told line ≡ Some ports → begins_with ports_name line ≡ true
-unfolding ports_told
-told_named line ports e = by (begins_with ports_name line) e
+told_named : (line : List ℕ) (ports : Ports) → told_ports line ≡ Some ports → is_begun_with ports_name line ≡ true
+unfolding told_ports
+told_named line ports e = by (is_begun_with ports_name line) e
   where
-    by : (b : Bool) → option_and_then ports_between (option_and_then without_return (cond b (Some (drop 39 line)) None)) ≡ Some ports → b ≡ true
+    by : (b : Bool) → option_and_then ports_beside (option_and_then return_left (cond b (Some (drop 39 line)) None)) ≡ Some ports → b ≡ true
     by true f = refl
     by false f = absurd (cc f)
 
 -- so it tells no size
-named_first : (l : List ℕ) → 0 < length l → begins_with ports_name (l ++ 13 ∷ []) ≡ true → begins_with size_name l ≡ false
+named_first : (l : List ℕ) → 0 < length l → is_begun_with ports_name (l ++ 13 ∷ []) ≡ true → is_begun_with size_name l ≡ false
 named_first [] some named = absurd (omega (arith, some))
 named_first (b ∷ bs) some named = by (b == 84) refl (and_parts (b == 84) _ named).0
   where
     other : (n : ℕ) → (n == 84) ≡ true → (n == 67) ≡ false
     other n e = ap (λ m. m == 67) (eqb-true n 84 e)
 
-    by : (t : Bool) → (b == 84) ≡ t → (b == 84) ≡ true → begins_with size_name (b ∷ bs) ≡ false
+    by : (t : Bool) → (b == 84) ≡ t → (b == 84) ≡ true → is_begun_with size_name (b ∷ bs) ≡ false
     by t f is = ap (λ u. u && bytes_eq (take 15 bs) (codes "ontent-Length: ")) (other b is)
 
 -- what becomes of a line
 
 record IsTurned (l : List ℕ) : Type 0 where
   line : IsLine (turned_text l)
-  same : begins_with size_name (turned_text l) ≡ begins_with size_name l
-  kept : begins_with size_name l ≡ true → turned_text l ≡ l
+  same : is_begun_with size_name (turned_text l) ≡ is_begun_with size_name l
+  kept : is_begun_with size_name l ≡ true → turned_text l ≡ l
 
 turned_is : (l : List ℕ) → IsLine l → IsTurned l
-turned_is l is = by (ports_told (l ++ 13 ∷ [])) refl (told_within (l ++ 13 ∷ []))
+turned_is l is = by (told_ports (l ++ 13 ∷ [])) refl (told_within (l ++ 13 ∷ []))
   where
     plain : (ports : Ports) → ArePorts ports → IsPlain (channels_text ports)
     plain ports within =
@@ -103,16 +103,16 @@ turned_is l is = by (ports_told (l ++ 13 ∷ [])) refl (told_within (l ++ 13 ∷
         (plain-append a (codes "-") (plain-append name (decimal (ports.rtp - 1)) refl (plain_decimal (ports.rtp - 1) (omega (arith, within.0)))) refl)
         (plain_decimal (ports.rtcp - 1) (omega (arith, within.1)))
 
-    by : (o : Option Ports) → ports_told (l ++ 13 ∷ []) ≡ o → IfSome o ArePorts → IsTurned l
+    by : (o : Option Ports) → told_ports (l ++ 13 ∷ []) ≡ o → IfSome o ArePorts → IsTurned l
     by None e within =
         let same : turned_text l ≡ l = ap (λ p. option_map_or channels_text p l) e in
-        record { line = subst IsLine (sym same) is; same = ap (begins_with size_name) same; kept = λ sized. same }
+        record { line = subst IsLine (sym same) is; same = ap (is_begun_with size_name) same; kept = λ sized. same }
     by (Some ports) e within =
         let new : turned_text l ≡ channels_text ports = ap (λ p. option_map_or channels_text p l) e in
-        let unsized : begins_with size_name l ≡ false = named_first l is.0 (told_named (l ++ 13 ∷ []) ports e) in
+        let unsized : is_begun_with size_name l ≡ false = named_first l is.0 (told_named (l ++ 13 ∷ []) ports e) in
         record {
           line = subst IsLine (sym new) (omega arith, plain ports within);
-          same = ap (begins_with size_name) new ∙ sym unsized;
+          same = ap (is_begun_with size_name) new ∙ sym unsized;
           kept = λ sized. absurd (true≢false (sym sized ∙ unsized));
         }
 
@@ -127,7 +127,7 @@ turned_size [] each = refl
 turned_size (l ∷ ls) each =
     let is = turned_is l each.0 in
     ap (λ b. cond b (digits_value 10 (drop 16 (turned_text l))) (told_size (map turned_text ls))) is.same
-    ∙ by (begins_with size_name l) is.kept (turned_size ls each.1)
+    ∙ by (is_begun_with size_name l) is.kept (turned_size ls each.1)
   where
     by : (b : Bool) → (b ≡ true → turned_text l ≡ l) → told_size (map turned_text ls) ≡ told_size ls
         → cond b (digits_value 10 (drop 16 (turned_text l))) (told_size (map turned_text ls)) ≡ cond b (digits_value 10 (drop 16 l)) (told_size ls)
@@ -175,7 +175,7 @@ turned_head (l ∷ ls) body each =
 
 -- the first line tells no ports
 first_kept : (status : List ℕ) → turned_text (codes "RTSP/1.0 " ++ status) ≡ codes "RTSP/1.0 " ++ status
-unfolding ports_told
+unfolding told_ports
 first_kept status = refl
 
 pub turned_reply : (text : List ℕ) → IsReply text → IsReply (turned text)

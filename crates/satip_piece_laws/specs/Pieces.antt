@@ -4,7 +4,7 @@ use Rattle.std.specs.List.{list_all, flat_map}
 use Rattle.std.specs.Str.Parse.{digits_value}
 use Rattle.satip_history.specs.Lists.{Each}
 use Rattle.satip_parts.specs.Frames.{frame}
-use Rattle.satip_rtsp.specs.Targets.{begins_with}
+use Rattle.satip_rtsp.specs.Targets.{is_begun_with}
 
 -- neither CR nor LF
 abbrev pub is_plain : ℕ → Bool
@@ -25,7 +25,7 @@ size_name = codes "Content-Length: "
 
 abbrev pub told_size : List (List ℕ) → ℕ
 told_size [] = 0
-told_size (line ∷ lines) = if begins_with size_name line then digits_value 10 (drop 16 line) else told_size lines
+told_size (line ∷ lines) = if is_begun_with size_name line then digits_value 10 (drop 16 line) else told_size lines
 
 -- a reply: a head, an empty line, and as many bytes as the head tells
 pub record IsReply (text : List ℕ) : Type 0 where

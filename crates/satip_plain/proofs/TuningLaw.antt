@@ -11,7 +11,7 @@ use Rattle.satip_tune.specs.declared.signal.System.{System}
 use Rattle.satip_tune.specs.declared.signal.Modulation.{Modulation}
 use Rattle.satip_tune.specs.declared.signal.RollOff.{RollOff}
 use Rattle.satip_tune.specs.declared.signal.Fec.{Fec}
-use Rattle.satip_tune.specs.Words.{pol_text, system_text, modulation_text, roll_off_text, fec_text, pilots_text, pol_named, system_named, modulation_named, roll_off_named, fec_named, pilots_named}
+use Rattle.satip_tune.specs.Words.{pol_text, system_text, modulation_text, roll_off_text, fec_text, pilots_text_of, pol_named, system_named, modulation_named, roll_off_named, fec_named, pilots_named_of}
 use Rattle.satip_tune.proofs.WordLaws.{pol_printed, system_printed, modulation_printed, roll_off_printed, fec_printed, pilots_printed}
 use Rattle.satip_plain.specs.Types.{Tuning}
 use Rattle.satip_plain.specs.SameTuning.{same_by}
@@ -91,8 +91,8 @@ tuning_eq_decides a b =
     let msys = decides_and _ _ ro (same_by-decides system_text system_named system_printed a.msys b.msys) in
     let modulations = same_by-decides modulation_text modulation_named modulation_printed in
     let mtype = decides_and _ _ msys (option_eq-decides (same_by modulation_text) modulations a.mtype b.mtype) in
-    let pilots = same_by-decides pilots_text pilots_named pilots_printed in
-    let plts = decides_and _ _ mtype (option_eq-decides (same_by pilots_text) pilots a.plts b.plts) in
+    let pilots = same_by-decides pilots_text_of pilots_named_of pilots_printed in
+    let plts = decides_and _ _ mtype (option_eq-decides (same_by pilots_text_of) pilots a.plts b.plts) in
     let sr = decides_and _ _ plts (Decides-eqb a.sr b.sr) in
     let fecs = same_by-decides fec_text fec_named fec_printed in
     let each = decides_and _ _ sr (option_eq-decides (same_by fec_text) fecs a.fec b.fec) in

@@ -3,7 +3,7 @@
 use Rattle.std.specs.Prelude.{ℕ, ◌==◌, ◌&&◌, ◌||◌, ◌+◌, ◌*◌, ◌%◌, ◌^◌, not, nat_le, max, Bool, true, false, List, [], ◌∷◌, ◌++◌, filter, find, length, take, drop, zero, suc, Option, None, Some, option_map, option_and_then, is_none, unwrap_or, option_to_list, if◌then◌else◌}
 use Rattle.std.specs.List.{list_any, range_with_len}
 use Rattle.std.specs.Option.{option_map_or}
-use Rattle.satip_tune.specs.Frontends.{mux_of}
+use Rattle.satip_tune.specs.Frontends.{mux_for}
 use Rattle.satip_pids.specs.Pids.{Pids, Only, has_pid}
 use Rattle.satip_ts.specs.Packet.{pid_of}
 use Rattle.satip_rtsp.specs.declared.requests.Method.{Method}
@@ -222,7 +222,7 @@ pub record Placing : Type 0 where
 
 abbrev pub placing_of : Config → Readings → Asking → Option Placing
 placing_of c g a = option_and_then (λ tuning.
-    option_map (λ place. record { home = a.home; tuning = tuning; place = place }) (choose (outlook_in c g a.home) (mux_of c.muxes tuning) tuning))
+    option_map (λ place. record { home = a.home; tuning = tuning; place = place }) (choose (outlook_in c g a.home) (mux_for c.muxes tuning) tuning))
     (to_set (g.tuned a.home) a.query.change)
 
 abbrev pub placing : Config → Readings → Item → Option Placing
@@ -245,7 +245,7 @@ tunes_front (Some p) f = p.place.anew && p.place.front == f
 -- the multiplex that an entry tunes front ends to
 abbrev pub mux_in : Config → Option Placing → Option ℕ
 mux_in c None = None
-mux_in c (Some p) = mux_of c.muxes p.tuning
+mux_in c (Some p) = mux_for c.muxes p.tuning
 
 abbrev pub number_free : Readings → ℕ
 number_free g = unwrap_or (find (λ n. is_none (home_of_number g n)) (range_with_len 1 (length g.made + 1))) 0

@@ -21,7 +21,7 @@ use Rattle.satip_tune.specs.declared.keys.Key.TheVariants.{Delpids}
 use Rattle.satip_plain.specs.Types.{Tuning, Change, Key, Query, RefusalBody, Request, HttpRequest, Config}
 use Rattle.satip_plain.specs.State.{Session, Stream, State, same_id, rtsp_session, stream_of, owner, most_sessions, most_made}
 use Rattle.satip_fronts.specs.Choice.{Outlook, blocked}
-use Rattle.satip_tune.specs.Frontends.{mux_of}
+use Rattle.satip_tune.specs.Frontends.{mux_for}
 use Rattle.satip_plain.specs.Streams.{changed_tuning, to_set, outlook_of, asked_pids}
 
 -- the first that is given
@@ -159,7 +159,7 @@ is_full st = nat_le most_sessions (length st.sessions) || nat_le most_made st.ma
 
 -- a tuning is to be set, and each fitting front end is taken
 abbrev pub front_missing : Config → Outlook → Option Tuning → Change → Bool
-front_missing c outlook old change = option_map_or (λ tuning. blocked outlook (mux_of c.muxes tuning) tuning) (to_set old change) false
+front_missing c outlook old change = option_map_or (λ tuning. blocked outlook (mux_for c.muxes tuning) tuning) (to_set old change) false
 
 -- what refuses a query for a stream that had this tuning and these PIDs, before a front end is looked for; `makes` where it
 -- also makes a session

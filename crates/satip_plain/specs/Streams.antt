@@ -2,8 +2,8 @@
 use Rattle.std.specs.Prelude.{ℕ, ◌==◌, ◌&&◌, ◌+◌, ◌%◌, ◌^◌, not, true, false, [], filter, Option, None, Some, option_and_then, Result, Ok, Err, if◌then◌else◌}
 use Rattle.std.specs.List.{list_any}
 use Rattle.std.specs.Option.{option_map_or}
-use Rattle.satip_tune.specs.Tunings.{merge, first, gives_any}
-use Rattle.satip_tune.specs.Frontends.{mux_of}
+use Rattle.satip_tune.specs.Tunings.{merge_of, first_of, gives_any}
+use Rattle.satip_tune.specs.Frontends.{mux_for}
 use Rattle.satip_pids.specs.declared.fault.PidFault.{PidFault}
 use Rattle.satip_pids.specs.Pids.{Choice, Unsaid, AllPids, Listed as ListedPids, apply}
 use Rattle.satip_query.specs.declared.queries.PidsGiven.{PidsGiven}
@@ -17,8 +17,8 @@ use Rattle.satip_plain.specs.SameTuning.{tuning_eq}
 
 -- the tuning that a change with at least one key makes, of the old one or of none
 abbrev pub changed_tuning : Option Tuning → Change → Result Tuning Key
-changed_tuning None change = first change
-changed_tuning (Some old) change = Ok (merge old change)
+changed_tuning None change = first_of change
+changed_tuning (Some old) change = Ok (merge_of old change)
 
 abbrev pub other_than : Option Tuning → Tuning → Option Tuning
 other_than None new = Some new
@@ -65,13 +65,13 @@ change_stream number f st = record st { streams = change_where (λ t. t.number =
 abbrev pub put_at : Config → ℕ → Tuning → State → Place → State
 put_at c number tuning st place =
     let placed = change_stream number (λ t. record t { tuning = Some tuning; front = Some place.front }) st in
-    sweep (record placed { rows = change_where (λ r. place.anew && r.number == place.front) (tuned (mux_of c.muxes tuning)) placed.rows })
+    sweep (record placed { rows = change_where (λ r. place.anew && r.number == place.front) (tuned (mux_for c.muxes tuning)) placed.rows })
 
 -- what the sessions of the stream hold leaves, then the stream gets its place
 abbrev pub retune : Config → ℕ → State → Tuning → Move
 retune c number st tuning =
     then_move (each_of (λ s. s.stream == number && not s.http) (let_go true st.clock) st) (λ now.
-    settle (option_map_or (put_at c number tuning now) (choose (outlook_of c now number) (mux_of c.muxes tuning) tuning) now))
+    settle (option_map_or (put_at c number tuning now) (choose (outlook_of c now number) (mux_for c.muxes tuning) tuning) now))
 
 abbrev pub choice_of : PidsGiven → Choice
 choice_of Absent = Unsaid

@@ -18,7 +18,7 @@ mod setting;
     satip_tune::specs::Words::modulation_text,
     satip_tune::specs::Words::roll_off_text,
     satip_tune::specs::Words::fec_text,
-    satip_tune::specs::Words::pilots_text,
+    satip_tune::specs::Words::pilots_text_of,
 ))]
 mod tests;
 mod values;

@@ -4,7 +4,7 @@ use Rattle.std.specs.List.{list_any, slice_split}
 use Rattle.std.specs.Str.{bytes_eq}
 use Rattle.satip_tune.specs.Frequency.{frequency_of}
 use Rattle.satip_tune.specs.Pieces.{is_byte}
-use Rattle.satip_tune.specs.Words.{pol_named, system_named, modulation_named, fec_named, pilots_named}
+use Rattle.satip_tune.specs.Words.{pol_named, system_named, modulation_named, fec_named, pilots_named_of}
 use Rattle.satip_tune.specs.declared.faults.ValueFault.{ValueFault}
 use Rattle.satip_tune.specs.declared.keys.Key.{Key}
 use Rattle.satip_tune.specs.declared.keys.Key.TheVariants.{Fe, Src, Freq, Pol as PolKey, Ro, Msys, Mtype, Plts, Sr, Fec as FecKey, Pids, Addpids, Delpids}
@@ -13,8 +13,8 @@ use Rattle.satip_tune.specs.declared.signal.Modulation.{Modulation}
 use Rattle.satip_tune.specs.declared.signal.Pol.{Pol}
 use Rattle.satip_tune.specs.declared.signal.RollOff.{RollOff}
 use Rattle.satip_tune.specs.declared.signal.System.{System}
-use Rattle.satip_query.specs.Queries.{are_given, is_given, new_query}
-use Rattle.satip_query.specs.Reading.{and_then, at_key, is_open, piece_gives, pids_of, query_of, result_map, same_key, stands_for, with_change, with_key, with_known, with_piece, with_pieces, with_value, word_of}
+use Rattle.satip_query.specs.Queries.{are_given_by, is_given, new_query}
+use Rattle.satip_query.specs.Reading.{and_then, at_key, is_left_open, piece_gives, pids_of, query_of, result_map, same_key, stands_for, with_change, with_key, with_known, with_piece, with_pieces, with_value, word_of}
 use Rattle.satip_query.specs.Values.{number_in, pid_list_of, roll_off_of}
 use Rattle.satip_query.specs.declared.faults.QueryFault.TheVariants.{Syntax}
 use Rattle.satip_query.specs.declared.queries.PidsGiven.{PidsGiven}
@@ -28,19 +28,19 @@ mapped put (Ok value) r test b e each = let same : put value ≡ r = cc in sym (
 mapped put (Err fault) r test b e each = absurd (cc)
 
 -- PIDs that are read are given
-mapped-list : {E : Type 0} (found : Result (List ℕ) E) (given : PidsGiven) → result_map Listed found ≡ Ok given → are_given given ≡ true
-mapped-list (Ok pids) given e = let same : Listed pids ≡ given = cc in sym (ap are_given same)
+mapped-list : {E : Type 0} (found : Result (List ℕ) E) (given : PidsGiven) → result_map Listed found ≡ Ok given → are_given_by given ≡ true
+mapped-list (Ok pids) given e = let same : Listed pids ≡ given = cc in sym (ap are_given_by same)
 mapped-list (Err fault) given e = absurd (cc)
 
-pids-given : (text : List ℕ) (given : PidsGiven) → pids_of text ≡ Ok given → are_given given ≡ true
+pids-given : (text : List ℕ) (given : PidsGiven) → pids_of text ≡ Ok given → are_given_by given ≡ true
 unfolding pids_of
 pids-given text given =
     elim (bytes_eq text (codes "all")) as (λ b. (if b then Ok Every else if bytes_eq text (codes "none") then Ok Empty
-    else result_map Listed (pid_list_of text)) ≡ Ok given → are_given given ≡ true) [
-      | true ↦ λ e. (let same : Every ≡ given = cc in sym (ap are_given same))
+    else result_map Listed (pid_list_of text)) ≡ Ok given → are_given_by given ≡ true) [
+      | true ↦ λ e. (let same : Every ≡ given = cc in sym (ap are_given_by same))
       | false ↦ elim (bytes_eq text (codes "none")) as (λ b. (if b then Ok Empty else result_map Listed (pid_list_of text)) ≡ Ok given
-          → are_given given ≡ true) [
-            | true ↦ λ e. (let same : Empty ≡ given = cc in sym (ap are_given same))
+          → are_given_by given ≡ true) [
+            | true ↦ λ e. (let same : Empty ≡ given = cc in sym (ap are_given_by same))
             | false ↦ λ e. mapped-list (pid_list_of text) given e
           ]
     ]
@@ -88,7 +88,7 @@ put-fec : (q : Query) (value : Fec) (key : Key) → is_given (with_change q (rec
 put-fec q value FecKey = refl
 put-fec q value _ = refl
 
-put-pids : (q : Query) (given : PidsGiven) (key : Key) → are_given given ≡ true
+put-pids : (q : Query) (given : PidsGiven) (key : Key) → are_given_by given ≡ true
     → is_given (record q { pids = given }) key ≡ (same_key Pids key || is_given q key)
 put-pids q given Pids some = some
 put-pids q given _ some = refl
@@ -125,7 +125,7 @@ given-value q r Mtype text key e =
     mapped (λ (v : Modulation). with_change q (record q.change { mtype = Some v })) (word_of modulation_named text) r (λ query. is_given query key)
     (same_key Mtype key || is_given q key) e (λ v found. put-mtype q v key)
 given-value q r Plts text key e =
-    mapped (λ (v : Bool). with_change q (record q.change { plts = Some v })) (word_of pilots_named text) r (λ query. is_given query key)
+    mapped (λ (v : Bool). with_change q (record q.change { plts = Some v })) (word_of pilots_named_of text) r (λ query. is_given query key)
     (same_key Plts key || is_given q key) e (λ v found. put-plts q v key)
 given-value q r Sr text key e =
     mapped (λ (v : ℕ). with_change q (record q.change { sr = Some v })) (number_in 1 99999 text) r (λ query. is_given query key)
@@ -156,9 +156,9 @@ and-false true = refl
 and-false false = refl
 
 given-known : (q r : Query) (named : Key) (text : List ℕ) (key : Key) → with_known q named text ≡ Ok r
-    → is_given r key ≡ ((same_key named key && not (is_open named text)) || is_given q key)
+    → is_given r key ≡ ((same_key named key && not (is_left_open named text)) || is_given q key)
 given-known q r named text key =
-    elim (is_open named text) as (λ open_. (if open_ then Ok q else if is_given q named then Err (Syntax named)
+    elim (is_left_open named text) as (λ open_. (if open_ then Ok q else if is_given q named then Err (Syntax named)
     else at_key named (with_value q named text)) ≡ Ok r
     → is_given r key ≡ ((same_key named key && not open_) || is_given q key)) [
       | true ↦ λ e. (let same : q ≡ r = cc in sym (ap (λ query. is_given query key) same)

@@ -10,7 +10,7 @@ use Rattle.satip_base.proofs.Writing.{◌then◌}
 use Rattle.satip_pids.specs.Texts.{next_text}
 use Rattle.satip_pids.proofs.PidTexts.{length-decimal_pid, length-flat_map_next}
 use Rattle.satip_tune.specs.Frequency.{fraction_text, frequency_text, three_digits, without_end_zeros}
-use Rattle.satip_tune.specs.Words.{all_keys, key_text, pol_text, system_text, modulation_text, roll_off_text, fec_text, pilots_text}
+use Rattle.satip_tune.specs.Words.{all_keys, key_text, pol_text, system_text, modulation_text, roll_off_text, fec_text, pilots_text_of}
 use Rattle.satip_tune.specs.declared.keys.Key.{Key}
 use Rattle.satip_tune.specs.declared.keys.Key.TheVariants.{Fe, Src, Freq, Pol as PolKey, Ro, Msys, Mtype, Plts, Sr, Fec as FecKey, Pids, Addpids, Delpids}
 use Rattle.satip_tune.specs.declared.signal.Fec.{Fec}
@@ -166,8 +166,8 @@ unfolding modulation_text
 short-modulation Qpsk = omega arith
 short-modulation Psk8 = omega arith
 
-short-pilots : (value : Bool) → length (pilots_text value) ≤ 20
-unfolding pilots_text
+short-pilots : (value : Bool) → length (pilots_text_of value) ≤ 20
+unfolding pilots_text_of
 short-pilots true = omega arith
 short-pilots false = omega arith
 
@@ -192,7 +192,7 @@ short-value q PolKey ok = short-word-field pol_text q.change.pol short-pol
 short-value q Ro ok = short-word-field roll_off_text q.change.ro short-roll_off
 short-value q Msys ok = short-word-field system_text q.change.msys short-system
 short-value q Mtype ok = short-word-field modulation_text q.change.mtype short-modulation
-short-value q Plts ok = short-word-field pilots_text q.change.plts short-pilots
+short-value q Plts ok = short-word-field pilots_text_of q.change.plts short-pilots
 short-value q Sr ok = short-field decimal (IsWithin 1 99999) q.change.sr 20 ok.sr (λ n inside. short-number 1 99999 n (omega arith) inside)
 short-value q FecKey ok = short-word-field fec_text q.change.fec short-fec
 short-value q Pids ok = short-given q.pids ok.pids

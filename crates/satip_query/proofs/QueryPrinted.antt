@@ -3,7 +3,7 @@ use Rattle.std.proofs.Common.{◌≡◌, ℕ, Bool, true, false, cond, List, [],
 use Rattle.std.specs.List.{join_with_byte, slice_split, after_first}
 use Rattle.satip_tune.specs.Frequency.{frequency_text}
 use Rattle.satip_tune.specs.Pieces.{is_byte}
-use Rattle.satip_tune.specs.Words.{all_keys, key_named, key_text, pol_text, system_text, modulation_text, roll_off_text, fec_text, pilots_text}
+use Rattle.satip_tune.specs.Words.{all_keys, key_named, key_text, pol_text, system_text, modulation_text, roll_off_text, fec_text, pilots_text_of}
 use Rattle.satip_tune.specs.declared.keys.Key.{Key}
 use Rattle.satip_tune.specs.declared.keys.Key.TheVariants.{Fe, Src, Freq, Pol as PolKey, Ro, Msys, Mtype, Plts, Sr, Fec as FecKey, Pids, Addpids, Delpids}
 use Rattle.satip_tune.specs.declared.signal.Fec.{Fec}
@@ -17,8 +17,8 @@ use Rattle.satip_tune.specs.declared.signal.System.{System}
 use Rattle.satip_tune.proofs.Printed.{frequency_printed}
 use Rattle.satip_tune.proofs.WordLaws.{key_printed, pol_printed, system_printed, modulation_printed, roll_off_printed, fec_printed, pilots_printed}
 use Rattle.satip_query.specs.Printing.{AreListed, IsAllowed, IsWithin, MayBeGiven, field_text, list_text, piece_text, pids_text, query_text, value_text}
-use Rattle.satip_query.specs.Queries.{are_given, is_given, new_query}
-use Rattle.satip_query.specs.Reading.{and_then, is_open, pids_of, query_of, with_key, with_known, with_piece, with_pieces, with_value}
+use Rattle.satip_query.specs.Queries.{are_given_by, is_given, new_query}
+use Rattle.satip_query.specs.Reading.{and_then, is_left_open, pids_of, query_of, with_key, with_known, with_piece, with_pieces, with_value}
 use Rattle.satip_query.specs.declared.queries.PidsGiven.{PidsGiven}
 use Rattle.satip_query.specs.declared.queries.PidsGiven.TheVariants.{Absent, All as Every, Empty, List as Listed}
 use Rattle.satip_query.specs.declared.queries.Query.{Query}
@@ -31,7 +31,7 @@ abbrev pub pieces : Query → List Key → List (List ℕ)
 pieces q keys = map (piece_text q) (filter (is_given q) keys)
 
 -- a known key's value is taken in
-known : (q next : Query) (key : Key) (text : List ℕ) → is_open key text ≡ false → is_given q key ≡ false
+known : (q next : Query) (key : Key) (text : List ℕ) → is_left_open key text ≡ false → is_given q key ≡ false
     → with_value q key text ≡ Ok next → with_known q key text ≡ Ok next
 known q next key text closed given value = rw (closed, given, value) refl
 
@@ -75,52 +75,52 @@ step-word q key keys text (Some v) with given value each =
     step-given q (with None) (with (Some v)) key keys given (ap (with_known (with None) key) value ∙ each v)
 
 step-pids : (q : Query) (keys : List Key) (given : PidsGiven) (made : PidsGiven → Query) → q.pids ≡ given → MayBeGiven given
-    → ((given : PidsGiven) → MayBeGiven given → are_given given ≡ true → with_known (made Absent) Pids (pids_text given) ≡ Ok (made given))
+    → ((given : PidsGiven) → MayBeGiven given → are_given_by given ≡ true → with_known (made Absent) Pids (pids_text given) ≡ Ok (made given))
     → with_pieces (made Absent) (pieces q (Pids ∷ keys)) ≡ with_pieces (made given) (pieces q keys)
-step-pids q keys Absent made at may each = step-absent q (made Absent) Pids keys (ap are_given at)
+step-pids q keys Absent made at may each = step-absent q (made Absent) Pids keys (ap are_given_by at)
 step-pids q keys Every made at may each =
-    step-given q (made Absent) (made Every) Pids keys (ap are_given at)
+    step-given q (made Absent) (made Every) Pids keys (ap are_given_by at)
     (ap (λ given. with_known (made Absent) Pids (pids_text given)) at ∙ each Every may refl)
 step-pids q keys Empty made at may each =
-    step-given q (made Absent) (made Empty) Pids keys (ap are_given at)
+    step-given q (made Absent) (made Empty) Pids keys (ap are_given_by at)
     (ap (λ given. with_known (made Absent) Pids (pids_text given)) at ∙ each Empty may refl)
 step-pids q keys (Listed pids) made at may each =
-    step-given q (made Absent) (made (Listed pids)) Pids keys (ap are_given at)
+    step-given q (made Absent) (made (Listed pids)) Pids keys (ap are_given_by at)
     (ap (λ given. with_known (made Absent) Pids (pids_text given)) at ∙ each (Listed pids) may refl)
 
 -- the value of `pids` is taken in
-closed-pids : (text : List ℕ) → is_open Pids text ≡ false
-unfolding is_open
+closed-pids : (text : List ℕ) → is_left_open Pids text ≡ false
+unfolding is_left_open
 closed-pids text = refl
 
-pids-known : (from : Query) → from.pids ≡ Absent → (given : PidsGiven) → MayBeGiven given → are_given given ≡ true
+pids-known : (from : Query) → from.pids ≡ Absent → (given : PidsGiven) → MayBeGiven given → are_given_by given ≡ true
     → with_known from Pids (pids_text given) ≡ Ok (record from { pids = given })
 unfolding pids_of
 pids-known from none Absent may some = absurd (cc)
-pids-known from none Every may some = known from _ Pids (codes "all") (closed-pids (codes "all")) (ap are_given none) refl
-pids-known from none Empty may some = known from _ Pids (codes "none") (closed-pids (codes "none")) (ap are_given none) refl
+pids-known from none Every may some = known from _ Pids (codes "all") (closed-pids (codes "all")) (ap are_given_by none) refl
+pids-known from none Empty may some = known from _ Pids (codes "none") (closed-pids (codes "none")) (ap are_given_by none) refl
 pids-known from none (Listed pids) may some =
-    known from _ Pids (list_text pids) (closed-pids (list_text pids)) (ap are_given none) (rw (pids_printed pids may) refl)
+    known from _ Pids (list_text pids) (closed-pids (list_text pids)) (ap are_given_by none) (rw (pids_printed pids may) refl)
 
 -- no printed word is `auto`
-closed-roll_off : (value : RollOff) → is_open Ro (roll_off_text value) ≡ false
-unfolding is_open roll_off_text
+closed-roll_off : (value : RollOff) → is_left_open Ro (roll_off_text value) ≡ false
+unfolding is_left_open roll_off_text
 closed-roll_off R35 = refl
 closed-roll_off R25 = refl
 closed-roll_off R20 = refl
 
-closed-modulation : (value : Modulation) → is_open Mtype (modulation_text value) ≡ false
-unfolding is_open modulation_text
+closed-modulation : (value : Modulation) → is_left_open Mtype (modulation_text value) ≡ false
+unfolding is_left_open modulation_text
 closed-modulation Qpsk = refl
 closed-modulation Psk8 = refl
 
-closed-pilots : (value : Bool) → is_open Plts (pilots_text value) ≡ false
-unfolding is_open pilots_text
+closed-pilots : (value : Bool) → is_left_open Plts (pilots_text_of value) ≡ false
+unfolding is_left_open pilots_text_of
 closed-pilots true = refl
 closed-pilots false = refl
 
-closed-fec : (value : Fec) → is_open FecKey (fec_text value) ≡ false
-unfolding is_open fec_text
+closed-fec : (value : Fec) → is_left_open FecKey (fec_text value) ≡ false
+unfolding is_left_open fec_text
 closed-fec F12 = refl
 closed-fec F23 = refl
 closed-fec F34 = refl
@@ -182,7 +182,7 @@ behind_delpids = []
 
 read-fe : (q : Query) → IsAllowed q → with_pieces (by_fields None None None None None None None None None None Absent None None) (pieces q (Fe ∷ behind_fe))
     ≡ with_pieces (by_fields q.change.fe None None None None None None None None None Absent None None) (pieces q behind_fe)
-unfolding is_open
+unfolding is_left_open
 read-fe q ok =
     step q Fe behind_fe decimal (IsWithin 1 65535) q.change.fe (λ o. by_fields o None None None None None None None None None Absent None None) refl refl ok.fe
     (λ n inside. known (by_fields None None None None None None None None None None Absent None None)
@@ -192,7 +192,7 @@ read-fe q ok =
 read-src : (q : Query) → IsAllowed q → with_pieces (by_fields q.change.fe None None None None None None None None None Absent None None)
     (pieces q (Src ∷ behind_src)) ≡ with_pieces (by_fields q.change.fe q.change.src None None None None None None None None Absent None None)
     (pieces q behind_src)
-unfolding is_open
+unfolding is_left_open
 read-src q ok =
     step q Src behind_src decimal (IsWithin 1 255) q.change.src (λ o. by_fields q.change.fe o None None None None None None None None Absent None None)
     refl refl ok.src
@@ -203,7 +203,7 @@ read-src q ok =
 read-freq : (q : Query) → IsAllowed q → with_pieces (by_fields q.change.fe q.change.src None None None None None None None None Absent None None)
     (pieces q (Freq ∷ behind_freq)) ≡ with_pieces (by_fields q.change.fe q.change.src q.change.freq None None None None None None None Absent None None)
     (pieces q behind_freq)
-unfolding is_open
+unfolding is_left_open
 read-freq q ok =
     step q Freq behind_freq frequency_text (IsWithin 1000 99999999) q.change.freq
     (λ o. by_fields q.change.fe q.change.src o None None None None None None None Absent None None) refl refl ok.freq
@@ -214,7 +214,7 @@ read-freq q ok =
 read-pol : (q : Query) → IsAllowed q → with_pieces (by_fields q.change.fe q.change.src q.change.freq None None None None None None None Absent None None)
     (pieces q (PolKey ∷ behind_pol)) ≡ with_pieces
     (by_fields q.change.fe q.change.src q.change.freq q.change.pol None None None None None None Absent None None) (pieces q behind_pol)
-unfolding is_open
+unfolding is_left_open
 read-pol q ok =
     step-word q PolKey behind_pol pol_text q.change.pol
     (λ o. by_fields q.change.fe q.change.src q.change.freq o None None None None None None Absent None None) refl refl
@@ -236,7 +236,7 @@ read-msys : (q : Query) → IsAllowed q
     → with_pieces (by_fields q.change.fe q.change.src q.change.freq q.change.pol q.change.ro None None None None None Absent None None)
     (pieces q (Msys ∷ behind_msys)) ≡ with_pieces
     (by_fields q.change.fe q.change.src q.change.freq q.change.pol q.change.ro q.change.msys None None None None Absent None None) (pieces q behind_msys)
-unfolding is_open
+unfolding is_left_open
 read-msys q ok =
     step-word q Msys behind_msys system_text q.change.msys
     (λ o. by_fields q.change.fe q.change.src q.change.freq q.change.pol q.change.ro o None None None None Absent None None) refl refl
@@ -262,18 +262,18 @@ read-plts : (q : Query) → IsAllowed q
     (by_fields q.change.fe q.change.src q.change.freq q.change.pol q.change.ro q.change.msys q.change.mtype q.change.plts None None Absent None None)
     (pieces q behind_plts)
 read-plts q ok =
-    step-word q Plts behind_plts pilots_text q.change.plts
+    step-word q Plts behind_plts pilots_text_of q.change.plts
     (λ o. by_fields q.change.fe q.change.src q.change.freq q.change.pol q.change.ro q.change.msys q.change.mtype o None None Absent None None) refl refl
     (λ v. known (by_fields q.change.fe q.change.src q.change.freq q.change.pol q.change.ro q.change.msys q.change.mtype None None None Absent None None)
     (by_fields q.change.fe q.change.src q.change.freq q.change.pol q.change.ro q.change.msys q.change.mtype (Some v) None None Absent None None) Plts
-    (pilots_text v) (closed-pilots v) refl (rw (pilots_printed v) refl))
+    (pilots_text_of v) (closed-pilots v) refl (rw (pilots_printed v) refl))
 
 read-sr : (q : Query) → IsAllowed q
     → with_pieces (by_fields q.change.fe q.change.src q.change.freq q.change.pol q.change.ro q.change.msys q.change.mtype q.change.plts None None Absent None
     None) (pieces q (Sr ∷ behind_sr)) ≡ with_pieces
     (by_fields q.change.fe q.change.src q.change.freq q.change.pol q.change.ro q.change.msys q.change.mtype q.change.plts q.change.sr None Absent None None)
     (pieces q behind_sr)
-unfolding is_open
+unfolding is_left_open
 read-sr q ok =
     step q Sr behind_sr decimal (IsWithin 1 99999) q.change.sr
     (λ o. by_fields q.change.fe q.change.src q.change.freq q.change.pol q.change.ro q.change.msys q.change.mtype q.change.plts o None Absent None None)
@@ -311,7 +311,7 @@ read-addpids : (q : Query) → IsAllowed q
     q.pids None None) (pieces q (Addpids ∷ behind_addpids))
     ≡ with_pieces (by_fields q.change.fe q.change.src q.change.freq q.change.pol q.change.ro q.change.msys q.change.mtype q.change.plts q.change.sr q.change.fec
     q.pids q.addpids None) (pieces q behind_addpids)
-unfolding is_open
+unfolding is_left_open
 read-addpids q ok =
     step q Addpids behind_addpids list_text AreListed q.addpids
     (λ o. by_fields q.change.fe q.change.src q.change.freq q.change.pol q.change.ro q.change.msys q.change.mtype q.change.plts q.change.sr q.change.fec q.pids o
@@ -326,7 +326,7 @@ read-delpids : (q : Query) → IsAllowed q
     q.pids q.addpids None) (pieces q (Delpids ∷ behind_delpids))
     ≡ with_pieces (by_fields q.change.fe q.change.src q.change.freq q.change.pol q.change.ro q.change.msys q.change.mtype q.change.plts q.change.sr q.change.fec
     q.pids q.addpids q.delpids) (pieces q behind_delpids)
-unfolding is_open
+unfolding is_left_open
 read-delpids q ok =
     step q Delpids behind_delpids list_text AreListed q.delpids
     (λ o. by_fields q.change.fe q.change.src q.change.freq q.change.pol q.change.ro q.change.msys q.change.mtype q.change.plts q.change.sr q.change.fec q.pids

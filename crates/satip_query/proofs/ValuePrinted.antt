@@ -7,7 +7,7 @@ use Rattle.std.proofs.lemmas.List.Elements.{All-head, All-tail}
 use Rattle.satip_pids.specs.Texts.{next_text}
 use Rattle.satip_tune.specs.Frequency.{fraction_text, frequency_text, three_digits, without_end_zeros}
 use Rattle.satip_tune.specs.Pieces.{is_byte}
-use Rattle.satip_tune.specs.Words.{key_text, pol_text, system_text, modulation_text, roll_off_text, fec_text, pilots_text}
+use Rattle.satip_tune.specs.Words.{key_text, pol_text, system_text, modulation_text, roll_off_text, fec_text, pilots_text_of}
 use Rattle.satip_tune.specs.declared.keys.Key.{Key}
 use Rattle.satip_tune.specs.declared.keys.Key.TheVariants.{Fe, Src, Freq, Pol as PolKey, Ro, Msys, Mtype, Plts, Sr, Fec as FecKey, Pids, Addpids, Delpids}
 use Rattle.satip_tune.specs.declared.signal.Fec.{Fec}
@@ -114,8 +114,8 @@ unfolding modulation_text
 no-modulation Qpsk = refl
 no-modulation Psk8 = refl
 
-no-pilots : (value : Bool) → list_any (is_byte 38) (pilots_text value) ≡ false
-unfolding pilots_text
+no-pilots : (value : Bool) → list_any (is_byte 38) (pilots_text_of value) ≡ false
+unfolding pilots_text_of
 no-pilots true = refl
 no-pilots false = refl
 
@@ -143,7 +143,7 @@ no-value q PolKey ok = no-word-field pol_text q.change.pol no-pol
 no-value q Ro ok = no-word-field roll_off_text q.change.ro no-roll_off
 no-value q Msys ok = no-word-field system_text q.change.msys no-system
 no-value q Mtype ok = no-word-field modulation_text q.change.mtype no-modulation
-no-value q Plts ok = no-word-field pilots_text q.change.plts no-pilots
+no-value q Plts ok = no-word-field pilots_text_of q.change.plts no-pilots
 no-value q Sr ok = no-field decimal (IsWithin 1 99999) q.change.sr ok.sr (λ n inside. no-within 99999 n 1 (omega arith) inside)
 no-value q FecKey ok = no-word-field fec_text q.change.fec no-fec
 no-value q Pids ok = no-given q.pids ok.pids

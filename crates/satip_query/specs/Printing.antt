@@ -3,7 +3,7 @@ use Rattle.std.specs.Prelude.{ℕ, ◌<◌, ◌≤◌, ◌||◌, Bool, true, fal
 use Rattle.std.specs.List.{join_with_byte}
 use Rattle.satip_pids.specs.Pids.{IsPidList}
 use Rattle.satip_tune.specs.Frequency.{frequency_text}
-use Rattle.satip_tune.specs.Words.{all_keys, key_text, pol_text, system_text, modulation_text, roll_off_text, fec_text, pilots_text}
+use Rattle.satip_tune.specs.Words.{all_keys, key_text, pol_text, system_text, modulation_text, roll_off_text, fec_text, pilots_text_of}
 use Rattle.satip_tune.specs.declared.keys.Key.{Key}
 use Rattle.satip_tune.specs.declared.keys.Key.TheVariants.{Fe, Src, Freq, Pol, Ro, Msys, Mtype, Plts, Sr, Fec, Pids, Addpids, Delpids}
 use Rattle.satip_query.specs.Queries.{is_given}
@@ -36,7 +36,7 @@ value_text query Pol = field_text pol_text query.change.pol
 value_text query Ro = field_text roll_off_text query.change.ro
 value_text query Msys = field_text system_text query.change.msys
 value_text query Mtype = field_text modulation_text query.change.mtype
-value_text query Plts = field_text pilots_text query.change.plts
+value_text query Plts = field_text pilots_text_of query.change.plts
 value_text query Sr = field_text decimal query.change.sr
 value_text query Fec = field_text fec_text query.change.fec
 value_text query Pids = pids_text query.pids

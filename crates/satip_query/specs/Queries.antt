@@ -3,7 +3,7 @@ use Rattle.std.specs.Prelude.{Bool, true, false, None, is_some}
 use Rattle.std.specs.List.{list_any}
 use Rattle.satip_tune.specs.declared.keys.Key.{Key}
 use Rattle.satip_tune.specs.declared.keys.Key.TheVariants.{Pids, Addpids, Delpids}
-use Rattle.satip_tune.specs.Tunings.{gives}
+use Rattle.satip_tune.specs.Tunings.{change_gives}
 use Rattle.satip_tune.specs.Words.{all_keys}
 use Rattle.satip_query.specs.declared.queries.Query.{Query}
 use Rattle.satip_query.specs.declared.queries.PidsGiven.{PidsGiven}
@@ -30,18 +30,18 @@ new_query = record {
 }
 
 -- whether PIDs are given
-abbrev pub are_given : PidsGiven → Bool
-are_given Absent = false
-are_given All = true
-are_given Empty = true
-are_given (Listed pids) = true
+abbrev pub are_given_by : PidsGiven → Bool
+are_given_by Absent = false
+are_given_by All = true
+are_given_by Empty = true
+are_given_by (Listed pids) = true
 
 -- whether a query gives a key
 abbrev pub is_given : Query → Key → Bool
-is_given query Pids = are_given query.pids
+is_given query Pids = are_given_by query.pids
 is_given query Addpids = is_some query.addpids
 is_given query Delpids = is_some query.delpids
-is_given query key = gives query.change key
+is_given query key = change_gives query.change key
 
 -- whether a query gives a known key
 abbrev pub gives_key : Query → Bool

@@ -4,14 +4,14 @@ use Rattle.std.specs.List.{after_first, before_first, slice_split}
 use Rattle.std.specs.Str.{bytes_eq}
 use Rattle.satip_tune.specs.Frequency.{frequency_of}
 use Rattle.satip_tune.specs.Pieces.{is_byte}
-use Rattle.satip_tune.specs.Words.{key_named, pol_named, system_named, modulation_named, fec_named, pilots_named}
+use Rattle.satip_tune.specs.Words.{key_named, pol_named, system_named, modulation_named, fec_named, pilots_named_of}
 use Rattle.satip_tune.specs.declared.faults.ValueFault.{ValueFault}
 use Rattle.satip_tune.specs.declared.faults.ValueFault.TheVariants.{Malformed, NotAllowed}
 use Rattle.satip_tune.specs.declared.keys.Key.{Key}
 use Rattle.satip_tune.specs.declared.keys.Key.TheVariants.{Fe, Src, Freq, Pol, Ro, Msys, Mtype, Plts, Sr, Fec, Pids, Addpids, Delpids}
 use Rattle.satip_tune.specs.declared.tunings.Change.{Change}
 use Rattle.satip_query.specs.Queries.{is_given, new_query}
-use Rattle.satip_query.specs.Values.{is_word, named_or, number_in, pid_list_of, roll_off_of}
+use Rattle.satip_query.specs.Values.{is_word_text, named_or, number_in, pid_list_of, roll_off_of}
 use Rattle.satip_query.specs.declared.faults.QueryFault.{QueryFault}
 use Rattle.satip_query.specs.declared.faults.QueryFault.TheVariants.{Syntax, Range}
 use Rattle.satip_query.specs.declared.queries.PidsGiven.{PidsGiven}
@@ -32,7 +32,7 @@ pids_of text =
 
 -- the value of a word
 abbrev pub word_of : {A : Type 0} → (List ℕ → Option A) → List ℕ → Result A ValueFault
-word_of named text = named_or (named text) (is_word text)
+word_of named text = named_or (named text) (is_word_text text)
 
 -- a query with another change
 abbrev pub with_change : Query → Change → Query
@@ -47,7 +47,7 @@ with_value q Pol text = result_map (λ v. with_change q (record q.change { pol =
 with_value q Ro text = result_map (λ v. with_change q (record q.change { ro = Some v })) (roll_off_of text)
 with_value q Msys text = result_map (λ v. with_change q (record q.change { msys = Some v })) (word_of system_named text)
 with_value q Mtype text = result_map (λ v. with_change q (record q.change { mtype = Some v })) (word_of modulation_named text)
-with_value q Plts text = result_map (λ v. with_change q (record q.change { plts = Some v })) (word_of pilots_named text)
+with_value q Plts text = result_map (λ v. with_change q (record q.change { plts = Some v })) (word_of pilots_named_of text)
 with_value q Sr text = result_map (λ n. with_change q (record q.change { sr = Some n })) (number_in 1 99999 text)
 with_value q Fec text = result_map (λ v. with_change q (record q.change { fec = Some v })) (word_of fec_named text)
 with_value q Pids text = result_map (λ given. record q { pids = given }) (pids_of text)
@@ -63,8 +63,8 @@ may_be_open Fec = true
 may_be_open key = false
 
 -- whether a piece leaves its key open, and so gives nothing
-unfoldable pub is_open : Key → List ℕ → Bool
-is_open key text = may_be_open key && bytes_eq text (codes "auto")
+unfoldable pub is_left_open : Key → List ℕ → Bool
+is_left_open key text = may_be_open key && bytes_eq text (codes "auto")
 
 -- the fault of a query at a key, by that of the key's value
 abbrev pub fault_at : Key → ValueFault → QueryFault
@@ -79,7 +79,7 @@ at_key key (Err fault) = Err (fault_at key fault)
 -- a query with a known key's piece
 abbrev pub with_known : Query → Key → List ℕ → Result Query QueryFault
 with_known query key text =
-    if is_open key text then Ok query
+    if is_left_open key text then Ok query
     else if is_given query key then Err (Syntax key)
     else at_key key (with_value query key text)
 
@@ -131,7 +131,7 @@ same_key _ _ = false
 -- whether a piece of a known key, or of none, gives a key's value
 abbrev pub stands_for : Key → Option Key → List ℕ → Bool
 stands_for key None text = false
-stands_for key (Some named) text = same_key named key && not (is_open named text)
+stands_for key (Some named) text = same_key named key && not (is_left_open named text)
 
 -- whether a piece gives a key's value
 abbrev pub piece_gives : Key → List ℕ → Bool

@@ -25,8 +25,8 @@ named_or None true = Err NotAllowed
 named_or None false = Err Malformed
 
 -- whether a text is a word: 1 to 16 letters and digits
-abbrev pub is_word : List ℕ → Bool
-is_word text = nat_le 1 (length text) && nat_le (length text) 16 && list_all is_ascii_alphanumeric text
+abbrev pub is_word_text : List ℕ → Bool
+is_word_text text = nat_le 1 (length text) && nat_le (length text) 16 && list_all is_ascii_alphanumeric text
 
 -- whether the texts around a dot are a number and 1 to 6 digits
 abbrev pub are_decimal : List (List ℕ) → Bool

@@ -1,7 +1,7 @@
 //! What a query gives.
 
 ghost use Rattle.std.specs.Prelude.{◌≡◌};
-ghost use Rattle.satip_query.specs.Queries.{are_given as are_given_by, gives_key, is_given, new_query};
+ghost use Rattle.satip_query.specs.Queries.{are_given_by, gives_key, is_given, new_query};
 
 use satip_pids::PidList;
 use satip_tune::{Change, Key};

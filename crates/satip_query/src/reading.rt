@@ -5,7 +5,7 @@ ghost use Rattle.std.specs.List.{list_any, slice_split};
 ghost use Rattle.satip_tune.specs.Pieces.{is_byte, text_left};
 ghost use Rattle.satip_tune.specs.declared.keys.Key.{Key};
 ghost use Rattle.satip_query.specs.Queries.{is_given, new_query};
-ghost use Rattle.satip_query.specs.Reading.{Answers, fault_at, piece_gives, is_open as is_left_open, pids_of, query_of, with_known, with_piece, with_pieces, with_value, result_map};
+ghost use Rattle.satip_query.specs.Reading.{Answers, fault_at, piece_gives, is_left_open, pids_of, query_of, with_known, with_piece, with_pieces, with_value, result_map};
 ghost use Rattle.satip_query.specs.Values.{pid_list_of};
 ghost use Rattle.satip_query.specs.declared.queries.PidsGiven.TheVariants.{List as Listed};
 
@@ -87,7 +87,7 @@ fn read_known(key: Key, text: &[u8], into: &mut Query) -> Result<(), QueryFault>
     }
 }
 
-#[tactic(auto, unfolding(crate::specs::Reading::is_open))]
+#[tactic(auto, unfolding(crate::specs::Reading::is_left_open))]
 fn is_open(key: Key, text: &[u8]) -> bool
     ensures open { result ≡ is_left_open key text.now }
 {

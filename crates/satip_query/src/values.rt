@@ -6,7 +6,7 @@ ghost use Rattle.std.specs.Char.{is_ascii_alphanumeric};
 ghost use Rattle.std.specs.List.{list_all, slice_split};
 ghost use Rattle.satip_tune.specs.Pieces.{is_byte};
 ghost use Rattle.satip_tune.specs.declared.faults.ValueFault.TheVariants.{Malformed, NotAllowed};
-ghost use Rattle.satip_query.specs.Values.{ListAnswers, are_decimal, is_word as is_word_text, named_or, number_in, pid_list_of, roll_off_of};
+ghost use Rattle.satip_query.specs.Values.{ListAnswers, are_decimal, is_word_text, named_or, number_in, pid_list_of, roll_off_of};
 
 use satip_base::read_number;
 use satip_pids::PidList;

@@ -5,7 +5,7 @@ use Rattle.std.specs.List.{list_any}
 use Rattle.satip_history.specs.Lists.{Has}
 use Rattle.satip_base.specs.Output.{Output}
 use Rattle.satip_fronts.specs.Choice.{choose}
-use Rattle.satip_tune.specs.Frontends.{mux_of}
+use Rattle.satip_tune.specs.Frontends.{mux_for}
 use Rattle.satip_rtsp.specs.declared.requests.Method.TheVariants.{Play}
 use Rattle.satip_plain.specs.Types.{SessionId, Config, Peer, Draw, Request, Query}
 use Rattle.satip_plain.specs.declared.answers.Answer.{Answer}
@@ -128,9 +128,9 @@ pub placing_added : (c : Config) (g g1 : Readings) (new : Made) (query : Query) 
     → placing_of c g (record { home = new.home; query = query }) ≡ placing_of c g1 (record { home = new.home; query = query })
 placing_added c g g1 new query lives front mux tuned =
     ap (λ o. option_and_then (λ tuning. option_map (λ place. record { home = new.home; tuning = tuning; place = place })
-    (choose o (mux_of c.muxes tuning) tuning)) (to_set (g.tuned new.home) query.change)) (outlook_added c g g1 new lives front mux)
+    (choose o (mux_for c.muxes tuning) tuning)) (to_set (g.tuned new.home) query.change)) (outlook_added c g g1 new lives front mux)
     ∙ ap (λ t. option_and_then (λ tuning. option_map (λ place. record { home = new.home; tuning = tuning; place = place })
-    (choose (outlook_in c g1 new.home) (mux_of c.muxes tuning) tuning)) (to_set (t new.home) query.change)) (sym tuned)
+    (choose (outlook_in c g1 new.home) (mux_for c.muxes tuning) tuning)) (to_set (t new.home) query.change)) (sym tuned)
 
 pub cond_both : (x y : Bool) (k n : ℕ) → cond (x || y) k n ≡ cond x k (cond y k n)
 cond_both true y k n = refl

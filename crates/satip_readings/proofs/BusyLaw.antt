@@ -6,7 +6,7 @@ use Rattle.satip_history.specs.Lists.{Has, Each}
 use Rattle.satip_pids.specs.Pids.{Pids, Only}
 use Rattle.satip_pids.specs.declared.fault.PidFault.{PidFault}
 use Rattle.satip_pids.specs.declared.fault.PidFault.TheVariants.{TooMany, UnderAll}
-use Rattle.satip_tune.specs.Frontends.{mux_of}
+use Rattle.satip_tune.specs.Frontends.{mux_for}
 use Rattle.satip_tune.specs.Tunings.{gives_any}
 use Rattle.satip_fronts.specs.Choice.{blocked}
 use Rattle.satip_query.specs.declared.faults.QueryFault.{QueryFault}
@@ -267,14 +267,14 @@ missing_blocked : (c : Config) (g : Readings) (home : SessionId) (query : Query)
     → IsBlocked c g home query
 missing_blocked c g home query e = by (to_set (g.tuned home) query.change) refl e
   where
-    by : (o : Option Tuning) → to_set (g.tuned home) query.change ≡ o → option_map_or (λ t. blocked (outlook_in c g home) (mux_of c.muxes t) t) o false ≡ true
+    by : (o : Option Tuning) → to_set (g.tuned home) query.change ≡ o → option_map_or (λ t. blocked (outlook_in c g home) (mux_for c.muxes t) t) o false ≡ true
         → IsBlocked c g home query
     by None f k = cc
     by (Some t) f k = record { tuning = t; set = f; taken = k }
 
 blocked_missing : (c : Config) (g : Readings) (home : SessionId) (query : Query) → IsBlocked c g home query
     → front_missing c (outlook_in c g home) (g.tuned home) query.change ≡ true
-blocked_missing c g home query b = ap (λ o. option_map_or (λ t. blocked (outlook_in c g home) (mux_of c.muxes t) t) o false) b.set ∙ b.taken
+blocked_missing c g home query b = ap (λ o. option_map_or (λ t. blocked (outlook_in c g home) (mux_for c.muxes t) t) o false) b.set ∙ b.taken
 
 -- a stream that isn't founded yet
 new_missing : (c : Config) (st : State) (g : Readings) → Agrees c st g → (id : SessionId) → length g.made < id.count → (query : Query)

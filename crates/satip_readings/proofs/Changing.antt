@@ -8,7 +8,7 @@ use Rattle.std.proofs.lemmas.Option.{same_Some}
 use Rattle.satip_plain.proofs.SameIds.{same_id_is}
 use Rattle.satip_history.specs.Lists.{Has}
 use Rattle.satip_pids.specs.Pids.{Pids}
-use Rattle.satip_tune.specs.Frontends.{mux_of}
+use Rattle.satip_tune.specs.Frontends.{mux_for}
 use Rattle.satip_tune.specs.declared.frontends.Front.{Front}
 use Rattle.satip_fronts.specs.declared.choice.Place.{Place}
 use Rattle.satip_fronts.specs.Choice.{choose}
@@ -225,14 +225,14 @@ home_made : (g : Readings) (m : Made) (s : SessionId) → IsTold g → Has m (li
 home_made g m s told h above = id_other m.home s (λ e. let few = told.homes m h in let same : m.home.count ≡ s.count = ap (λ x. x.count) e in omega arith)
 
 abbrev pub placed_read : Config → SessionId → Tuning → Place → Readings → Readings
-placed_read c home tuning place g = frees (tuned_read place.front place.anew (mux_of c.muxes tuning)
+placed_read c home tuning place g = frees (tuned_read place.front place.anew (mux_for c.muxes tuning)
     (streams_read g (put home (Some tuning) g.tuned) (put home (Some place.front) g.front) g.pids))
 
 pub agrees_put : (c : Config) (st : State) (g : Readings) (m : Made) (tuning : Tuning) (place : Place) → Has m (living g)
     → list_any (is_front place.front) c.fronts ≡ true
     → Agrees c st g → Agrees c (put_at c (g.number m.home) tuning st place) (placed_read c m.home tuning place g)
 agrees_put c st g m tuning place lives known a =
-    agrees_swept c _ _ (loosely_tuned c _ _ place.front place.anew (mux_of c.muxes tuning) row
+    agrees_swept c _ _ (loosely_tuned c _ _ place.front place.anew (mux_for c.muxes tuning) row
     (loosely_stream c st g m lives (λ t. record t { tuning = Some tuning; front = Some place.front }) (λ t. refl)
     (λ t at h e. subst (λ x. is_some (row_of st x) ≡ true) (same_Some place.front at e) row)
     (put m.home (Some tuning) g.tuned) (put m.home (Some place.front) g.front) g.pids unmade (λ n h. by n (same_id m.home n.home)) a.loosely))
@@ -259,7 +259,7 @@ agrees_put c st g m tuning place lives known a =
 
 abbrev pub placing_for : Config → Readings → SessionId → Option Tuning → Option Placing
 placing_for c g home o = option_and_then (λ tuning.
-    option_map (λ place. record { home = home; tuning = tuning; place = place }) (choose (outlook_in c g home) (mux_of c.muxes tuning) tuning)) o
+    option_map (λ place. record { home = home; tuning = tuning; place = place }) (choose (outlook_in c g home) (mux_for c.muxes tuning) tuning)) o
 
 abbrev pub with_placing : Config → Readings → Option Tuning → SessionId → Option Placing → Readings
 with_placing c g o home placed = frees (record g {
@@ -276,14 +276,14 @@ not_http : (a b : Bool) → (a && not b) ≡ true → b ≡ false
 not_http a b e = not-true b (and_parts a (not b) e).1
 
 pub agrees_retuned : (c : Config) (st : State) (g : Readings) (m : Made) → Has m (living g) → (o : Option Tuning)
-    → ((tuning : Tuning) → o ≡ Some tuning → is_some (choose (outlook_in c g m.home) (mux_of c.muxes tuning) tuning) ≡ true)
+    → ((tuning : Tuning) → o ≡ Some tuning → is_some (choose (outlook_in c g m.home) (mux_for c.muxes tuning) tuning) ≡ true)
     → Agrees c st g → Agrees c (option_map_or (retune c (g.number m.home) st) o (settle st)).state (retuned_read c g m.home o)
 agrees_retuned c st g m lives None ready a = subst (Agrees c st) (sym (freed_same g a.free)) a
 agrees_retuned c st g m lives (Some tuning) ready a =
-    subst (λ x. Agrees c (option_map_or (put_at c (g.number m.home) tuning now) (choose x (mux_of c.muxes tuning) tuning) now)
+    subst (λ x. Agrees c (option_map_or (put_at c (g.number m.home) tuning now) (choose x (mux_for c.muxes tuning) tuning) now)
     (retuned_read c g m.home (Some tuning)))
     (sym (outlook_same c now g flushed m lives))
-    (by (choose (outlook_in c g m.home) (mux_of c.muxes tuning) tuning) refl (ready tuning refl))
+    (by (choose (outlook_in c g m.home) (mux_for c.muxes tuning) tuning) refl (ready tuning refl))
   where
     now : State
     now = (each_of (λ s. s.stream == g.number m.home && not s.http) (let_go true st.clock) st).state
@@ -291,11 +291,11 @@ agrees_retuned c st g m lives (Some tuning) ready a =
     flushed : Agrees c now g
     flushed = agrees_flush c st g (λ s. s.stream == g.number m.home && not s.http) true st.clock (λ x e. not_http (x.stream == g.number m.home) x.http e) a
 
-    by : (q : Option Place) → choose (outlook_in c g m.home) (mux_of c.muxes tuning) tuning ≡ q → is_some q ≡ true
+    by : (q : Option Place) → choose (outlook_in c g m.home) (mux_for c.muxes tuning) tuning ≡ q → is_some q ≡ true
         → Agrees c (option_map_or (put_at c (g.number m.home) tuning now) q now)
         (with_placing c g (Some tuning) m.home (option_map (λ place. record { home = m.home; tuning = tuning; place = place }) q))
     by None e there = none_true false there refl
-    by (Some place) e there = agrees_put c now g m tuning place lives (chosen_known (outlook_in c g m.home) (mux_of c.muxes tuning) tuning place e) flushed
+    by (Some place) e there = agrees_put c now g m tuning place lives (chosen_known (outlook_in c g m.home) (mux_for c.muxes tuning) tuning place e) flushed
 
 -- the whole change
 
@@ -308,7 +308,7 @@ changed_read c g a = let placed = placing_of c g a in record (frees (record g {
 })) { pids = with_asked g (Some a) }
 
 pub agrees_change_by : (c : Config) (st : State) (g : Readings) (m : Made) (query : Query) → Has m (living g)
-    → ((tuning : Tuning) → to_set (g.tuned m.home) query.change ≡ Some tuning → is_some (choose (outlook_in c g m.home) (mux_of c.muxes tuning) tuning) ≡ true)
+    → ((tuning : Tuning) → to_set (g.tuned m.home) query.change ≡ Some tuning → is_some (choose (outlook_in c g m.home) (mux_for c.muxes tuning) tuning) ≡ true)
     → Agrees c st g → Agrees c (change_by c (g.number m.home) query st).state (changed_read c g (record { home = m.home; query = query }))
 agrees_change_by c st g m query lives ready a =
     agrees_stream c m1 g1 m lives (λ t. record t { pids = new_pids t.pids query }) (λ t. refl)

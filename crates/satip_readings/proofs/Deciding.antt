@@ -8,7 +8,7 @@ use Rattle.satip_pids.specs.declared.fault.PidFault.{PidFault}
 use Rattle.satip_pids.specs.declared.fault.PidFault.TheVariants.{TooMany, UnderAll}
 use Rattle.satip_pids.specs.Pids.{Pids, Only}
 use Rattle.satip_tune.specs.Tunings.{gives_any}
-use Rattle.satip_tune.specs.Frontends.{mux_of}
+use Rattle.satip_tune.specs.Frontends.{mux_for}
 use Rattle.satip_query.specs.declared.faults.QueryFault.{QueryFault}
 use Rattle.satip_query.specs.declared.faults.QueryFault.TheVariants.{Syntax, Range}
 use Rattle.satip_query.specs.declared.bodies.RefusalBody.TheVariants.{NotOwner, NoMoreSessions, NoMoreFrontends}
@@ -190,14 +190,14 @@ passes c st r e = by (all_none (causes c st r) e)
 -- a front end is to be had for the tuning that is to be set
 abbrev pub IsReady : Config → Readings → SessionId → Query → Type 0
 IsReady c g home query = (tuning : Tuning) → to_set (g.tuned home) query.change ≡ Some tuning
-    → is_some (choose (outlook_in c g home) (mux_of c.muxes tuning) tuning) ≡ true
+    → is_some (choose (outlook_in c g home) (mux_for c.muxes tuning) tuning) ≡ true
 
 front_ready : (c : Config) (o : Outlook) (old : Option Tuning) (query : Query) (tuning : Tuning) → front_missing c o old query.change ≡ false
     → to_set old query.change ≡ Some tuning
-    → is_some (choose o (mux_of c.muxes tuning) tuning) ≡ true
+    → is_some (choose o (mux_for c.muxes tuning) tuning) ≡ true
 front_ready c o old query tuning missing set =
-    let free : blocked o (mux_of c.muxes tuning) tuning ≡ false = sym (ap (λ s. option_map_or (λ t. blocked o (mux_of c.muxes t) t) s false) set) ∙ missing in
-    chosen_unless_blocked o (mux_of c.muxes tuning) tuning ∙ ap not free
+    let free : blocked o (mux_for c.muxes tuning) tuning ≡ false = sym (ap (λ s. option_map_or (λ t. blocked o (mux_for c.muxes t) t) s false) set) ∙ missing in
+    chosen_unless_blocked o (mux_for c.muxes tuning) tuning ∙ ap not free
 
 pub change_front : (c : Config) (st : State) (o : Outlook) (tuning : Option Tuning) (pids : Pids) (makes : Bool) (query : Query)
     → Each IsNone (of_change c st o tuning pids makes query) → front_missing c o tuning query.change ≡ false
@@ -211,7 +211,7 @@ module _ (c : Config) (st : State) (g : Readings) (a : Agrees c st g) where
       subst (λ o. Each IsNone (of_query c st r o)) meant (subst (λ b. Each IsNone (cond b (of_query c st r (stream_meant st r)) [])) change p.query) in
       let missing : front_missing c (outlook_of c st (g.number m.home)) (g.tuned m.home) r.query.change ≡ false =
       change_front c st (outlook_of c st (g.number m.home)) (g.tuned m.home) (g.pids m.home) (makes_session r) r.query query in
-      ap (λ o. is_some (choose o (mux_of c.muxes tuning) tuning)) (sym (outlook_same c st g a m h))
+      ap (λ o. is_some (choose o (mux_for c.muxes tuning) tuning)) (sym (outlook_same c st g a m h))
       ∙ front_ready c (outlook_of c st (g.number m.home)) (g.tuned m.home) r.query tuning missing set
 
   new_ready : (query : Query) (pids : Pids) (makes : Bool) (id : SessionId) → length g.made < id.count
@@ -219,7 +219,7 @@ module _ (c : Config) (st : State) (g : Readings) (a : Agrees c st g) where
   new_ready query pids makes id above e tuning set =
       let u = a.loosely.told.unmade id above in
       let set_none : to_set None query.change ≡ Some tuning = ap (λ o. to_set o query.change) (sym u.tuned) ∙ set in
-      ap (λ o. is_some (choose o (mux_of c.muxes tuning) tuning)) (sym (outlook_new c st g a id above))
+      ap (λ o. is_some (choose o (mux_for c.muxes tuning) tuning)) (sym (outlook_new c st g a id above))
       ∙ front_ready c (new_outlook c st) None query tuning (change_front c st (new_outlook c st) None pids makes query e) set_none
 
   pub ready_new : (r : Request) (id : SessionId) → length g.made < id.count → changes r.method ≡ true → stream_meant st r ≡ None → Passes c st r

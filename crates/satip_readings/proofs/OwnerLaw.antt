@@ -10,8 +10,8 @@ use Rattle.satip_pids.specs.Pids.{Pids, Unsaid, apply}
 use Rattle.satip_tune.specs.declared.keys.Key.{Key}
 use Rattle.satip_tune.specs.declared.keys.Key.TheVariants.{Fe, Src, Freq, Pol as PolKey, Ro, Msys, Mtype, Plts, Sr, Fec as FecKey, Pids as PidsKey, Addpids, Delpids}
 use Rattle.satip_tune.specs.Words.{all_keys}
-use Rattle.satip_tune.specs.Tunings.{gives}
-use Rattle.satip_query.specs.Queries.{gives_key, is_given, are_given}
+use Rattle.satip_tune.specs.Tunings.{change_gives}
+use Rattle.satip_query.specs.Queries.{gives_key, is_given, are_given_by}
 use Rattle.satip_query.specs.declared.queries.PidsGiven.{PidsGiven}
 use Rattle.satip_query.specs.declared.queries.PidsGiven.TheVariants.{Absent, All, Empty, List as Listed}
 use Rattle.satip_rtsp.specs.declared.requests.Method.{Method}
@@ -59,7 +59,7 @@ module _ (query : Query) (none : gives_key query ≡ false) where
   not_given : (key : Key) → is_given query key ≡ false
   not_given key = any_no (is_given query) all_keys key none (key_known key)
 
-  gives_none : (key : Key) → gives query.change key ≡ false
+  gives_none : (key : Key) → change_gives query.change key ≡ false
   gives_none Fe = not_given Fe
   gives_none Src = not_given Src
   gives_none Freq = not_given Freq
@@ -76,9 +76,9 @@ module _ (query : Query) (none : gives_key query ≡ false) where
 
   sets_nothing : (old : Option Tuning) → to_set old query.change ≡ None
   sets_nothing old = ap (λ b. cond b (to_set_of old (changed_tuning old query.change)) None)
-      (no_any (gives query.change) all_keys (λ key h e. none_true (gives query.change key) e (gives_none key)))
+      (no_any (change_gives query.change) all_keys (λ key h e. none_true (change_gives query.change key) e (gives_none key)))
 
-  absent : (p : PidsGiven) → are_given p ≡ false → choice_of p ≡ Unsaid
+  absent : (p : PidsGiven) → are_given_by p ≡ false → choice_of p ≡ Unsaid
   absent Absent e = refl
   absent All e = cc
   absent Empty e = cc

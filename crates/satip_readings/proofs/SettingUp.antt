@@ -4,7 +4,7 @@ use Rattle.std.specs.Option.{option_map, option_and_then, option_map_or}
 use Rattle.satip_history.specs.Lists.{Has}
 use Rattle.satip_base.specs.Output.{Output}
 use Rattle.satip_fronts.specs.Choice.{choose}
-use Rattle.satip_tune.specs.Frontends.{mux_of}
+use Rattle.satip_tune.specs.Frontends.{mux_for}
 use Rattle.satip_rtsp.specs.declared.requests.Method.TheVariants.{Setup}
 use Rattle.satip_plain.specs.Types.{SessionId, Config, Peer, Draw, Ports, Request, HttpRequest, Query}
 use Rattle.satip_plain.specs.declared.answers.Answer.{Answer}
@@ -35,7 +35,7 @@ use Rattle.satip_readings.proofs.Asking.{changing_read, asks, outlook_added, pla
 ready_added : (c : Config) (g g2 : Readings) (new : Made) (query : Query) → living g2 ≡ living g ++ new ∷ [] → g2.front ≡ g.front → g2.mux ≡ g.mux
     → g2.tuned ≡ g.tuned → IsReady c g new.home query → IsReady c g2 new.home query
 ready_added c g g2 new query lives front mux tuned ready tuning set =
-    ap (λ o. is_some (choose o (mux_of c.muxes tuning) tuning)) (sym (outlook_added c g g2 new lives front mux))
+    ap (λ o. is_some (choose o (mux_for c.muxes tuning) tuning)) (sym (outlook_added c g g2 new lives front mux))
     ∙ ready tuning (ap (λ t. to_set (t new.home) query.change) (sym tuned) ∙ set)
 
 module _ (c : Config) (st : State) (g : Readings) (a : Agrees c st g) (http : Bool) (peer : Peer) (draw : Draw) (ports : Ports) (query : Query) where

@@ -2,7 +2,7 @@
 use Rattle.std.specs.Prelude.{ℕ, ◌≡◌, true, List, [], ◌∷◌, ◌++◌, Option, Some, None, option_and_then, unwrap_or}
 use Rattle.std.specs.Option.{option_map_or}
 use Rattle.satip_pids.specs.Pids.{Only}
-use Rattle.satip_tune.specs.Frontends.{mux_of}
+use Rattle.satip_tune.specs.Frontends.{mux_for}
 use Rattle.satip_fronts.specs.Choice.{blocked}
 use Rattle.satip_query.specs.declared.bodies.RefusalBody.TheVariants.{NoMoreFrontends}
 use Rattle.satip_rtsp.specs.Replies.{text_reply}
@@ -34,7 +34,7 @@ home_meant g draw r = unwrap_or (option_and_then (home_of_number g) r.stream) (o
 pub record IsBlocked (c : Config) (g : Readings) (home : SessionId) (query : Query) : Type 0 where
   pub tuning : Tuning
   pub set : to_set (g.tuned home) query.change ≡ Some tuning
-  pub taken : blocked (outlook_in c g home) (mux_of c.muxes tuning) tuning ≡ true
+  pub taken : blocked (outlook_in c g home) (mux_for c.muxes tuning) tuning ≡ true
 
 -- a SETUP or PLAY that nothing refuses before, and for which no front end is to be had
 pub record IsBlockedRequest (c : Config) (st : State) (g : Readings) (draw : Draw) (r : Request) : Type 0 where

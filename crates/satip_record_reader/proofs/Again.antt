@@ -17,27 +17,27 @@ use Rattle.satip_http.specs.declared.requests.HttpRequest.{HttpRequest}
 use Rattle.satip_plain.specs.Values.{ArePidsGiven, ArePorts, IsName, IsQuery, IsRefusal, IsRequest}
 use Rattle.satip_records.specs.Fields.{u8_text, u16_text, u32_text, option_text, id_text, ports_text, pid_list_text, key_text}
 use Rattle.satip_records.specs.Requests.{change_text, fault_text, http_refusal_text, http_request_text, method_text, name_text, pids_text, query_text, refusal_text, request_text, short_text}
-use Rattle.satip_records.specs.Reading.{ReadsAgain, read_u8, read_u16, read_u32, read_ports}
+use Rattle.satip_records.specs.Reading.{ReadsAgain, u8_read, u16_read, u32_read, ports_read}
 use Rattle.satip_records.proofs.Again.{change_again, id_again, option_again, ports_again, u16_again, u32_again}
-use Rattle.satip_record_reader.specs.ReadingLists.{read_pid_list}
-use Rattle.satip_record_reader.specs.ReadingRequests.{read_fault, read_http_refusal, read_http_request, read_key, read_method, read_name, read_pids_given, read_query, read_refusal, read_request}
+use Rattle.satip_record_reader.specs.ReadingLists.{pid_list_read}
+use Rattle.satip_record_reader.specs.ReadingRequests.{fault_read, http_refusal_read, http_request_read, key_read, method_read, name_read, pids_given_read, query_read, refusal_read, request_read}
 use Rattle.satip_record_reader.proofs.ListsAgain.{pid_list_again, short_again}
 
 -- the place of a variant
-pub place_again : (place : ℕ) (rest : List ℕ) → read_u8 (u8_text place ++ rest) ≡ Some (place, rest)
-unfolding read_u8 u8_text
+pub place_again : (place : ℕ) (rest : List ℕ) → u8_read (u8_text place ++ rest) ≡ Some (place, rest)
+unfolding u8_read u8_text
 place_again place rest = refl
 
-pids_given_again : ReadsAgain ArePidsGiven pids_text read_pids_given
-unfolding read_pids_given pids_text
+pids_given_again : ReadsAgain ArePidsGiven pids_text pids_given_read
+unfolding pids_given_read pids_text
 pids_given_again NoPids rest h = rw (place_again 0 rest) refl
 pids_given_again AllPids rest h = rw (place_again 1 rest) refl
 pids_given_again EmptyPids rest h = rw (place_again 2 rest) refl
 pids_given_again (ThesePids pids) rest h =
     rw (append_assoc (u8_text 3) (pid_list_text pids) rest, place_again 3 (pid_list_text pids ++ rest), pid_list_again pids rest h) refl
 
-pub query_again : ReadsAgain IsQuery query_text read_query
-unfolding read_query query_text
+pub query_again : ReadsAgain IsQuery query_text query_read
+unfolding query_read query_text
 query_again q rest h =
     let t3 : List ℕ = option_text pid_list_text q.delpids ++ rest in
     let t2 : List ℕ = option_text pid_list_text q.addpids ++ t3 in
@@ -50,12 +50,12 @@ query_again q rest h =
       append_assoc (option_text pid_list_text q.addpids) (option_text pid_list_text q.delpids) rest,
       change_again q.change t1 h.change,
       pids_given_again q.pids t2 h.pids,
-      option_again IsPidList pid_list_text read_pid_list pid_list_again q.addpids t3 h.addpids,
-      option_again IsPidList pid_list_text read_pid_list pid_list_again q.delpids rest h.delpids,
+      option_again IsPidList pid_list_text pid_list_read pid_list_again q.addpids t3 h.addpids,
+      option_again IsPidList pid_list_text pid_list_read pid_list_again q.delpids rest h.delpids,
     ) refl
 
-key_again : ReadsAgain (λ (x : Key). Unit {0}) key_text read_key
-unfolding read_key
+key_again : ReadsAgain (λ (x : Key). Unit {0}) key_text key_read
+unfolding key_read
 key_again Fe rest h = rw (place_again 0 rest) refl
 key_again Src rest h = rw (place_again 1 rest) refl
 key_again Freq rest h = rw (place_again 2 rest) refl
@@ -70,21 +70,21 @@ key_again Pids rest h = rw (place_again 10 rest) refl
 key_again Addpids rest h = rw (place_again 11 rest) refl
 key_again Delpids rest h = rw (place_again 12 rest) refl
 
-fault_again : ReadsAgain (λ (x : QueryFault). Unit {0}) fault_text read_fault
-unfolding read_fault
+fault_again : ReadsAgain (λ (x : QueryFault). Unit {0}) fault_text fault_read
+unfolding fault_read
 fault_again (Syntax key) rest h = rw (append_assoc (u8_text 0) (key_text key) rest, place_again 0 (key_text key ++ rest), key_again key rest tt) refl
 fault_again (Range key) rest h = rw (append_assoc (u8_text 1) (key_text key) rest, place_again 1 (key_text key ++ rest), key_again key rest tt) refl
 
-method_again : ReadsAgain (λ (x : Method). Unit {0}) method_text read_method
-unfolding read_method
+method_again : ReadsAgain (λ (x : Method). Unit {0}) method_text method_read
+unfolding method_read
 method_again Options rest h = rw (place_again 0 rest) refl
 method_again Describe rest h = rw (place_again 1 rest) refl
 method_again Setup rest h = rw (place_again 2 rest) refl
 method_again Play rest h = rw (place_again 3 rest) refl
 method_again Teardown rest h = rw (place_again 4 rest) refl
 
-refusal_again : ReadsAgain IsRefusal refusal_text read_refusal
-unfolding read_refusal refusal_text
+refusal_again : ReadsAgain IsRefusal refusal_text refusal_read
+unfolding refusal_read refusal_text
 refusal_again Broken rest h = rw (place_again 0 rest) refl
 refusal_again TooLong rest h = rw (place_again 1 rest) refl
 refusal_again NoCseq rest h = rw (place_again 2 rest) refl
@@ -96,14 +96,14 @@ refusal_again Target rest h = rw (place_again 6 rest) refl
 refusal_again (AtQuery fault) rest h =
     rw (append_assoc (u8_text 7) (fault_text fault) rest, place_again 7 (fault_text fault ++ rest), fault_again fault rest tt) refl
 
-name_again : ReadsAgain IsName name_text read_name
-unfolding read_name name_text
+name_again : ReadsAgain IsName name_text name_read
+unfolding name_read name_text
 name_again Absent rest h = rw (place_again 0 rest) refl
 name_again (Named id) rest h = rw (append_assoc (u8_text 1) (id_text id) rest, place_again 1 (id_text id ++ rest), id_again id rest h) refl
 name_again Other rest h = rw (place_again 2 rest) refl
 
-pub request_again : ReadsAgain IsRequest request_text read_request
-unfolding read_request request_text
+pub request_again : ReadsAgain IsRequest request_text request_read
+unfolding request_read request_text
 request_again r rest h =
     let t6 : List ℕ = option_text ports_text r.ports ++ rest in
     let t5 : List ℕ = query_text r.query ++ t6 in
@@ -123,17 +123,17 @@ request_again r rest h =
       append_assoc (option_text u16_text r.stream) u4 rest,
       append_assoc (name_text r.session) u5 rest,
       append_assoc (query_text r.query) (option_text ports_text r.ports) rest,
-      option_again (λ x. x < 2 ^ 32) u32_text read_u32 u32_again r.cseq t1 h.cseq,
-      option_again IsRefusal refusal_text read_refusal refusal_again r.refusal t2 h.refusal,
+      option_again (λ x. x < 2 ^ 32) u32_text u32_read u32_again r.cseq t1 h.cseq,
+      option_again IsRefusal refusal_text refusal_read refusal_again r.refusal t2 h.refusal,
       method_again r.method t3 tt,
-      option_again (λ x. x < 2 ^ 16) u16_text read_u16 u16_again r.stream t4 h.stream,
+      option_again (λ x. x < 2 ^ 16) u16_text u16_read u16_again r.stream t4 h.stream,
       name_again r.session t5 h.session,
       query_again r.query t6 h.query,
-      option_again ArePorts ports_text read_ports ports_again r.ports rest h.ports,
+      option_again ArePorts ports_text ports_read ports_again r.ports rest h.ports,
     ) refl
 
-http_refusal_again : ReadsAgain (λ (x : HttpRefusal). Unit {0}) http_refusal_text read_http_refusal
-unfolding read_http_refusal http_refusal_text
+http_refusal_again : ReadsAgain (λ (x : HttpRefusal). Unit {0}) http_refusal_text http_refusal_read
+unfolding http_refusal_read http_refusal_text
 http_refusal_again HttpBroken rest h = rw (place_again 0 rest) refl
 http_refusal_again HttpTooLong rest h = rw (place_again 1 rest) refl
 http_refusal_again HttpVersion rest h = rw (place_again 2 rest) refl
@@ -148,12 +148,12 @@ known : {T : Type 0} (value : Option T) → IfSome value (λ x. Unit {0})
 known None = tt
 known (Some x) = tt
 
-pub http_request_again : ReadsAgain (λ (r : HttpRequest). IsQuery r.query) http_request_text read_http_request
-unfolding read_http_request http_request_text
+pub http_request_again : ReadsAgain (λ (r : HttpRequest). IsQuery r.query) http_request_text http_request_read
+unfolding http_request_read http_request_text
 http_request_again r rest h =
     let t1 : List ℕ = query_text r.query ++ rest in
     rw (
       append_assoc (option_text http_refusal_text r.refusal) (query_text r.query) rest,
-      option_again (λ x. Unit {0}) http_refusal_text read_http_refusal http_refusal_again r.refusal t1 (known r.refusal),
+      option_again (λ x. Unit {0}) http_refusal_text http_refusal_read http_refusal_again r.refusal t1 (known r.refusal),
       query_again r.query rest h,
     ) refl

@@ -6,10 +6,10 @@ use Rattle.satip_base.specs.Output.{Datagram, datagram_bytes}
 use Rattle.satip_history.specs.Lists.{Each}
 use Rattle.satip_records.specs.Fields.{u8_text, u16_text, u32_text, address_text, list_text}
 use Rattle.satip_records.specs.Records.{answer_text, bytes_text, datagram_text, event_text, record_text}
-use Rattle.satip_records.specs.Reading.{ReadsAgain, read_u8}
+use Rattle.satip_records.specs.Reading.{ReadsAgain, u8_read}
 use Rattle.satip_records.proofs.Again.{u16_again, u32_again}
 use Rattle.satip_records.proofs.AnswersAgain.{answer_again}
-use Rattle.satip_record_reader.specs.ReadingEntries.{Entry, IsEntry, IsTarget, entry_text, read_address, read_counted, read_datagram, read_datagram_list, read_datagrams, read_entry}
+use Rattle.satip_record_reader.specs.ReadingEntries.{Entry, IsEntry, IsTarget, entry_text, read_address, read_counted, datagram_read, read_datagram_list, datagrams_read, entry_read}
 use Rattle.satip_record_reader.proofs.ListsAgain.{bytes_again, within}
 use Rattle.satip_record_reader.proofs.EventsAgain.{event_again}
 
@@ -24,8 +24,8 @@ counted_again room bytes rest fits small =
     ) refl
 
 datagram_again : (room : ℕ) (d : Datagram) (rest : List ℕ) → IsTarget d → length d.bytes ≤ room → room < 2 ^ 32
-    → read_datagram room (datagram_text d ++ rest) ≡ Some (d, rest)
-unfolding read_datagram read_address
+    → datagram_read room (datagram_text d ++ rest) ≡ Some (d, rest)
+unfolding datagram_read read_address
 datagram_again room d rest h fits small =
     rw (
       append_assoc (address_text d.to) (bytes_text d.bytes) rest,
@@ -36,8 +36,8 @@ datagram_again room d rest h fits small =
     ) refl
 
 datagrams_again : (room : ℕ) (ds : List Datagram) (rest : List ℕ) → Each IsTarget ds → datagram_bytes ds ≤ room → room < 2 ^ 32
-    → read_datagrams (length ds) room (flat_map datagram_text ds ++ rest) ≡ Some (ds, rest)
-unfolding read_datagrams
+    → datagrams_read (length ds) room (flat_map datagram_text ds ++ rest) ≡ Some (ds, rest)
+unfolding datagrams_read
 datagrams_again room [] rest h fits small = refl
 datagrams_again room (d ∷ ds) rest h fits small =
     let more : length d.bytes + datagram_bytes ds ≤ room = subst (λ n. n ≤ room) (sum_by-cons (λ (x : Datagram). length x.bytes) d ds) fits in
@@ -47,8 +47,8 @@ datagrams_again room (d ∷ ds) rest h fits small =
       datagrams_again (room - length d.bytes) ds rest h.1 (omega (arith, more)) (omega (arith, small)),
     ) refl
 
-pub entry_again : ReadsAgain IsEntry entry_text read_entry
-unfolding read_entry record_text read_datagram_list
+pub entry_again : ReadsAgain IsEntry entry_text entry_read
+unfolding entry_read record_text read_datagram_list
 entry_again e rest h =
     let t3 : List ℕ = u16_text (length e.datagrams) ++ (flat_map datagram_text e.datagrams ++ rest) in
     let t2 : List ℕ = bytes_text e.reply ++ t3 in
@@ -70,16 +70,16 @@ entry_again e rest h =
     ) refl
 
 -- where nothing is read, no entry's record stands in front
-pub no_entry : (bytes : List ℕ) → None ≡ read_entry bytes → (e : Entry) → IsEntry e → bytes ≡ entry_text e → ⊥
+pub no_entry : (bytes : List ℕ) → None ≡ entry_read bytes → (e : Entry) → IsEntry e → bytes ≡ entry_text e → ⊥
 no_entry bytes none e is same =
-    let whole : read_entry bytes ≡ Some (e, []) = ap read_entry (same ∙ sym (append-nil (entry_text e))) ∙ entry_again e [] is in
+    let whole : entry_read bytes ≡ Some (e, []) = ap entry_read (same ∙ sym (append-nil (entry_text e))) ∙ entry_again e [] is in
     cc (none, whole)
 
 -- where something is left behind what is read, the bytes are no entry's record
-pub no_entry_before : (bytes rest : List ℕ) (found : Entry) → Some (found, rest) ≡ read_entry bytes → (rest ≡ [] → ⊥)
+pub no_entry_before : (bytes rest : List ℕ) (found : Entry) → Some (found, rest) ≡ entry_read bytes → (rest ≡ [] → ⊥)
     → (e : Entry) → IsEntry e → bytes ≡ entry_text e → ⊥
 no_entry_before bytes rest found more left e is same =
-    let whole : read_entry bytes ≡ Some (e, []) = ap read_entry (same ∙ sym (append-nil (entry_text e))) ∙ entry_again e [] is in
+    let whole : entry_read bytes ≡ Some (e, []) = ap entry_read (same ∙ sym (append-nil (entry_text e))) ∙ entry_again e [] is in
     left (ap rest_of (more ∙ whole))
   where
     rest_of : Option (Entry × List ℕ) → List ℕ
@@ -87,8 +87,8 @@ no_entry_before bytes rest found more left e is same =
     rest_of (Some (x, r)) = r
 
 -- where no byte can be read, none is left
-pub none_left : (bytes : List ℕ) → None ≡ read_u8 bytes → bytes ≡ []
-unfolding read_u8
+pub none_left : (bytes : List ℕ) → None ≡ u8_read bytes → bytes ≡ []
+unfolding u8_read
 none_left [] none = refl
 none_left (byte ∷ bytes) none = cc none
 

@@ -8,17 +8,17 @@ use Rattle.satip_records.specs.Records.{event_text}
 use Rattle.satip_records.specs.Reading.{ReadsAgain}
 use Rattle.satip_records.proofs.Again.{draw_again, id_again, u16_again, u32_again, u64_again}
 use Rattle.satip_record_reader.specs.ReadingLists.{read_bytes}
-use Rattle.satip_record_reader.specs.ReadingEvents.{read_ask, read_asked, read_close, read_ended, read_event, read_got, read_packet, read_pull, read_taken, read_tick}
+use Rattle.satip_record_reader.specs.ReadingEvents.{ask_read, asked_read, close_read, ended_read, event_read, got_read, packet_read, pull_read, taken_read, tick_read}
 use Rattle.satip_record_reader.proofs.ListsAgain.{bytes_again}
 use Rattle.satip_record_reader.proofs.Again.{http_request_again, place_again, request_again}
 
-packet_again : ReadsAgain IsPacketOfBytes (λ packet. packet) read_packet
-unfolding read_packet
+packet_again : ReadsAgain IsPacketOfBytes (λ packet. packet) packet_read
+unfolding packet_read
 packet_again packet rest h =
     rw (subst (λ n. read_bytes n (packet ++ rest) ≡ Some (packet, rest)) h.packet_is.whole (bytes_again packet rest), h.packet_is.synchronized) refl
 
-pub event_again : ReadsAgain IsEvent event_text read_event
-unfolding read_event event_text read_asked read_got read_tick read_taken read_ended read_ask read_pull read_close
+pub event_again : ReadsAgain IsEvent event_text event_read
+unfolding event_read event_text asked_read got_read tick_read taken_read ended_read ask_read pull_read close_read
 event_again (Asked peer draw r) rest h =
     rw (
       append_assoc (u8_text 0) (u32_text peer.ip ++ (draw_text draw ++ request_text r)) rest,

@@ -9,7 +9,7 @@ use Rattle.satip_records.specs.Fields.{u16_text, pid_list_text}
 use Rattle.satip_records.specs.Requests.{short_text}
 use Rattle.satip_records.specs.Reading.{ReadsAgain}
 use Rattle.satip_records.proofs.Again.{u16_again}
-use Rattle.satip_record_reader.specs.ReadingLists.{read_bytes, read_each, read_pid, read_pid_list, read_short}
+use Rattle.satip_record_reader.specs.ReadingLists.{read_bytes, read_each, pid_read, pid_list_read, short_read}
 
 pub within : (a b : ℕ) → a ≤ b → nat_le a b ≡ true
 within a b h = le-leb a b h
@@ -35,22 +35,22 @@ bytes_again bytes rest =
       drop-append_seam bytes rest,
     ) refl
 
-pub pid_again : ReadsAgain (λ pid. pid < 8192) u16_text read_pid
-unfolding read_pid
+pub pid_again : ReadsAgain (λ pid. pid < 8192) u16_text pid_read
+unfolding pid_read
 pid_again pid rest h = rw (u16_again pid rest (omega (arith, h)), within pid 8191 (omega (arith, h))) refl
 
-pub pid_list_again : ReadsAgain IsPidList pid_list_text read_pid_list
-unfolding read_pid_list
+pub pid_list_again : ReadsAgain IsPidList pid_list_text pid_list_read
+unfolding pid_list_read
 pid_list_again pids rest h =
     rw (
       append_assoc (u16_text (length pids)) (flat_map u16_text pids) rest,
       u16_again (length pids) (flat_map u16_text pids ++ rest) (let few = h.few in omega (arith, few)),
       within (length pids) 512 h.few,
-      each_again (λ pid. pid < 8192) u16_text read_pid pid_again pids rest h.below,
+      each_again (λ pid. pid < 8192) u16_text pid_read pid_again pids rest h.below,
     ) refl
 
-pub short_again : ReadsAgain IsKept short_text read_short
-unfolding read_short
+pub short_again : ReadsAgain IsKept short_text short_read
+unfolding short_read
 short_again kept rest h =
     rw (
       append_assoc (u16_text (length kept)) kept rest,

@@ -7,8 +7,8 @@ use Rattle.satip_records.specs.Fields.{u8_text}
 use Rattle.std.specs.Prelude.{IfSome, IsNone, slice_index, ◌↔◌, ◌≢◌, if◌then◌else◌, nat_eq, nat_le}
 use Rattle.std.proofs.lemmas.Bool.{eqb-false, eqb-true}
 use Rattle.std.proofs.lemmas.Bool.Decides.{nat_tests}
-use Rattle.satip_records.specs.Reading.{behind, read_u8, then_read}
-use Rattle.satip_record_reader.specs.ReadingEvents.{read_packet}
+use Rattle.satip_records.specs.Reading.{behind, u8_read, then_read}
+use Rattle.satip_record_reader.specs.ReadingEvents.{packet_read}
 use Rattle.satip_record_reader.proofs.ListsAgain.{bytes_again}
 use Rattle.satip_record_reader.specs.ReadingLists.{read_bytes, read_each, read_more}
 
@@ -84,8 +84,8 @@ filled_more i byte o m n places inside front before =
     (before ∙ ap (λ t. take i places ++ t) front ∙ sym (append_assoc (take i places) (byte ∷ []) n))
 
 -- no byte is left before the places are filled
-pub filling_fails : (i : ℕ) (o m places : List ℕ) → i < length places → None ≡ read_u8 m → o ≡ take i places ++ m → length o < length places
-unfolding read_u8
+pub filling_fails : (i : ℕ) (o m places : List ℕ) → i < length places → None ≡ u8_read m → o ≡ take i places ++ m → length o < length places
+unfolding u8_read
 filling_fails i o [] places inside none before =
     omega (arith, inside, ap length before, length-append (take i places) [], length-take-le i places (omega (arith, inside)))
 filling_fails i o (b ∷ m) places inside none before = cc none
@@ -102,8 +102,8 @@ unfolding read_bytes
 too_few count o few = let no : nat_le count (length o) ≡ false = grind (arith, nat_tests, few) in rw no refl
 
 -- no byte is left before so many are read
-pub reading_fails : (i count : ℕ) (o m places : List ℕ) → i < count → i ≤ length places → None ≡ read_u8 m → o ≡ take i places ++ m → length o < count
-unfolding read_u8
+pub reading_fails : (i count : ℕ) (o m places : List ℕ) → i < count → i ≤ length places → None ≡ u8_read m → o ≡ take i places ++ m → length o < count
+unfolding u8_read
 reading_fails i count o [] places inside fits none before =
     omega (arith, inside, ap length before, length-append (take i places) [], length-take-le i places fits)
 reading_fails i count o (b ∷ m) places inside fits none before = cc none
@@ -134,7 +134,7 @@ by_sync (Some packet) places rest false same none some = cc (none.1 (eqb-false (
 
 -- 188 bytes that are a packet, or none
 pub packet_in_front : (found : Option (List ℕ)) (o places rest : List ℕ) → o ≡ places ++ rest → length places ≡ 188
-    → (IsNone found ↔ (slice_index places 0 ≢ 71)) → IfSome found (λ packet. packet ≡ places) → behind found rest ≡ read_packet o
-unfolding read_packet
+    → (IsNone found ↔ (slice_index places 0 ≢ 71)) → IfSome found (λ packet. packet ≡ places) → behind found rest ≡ packet_read o
+unfolding packet_read
 packet_in_front found o places rest whole size none some =
     rw (bytes_in_front 188 o places rest whole size) (by_sync found places rest (nat_eq (slice_index places 0) 71) refl none some)

@@ -8,10 +8,10 @@ use Rattle.satip_plain.specs.declared.events.Event.{Event}
 use Rattle.satip_plain.specs.declared.answers.Answer.{Answer}
 use Rattle.satip_plain.specs.Values.{IsEvent}
 use Rattle.satip_records.specs.Records.{record_text}
-use Rattle.satip_records.specs.Reading.{then_read, read_u16, read_u32}
-use Rattle.satip_records.specs.ReadingAnswers.{IsAnswer, read_answer}
+use Rattle.satip_records.specs.Reading.{then_read, u16_read, u32_read}
+use Rattle.satip_records.specs.ReadingAnswers.{IsAnswer, answer_read}
 use Rattle.satip_record_reader.specs.ReadingLists.{read_bytes}
-use Rattle.satip_record_reader.specs.ReadingEvents.{read_event}
+use Rattle.satip_record_reader.specs.ReadingEvents.{event_read}
 
 -- what a record tells
 pub record Entry : Type 0 where
@@ -38,33 +38,33 @@ pub record IsEntry (e : Entry) : Type 0 where
 
 -- a count within the room, and so many bytes
 unfoldable pub read_counted : ℕ → List ℕ → Option (List ℕ × List ℕ)
-read_counted room bytes = then_read (read_u32 bytes) (λ count rest. if nat_le count room then read_bytes count rest else None)
+read_counted room bytes = then_read (u32_read bytes) (λ count rest. if nat_le count room then read_bytes count rest else None)
 
 unfoldable pub read_address : List ℕ → Option (Address × List ℕ)
 read_address bytes =
-    then_read (read_u32 bytes) (λ ip after_ip.
-    then_read (read_u16 after_ip) (λ port more. Some (record { ip = ip; port = port }, more)))
+    then_read (u32_read bytes) (λ ip after_ip.
+    then_read (u16_read after_ip) (λ port more. Some (record { ip = ip; port = port }, more)))
 
-unfoldable pub read_datagram : ℕ → List ℕ → Option (Datagram × List ℕ)
-read_datagram room bytes =
+unfoldable pub datagram_read : ℕ → List ℕ → Option (Datagram × List ℕ)
+datagram_read room bytes =
     then_read (read_address bytes) (λ to after_to.
     then_read (read_counted room after_to) (λ payload more. Some (record { to = to; bytes = payload }, more)))
 
 -- so many datagrams, within a room that they share
-unfoldable pub read_datagrams : ℕ → ℕ → List ℕ → Option (List Datagram × List ℕ)
-read_datagrams zero room bytes = Some ([], bytes)
-read_datagrams (suc count) room bytes =
-    then_read (read_datagram room bytes) (λ d rest.
-    then_read (read_datagrams count (room - length d.bytes) rest) (λ ds more. Some (d ∷ ds, more)))
+unfoldable pub datagrams_read : ℕ → ℕ → List ℕ → Option (List Datagram × List ℕ)
+datagrams_read zero room bytes = Some ([], bytes)
+datagrams_read (suc count) room bytes =
+    then_read (datagram_read room bytes) (λ d rest.
+    then_read (datagrams_read count (room - length d.bytes) rest) (λ ds more. Some (d ∷ ds, more)))
 
 unfoldable pub read_datagram_list : List ℕ → Option (List Datagram × List ℕ)
 read_datagram_list bytes =
-    then_read (read_u16 bytes) (λ count rest. if nat_le count EVENT_DATAGRAMS then read_datagrams count EVENT_BYTES rest else None)
+    then_read (u16_read bytes) (λ count rest. if nat_le count EVENT_DATAGRAMS then datagrams_read count EVENT_BYTES rest else None)
 
-unfoldable pub read_entry : List ℕ → Option (Entry × List ℕ)
-read_entry bytes =
-    then_read (read_event bytes) (λ event after_event.
-    then_read (read_answer after_event) (λ answer after_answer.
+unfoldable pub entry_read : List ℕ → Option (Entry × List ℕ)
+entry_read bytes =
+    then_read (event_read bytes) (λ event after_event.
+    then_read (answer_read after_event) (λ answer after_answer.
     then_read (read_counted REPLY_BYTES after_answer) (λ reply after_reply.
     then_read (read_datagram_list after_reply) (λ datagrams more. Some (record { event = event; answer = answer; reply = reply; datagrams = datagrams }, more)))))
 

@@ -2,62 +2,62 @@
 use Rattle.std.specs.Prelude.{ℕ, ◌==◌, if◌then◌else◌, List, slice_index, Option, Some, None}
 use Rattle.satip_plain.specs.declared.events.Event.{Event}
 use Rattle.satip_plain.specs.declared.events.Event.TheVariants.{Request as Asked, Get as Got, Tick, Packet, Ended, Ask, Pull, Close, Stop}
-use Rattle.satip_records.specs.Reading.{then_read, read_u8, read_u16, read_u32, read_u64, read_id, read_draw}
+use Rattle.satip_records.specs.Reading.{then_read, u8_read, u16_read, u32_read, u64_read, id_read, draw_read}
 use Rattle.satip_record_reader.specs.ReadingLists.{read_bytes}
-use Rattle.satip_record_reader.specs.ReadingRequests.{read_http_request, read_request}
+use Rattle.satip_record_reader.specs.ReadingRequests.{http_request_read, request_read}
 
 -- 188 bytes, of which the first is the sync byte 0x47
-unfoldable pub read_packet : List ℕ → Option (List ℕ × List ℕ)
-read_packet bytes = then_read (read_bytes 188 bytes) (λ packet rest. if slice_index packet 0 == 71 then Some (packet, rest) else None)
+unfoldable pub packet_read : List ℕ → Option (List ℕ × List ℕ)
+packet_read bytes = then_read (read_bytes 188 bytes) (λ packet rest. if slice_index packet 0 == 71 then Some (packet, rest) else None)
 
 -- what follows the place of each variant
-unfoldable pub read_asked : List ℕ → Option (Event × List ℕ)
-read_asked bytes =
-    then_read (read_u32 bytes) (λ ip after_ip.
-    then_read (read_draw after_ip) (λ draw after_draw.
-    then_read (read_request after_draw) (λ request more. Some (Asked (record { ip = ip }) draw request, more))))
+unfoldable pub asked_read : List ℕ → Option (Event × List ℕ)
+asked_read bytes =
+    then_read (u32_read bytes) (λ ip after_ip.
+    then_read (draw_read after_ip) (λ draw after_draw.
+    then_read (request_read after_draw) (λ request more. Some (Asked (record { ip = ip }) draw request, more))))
 
-unfoldable pub read_got : List ℕ → Option (Event × List ℕ)
-read_got bytes =
-    then_read (read_u32 bytes) (λ ip after_ip.
-    then_read (read_draw after_ip) (λ draw after_draw.
-    then_read (read_http_request after_draw) (λ request more. Some (Got (record { ip = ip }) draw request, more))))
+unfoldable pub got_read : List ℕ → Option (Event × List ℕ)
+got_read bytes =
+    then_read (u32_read bytes) (λ ip after_ip.
+    then_read (draw_read after_ip) (λ draw after_draw.
+    then_read (http_request_read after_draw) (λ request more. Some (Got (record { ip = ip }) draw request, more))))
 
-unfoldable pub read_tick : List ℕ → Option (Event × List ℕ)
-read_tick bytes = then_read (read_u64 bytes) (λ now more. Some (Tick now, more))
+unfoldable pub tick_read : List ℕ → Option (Event × List ℕ)
+tick_read bytes = then_read (u64_read bytes) (λ now more. Some (Tick now, more))
 
-unfoldable pub read_taken : List ℕ → Option (Event × List ℕ)
-read_taken bytes =
-    then_read (read_u16 bytes) (λ front after_front.
-    then_read (read_u64 after_front) (λ tune after_tune.
-    then_read (read_packet after_tune) (λ packet more. Some (Packet front tune packet, more))))
+unfoldable pub taken_read : List ℕ → Option (Event × List ℕ)
+taken_read bytes =
+    then_read (u16_read bytes) (λ front after_front.
+    then_read (u64_read after_front) (λ tune after_tune.
+    then_read (packet_read after_tune) (λ packet more. Some (Packet front tune packet, more))))
 
-unfoldable pub read_ended : List ℕ → Option (Event × List ℕ)
-read_ended bytes =
-    then_read (read_u16 bytes) (λ front after_front.
-    then_read (read_u64 after_front) (λ tune more. Some (Ended front tune, more)))
+unfoldable pub ended_read : List ℕ → Option (Event × List ℕ)
+ended_read bytes =
+    then_read (u16_read bytes) (λ front after_front.
+    then_read (u64_read after_front) (λ tune more. Some (Ended front tune, more)))
 
-unfoldable pub read_ask : List ℕ → Option (Event × List ℕ)
-read_ask bytes = then_read (read_u16 bytes) (λ front more. Some (Ask front, more))
+unfoldable pub ask_read : List ℕ → Option (Event × List ℕ)
+ask_read bytes = then_read (u16_read bytes) (λ front more. Some (Ask front, more))
 
-unfoldable pub read_pull : List ℕ → Option (Event × List ℕ)
-read_pull bytes = then_read (read_id bytes) (λ id more. Some (Pull id, more))
+unfoldable pub pull_read : List ℕ → Option (Event × List ℕ)
+pull_read bytes = then_read (id_read bytes) (λ id more. Some (Pull id, more))
 
-unfoldable pub read_close : List ℕ → Option (Event × List ℕ)
-read_close bytes = then_read (read_id bytes) (λ id more. Some (Close id, more))
+unfoldable pub close_read : List ℕ → Option (Event × List ℕ)
+close_read bytes = then_read (id_read bytes) (λ id more. Some (Close id, more))
 
 abbrev pub event_behind : ℕ → List ℕ → Option (Event × List ℕ)
 event_behind place rest =
-    if place == 0 then read_asked rest
-    else if place == 1 then read_got rest
-    else if place == 2 then read_tick rest
-    else if place == 3 then read_taken rest
-    else if place == 4 then read_ended rest
-    else if place == 5 then read_ask rest
-    else if place == 6 then read_pull rest
-    else if place == 7 then read_close rest
+    if place == 0 then asked_read rest
+    else if place == 1 then got_read rest
+    else if place == 2 then tick_read rest
+    else if place == 3 then taken_read rest
+    else if place == 4 then ended_read rest
+    else if place == 5 then ask_read rest
+    else if place == 6 then pull_read rest
+    else if place == 7 then close_read rest
     else if place == 8 then Some (Stop, rest)
     else None
 
-unfoldable pub read_event : List ℕ → Option (Event × List ℕ)
-read_event bytes = then_read (read_u8 bytes) event_behind
+unfoldable pub event_read : List ℕ → Option (Event × List ℕ)
+event_read bytes = then_read (u8_read bytes) event_behind

@@ -1,6 +1,6 @@
 -- How lists are read from the front of some bytes.
 use Rattle.std.specs.Prelude.{ℕ, zero, suc, List, [], ◌∷◌, ◌++◌, length, take, drop, nat_le, if◌then◌else◌, Option, Some, None}
-use Rattle.satip_records.specs.Reading.{then_read, read_u16}
+use Rattle.satip_records.specs.Reading.{then_read, u16_read}
 
 -- so many values, one behind the other
 unfoldable pub read_each : {T : Type 0} → (List ℕ → Option (T × List ℕ)) → ℕ → List ℕ → Option (List T × List ℕ)
@@ -12,16 +12,16 @@ read_each read (suc count) bytes =
 unfoldable pub read_bytes : ℕ → List ℕ → Option (List ℕ × List ℕ)
 read_bytes count bytes = if nat_le count (length bytes) then Some (take count bytes, drop count bytes) else None
 
-unfoldable pub read_pid : List ℕ → Option (ℕ × List ℕ)
-read_pid bytes = then_read (read_u16 bytes) (λ pid rest. if nat_le pid 8191 then Some (pid, rest) else None)
+unfoldable pub pid_read : List ℕ → Option (ℕ × List ℕ)
+pid_read bytes = then_read (u16_read bytes) (λ pid rest. if nat_le pid 8191 then Some (pid, rest) else None)
 
 -- a count of at most 512, and so many PIDs
-unfoldable pub read_pid_list : List ℕ → Option (List ℕ × List ℕ)
-read_pid_list bytes = then_read (read_u16 bytes) (λ count rest. if nat_le count 512 then read_each read_pid count rest else None)
+unfoldable pub pid_list_read : List ℕ → Option (List ℕ × List ℕ)
+pid_list_read bytes = then_read (u16_read bytes) (λ count rest. if nat_le count 512 then read_each pid_read count rest else None)
 
 -- a count of at most 128, and so many bytes
-unfoldable pub read_short : List ℕ → Option (List ℕ × List ℕ)
-read_short bytes = then_read (read_u16 bytes) (λ count rest. if nat_le count 128 then read_bytes count rest else None)
+unfoldable pub short_read : List ℕ → Option (List ℕ × List ℕ)
+short_read bytes = then_read (u16_read bytes) (λ count rest. if nat_le count 128 then read_bytes count rest else None)
 
 -- what is read behind values that were read before
 abbrev pub read_more : {T : Type 0} → (List ℕ → Option (T × List ℕ)) → ℕ → List T → List ℕ → Option (List T × List ℕ)

@@ -3,7 +3,7 @@ use Rattle.std.specs.Prelude.{◌≡◌, ℕ, ◌≤◌, List, ◌++◌, length,
 use Rattle.satip_base.specs.declared.network.Address.{Address}
 use Rattle.satip_base.specs.Output.{Datagram, Output, Sends, Wrote}
 use Rattle.satip_records.specs.Records.{datagram_text}
-use Rattle.satip_record_reader.specs.ReadingEntries.{read_datagram, read_datagrams}
+use Rattle.satip_record_reader.specs.ReadingEntries.{datagram_read, datagrams_read}
 
 -- so many bytes behind the reply
 pub record TakesReply (count : ℕ) (o n : List ℕ) (p q : Output) : Type 0 where
@@ -20,13 +20,13 @@ pub record TakesPayload (to : Address) (count : ℕ) (o n : List ℕ) (p q : Out
 -- a datagram
 pub record TakesDatagram (o n : List ℕ) (p q : Output) : Type 0 where
   pub added : Datagram
-  pub read : read_datagram p.datagram_spare o ≡ Some (added, n)
+  pub read : datagram_read p.datagram_spare o ≡ Some (added, n)
   pub front : o ≡ datagram_text added ++ n
   pub sent : Sends p added.to added.bytes q
 
 -- so many datagrams
 pub record TakesDatagrams (count : ℕ) (o n : List ℕ) (p q : Output) : Type 0 where
-  pub read : read_datagrams count p.datagram_spare o ≡ Some (q.datagrams, n)
+  pub read : datagrams_read count p.datagram_spare o ≡ Some (q.datagrams, n)
   pub front : o ≡ flat_map datagram_text q.datagrams ++ n
   pub length_is : length q.datagrams ≡ count
   pub reply : q.reply ≡ p.reply

@@ -5,7 +5,7 @@ ghost use Rattle.std.specs.Bool.{MatchBool};
 ghost use Rattle.satip_base.specs.Output.{empty};
 ghost use Rattle.satip_records.specs.Records.{record_text};
 ghost use Rattle.satip_record_reader.specs.Taking.{TakesDatagram, TakesDatagrams, TakesPayload, TakesReply};
-ghost use Rattle.satip_record_reader.specs.ReadingEntries.{IsNoRecord, entry_behind, read_datagram as datagram_read, read_datagrams as datagrams_read, read_entry as entry_read};
+ghost use Rattle.satip_record_reader.specs.ReadingEntries.{IsNoRecord, entry_behind, datagram_read, datagrams_read, entry_read};
 
 use crate::events::read_event;
 use satip_base::limits::{EVENT_DATAGRAMS, REPLY_BYTES};
@@ -45,7 +45,7 @@ fn is_end(bytes: &mut Reading<'_>) -> bool
     false
 }
 
-#[tactic(auto, unfolding(crate::specs::ReadingEntries::read_entry, crate::specs::ReadingEntries::read_datagram_list, crate::specs::ReadingEntries::read_counted, satip_records::specs::Records::record_text))]
+#[tactic(auto, unfolding(crate::specs::ReadingEntries::entry_read, crate::specs::ReadingEntries::read_datagram_list, crate::specs::ReadingEntries::read_counted, satip_records::specs::Records::record_text))]
 fn read_entry(bytes: &mut Reading<'_>, out: &mut Out) -> Option<(Event, Answer)>
     requires empty { out.old ≡ empty }
     ensures read { entry_behind result out.new bytes.new ≡ entry_read bytes.old }
@@ -112,7 +112,7 @@ fn read_payload(to: Address, count: u32, bytes: &mut Reading<'_>, out: &mut Out)
 }
 
 // Reads a datagram within the room that is left; `false` where there is none.
-#[tactic(auto, unfolding(crate::specs::ReadingEntries::read_datagram, crate::specs::ReadingEntries::read_address, crate::specs::ReadingEntries::read_counted))]
+#[tactic(auto, unfolding(crate::specs::ReadingEntries::datagram_read, crate::specs::ReadingEntries::read_address, crate::specs::ReadingEntries::read_counted))]
 fn read_datagram(bytes: &mut Reading<'_>, out: &mut Out) -> bool
     requires count_room { out.old.count_spare ≢ 0 }
     ensures read { MatchBool result (TakesDatagram bytes.old bytes.new out.old out.new)

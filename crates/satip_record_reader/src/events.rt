@@ -4,7 +4,7 @@ ghost use Rattle.std.specs.Prelude.{◌≡◌, ◌++◌, IfSome};
 ghost use Rattle.satip_records.specs.Fields.{u8_text};
 ghost use Rattle.satip_records.specs.Records.{event_text};
 ghost use Rattle.satip_records.specs.Reading.{behind};
-ghost use Rattle.satip_record_reader.specs.ReadingEvents.{read_ask as ask_read, read_asked as asked_read, read_close as close_read, read_ended as ended_read, read_event as event_read, read_got as got_read, read_packet as packet_read, read_pull as pull_read, read_taken as taken_read, read_tick as tick_read};
+ghost use Rattle.satip_record_reader.specs.ReadingEvents.{ask_read, asked_read, close_read, ended_read, event_read, got_read, packet_read, pull_read, taken_read, tick_read};
 
 use crate::lists::fill;
 use crate::requests::{read_http_request, read_request};
@@ -14,7 +14,7 @@ use satip_records::Reading;
 use satip_ts::Packet;
 
 /// Reads an event: the place of its kind, and then its fields.
-#[tactic(auto, unfolding(crate::specs::ReadingEvents::read_event, satip_records::specs::Records::event_text))]
+#[tactic(auto, unfolding(crate::specs::ReadingEvents::event_read, satip_records::specs::Records::event_text))]
 pub fn read_event(bytes: &mut Reading<'_>) -> Option<Event>
     ensures read { behind result bytes.new ≡ event_read bytes.old }
     ensures front { IfSome result (λ event. bytes.old ≡ event_text event ++ bytes.new) }
@@ -36,7 +36,7 @@ pub fn read_event(bytes: &mut Reading<'_>) -> Option<Event>
     }
 }
 
-#[tactic(auto, unfolding(crate::specs::ReadingEvents::read_asked, satip_records::specs::Records::event_text))]
+#[tactic(auto, unfolding(crate::specs::ReadingEvents::asked_read, satip_records::specs::Records::event_text))]
 fn read_asked(bytes: &mut Reading<'_>) -> Option<Event>
     ensures read { behind result bytes.new ≡ asked_read bytes.old }
     ensures front { IfSome result (λ event. u8_text 0 ++ bytes.old
@@ -58,7 +58,7 @@ fn read_asked(bytes: &mut Reading<'_>) -> Option<Event>
     })
 }
 
-#[tactic(auto, unfolding(crate::specs::ReadingEvents::read_got, satip_records::specs::Records::event_text))]
+#[tactic(auto, unfolding(crate::specs::ReadingEvents::got_read, satip_records::specs::Records::event_text))]
 fn read_got(bytes: &mut Reading<'_>) -> Option<Event>
     ensures read { behind result bytes.new ≡ got_read bytes.old }
     ensures front { IfSome result (λ event. u8_text 1 ++ bytes.old
@@ -80,7 +80,7 @@ fn read_got(bytes: &mut Reading<'_>) -> Option<Event>
     })
 }
 
-#[tactic(auto, unfolding(crate::specs::ReadingEvents::read_tick, satip_records::specs::Records::event_text))]
+#[tactic(auto, unfolding(crate::specs::ReadingEvents::tick_read, satip_records::specs::Records::event_text))]
 fn read_tick(bytes: &mut Reading<'_>) -> Option<Event>
     ensures read { behind result bytes.new ≡ tick_read bytes.old }
     ensures front { IfSome result (λ event. u8_text 2 ++ bytes.old
@@ -92,7 +92,7 @@ fn read_tick(bytes: &mut Reading<'_>) -> Option<Event>
     Some(Event::Tick { now })
 }
 
-#[tactic(auto, unfolding(crate::specs::ReadingEvents::read_taken, satip_records::specs::Records::event_text))]
+#[tactic(auto, unfolding(crate::specs::ReadingEvents::taken_read, satip_records::specs::Records::event_text))]
 fn read_taken(bytes: &mut Reading<'_>) -> Option<Event>
     ensures read { behind result bytes.new ≡ taken_read bytes.old }
     ensures front { IfSome result (λ event. u8_text 3 ++ bytes.old
@@ -114,7 +114,7 @@ fn read_taken(bytes: &mut Reading<'_>) -> Option<Event>
     })
 }
 
-#[tactic(auto, unfolding(crate::specs::ReadingEvents::read_ended, satip_records::specs::Records::event_text))]
+#[tactic(auto, unfolding(crate::specs::ReadingEvents::ended_read, satip_records::specs::Records::event_text))]
 fn read_ended(bytes: &mut Reading<'_>) -> Option<Event>
     ensures read { behind result bytes.new ≡ ended_read bytes.old }
     ensures front { IfSome result (λ event. u8_text 4 ++ bytes.old
@@ -129,7 +129,7 @@ fn read_ended(bytes: &mut Reading<'_>) -> Option<Event>
     Some(Event::Ended { front, tune })
 }
 
-#[tactic(auto, unfolding(crate::specs::ReadingEvents::read_ask, satip_records::specs::Records::event_text))]
+#[tactic(auto, unfolding(crate::specs::ReadingEvents::ask_read, satip_records::specs::Records::event_text))]
 fn read_ask(bytes: &mut Reading<'_>) -> Option<Event>
     ensures read { behind result bytes.new ≡ ask_read bytes.old }
     ensures front { IfSome result (λ event. u8_text 5 ++ bytes.old
@@ -141,7 +141,7 @@ fn read_ask(bytes: &mut Reading<'_>) -> Option<Event>
     Some(Event::Ask { front })
 }
 
-#[tactic(auto, unfolding(crate::specs::ReadingEvents::read_pull, satip_records::specs::Records::event_text))]
+#[tactic(auto, unfolding(crate::specs::ReadingEvents::pull_read, satip_records::specs::Records::event_text))]
 fn read_pull(bytes: &mut Reading<'_>) -> Option<Event>
     ensures read { behind result bytes.new ≡ pull_read bytes.old }
     ensures front { IfSome result (λ event. u8_text 6 ++ bytes.old
@@ -153,7 +153,7 @@ fn read_pull(bytes: &mut Reading<'_>) -> Option<Event>
     Some(Event::Pull { session })
 }
 
-#[tactic(auto, unfolding(crate::specs::ReadingEvents::read_close, satip_records::specs::Records::event_text))]
+#[tactic(auto, unfolding(crate::specs::ReadingEvents::close_read, satip_records::specs::Records::event_text))]
 fn read_close(bytes: &mut Reading<'_>) -> Option<Event>
     ensures read { behind result bytes.new ≡ close_read bytes.old }
     ensures front { IfSome result (λ event. u8_text 7 ++ bytes.old
@@ -165,7 +165,7 @@ fn read_close(bytes: &mut Reading<'_>) -> Option<Event>
     Some(Event::Close { session })
 }
 
-#[tactic(auto, unfolding(crate::specs::ReadingEvents::read_packet, crate::specs::ReadingLists::read_bytes))]
+#[tactic(auto, unfolding(crate::specs::ReadingEvents::packet_read, crate::specs::ReadingLists::read_bytes))]
 fn read_packet(bytes: &mut Reading<'_>) -> Option<Packet>
     ensures read { behind result bytes.new ≡ packet_read bytes.old }
     ensures front { IfSome result (λ packet. bytes.old ≡ packet ++ bytes.new) }

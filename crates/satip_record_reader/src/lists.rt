@@ -5,7 +5,7 @@ ghost use Rattle.std.specs.Bool.{MatchBool};
 ghost use Rattle.satip_records.specs.Fields.{u16_text, pid_list_text};
 ghost use Rattle.satip_records.specs.Reading.{behind};
 ghost use Rattle.satip_records.specs.Requests.{short_text};
-ghost use Rattle.satip_record_reader.specs.ReadingLists.{read_bytes, read_each, read_pid as pid_read, read_pid_list as pid_list_read, read_short as short_read};
+ghost use Rattle.satip_record_reader.specs.ReadingLists.{read_bytes, read_each, pid_read, pid_list_read, short_read};
 
 use satip_pids::PidList;
 use satip_records::Reading;
@@ -27,7 +27,7 @@ pub fn fill(places: &mut [u8], bytes: &mut Reading<'_>) -> bool
     true
 }
 
-#[tactic(auto, unfolding(crate::specs::ReadingLists::read_pid))]
+#[tactic(auto, unfolding(crate::specs::ReadingLists::pid_read))]
 fn read_pid(bytes: &mut Reading<'_>) -> Option<u16>
     ensures read { behind result bytes.new ≡ pid_read bytes.old }
     ensures front { IfSome result (λ pid. bytes.old ≡ u16_text pid ++ bytes.new) }
@@ -58,7 +58,7 @@ fn read_pids(count: u16, bytes: &mut Reading<'_>) -> Option<PidList>
     Some(pids)
 }
 
-#[tactic(auto, unfolding(crate::specs::ReadingLists::read_pid_list))]
+#[tactic(auto, unfolding(crate::specs::ReadingLists::pid_list_read))]
 pub fn read_pid_list(bytes: &mut Reading<'_>) -> Option<PidList>
     ensures read { behind result bytes.new ≡ pid_list_read bytes.old }
     ensures front { IfSome result (λ pids. bytes.old ≡ pid_list_text pids ++ bytes.new) }
@@ -75,7 +75,7 @@ pub fn read_pid_list(bytes: &mut Reading<'_>) -> Option<PidList>
     Some(pids)
 }
 
-#[tactic(auto, unfolding(crate::specs::ReadingLists::read_short))]
+#[tactic(auto, unfolding(crate::specs::ReadingLists::short_read))]
 pub fn read_short(bytes: &mut Reading<'_>) -> Option<Short>
     ensures read { behind result bytes.new ≡ short_read bytes.old }
     ensures front { IfSome result (λ kept. bytes.old ≡ short_text kept ++ bytes.new) }

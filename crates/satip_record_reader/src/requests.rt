@@ -3,9 +3,9 @@
 ghost use Rattle.std.specs.Prelude.{◌≡◌, ◌++◌, IfSome};
 ghost use Rattle.satip_records.specs.Fields.{key_text, option_text, pid_list_text, ports_text};
 ghost use Rattle.satip_records.specs.Requests.{fault_text, http_refusal_text, http_request_text, method_text, name_text, pids_text, query_text, refusal_text, request_text};
-ghost use Rattle.satip_records.specs.Reading.{behind, read_option, read_ports as ports_read};
-ghost use Rattle.satip_record_reader.specs.ReadingLists.{read_pid_list as pid_list_read};
-ghost use Rattle.satip_record_reader.specs.ReadingRequests.{read_fault as fault_read, read_http_refusal as http_refusal_read, read_http_request as http_request_read, read_key as key_read, read_method as method_read, read_name as name_read, read_pids_given as pids_given_read, read_query as query_read, read_refusal as refusal_read, read_request as request_read};
+ghost use Rattle.satip_records.specs.Reading.{behind, read_option, ports_read};
+ghost use Rattle.satip_record_reader.specs.ReadingLists.{pid_list_read};
+ghost use Rattle.satip_record_reader.specs.ReadingRequests.{fault_read, http_refusal_read, http_request_read, key_read, method_read, name_read, pids_given_read, query_read, refusal_read, request_read};
 
 use crate::lists::{read_pid_list, read_short};
 use satip_base::Ports;
@@ -33,7 +33,7 @@ fn read_option_pid_list(bytes: &mut Reading<'_>) -> Option<Option<PidList>>
     Some(Some(value))
 }
 
-#[tactic(auto, unfolding(crate::specs::ReadingRequests::read_pids_given, satip_records::specs::Requests::pids_text))]
+#[tactic(auto, unfolding(crate::specs::ReadingRequests::pids_given_read, satip_records::specs::Requests::pids_text))]
 fn read_pids_given(bytes: &mut Reading<'_>) -> Option<PidsGiven>
     ensures read { behind result bytes.new ≡ pids_given_read bytes.old }
     ensures front { IfSome result (λ x. bytes.old ≡ pids_text x ++ bytes.new) }
@@ -56,7 +56,7 @@ fn read_pids_given(bytes: &mut Reading<'_>) -> Option<PidsGiven>
 }
 
 /// Reads a query: the fields of its tuning, its PIDs, and those that it adds and takes away.
-#[tactic(auto, unfolding(crate::specs::ReadingRequests::read_query, satip_records::specs::Requests::query_text))]
+#[tactic(auto, unfolding(crate::specs::ReadingRequests::query_read, satip_records::specs::Requests::query_text))]
 pub fn read_query(bytes: &mut Reading<'_>) -> Option<Query>
     ensures read { behind result bytes.new ≡ query_read bytes.old }
     ensures front { IfSome result (λ x. bytes.old ≡ query_text x ++ bytes.new) }
@@ -81,7 +81,7 @@ pub fn read_query(bytes: &mut Reading<'_>) -> Option<Query>
     })
 }
 
-#[tactic(auto, unfolding(crate::specs::ReadingRequests::read_key))]
+#[tactic(auto, unfolding(crate::specs::ReadingRequests::key_read))]
 fn read_key(bytes: &mut Reading<'_>) -> Option<Key>
     ensures read { behind result bytes.new ≡ key_read bytes.old }
     ensures front { IfSome result (λ x. bytes.old ≡ key_text x ++ bytes.new) }
@@ -107,7 +107,7 @@ fn read_key(bytes: &mut Reading<'_>) -> Option<Key>
     }
 }
 
-#[tactic(auto, unfolding(crate::specs::ReadingRequests::read_fault))]
+#[tactic(auto, unfolding(crate::specs::ReadingRequests::fault_read))]
 fn read_fault(bytes: &mut Reading<'_>) -> Option<QueryFault>
     ensures read { behind result bytes.new ≡ fault_read bytes.old }
     ensures front { IfSome result (λ x. bytes.old ≡ fault_text x ++ bytes.new) }
@@ -132,7 +132,7 @@ fn read_fault(bytes: &mut Reading<'_>) -> Option<QueryFault>
     }
 }
 
-#[tactic(auto, unfolding(crate::specs::ReadingRequests::read_method))]
+#[tactic(auto, unfolding(crate::specs::ReadingRequests::method_read))]
 fn read_method(bytes: &mut Reading<'_>) -> Option<Method>
     ensures read { behind result bytes.new ≡ method_read bytes.old }
     ensures front { IfSome result (λ x. bytes.old ≡ method_text x ++ bytes.new) }
@@ -150,7 +150,7 @@ fn read_method(bytes: &mut Reading<'_>) -> Option<Method>
     }
 }
 
-#[tactic(auto, unfolding(crate::specs::ReadingRequests::read_refusal, satip_records::specs::Requests::refusal_text))]
+#[tactic(auto, unfolding(crate::specs::ReadingRequests::refusal_read, satip_records::specs::Requests::refusal_text))]
 fn read_refusal(bytes: &mut Reading<'_>) -> Option<Refusal>
     ensures read { behind result bytes.new ≡ refusal_read bytes.old }
     ensures front { IfSome result (λ x. bytes.old ≡ refusal_text x ++ bytes.new) }
@@ -198,7 +198,7 @@ fn read_option_refusal(bytes: &mut Reading<'_>) -> Option<Option<Refusal>>
     Some(Some(value))
 }
 
-#[tactic(auto, unfolding(crate::specs::ReadingRequests::read_name, satip_records::specs::Requests::name_text))]
+#[tactic(auto, unfolding(crate::specs::ReadingRequests::name_read, satip_records::specs::Requests::name_text))]
 fn read_name(bytes: &mut Reading<'_>) -> Option<SessionName>
     ensures read { behind result bytes.new ≡ name_read bytes.old }
     ensures front { IfSome result (λ x. bytes.old ≡ name_text x ++ bytes.new) }
@@ -237,7 +237,7 @@ fn read_option_ports(bytes: &mut Reading<'_>) -> Option<Option<Ports>>
 }
 
 /// Reads an RTSP request.
-#[tactic(auto, unfolding(crate::specs::ReadingRequests::read_request, satip_records::specs::Requests::request_text))]
+#[tactic(auto, unfolding(crate::specs::ReadingRequests::request_read, satip_records::specs::Requests::request_text))]
 pub fn read_request(bytes: &mut Reading<'_>) -> Option<Request>
     ensures read { behind result bytes.new ≡ request_read bytes.old }
     ensures front { IfSome result (λ x. bytes.old ≡ request_text x ++ bytes.new) }
@@ -274,7 +274,7 @@ pub fn read_request(bytes: &mut Reading<'_>) -> Option<Request>
     })
 }
 
-#[tactic(auto, unfolding(crate::specs::ReadingRequests::read_http_refusal, satip_records::specs::Requests::http_refusal_text))]
+#[tactic(auto, unfolding(crate::specs::ReadingRequests::http_refusal_read, satip_records::specs::Requests::http_refusal_text))]
 fn read_http_refusal(bytes: &mut Reading<'_>) -> Option<HttpRefusal>
     ensures read { behind result bytes.new ≡ http_refusal_read bytes.old }
     ensures front { IfSome result (λ x. bytes.old ≡ http_refusal_text x ++ bytes.new) }
@@ -317,7 +317,7 @@ fn read_option_http_refusal(bytes: &mut Reading<'_>) -> Option<Option<HttpRefusa
 }
 
 /// Reads a request over HTTP.
-#[tactic(auto, unfolding(crate::specs::ReadingRequests::read_http_request, satip_records::specs::Requests::http_request_text))]
+#[tactic(auto, unfolding(crate::specs::ReadingRequests::http_request_read, satip_records::specs::Requests::http_request_text))]
 pub fn read_http_request(bytes: &mut Reading<'_>) -> Option<HttpRequest>
     ensures read { behind result bytes.new ≡ http_request_read bytes.old }
     ensures front { IfSome result (λ x. bytes.old ≡ http_request_text x ++ bytes.new) }

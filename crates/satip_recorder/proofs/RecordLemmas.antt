@@ -21,7 +21,7 @@ use Rattle.satip_recorder.specs.Tapes.{gap_lines, packets_in, Tells}
 use Rattle.satip_recorder.specs.Arrivals.{AreRead}
 use Rattle.satip_recorder.specs.Courses.{Reel, talk, reel, ReadsAll, options_sent, Course, Stopped}
 use Rattle.satip_recorder.specs.Openings.{Opened, EndsOpening, Leaves, LeavesNot}
-use Rattle.satip_recorder.specs.Recordings.{bytes_of, turn_limit, fresh_tape, Outside, outside, first_pulse, Opening, Filled, EndedLeaving, EndedReceiving, EndedOpening, Records, Runs, Said, Ends, LeaveCause, end_of}
+use Rattle.satip_recorder.specs.Recordings.{bytes_of, turn_limit, fresh_tape, Outside, outside, first_pulse, Opening, Filled, EndedLeaving, EndedReceiving, EndedOpening, Records, Runs, Said, Ends, LeaveCause, end_for}
 use Rattle.satip_recorder.specs.declared.tape.Tape.{Tape}
 use Rattle.satip_recorder.proofs.ArrivalLemmas.{small, turns-none}
 use Rattle.satip_recorder.proofs.CourseLemmas.{cause-after}
@@ -255,7 +255,7 @@ runs_leaving t ti to te o m w x d e f mark q i j p r n address query count terms
 
 -- the line of the end follows
 pub ends : (t ti to te : Type 0) (o n : Outside) (r m s : Drain) (address query : List ℕ) (count : ℕ) (muted silent : Bool)
-    (result : Result (Unit {0}) RecordEnd) (end : RecordEnd) → end ≡ end_of result → Runs t ti to te o n r m address query count muted result
+    (result : Result (Unit {0}) RecordEnd) (end : RecordEnd) → end ≡ end_for result → Runs t ti to te o n r m address query count muted result
     → Tells te m s (line_for end) muted silent
     → Ends te r s end (λ (lines : List ℕ). Records t ti to o n address query count lines end)
 ends t ti to te o n r m s address query count muted silent result end is run told = record {

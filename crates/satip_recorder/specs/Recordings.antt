@@ -170,15 +170,15 @@ Records t ti to o n address query count lines OutOfMemory =
     ⊎ (EndedOpening t o n address query lines OutOfMemory
     ⊎ (EndedReceiving t ti to o n address query count lines OutOfMemory ⊎ EndedLeaving t ti to o n address query count lines OutOfMemory))
 
-abbrev pub end_of : Result (Unit {0}) RecordEnd → RecordEnd
-end_of (Ok done) = Done
-end_of (Err end) = end
+abbrev pub end_for : Result (Unit {0}) RecordEnd → RecordEnd
+end_for (Ok done) = Done
+end_for (Err end) = end
 
 -- what a run comes to, with what was told so far
 pub record Runs (tells tells_inlet tells_output tells_errors : Type 0) (o n : Outside) (r s : Drain) (address query : List ℕ) (count : ℕ)
     (muted : Bool) (result : Result (Unit {0}) RecordEnd) : Type 0 where
   pub lines : List ℕ
-  pub records : Records tells tells_inlet tells_output o n address query count lines (end_of result)
+  pub records : Records tells tells_inlet tells_output o n address query count lines (end_for result)
   pub told : Tells tells_errors r s lines false muted
 
 -- these lines were told, or a beginning of them, where the sink failed

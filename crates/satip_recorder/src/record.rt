@@ -2,7 +2,7 @@
 
 ghost use Rattle.std.specs.Prelude.{◌≡◌, ℕ, ◌≤◌, ◌⊎◌, false, List};
 ghost use Rattle.satip_client.specs.Ends.{line_for};
-ghost use Rattle.satip_recorder.specs.Recordings.{Completed, EndedLeaving, EndedOpening, EndedReceiving, Ends, IsFresh, NotBegun, Records, Runs, Said, end_of as end_for, outside};
+ghost use Rattle.satip_recorder.specs.Recordings.{Completed, EndedLeaving, EndedOpening, EndedReceiving, Ends, IsFresh, NotBegun, Records, Runs, Said, end_for, outside};
 ghost use Rattle.satip_recorder.specs.Tapes.{Tells};
 
 use crate::opening::{leave, open};

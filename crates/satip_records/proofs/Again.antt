@@ -14,26 +14,26 @@ use Rattle.satip_tune.specs.declared.signal.Fec.TheVariants.{F12, F23, F34, F56,
 use Rattle.satip_plain.specs.Values.{IsId, IsDraw, ArePorts, IsChange}
 use Rattle.satip_records.specs.Fields.{u8_text, u16_text, u32_text, u64_text, bool_text, option_text, id_text, draw_text, ports_text, pol_text, roll_off_text, system_text, modulation_text, fec_text}
 use Rattle.satip_records.specs.Requests.{change_text}
-use Rattle.satip_records.specs.Reading.{ReadsAgain, read_u8, read_u16, read_u32, read_u64, read_bool, read_option, read_id, read_draw, read_ports, read_pol, read_roll_off, read_system, read_modulation, read_fec, read_change, NoneBegins}
+use Rattle.satip_records.specs.Reading.{ReadsAgain, u8_read, u16_read, u32_read, u64_read, bool_read, read_option, id_read, draw_read, ports_read, pol_read, roll_off_read, system_read, modulation_read, fec_read, change_read, NoneBegins}
 
-pub u8_again : ReadsAgain (λ n. n < 2 ^ 8) u8_text read_u8
-unfolding read_u8 u8_text
+pub u8_again : ReadsAgain (λ n. n < 2 ^ 8) u8_text u8_read
+unfolding u8_read u8_text
 u8_again n rest h = refl
 
-pub u16_again : ReadsAgain (λ n. n < 2 ^ 16) u16_text read_u16
-unfolding read_u16 read_u8 u16_text
+pub u16_again : ReadsAgain (λ n. n < 2 ^ 16) u16_text u16_read
+unfolding u16_read u8_read u16_text
 u16_again n rest h = ap (λ (m : ℕ). Some (m, rest)) (omega (arith, h))
 
-pub u32_again : ReadsAgain (λ n. n < 2 ^ 32) u32_text read_u32
-unfolding read_u32 read_u16 read_u8 u32_text
+pub u32_again : ReadsAgain (λ n. n < 2 ^ 32) u32_text u32_read
+unfolding u32_read u16_read u8_read u32_text
 u32_again n rest h = ap (λ (m : ℕ). Some (m, rest)) (omega (arith, h))
 
-pub u64_again : ReadsAgain (λ n. n < 2 ^ 64) u64_text read_u64
-unfolding read_u64 read_u32 read_u16 read_u8 u64_text
+pub u64_again : ReadsAgain (λ n. n < 2 ^ 64) u64_text u64_read
+unfolding u64_read u32_read u16_read u8_read u64_text
 u64_again n rest h = ap (λ (m : ℕ). Some (m, rest)) (omega (arith, h))
 
-pub bool_again : ReadsAgain (λ b. Unit {0}) bool_text read_bool
-unfolding read_bool read_u8 u8_text
+pub bool_again : ReadsAgain (λ b. Unit {0}) bool_text bool_read
+unfolding bool_read u8_read u8_text
 bool_again true rest h = refl
 bool_again false rest h = refl
 
@@ -44,31 +44,31 @@ option_again Is text read again None rest h = rw (bool_again false rest tt) refl
 option_again Is text read again (Some x) rest h =
     rw (append_assoc (u8_text 1) (text x) rest, bool_again true (text x ++ rest) tt, again x rest h) refl
 
-pub pol_again : ReadsAgain (λ (x : Pol). Unit {0}) pol_text read_pol
-unfolding read_pol read_u8 u8_text
+pub pol_again : ReadsAgain (λ (x : Pol). Unit {0}) pol_text pol_read
+unfolding pol_read u8_read u8_text
 pol_again H rest h = refl
 pol_again V rest h = refl
 pol_again L rest h = refl
 pol_again R rest h = refl
 
-pub roll_off_again : ReadsAgain (λ (x : RollOff). Unit {0}) roll_off_text read_roll_off
-unfolding read_roll_off read_u8 u8_text
+pub roll_off_again : ReadsAgain (λ (x : RollOff). Unit {0}) roll_off_text roll_off_read
+unfolding roll_off_read u8_read u8_text
 roll_off_again R35 rest h = refl
 roll_off_again R25 rest h = refl
 roll_off_again R20 rest h = refl
 
-pub system_again : ReadsAgain (λ (x : System). Unit {0}) system_text read_system
-unfolding read_system read_u8 u8_text
+pub system_again : ReadsAgain (λ (x : System). Unit {0}) system_text system_read
+unfolding system_read u8_read u8_text
 system_again Dvbs rest h = refl
 system_again Dvbs2 rest h = refl
 
-pub modulation_again : ReadsAgain (λ (x : Modulation). Unit {0}) modulation_text read_modulation
-unfolding read_modulation read_u8 u8_text
+pub modulation_again : ReadsAgain (λ (x : Modulation). Unit {0}) modulation_text modulation_read
+unfolding modulation_read u8_read u8_text
 modulation_again Qpsk rest h = refl
 modulation_again Psk8 rest h = refl
 
-pub fec_again : ReadsAgain (λ (x : Fec). Unit {0}) fec_text read_fec
-unfolding read_fec read_u8 u8_text
+pub fec_again : ReadsAgain (λ (x : Fec). Unit {0}) fec_text fec_read
+unfolding fec_read u8_read u8_text
 fec_again F12 rest h = refl
 fec_again F23 rest h = refl
 fec_again F34 rest h = refl
@@ -79,8 +79,8 @@ fec_again F35 rest h = refl
 fec_again F45 rest h = refl
 fec_again F910 rest h = refl
 
-pub id_again : ReadsAgain IsId id_text read_id
-unfolding read_id
+pub id_again : ReadsAgain IsId id_text id_read
+unfolding id_read
 id_again id rest h =
     let t1 : List ℕ = u32_text id.word ++ rest in
     rw (
@@ -89,8 +89,8 @@ id_again id rest h =
       u32_again id.word rest h.word,
     ) refl
 
-pub draw_again : ReadsAgain IsDraw draw_text read_draw
-unfolding read_draw
+pub draw_again : ReadsAgain IsDraw draw_text draw_read
+unfolding draw_read
 draw_again draw rest h =
     let t2 : List ℕ = u16_text draw.first ++ rest in
     let t1 : List ℕ = u32_text draw.ssrc ++ t2 in
@@ -103,8 +103,8 @@ draw_again draw rest h =
       u16_again draw.first rest h.first,
     ) refl
 
-pub ports_again : ReadsAgain ArePorts ports_text read_ports
-unfolding read_ports
+pub ports_again : ReadsAgain ArePorts ports_text ports_read
+unfolding ports_read
 ports_again ports rest h =
     let t1 : List ℕ = u16_text ports.rtcp ++ rest in
     rw (
@@ -118,8 +118,8 @@ known : {T : Type 0} (value : Option T) → IfSome value (λ x. Unit {0})
 known None = tt
 known (Some x) = tt
 
-pub change_again : ReadsAgain IsChange change_text read_change
-unfolding read_change change_text
+pub change_again : ReadsAgain IsChange change_text change_read
+unfolding change_read change_text
 change_again c rest h =
     let t9 : List ℕ = option_text fec_text c.fec ++ rest in
     let t8 : List ℕ = option_text u32_text c.sr ++ t9 in
@@ -148,16 +148,16 @@ change_again c rest h =
       append_assoc (option_text modulation_text c.mtype) u7 rest,
       append_assoc (option_text bool_text c.plts) u8 rest,
       append_assoc (option_text u32_text c.sr) (option_text fec_text c.fec) rest,
-      option_again (λ x. x < 2 ^ 16) u16_text read_u16 u16_again c.fe t1 h.fe,
-      option_again (λ x. x < 2 ^ 8) u8_text read_u8 u8_again c.src t2 h.src,
-      option_again (λ x. x < 2 ^ 32) u32_text read_u32 u32_again c.freq t3 h.freq,
-      option_again (λ x. Unit {0}) pol_text read_pol pol_again c.pol t4 (known c.pol),
-      option_again (λ x. Unit {0}) roll_off_text read_roll_off roll_off_again c.ro t5 (known c.ro),
-      option_again (λ x. Unit {0}) system_text read_system system_again c.msys t6 (known c.msys),
-      option_again (λ x. Unit {0}) modulation_text read_modulation modulation_again c.mtype t7 (known c.mtype),
-      option_again (λ x. Unit {0}) bool_text read_bool bool_again c.plts t8 (known c.plts),
-      option_again (λ x. x < 2 ^ 32) u32_text read_u32 u32_again c.sr t9 h.sr,
-      option_again (λ x. Unit {0}) fec_text read_fec fec_again c.fec rest (known c.fec),
+      option_again (λ x. x < 2 ^ 16) u16_text u16_read u16_again c.fe t1 h.fe,
+      option_again (λ x. x < 2 ^ 8) u8_text u8_read u8_again c.src t2 h.src,
+      option_again (λ x. x < 2 ^ 32) u32_text u32_read u32_again c.freq t3 h.freq,
+      option_again (λ x. Unit {0}) pol_text pol_read pol_again c.pol t4 (known c.pol),
+      option_again (λ x. Unit {0}) roll_off_text roll_off_read roll_off_again c.ro t5 (known c.ro),
+      option_again (λ x. Unit {0}) system_text system_read system_again c.msys t6 (known c.msys),
+      option_again (λ x. Unit {0}) modulation_text modulation_read modulation_again c.mtype t7 (known c.mtype),
+      option_again (λ x. Unit {0}) bool_text bool_read bool_again c.plts t8 (known c.plts),
+      option_again (λ x. x < 2 ^ 32) u32_text u32_read u32_again c.sr t9 h.sr,
+      option_again (λ x. Unit {0}) fec_text fec_read fec_again c.fec rest (known c.fec),
     ) refl
 
 -- where two texts with something behind them are the same bytes, the values are the same, and so is what stands behind them

@@ -10,32 +10,32 @@ use Rattle.satip_plain.specs.declared.answers.Closed.{Closed}
 use Rattle.satip_plain.specs.declared.answers.Closed.TheVariants.{Yes, Gone}
 use Rattle.satip_records.specs.Fields.{u8_text, u16_text, u64_text, bool_text, id_text}
 use Rattle.satip_records.specs.Records.{answer_text, beat_text, closed_text, get_text, pulled_text, replied_text, work_text}
-use Rattle.satip_records.specs.Reading.{ReadsAgain, read_u8}
-use Rattle.satip_records.specs.ReadingAnswers.{IsAnswer, IsGet, IsPulled, IsReplied, IsWork, read_answer, read_beat, read_closed, read_get, read_pulled, read_replied, read_work}
+use Rattle.satip_records.specs.Reading.{ReadsAgain, u8_read}
+use Rattle.satip_records.specs.ReadingAnswers.{IsAnswer, IsGet, IsPulled, IsReplied, IsWork, answer_read, beat_read, closed_read, get_read, pulled_read, replied_read, work_read}
 use Rattle.satip_records.proofs.Again.{bool_again, id_again, u16_again, u64_again}
 
 -- the place of a variant
-place_again : (place : ℕ) (rest : List ℕ) → read_u8 (u8_text place ++ rest) ≡ Some (place, rest)
-unfolding read_u8 u8_text
+place_again : (place : ℕ) (rest : List ℕ) → u8_read (u8_text place ++ rest) ≡ Some (place, rest)
+unfolding u8_read u8_text
 place_again place rest = refl
 
-replied_again : ReadsAgain IsReplied replied_text read_replied
-unfolding read_replied
+replied_again : ReadsAgain IsReplied replied_text replied_read
+unfolding replied_read
 replied_again r rest h =
     rw (append_assoc (u16_text r.status) (bool_text r.closing) rest, u16_again r.status (bool_text r.closing ++ rest) h, bool_again r.closing rest tt) refl
 
-get_again : ReadsAgain IsGet get_text read_get
-unfolding read_get
+get_again : ReadsAgain IsGet get_text get_read
+unfolding get_read
 get_again (Started id) rest h = rw (append_assoc (u8_text 0) (id_text id) rest, place_again 0 (id_text id ++ rest), id_again id rest h) refl
 get_again (Refused status) rest h = rw (append_assoc (u8_text 1) (u16_text status) rest, place_again 1 (u16_text status ++ rest), u16_again status rest h) refl
 
-beat_again : ReadsAgain (λ (x : Beat). Unit {0}) beat_text read_beat
-unfolding read_beat
+beat_again : ReadsAgain (λ (x : Beat). Unit {0}) beat_text beat_read
+unfolding beat_read
 beat_again Going rest h = rw (place_again 0 rest) refl
 beat_again BeatStopping rest h = rw (place_again 1 rest) refl
 
-work_again : ReadsAgain IsWork work_text read_work
-unfolding read_work
+work_again : ReadsAgain IsWork work_text work_read
+unfolding work_read
 work_again (Tune mux tune) rest h =
     rw (
       append_assoc (u8_text 0) (u16_text mux ++ u64_text tune) rest,
@@ -47,19 +47,19 @@ work_again (Tune mux tune) rest h =
 work_again Nothing rest h = rw (place_again 1 rest) refl
 work_again Stopping rest h = rw (place_again 2 rest) refl
 
-pulled_again : ReadsAgain IsPulled pulled_text read_pulled
-unfolding read_pulled
+pulled_again : ReadsAgain IsPulled pulled_text pulled_read
+unfolding pulled_read
 pulled_again (Bytes count) rest h = rw (append_assoc (u8_text 0) (u64_text count) rest, place_again 0 (u64_text count ++ rest), u64_again count rest h) refl
 pulled_again Empty rest h = rw (place_again 1 rest) refl
 pulled_again PulledGone rest h = rw (place_again 2 rest) refl
 
-closed_again : ReadsAgain (λ (x : Closed). Unit {0}) closed_text read_closed
-unfolding read_closed
+closed_again : ReadsAgain (λ (x : Closed). Unit {0}) closed_text closed_read
+unfolding closed_read
 closed_again Yes rest h = rw (place_again 0 rest) refl
 closed_again Gone rest h = rw (place_again 1 rest) refl
 
-pub answer_again : ReadsAgain IsAnswer answer_text read_answer
-unfolding read_answer answer_text
+pub answer_again : ReadsAgain IsAnswer answer_text answer_read
+unfolding answer_read answer_text
 answer_again (RepliedIs replied) rest h =
     rw (append_assoc (u8_text 0) (replied_text replied) rest, place_again 0 (replied_text replied ++ rest), replied_again replied rest h) refl
 answer_again (GetIs get) rest h =

@@ -33,87 +33,87 @@ ReadsAgain {T = T} Is text read = (x : T) (rest : List ℕ) → Is x → read (t
 abbrev pub NoneBegins : {T : Type 0} → (T → Type 0) → (T → List ℕ) → Type 0
 NoneBegins {T = T} Is text = (x y : T) (p q : List ℕ) → Is x → Is y → text x ++ p ≡ text y ++ q → (x ≡ y) × (p ≡ q)
 
-unfoldable pub read_u8 : List ℕ → Option (ℕ × List ℕ)
-read_u8 [] = None
-read_u8 (byte ∷ rest) = Some (byte, rest)
+unfoldable pub u8_read : List ℕ → Option (ℕ × List ℕ)
+u8_read [] = None
+u8_read (byte ∷ rest) = Some (byte, rest)
 
-unfoldable pub read_u16 : List ℕ → Option (ℕ × List ℕ)
-read_u16 bytes = then_read (read_u8 bytes) (λ high rest. then_read (read_u8 rest) (λ low more. Some (high * 256 + low, more)))
+unfoldable pub u16_read : List ℕ → Option (ℕ × List ℕ)
+u16_read bytes = then_read (u8_read bytes) (λ high rest. then_read (u8_read rest) (λ low more. Some (high * 256 + low, more)))
 
-unfoldable pub read_u32 : List ℕ → Option (ℕ × List ℕ)
-read_u32 bytes = then_read (read_u16 bytes) (λ high rest. then_read (read_u16 rest) (λ low more. Some (high * 65536 + low, more)))
+unfoldable pub u32_read : List ℕ → Option (ℕ × List ℕ)
+u32_read bytes = then_read (u16_read bytes) (λ high rest. then_read (u16_read rest) (λ low more. Some (high * 65536 + low, more)))
 
-unfoldable pub read_u64 : List ℕ → Option (ℕ × List ℕ)
-read_u64 bytes = then_read (read_u32 bytes) (λ high rest. then_read (read_u32 rest) (λ low more. Some (high * 4294967296 + low, more)))
+unfoldable pub u64_read : List ℕ → Option (ℕ × List ℕ)
+u64_read bytes = then_read (u32_read bytes) (λ high rest. then_read (u32_read rest) (λ low more. Some (high * 4294967296 + low, more)))
 
 abbrev pub bool_of : ℕ → Option Bool
 bool_of place = if place == 0 then Some false else if place == 1 then Some true else None
 
-unfoldable pub read_bool : List ℕ → Option (Bool × List ℕ)
-read_bool bytes = then_read (read_u8 bytes) (λ place rest. behind (bool_of place) rest)
+unfoldable pub bool_read : List ℕ → Option (Bool × List ℕ)
+bool_read bytes = then_read (u8_read bytes) (λ place rest. behind (bool_of place) rest)
 
 abbrev pub option_behind : {T : Type 0} → (List ℕ → Option (T × List ℕ)) → Bool → List ℕ → Option (Option T × List ℕ)
 option_behind read false rest = Some (None, rest)
 option_behind read true rest = then_read (read rest) (λ x more. Some (Some x, more))
 
 unfoldable pub read_option : {T : Type 0} → (List ℕ → Option (T × List ℕ)) → List ℕ → Option (Option T × List ℕ)
-read_option read bytes = then_read (read_bool bytes) (option_behind read)
+read_option read bytes = then_read (bool_read bytes) (option_behind read)
 
 abbrev pub pol_of : ℕ → Option Pol
 pol_of place = if place == 0 then Some H else if place == 1 then Some V else if place == 2 then Some L else if place == 3 then Some R else None
 
-unfoldable pub read_pol : List ℕ → Option (Pol × List ℕ)
-read_pol bytes = then_read (read_u8 bytes) (λ place rest. behind (pol_of place) rest)
+unfoldable pub pol_read : List ℕ → Option (Pol × List ℕ)
+pol_read bytes = then_read (u8_read bytes) (λ place rest. behind (pol_of place) rest)
 
 abbrev pub roll_off_of : ℕ → Option RollOff
 roll_off_of place = if place == 0 then Some R35 else if place == 1 then Some R25 else if place == 2 then Some R20 else None
 
-unfoldable pub read_roll_off : List ℕ → Option (RollOff × List ℕ)
-read_roll_off bytes = then_read (read_u8 bytes) (λ place rest. behind (roll_off_of place) rest)
+unfoldable pub roll_off_read : List ℕ → Option (RollOff × List ℕ)
+roll_off_read bytes = then_read (u8_read bytes) (λ place rest. behind (roll_off_of place) rest)
 
 abbrev pub system_of : ℕ → Option System
 system_of place = if place == 0 then Some Dvbs else if place == 1 then Some Dvbs2 else None
 
-unfoldable pub read_system : List ℕ → Option (System × List ℕ)
-read_system bytes = then_read (read_u8 bytes) (λ place rest. behind (system_of place) rest)
+unfoldable pub system_read : List ℕ → Option (System × List ℕ)
+system_read bytes = then_read (u8_read bytes) (λ place rest. behind (system_of place) rest)
 
 abbrev pub modulation_of : ℕ → Option Modulation
 modulation_of place = if place == 0 then Some Qpsk else if place == 1 then Some Psk8 else None
 
-unfoldable pub read_modulation : List ℕ → Option (Modulation × List ℕ)
-read_modulation bytes = then_read (read_u8 bytes) (λ place rest. behind (modulation_of place) rest)
+unfoldable pub modulation_read : List ℕ → Option (Modulation × List ℕ)
+modulation_read bytes = then_read (u8_read bytes) (λ place rest. behind (modulation_of place) rest)
 
 abbrev pub fec_of : ℕ → Option Fec
 fec_of place = if place == 0 then Some F12 else if place == 1 then Some F23 else if place == 2 then Some F34 else if place == 3 then Some F56 else if place == 4 then Some F78 else if place == 5 then Some F89 else if place == 6 then Some F35 else if place == 7 then Some F45 else if place == 8 then Some F910 else None
 
-unfoldable pub read_fec : List ℕ → Option (Fec × List ℕ)
-read_fec bytes = then_read (read_u8 bytes) (λ place rest. behind (fec_of place) rest)
+unfoldable pub fec_read : List ℕ → Option (Fec × List ℕ)
+fec_read bytes = then_read (u8_read bytes) (λ place rest. behind (fec_of place) rest)
 
-unfoldable pub read_id : List ℕ → Option (SessionId × List ℕ)
-read_id bytes =
-    then_read (read_u32 bytes) (λ count after_count.
-    then_read (read_u32 after_count) (λ word more. Some (record { count = count; word = word }, more)))
+unfoldable pub id_read : List ℕ → Option (SessionId × List ℕ)
+id_read bytes =
+    then_read (u32_read bytes) (λ count after_count.
+    then_read (u32_read after_count) (λ word more. Some (record { count = count; word = word }, more)))
 
-unfoldable pub read_draw : List ℕ → Option (Draw × List ℕ)
-read_draw bytes =
-    then_read (read_u32 bytes) (λ word after_word.
-    then_read (read_u32 after_word) (λ ssrc after_ssrc.
-    then_read (read_u16 after_ssrc) (λ first more. Some (record { word = word; ssrc = ssrc; first = first }, more))))
+unfoldable pub draw_read : List ℕ → Option (Draw × List ℕ)
+draw_read bytes =
+    then_read (u32_read bytes) (λ word after_word.
+    then_read (u32_read after_word) (λ ssrc after_ssrc.
+    then_read (u16_read after_ssrc) (λ first more. Some (record { word = word; ssrc = ssrc; first = first }, more))))
 
-unfoldable pub read_ports : List ℕ → Option (Ports × List ℕ)
-read_ports bytes =
-    then_read (read_u16 bytes) (λ rtp after_rtp.
-    then_read (read_u16 after_rtp) (λ rtcp more. Some (record { rtp = rtp; rtcp = rtcp }, more)))
+unfoldable pub ports_read : List ℕ → Option (Ports × List ℕ)
+ports_read bytes =
+    then_read (u16_read bytes) (λ rtp after_rtp.
+    then_read (u16_read after_rtp) (λ rtcp more. Some (record { rtp = rtp; rtcp = rtcp }, more)))
 
-unfoldable pub read_change : List ℕ → Option (Change × List ℕ)
-read_change bytes =
-    then_read (read_option read_u16 bytes) (λ fe after_fe.
-    then_read (read_option read_u8 after_fe) (λ src after_src.
-    then_read (read_option read_u32 after_src) (λ freq after_freq.
-    then_read (read_option read_pol after_freq) (λ pol after_pol.
-    then_read (read_option read_roll_off after_pol) (λ ro after_ro.
-    then_read (read_option read_system after_ro) (λ msys after_msys.
-    then_read (read_option read_modulation after_msys) (λ mtype after_mtype.
-    then_read (read_option read_bool after_mtype) (λ plts after_plts.
-    then_read (read_option read_u32 after_plts) (λ sr after_sr.
-    then_read (read_option read_fec after_sr) (λ fec more. Some (record { fe = fe; src = src; freq = freq; pol = pol; ro = ro; msys = msys; mtype = mtype; plts = plts; sr = sr; fec = fec }, more)))))))))))
+unfoldable pub change_read : List ℕ → Option (Change × List ℕ)
+change_read bytes =
+    then_read (read_option u16_read bytes) (λ fe after_fe.
+    then_read (read_option u8_read after_fe) (λ src after_src.
+    then_read (read_option u32_read after_src) (λ freq after_freq.
+    then_read (read_option pol_read after_freq) (λ pol after_pol.
+    then_read (read_option roll_off_read after_pol) (λ ro after_ro.
+    then_read (read_option system_read after_ro) (λ msys after_msys.
+    then_read (read_option modulation_read after_msys) (λ mtype after_mtype.
+    then_read (read_option bool_read after_mtype) (λ plts after_plts.
+    then_read (read_option u32_read after_plts) (λ sr after_sr.
+    then_read (read_option fec_read after_sr) (λ fec more. Some (record { fe = fe; src = src; freq = freq; pol = pol; ro = ro; msys = msys; mtype = mtype; plts = plts; sr = sr; fec = fec }, more)))))))))))

@@ -4,27 +4,27 @@ ghost use Rattle.std.specs.Prelude.{◌<◌, ◌^◌};
 ghost use Rattle.satip_plain.specs.Values.{ArePorts, IsChange, IsDraw, IsId};
 ghost use Rattle.satip_records.specs.Fields.{bool_text, draw_text, fec_text, id_text, modulation_text, pol_text, ports_text, roll_off_text, system_text, u16_text, u32_text, u64_text, u8_text};
 ghost use Rattle.satip_records.specs.Records.{answer_text};
-ghost use Rattle.satip_records.specs.ReadingAnswers.{IsAnswer, read_answer};
+ghost use Rattle.satip_records.specs.ReadingAnswers.{IsAnswer, answer_read};
 ghost use Rattle.satip_records.specs.Requests.{change_text};
-ghost use Rattle.satip_records.specs.Reading.{NoneBegins, ReadsAgain, read_bool, read_change, read_draw, read_fec, read_id, read_modulation, read_pol, read_ports, read_roll_off, read_system, read_u16, read_u32, read_u64, read_u8};
+ghost use Rattle.satip_records.specs.Reading.{NoneBegins, ReadsAgain, bool_read, change_read, draw_read, fec_read, id_read, modulation_read, pol_read, ports_read, roll_off_read, system_read, u16_read, u32_read, u64_read, u8_read};
 
 /// Each value of a small part's type is read again from its text, whatever stands behind that.
 pub fn parts_are_read_again()
-    ensures u8 { ReadsAgain (λ n. n < 2 ^ 8) u8_text read_u8 }
-    ensures u16 { ReadsAgain (λ n. n < 2 ^ 16) u16_text read_u16 }
-    ensures u32 { ReadsAgain (λ n. n < 2 ^ 32) u32_text read_u32 }
-    ensures u64 { ReadsAgain (λ n. n < 2 ^ 64) u64_text read_u64 }
-    ensures bool { ReadsAgain (λ x. Unit {0}) bool_text read_bool }
-    ensures pol { ReadsAgain (λ x. Unit {0}) pol_text read_pol }
-    ensures roll_off { ReadsAgain (λ x. Unit {0}) roll_off_text read_roll_off }
-    ensures system { ReadsAgain (λ x. Unit {0}) system_text read_system }
-    ensures modulation { ReadsAgain (λ x. Unit {0}) modulation_text read_modulation }
-    ensures fec { ReadsAgain (λ x. Unit {0}) fec_text read_fec }
-    ensures id { ReadsAgain IsId id_text read_id }
-    ensures draw { ReadsAgain IsDraw draw_text read_draw }
-    ensures ports { ReadsAgain ArePorts ports_text read_ports }
-    ensures change { ReadsAgain IsChange change_text read_change }
-    ensures answer { ReadsAgain IsAnswer answer_text read_answer }
+    ensures u8 { ReadsAgain (λ n. n < 2 ^ 8) u8_text u8_read }
+    ensures u16 { ReadsAgain (λ n. n < 2 ^ 16) u16_text u16_read }
+    ensures u32 { ReadsAgain (λ n. n < 2 ^ 32) u32_text u32_read }
+    ensures u64 { ReadsAgain (λ n. n < 2 ^ 64) u64_text u64_read }
+    ensures bool { ReadsAgain (λ x. Unit {0}) bool_text bool_read }
+    ensures pol { ReadsAgain (λ x. Unit {0}) pol_text pol_read }
+    ensures roll_off { ReadsAgain (λ x. Unit {0}) roll_off_text roll_off_read }
+    ensures system { ReadsAgain (λ x. Unit {0}) system_text system_read }
+    ensures modulation { ReadsAgain (λ x. Unit {0}) modulation_text modulation_read }
+    ensures fec { ReadsAgain (λ x. Unit {0}) fec_text fec_read }
+    ensures id { ReadsAgain IsId id_text id_read }
+    ensures draw { ReadsAgain IsDraw draw_text draw_read }
+    ensures ports { ReadsAgain ArePorts ports_text ports_read }
+    ensures change { ReadsAgain IsChange change_text change_read }
+    ensures answer { ReadsAgain IsAnswer answer_text answer_read }
 {}
 
 /// No text of a small part begins another's.

@@ -2,7 +2,7 @@
 
 ghost use Rattle.std.specs.Prelude.{◌≡◌, ◌++◌, IfSome};
 ghost use Rattle.satip_records.specs.Fields.{u8_text, u16_text, u32_text, u64_text, bool_text};
-ghost use Rattle.satip_records.specs.Reading.{behind, read_u8 as u8_read, read_u16 as u16_read, read_u32 as u32_read, read_u64 as u64_read, read_bool as bool_read};
+ghost use Rattle.satip_records.specs.Reading.{behind, u8_read, u16_read, u32_read, u64_read, bool_read};
 
 use std::marker::Model;
 
@@ -29,7 +29,7 @@ impl<'a> Reading<'a> {
     }
 
     /// Reads a byte.
-    #[tactic(auto, unfolding(crate::specs::Reading::read_u8, crate::specs::Fields::u8_text))]
+    #[tactic(auto, unfolding(crate::specs::Reading::u8_read, crate::specs::Fields::u8_text))]
     pub fn read_u8(&mut self) -> Option<u8>
         ensures read { behind result self.new ≡ u8_read self.old }
         ensures front { IfSome result (λ x. self.old ≡ u8_text x ++ self.new) }
@@ -42,7 +42,7 @@ impl<'a> Reading<'a> {
     }
 
     /// Reads a number of 16 bits, high byte first.
-    #[tactic(auto, unfolding(crate::specs::Reading::read_u16, crate::specs::Fields::u8_text, crate::specs::Fields::u16_text))]
+    #[tactic(auto, unfolding(crate::specs::Reading::u16_read, crate::specs::Fields::u8_text, crate::specs::Fields::u16_text))]
     pub fn read_u16(&mut self) -> Option<u16>
         ensures read { behind result self.new ≡ u16_read self.old }
         ensures front { IfSome result (λ x. self.old ≡ u16_text x ++ self.new) }
@@ -57,7 +57,7 @@ impl<'a> Reading<'a> {
     }
 
     /// Reads a number of 32 bits, high byte first.
-    #[tactic(auto, unfolding(crate::specs::Reading::read_u32, crate::specs::Fields::u16_text, crate::specs::Fields::u32_text))]
+    #[tactic(auto, unfolding(crate::specs::Reading::u32_read, crate::specs::Fields::u16_text, crate::specs::Fields::u32_text))]
     pub fn read_u32(&mut self) -> Option<u32>
         ensures read { behind result self.new ≡ u32_read self.old }
         ensures front { IfSome result (λ x. self.old ≡ u32_text x ++ self.new) }
@@ -72,7 +72,7 @@ impl<'a> Reading<'a> {
     }
 
     /// Reads a number of 64 bits, high byte first.
-    #[tactic(auto, unfolding(crate::specs::Reading::read_u64, crate::specs::Fields::u32_text, crate::specs::Fields::u64_text))]
+    #[tactic(auto, unfolding(crate::specs::Reading::u64_read, crate::specs::Fields::u32_text, crate::specs::Fields::u64_text))]
     pub fn read_u64(&mut self) -> Option<u64>
         ensures read { behind result self.new ≡ u64_read self.old }
         ensures front { IfSome result (λ x. self.old ≡ u64_text x ++ self.new) }
@@ -87,7 +87,7 @@ impl<'a> Reading<'a> {
     }
 
     /// Reads a bool: 0 or 1.
-    #[tactic(auto, unfolding(crate::specs::Reading::read_bool))]
+    #[tactic(auto, unfolding(crate::specs::Reading::bool_read))]
     pub fn read_bool(&mut self) -> Option<bool>
         ensures read { behind result self.new ≡ bool_read self.old }
         ensures front { IfSome result (λ x. self.old ≡ bool_text x ++ self.new) }

@@ -3,13 +3,13 @@
 ghost use Rattle.std.specs.Prelude.{◌≡◌, ◌++◌, IfSome};
 ghost use Rattle.satip_records.specs.Reading.{behind};
 ghost use Rattle.satip_records.specs.Records.{answer_text, beat_text, closed_text, get_text, pulled_text, replied_text, work_text};
-ghost use Rattle.satip_records.specs.ReadingAnswers.{read_answer as answer_read, read_beat as beat_read, read_closed as closed_read, read_get as get_read, read_pulled as pulled_read, read_replied as replied_read, read_work as work_read};
+ghost use Rattle.satip_records.specs.ReadingAnswers.{answer_read, beat_read, closed_read, get_read, pulled_read, replied_read, work_read};
 
 use crate::reading::Reading;
 use satip_plain::{Answer, Beat, Closed, GetAnswer, Pulled, Replied, Work};
 
 impl Reading<'_> {
-    #[tactic(auto, unfolding(crate::specs::ReadingAnswers::read_replied))]
+    #[tactic(auto, unfolding(crate::specs::ReadingAnswers::replied_read))]
     pub fn read_replied(&mut self) -> Option<Replied>
         ensures read { behind result self.new ≡ replied_read self.old }
         ensures front { IfSome result (λ x. self.old ≡ replied_text x ++ self.new) }
@@ -23,7 +23,7 @@ impl Reading<'_> {
         Some(Replied { status, closing })
     }
 
-    #[tactic(auto, unfolding(crate::specs::ReadingAnswers::read_get))]
+    #[tactic(auto, unfolding(crate::specs::ReadingAnswers::get_read))]
     pub fn read_get(&mut self) -> Option<GetAnswer>
         ensures read { behind result self.new ≡ get_read self.old }
         ensures front { IfSome result (λ x. self.old ≡ get_text x ++ self.new) }
@@ -48,7 +48,7 @@ impl Reading<'_> {
         }
     }
 
-    #[tactic(auto, unfolding(crate::specs::ReadingAnswers::read_beat))]
+    #[tactic(auto, unfolding(crate::specs::ReadingAnswers::beat_read))]
     pub fn read_beat(&mut self) -> Option<Beat>
         ensures read { behind result self.new ≡ beat_read self.old }
         ensures front { IfSome result (λ x. self.old ≡ beat_text x ++ self.new) }
@@ -63,7 +63,7 @@ impl Reading<'_> {
         }
     }
 
-    #[tactic(auto, unfolding(crate::specs::ReadingAnswers::read_work))]
+    #[tactic(auto, unfolding(crate::specs::ReadingAnswers::work_read))]
     pub fn read_work(&mut self) -> Option<Work>
         ensures read { behind result self.new ≡ work_read self.old }
         ensures front { IfSome result (λ x. self.old ≡ work_text x ++ self.new) }
@@ -87,7 +87,7 @@ impl Reading<'_> {
         }
     }
 
-    #[tactic(auto, unfolding(crate::specs::ReadingAnswers::read_pulled))]
+    #[tactic(auto, unfolding(crate::specs::ReadingAnswers::pulled_read))]
     pub fn read_pulled(&mut self) -> Option<Pulled>
         ensures read { behind result self.new ≡ pulled_read self.old }
         ensures front { IfSome result (λ x. self.old ≡ pulled_text x ++ self.new) }
@@ -108,7 +108,7 @@ impl Reading<'_> {
         }
     }
 
-    #[tactic(auto, unfolding(crate::specs::ReadingAnswers::read_closed))]
+    #[tactic(auto, unfolding(crate::specs::ReadingAnswers::closed_read))]
     pub fn read_closed(&mut self) -> Option<Closed>
         ensures read { behind result self.new ≡ closed_read self.old }
         ensures front { IfSome result (λ x. self.old ≡ closed_text x ++ self.new) }
@@ -123,7 +123,7 @@ impl Reading<'_> {
         }
     }
 
-    #[tactic(auto, unfolding(crate::specs::ReadingAnswers::read_answer, crate::specs::Records::answer_text))]
+    #[tactic(auto, unfolding(crate::specs::ReadingAnswers::answer_read, crate::specs::Records::answer_text))]
     pub fn read_answer(&mut self) -> Option<Answer>
         ensures read { behind result self.new ≡ answer_read self.old }
         ensures front { IfSome result (λ x. self.old ≡ answer_text x ++ self.new) }

@@ -3,14 +3,14 @@
 ghost use Rattle.std.specs.Prelude.{◌≡◌, ◌++◌, IfSome};
 ghost use Rattle.satip_records.specs.Fields.{u8_text, u16_text, u32_text, bool_text, option_text, id_text, draw_text, ports_text, pol_text, roll_off_text, system_text, modulation_text, fec_text};
 ghost use Rattle.satip_records.specs.Requests.{change_text};
-ghost use Rattle.satip_records.specs.Reading.{behind, read_u8 as u8_read, read_u16 as u16_read, read_u32 as u32_read, read_bool as bool_read, read_option, read_id as id_read, read_draw as draw_read, read_ports as ports_read, read_pol as pol_read, read_roll_off as roll_off_read, read_system as system_read, read_modulation as modulation_read, read_fec as fec_read, read_change as change_read};
+ghost use Rattle.satip_records.specs.Reading.{behind, u8_read, u16_read, u32_read, bool_read, read_option, id_read, draw_read, ports_read, pol_read, roll_off_read, system_read, modulation_read, fec_read, change_read};
 
 use crate::reading::Reading;
 use satip_base::{Draw, Ports, SessionId};
 use satip_tune::{Change, Fec, Modulation, Pol, RollOff, System};
 
 impl Reading<'_> {
-    #[tactic(auto, unfolding(crate::specs::Reading::read_pol))]
+    #[tactic(auto, unfolding(crate::specs::Reading::pol_read))]
     pub fn read_pol(&mut self) -> Option<Pol>
         ensures read { behind result self.new ≡ pol_read self.old }
         ensures front { IfSome result (λ x. self.old ≡ pol_text x ++ self.new) }
@@ -27,7 +27,7 @@ impl Reading<'_> {
         }
     }
 
-    #[tactic(auto, unfolding(crate::specs::Reading::read_roll_off))]
+    #[tactic(auto, unfolding(crate::specs::Reading::roll_off_read))]
     pub fn read_roll_off(&mut self) -> Option<RollOff>
         ensures read { behind result self.new ≡ roll_off_read self.old }
         ensures front { IfSome result (λ x. self.old ≡ roll_off_text x ++ self.new) }
@@ -43,7 +43,7 @@ impl Reading<'_> {
         }
     }
 
-    #[tactic(auto, unfolding(crate::specs::Reading::read_system))]
+    #[tactic(auto, unfolding(crate::specs::Reading::system_read))]
     pub fn read_system(&mut self) -> Option<System>
         ensures read { behind result self.new ≡ system_read self.old }
         ensures front { IfSome result (λ x. self.old ≡ system_text x ++ self.new) }
@@ -58,7 +58,7 @@ impl Reading<'_> {
         }
     }
 
-    #[tactic(auto, unfolding(crate::specs::Reading::read_modulation))]
+    #[tactic(auto, unfolding(crate::specs::Reading::modulation_read))]
     pub fn read_modulation(&mut self) -> Option<Modulation>
         ensures read { behind result self.new ≡ modulation_read self.old }
         ensures front { IfSome result (λ x. self.old ≡ modulation_text x ++ self.new) }
@@ -73,7 +73,7 @@ impl Reading<'_> {
         }
     }
 
-    #[tactic(auto, unfolding(crate::specs::Reading::read_fec))]
+    #[tactic(auto, unfolding(crate::specs::Reading::fec_read))]
     pub fn read_fec(&mut self) -> Option<Fec>
         ensures read { behind result self.new ≡ fec_read self.old }
         ensures front { IfSome result (λ x. self.old ≡ fec_text x ++ self.new) }
@@ -248,7 +248,7 @@ impl Reading<'_> {
         Some(Some(value))
     }
 
-    #[tactic(auto, unfolding(crate::specs::Reading::read_id))]
+    #[tactic(auto, unfolding(crate::specs::Reading::id_read))]
     pub fn read_id(&mut self) -> Option<SessionId>
         ensures read { behind result self.new ≡ id_read self.old }
         ensures front { IfSome result (λ x. self.old ≡ id_text x ++ self.new) }
@@ -262,7 +262,7 @@ impl Reading<'_> {
         Some(SessionId { count, word })
     }
 
-    #[tactic(auto, unfolding(crate::specs::Reading::read_draw))]
+    #[tactic(auto, unfolding(crate::specs::Reading::draw_read))]
     pub fn read_draw(&mut self) -> Option<Draw>
         ensures read { behind result self.new ≡ draw_read self.old }
         ensures front { IfSome result (λ x. self.old ≡ draw_text x ++ self.new) }
@@ -279,7 +279,7 @@ impl Reading<'_> {
         Some(Draw { word, ssrc, first })
     }
 
-    #[tactic(auto, unfolding(crate::specs::Reading::read_ports))]
+    #[tactic(auto, unfolding(crate::specs::Reading::ports_read))]
     pub fn read_ports(&mut self) -> Option<Ports>
         ensures read { behind result self.new ≡ ports_read self.old }
         ensures front { IfSome result (λ x. self.old ≡ ports_text x ++ self.new) }
@@ -293,7 +293,7 @@ impl Reading<'_> {
         Some(Ports { rtp, rtcp })
     }
 
-    #[tactic(auto, unfolding(crate::specs::Reading::read_change, crate::specs::Requests::change_text))]
+    #[tactic(auto, unfolding(crate::specs::Reading::change_read, crate::specs::Requests::change_text))]
     pub fn read_change(&mut self) -> Option<Change>
         ensures read { behind result self.new ≡ change_read self.old }
         ensures front { IfSome result (λ x. self.old ≡ change_text x ++ self.new) }

@@ -6,7 +6,7 @@ use Rattle.std.proofs.lemmas.List.{drop_at}
 use Rattle.std.proofs.lemmas.List.Elements.{All-push, All-nil}
 use Rattle.httparse.specs.Grammar.{AllPass, LineEnd, lf, print_end, IsField, print_field, print_section}
 use Rattle.satip_frame.specs.Said.{body_length}
-use Rattle.satip_reply.specs.Heads.{Head, print_head, is_phrase_byte, IsReason, IsHead}
+use Rattle.satip_reply.specs.Heads.{Head, print_head, is_byte_of_phrase, IsReason, IsHead}
 use Rattle.satip_reply.specs.Places.{HasSomeHead}
 use Rattle.satip_reply.proofs.Cuts.{IsInside, cut, All-front, inside-front, inside-shorter}
 use Rattle.satip_reply.proofs.Values.{lengths, IsLength}
@@ -94,7 +94,7 @@ reason-front : (reason whole : List ℕ) → IsInside reason whole → IsReason 
 reason-front [] whole i r = tt
 reason-front (x ∷ xs) whole i r =
     let is = subst IsReason i.is r in
-    (is.0, All-front (λ b. IsTrue (is_phrase_byte b)) xs (i.byte ∷ i.left) is.1)
+    (is.0, All-front (λ b. IsTrue (is_byte_of_phrase b)) xs (i.byte ∷ i.left) is.1)
 
 -- the text ends in the reason, or in the end of the line
 after-digits : (digits : List ℕ) (b : List ℕ) → length digits ≡ 3 → 12 ≤ length (start ++ (digits ++ b))

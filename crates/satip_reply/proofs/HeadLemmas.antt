@@ -9,7 +9,7 @@ use Rattle.std.specs.Str.Parse.{digits_value}
 use Rattle.httparse.proofs.PieceLemmas.{Stops-print_end, print_end_unique}
 use Rattle.httparse.proofs.RunLemmas.{run_unique}
 use Rattle.satip_frame.specs.Said.{body_length}
-use Rattle.satip_reply.specs.Heads.{Head, print_head, is_phrase_byte, IsReason, HasHead, HasReply}
+use Rattle.satip_reply.specs.Heads.{Head, print_head, is_byte_of_phrase, IsReason, HasHead, HasReply}
 use Rattle.satip_reply.specs.Places.{HasLine, IsLineAt, IsHeadAt, HasSomeHead}
 use Rattle.satip_reply.specs.Replies.{Says, IsReply, HasNoReply, CanBecomeReply, NeverHasReply}
 use Rattle.satip_reply.specs.declared.reply.ReplyView.{ReplyView}
@@ -31,8 +31,8 @@ reason-unique (a ∷ cs) [] e f p q x y eq =
     absurd (space-no-end f q (cs ++ (print_end e ++ p)) (sym eq ∙ ap (λ (c : ℕ). c ∷ (cs ++ (print_end e ++ p))) x.0))
 reason-unique (a ∷ cs) (b ∷ bs) e f p q x y eq =
     let behind : cs ++ (print_end e ++ p) ≡ bs ++ (print_end f ++ q) = cc in
-    let run = run_unique is_phrase_byte cs bs (print_end e ++ p) (print_end f ++ q) x.1 y.1
-    (Stops-print_end is_phrase_byte refl refl e p) (Stops-print_end is_phrase_byte refl refl f q) behind in
+    let run = run_unique is_byte_of_phrase cs bs (print_end e ++ p) (print_end f ++ q) x.1 y.1
+    (Stops-print_end is_byte_of_phrase refl refl e p) (Stops-print_end is_byte_of_phrase refl refl f q) behind in
     let ends = print_end_unique e f p q run.1 in
     (cc (run.0, x.0, y.0), ends.0, ends.1)
 

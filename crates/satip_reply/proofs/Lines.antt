@@ -13,7 +13,7 @@ use Rattle.httparse.specs.Pieces.{IsRunAt}
 use Rattle.httparse.proofs.PieceLemmas.{Stops-print_end}
 use Rattle.httparse.proofs.RunLemmas.{IsRunAt_pass, IsRunAt_unique, IsRunAt_open, drop_split}
 use Rattle.httparse.proofs.TrimLemmas.{slice_first, slice_empty}
-use Rattle.satip_reply.specs.Heads.{is_phrase_byte, IsReason}
+use Rattle.satip_reply.specs.Heads.{is_byte_of_phrase, IsReason}
 use Rattle.satip_reply.specs.Places.{HasStatus, HasLine}
 use Rattle.satip_reply.proofs.Endings.{start}
 
@@ -122,7 +122,7 @@ no-reason text (inr other) long (x ∷ xs) end rest is e = elim (cases_lt 12 (le
       absurd (cc)
 ]
 
-module _ {text : List ℕ} {stop : ℕ} (inside : 12 < length text) (space : get_or text 12 0 ≡ 32) (run : IsRunAt is_phrase_byte text 13 stop) where
+module _ {text : List ℕ} {stop : ℕ} (inside : 12 < length text) (space : get_or text 12 0 ≡ 32) (run : IsRunAt is_byte_of_phrase text 13 stop) where
   split : drop 12 text ≡ 32 ∷ drop 13 text
   split = drop_more text 12 0 inside ∙ ap (λ (b : ℕ). b ∷ drop 13 text) space
 
@@ -137,7 +137,7 @@ module _ {text : List ℕ} {stop : ℕ} (inside : 12 < length text) (space : get
   reason-only [] end rest is e = absurd (space-no-end end rest (drop 13 text) (sym e ∙ split))
   reason-only (x ∷ xs) end rest is e =
       let behind : drop 13 text ≡ xs ++ (print_end end ++ rest) = cc (split, e) in
-      let stops = Stops-print_end is_phrase_byte refl refl end rest in
+      let stops = Stops-print_end is_byte_of_phrase refl refl end rest in
       elim (cases_lt stop (length text)) [
         | inl within ↦
             let same = IsRunAt_unique run within [] xs (print_end end ++ rest) is.1 stops (append-nil (drop 13 text) ∙ behind) in

@@ -17,8 +17,8 @@ abbrev pub without_last_spaces : List ℕ → List ℕ
 without_last_spaces text = reverse (without_first_spaces (reverse text))
 
 -- the text without the spaces at its ends
-unfoldable pub without_spaces : List ℕ → List ℕ
-without_spaces text = without_last_spaces (without_first_spaces text)
+unfoldable pub text_without_spaces : List ℕ → List ℕ
+text_without_spaces text = without_last_spaces (without_first_spaces text)
 
 abbrev pub unless_empty : List ℕ → Option (List ℕ)
 unless_empty [] = None
@@ -26,12 +26,12 @@ unless_empty (b ∷ text) = Some (b ∷ text)
 
 -- the session that the value of a Session header names, before its parameters
 abbrev pub session_named : List ℕ → Option (List ℕ)
-session_named value = unless_empty (without_spaces (before_first (is_byte semicolon) value))
+session_named value = unless_empty (text_without_spaces (before_first (is_byte semicolon) value))
 
 -- the text behind `timeout=`, if the parameter begins so
-abbrev pub timeout_text : List ℕ → Option (List ℕ)
-timeout_text parameter =
-    if starts_with nat_eq (without_spaces parameter) (codes "timeout=") then Some (drop 8 (without_spaces parameter)) else None
+abbrev pub text_of_timeout : List ℕ → Option (List ℕ)
+text_of_timeout parameter =
+    if starts_with nat_eq (text_without_spaces parameter) (codes "timeout=") then Some (drop 8 (text_without_spaces parameter)) else None
 
 -- without a timeout it is 60 seconds
 abbrev pub usual_timeout : ℕ
@@ -48,19 +48,19 @@ timeout_or (Some text) other = unless_zero (number_of 4294967295 text)
 -- the timeout of the first parameter that is one
 abbrev pub first_timeout : List (List ℕ) → ℕ
 first_timeout [] = usual_timeout
-first_timeout (parameter ∷ parameters) = timeout_or (timeout_text parameter) (first_timeout parameters)
+first_timeout (parameter ∷ parameters) = timeout_or (text_of_timeout parameter) (first_timeout parameters)
 
 abbrev pub behind_first : List (List ℕ) → List (List ℕ)
 behind_first [] = []
 behind_first (part ∷ parts) = parts
 
 -- the timeout that the value of a Session header gives
-abbrev pub timeout_given : List ℕ → ℕ
-timeout_given value = first_timeout (behind_first (slice_split (is_byte semicolon) value))
+abbrev pub timeout_of_text : List ℕ → ℕ
+timeout_of_text value = first_timeout (behind_first (slice_split (is_byte semicolon) value))
 
-abbrev pub timeout_by : Option (List ℕ) → ℕ
-timeout_by None = usual_timeout
-timeout_by (Some value) = timeout_given value
+abbrev pub timeout_of_value : Option (List ℕ) → ℕ
+timeout_of_value None = usual_timeout
+timeout_of_value (Some value) = timeout_of_text value
 
 abbrev pub cseq_in : List (List ℕ × List ℕ) → Option ℕ
 cseq_in headers = option_and_then (number_of 4294967295) (first_value (codes "CSeq") headers)
@@ -69,7 +69,7 @@ abbrev pub session_in : List (List ℕ × List ℕ) → Option (List ℕ)
 session_in headers = option_and_then session_named (first_value (codes "Session") headers)
 
 abbrev pub timeout_in : List (List ℕ × List ℕ) → ℕ
-timeout_in headers = timeout_by (first_value (codes "Session") headers)
+timeout_in headers = timeout_of_value (first_value (codes "Session") headers)
 
 abbrev pub stream_in : List (List ℕ × List ℕ) → Option ℕ
 stream_in headers = option_and_then (number_of 65535) (first_value (codes "com.ses.streamID") headers)

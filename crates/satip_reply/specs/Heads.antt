@@ -19,13 +19,13 @@ pub record Head : Type 0 where
 abbrev pub print_head : Head → List ℕ
 print_head h = codes "RTSP/1.0 " ++ (h.digits ++ (h.reason ++ (print_end h.line_end ++ print_section h.fields h.last)))
 
-abbrev pub is_phrase_byte : ℕ → Bool
-is_phrase_byte b = not (b == carriage_return || b == line_feed)
+abbrev pub is_byte_of_phrase : ℕ → Bool
+is_byte_of_phrase b = not (b == carriage_return || b == line_feed)
 
 -- nothing, or a space and a phrase without CR and LF
 abbrev pub IsReason : List ℕ → Type 0
 IsReason [] = Unit {0}
-IsReason (b ∷ phrase) = (b ≡ space) × AllPass is_phrase_byte phrase
+IsReason (b ∷ phrase) = (b ≡ space) × AllPass is_byte_of_phrase phrase
 
 -- the name and the value of each header, in order
 abbrev pub headers_of : Head → List (List ℕ × List ℕ)

@@ -2,7 +2,7 @@
 ghost use Rattle.std.specs.Prelude.{◌≡◌, IfSome};
 ghost use Rattle.std.specs.Option.{option_and_then, option_copied};
 ghost use Rattle.satip_base.specs.Numbers.{number_of};
-ghost use Rattle.satip_reply.specs.Fields.{session_named, timeout_by as timeout_of_value, timeout_given as timeout_of_text, timeout_text as text_of_timeout, unless_zero, without_first_spaces, without_last_spaces, without_spaces as text_without_spaces};
+ghost use Rattle.satip_reply.specs.Fields.{session_named, timeout_of_value, timeout_of_text, text_of_timeout, unless_zero, without_first_spaces, without_last_spaces, text_without_spaces};
 
 use satip_base::read_number;
 use satip_tune::cut;
@@ -49,7 +49,7 @@ fn timeout_in(value: &[u8]) -> u32
     USUAL_TIMEOUT
 }
 
-#[tactic(auto, unfolding(crate::specs::Fields::without_spaces))]
+#[tactic(auto, unfolding(crate::specs::Fields::text_without_spaces))]
 fn timeout_text(parameter: &[u8]) -> Option<&[u8]>
     ensures text { option_copied result ≡ text_of_timeout parameter.now }
 {
@@ -93,7 +93,7 @@ pub(crate) fn number_u16(text: &[u8]) -> Option<u16>
     }
 }
 
-#[tactic(auto, unfolding(crate::specs::Fields::without_spaces))]
+#[tactic(auto, unfolding(crate::specs::Fields::text_without_spaces))]
 fn without_spaces(text: &[u8]) -> &[u8]
     ensures spaces { result.now ≡ text_without_spaces text.now }
 {

@@ -5,7 +5,7 @@ ghost use Rattle.std.specs.Str.Parse.{digits_value};
 ghost use Rattle.httparse.specs.Grammar.{AllPass, Field, LineEnd, print_end, ReadsSection};
 ghost use Rattle.httparse.specs.Pieces.{IsRunAt};
 ghost use Rattle.httparse.specs.Spans.{IsSectionAt, IsSectionOf, IsSectionWithin};
-ghost use Rattle.satip_reply.specs.Heads.{Head, HasHead, IsReason, is_phrase_byte as is_byte_of_phrase};
+ghost use Rattle.satip_reply.specs.Heads.{Head, HasHead, IsReason, is_byte_of_phrase};
 ghost use Rattle.satip_reply.specs.Places.{HasLine, HasStatus, IsHeadAt, IsHeadWithin, IsLineAt};
 
 use httparse::Status;

@@ -4,7 +4,7 @@ use Rattle.std.specs.List.{suffix_len}
 use Rattle.std.proofs.lemmas.Fmt.{length-decimal-le}
 use Rattle.std.proofs.lemmas.List.{length-take}
 use Rattle.satip_base.proofs.NumberLemmas.{length-decimal_u16, length-decimal_u32, length-decimal_u8}
-use Rattle.satip_tune.specs.Words.{pol_text, system_text, modulation_text, pilots_text, roll_off_text, fec_text}
+use Rattle.satip_tune.specs.Words.{pol_text, system_text, modulation_text, pilots_text_of, roll_off_text, fec_text}
 use Rattle.satip_tune.specs.Pieces.{is_byte}
 use Rattle.satip_tune.specs.Frequency.{frequency_text, fraction_text, without_end_zeros, three_digits}
 use Rattle.satip_tune.specs.declared.signal.Pol.{Pol}
@@ -42,8 +42,8 @@ length-modulation_field None = lit≤ tt
 length-modulation_field (Some Qpsk) = lit≤ tt
 length-modulation_field (Some Psk8) = lit≤ tt
 
-pub length-pilots_field : (pilots : Option Bool) → length (optional_text pilots_text pilots) ≤ 12
-unfolding pilots_text
+pub length-pilots_field : (pilots : Option Bool) → length (optional_text pilots_text_of pilots) ≤ 12
+unfolding pilots_text_of
 length-pilots_field None = lit≤ tt
 length-pilots_field (Some true) = lit≤ tt
 length-pilots_field (Some false) = lit≤ tt

@@ -1,7 +1,7 @@
 -- The SES1 text: what a stream is tuned to, and which PIDs it selects.
 use Rattle.std.specs.Prelude.{ℕ, Bool, true, false, List, [], ◌++◌, decimal, codes, Option, Some, None}
 use Rattle.satip_pids.specs.Texts.{pids_text}
-use Rattle.satip_tune.specs.Words.{pol_text, system_text, modulation_text, pilots_text, roll_off_text, fec_text}
+use Rattle.satip_tune.specs.Words.{pol_text, system_text, modulation_text, pilots_text_of, roll_off_text, fec_text}
 use Rattle.satip_tune.specs.Frequency.{frequency_text}
 use Rattle.satip_tune.specs.declared.tunings.Tuning.{Tuning}
 use Rattle.satip_rtcp.specs.declared.views.StreamView.{StreamView}
@@ -25,7 +25,7 @@ unfoldable pub tuner_text : ℕ → Bool → Tuning → List ℕ
 tuner_text front locked tuning =
     decimal front ++ field (lock_text locked) ++ field (frequency_text tuning.freq) ++ field (pol_text tuning.pol)
     ++ field (system_text tuning.msys) ++ field (optional_text modulation_text tuning.mtype)
-    ++ field (optional_text pilots_text tuning.plts) ++ field (optional_text roll_off_text tuning.ro)
+    ++ field (optional_text pilots_text_of tuning.plts) ++ field (optional_text roll_off_text tuning.ro)
     ++ field (decimal tuning.sr) ++ field (optional_text fec_text tuning.fec)
 
 -- the source and the tuner's fields; an untuned stream has source 1, no front end and no signal

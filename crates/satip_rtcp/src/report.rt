@@ -3,7 +3,7 @@
 ghost use Rattle.std.specs.Prelude.{◌≡◌, ◌≢◌, ◌+◌, ◌<◌, ◌≤◌, length, replicate};
 ghost use Rattle.std.specs.Int.{to_be_bytes, w16, w32};
 ghost use Rattle.satip_base.specs.Output.{Extended, Sends};
-ghost use Rattle.satip_rtcp.specs.Reports.{application, header, ntp_fraction as fraction_of, ntp_seconds as seconds_of, report, rtp_time as time_of, sender_report, source_description};
+ghost use Rattle.satip_rtcp.specs.Reports.{application, header, fraction_of, seconds_of, report, time_of, sender_report, source_description};
 
 use crate::address::write_address;
 use crate::ses1::ses1_text;

@@ -2,7 +2,7 @@
 
 ghost use Rattle.std.specs.Prelude.{◌≡◌, ◌+◌, ◌≤◌, length, decimal};
 ghost use Rattle.satip_base.specs.Printed.{Printed};
-ghost use Rattle.satip_tune.specs.Words.{modulation_text, pilots_text as pilots_text_of, roll_off_text, fec_text};
+ghost use Rattle.satip_tune.specs.Words.{modulation_text, pilots_text_of, roll_off_text, fec_text};
 ghost use Rattle.satip_rtcp.specs.Ses1.{field, lock_text, optional_text, ses1, signal_text, tuner_text};
 
 use crate::views::StreamView;

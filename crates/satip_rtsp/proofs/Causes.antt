@@ -5,7 +5,7 @@ use Rattle.satip_frame.specs.Said.{Said, first_value}
 use Rattle.satip_query.specs.declared.faults.QueryFault.{QueryFault}
 use Rattle.satip_query.specs.declared.queries.Query.{Query}
 use Rattle.satip_rtsp.specs.Targets.{TargetParts, target_of}
-use Rattle.satip_rtsp.specs.Asked.{IsServed, asked, asked_with, cseq_of, is_options, method_named, query_read, required, required_in, with_method, with_query, with_required, with_target, with_version}
+use Rattle.satip_rtsp.specs.Asked.{IsServed, asked, asked_with, cseq_of, is_options_method, method_named, query_read, requirement, required_in, with_method, with_query, with_required, with_target, with_version}
 use Rattle.satip_rtsp.specs.declared.requests.Method.{Method}
 use Rattle.satip_rtsp.specs.declared.requests.Request.{Request}
 use Rattle.satip_rtsp.specs.declared.requests.Refusal.{Refusal}
@@ -34,11 +34,11 @@ target_place n m method (Some target) = query_place n m method target (query_rea
 
 required_place : (n : ℕ) (m : Said) (method : Method) (found : Option (List ℕ)) → 5 ≤ place (with_required n m method found).refusal
 required_place n m method (Some kept) = omega arith
-required_place n m method None = target_place n m method (target_of (is_options method) m.target)
+required_place n m method None = target_place n m method (target_of (is_options_method method) m.target)
 
 method_place : (n : ℕ) (m : Said) (found : Option Method) → 4 ≤ place (with_method n m found).refusal
 method_place n m None = omega arith
-method_place n m (Some method) = omega (arith, required_place n m method (required (first_value (codes "Require") m.headers)))
+method_place n m (Some method) = omega (arith, required_place n m method (requirement (first_value (codes "Require") m.headers)))
 
 version_place : (n : ℕ) (m : Said) (found : Bool) → 3 ≤ place (with_version n m found).refusal
 version_place n m false = omega arith
@@ -55,7 +55,7 @@ later a b k high low e = omega (arith, ap place e)
 method_by : (n : ℕ) (m : Said) (found : Option Method) → ((with_method n m found).refusal ≡ Some BadMethod) ↔ (found ≡ None)
 method_by n m None = (λ e. refl, λ e. refl)
 method_by n m (Some method) =
-    (λ e. absurd (later _ BadMethod 5 (required_place n m method (required (first_value (codes "Require") m.headers))) (omega arith) e), λ e. absurd (cc))
+    (λ e. absurd (later _ BadMethod 5 (required_place n m method (requirement (first_value (codes "Require") m.headers))) (omega arith) e), λ e. absurd (cc))
 
 version_by : (n : ℕ) (m : Said) (found : Bool) → ((with_version n m found).refusal ≡ Some Version) ↔ (found ≡ false)
 version_by n m false = (λ e. refl, λ e. refl)
@@ -81,7 +81,7 @@ same_kept a b e = cc
 required_by : (n : ℕ) (m : Said) (method : Method) (kept : List ℕ) (found : Option (List ℕ))
     → ((with_required n m method found).refusal ≡ Some (Require kept)) ↔ (found ≡ Some kept)
 required_by n m method kept None =
-    (λ e. absurd (later _ (Require kept) 6 (behind_required n m method (target_of (is_options method) m.target)) (omega arith) e), λ e. absurd (cc))
+    (λ e. absurd (later _ (Require kept) 6 (behind_required n m method (target_of (is_options_method method) m.target)) (omega arith) e), λ e. absurd (cc))
 required_by n m method kept (Some value) = (λ e. same_kept value kept e, λ e. cc)
 
 target_by : (n : ℕ) (m : Said) (method : Method) (found : Option TargetParts)
@@ -108,9 +108,9 @@ served m method is =
 -- where the later refusals of a message come
 pub record LaterCauses (m : Said) (refusal : Option Refusal) : Type 0 where
   pub require : (method : Method) (kept : List ℕ) → IsServed m method → (refusal ≡ Some (Require kept)) ↔ (required_in m ≡ Some kept)
-  pub target : (method : Method) → IsServed m method → required_in m ≡ None → (refusal ≡ Some BadTarget) ↔ (target_of (is_options method) m.target ≡ None)
+  pub target : (method : Method) → IsServed m method → required_in m ≡ None → (refusal ≡ Some BadTarget) ↔ (target_of (is_options_method method) m.target ≡ None)
   pub query : (method : Method) (target : TargetParts) (fault : QueryFault) → IsServed m method → required_in m ≡ None
-      → target_of (is_options method) m.target ≡ Some target → (refusal ≡ Some (QueryAt fault)) ↔ (query_read method target.query ≡ Err fault)
+      → target_of (is_options_method method) m.target ≡ Some target → (refusal ≡ Some (QueryAt fault)) ↔ (query_read method target.query ≡ Err fault)
 
 refused_as : (r : Request) (refusal : Refusal) (cause : Type 0) (s : Request) → r ≡ s → ((s.refusal ≡ Some refusal) ↔ cause)
     → (r.refusal ≡ Some refusal) ↔ cause
@@ -122,11 +122,11 @@ later_causes m = record {
       (served m method is)
       (required_by is.number m method kept (required_in m));
   target = λ method is none.
-      let reached : asked m ≡ with_target is.number m method (target_of (is_options method) m.target) =
+      let reached : asked m ≡ with_target is.number m method (target_of (is_options_method method) m.target) =
       cc (served m method is, ap (with_required is.number m method) none) in
-      refused_as (asked m) BadTarget (target_of (is_options method) m.target ≡ None)
-      (with_target is.number m method (target_of (is_options method) m.target)) reached
-      (target_by is.number m method (target_of (is_options method) m.target));
+      refused_as (asked m) BadTarget (target_of (is_options_method method) m.target ≡ None)
+      (with_target is.number m method (target_of (is_options_method method) m.target)) reached
+      (target_by is.number m method (target_of (is_options_method method) m.target));
   query = λ method target fault is none named.
       let reached : asked m ≡ with_query is.number m method target (query_read method target.query) =
       cc (served m method is, ap (with_required is.number m method) none, ap (with_target is.number m method) named) in

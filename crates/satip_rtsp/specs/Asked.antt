@@ -18,7 +18,7 @@ use Rattle.satip_rtsp.specs.declared.requests.Request.{Request}
 use Rattle.satip_rtsp.specs.declared.requests.SessionName.TheVariants.{Absent}
 use Rattle.satip_rtsp.specs.Targets.{TargetParts, target_of}
 use Rattle.satip_rtsp.specs.Sessions.{session_in}
-use Rattle.satip_rtsp.specs.Transports.{acceptable_ports}
+use Rattle.satip_rtsp.specs.Transports.{ports_accepted}
 
 -- the number in the first CSeq, if there is one that fits 32 bits
 unfoldable pub cseq_of : Said → Option ℕ
@@ -35,10 +35,10 @@ method_named word =
     else None
 
 -- what a client requires, where it names something
-abbrev pub required : Option (List ℕ) → Option (List ℕ)
-required None = None
-required (Some []) = None
-required (Some (b ∷ value)) = Some (take 128 (b ∷ value))
+abbrev pub requirement : Option (List ℕ) → Option (List ℕ)
+requirement None = None
+requirement (Some []) = None
+requirement (Some (b ∷ value)) = Some (take 128 (b ∷ value))
 
 -- whether the method reads a query
 abbrev pub reads_query : Method → Bool
@@ -46,13 +46,13 @@ reads_query Setup = true
 reads_query Play = true
 reads_query method = false
 
-abbrev pub is_options : Method → Bool
-is_options Options = true
-is_options method = false
+abbrev pub is_options_method : Method → Bool
+is_options_method Options = true
+is_options_method method = false
 
 -- the ports that a method asks for
 abbrev pub ports_asked : Method → Option (List ℕ) → Option Ports
-ports_asked Setup value = option_and_then acceptable_ports value
+ports_asked Setup value = option_and_then ports_accepted value
 ports_asked method value = None
 
 -- a request that asks for nothing
@@ -102,11 +102,11 @@ with_target n m method (Some target) = with_query n m method target (query_read 
 
 abbrev pub with_required : ℕ → Said → Method → Option (List ℕ) → Request
 with_required n m method (Some kept) = refused (Some n) (Require kept)
-with_required n m method None = with_target n m method (target_of (is_options method) m.target)
+with_required n m method None = with_target n m method (target_of (is_options_method method) m.target)
 
 abbrev pub with_method : ℕ → Said → Option Method → Request
 with_method n m None = refused (Some n) BadMethod
-with_method n m (Some method) = with_required n m method (required (first_value (codes "Require") m.headers))
+with_method n m (Some method) = with_required n m method (requirement (first_value (codes "Require") m.headers))
 
 abbrev pub with_version : ℕ → Said → Bool → Request
 with_version n m false = refused (Some n) Version
@@ -131,9 +131,9 @@ pub record IsServed (m : Said) (method : Method) : Type 0 where
 
 -- the option that a message requires, where it names one
 abbrev pub required_in : Said → Option (List ℕ)
-required_in m = required (first_value (codes "Require") m.headers)
+required_in m = requirement (first_value (codes "Require") m.headers)
 
 -- the request of what is no message
-abbrev pub broken : Break → Request
-broken Bad = refused None Broken
-broken too_long = refused None TooLong
+abbrev pub broken_request : Break → Request
+broken_request Bad = refused None Broken
+broken_request too_long = refused None TooLong

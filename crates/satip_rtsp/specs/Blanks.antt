@@ -1,18 +1,18 @@
 -- Spaces and tabs at the ends of a text.
 use Rattle.std.specs.Prelude.{ℕ, ◌==◌, ◌||◌, Bool, List, [], ◌∷◌, reverse, if◌then◌else◌}
 
-abbrev pub is_blank : ℕ → Bool
-is_blank byte = byte == 32 || byte == 9
+abbrev pub is_space_or_tab : ℕ → Bool
+is_space_or_tab byte = byte == 32 || byte == 9
 
 -- the text without the blanks at its beginning
-abbrev pub trimmed_start : List ℕ → List ℕ
-trimmed_start [] = []
-trimmed_start (b ∷ text) = if is_blank b then trimmed_start text else (b ∷ text)
+abbrev pub start_trimmed : List ℕ → List ℕ
+start_trimmed [] = []
+start_trimmed (b ∷ text) = if is_space_or_tab b then start_trimmed text else (b ∷ text)
 
 -- the text without the blanks at its end
-abbrev pub trimmed_end : List ℕ → List ℕ
-trimmed_end text = reverse (trimmed_start (reverse text))
+abbrev pub end_trimmed : List ℕ → List ℕ
+end_trimmed text = reverse (start_trimmed (reverse text))
 
 -- the text without the blanks at its ends
-unfoldable pub trimmed : List ℕ → List ℕ
-trimmed text = trimmed_end (trimmed_start text)
+unfoldable pub text_trimmed : List ℕ → List ℕ
+text_trimmed text = end_trimmed (start_trimmed text)

@@ -4,7 +4,7 @@ use Rattle.std.specs.List.{before_first}
 use Rattle.satip_base.specs.declared.identity.SessionId.{SessionId}
 use Rattle.satip_base.specs.Texts.{id_of}
 use Rattle.satip_tune.specs.Pieces.{is_byte}
-use Rattle.satip_rtsp.specs.Blanks.{trimmed}
+use Rattle.satip_rtsp.specs.Blanks.{text_trimmed}
 use Rattle.satip_rtsp.specs.declared.requests.SessionName.{SessionName}
 use Rattle.satip_rtsp.specs.declared.requests.SessionName.TheVariants.{Absent, Named, Other}
 
@@ -16,4 +16,4 @@ name_of (Some id) = Named id
 -- the id stands before the first ; of the first Session header
 abbrev pub session_in : Option (List ℕ) → SessionName
 session_in None = Absent
-session_in (Some value) = name_of (id_of (trimmed (before_first (is_byte 59) value)))
+session_in (Some value) = name_of (id_of (text_trimmed (before_first (is_byte 59) value)))

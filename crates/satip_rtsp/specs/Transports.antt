@@ -5,12 +5,12 @@ use Rattle.std.specs.Str.{str_eq_ignore_ascii_case}
 use Rattle.satip_base.specs.Numbers.{number_of}
 use Rattle.satip_base.specs.declared.network.Ports.{Ports}
 use Rattle.satip_tune.specs.Pieces.{is_byte}
-use Rattle.satip_rtsp.specs.Blanks.{trimmed}
-use Rattle.satip_rtsp.specs.Targets.{begins_like}
+use Rattle.satip_rtsp.specs.Blanks.{text_trimmed}
+use Rattle.satip_rtsp.specs.Targets.{is_begun_like}
 
 -- a port that is not 0
-abbrev pub port_up_to : ℕ → List ℕ → Option ℕ
-port_up_to most text = option_and_then (λ n. if n == 0 then None else Some n) (number_of most text)
+abbrev pub port_at_most : ℕ → List ℕ → Option ℕ
+port_at_most most text = option_and_then (λ n. if n == 0 then None else Some n) (number_of most text)
 
 -- a and b
 abbrev pub both_ports : Option ℕ → Option ℕ → Option Ports
@@ -18,42 +18,42 @@ both_ports (Some rtp) (Some rtcp) = Some (record { rtp = rtp; rtcp = rtcp })
 both_ports a b = None
 
 -- the port that a text writes, and the one behind it
-abbrev pub ports_from : List ℕ → Option Ports
-ports_from text = option_map (λ n. record { rtp = n; rtcp = n + 1 }) (port_up_to 65534 text)
+abbrev pub ports_beginning : List ℕ → Option Ports
+ports_beginning text = option_map (λ n. record { rtp = n; rtcp = n + 1 }) (port_at_most 65534 text)
 
 -- the ports that a text writes: two with a dash between them, or the first alone
-unfoldable pub ports_in : List ℕ → Option Ports
-ports_in text =
+unfoldable pub ports_text : List ℕ → Option Ports
+ports_text text =
     if list_any (is_byte 45) text
-    then both_ports (port_up_to 65535 (before_first (is_byte 45) text)) (port_up_to 65535 (after_first (is_byte 45) text))
-    else ports_from text
+    then both_ports (port_at_most 65535 (before_first (is_byte 45) text)) (port_at_most 65535 (after_first (is_byte 45) text))
+    else ports_beginning text
 
 -- whether a parameter is RTP over UDP
-unfoldable pub is_rtp : List ℕ → Bool
-is_rtp parameter =
-    str_eq_ignore_ascii_case (trimmed parameter) (codes "RTP/AVP") || str_eq_ignore_ascii_case (trimmed parameter) (codes "RTP/AVP/UDP")
+unfoldable pub is_rtp_text : List ℕ → Bool
+is_rtp_text parameter =
+    str_eq_ignore_ascii_case (text_trimmed parameter) (codes "RTP/AVP") || str_eq_ignore_ascii_case (text_trimmed parameter) (codes "RTP/AVP/UDP")
 
 -- whether a parameter is `unicast`
-unfoldable pub is_unicast : List ℕ → Bool
-is_unicast parameter = str_eq_ignore_ascii_case (trimmed parameter) (codes "unicast")
+unfoldable pub is_unicast_text : List ℕ → Bool
+is_unicast_text parameter = str_eq_ignore_ascii_case (text_trimmed parameter) (codes "unicast")
 
 -- whether a parameter gives the client's ports
-unfoldable pub gives_ports : List ℕ → Bool
-gives_ports parameter = begins_like (codes "client_port=") (trimmed parameter)
+unfoldable pub is_port_text : List ℕ → Bool
+is_port_text parameter = is_begun_like (codes "client_port=") (text_trimmed parameter)
 
 -- the ports that the first of the parameters which gives any writes
-abbrev pub first_ports : List (List ℕ) → Option Ports
-first_ports parameters = option_and_then (λ parameter. ports_in (drop 12 (trimmed parameter))) (find gives_ports parameters)
+abbrev pub ports_first : List (List ℕ) → Option Ports
+ports_first parameters = option_and_then (λ parameter. ports_text (drop 12 (text_trimmed parameter))) (find is_port_text parameters)
 
 -- the parameters of a transport
 abbrev pub parameters : List ℕ → List (List ℕ)
 parameters transport = slice_split (is_byte 59) transport
 
 -- the ports of a transport that is acceptable: RTP over UDP, unicast, with ports
-unfoldable pub ports_of : List ℕ → Option Ports
-ports_of transport =
-    if is_rtp (before_first (is_byte 59) transport) && list_any is_unicast (parameters transport)
-    then first_ports (parameters transport)
+unfoldable pub ports_by : List ℕ → Option Ports
+ports_by transport =
+    if is_rtp_text (before_first (is_byte 59) transport) && list_any is_unicast_text (parameters transport)
+    then ports_first (parameters transport)
     else None
 
 -- the first that is given
@@ -63,5 +63,5 @@ first_of (None ∷ others) = first_of others
 first_of (Some ports ∷ others) = Some ports
 
 -- the ports of the first acceptable transport of a header's value
-unfoldable pub acceptable_ports : List ℕ → Option Ports
-acceptable_ports value = first_of (map ports_of (slice_split (is_byte 44) value))
+unfoldable pub ports_accepted : List ℕ → Option Ports
+ports_accepted value = first_of (map ports_by (slice_split (is_byte 44) value))

@@ -4,7 +4,7 @@ ghost use Rattle.std.specs.Option.{option_copied, option_map};
 ghost use Rattle.std.specs.Str.{bytes_eq};
 ghost use Rattle.satip_query.specs.Queries.{new_query};
 ghost use Rattle.satip_query.specs.Reading.{Answers};
-ghost use Rattle.satip_rtsp.specs.Asked.{IsServed, asked, blank, broken as broken_request, cseq_of, is_options as is_options_method, method_named, ports_asked, query_read, required as requirement, required_in, with_method, with_target};
+ghost use Rattle.satip_rtsp.specs.Asked.{IsServed, asked, blank, broken_request, cseq_of, is_options_method, method_named, ports_asked, query_read, requirement, required_in, with_method, with_target};
 ghost use Rattle.satip_rtsp.specs.Targets.{TargetParts, target_of};
 
 use crate::short::Short;

@@ -1,7 +1,7 @@
 //! Targets of requests: an optional front, a path and an optional query (RFC 2326, section 3.2).
 ghost use Rattle.std.specs.Prelude.{◌≡◌};
 ghost use Rattle.std.specs.Option.{option_copied};
-ghost use Rattle.satip_rtsp.specs.Targets.{behind_front as front_left, behind_host as host_left, host_length as host_size, parts_behind, parts_of, stream_in, target_of, without_slash as slash_left};
+ghost use Rattle.satip_rtsp.specs.Targets.{front_left, host_left, host_size, parts_behind, parts_of, stream_in, target_of, slash_left};
 
 use crate::texts::{begins_like, begins_with, behind, text_of};
 use satip_base::read_number;
@@ -59,7 +59,7 @@ impl<'a> Target<'a> {
 /// What stands behind the front of a target: the scheme, whose letters may be of either case, and a
 /// host of one or more bytes up to the next `/`, `?` or the end. None where the target has no such
 /// front.
-#[tactic(auto, unfolding(crate::specs::Targets::behind_front))]
+#[tactic(auto, unfolding(crate::specs::Targets::front_left))]
 pub fn behind_front<'a>(scheme: &[u8], text: &'a [u8]) -> Option<&'a [u8]>
     ensures rest { option_copied result ≡ front_left scheme.now text.now }
 {

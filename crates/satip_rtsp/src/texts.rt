@@ -1,13 +1,13 @@
 //! Texts without the blanks at their ends, and how texts begin and go on.
 ghost use Rattle.std.specs.Prelude.{◌≡◌, ◌==◌, ◌||◌, length, take, drop};
 ghost use Rattle.satip_tune.specs.Pieces.{text_left};
-ghost use Rattle.satip_rtsp.specs.Blanks.{is_blank as is_space_or_tab, trimmed as text_trimmed, trimmed_start as start_trimmed, trimmed_end as end_trimmed};
-ghost use Rattle.satip_rtsp.specs.Targets.{begins_like as is_begun_like, begins_with as is_begun_with};
+ghost use Rattle.satip_rtsp.specs.Blanks.{is_space_or_tab, text_trimmed, start_trimmed, end_trimmed};
+ghost use Rattle.satip_rtsp.specs.Targets.{is_begun_like, is_begun_with};
 
 use satip_tune::same_bytes;
 
 /// The text without the spaces and tabs at its ends.
-#[tactic(auto, unfolding(crate::specs::Blanks::trimmed))]
+#[tactic(auto, unfolding(crate::specs::Blanks::text_trimmed))]
 pub fn trimmed(text: &[u8]) -> &[u8]
     ensures trimmed { result.now ≡ text_trimmed text.now }
 {

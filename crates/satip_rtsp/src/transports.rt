@@ -4,7 +4,7 @@ ghost use Rattle.std.specs.Prelude.{◌≡◌, ◌≤◌, IfSome};
 ghost use Rattle.std.specs.List.{list_any};
 ghost use Rattle.std.specs.Option.{option_copied};
 ghost use Rattle.satip_rtsp.specs.Sessions.{session_in};
-ghost use Rattle.satip_rtsp.specs.Transports.{acceptable_ports as ports_accepted, ports_of as ports_by, parameters, is_rtp as is_rtp_text, is_unicast as is_unicast_text, gives_ports as is_port_text, first_ports as ports_first, ports_in as ports_text, ports_from as ports_beginning, port_up_to as port_within};
+ghost use Rattle.satip_rtsp.specs.Transports.{ports_accepted, ports_by, parameters, is_rtp_text, is_unicast_text, is_port_text, ports_first, ports_text, ports_beginning, port_at_most};
 
 use crate::requests::SessionName;
 use crate::texts::{begins_like, behind, text_of, trimmed};
@@ -25,7 +25,7 @@ pub fn session_name(value: Option<&[u8]>) -> SessionName
 }
 
 /// The ports of the first acceptable transport in the value of a `Transport` header.
-#[tactic(auto, unfolding(crate::specs::Transports::acceptable_ports))]
+#[tactic(auto, unfolding(crate::specs::Transports::ports_accepted))]
 pub fn acceptable_ports(value: &[u8]) -> Option<Ports>
     ensures ports { result ≡ ports_accepted value.now }
 {
@@ -40,7 +40,7 @@ pub fn acceptable_ports(value: &[u8]) -> Option<Ports>
     None
 }
 
-#[tactic(auto, unfolding(crate::specs::Transports::ports_of))]
+#[tactic(auto, unfolding(crate::specs::Transports::ports_by))]
 fn ports_of(transport: &[u8]) -> Option<Ports>
     ensures ports { result ≡ ports_by transport.now }
 {
@@ -79,7 +79,7 @@ fn first_ports(transport: &[u8]) -> Option<Ports>
     None
 }
 
-#[tactic(auto, unfolding(crate::specs::Transports::is_rtp))]
+#[tactic(auto, unfolding(crate::specs::Transports::is_rtp_text))]
 fn is_rtp(parameter: &[u8]) -> bool
     ensures test { result ≡ is_rtp_text parameter.now }
 {
@@ -87,21 +87,21 @@ fn is_rtp(parameter: &[u8]) -> bool
     name.eq_ignore_ascii_case(b"RTP/AVP") || name.eq_ignore_ascii_case(b"RTP/AVP/UDP")
 }
 
-#[tactic(auto, unfolding(crate::specs::Transports::is_unicast))]
+#[tactic(auto, unfolding(crate::specs::Transports::is_unicast_text))]
 fn is_unicast(parameter: &[u8]) -> bool
     ensures test { result ≡ is_unicast_text parameter.now }
 {
     trimmed(parameter).eq_ignore_ascii_case(b"unicast")
 }
 
-#[tactic(auto, unfolding(crate::specs::Transports::gives_ports))]
+#[tactic(auto, unfolding(crate::specs::Transports::is_port_text))]
 fn gives_ports(parameter: &[u8]) -> bool
     ensures test { result ≡ is_port_text parameter.now }
 {
     begins_like(b"client_port=", trimmed(parameter))
 }
 
-#[tactic(auto, unfolding(crate::specs::Transports::ports_in))]
+#[tactic(auto, unfolding(crate::specs::Transports::ports_text))]
 fn read_ports(text: &[u8]) -> Option<Ports>
     ensures ports { result ≡ ports_text text.now }
 {
@@ -126,7 +126,7 @@ fn ports_from(text: &[u8]) -> Option<Ports>
 
 #[tactic(auto, using(crate::proofs::CseqLemmas::cseq_bounds))]
 fn read_port(text: &[u8], most: u16) -> Option<u16>
-    ensures port { result ≡ port_within most text.now }
+    ensures port { result ≡ port_at_most most text.now }
     ensures within { IfSome result (λ n. n ≤ most) }
 {
     match read_number(text, most as u64) {

@@ -14,7 +14,7 @@ use Rattle.satip_plain.specs.Values.{IsServable, IsSetting, IsEvent}
 use Rattle.satip_plain.specs.Histories.{Item, Fits, LegalFrom, after, after_from, datagram, opening}
 use Rattle.satip_script.specs.declared.lines.Line.{Line}
 use Rattle.satip_script.specs.declared.lines.Line.TheVariants.{Skip, Event as EventLine, Wrong}
-use Rattle.satip_script.specs.Lines.{lines_of, words_of, is_skipped}
+use Rattle.satip_script.specs.Lines.{lines_of, words_of, is_skipped_text}
 use Rattle.satip_script.specs.Forms.{Form, Rtsp, Http, Other, form_of}
 use Rattle.satip_script.specs.Texts.{Told, Tells, TellsNothing}
 use Rattle.satip_script.specs.Reading.{IsTold, IsFormed, IsLine, rtsp_event, http_event}
@@ -47,7 +47,7 @@ one_by true form a b x y = x ∙ sym y
 one_by false form a b x y = one_formed form a b x y
 
 pub line_is_one : (line : List ℕ) (a b : Line) → IsLine line a → IsLine line b → a ≡ b
-line_is_one line a b x y = one_by (is_skipped line) (form_of (words_of line)) a b x y
+line_is_one line a b x y = one_by (is_skipped_text line) (form_of (words_of line)) a b x y
 
 formed_kept : (form : Option Form) → IsFormed form Skip → ⊥
 formed_kept None x = cc x
@@ -60,8 +60,8 @@ kept_by true form kept x = cc kept
 kept_by false form kept x = formed_kept form x
 
 -- a line that isn't to be skipped is an event or wrong
-pub line_is_kept : (line : List ℕ) → is_skipped line ≡ false → IsLine line Skip → ⊥
-line_is_kept line kept x = kept_by (is_skipped line) (form_of (words_of line)) kept x
+pub line_is_kept : (line : List ℕ) → is_skipped_text line ≡ false → IsLine line Skip → ⊥
+line_is_kept line kept x = kept_by (is_skipped_text line) (form_of (words_of line)) kept x
 
 telling : (text : List ℕ) (event : Told → Event) → ((told : Told) × Tells text told) ⊎ TellsNothing text → (l : Line) × IsTold text event l
 telling text event (inl x) = (EventLine (event x.0), (x.0, x.1, refl))
@@ -78,7 +78,7 @@ some_by true form = (Skip, refl)
 some_by false form = formed form
 
 pub line_is_some : (line : List ℕ) → (l : Line) × IsLine line l
-line_is_some line = some_by (is_skipped line) (form_of (words_of line))
+line_is_some line = some_by (is_skipped_text line) (form_of (words_of line))
 
 -- ---- one script
 

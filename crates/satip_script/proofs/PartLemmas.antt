@@ -18,7 +18,7 @@ use Rattle.satip_script.specs.declared.lines.Line.TheVariants.{Skip, Event as Ev
 use Rattle.satip_script.specs.declared.messages.Look.{Look}
 use Rattle.satip_script.specs.declared.messages.Look.TheVariants.{Whole as LookWhole, NotWhole as LookNotWhole, Nothing}
 use Rattle.satip_script.specs.declared.parts.EventParts.{EventParts}
-use Rattle.satip_script.specs.Lines.{words_of, is_skipped}
+use Rattle.satip_script.specs.Lines.{words_of, is_skipped_text}
 use Rattle.satip_script.specs.Forms.{Form, Rtsp, Http, Other, call_from, form_of, packet_event}
 use Rattle.satip_script.specs.Reading.{IsFormed, IsLine, rtsp_event, http_event}
 use Rattle.satip_script.specs.Texts.{Told, Whole, NotWhole, Tells, request_of, get_of}
@@ -36,7 +36,7 @@ line_by false form other l kept is x = subst (λ f. IsFormed f l) (sym is) x
 
 -- the line is what its parts ask for
 pub line_of_parts : (line : List ℕ) (parts : EventParts) (l : Line) → IsInParts line parts → IsFormed (form_in parts) l → IsLine line l
-line_of_parts line parts l has x = line_by (is_skipped line) (form_of (words_of line)) (form_in parts) l has.kept has.form x
+line_of_parts line parts l has x = line_by (is_skipped_text line) (form_of (words_of line)) (form_in parts) l has.kept has.form x
 
 parts_by : (skipped : Bool) (form other : Option Form) (l : Line) → skipped ≡ false → form ≡ other → MatchBool skipped (l ≡ Skip) (IsFormed form l)
     → IsFormed other l
@@ -45,7 +45,7 @@ parts_by false form other l kept is x = subst (λ f. IsFormed f l) is x
 
 -- and its parts ask for what it is
 pub parts_of_line : (line : List ℕ) (parts : EventParts) (l : Line) → IsInParts line parts → IsLine line l → IsFormed (form_in parts) l
-parts_of_line line parts l has x = parts_by (is_skipped line) (form_of (words_of line)) (form_in parts) l has.kept has.form x
+parts_of_line line parts l has x = parts_by (is_skipped_text line) (form_of (words_of line)) (form_in parts) l has.kept has.form x
 
 -- parts are those of one event
 pub one_event : (parts : EventParts) (e f : Event) → AreParts parts e → AreParts parts f → e ≡ f

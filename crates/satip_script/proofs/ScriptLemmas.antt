@@ -6,7 +6,7 @@ use Rattle.satip_tune.specs.Pieces.{is_byte}
 use Rattle.satip_plain.specs.declared.events.Event.{Event}
 use Rattle.satip_script.specs.declared.lines.Line.TheVariants.{Skip, Event as EventLine, Wrong}
 use Rattle.satip_script.specs.declared.parts.EventParts.{EventParts}
-use Rattle.satip_script.specs.Lines.{lines_of, is_skipped}
+use Rattle.satip_script.specs.Lines.{lines_of, is_skipped_text}
 use Rattle.satip_script.specs.InParts.{AreParts, AreWrong, HasParts, PartsGivenAfter}
 use Rattle.satip_script.specs.Reading.{IsLine}
 use Rattle.satip_script.specs.Scripts.{with_event, ComesTo, IsScript, Gives, IsOver, HasNext, GivenAfter}
@@ -103,7 +103,7 @@ gives_wrong line lines events wrong (number, inr (inl x)) = let no = line_is_one
 gives_wrong line lines events wrong (number, inr (inr x)) = let no = line_is_one line Wrong (EventLine x.0) wrong x.2 in cc no
 
 -- a line that isn't skipped has the first event
-gives_kept : (line : List ℕ) (lines : List (List ℕ)) (events : List Event) → is_skipped line ≡ false → Gives (line ∷ lines) events
+gives_kept : (line : List ℕ) (lines : List (List ℕ)) (events : List Event) → is_skipped_text line ≡ false → Gives (line ∷ lines) events
     → (e : Event) × IsLine line (EventLine e)
 gives_kept line lines events kept (number, inl x) = cc (x.1)
 gives_kept line lines events kept (number, inr (inl x)) = absurd (line_is_kept line kept x.0)

@@ -20,7 +20,7 @@ use Rattle.satip_frame.proofs.StreamLemmas.{begins_unique, begins_and_ends, skip
 use Rattle.satip_frame.proofs.FramerLemmas.{unfinished_short}
 use Rattle.satip_frame.proofs.ReadingLemmas.{reading_of}
 use Rattle.satip_script.specs.declared.messages.Look.{Look}
-use Rattle.satip_script.specs.Inner.{Sees, begins_with_newline}
+use Rattle.satip_script.specs.Inner.{Sees, newline_first}
 use Rattle.satip_digits.proofs.HexDigits.{length-digits}
 use Rattle.satip_script.specs.Texts.{Told, Whole, NotWhole, Tells, TellsNothing}
 
@@ -282,24 +282,24 @@ found_told (Some m) text of told_of same r x y = (Whole m, x, y ∙ sym (same m)
 
 -- ---- line ends at the front, by the first byte
 
-pub skip_first : (text : List ℕ) → begins_with_newline text ≡ true → skip_newlines text ≡ skip_newlines (drop 1 text)
+pub skip_first : (text : List ℕ) → newline_first text ≡ true → skip_newlines text ≡ skip_newlines (drop 1 text)
 skip_first [] e = cc e
 skip_first (b ∷ text) e = rw e refl
 
-pub skip_none : (text : List ℕ) → begins_with_newline text ≡ false → skip_newlines text ≡ text
+pub skip_none : (text : List ℕ) → newline_first text ≡ false → skip_newlines text ≡ text
 skip_none [] e = refl
 skip_none (b ∷ text) e = rw e refl
 
-pub some_first : (text : List ℕ) → begins_with_newline text ≡ true → 1 ≤ length text
+pub some_first : (text : List ℕ) → newline_first text ≡ true → 1 ≤ length text
 some_first [] e = cc e
 some_first (b ∷ text) e = omega arith
 
 pub first_tested : (text out : List ℕ) → 1 ≤ length text → out ≡ take 1 text
-    → begins_with_newline text ≡ (nat_eq (slice_index_or out 0 0) 13 || nat_eq (slice_index_or out 0 0) 10)
+    → newline_first text ≡ (nat_eq (slice_index_or out 0 0) 13 || nat_eq (slice_index_or out 0 0) 10)
 first_tested [] out some e = absurd (omega arith)
 first_tested (b ∷ text) out some e = rw e refl
 
-pub no_first : (text : List ℕ) → length text < 1 → false ≡ begins_with_newline text
+pub no_first : (text : List ℕ) → length text < 1 → false ≡ newline_first text
 no_first [] none = refl
 no_first (b ∷ text) none = absurd (omega arith)
 

@@ -12,27 +12,27 @@ use Rattle.satip_plain.specs.Types.{Draw}
 use Rattle.satip_digits.specs.Digits.{bytes_of, packet_of}
 use Rattle.satip_digits.proofs.HexDigits.{no_digits_read}
 use Rattle.satip_digits.proofs.PacketDigits.{not_all_digits}
-use Rattle.satip_script.specs.Lines.{one_word, two_words, three_words}
+use Rattle.satip_script.specs.Lines.{one_word_of, two_words_of, three_words_of}
 use Rattle.satip_script.specs.Forms.{call_by, call_from, packet_by, packet_event, stop_by}
 use Rattle.satip_script.specs.Parts.{greatest, draw_of}
 
 some_left : (p : ℕ → Bool) (bs : List ℕ) → length (slice_split p bs) ≢ 0
 some_left p bs = omega (arith, length-slice_split p bs)
 
-more_than_one : (a : List ℕ) (ws : List (List ℕ)) → length ws ≢ 0 → one_word (a ∷ ws) ≡ None
-unfolding one_word
+more_than_one : (a : List ℕ) (ws : List (List ℕ)) → length ws ≢ 0 → one_word_of (a ∷ ws) ≡ None
+unfolding one_word_of
 more_than_one a [] some = absurd (some refl)
 more_than_one a (b ∷ ws) some = refl
 
-more_than_two : (a b : List ℕ) (ws : List (List ℕ)) → length ws ≢ 0 → two_words (a ∷ b ∷ ws) ≡ None
-unfolding two_words
+more_than_two : (a b : List ℕ) (ws : List (List ℕ)) → length ws ≢ 0 → two_words_of (a ∷ b ∷ ws) ≡ None
+unfolding two_words_of
 more_than_two a b [] some = absurd (some refl)
 more_than_two a b (c ∷ ws) some = refl
 
-pub past_one : (p : ℕ → Bool) (a bs : List ℕ) → one_word (a ∷ slice_split p bs) ≡ None
+pub past_one : (p : ℕ → Bool) (a bs : List ℕ) → one_word_of (a ∷ slice_split p bs) ≡ None
 past_one p a bs = more_than_one a (slice_split p bs) (some_left p bs)
 
-pub past_two : (p : ℕ → Bool) (a b bs : List ℕ) → two_words (a ∷ b ∷ slice_split p bs) ≡ None
+pub past_two : (p : ℕ → Bool) (a b bs : List ℕ) → two_words_of (a ∷ b ∷ slice_split p bs) ≡ None
 past_two p a b bs = more_than_two a b (slice_split p bs) (some_left p bs)
 
 pub ruleset word_counts = (past_one, past_two)
@@ -93,12 +93,12 @@ is_cut : (bs : List ℕ) → list_any (is_byte 32) bs ≡ true → IsCut (slice_
 is_cut [] some = cc some
 is_cut (b ∷ bs) some = cut_by b bs (is_byte 32 b) refl some (is_cut bs)
 
-past_three : (a b : List ℕ) (parts : List (List ℕ)) → IsCut parts → three_words (a ∷ b ∷ parts) ≡ None
-unfolding three_words
+past_three : (a b : List ℕ) (parts : List (List ℕ)) → IsCut parts → three_words_of (a ∷ b ∷ parts) ≡ None
+unfolding three_words_of
 past_three a b parts cut = rw cut.is refl
 
-only_three : (a b c : List ℕ) (parts : List (List ℕ)) → parts ≡ c ∷ [] → three_words (a ∷ b ∷ parts) ≡ Some (a, b, c)
-unfolding three_words
+only_three : (a b c : List ℕ) (parts : List (List ℕ)) → parts ≡ c ∷ [] → three_words_of (a ∷ b ∷ parts) ≡ Some (a, b, c)
+unfolding three_words_of
 only_three a b c parts is = rw is refl
 
 no_packet : (front tune : Option ℕ) → packet_event front tune None ≡ None
@@ -111,7 +111,7 @@ none_of None e = refl
 none_of (Some x) e = cc e
 
 packet_by_case : (a b bs : List ℕ) (spaced : Bool) → list_any (is_byte 32) bs ≡ spaced
-    → packet_by (three_words (a ∷ b ∷ slice_split (is_byte 32) bs)) ≡ packet_event (number_of 65535 a) (number_of greatest b) (packet_of bs)
+    → packet_by (three_words_of (a ∷ b ∷ slice_split (is_byte 32) bs)) ≡ packet_event (number_of 65535 a) (number_of greatest b) (packet_of bs)
 packet_by_case a b bs true is =
     ap packet_by (past_three a b (slice_split (is_byte 32) bs) (is_cut bs is))
     ∙ sym (ap (packet_event (number_of 65535 a) (number_of greatest b)) (none_of (packet_of bs) (not_all_digits bs (no_digits bs is)))
@@ -120,7 +120,7 @@ packet_by_case a b bs false is = ap packet_by (only_three a b bs (slice_split (i
 
 -- a packet's digits may be told without a look for spaces
 pub packet_of_rest : (a b bs : List ℕ)
-    → packet_by (three_words (a ∷ b ∷ slice_split (is_byte 32) bs)) ≡ packet_event (number_of 65535 a) (number_of greatest b) (packet_of bs)
+    → packet_by (three_words_of (a ∷ b ∷ slice_split (is_byte 32) bs)) ≡ packet_event (number_of 65535 a) (number_of greatest b) (packet_of bs)
 packet_of_rest a b bs = packet_by_case a b bs (list_any (is_byte 32) bs) refl
 
 no_call : (ip : Option ℕ) (draw : Option Draw) → call_from ip draw None ≡ None
@@ -129,7 +129,7 @@ no_call (Some ip) None = refl
 no_call (Some ip) (Some draw) = refl
 
 call_by_case : (a b bs : List ℕ) (spaced : Bool) → list_any (is_byte 32) bs ≡ spaced
-    → call_by (three_words (a ∷ b ∷ slice_split (is_byte 32) bs)) ≡ call_from (ip_of a) (draw_of b) (bytes_of bs)
+    → call_by (three_words_of (a ∷ b ∷ slice_split (is_byte 32) bs)) ≡ call_from (ip_of a) (draw_of b) (bytes_of bs)
 call_by_case a b bs true is =
     ap call_by (past_three a b (slice_split (is_byte 32) bs) (is_cut bs is))
     ∙ sym (ap (call_from (ip_of a) (draw_of b)) (no_digits_read bs (no_digits bs is)) ∙ no_call (ip_of a) (draw_of b))
@@ -137,5 +137,5 @@ call_by_case a b bs false is = ap call_by (only_three a b bs (slice_split (is_by
 
 -- nor those of a text
 pub call_of_rest : (a b bs : List ℕ)
-    → call_by (three_words (a ∷ b ∷ slice_split (is_byte 32) bs)) ≡ call_from (ip_of a) (draw_of b) (bytes_of bs)
+    → call_by (three_words_of (a ∷ b ∷ slice_split (is_byte 32) bs)) ≡ call_from (ip_of a) (draw_of b) (bytes_of bs)
 call_of_rest a b bs = call_by_case a b bs (list_any (is_byte 32) bs) refl

@@ -6,7 +6,7 @@ use Rattle.satip_base.specs.Texts.{id_of}
 use Rattle.satip_plain.specs.declared.events.Event.{Event}
 use Rattle.satip_plain.specs.declared.events.Event.TheVariants.{Tick, Packet, Ended, Ask, Pull, Close, Stop}
 use Rattle.satip_plain.specs.Types.{Draw, Peer}
-use Rattle.satip_script.specs.Lines.{one_word, two_words, three_words}
+use Rattle.satip_script.specs.Lines.{one_word_of, two_words_of, three_words_of}
 use Rattle.satip_digits.specs.Digits.{bytes_of, packet_of}
 use Rattle.satip_script.specs.Parts.{greatest, draw_of}
 
@@ -77,20 +77,20 @@ stop_by (word ∷ words) = None
 -- the event of a kind and the words behind it
 unfoldable pub event_of : List ℕ → List (List ℕ) → Option Event
 event_of kind words =
-    if bytes_eq kind (codes "tick") then tick_by (one_word words)
-    else if bytes_eq kind (codes "packet") then packet_by (three_words words)
-    else if bytes_eq kind (codes "ended") then ended_by (two_words words)
-    else if bytes_eq kind (codes "ask") then ask_by (one_word words)
-    else if bytes_eq kind (codes "pull") then pull_by (one_word words)
-    else if bytes_eq kind (codes "close") then close_by (one_word words)
+    if bytes_eq kind (codes "tick") then tick_by (one_word_of words)
+    else if bytes_eq kind (codes "packet") then packet_by (three_words_of words)
+    else if bytes_eq kind (codes "ended") then ended_by (two_words_of words)
+    else if bytes_eq kind (codes "ask") then ask_by (one_word_of words)
+    else if bytes_eq kind (codes "pull") then pull_by (one_word_of words)
+    else if bytes_eq kind (codes "close") then close_by (one_word_of words)
     else if bytes_eq kind (codes "stop") then stop_by words
     else None
 
 -- what a kind and the words behind it ask for
 unfoldable pub form_named : List ℕ → List (List ℕ) → Option Form
 form_named kind words =
-    if bytes_eq kind (codes "rtsp") then option_map Rtsp (call_by (three_words words))
-    else if bytes_eq kind (codes "http") then option_map Http (call_by (three_words words))
+    if bytes_eq kind (codes "rtsp") then option_map Rtsp (call_by (three_words_of words))
+    else if bytes_eq kind (codes "http") then option_map Http (call_by (three_words_of words))
     else option_map Other (event_of kind words)
 
 -- what a line of these words asks for

@@ -6,7 +6,7 @@ use Rattle.satip_plain.specs.declared.events.Event.TheVariants.{Tick, Ended, Ask
 use Rattle.satip_script.specs.declared.lines.Line.TheVariants.{Skip, Event as EventLine, Wrong}
 use Rattle.satip_script.specs.declared.parts.EventParts.{EventParts}
 use Rattle.satip_script.specs.declared.parts.EventParts.TheVariants.{Rtsp as RtspParts, Http as HttpParts, Tick as TickParts, Packet as PacketParts, Ended as EndedParts, Ask as AskParts, Pull as PullParts, Close as CloseParts, Stop as StopParts, Wrong as WrongParts}
-use Rattle.satip_script.specs.Lines.{words_of, is_skipped}
+use Rattle.satip_script.specs.Lines.{words_of, is_skipped_text}
 use Rattle.satip_script.specs.Forms.{Call, Form, Rtsp, Http, Other, call_from, form_of, packet_event}
 use Rattle.satip_digits.specs.Digits.{bytes_of, packet_of}
 use Rattle.satip_script.specs.Reading.{IsFormed, IsLine}
@@ -44,7 +44,7 @@ AreWrong parts = IsFormed (form_in parts) Wrong
 
 -- the line isn't skipped, and asks for what the parts do
 pub record IsInParts (line : List ℕ) (parts : EventParts) : Type 0 where
-  pub kept : is_skipped line ≡ false
+  pub kept : is_skipped_text line ≡ false
   pub form : form_of (words_of line) ≡ form_in parts
 
 -- the line has these parts, or none where it is skipped

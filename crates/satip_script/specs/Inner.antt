@@ -8,7 +8,7 @@ use Rattle.satip_frame.specs.Stream.{Broken, Begins, Messages}
 use Rattle.satip_plain.specs.Types.{Draw, Peer}
 use Rattle.satip_script.specs.declared.messages.Look.{Look}
 use Rattle.satip_script.specs.declared.messages.Look.TheVariants.{Whole as LookWhole, NotWhole as LookNotWhole, Nothing}
-use Rattle.satip_script.specs.Lines.{three_words}
+use Rattle.satip_script.specs.Lines.{three_words_of}
 use Rattle.satip_script.specs.Forms.{Call}
 use Rattle.satip_script.specs.InParts.{call_in}
 use Rattle.satip_script.specs.Texts.{Told, Tells, TellsNothing}
@@ -22,7 +22,7 @@ pair_now (Some (a, b)) = Some (a.now, b.now)
 
 -- the first two words and what stands behind them, or too few for three words
 abbrev pub AreTwoAndRest : List (List ℕ) → Option (Bor (List ℕ) × Bor (List ℕ) × Bor (List ℕ)) → Type 0
-AreTwoAndRest words None = three_words words ≡ None
+AreTwoAndRest words None = three_words_of words ≡ None
 AreTwoAndRest words (Some (first, second, rest)) = words ≡ first.now ∷ second.now ∷ slice_split (is_byte 32) rest.now
 
 -- the call of who sends, a draw and digits
@@ -31,9 +31,9 @@ call_told None = None
 call_told (Some (peer, draw, digits)) = call_in peer draw digits.now
 
 -- whether a text begins with CR or LF
-abbrev pub begins_with_newline : List ℕ → Bool
-begins_with_newline [] = false
-begins_with_newline (b ∷ text) = is_newline b
+abbrev pub newline_first : List ℕ → Bool
+newline_first [] = false
+newline_first (b ∷ text) = is_newline b
 
 -- what was seen of a text, where the framer holds its message
 abbrev pub Sees : List ℕ → Held → Look → Type 0

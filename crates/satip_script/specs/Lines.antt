@@ -12,21 +12,21 @@ abbrev pub words_of : List ℕ → List (List ℕ)
 words_of line = slice_split (is_byte 32) line
 
 -- an empty line and one that begins with `#` are skipped
-abbrev pub is_skipped : List ℕ → Bool
-is_skipped [] = true
-is_skipped (byte ∷ line) = byte == 35
+abbrev pub is_skipped_text : List ℕ → Bool
+is_skipped_text [] = true
+is_skipped_text (byte ∷ line) = byte == 35
 
 -- the only word
-unfoldable pub one_word : List (List ℕ) → Option (List ℕ)
-one_word (a ∷ []) = Some a
-one_word words = None
+unfoldable pub one_word_of : List (List ℕ) → Option (List ℕ)
+one_word_of (a ∷ []) = Some a
+one_word_of words = None
 
 -- the only two words
-unfoldable pub two_words : List (List ℕ) → Option (List ℕ × List ℕ)
-two_words (a ∷ b ∷ []) = Some (a, b)
-two_words words = None
+unfoldable pub two_words_of : List (List ℕ) → Option (List ℕ × List ℕ)
+two_words_of (a ∷ b ∷ []) = Some (a, b)
+two_words_of words = None
 
 -- the only three words
-unfoldable pub three_words : List (List ℕ) → Option (List ℕ × List ℕ × List ℕ)
-three_words (a ∷ b ∷ c ∷ []) = Some (a, b, c)
-three_words words = None
+unfoldable pub three_words_of : List (List ℕ) → Option (List ℕ × List ℕ × List ℕ)
+three_words_of (a ∷ b ∷ c ∷ []) = Some (a, b, c)
+three_words_of words = None

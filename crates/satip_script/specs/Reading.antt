@@ -4,7 +4,7 @@ use Rattle.satip_plain.specs.declared.events.Event.{Event}
 use Rattle.satip_plain.specs.declared.events.Event.TheVariants.{Request, Get}
 use Rattle.satip_script.specs.declared.lines.Line.{Line}
 use Rattle.satip_script.specs.declared.lines.Line.TheVariants.{Skip, Event as EventLine, Wrong}
-use Rattle.satip_script.specs.Lines.{words_of, is_skipped}
+use Rattle.satip_script.specs.Lines.{words_of, is_skipped_text}
 use Rattle.satip_script.specs.Forms.{Call, Form, Rtsp, Http, Other, form_of}
 use Rattle.satip_script.specs.Texts.{Told, Tells, TellsNothing, request_of, get_of}
 
@@ -29,4 +29,4 @@ IsFormed (Some (Other e)) l = l ≡ EventLine e
 
 -- a line of these bytes is skipped, has this event, or is wrong
 abbrev pub IsLine : List ℕ → Line → Type 0
-IsLine line l = MatchBool (is_skipped line) (l ≡ Skip) (IsFormed (form_of (words_of line)) l)
+IsLine line l = MatchBool (is_skipped_text line) (l ≡ Skip) (IsFormed (form_of (words_of line)) l)

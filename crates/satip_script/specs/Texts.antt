@@ -4,9 +4,9 @@ use Rattle.satip_frame.specs.declared.framing.Break.{Break}
 use Rattle.satip_frame.specs.Said.{Said}
 use Rattle.satip_frame.specs.Stream.{Broken, Begins, Messages}
 use Rattle.satip_rtsp.specs.declared.requests.Request.{Request}
-use Rattle.satip_rtsp.specs.Asked.{asked, broken}
+use Rattle.satip_rtsp.specs.Asked.{asked, broken_request}
 use Rattle.satip_http.specs.declared.requests.HttpRequest.{HttpRequest}
-use Rattle.satip_http.specs.Gets.{asked as asked_over_http, broken as broken_over_http}
+use Rattle.satip_http.specs.Gets.{asked_get, broken_get}
 
 -- one whole message, or what is none
 pub data Told : Type 0 where
@@ -26,9 +26,9 @@ TellsNothing text = (told : Told) → Tells text told → ⊥
 -- the request that is told
 abbrev pub request_of : Told → Request
 request_of (Whole m) = asked m
-request_of (NotWhole cause) = broken cause
+request_of (NotWhole cause) = broken_request cause
 
 -- the request that is told over HTTP
 abbrev pub get_of : Told → HttpRequest
-get_of (Whole m) = asked_over_http m
-get_of (NotWhole cause) = broken_over_http cause
+get_of (Whole m) = asked_get m
+get_of (NotWhole cause) = broken_get cause

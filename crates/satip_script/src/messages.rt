@@ -3,12 +3,12 @@ ghost use Rattle.std.specs.Prelude.{◌≡◌, ℕ, ◌+◌, ◌*◌, ◌≤◌,
 ghost use Rattle.std.specs.Bool.{OnTrue, OnFalse};
 ghost use Rattle.hex.specs.Hex.{decode_of};
 ghost use Rattle.satip_frame.specs.Stream.{Unfinished, skip_newlines, Messages, Leads};
-ghost use Rattle.satip_rtsp.specs.Asked.{asked, broken};
-ghost use Rattle.satip_http.specs.Gets.{asked as asked_over_http, broken as broken_over_http};
+ghost use Rattle.satip_rtsp.specs.Asked.{asked, broken_request};
+ghost use Rattle.satip_http.specs.Gets.{asked_get, broken_get};
 ghost use Rattle.satip_digits.specs.Digits.{bytes_of};
 ghost use Rattle.satip_script.specs.Texts.{request_of, get_of};
 ghost use Rattle.satip_script.specs.InParts.{Asks, AsksNothing};
-ghost use Rattle.satip_script.specs.Inner.{Says, Sees, SeesIn, begins_with_newline as newline_first};
+ghost use Rattle.satip_script.specs.Inner.{Says, Sees, SeesIn, newline_first};
 
 use satip_digits::are_digits;
 use satip_frame::{Break, Framer, Step};
@@ -95,7 +95,7 @@ fn read_found_request(framer: &Framer, into: &mut Request)
 
 fn read_found_get(framer: &Framer, into: &mut HttpRequest)
     requires { IsSome framer.now.found }
-    ensures asked { IsSomeAnd framer.now.found (λ message. into.new ≡ asked_over_http message) }
+    ensures asked { IsSomeAnd framer.now.found (λ message. into.new ≡ asked_get message) }
 {
     match framer.message() {
         Some(get_message) => into.read(&get_message),
@@ -106,14 +106,14 @@ fn read_found_get(framer: &Framer, into: &mut HttpRequest)
 // Not inlined, so that a whole message needs no room for a second request.
 #[inline(never)]
 fn break_request(cause: Break, into: &mut Request)
-    ensures broken { into.new ≡ broken cause }
+    ensures broken { into.new ≡ broken_request cause }
 {
     *into = Request::broken(cause);
 }
 
 #[inline(never)]
 fn break_get(cause: Break, into: &mut HttpRequest)
-    ensures broken { into.new ≡ broken_over_http cause }
+    ensures broken { into.new ≡ broken_get cause }
 {
     *into = HttpRequest::broken(cause);
 }

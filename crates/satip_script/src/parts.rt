@@ -2,7 +2,7 @@
 ghost use Rattle.std.specs.Prelude.{◌≡◌, option_map};
 ghost use Rattle.satip_base.specs.Numbers.{number_of};
 ghost use Rattle.satip_tune.specs.Pieces.{pieces_left};
-ghost use Rattle.satip_script.specs.Lines.{is_skipped as is_skipped_text, one_word as only_word, two_words as only_two, three_words as only_three};
+ghost use Rattle.satip_script.specs.Lines.{is_skipped_text, one_word_of, two_words_of, three_words_of};
 ghost use Rattle.satip_script.specs.Forms.{Rtsp, Http, Other, call_by, form_named, tick_by, packet_by, ended_by, ask_by, pull_by, close_by, stop_by};
 ghost use Rattle.satip_script.specs.InParts.{HasParts, form_in};
 ghost use Rattle.satip_script.specs.Inner.{call_told};
@@ -105,7 +105,7 @@ fn read_kind<'a>(kind: &[u8], rest: Option<&'a [u8]>) -> EventParts<'a>
 
 fn read_rtsp_words<'a>(rest: Option<&'a [u8]>) -> EventParts<'a>
     ensures form { form_in result ≡ option_map Rtsp
-        (call_by (only_three (pieces_left 32 rest.entry))) }
+        (call_by (three_words_of (pieces_left 32 rest.entry))) }
 {
     match call_words(rest) {
         Some((peer, draw, digits)) => EventParts::Rtsp { peer, draw, digits },
@@ -115,7 +115,7 @@ fn read_rtsp_words<'a>(rest: Option<&'a [u8]>) -> EventParts<'a>
 
 fn read_http_words<'a>(rest: Option<&'a [u8]>) -> EventParts<'a>
     ensures form { form_in result ≡ option_map Http
-        (call_by (only_three (pieces_left 32 rest.entry))) }
+        (call_by (three_words_of (pieces_left 32 rest.entry))) }
 {
     match call_words(rest) {
         Some((peer, draw, digits)) => EventParts::Http { peer, draw, digits },
@@ -127,7 +127,7 @@ fn read_http_words<'a>(rest: Option<&'a [u8]>) -> EventParts<'a>
 // there.
 #[tactic(auto, using(crate::proofs::WordLemmas::call_of_rest))]
 fn call_words<'a>(rest: Option<&'a [u8]>) -> Option<(Peer, Draw, &'a [u8])>
-    ensures call { call_told result ≡ call_by (only_three (pieces_left 32 rest.entry)) }
+    ensures call { call_told result ≡ call_by (three_words_of (pieces_left 32 rest.entry)) }
 {
     let Some((peer, draw, digits)) = two_words_and_rest(rest) else {
         return None;
@@ -143,7 +143,7 @@ fn call_words<'a>(rest: Option<&'a [u8]>) -> Option<(Peer, Draw, &'a [u8])>
 
 fn read_tick<'a>(rest: Option<&'a [u8]>) -> EventParts<'a>
     ensures form { form_in result ≡ option_map Other
-        (tick_by (only_word (pieces_left 32 rest.entry))) }
+        (tick_by (one_word_of (pieces_left 32 rest.entry))) }
 {
     let Some(now) = one_word(rest) else {
         return EventParts::Wrong;
@@ -169,7 +169,7 @@ fn read_front(word: &[u8]) -> Option<u16>
 #[tactic(auto, using(crate::proofs::WordLemmas::packet_of_rest))]
 fn read_packet_words<'a>(rest: Option<&'a [u8]>) -> EventParts<'a>
     ensures form { form_in result ≡ option_map Other
-        (packet_by (only_three (pieces_left 32 rest.entry))) }
+        (packet_by (three_words_of (pieces_left 32 rest.entry))) }
 {
     let Some((front, tune, digits)) = two_words_and_rest(rest) else {
         return EventParts::Wrong;
@@ -189,7 +189,7 @@ fn read_packet_words<'a>(rest: Option<&'a [u8]>) -> EventParts<'a>
 
 fn read_ended<'a>(rest: Option<&'a [u8]>) -> EventParts<'a>
     ensures form { form_in result ≡ option_map Other
-        (ended_by (only_two (pieces_left 32 rest.entry))) }
+        (ended_by (two_words_of (pieces_left 32 rest.entry))) }
 {
     let Some((front, tune)) = two_words(rest) else {
         return EventParts::Wrong;
@@ -205,7 +205,7 @@ fn read_ended<'a>(rest: Option<&'a [u8]>) -> EventParts<'a>
 
 fn read_ask<'a>(rest: Option<&'a [u8]>) -> EventParts<'a>
     ensures form { form_in result ≡ option_map Other
-        (ask_by (only_word (pieces_left 32 rest.entry))) }
+        (ask_by (one_word_of (pieces_left 32 rest.entry))) }
 {
     let Some(front) = one_word(rest) else {
         return EventParts::Wrong;
@@ -218,7 +218,7 @@ fn read_ask<'a>(rest: Option<&'a [u8]>) -> EventParts<'a>
 
 fn read_pull<'a>(rest: Option<&'a [u8]>) -> EventParts<'a>
     ensures form { form_in result ≡ option_map Other
-        (pull_by (only_word (pieces_left 32 rest.entry))) }
+        (pull_by (one_word_of (pieces_left 32 rest.entry))) }
 {
     let Some(session) = one_word(rest) else {
         return EventParts::Wrong;
@@ -231,7 +231,7 @@ fn read_pull<'a>(rest: Option<&'a [u8]>) -> EventParts<'a>
 
 fn read_close<'a>(rest: Option<&'a [u8]>) -> EventParts<'a>
     ensures form { form_in result ≡ option_map Other
-        (close_by (only_word (pieces_left 32 rest.entry))) }
+        (close_by (one_word_of (pieces_left 32 rest.entry))) }
 {
     let Some(session) = one_word(rest) else {
         return EventParts::Wrong;

@@ -2,7 +2,7 @@
 ghost use Rattle.std.specs.Prelude.{◌≡◌, option_map};
 ghost use Rattle.std.specs.Option.{option_copied};
 ghost use Rattle.satip_tune.specs.Pieces.{pieces_left};
-ghost use Rattle.satip_script.specs.Lines.{one_word as only_word, two_words as only_two};
+ghost use Rattle.satip_script.specs.Lines.{one_word_of, two_words_of};
 ghost use Rattle.std.specs.Int.{from_be_bytes, w16, w32};
 ghost use Rattle.satip_script.specs.Parts.{draw_of};
 ghost use Rattle.satip_digits.specs.Digits.{sized_bytes};
@@ -14,9 +14,9 @@ use satip_base::Draw;
 const SPACE: u8 = b' ';
 
 /// The only word of what is left of a line.
-#[tactic(auto, using(crate::proofs::WordLemmas::word_counts), unfolding(crate::specs::Lines::one_word))]
+#[tactic(auto, using(crate::proofs::WordLemmas::word_counts), unfolding(crate::specs::Lines::one_word_of))]
 pub(crate) fn one_word<'a>(rest: Option<&'a [u8]>) -> Option<&'a [u8]>
-    ensures word { option_copied result ≡ only_word (pieces_left 32 rest.entry) }
+    ensures word { option_copied result ≡ one_word_of (pieces_left 32 rest.entry) }
 {
     let Some(rest) = rest else {
         return None;
@@ -28,9 +28,9 @@ pub(crate) fn one_word<'a>(rest: Option<&'a [u8]>) -> Option<&'a [u8]>
 }
 
 /// The only two words of what is left of a line.
-#[tactic(auto, using(crate::proofs::WordLemmas::word_counts), unfolding(crate::specs::Lines::two_words))]
+#[tactic(auto, using(crate::proofs::WordLemmas::word_counts), unfolding(crate::specs::Lines::two_words_of))]
 pub(crate) fn two_words<'a>(rest: Option<&'a [u8]>) -> Option<(&'a [u8], &'a [u8])>
-    ensures words { pair_now result ≡ only_two (pieces_left 32 rest.entry) }
+    ensures words { pair_now result ≡ two_words_of (pieces_left 32 rest.entry) }
 {
     let Some(rest) = rest else {
         return None;
@@ -46,7 +46,7 @@ pub(crate) fn two_words<'a>(rest: Option<&'a [u8]>) -> Option<(&'a [u8], &'a [u8
 
 /// The first two words of what is left of a line, and what stands behind them, with any spaces that
 /// it has; None where there is nothing behind them.
-#[tactic(auto, unfolding(crate::specs::Lines::three_words))]
+#[tactic(auto, unfolding(crate::specs::Lines::three_words_of))]
 pub(crate) fn two_words_and_rest<'a>(
     rest: Option<&'a [u8]>,
 ) -> Option<(&'a [u8], &'a [u8], &'a [u8])>

@@ -8,7 +8,7 @@ use Rattle.std.proofs.lemmas.List.{map-append}
 use Rattle.satip_history.specs.Lists.{Each, Has}
 use Rattle.satip_table.specs.declared.session.Seat.{Seat}
 use Rattle.satip_table.specs.declared.stream.Stream.{Stream as StreamRow}
-use Rattle.satip_table.specs.Sessions.{has_id, is_in, without}
+use Rattle.satip_table.specs.Sessions.{has_id_of, is_in, without}
 use Rattle.satip_table.specs.Streams.{kept_streams, re_owned, lasts}
 use Rattle.satip_table.specs.Living.{Living, Sound, Owned}
 use Rattle.satip_table.proofs.SeatLaws.{some_owner}
@@ -338,7 +338,7 @@ pub others_seats : (seated : List Seated) (x : Seated) (alone : Alone seated x)
     → without x.session.id (map seat_of seated) ≡ map seat_of (alone.before ++ alone.behind)
 unfolding row_of
 others_seats seated x alone =
-    filter-map seat_of (λ seat. not (has_id x.session.id seat)) seated
+    filter-map seat_of (λ seat. not (has_id_of x.session.id seat)) seated
     ∙ ap (λ xs. map seat_of (filter (λ y. not (has_session x.session.id y)) xs)) alone.whole
     ∙ ap (map seat_of) (filter_one (has_session x.session.id) alone.before x alone.behind alone.id_before (id_itself x.session.id) alone.id_behind)
 

@@ -7,7 +7,7 @@ use Rattle.std.proofs.lemmas.Bool.{or_parts, or_cases, and_parts, eqb-true, true
 use Rattle.std.proofs.lemmas.Option.{same_Some}
 use Rattle.satip_history.specs.Lists.{Has}
 use Rattle.satip_table.specs.declared.session.Seat.{Seat}
-use Rattle.satip_table.specs.Sessions.{has_id, has_slot}
+use Rattle.satip_table.specs.Sessions.{has_id_of, has_slot}
 use Rattle.satip_table.specs.Living.{Sound, SlotsApart}
 use Rattle.satip_timer.specs.Deadlines.{IsNextDue, NoneDue, HasDeadline}
 use Rattle.satip_fronts.specs.FrontEnds.{Sound as FrontsSound}
@@ -190,7 +190,7 @@ pub key_low : (dues : List (Option ℕ)) (now slot : ℕ) → length dues ≡ 64
 key_low dues now slot long next = subst (λ n. slot < n) long (get_low dues slot (Some next.moment) next.its)
 
 -- a slot's seat lives
-pub slot_lives : (slot : ℕ) (seats : List Seat) (seat : Seat) → find (has_slot slot) seats ≡ Some seat → list_any (has_id seat.session.id) seats ≡ true
+pub slot_lives : (slot : ℕ) (seats : List Seat) (seat : Seat) → find (has_slot slot) seats ≡ Some seat → list_any (has_id_of seat.session.id) seats ≡ true
 slot_lives slot seats seat found =
     let p = find_place (has_slot slot) seats seat found in
-    any_from_get (has_id seat.session.id) seats p.0 seat p.1 (id_itself seat.session.id)
+    any_from_get (has_id_of seat.session.id) seats p.0 seat p.1 (id_itself seat.session.id)

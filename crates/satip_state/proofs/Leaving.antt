@@ -9,7 +9,7 @@ use Rattle.satip_base.specs.declared.identity.SessionId.{SessionId}
 use Rattle.satip_rtp.specs.Sending.{SendsAll}
 use Rattle.satip_history.proofs.Elements.{each_at}
 use Rattle.satip_table.specs.declared.session.Seat.{Seat}
-use Rattle.satip_table.specs.Sessions.{has_id, without}
+use Rattle.satip_table.specs.Sessions.{has_id_of, without}
 use Rattle.satip_table.specs.Streams.{is_live, kept_streams}
 use Rattle.satip_table.specs.Living.{Sound}
 use Rattle.satip_table.proofs.Listing.{find_any}
@@ -37,21 +37,21 @@ use Rattle.satip_state.proofs.Ended.{lasting, rising, stands_ended, ending_sends
 use Rattle.satip_state.proofs.Ended.{without_changed}
 
 -- an id lives in the table where it does in the plain state
-row_has : (id : SessionId) (xs : List Seated) → list_any (has_id id) (map seat_of xs) ≡ list_any (has_session id) xs
+row_has : (id : SessionId) (xs : List Seated) → list_any (has_id_of id) (map seat_of xs) ≡ list_any (has_session id) xs
 unfolding row_of
-row_has id xs = any-map seat_of (has_id id) xs
+row_has id xs = any-map seat_of (has_id_of id) xs
 
 pub lives_same : (c : Config) (v : Kept) (st : State) → StandsFor c v st → (id : SessionId)
-    → list_any (has_id id) v.table.seats ≡ list_any (is_session id) st.sessions
+    → list_any (has_id_of id) v.table.seats ≡ list_any (is_session id) st.sessions
 lives_same c v st stands id =
-    ap (list_any (has_id id)) stands.seats
+    ap (list_any (has_id_of id)) stands.seats
     ∙ row_has id stands.seated
     ∙ sym (any-map (λ (y : Seated). y.session) (is_session id) stands.seated)
     ∙ ap (list_any (is_session id)) (sym stands.sessions)
 
-pub found_lives : (c : Config) (v : Kept) (st : State) → StandsFor c v st → (id : SessionId) (o : Option Seat) → o ≡ find (has_id id) v.table.seats
+pub found_lives : (c : Config) (v : Kept) (st : State) → StandsFor c v st → (id : SessionId) (o : Option Seat) → o ≡ find (has_id_of id) v.table.seats
     → is_some o ≡ list_any (is_session id) st.sessions
-found_lives c v st stands id o found = ap is_some found ∙ find_any (has_id id) v.table.seats ∙ lives_same c v st stands id
+found_lives c v st stands id o found = ap is_some found ∙ find_any (has_id_of id) v.table.seats ∙ lives_same c v st stands id
 
 -- what goes with a session at a place
 pub record Gone (x : Seated) (v w : Kept) : Type 0 where
@@ -141,10 +141,10 @@ pub record Found (c : Config) (v : Kept) (st : State) (stands : StandsFor c v st
   pub stream_is : seat.session.stream ≡ who.session.stream
   pub seat_is : seat ≡ seat_of who
 
-pub found : (c : Config) (v : Kept) (st : State) (stands : StandsFor c v st) (id : SessionId) (seat : Seat) → find (has_id id) v.table.seats ≡ Some seat
+pub found : (c : Config) (v : Kept) (st : State) (stands : StandsFor c v st) (id : SessionId) (seat : Seat) → find (has_id_of id) v.table.seats ≡ Some seat
     → Found c v st stands id seat
 found c v st stands id seat at =
-    let p = find_place (has_id id) v.table.seats seat at in
+    let p = find_place (has_id_of id) v.table.seats seat at in
     let r = seated_at c v st stands p.0 seat p.1 in
     let back : seat ≡ seat_of r.0 = sym r.2 in
     record {
@@ -176,7 +176,7 @@ gone_of id seat v w x id_is slot_is stream_is r = record {
 
 -- the same told of the seat that the id has
 pub seat_gone : (c : Config) (v w : Kept) (st : State) → StandsFor c v st → Sound v.table → FrontsSound v.fronts → (id : SessionId) (seat : Seat)
-    → find (has_id id) v.table.seats ≡ Some seat
+    → find (has_id_of id) v.table.seats ≡ Some seat
     → Removed id seat v w → StandsFor c w (end_where (is_session id) st).state
 seat_gone c v w st stands sound fronts id seat at removed =
     let f = found c v st stands id seat at in
@@ -185,7 +185,7 @@ seat_gone c v w st stands sound fronts id seat at removed =
 
 -- and what left before it was gone
 seat_sends : (c : Config) (v : Kept) (st : State) → StandsFor c v st → Sound v.table → (id : SessionId) (seat : Seat)
-    → find (has_id id) v.table.seats ≡ Some seat
+    → find (has_id_of id) v.table.seats ≡ Some seat
     → flushed_datagrams v.clock (feed_of_slot seat.slot v.flow) ≡ map datagram (end_where (is_session id) st).sent
 seat_sends c v st stands sound id seat at =
     let f = found c v st stands id seat at in
@@ -214,7 +214,7 @@ flush_before id seat v w r = record {
 }
 
 pub seat_left : (c : Config) (v w : Kept) (o n : Output) (st : State) → StandsFor c v st → Sound v.table → FrontsSound v.fronts → (id : SessionId) (seat : Seat)
-    → find (has_id id) v.table.seats ≡ Some seat → (flow : List Subscription) → flow ≡ change_slot seat.slot flushed v.flow
+    → find (has_id_of id) v.table.seats ≡ Some seat → (flow : List Subscription) → flow ≡ change_slot seat.slot flushed v.flow
     → Removed id seat (record v { flow = flow }) w
     → SendsAll o (flushed_datagrams v.clock (feed_of_slot seat.slot v.flow)) n → Moved c w o n (end_where (is_session id) st)
 seat_left c v w o n st stands sound fronts id seat at flow same removed sends = record {

@@ -11,7 +11,7 @@ use Rattle.satip_base.specs.declared.identity.SessionId.{SessionId}
 use Rattle.satip_table.specs.declared.session.Session.{Session as Row}
 use Rattle.satip_table.specs.declared.session.Seat.{Seat}
 use Rattle.satip_table.specs.declared.stream.Stream.{Stream as StreamRow}
-use Rattle.satip_table.specs.Sessions.{has_id, is_in, owner_of, id_eq}
+use Rattle.satip_table.specs.Sessions.{has_id_of, is_in, owner_of, id_eq}
 use Rattle.satip_table.specs.Streams.{has_number, is_live}
 use Rattle.satip_table.specs.Living.{Sound, CountsRise, Owned, is_full}
 use Rattle.satip_table.proofs.Listing.{find_any}
@@ -104,15 +104,15 @@ http_row (Some s) = by s.http
 
 -- the row of an id is that of the one session
 row_found : (c : Config) (v : Kept) (st : State) (id : SessionId) (found : Option Row) → StandsFor c v st
-    → found ≡ option_map (λ (seat : Seat). seat.session) (find (has_id id) v.table.seats)
+    → found ≡ option_map (λ (seat : Seat). seat.session) (find (has_id_of id) v.table.seats)
     → (stands : StandsFor c v st) → found ≡ option_map row_of (find (λ s. same_id s.id id) (sessions_in stands.seated))
 unfolding row_of
 row_found c v st id found _ is stands =
-    is ∙ ap (λ (seats : List Seat). option_map (λ (seat : Seat). seat.session) (find (has_id id) seats)) stands.seats
+    is ∙ ap (λ (seats : List Seat). option_map (λ (seat : Seat). seat.session) (find (has_id_of id) seats)) stands.seats
     ∙ seats_find (λ r. id_eq r.id id) stands.seated
 
 pub rtsp_looked : (c : Config) (v : Kept) (st : State) (id : SessionId) (found : Option Row) → StandsFor c v st → Sound v.table
-    → found ≡ option_map (λ (seat : Seat). seat.session) (find (has_id id) v.table.seats)
+    → found ≡ option_map (λ (seat : Seat). seat.session) (find (has_id_of id) v.table.seats)
     → if_rtsp found ≡ option_map row_of (rtsp_session st id)
 rtsp_looked c v st id found stands sound is =
     let rise = subst (λ (seats : List Seat). CountsRise 0 v.table.made seats) stands.seats sound.counts in
@@ -121,7 +121,7 @@ rtsp_looked c v st id found stands sound is =
     ∙ ap (find (λ s. same_id s.id id && not s.http)) (sym stands.sessions))
 
 pub http_looked : (c : Config) (v : Kept) (st : State) (id : SessionId) (found : Option Row) → StandsFor c v st → Sound v.table
-    → found ≡ option_map (λ (seat : Seat). seat.session) (find (has_id id) v.table.seats)
+    → found ≡ option_map (λ (seat : Seat). seat.session) (find (has_id_of id) v.table.seats)
     → if_http found ≡ option_map row_of (http_session st id)
 http_looked c v st id found stands sound is =
     let rise = subst (λ (seats : List Seat). CountsRise 0 v.table.made seats) stands.seats sound.counts in
@@ -281,7 +281,7 @@ only_by id ss row false (Some r) (Some s) kind is same at =
     ap (λ (i : SessionId). option_map (λ (s : Session). s.http) (find (is_session i) ss)) own ∙ ap (option_map (λ (s : Session). s.http)) at ∙ ap Some http
 
 pub only_looked : (c : Config) (v : Kept) (st : State) (id : SessionId) (row : Row) (result : Option Row) → StandsFor c v st → result ≡ if_rtsp (Some row)
-    → Some row ≡ option_map (λ (seat : Seat). seat.session) (find (has_id id) v.table.seats)
+    → Some row ≡ option_map (λ (seat : Seat). seat.session) (find (has_id_of id) v.table.seats)
     → IfSome result (λ r. option_map (λ (s : Session). s.http) (find (is_session r.id) st.sessions) ≡ Some false)
 only_looked c v st id row result stands is found =
     only_by id st.sessions row row.http result (find (is_session id) st.sessions) refl is

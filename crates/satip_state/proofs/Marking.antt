@@ -12,7 +12,7 @@ use Rattle.satip_base.specs.declared.identity.SessionId.{SessionId}
 use Rattle.satip_history.specs.Lists.{Each, Has}
 use Rattle.satip_history.proofs.Elements.{each_at, each_has}
 use Rattle.satip_table.specs.declared.session.Seat.{Seat}
-use Rattle.satip_table.specs.Sessions.{has_id, has_slot, without}
+use Rattle.satip_table.specs.Sessions.{has_id_of, has_slot, without}
 use Rattle.satip_table.specs.Living.{Sound, SlotsApart}
 use Rattle.satip_plain.specs.Types.{Config}
 use Rattle.satip_plain.specs.State.{Session, State}
@@ -149,14 +149,14 @@ marked_ended c v w st ends marks slot e sound seat found bit after seats =
       who = both;
       some = λ s h. elim (or_cases (e.who s) (one s) h) [ inl first ↦ e.some s first | inr other ↦ (and_parts (is_session id s) (ends s.id) other).1 ];
       stands = subst (λ z. StandsFor c w z) is_state after;
-      marked = subst (Each (IsMarked marks ends)) (sym seats) (each_filter (IsMarked marks ends) (λ z. not (has_id id z)) v.table.seats e.marked);
+      marked = subst (Each (IsMarked marks ends)) (sym seats) (each_filter (IsMarked marks ends) (λ z. not (has_id_of id z)) v.table.seats e.marked);
       clear = subst (Each (λ z. z.slot < slot + 1 → ends z.session.id ≡ false)) (sym seats)
           (next_clear (without id v.table.seats) ends slot
-          (each_filter (λ z. z.slot < slot → ends z.session.id ≡ false) (λ z. not (has_id id z)) v.table.seats e.clear)
+          (each_filter (λ z. z.slot < slot → ends z.session.id ≡ false) (λ z. not (has_id_of id z)) v.table.seats e.clear)
           (λ other has at.
-          let it : other ≡ seat = slots_once v.table.seats slot seat other sound.slots found (filter_in (λ z. not (has_id id z)) v.table.seats other has) at in
-          let not_it : has_id id other ≡ false = not-true (has_id id other) (filter_passing (λ z. not (has_id id z)) v.table.seats other has) in
-          absurd (true≢false (sym (ap (λ (z : Seat). has_id id z) it ∙ id_itself id) ∙ not_it))));
+          let it : other ≡ seat = slots_once v.table.seats slot seat other sound.slots found (filter_in (λ z. not (has_id_of id z)) v.table.seats other has) at in
+          let not_it : has_id_of id other ≡ false = not-true (has_id_of id other) (filter_passing (λ z. not (has_id_of id z)) v.table.seats other has) in
+          absurd (true≢false (sym (ap (λ (z : Seat). has_id_of id z) it ∙ id_itself id) ∙ not_it))));
     }
 
 -- in the end all are gone that were to end

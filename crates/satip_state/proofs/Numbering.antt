@@ -3,7 +3,7 @@ use Rattle.std.proofs.Common.{◌≡◌, ◌∙◌, ◌+◌, ◌%◌, Bool, true
 use Rattle.std.specs.Option.{option_map, option_map_or, option_and_then}
 use Rattle.satip_base.specs.declared.identity.SessionId.{SessionId}
 use Rattle.satip_table.specs.declared.session.Seat.{Seat}
-use Rattle.satip_table.specs.Sessions.{has_id}
+use Rattle.satip_table.specs.Sessions.{has_id_of}
 use Rattle.satip_table.specs.Living.{Sound}
 use Rattle.satip_flow.specs.declared.place.SenderState.{SenderState}
 use Rattle.satip_flow.specs.Subscription.{Subscription, has_slot, sender_state, packing_of as packing_in}
@@ -53,16 +53,16 @@ number_is x t subs kept found = by x.session.http x.session.playing refl refl
         let same : x.session.first ≡ (x.session.first + length x.session.sizes) % 65536 = omega (arith, none, kept.first) in
         at ∙ sender_idle x t p ∙ same
 
-seat_found : (id : SessionId) (xs : List Seated) → find (has_id id) (map seat_of xs) ≡ option_map seat_of (find (has_session id) xs)
+seat_found : (id : SessionId) (xs : List Seated) → find (has_id_of id) (map seat_of xs) ≡ option_map seat_of (find (has_session id) xs)
 unfolding row_of
-seat_found id xs = find-map seat_of (has_id id) xs
+seat_found id xs = find-map seat_of (has_id_of id) xs
 
 -- the next number of the session of a seat
 pub number_looked : (c : Config) (v : Kept) (st : State) (id : SessionId) (seat : Option Seat) → StandsFor c v st → Sound v.table
-    → seat ≡ find (has_id id) v.table.seats
+    → seat ≡ find (has_id_of id) v.table.seats
     → kept_number (sender_in v seat) seat ≡ rtsp_number (find (is_session id) st.sessions)
 number_looked c v st id seat stands sound is =
-    let kept = is ∙ ap (find (has_id id)) stands.seats ∙ seat_found id stands.seated in
+    let kept = is ∙ ap (find (has_id_of id)) stands.seats ∙ seat_found id stands.seated in
     let known = ap (find (is_session id)) stands.sessions ∙ find-map (λ (x : Seated). x.session) (is_session id) stands.seated in
     ap (λ s. kept_number (sender_in v s) s) kept ∙ by (find (has_session id) stands.seated) refl ∙ ap rtsp_number (sym known)
   where

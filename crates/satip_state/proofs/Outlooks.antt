@@ -8,7 +8,7 @@ use Rattle.std.proofs.lemmas.Bool.{eqb-true, eq-eqb, ne_eqb, or_left, or_right, 
 use Rattle.satip_history.specs.Lists.{Each}
 use Rattle.satip_table.specs.declared.stream.Stream.{Stream as StreamRow}
 use Rattle.satip_table.specs.Living.{Sound, NumbersRise}
-use Rattle.satip_tune.specs.Frontends.{mux_of}
+use Rattle.satip_tune.specs.Frontends.{mux_for}
 use Rattle.satip_tune.specs.declared.frontends.Front.{Front}
 use Rattle.satip_tune.specs.declared.frontends.Mux.{Mux}
 use Rattle.satip_tune.specs.declared.tunings.Tuning.{Tuning}
@@ -252,8 +252,8 @@ pub blocked_same : (c : Config) (v : Kept) (st : State) (stream : Option ℕ) (t
     → blocked_for v.fronts stream tuning ≡ is_blocked c st stream tuning
 unfolding blocked_for
 blocked_same c v st stream tuning stands sound known =
-    ap (λ (o : Outlook). blocked o (mux_of v.fronts.muxes tuning) tuning) (outlooks_same c v st stream stands sound known)
-    ∙ ap (λ (ms : List Mux). blocked (outlook_for c st stream) (mux_of ms tuning) tuning) stands.muxes
+    ap (λ (o : Outlook). blocked o (mux_for v.fronts.muxes tuning) tuning) (outlooks_same c v st stream stands sound known)
+    ∙ ap (λ (ms : List Mux). blocked (outlook_for c st stream) (mux_for ms tuning) tuning) stands.muxes
 
 -- a number that no stream has excludes none
 none_excluded : (above n f : ℕ) (ts : List Stream) → Rise above ts → Each (λ (t : Stream). t.number ≤ 64) ts → ((m : ℕ) → above < m → m ≤ 64 → m ≢ n)
@@ -277,7 +277,7 @@ unnumbered_same : (c : Config) (v : Kept) (st : State) (number : ℕ) (tuning : 
     → ((m : ℕ) → 0 < m → m ≤ 64 → m ≢ number) → is_blocked c st None tuning ≡ is_blocked c st (Some number) tuning
 unfolding blocked
 unnumbered_same c v st number tuning stands sound apart =
-    ap (λ (shared : ℕ → Bool). blocked (record (new_outlook_of c st) { shared = shared }) (mux_of c.muxes tuning) tuning)
+    ap (λ (shared : ℕ → Bool). blocked (record (new_outlook_of c st) { shared = shared }) (mux_for c.muxes tuning) tuning)
     (sym (fun_ext (λ f. none_excluded 0 number f st.streams (streams_rise c v st stands sound) stands.numbers apart)))
 
 pub blocked_looked : (c : Config) (v : Kept) (st : State) (stream : Option ℕ) (tuning : Tuning) → StandsFor c v st → Sound v.table

@@ -8,7 +8,7 @@ use Rattle.std.proofs.lemmas.List.{length-drop}
 use Rattle.satip_base.specs.Output.{Output, Wrote}
 use Rattle.satip_base.specs.declared.identity.SessionId.{SessionId}
 use Rattle.satip_table.specs.declared.session.Seat.{Seat}
-use Rattle.satip_table.specs.Sessions.{has_id}
+use Rattle.satip_table.specs.Sessions.{has_id_of}
 use Rattle.satip_table.specs.Living.{Sound}
 use Rattle.satip_flow.specs.Subscription.{Subscription, ToAddress, ToQueue, has_slot, pulled, pulled_feed, queue_of, pulled_bytes, WrotePulled}
 use Rattle.satip_flow.specs.Subscriptions.{change_slot, of_slot, queue_of_slot}
@@ -210,7 +210,7 @@ row_http x = refl
 
 -- none where the id's session has another kind, or nobody has it
 pub no_http : (c : Config) (v : Kept) (st : State) → StandsFor c v st → Sound v.table → (id : SessionId) (seat : Seat)
-    → find (has_id id) v.table.seats ≡ Some seat → seat.session.http ≡ false
+    → find (has_id_of id) v.table.seats ≡ Some seat → seat.session.http ≡ false
     → http_session st id ≡ None
 no_http c v st stands sound id seat at rtsp =
     let f = found c v st stands id seat at in
@@ -218,7 +218,7 @@ no_http c v st stands sound id seat at rtsp =
     let http : f.who.session.http ≡ false = sym (row_http f.who) ∙ ap (λ (z : Seat). z.session.http) (sym f.seat_is) ∙ rtsp in
     ap (http_session st) f.id_is ∙ http_is st stands.seated f.who alone.alone stands.sessions ∙ ap (λ b. cond b (Some f.who.session) None) http
 
-pub no_session : (c : Config) (v : Kept) (st : State) → StandsFor c v st → (id : SessionId) → None ≡ find (has_id id) v.table.seats → http_session st id ≡ None
+pub no_session : (c : Config) (v : Kept) (st : State) → StandsFor c v st → (id : SessionId) → None ≡ find (has_id_of id) v.table.seats → http_session st id ≡ None
 no_session c v st stands id none = http_nobody st id (sym (found_lives c v st stands id None none))
 
 abbrev pub pull_with : State → Option Session → Outcome
@@ -265,7 +265,7 @@ pub record Pulls (c : Config) (v : Kept) (st : State) (stands : StandsFor c v st
   pub queue : queue_of_slot seat.slot v.flow ≡ Some (held who.session)
 
 pub pulls : (c : Config) (v : Kept) (st : State) (stands : StandsFor c v st) → Sound v.table → (id : SessionId) (seat : Seat)
-    → find (has_id id) v.table.seats ≡ Some seat → seat.session.http ≡ true
+    → find (has_id_of id) v.table.seats ≡ Some seat → seat.session.http ≡ true
     → Pulls c v st stands id seat
 pulls c v st stands sound id seat at is_http =
     let f = found c v st stands id seat at in

@@ -21,7 +21,7 @@ use Rattle.satip_table.specs.declared.session.Seat.{Seat}
 use Rattle.satip_table.specs.declared.session.Session.{Session as TableRow}
 use Rattle.satip_table.specs.declared.session.NewSession.{NewSession}
 use Rattle.satip_table.specs.declared.stream.Stream.{Stream as StreamRow}
-use Rattle.satip_table.specs.Sessions.{Adds, has_id, has_slot, next_id as id_after, session_of}
+use Rattle.satip_table.specs.Sessions.{Adds, has_id_of, has_slot, following_id, session_of}
 use Rattle.satip_table.specs.Streams.{fresh, gap, has_number, is_live, least_number, put_stream as put_row}
 use Rattle.satip_table.specs.Living.{Living, Sound, CountsRise, is_full as is_full_table}
 use Rattle.satip_table.proofs.StreamLaws.{is_gap}
@@ -218,7 +218,7 @@ new_kept st http peer draw ports number early first = record {
 
 pub new_row : (c : Config) (v : Kept) (st : State) → StandsFor c v st → (new : NewSession) (number : ℕ) → new.heard ≡ v.clock
     → session_of v.table.made new number ≡ row_of (new_session st new.http new.peer new.draw new.ports number)
-unfolding session_of id_after row_of
+unfolding session_of following_id row_of
 new_row c v st s new number now =
     ap (λ n. made n v.table.made) (now ∙ s.clock) ∙ ap (made st.clock) s.made
   where
@@ -349,15 +349,15 @@ added_stands c v st s x slot row t table streams sound within free seats made it
 
 pub begin_is : (v w : Kept) (id : SessionId) (at : ℕ) (its : TableRow) (its_stream : StreamRow) (dues : List (Option ℕ)) (flow : List Subscription) (due : ℕ)
     → v ≡ w
-    → Some at ≡ option_map (λ (seat : Seat). seat.slot) (find (has_id id) v.table.seats)
-    → Some its ≡ option_map (λ (seat : Seat). seat.session) (find (has_id id) v.table.seats)
+    → Some at ≡ option_map (λ (seat : Seat). seat.slot) (find (has_id_of id) v.table.seats)
+    → Some its ≡ option_map (λ (seat : Seat). seat.session) (find (has_id_of id) v.table.seats)
     → Some its_stream ≡ find (has_number its.stream) v.table.streams
     → (IsFrontOrNone its_stream.front → flow ≡ with_queue at its its_stream v.flow) → due ≡ min (v.clock + v.timeout * 1000) (2 ^ 64 - 1)
     → dues ≡ slice_set v.dues at (Some due)
     → Begins id w (record v { dues = dues; flow = flow })
 unfolding begun
 begin_is v w id at its its_stream dues flow due same slots rows streams subscribed ends set slot row t seat stream known =
-    let seats : find (has_id id) v.table.seats ≡ Some (record { slot = slot; session = row }) = ap (λ (k : Kept). find (has_id id) k.table.seats) same ∙ seat in
+    let seats : find (has_id_of id) v.table.seats ≡ Some (record { slot = slot; session = row }) = ap (λ (k : Kept). find (has_id_of id) k.table.seats) same ∙ seat in
     let at_is : at ≡ slot = same_Some at slot (slots ∙ ap (option_map (λ (x : Seat). x.slot)) seats) in
     let its_is : its ≡ row = same_Some its row (rows ∙ ap (option_map (λ (x : Seat). x.session)) seats) in
     let t_is : its_stream ≡ t = same_Some its_stream t (streams ∙ ap (λ (r : TableRow). find (has_number r.stream) v.table.streams) its_is
@@ -377,7 +377,7 @@ find_at p x (y ∷ before) after here none = ap (λ b. cond b (Some y) (find p (
 
 -- its seat is the last
 none_counted : (id : SessionId) (above last : ℕ) (seats : List Seat) → CountsRise above last seats → last < id.count
-    → Each (λ seat. has_id id seat ≡ false) seats
+    → Each (λ seat. has_id_of id seat ≡ false) seats
 none_counted id above last [] rise more = tt
 none_counted id above last (x ∷ xs) rise more = (
   and_left _ _ (ne_eqb x.session.id.count id.count (λ e. omega (arith, e, more, least x.session.id.count xs rise.1))),
@@ -393,14 +393,14 @@ id_same : (a b : SessionId) → a ≡ b → (a.count == b.count && a.word == b.w
 id_same a b same = ap (λ (x : SessionId). a.count == x.count && a.word == x.word) (sym same)
     ∙ and_from _ _ (eq-eqb a.count a.count refl) (eq-eqb a.word a.word refl)
 
-pub last_seat : (v : Living) (new : NewSession) (id : SessionId) (number slot : ℕ) (seats : List Seat) → Sound v → id ≡ id_after v.made new
+pub last_seat : (v : Living) (new : NewSession) (id : SessionId) (number slot : ℕ) (seats : List Seat) → Sound v → id ≡ following_id v.made new
     → seats ≡ v.seats ++ record { slot = slot; session = session_of v.made new number } ∷ []
-    → find (has_id id) seats ≡ Some (record { slot = slot; session = session_of v.made new number })
-unfolding session_of id_after
+    → find (has_id_of id) seats ≡ Some (record { slot = slot; session = session_of v.made new number })
+unfolding session_of following_id
 last_seat v new id number slot seats sound its pushed =
     let more : v.made < id.count = omega (arith, ap (λ (x : SessionId). x.count) its) in
-    ap (find (has_id id)) pushed
-    ∙ find_at (has_id id) (record { slot = slot; session = session_of v.made new number }) v.seats [] (id_same (id_after v.made new) id (sym its))
+    ap (find (has_id_of id)) pushed
+    ∙ find_at (has_id_of id) (record { slot = slot; session = session_of v.made new number }) v.seats [] (id_same (following_id v.made new) id (sym its))
     (none_counted id 0 v.made v.seats sound.counts more)
 
 -- its new stream is there
@@ -436,7 +436,7 @@ session_row_stream made new number = refl
 
 pub found_stands : (c : Config) (v w : Kept) (st : State) (s : StandsFor c v st) (new : NewSession) (id : SessionId) (number : ℕ) (table : Living)
     → Sound v.table → Sound table → is_full_table v.table ≡ false → v.timeout < 2 ^ 32 → new.draw.first < 65536 → new.heard ≡ v.clock
-    → id ≡ id_after v.table.made new → number ≡ least_number (is_live v.table.streams) → number ≤ 64
+    → id ≡ following_id v.table.made new → number ≡ least_number (is_live v.table.streams) → number ≤ 64
     → Adds v.table.seats (session_of v.table.made new number) table.seats → table.streams ≡ put_row (fresh number id) v.table.streams
     → table.made ≡ v.table.made + 1 → Begins id (record v { table = table }) w → StandsFor c w (found new.http new.peer new.draw new.ports st)
 unfolding stream_in fresh
@@ -474,7 +474,7 @@ found_stands c v w st s new id number table sound new_sound room short first now
 
 pub joined_stands : (c : Config) (v w : Kept) (st : State) (s : StandsFor c v st) (new : NewSession) (id : SessionId) (number : ℕ) (t : StreamRow)
     (table : Living) → Sound v.table → v.timeout < 2 ^ 32 → new.draw.first < 65536 → new.heard ≡ v.clock
-    → id ≡ id_after v.table.made new → find (has_number number) v.table.streams ≡ Some t → IsFrontOrNone t.front
+    → id ≡ following_id v.table.made new → find (has_number number) v.table.streams ≡ Some t → IsFrontOrNone t.front
     → Adds v.table.seats (session_of v.table.made new number) table.seats → table.streams ≡ v.table.streams
     → table.made ≡ v.table.made + 1 → Begins id (record v { table = table }) w → StandsFor c w (join new.http new.peer new.draw new.ports number st)
 joined_stands c v w st s new id number t table sound short first now its found known adds put made begins =
@@ -491,7 +491,7 @@ joined_stands c v w st s new id number t table sound short first now its found k
     (new_kept st new.http new.peer new.draw new.ports number s.moment first) refl refl refl refl refl
     (ap (map stream_in) put ∙ s.streams) s.numbers s.places rise (stream_is c v st s number ∙ ap (option_map stream_in) found) short s.flow)
 
-pub id_is : (c : Config) (v : Kept) (st : State) → StandsFor c v st → (new : NewSession) (id : SessionId) → id ≡ id_after v.table.made new
+pub id_is : (c : Config) (v : Kept) (st : State) → StandsFor c v st → (new : NewSession) (id : SessionId) → id ≡ following_id v.table.made new
     → id ≡ next_id st new.draw
-unfolding id_after
+unfolding following_id
 id_is c v st s new id its = its ∙ ap (λ n. record { count = n + 1; word = new.draw.word }) s.made

@@ -10,7 +10,7 @@ use Rattle.satip_base.specs.declared.identity.SessionId.{SessionId}
 use Rattle.satip_table.specs.declared.session.Seat.{Seat}
 use Rattle.satip_table.specs.declared.session.Session.{Session as TableRow}
 use Rattle.satip_table.specs.declared.stream.Stream.{Stream as StreamRow}
-use Rattle.satip_table.specs.Sessions.{has_id, has_slot, played, with_session}
+use Rattle.satip_table.specs.Sessions.{has_id_of, has_slot, played, with_session}
 use Rattle.satip_table.specs.Streams.{has_number, is_live}
 use Rattle.satip_table.specs.Living.{Living, Sound, CountsRise, SlotsApart}
 use Rattle.satip_rtp.specs.Packing.{Packing, packing}
@@ -139,7 +139,7 @@ each_at P [] back x all = all.0
 each_at P (y ∷ front) back x all = each_at P front back x all.1
 
 abbrev seat_found : SessionId → List Seated → Option Seat
-seat_found id seated = find (has_id id) (map seat_of seated)
+seat_found id seated = find (has_id_of id) (map seat_of seated)
 
 pub among : (id : SessionId) (slot : ℕ) (row : TableRow) (above last : ℕ) (seated : List Seated) → CountsRise above last (map seat_of seated)
     → SlotsApart (map seat_of seated)
@@ -310,15 +310,15 @@ unfolding subscription_of new_feed played
 played_same slot row t = refl
 
 pub its_seat : (c : Config) (v : Kept) (st : State) (s : StandsFor c v st) (id : SessionId) (slot : ℕ) (row : TableRow) → Sound v.table
-    → find (has_id id) v.table.seats ≡ Some (record { slot = slot; session = row }) → IsAmong id slot row s.seated
+    → find (has_id_of id) v.table.seats ≡ Some (record { slot = slot; session = row }) → IsAmong id slot row s.seated
 its_seat c v st s id slot row sound found =
     among id slot row 0 v.table.made s.seated (subst (CountsRise 0 v.table.made) s.seats sound.counts) (subst SlotsApart s.seats sound.slots)
-    (ap (find (has_id id)) (sym s.seats) ∙ found)
+    (ap (find (has_id_of id)) (sym s.seats) ∙ found)
 
-pub seat_is : (seats : List Seat) (id : SessionId) (slot : ℕ) (row : TableRow) → option_map (λ (seat : Seat). seat.slot) (find (has_id id) seats) ≡ Some slot
-    → option_map (λ (seat : Seat). seat.session) (find (has_id id) seats) ≡ Some row
-    → find (has_id id) seats ≡ Some (record { slot = slot; session = row })
-seat_is seats id slot row at its = by (find (has_id id) seats) at its
+pub seat_is : (seats : List Seat) (id : SessionId) (slot : ℕ) (row : TableRow) → option_map (λ (seat : Seat). seat.slot) (find (has_id_of id) seats) ≡ Some slot
+    → option_map (λ (seat : Seat). seat.session) (find (has_id_of id) seats) ≡ Some row
+    → find (has_id_of id) seats ≡ Some (record { slot = slot; session = row })
+seat_is seats id slot row at its = by (find (has_id_of id) seats) at its
   where
     by : (o : Option Seat) → option_map (λ (seat : Seat). seat.slot) o ≡ Some slot → option_map (λ (seat : Seat). seat.session) o ≡ Some row
         → o ≡ Some (record { slot = slot; session = row })
@@ -327,12 +327,12 @@ seat_is seats id slot row at its = by (find (has_id id) seats) at its
         ∙ ap (λ r. Some (record { slot = slot; session = r })) (same_Some seat.session row its)
 
 pub plays_already : (c : Config) (o v : Kept) (st : State) (s : StandsFor c v st) (id : SessionId) (slot : ℕ) (row : TableRow) → o ≡ v → Sound o.table
-    → find (has_id id) o.table.seats ≡ Some (record { slot = slot; session = row }) → row.playing ≡ true
+    → find (has_id_of id) o.table.seats ≡ Some (record { slot = slot; session = row }) → row.playing ≡ true
     → StandsFor c v (change_session id (λ x. record x { playing = true }) st)
 unfolding playing_now row_of
 plays_already c o v st s id slot row same sound found plays =
     let known : Sound v.table = subst (λ (k : Kept). Sound k.table) same sound in
-    let seat : find (has_id id) v.table.seats ≡ Some (record { slot = slot; session = row }) = ap (λ (k : Kept). find (has_id id) k.table.seats) (sym same)
+    let seat : find (has_id_of id) v.table.seats ≡ Some (record { slot = slot; session = row }) = ap (λ (k : Kept). find (has_id_of id) k.table.seats) (sym same)
     ∙ found in
     let r = its_seat c v st s id slot row known seat in
     let all = agrees c v st s id slot known (ap (option_map (λ (x : Seat). x.slot)) seat) in
@@ -354,7 +354,7 @@ none_of_it slot ys streams all = filter_all (λ u. not (has_slot_of slot u)) (su
     one y other t u is = ap (λ (p : Place). not (p.slot == slot)) (sub_place t y u is) ∙ ap not other
 
 pub play_stands : (c : Config) (v : Kept) (st : State) (s : StandsFor c v st) (id : SessionId) (slot : ℕ) (row : TableRow) (t : StreamRow) (table : Living)
-    (flow : List Subscription) → Sound v.table → find (has_id id) v.table.seats ≡ Some (record { slot = slot; session = row })
+    (flow : List Subscription) → Sound v.table → find (has_id_of id) v.table.seats ≡ Some (record { slot = slot; session = row })
     → row.playing ≡ false → find (has_number row.stream) v.table.streams ≡ Some t → table ≡ record v.table { seats = with_session id played v.table.seats }
     → flow ≡ put (subscription_of slot row t) (without slot v.flow)
     → StandsFor c (record v { table = table; flow = flow }) (change_session id (λ x. record x { playing = true }) st)
@@ -394,18 +394,18 @@ play_stands c v st s id slot row t table flow sound found idle stream is added =
 -- a living session's stream lives
 
 pub housed_in : (c : Config) (v : Kept) (st : State) (s : StandsFor c v st) (id : SessionId) (slot : ℕ) (row : TableRow) → Sound v.table
-    → find (has_id id) v.table.seats ≡ Some (record { slot = slot; session = row }) → find (has_number row.stream) v.table.streams ≡ None → ⊥
+    → find (has_id_of id) v.table.seats ≡ Some (record { slot = slot; session = row }) → find (has_number row.stream) v.table.streams ≡ None → ⊥
 housed_in c v st s id slot row sound found none =
     true≢false (sym (all_at (λ (seat : Seat). is_live v.table.streams seat.session.stream) v.table.seats sound.housed found)
     ∙ none_live row.stream v.table.streams none)
   where
-    all_at : (p : Seat → Bool) (seats : List Seat) → list_all p seats ≡ true → find (has_id id) seats ≡ Some (record { slot = slot; session = row })
+    all_at : (p : Seat → Bool) (seats : List Seat) → list_all p seats ≡ true → find (has_id_of id) seats ≡ Some (record { slot = slot; session = row })
         → p (record { slot = slot; session = row }) ≡ true
     all_at p [] all there = absurd (none_some _ there)
-    all_at p (x ∷ xs) all there = by (has_id id x) there (all_at p xs (and_parts _ _ all).1)
+    all_at p (x ∷ xs) all there = by (has_id_of id x) there (all_at p xs (and_parts _ _ all).1)
       where
-        by : (b : Bool) → cond b (Some x) (find (has_id id) xs) ≡ Some (record { slot = slot; session = row })
-            → (find (has_id id) xs ≡ Some (record { slot = slot; session = row }) → p (record { slot = slot; session = row }) ≡ true)
+        by : (b : Bool) → cond b (Some x) (find (has_id_of id) xs) ≡ Some (record { slot = slot; session = row })
+            → (find (has_id_of id) xs ≡ Some (record { slot = slot; session = row }) → p (record { slot = slot; session = row }) ≡ true)
             → p (record { slot = slot; session = row }) ≡ true
         by true there rest = ap p (sym (same_Some x _ there)) ∙ (and_parts _ _ all).0
         by false there rest = rest there

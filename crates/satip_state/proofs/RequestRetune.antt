@@ -10,7 +10,7 @@ use Rattle.satip_base.specs.Output.{Output}
 use Rattle.satip_rtp.specs.Sending.{SendsAll}
 use Rattle.satip_tune.specs.declared.tunings.Tuning.{Tuning}
 use Rattle.satip_tune.specs.declared.frontends.Mux.{Mux}
-use Rattle.satip_tune.specs.Frontends.{mux_of}
+use Rattle.satip_tune.specs.Frontends.{mux_for}
 use Rattle.satip_pids.specs.Pids.{Pids}
 use Rattle.satip_table.specs.declared.stream.Stream.{Stream as StreamRow}
 use Rattle.satip_table.specs.Streams.{has_number, with_stream}
@@ -65,16 +65,16 @@ taken_known v number front tuning sound chosen = by (choice v number tuning) ref
     by (Some place) is chosen =
         let same : place.front ≡ front = same_Some place.front front (sym chosen) in
         subst (λ n. IsFrontOrNone (Some n)) same
-        (front_or_none v sound (Some place.front) (chosen_known (outlook v number) (mux_of v.muxes tuning) tuning place is))
+        (front_or_none v sound (Some place.front) (chosen_known (outlook v number) (mux_for v.muxes tuning) tuning place is))
 
 -- the choice is that of the plain state
 
 pub choice_same : (c : Config) (v : Kept) (st : State) (number : ℕ) (tuning : Tuning) → StandsFor c v st → Sound v.table → 1 ≤ number
-    → choice v.fronts number tuning ≡ choose (outlook_of c st number) (mux_of c.muxes tuning) tuning
+    → choice v.fronts number tuning ≡ choose (outlook_of c st number) (mux_for c.muxes tuning) tuning
 unfolding choice
 choice_same c v st number tuning s sound some =
-    ap (λ (o : Outlook). choose o (mux_of v.fronts.muxes tuning) tuning) (outlook_same c v st number s sound some)
-    ∙ ap (λ (ms : List Mux). choose (outlook_of c st number) (mux_of ms tuning) tuning) s.muxes
+    ap (λ (o : Outlook). choose o (mux_for v.fronts.muxes tuning) tuning) (outlook_same c v st number s sound some)
+    ∙ ap (λ (ms : List Mux). choose (outlook_of c st number) (mux_for ms tuning) tuning) s.muxes
 
 -- rows
 
@@ -186,12 +186,12 @@ set_is number above front tuning row streams rise found =
 
 rows_moved : (c : Config) (v : Kept) (st : State) → StandsFor c v st → (number : ℕ) (tuning : Tuning) (place : Place) (streams : List Stream)
     → ((f : ℕ) → list_any (stands_at f) (placed_at v.fronts.places number (Some place.front)) ≡ list_any (λ (t : Stream). is_at t.front f) streams)
-    → map row_in (moved v.fronts number tuning place).rows ≡ freed_rows streams (tuned_anew place (mux_of c.muxes tuning) st.rows)
+    → map row_in (moved v.fronts number tuning place).rows ≡ freed_rows streams (tuned_anew place (mux_for c.muxes tuning) st.rows)
 unfolding moved settled freed_rows tuned_anew
 rows_moved c v st s number tuning place streams served =
-    freed_same (placed_at v.fronts.places number (Some place.front)) streams served (tuned_rows place (mux_of v.fronts.muxes tuning) v.fronts.rows)
-    ∙ ap (freed_rows streams) (tuned_same place (mux_of v.fronts.muxes tuning) v.fronts.rows ∙ ap (tuned_anew place (mux_of v.fronts.muxes tuning)) s.rows
-    ∙ ap (λ (ms : List Mux). tuned_anew place (mux_of ms tuning) st.rows) s.muxes)
+    freed_same (placed_at v.fronts.places number (Some place.front)) streams served (tuned_rows place (mux_for v.fronts.muxes tuning) v.fronts.rows)
+    ∙ ap (freed_rows streams) (tuned_same place (mux_for v.fronts.muxes tuning) v.fronts.rows ∙ ap (tuned_anew place (mux_for v.fronts.muxes tuning)) s.rows
+    ∙ ap (λ (ms : List Mux). tuned_anew place (mux_for ms tuning) st.rows) s.muxes)
 
 moved_places : (v : FrontEnds) (number : ℕ) (tuning : Tuning) (place : Place)
     → (moved v number tuning place).places ≡ placed_at v.places number (Some place.front)
@@ -217,7 +217,7 @@ unfolding new_streams freed_rows tuned_anew
 put_stands c v st s number tuning place row table fronts flow sound fronts_sound new_sound new_fronts some within found moved_to is subscribed =
     let at : stream_of st number ≡ Some (stream_in row) = stream_is c v st s number ∙ ap (option_map stream_in) found in
     let streams : List Stream = new_streams number place.front tuning st.streams in
-    let rows : List Row = freed_rows streams (tuned_anew place (mux_of c.muxes tuning) st.rows) in
+    let rows : List Row = freed_rows streams (tuned_anew place (mux_for c.muxes tuning) st.rows) in
     let set : streams ≡ change_where (λ t. t.number == number) (set_stream (Some tuning) (Some place.front) row.pids) st.streams =
     set_is number 0 place.front tuning row st.streams (rise_of c v st s sound) at in
     let listed : map stream_in table.streams ≡ streams =
@@ -239,7 +239,7 @@ put_stands c v st s number tuning place row table fronts flow sound fronts_sound
     (λ n. ap (λ (f : FrontEnds). front_of f.places n) moved_to ∙ ap (λ ps. front_of ps n) (moved_places v.fronts number tuning place) ∙ places n) in
     let lasts : filter (λ (t : Stream). list_any (λ x. x.stream == t.number) st.sessions) streams ≡ streams =
     ap (λ (x : State). x.streams) (swept_same c w (record st { streams = streams; rows = rows }) stands new_sound new_fronts) in
-    subst (λ ts. StandsFor c w (record st { streams = ts; rows = freed_rows ts (tuned_anew place (mux_of c.muxes tuning) st.rows) })) (sym lasts) stands
+    subst (λ ts. StandsFor c w (record st { streams = ts; rows = freed_rows ts (tuned_anew place (mux_for c.muxes tuning) st.rows) })) (sym lasts) stands
 
 pub placed_stands : (c : Config) (v : Kept) (st : State) (s : StandsFor c v st) (number front : ℕ) (tuning : Tuning) (row : StreamRow) (table : Living)
     (fronts : FrontEnds) (flow : List Subscription)

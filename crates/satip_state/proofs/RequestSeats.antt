@@ -9,7 +9,7 @@ use Rattle.satip_history.specs.Lists.{Each}
 use Rattle.satip_base.specs.declared.identity.SessionId.{SessionId}
 use Rattle.satip_table.specs.declared.session.Seat.{Seat}
 use Rattle.satip_table.specs.declared.session.Session.{Session as TableRow}
-use Rattle.satip_table.specs.Sessions.{changed_where, has_id, has_slot, with_session}
+use Rattle.satip_table.specs.Sessions.{changed_where, has_id_of, has_slot, with_session}
 use Rattle.satip_table.specs.Living.{CountsRise, SlotsApart}
 use Rattle.satip_flow.specs.Subscription.{Subscription}
 use Rattle.satip_plain.specs.State.{Session, Stream, change_where}
@@ -84,14 +84,14 @@ none_of_slot slot (x ∷ xs) none = by (x.slot == slot) refl (none_of_slot slot 
     by false is rest none = (is, rest none)
 
 abbrev slot_found : SessionId → List Seated → Option ℕ
-slot_found id seated = option_map (λ (seat : Seat). seat.slot) (find (has_id id) (map seat_of seated))
+slot_found id seated = option_map (λ (seat : Seat). seat.slot) (find (has_id_of id) (map seat_of seated))
 
 slot_there : (id : SessionId) (slot : ℕ) (seated : List Seated) → slot_found id seated ≡ Some slot → list_any (has_slot slot) (map seat_of seated) ≡ true
 slot_there id slot [] found = absurd (none_some slot found)
-slot_there id slot (x ∷ xs) found = by (has_id id (seat_of x)) (slot_there id slot xs) found
+slot_there id slot (x ∷ xs) found = by (has_id_of id (seat_of x)) (slot_there id slot xs) found
   where
     by : (b : Bool) → (slot_found id xs ≡ Some slot → list_any (has_slot slot) (map seat_of xs) ≡ true)
-        → option_map (λ (seat : Seat). seat.slot) (cond b (Some (seat_of x)) (find (has_id id) (map seat_of xs))) ≡ Some slot
+        → option_map (λ (seat : Seat). seat.slot) (cond b (Some (seat_of x)) (find (has_id_of id) (map seat_of xs))) ≡ Some slot
         → list_any (has_slot slot) (map seat_of (x ∷ xs)) ≡ true
     by true rest found = or_left _ _ (eq-eqb x.slot slot (same_Some x.slot slot found))
     by false rest found = or_right _ _ (rest found)
@@ -106,7 +106,7 @@ agree id slot above last (x ∷ xs) rise apart found = by (is_session id x.sessi
     same_false y both = both.0 ∙ sym both.1
 
     by : (b : Bool) → is_session id x.session ≡ b → (slot_found id xs ≡ Some slot → Each (Agrees id slot) xs)
-        → option_map (λ (seat : Seat). seat.slot) (cond b (Some (seat_of x)) (find (has_id id) (map seat_of xs))) ≡ Some slot → Each (Agrees id slot) (x ∷ xs)
+        → option_map (λ (seat : Seat). seat.slot) (cond b (Some (seat_of x)) (find (has_id_of id) (map seat_of xs))) ≡ Some slot → Each (Agrees id slot) (x ∷ xs)
     by true is rest found =
         let at : x.slot ≡ slot = same_Some x.slot slot found in
         let count : x.session.id.count ≡ id.count = eqb-true x.session.id.count id.count (and_parts _ _ is).0 in
@@ -125,7 +125,7 @@ absent id [] none = tt
 absent id (x ∷ xs) none = by (is_session id x.session) refl (absent id xs) none
   where
     by : (b : Bool) → is_session id x.session ≡ b → (slot_found id xs ≡ None → Each (λ y. is_session id y.session ≡ false) xs)
-        → option_map (λ (seat : Seat). seat.slot) (cond b (Some (seat_of x)) (find (has_id id) (map seat_of xs))) ≡ None
+        → option_map (λ (seat : Seat). seat.slot) (cond b (Some (seat_of x)) (find (has_id_of id) (map seat_of xs))) ≡ None
         → Each (λ y. is_session id y.session ≡ false) (x ∷ xs)
     by true is rest none = absurd (none_some x.slot (sym none))
     by false is rest none = (is, rest none)

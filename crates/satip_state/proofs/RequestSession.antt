@@ -12,7 +12,7 @@ use Rattle.satip_base.specs.declared.network.Ports.{Ports}
 use Rattle.satip_base.specs.declared.network.Address.{Address}
 use Rattle.satip_table.specs.declared.session.Seat.{Seat}
 use Rattle.satip_table.specs.declared.session.Session.{Session as TableRow}
-use Rattle.satip_table.specs.Sessions.{has_id, has_slot, heard_at, moved_to, with_session}
+use Rattle.satip_table.specs.Sessions.{has_id_of, has_slot, heard_at, moved_to, with_session}
 use Rattle.satip_table.specs.Living.{Living, Sound, CountsRise, SlotsApart}
 use Rattle.satip_flow.specs.Subscription.{Subscription, Feed, ToAddress, ToQueue, readdressed, has_slot as has_slot_of}
 use Rattle.satip_flow.specs.Subscriptions.{change_slot}
@@ -34,13 +34,13 @@ pub record IsChange (f : Session → Session) (g : TableRow → TableRow) : Type
 
 -- the slot of a session
 abbrev pub slot_of : SessionId → Kept → Option ℕ
-slot_of id v = option_map (λ (seat : Seat). seat.slot) (find (has_id id) v.table.seats)
+slot_of id v = option_map (λ (seat : Seat). seat.slot) (find (has_id_of id) v.table.seats)
 
 pub agrees : (c : Config) (v : Kept) (st : State) (s : StandsFor c v st) (id : SessionId) (slot : ℕ) → Sound v.table → slot_of id v ≡ Some slot
     → Each (Agrees id slot) s.seated
 agrees c v st s id slot sound found =
     agree id slot 0 v.table.made s.seated (subst (CountsRise 0 v.table.made) s.seats sound.counts) (subst SlotsApart s.seats sound.slots)
-    (ap (λ seats. option_map (λ (seat : Seat). seat.slot) (find (has_id id) seats)) (sym s.seats) ∙ found)
+    (ap (λ seats. option_map (λ (seat : Seat). seat.slot) (find (has_id_of id) seats)) (sym s.seats) ∙ found)
 
 pub session_changed : (c : Config) (v : Kept) (st : State) (s : StandsFor c v st) (id : SessionId) (slot : ℕ) (f : Session → Session) (g : TableRow
     → TableRow) → IsChange f g → Each (Agrees id slot) s.seated
@@ -75,7 +75,7 @@ pub unchanged : (c : Config) (o v : Kept) (st : State) (s : StandsFor c v st) (i
     → StandsFor c v (change_session id f st)
 unchanged c o v st s id f same_parts gone =
     let none : slot_of id v ≡ None = ap (slot_of id) (sym same_parts) ∙ gone in
-    let all = absent id s.seated (ap (λ seats. option_map (λ (seat : Seat). seat.slot) (find (has_id id) seats)) (sym s.seats) ∙ none) in
+    let all = absent id s.seated (ap (λ seats. option_map (λ (seat : Seat). seat.slot) (find (has_id_of id) seats)) (sym s.seats) ∙ none) in
     let same : change_where (is_session id) f st.sessions ≡ st.sessions = ap (change_where (is_session id) f) s.sessions ∙ none_changed id f s.seated all
     ∙ sym s.sessions in
     subst (λ ss. StandsFor c v (record st { sessions = ss })) (sym same) s
@@ -145,7 +145,7 @@ heard_stands c v st id slot table dues due s sound found within short at is set 
     (is ∙ ap (λ now. record v.table { seats = with_session id (heard_at now) v.table.seats }) s.clock)
     (λ key below. ap (λ ds. slice_get ds key) (set ∙ ap (λ d. slice_set v.dues slot (Some d)) ends)
     ∙ heard_due slot st.clock v.timeout s.seated v.dues within
-    (slot_lives id slot s.seated (ap (λ seats. option_map (λ (seat : Seat). seat.slot) (find (has_id id) seats)) (sym s.seats) ∙ found)) s.dues key below)
+    (slot_lives id slot s.seated (ap (λ seats. option_map (λ (seat : Seat). seat.slot) (find (has_id_of id) seats)) (sym s.seats) ∙ found)) s.dues key below)
     (s.flow ∙ sym (subscribers_changed slot (heard_now st.clock) (λ u. u) (λ x. refl) (heard_subscriber slot st.clock) s.seated st.streams ∙ map-id _))
 
 -- a session's datagrams go elsewhere

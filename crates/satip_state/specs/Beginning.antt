@@ -3,7 +3,7 @@ use Rattle.std.specs.Prelude.{◌≡◌, ℕ, ◌+◌, ◌*◌, ◌-◌, ◌^◌
 use Rattle.satip_base.specs.declared.identity.SessionId.{SessionId}
 use Rattle.satip_table.specs.declared.session.Session.{Session as Row}
 use Rattle.satip_table.specs.declared.stream.Stream.{Stream as StreamRow}
-use Rattle.satip_table.specs.Sessions.{has_id}
+use Rattle.satip_table.specs.Sessions.{has_id_of}
 use Rattle.satip_table.specs.Streams.{has_number}
 use Rattle.satip_flow.specs.Subscription.{Subscription}
 use Rattle.satip_flow.specs.Subscriptions.{put, without, IsFrontOrNone}
@@ -23,5 +23,5 @@ begun slot row t v = record v {
 
 -- that is so of the session of this id
 abbrev pub Begins : SessionId → Kept → Kept → Type 0
-Begins id old new = (slot : ℕ) (row : Row) (t : StreamRow) → find (has_id id) old.table.seats ≡ Some (record { slot = slot; session = row })
+Begins id old new = (slot : ℕ) (row : Row) (t : StreamRow) → find (has_id_of id) old.table.seats ≡ Some (record { slot = slot; session = row })
     → find (has_number row.stream) old.table.streams ≡ Some t → IsFrontOrNone t.front → new ≡ begun slot row t old

@@ -14,7 +14,7 @@ use Rattle.satip_plain.specs.State.{Session, State, owner}
 use Rattle.satip_plain.specs.Refusals.{new_outlook}
 use Rattle.satip_plain.specs.Streams.{outlook_of}
 use Rattle.satip_fronts.specs.Choice.{Outlook, blocked}
-use Rattle.satip_tune.specs.Frontends.{mux_of}
+use Rattle.satip_tune.specs.Frontends.{mux_for}
 
 -- a session that isn't an HTTP session, or one that is
 abbrev pub if_rtsp : Option Row → Option Row
@@ -37,7 +37,7 @@ numbered (Some number) = if nat_le 1 number && nat_le number 64 then Some number
 
 -- whether no front end is to be had for it with this tuning
 abbrev pub is_blocked : Config → State → Option ℕ → Tuning → Bool
-is_blocked c st number tuning = blocked (outlook_for c st number) (mux_of c.muxes tuning) tuning
+is_blocked c st number tuning = blocked (outlook_for c st number) (mux_for c.muxes tuning) tuning
 
 -- the sequence number of the next datagram of a session that isn't an HTTP session
 abbrev pub rtsp_number : Option Session → ℕ

@@ -2,7 +2,7 @@
 use Rattle.std.specs.Prelude.{ℕ}
 use Rattle.std.specs.Option.{option_map_or}
 use Rattle.satip_tune.specs.declared.tunings.Tuning.{Tuning}
-use Rattle.satip_tune.specs.Frontends.{mux_of}
+use Rattle.satip_tune.specs.Frontends.{mux_for}
 use Rattle.satip_fronts.specs.Choice.{choose}
 use Rattle.satip_plain.specs.Types.{Config}
 use Rattle.satip_plain.specs.State.{State}
@@ -10,4 +10,4 @@ use Rattle.satip_plain.specs.Streams.{outlook_of, put_at}
 
 -- the stream is put at the front end that is chosen for this tuning; where none is to be had nothing changes
 abbrev pub placed_in : Config → ℕ → Tuning → State → State
-placed_in c number tuning st = option_map_or (put_at c number tuning st) (choose (outlook_of c st number) (mux_of c.muxes tuning) tuning) st
+placed_in c number tuning st = option_map_or (put_at c number tuning st) (choose (outlook_of c st number) (mux_for c.muxes tuning) tuning) st

@@ -3,7 +3,7 @@
 ghost use Rattle.std.specs.Prelude.{◌≡◌, ◌≢◌, ◌+◌, ◌<◌, ◌≤◌, ◌==◌, Bool, false, true, length};
 ghost use Rattle.std.specs.Int.{bit_at};
 ghost use Rattle.std.specs.List.{list_any};
-ghost use Rattle.satip_table.specs.Sessions.{has_id, without};
+ghost use Rattle.satip_table.specs.Sessions.{has_id_of, without};
 ghost use Rattle.satip_table.specs.Streams.{is_live};
 ghost use Rattle.satip_fronts.specs.FrontEnds.{left};
 ghost use Rattle.satip_plain.specs.Types.{Config, SessionId};
@@ -47,7 +47,7 @@ impl Parts {
         ensures ended { (c : Config) (st : State) → StandsFor c self.old st
             → StandsFor c self.new (end_where (is_session id) st).state }
         ensures seats { self.new.table.seats ≡ without id self.old.table.seats }
-        ensures fewer { list_any (has_id id) self.old.table.seats ≡ true
+        ensures fewer { list_any (has_id_of id) self.old.table.seats ≡ true
             → length self.new.table.seats < length self.old.table.seats }
     {
         let Some(seat) = self.seat_of(id) else {

@@ -1,7 +1,7 @@
 //! Living sessions, each with its slot.
 
 ghost use Rattle.std.specs.Prelude.{◌≡◌, ◌<◌, find, slice_get, IfSome};
-ghost use Rattle.satip_table.specs.Sessions.{has_id, has_slot};
+ghost use Rattle.satip_table.specs.Sessions.{has_id_of, has_slot};
 ghost use Rattle.satip_table.specs.Living.{Sound};
 ghost use Rattle.satip_fronts.specs.FrontEnds.{Sound as FrontsSound};
 
@@ -21,7 +21,7 @@ impl Parts {
 
     /// The session with this id; None where it doesn't live.
     pub(crate) fn seat_of(&self, id: SessionId) -> Option<Seat>
-        ensures seat { result ≡ find (has_id id) self.now.table.seats }
+        ensures seat { result ≡ find (has_id_of id) self.now.table.seats }
         ensures within { IfSome result (λ seat. seat.slot < SESSIONS) }
         ensures table { Sound self.now.table }
         ensures fronts { FrontsSound self.now.fronts }

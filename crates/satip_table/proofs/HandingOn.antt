@@ -8,7 +8,7 @@ use Rattle.std.proofs.lemmas.Option.{same_Some}
 use Rattle.satip_base.specs.declared.identity.SessionId.{SessionId}
 use Rattle.satip_table.specs.declared.session.Seat.{Seat}
 use Rattle.satip_table.specs.declared.stream.Stream.{Stream}
-use Rattle.satip_table.specs.Sessions.{has_id, is_in, owner_of, without}
+use Rattle.satip_table.specs.Sessions.{has_id_of, is_in, owner_of, without}
 use Rattle.satip_table.specs.Streams.{has_number, kept_streams, lasts, re_owned}
 use Rattle.satip_table.specs.Owners.{handed, owned_where}
 use Rattle.satip_table.specs.Living.{CountsRise, Living, Owned, Sound}
@@ -16,7 +16,7 @@ use Rattle.satip_table.proofs.Listing.{filter_none}
 use Rattle.satip_table.proofs.SeatLaws.{some_owner}
 
 -- behind a session none has an id of its count or a lesser one
-absent_after : (above last : ℕ) (seats : List Seat) (id : SessionId) → CountsRise above last seats → id.count ≤ above → list_any (has_id id) seats ≡ false
+absent_after : (above last : ℕ) (seats : List Seat) (id : SessionId) → CountsRise above last seats → id.count ≤ above → list_any (has_id_of id) seats ≡ false
 absent_after above last [] id rise least = refl
 absent_after above last (seat ∷ seats) id rise least =
     or_from _ _ (ap (λ b. b && seat.session.id.word == id.word) (ne_eqb seat.session.id.count id.count (λ e. omega (arith, e, rise.0))))
@@ -24,10 +24,10 @@ absent_after above last (seat ∷ seats) id rise least =
 
 -- another stream has the owner that it had
 owner_other : (above last : ℕ) (seats : List Seat) (id : SessionId) (left : Seat) (stream : ℕ) → CountsRise above last seats
-    → find (has_id id) seats ≡ Some left → (left.session.stream ≡ stream → ⊥) → owner_of (without id seats) stream ≡ owner_of seats stream
+    → find (has_id_of id) seats ≡ Some left → (left.session.stream ≡ stream → ⊥) → owner_of (without id seats) stream ≡ owner_of seats stream
 owner_other above last [] id left stream rise found apart = refl
 owner_other above last (seat ∷ seats) id left stream rise found apart =
-    each (has_id id seat) refl found (owner_other seat.session.id.count last seats id left stream rise.1)
+    each (has_id_of id seat) refl found (owner_other seat.session.id.count last seats id left stream rise.1)
   where
     behind : (b : Bool) → owner_of (without id seats) stream ≡ owner_of seats stream
         → option_map (λ (s : Seat). s.session.id) (cond b (Some seat) (find (is_in stream) (without id seats))) ≡ option_map (λ (s : Seat). s.session.id)
@@ -35,15 +35,15 @@ owner_other above last (seat ∷ seats) id left stream rise found apart =
     behind true same = refl
     behind false same = same
 
-    each : (b : Bool) → has_id id seat ≡ b → cond b (Some seat) (find (has_id id) seats) ≡ Some left
-        → (find (has_id id) seats ≡ Some left → (left.session.stream ≡ stream → ⊥) → owner_of (without id seats) stream ≡ owner_of seats stream)
+    each : (b : Bool) → has_id_of id seat ≡ b → cond b (Some seat) (find (has_id_of id) seats) ≡ Some left
+        → (find (has_id_of id) seats ≡ Some left → (left.session.stream ≡ stream → ⊥) → owner_of (without id seats) stream ≡ owner_of seats stream)
         → owner_of (cond (not b) (seat ∷ without id seats) (without id seats)) stream ≡ owner_of (seat ∷ seats) stream
     each true has here rest =
         let count : seat.session.id.count ≡ id.count = eqb-true seat.session.id.count id.count (and_parts _ _ has).0 in
         let none = absent_after seat.session.id.count last seats id rise.1 (omega (arith, count)) in
         let elsewhere : is_in stream seat ≡ false =
         ne_eqb seat.session.stream stream (λ e. apart (ap (λ (s : Seat). s.session.stream) (sym (same_Some seat left here)) ∙ e)) in
-        ap (λ ss. owner_of ss stream) (filter_none (has_id id) seats none)
+        ap (λ ss. owner_of ss stream) (filter_none (has_id_of id) seats none)
         ∙ sym (ap (λ b. option_map (λ (s : Seat). s.session.id) (cond b (Some seat) (find (is_in stream) seats))) elsewhere)
     each false _ later rest = behind (is_in stream seat) (rest later apart)
 
@@ -99,7 +99,7 @@ kept_ended old new number (stream ∷ streams) owned others none = each (has_num
         kept_one new stream streams stream.owner (others stream.number (λ e. eqb-false stream.number number apart (sym e)) ∙ owned.0)
         ∙ ap (λ ss. stream ∷ ss) rest
 
-pub kept_handed : (v : Living) (id : SessionId) (left : Seat) → Sound v → find (has_id id) v.seats ≡ Some left
+pub kept_handed : (v : Living) (id : SessionId) (left : Seat) → Sound v → find (has_id_of id) v.seats ≡ Some left
     → handed left.session.stream (owner_of (without id v.seats) left.session.stream) v.streams ≡ kept_streams (without id v.seats) v.streams
 kept_handed v id left sound found = each (owner_of (without id v.seats) left.session.stream) refl
   where
@@ -113,11 +113,11 @@ kept_handed v id left sound found = each (owner_of (without id v.seats) left.ses
 
 -- the same from what a removal says: the stream of the session that left
 pub handed_on : (v : Living) (id : SessionId) (stream : ℕ) → Sound v
-    → Some stream ≡ option_map (λ (seat : Seat). seat.session.stream) (find (has_id id) v.seats)
+    → Some stream ≡ option_map (λ (seat : Seat). seat.session.stream) (find (has_id_of id) v.seats)
     → handed stream (owner_of (without id v.seats) stream) v.streams ≡ kept_streams (without id v.seats) v.streams
-handed_on v id stream sound was = each (find (has_id id) v.seats) refl was
+handed_on v id stream sound was = each (find (has_id_of id) v.seats) refl was
   where
-    each : (o : Option Seat) → find (has_id id) v.seats ≡ o → Some stream ≡ option_map (λ (seat : Seat). seat.session.stream) o
+    each : (o : Option Seat) → find (has_id_of id) v.seats ≡ o → Some stream ≡ option_map (λ (seat : Seat). seat.session.stream) o
         → handed stream (owner_of (without id v.seats) stream) v.streams ≡ kept_streams (without id v.seats) v.streams
     each None _ at = cc
     each (Some left) found at = ap (λ n. handed n (owner_of (without id v.seats) n) v.streams) (same_Some stream left.session.stream at)

@@ -15,7 +15,7 @@ use Rattle.satip_table.specs.Changes.{changed_by}
 use Rattle.satip_table.specs.Living.{CountsRise}
 use Rattle.satip_table.specs.Placed.{in_order, is_there}
 use Rattle.satip_table.specs.Seated.{Seated, no_seat, seated}
-use Rattle.satip_table.specs.Sessions.{changed_where, has_id, has_slot, is_in, members, owner_of, with_session, without}
+use Rattle.satip_table.specs.Sessions.{changed_where, has_id_of, has_slot, is_in, members, owner_of, with_session, without}
 use Rattle.satip_table.proofs.Listing.{any_none, filter_none, find_any, find_passes, map_none}
 use Rattle.satip_table.proofs.Placing.{Tells, any_at, dropped, found_at, none_at, there_first, untouched, written}
 
@@ -114,31 +114,31 @@ rising_at items above last (s ∷ order) rise (suc i) (suc j) less below =
     rising_at items (get_or items s no_seat).session.id.count last order rise.1 i j (omega arith) (omega arith)
 
 -- sessions of another count have another id
-pub id_apart : (id : SessionId) (seat : Seat) → (seat.session.id.count ≡ id.count → ⊥) → has_id id seat ≡ false
+pub id_apart : (id : SessionId) (seat : Seat) → (seat.session.id.count ≡ id.count → ⊥) → has_id_of id seat ≡ false
 id_apart id seat apart = ap (λ b. b && seat.session.id.word == id.word) (ne_eqb seat.session.id.count id.count apart)
 
-id_count : (id : SessionId) (seat : Seat) → has_id id seat ≡ true → seat.session.id.count ≡ id.count
+id_count : (id : SessionId) (seat : Seat) → has_id_of id seat ≡ true → seat.session.id.count ≡ id.count
 id_count id seat has = eqb-true seat.session.id.count id.count (and_parts _ _ has).0
 
 -- an id tells the session that is found from the others
 pub id_tells : (items : List Seat) (id : SessionId) (slot above last : ℕ) (order : List ℕ) → CountsRise above last (in_order no_seat items order)
-    → find (has_id id) (in_order no_seat items order) ≡ Some (get_or items slot no_seat)
+    → find (has_id_of id) (in_order no_seat items order) ≡ Some (get_or items slot no_seat)
     → (get_or items slot no_seat).slot ≡ slot → ((k : ℕ) → is_there k order ≡ true → (get_or items k no_seat).slot ≡ k)
-    → Tells no_seat (has_id id) items slot order
+    → Tells no_seat (has_id_of id) items slot order
 id_tells items id slot above last [] rise found own slots k there = cc
 id_tells items id slot above last (j ∷ order) rise found own slots k there =
-    each (has_id id (get_or items j no_seat)) (k == j) refl refl found there
+    each (has_id_of id (get_or items j no_seat)) (k == j) refl refl found there
     (λ later some. id_tells items id slot (get_or items j no_seat).session.id.count last order rise.1 later own (λ n t. slots n (or_right _ _ t)) k some)
   where
-    each : (b e : Bool) → has_id id (get_or items j no_seat) ≡ b → (k == j) ≡ e
-        → cond b (Some (get_or items j no_seat)) (find (has_id id) (in_order no_seat items order)) ≡ Some (get_or items slot no_seat)
+    each : (b e : Bool) → has_id_of id (get_or items j no_seat) ≡ b → (k == j) ≡ e
+        → cond b (Some (get_or items j no_seat)) (find (has_id_of id) (in_order no_seat items order)) ≡ Some (get_or items slot no_seat)
         → (e || is_there k order) ≡ true
-        → (find (has_id id) (in_order no_seat items order) ≡ Some (get_or items slot no_seat) → is_there k order ≡ true
-        → has_id id (get_or items k no_seat) ≡ (slot == k)) → has_id id (get_or items k no_seat) ≡ (slot == k)
+        → (find (has_id_of id) (in_order no_seat items order) ≡ Some (get_or items slot no_seat) → is_there k order ≡ true
+        → has_id_of id (get_or items k no_seat) ≡ (slot == k)) → has_id_of id (get_or items k no_seat) ≡ (slot == k)
     each true true has same one _ _ =
         let here : k ≡ j = eqb-true k j same in
         let slot_is : j ≡ slot = sym (slots j (there_first j order)) ∙ ap (λ (s : Seat). s.slot) (same_Some _ _ one) ∙ own in
-        ap (λ n. has_id id (get_or items n no_seat)) here ∙ has ∙ sym (eq-eqb slot k (sym (here ∙ slot_is)))
+        ap (λ n. has_id_of id (get_or items n no_seat)) here ∙ has ∙ sym (eq-eqb slot k (sym (here ∙ slot_is)))
     each true false has apart one later _ =
         let slot_is : j ≡ slot = sym (slots j (there_first j order)) ∙ ap (λ (s : Seat). s.slot) (same_Some _ _ one) ∙ own in
         let more = rising_there items (get_or items j no_seat).session.id.count last order rise.1 k later in
@@ -146,27 +146,27 @@ id_tells items id slot above last (j ∷ order) rise found own slots k there =
         id_apart id (get_or items k no_seat) (λ e. omega (arith, e, more, count)) ∙ sym (ne_eqb slot k (λ e. eqb-false k j apart (sym (slot_is ∙ e))))
     each false true lacks same later _ _ =
         let here : k ≡ j = eqb-true k j same in
-        let passes = find_passes (has_id id) (in_order no_seat items order) (get_or items slot no_seat) later in
-        ap (λ n. has_id id (get_or items n no_seat)) here ∙ lacks
-        ∙ sym (ne_eqb slot k (λ e. true≢false (sym passes ∙ ap (λ n. has_id id (get_or items n no_seat)) (e ∙ here) ∙ lacks)))
+        let passes = find_passes (has_id_of id) (in_order no_seat items order) (get_or items slot no_seat) later in
+        ap (λ n. has_id_of id (get_or items n no_seat)) here ∙ lacks
+        ∙ sym (ne_eqb slot k (λ e. true≢false (sym passes ∙ ap (λ n. has_id_of id (get_or items n no_seat)) (e ∙ here) ∙ lacks)))
     each false false lacks apart later some rest = rest later some
 
 -- a session is found at a place in order where none before has its id
 pub find_place : (items : List Seat) (id : SessionId) (order : List ℕ) (place : ℕ) → place < length order
-    → ((k : ℕ) → k < place → has_id id (get_or items (get_or order k 0) no_seat) ≡ false)
-    → has_id id (get_or items (get_or order place 0) no_seat) ≡ true
-    → find (has_id id) (in_order no_seat items order) ≡ Some (get_or items (get_or order place 0) no_seat)
+    → ((k : ℕ) → k < place → has_id_of id (get_or items (get_or order k 0) no_seat) ≡ false)
+    → has_id_of id (get_or items (get_or order place 0) no_seat) ≡ true
+    → find (has_id_of id) (in_order no_seat items order) ≡ Some (get_or items (get_or order place 0) no_seat)
 find_place items id [] place below before here = absurd (omega arith)
-find_place items id (j ∷ order) zero below before here = ap (λ b. cond b (Some (get_or items j no_seat)) (find (has_id id) (in_order no_seat items order))) here
+find_place items id (j ∷ order) zero below before here = ap (λ b. cond b (Some (get_or items j no_seat)) (find (has_id_of id) (in_order no_seat items order))) here
 find_place items id (j ∷ order) (suc place) below before here =
-    ap (λ b. cond b (Some (get_or items j no_seat)) (find (has_id id) (in_order no_seat items order))) (before 0 (omega arith))
+    ap (λ b. cond b (Some (get_or items j no_seat)) (find (has_id_of id) (in_order no_seat items order))) (before 0 (omega arith))
     ∙ find_place items id order place (omega arith) (λ k less. before (suc k) (omega arith)) here
 
 pub find_nowhere : (items : List Seat) (id : SessionId) (order : List ℕ)
-    → ((k : ℕ) → k < length order → has_id id (get_or items (get_or order k 0) no_seat) ≡ false) → find (has_id id) (in_order no_seat items order) ≡ None
+    → ((k : ℕ) → k < length order → has_id_of id (get_or items (get_or order k 0) no_seat) ≡ false) → find (has_id_of id) (in_order no_seat items order) ≡ None
 find_nowhere items id [] lacks = refl
 find_nowhere items id (j ∷ order) lacks =
-    ap (λ b. cond b (Some (get_or items j no_seat)) (find (has_id id) (in_order no_seat items order))) (lacks 0 (omega arith))
+    ap (λ b. cond b (Some (get_or items j no_seat)) (find (has_id_of id) (in_order no_seat items order))) (lacks 0 (omega arith))
     ∙ find_nowhere items id order (λ k less. lacks (suc k) (omega arith))
 
 -- what a binary search keeps: the counts below low are less than the id's, those from high on are not
@@ -210,22 +210,22 @@ search_down items order id low high middle above last rise is from below count =
 
 -- where it ends: at the session with the id, or there is none
 lacks_before : (items : List Seat) (order : List ℕ) (id : SessionId) (low high : ℕ) → Searched items order id low high → (k : ℕ) → k < low
-    → has_id id (get_or items (get_or order k 0) no_seat) ≡ false
+    → has_id_of id (get_or items (get_or order k 0) no_seat) ≡ false
 lacks_before items order id low high is k below = let less =
     is.less k below in id_apart id (get_or items (get_or order k 0) no_seat) (λ e. omega (arith, e, less))
 
 pub search_found : (items : List Seat) (order : List ℕ) (id : SessionId) (low high : ℕ) → Searched items order id low high → low < length order
-    → has_id id (get_or items (get_or order low 0) no_seat) ≡ true
-    → find (has_id id) (in_order no_seat items order) ≡ Some (get_or items (get_or order low 0) no_seat)
+    → has_id_of id (get_or items (get_or order low 0) no_seat) ≡ true
+    → find (has_id_of id) (in_order no_seat items order) ≡ Some (get_or items (get_or order low 0) no_seat)
 search_found items order id low high is below here = find_place items id order low below (lacks_before items order id low high is) here
 
 pub search_missed : (items : List Seat) (order : List ℕ) (id : SessionId) (low high above last : ℕ) → CountsRise above last (in_order no_seat items order)
     → Searched items order id low high → high ≤ low
-    → (low < length order → has_id id (get_or items (get_or order low 0) no_seat) ≡ false) → find (has_id id) (in_order no_seat items order) ≡ None
+    → (low < length order → has_id_of id (get_or items (get_or order low 0) no_seat) ≡ false) → find (has_id_of id) (in_order no_seat items order) ≡ None
 search_missed items order id low high above last rise is met lacks = find_nowhere items id order (λ k within. each k within (cases_order k low))
   where
-    each : (k : ℕ) → k < length order → (k ≡ low) ⊎ ((k < low) ⊎ (low < k)) → has_id id (get_or items (get_or order k 0) no_seat) ≡ false
-    each k within (inl same) = subst (λ n. has_id id (get_or items (get_or order n 0) no_seat) ≡ false) (sym same) (lacks (omega (arith, within, same)))
+    each : (k : ℕ) → k < length order → (k ≡ low) ⊎ ((k < low) ⊎ (low < k)) → has_id_of id (get_or items (get_or order k 0) no_seat) ≡ false
+    each k within (inl same) = subst (λ n. has_id_of id (get_or items (get_or order n 0) no_seat) ≡ false) (sym same) (lacks (omega (arith, within, same)))
     each k within (inr (inl less)) = lacks_before items order id low high is k less
     each k within (inr (inr more)) =
         let up = rising_at items above last order rise low k more within in
@@ -234,33 +234,33 @@ search_missed items order id low high above last rise is met lacks = find_nowher
 
 -- the session that is found changes, or leaves
 pub changed_at : (a : Inside) → Seated a → (id : SessionId) (to : Change) (slot : ℕ) (x y : Seat) → ((last : ℕ) × CountsRise 0 last (seated a))
-    → Some (get_or a.seats.items slot no_seat) ≡ find (has_id id) (seated a) → is_there slot a.order ≡ true
+    → Some (get_or a.seats.items slot no_seat) ≡ find (has_id_of id) (seated a) → is_there slot a.order ≡ true
     → x ≡ get_or a.seats.items slot x → y ≡ record x { session = changed_by to x.session }
     → in_order no_seat (set a.seats.items slot y) a.order ≡ with_session id (changed_by to) (seated a)
 unfolding changed_where
 changed_at a is id to slot x y rise found there read made =
     let below : slot < length a.seats.items = omega (arith, is.within slot there, is.long) in
     let tells = id_tells a.seats.items id slot 0 rise.0 a.order rise.1 (sym found) (is.slots slot (is.within slot there)) (λ k t. is.slots k (is.within k t)) in
-    written no_seat (has_id id) (λ (s : Seat). record s { session = changed_by to s.session }) a.seats.items slot y a.order below tells
+    written no_seat (has_id_of id) (λ (s : Seat). record s { session = changed_by to s.session }) a.seats.items slot y a.order below tells
     (made ∙ ap (λ (s : Seat). record s { session = changed_by to s.session }) (read ∙ get_or_default a.seats.items slot x no_seat below))
 
-pub changed_none : (id : SessionId) (to : Change) (seats : List Seat) → None ≡ find (has_id id) seats → seats ≡ with_session id (changed_by to) seats
+pub changed_none : (id : SessionId) (to : Change) (seats : List Seat) → None ≡ find (has_id_of id) seats → seats ≡ with_session id (changed_by to) seats
 unfolding changed_where
 changed_none id to seats lost =
-    sym (map_none (has_id id) (λ (s : Seat). record s { session = changed_by to s.session }) seats (any_none (has_id id) seats (sym lost)))
+    sym (map_none (has_id_of id) (λ (s : Seat). record s { session = changed_by to s.session }) seats (any_none (has_id_of id) seats (sym lost)))
 
 pub removed_at : (a : Inside) → Seated a → (id : SessionId) (slot : ℕ) → ((last : ℕ) × CountsRise 0 last (seated a))
-    → Some (get_or a.seats.items slot no_seat) ≡ find (has_id id) (seated a) → is_there slot a.order ≡ true
+    → Some (get_or a.seats.items slot no_seat) ≡ find (has_id_of id) (seated a) → is_there slot a.order ≡ true
     → in_order no_seat a.seats.items (filter (λ k. not (slot == k)) a.order) ≡ without id (seated a)
 removed_at a is id slot rise found there =
-    dropped no_seat (has_id id) a.seats.items slot a.order
+    dropped no_seat (has_id_of id) a.seats.items slot a.order
     (id_tells a.seats.items id slot 0 rise.0 a.order rise.1 (sym found) (is.slots slot (is.within slot there)) (λ k t. is.slots k (is.within k t)))
 
-pub removed_none : (id : SessionId) (seats : List Seat) → None ≡ find (has_id id) seats → seats ≡ without id seats
-removed_none id seats lost = sym (filter_none (has_id id) seats (any_none (has_id id) seats (sym lost)))
+pub removed_none : (id : SessionId) (seats : List Seat) → None ≡ find (has_id_of id) seats → seats ≡ without id seats
+removed_none id seats lost = sym (filter_none (has_id_of id) seats (any_none (has_id_of id) seats (sym lost)))
 
-pub lives_some : (id : SessionId) (seats : List Seat) (seat : Seat) → Some seat ≡ find (has_id id) seats → true ≡ list_any (has_id id) seats
-lives_some id seats seat found = ap is_some found ∙ find_any (has_id id) seats
+pub lives_some : (id : SessionId) (seats : List Seat) (seat : Seat) → Some seat ≡ find (has_id_of id) seats → true ≡ list_any (has_id_of id) seats
+lives_some id seats seat found = ap is_some found ∙ find_any (has_id_of id) seats
 
 -- a step along the order: the first session of a stream, and those behind it
 next_seat : (items : List Seat) (order : List ℕ) (k : ℕ) → k < length order

@@ -15,7 +15,7 @@ use Rattle.satip_table.specs.Changes.{changed_by}
 use Rattle.satip_table.specs.declared.session.NewSession.{NewSession}
 use Rattle.satip_table.specs.declared.session.Session.{Session}
 use Rattle.satip_table.specs.declared.stream.Stream.{Stream}
-use Rattle.satip_table.specs.Sessions.{changed_where, heard_at, moved_to, played, reported_at, next_id, session_of, has_id, has_slot, is_in, owner_of}
+use Rattle.satip_table.specs.Sessions.{changed_where, heard_at, moved_to, played, reported_at, following_id, session_of, has_id_of, has_slot, is_in, owner_of}
 use Rattle.satip_table.specs.Sessions.{with_session, without}
 use Rattle.satip_table.specs.Streams.{fresh, gap, least_number, has_number, is_live, kept_streams, lasts, put_stream, re_owned, stream_where, with_stream}
 use Rattle.satip_table.specs.Living.{Living, NumbersRise, Owned, Sound, is_full}
@@ -172,7 +172,7 @@ pub sound_left : (v : Living) (id : SessionId) → Sound v
     → Sound (record { seats = without id v.seats; streams = kept_streams (without id v.seats) v.streams; made = v.made })
 unfolding kept_streams
 sound_left v id sound =
-    let keep : Seat → Bool = λ seat. not (has_id id seat) in
+    let keep : Seat → Bool = λ seat. not (has_id_of id seat) in
     let seats = without id v.seats in
     let few : length seats ≤ length v.seats = length-filter-le keep v.seats in
     let lives = all-filter keep (λ (s : Seat). is_live v.streams s.session.stream) v.seats sound.housed in
@@ -229,14 +229,14 @@ sound_streams v h number owner sound = record {
 
 -- the same, where the session was made for the table
 session_count : (made : ℕ) (session : NewSession) (stream : ℕ) → (session_of made session stream).id.count ≡ made + 1
-unfolding session_of next_id
+unfolding session_of following_id
 session_count made session stream = refl
 
 session_stream : (made : ℕ) (session : NewSession) (stream : ℕ) → (session_of made session stream).stream ≡ stream
-unfolding session_of next_id
+unfolding session_of following_id
 session_stream made session stream = refl
 
-pub session_id : (made : ℕ) (session : NewSession) (stream : ℕ) → (session_of made session stream).id ≡ next_id made session
+pub session_id : (made : ℕ) (session : NewSession) (stream : ℕ) → (session_of made session stream).id ≡ following_id made session
 unfolding session_of
 session_id made session stream = refl
 
@@ -298,9 +298,9 @@ changed_stream (Reported now) session = refl
 where_keeps : (id : SessionId) (change : Change) → Keeps (changed_where id (changed_by change))
 unfolding changed_where
 where_keeps id change = record {
-  slot = λ seat. slot_of seat (has_id id seat);
-  id = λ seat. id_of seat (has_id id seat);
-  stream = λ seat. stream_of seat (has_id id seat);
+  slot = λ seat. slot_of seat (has_id_of id seat);
+  id = λ seat. id_of seat (has_id_of id seat);
+  stream = λ seat. stream_of seat (has_id_of id seat);
 }
   where
     slot_of : (seat : Seat) (b : Bool) → (cond b (record seat { session = changed_by change seat.session }) seat).slot ≡ seat.slot

@@ -6,8 +6,8 @@ use Rattle.satip_table.specs.declared.session.Session.{Session}
 use Rattle.satip_table.specs.declared.seats.Seats.TheInside.{Inside}
 
 -- what stands in a slot that no session had yet
-abbrev pub no_session : Session
-no_session = record {
+abbrev pub nobody : Session
+nobody = record {
   id = record { count = 0; word = 0 };
   http = false;
   peer = record { ip = 0 };
@@ -22,7 +22,7 @@ no_session = record {
 
 -- what stands for a session past the end
 abbrev pub no_seat : Seat
-no_seat = record { slot = 0; session = no_session }
+no_seat = record { slot = 0; session = nobody }
 
 -- what a contract sees of the fields
 abbrev pub seated : Inside → List Seat

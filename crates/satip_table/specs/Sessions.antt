@@ -14,8 +14,8 @@ abbrev pub id_eq : SessionId → SessionId → Bool
 id_eq a b = a.count == b.count && a.word == b.word
 
 -- whether the session has this id
-abbrev pub has_id : SessionId → Seat → Bool
-has_id id seat = id_eq seat.session.id id
+abbrev pub has_id_of : SessionId → Seat → Bool
+has_id_of id seat = id_eq seat.session.id id
 
 -- whether the session has this slot
 abbrev pub has_slot : ℕ → Seat → Bool
@@ -34,13 +34,13 @@ abbrev pub owner_of : List Seat → ℕ → Option SessionId
 owner_of seats stream = option_map (λ (seat : Seat). seat.session.id) (find (is_in stream) seats)
 
 -- the id of the session that is made after this many
-unfoldable pub next_id : ℕ → NewSession → SessionId
-next_id made session = record { count = made + 1; word = session.draw.word }
+unfoldable pub following_id : ℕ → NewSession → SessionId
+following_id made session = record { count = made + 1; word = session.draw.word }
 
 -- the session that is made after this many, at this stream; an HTTP session plays at once
 unfoldable pub session_of : ℕ → NewSession → ℕ → Session
 session_of made session stream = record {
-  id = next_id made session;
+  id = following_id made session;
   http = session.http;
   peer = session.peer;
   ports = session.ports;
@@ -61,11 +61,11 @@ pub record Adds (old : List Seat) (session : Session) (new : List Seat) : Type 0
 
 -- the sessions without that of this id
 abbrev pub without : SessionId → List Seat → List Seat
-without id seats = filter (λ seat. not (has_id id seat)) seats
+without id seats = filter (λ seat. not (has_id_of id seat)) seats
 
 -- the session, changed where it has this id
 unfoldable pub changed_where : SessionId → (Session → Session) → Seat → Seat
-changed_where id change seat = if has_id id seat then record seat { session = change seat.session } else seat
+changed_where id change seat = if has_id_of id seat then record seat { session = change seat.session } else seat
 
 -- the sessions, where that of this id is changed
 abbrev pub with_session : SessionId → (Session → Session) → List Seat → List Seat

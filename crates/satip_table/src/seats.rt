@@ -3,7 +3,7 @@
 ghost use Rattle.std.specs.Prelude.{◌≡◌, ◌+◌, ◌<◌, [], ◌∷◌, ◌++◌, false, true, ℕ, find, length, map, slice_get, slice_index_or, is_some, IfOk, IfNone, IfSome};
 ghost use Rattle.std.specs.List.{list_any};
 ghost use Rattle.std.specs.Option.{option_map};
-ghost use Rattle.satip_table.specs.Sessions.{has_id as has_id_of, has_slot, members, owner_of, with_session, without};
+ghost use Rattle.satip_table.specs.Sessions.{has_id_of, has_slot, members, owner_of, with_session, without};
 ghost use Rattle.satip_table.specs.Changes.{changed_by};
 ghost use Rattle.satip_table.specs.Living.{CountsRise};
 ghost use Rattle.satip_table.specs.Placed.{in_order, is_there};

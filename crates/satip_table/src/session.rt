@@ -1,9 +1,9 @@
 //! A session, what it is made of and what changes of it.
 
 ghost use Rattle.std.specs.Prelude.{◌≡◌, ◌+◌, ◌<◌};
-ghost use Rattle.satip_table.specs.Sessions.{has_id as has_id_of, next_id as id_after, session_of};
+ghost use Rattle.satip_table.specs.Sessions.{has_id_of, following_id, session_of};
 ghost use Rattle.satip_table.specs.Changes.{changed_by};
-ghost use Rattle.satip_table.specs.Seated.{no_session as nobody};
+ghost use Rattle.satip_table.specs.Seated.{nobody};
 
 use satip_base::{Draw, Peer, Ports, SessionId};
 
@@ -60,10 +60,10 @@ pub fn no_session() -> Session
 }
 
 /// The id of the session that is made after this many.
-#[tactic(auto, unfolding(crate::specs::Sessions::next_id))]
+#[tactic(auto, unfolding(crate::specs::Sessions::following_id))]
 pub fn next_id(made: u32, session: &NewSession) -> SessionId
     requires some_left { made < 4294967295 }
-    ensures id { result ≡ id_after made session.now }
+    ensures id { result ≡ following_id made session.now }
 {
     SessionId {
         count: made + 1,

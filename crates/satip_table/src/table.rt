@@ -4,7 +4,7 @@ ghost use Rattle.std.specs.Prelude.{◌≡◌, ◌+◌, ◌<◌, ◌≤◌, fals
 ghost use Rattle.std.specs.Bool.{OnFalse};
 ghost use Rattle.std.specs.List.{list_any};
 ghost use Rattle.std.specs.Option.{option_map};
-ghost use Rattle.satip_table.specs.Sessions.{Adds, has_id as has_id_of, has_slot, heard_at, members, moved_to, next_id, played, reported_at, session_of, with_session, without};
+ghost use Rattle.satip_table.specs.Sessions.{Adds, has_id_of, has_slot, heard_at, members, moved_to, following_id, played, reported_at, session_of, with_session, without};
 ghost use Rattle.satip_table.specs.Streams.{fresh, has_number, is_live, kept_streams, least_number, put_stream, with_stream};
 ghost use Rattle.satip_table.specs.Living.{Sound, is_full, none};
 
@@ -75,7 +75,7 @@ impl Table {
     /// Makes a session that owns a new stream, which isn't tuned and selects no PID.
     pub fn found(&mut self, session: NewSession) -> (SessionId, u16)
         requires room { is_full self.old ≡ false }
-        ensures id { result.0 ≡ next_id self.old.made session }
+        ensures id { result.0 ≡ following_id self.old.made session }
         ensures number { result.1 ≡ least_number (is_live self.old.streams) }
         ensures within { result.1 ≤ 64 }
         ensures sessions { Adds self.old.seats (session_of self.old.made session result.1)
@@ -96,7 +96,7 @@ impl Table {
     pub fn join(&mut self, session: NewSession, stream: u16) -> SessionId
         requires room { is_full self.old ≡ false }
         requires lives { is_live self.old.streams stream ≡ true }
-        ensures id { result ≡ next_id self.old.made session }
+        ensures id { result ≡ following_id self.old.made session }
         ensures sessions { Adds self.old.seats (session_of self.old.made session stream)
             self.new.seats }
         ensures streams { self.new.streams ≡ self.old.streams }

@@ -2,7 +2,7 @@
 use Rattle.std.proofs.Common.{◌≡◌, ℕ, ◌+◌, List, [], ◌∷◌, ◌++◌, length, append_assoc, append-nil, refl, sym, ◌∙◌, ap, subst, arith, suc}
 use Rattle.satip_base.specs.Streams.{Drain, Began, PutAll, FailedToPut}
 use Rattle.satip_rtsp.specs.declared.requests.Request.{Request}
-use Rattle.satip_rtsp.specs.Asked.{asked, broken}
+use Rattle.satip_rtsp.specs.Asked.{asked, broken_request}
 use Rattle.satip_hearing.specs.Asking.{AsksFirst, AsksNext, AsksLast, AsksMore}
 use Rattle.satip_hearing.proofs.TextLemmas.{nothing_asked, more_came, all_with_last, all_is_more, first_is_less}
 use Rattle.satip_plain.specs.declared.events.Event.{Event}
@@ -89,7 +89,7 @@ replied_next tells o m n old new requests request talker later replied answered 
 }
 
 -- a beginning of the replies to some of what the text asks is one of the replies to all
-part_of_more : (tells : Type 0) (before now text : List ℕ) (requests : List Request) → AsksMore asked broken text requests
+part_of_more : (tells : Type 0) (before now text : List ℕ) (requests : List Request) → AsksMore asked broken_request text requests
     → (tells → Began before now (replies_to requests)) → PartlyAnswered tells before now text
 part_of_more tells before now text requests more began =
     let behind = replies (after start (events_of requests)) (events_from (1 + length requests) more.others) in
@@ -107,17 +107,17 @@ part_of_more tells before now text requests more began =
 pub part_of_first : (tells : Type 0) (o n : Drain) (waiting text rest : List ℕ) (requests : List Request) (talker : Talker)
     → AsksFirst asked text requests rest → Replied tells o n waiting requests talker → PartlyAnswered tells o.sent n.sent text
 part_of_first tells o n waiting text rest requests talker first replied =
-    part_of_more tells o.sent n.sent text requests (first_is_less asked broken text requests rest first)
+    part_of_more tells o.sent n.sent text requests (first_is_less asked broken_request text requests rest first)
     (λ told. sent_began o.sent n.sent waiting (replies_to requests) (replied.sent told))
 
 -- nothing is a beginning
 pub part_of_none : (tells : Type 0) (before now : List ℕ) → (tells → Began before now []) → PartlyAnswered tells before now []
 part_of_none tells before now began =
-    part_of_more tells before now [] [] (first_is_less asked broken [] [] [] (nothing_asked asked).first) began
+    part_of_more tells before now [] [] (first_is_less asked broken_request [] [] [] (nothing_asked asked).first) began
 
 -- the reply to one more request failed
 pub reply_failed : (tells : Type 0) (o m n : Drain) (old text : List ℕ) (requests : List Request) (request : Request) (talker : Talker)
-    → AsksMore asked broken text (requests ++ request ∷ []) → Replied tells o m old requests talker
+    → AsksMore asked broken_request text (requests ++ request ∷ []) → Replied tells o m old requests talker
     → FailedToPut tells m n (old ++ next_reply requests request) → HasFailed tells o n text
 reply_failed tells o m n old text requests request talker more replied put = record {
   faults = rw (← replied.faults) put.faults;
@@ -129,17 +129,17 @@ pub message_failed : (tells : Type 0) (o m n : Drain) (old text rest : List ℕ)
     → AsksNext asked text requests request rest → Replied tells o m old requests talker
     → FailedToPut tells m n (old ++ next_reply requests request) → HasFailed tells o n text
 message_failed tells o m n old text rest requests request talker next =
-    reply_failed tells o m n old text requests request talker (first_is_less asked broken text (requests ++ request ∷ []) rest next.first)
+    reply_failed tells o m n old text requests request talker (first_is_less asked broken_request text (requests ++ request ∷ []) rest next.first)
 
 -- all that a broken text asks
-last_more : (text : List ℕ) (before : List Request) (request : Request) → AsksLast asked broken text before request
-    → AsksMore asked broken text (before ++ request ∷ [])
+last_more : (text : List ℕ) (before : List Request) (request : Request) → AsksLast asked broken_request text before request
+    → AsksMore asked broken_request text (before ++ request ∷ [])
 last_more text before request last =
-    all_is_more asked broken text (before ++ request ∷ []) (all_with_last asked broken text before request last)
+    all_is_more asked broken_request text (before ++ request ∷ []) (all_with_last asked broken_request text before request last)
 
 -- the closing reply failed
 pub last_failed : (tells : Type 0) (o m n : Drain) (old text : List ℕ) (requests : List Request) (request : Request) (talker : Talker)
-    → AsksLast asked broken text requests request → Replied tells o m old requests talker
+    → AsksLast asked broken_request text requests request → Replied tells o m old requests talker
     → FailedToPut tells m n (old ++ next_reply requests request) → HasFailed tells o n text
 last_failed tells o m n old text requests request talker last =
     reply_failed tells o m n old text requests request talker (last_more text requests request last)
@@ -171,7 +171,7 @@ hears_sent tells o m n waiting text held talker heards.Failed sound hears put = 
 
 -- what waited was sent in part
 sent_in_part : (tells : Type 0) (o m n : Drain) (waiting text : List ℕ) (requests : List Request) (talker : Talker)
-    → AsksMore asked broken text requests → Replied tells o m waiting requests talker → FailedToPut tells m n waiting → HasFailed tells o n text
+    → AsksMore asked broken_request text requests → Replied tells o m waiting requests talker → FailedToPut tells m n waiting → HasFailed tells o n text
 sent_in_part tells o m n waiting text requests talker more replied put = record {
   faults = rw (← replied.faults) put.faults;
   part = part_of_more tells o.sent n.sent text requests more
@@ -182,7 +182,7 @@ pub hears_part : (tells : Type 0) (o m n : Drain) (waiting text held : List ℕ)
     → (heard ≡ heards.Failed → ⊥) → Hears tells o m waiting text held talker heard → FailedToPut tells m n waiting
     → HasFailed tells o n text
 hears_part tells o m n waiting text held talker heards.All sound hears put =
-    sent_in_part tells o m n waiting text hears.requests talker (first_is_less asked broken text hears.requests held hears.heard.first) hears.replied put
+    sent_in_part tells o m n waiting text hears.requests talker (first_is_less asked broken_request text hears.requests held hears.heard.first) hears.replied put
 hears_part tells o m n waiting text held talker heards.Closed sound hears put =
     sent_in_part tells o m n waiting text (hears.before ++ hears.request ∷ []) talker (last_more text hears.before hears.request hears.last) hears.replied put
 hears_part tells o m n waiting text held talker heards.Failed sound hears put = absurd (sound refl)

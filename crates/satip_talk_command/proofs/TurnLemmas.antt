@@ -5,7 +5,7 @@ use Rattle.satip_frame.specs.Held.{Held, new_framer}
 use Rattle.satip_frame.specs.Stream.{Broken}
 use Rattle.satip_frame.proofs.StreamLemmas.{broken_stays}
 use Rattle.satip_rtsp.specs.declared.requests.Request.{Request}
-use Rattle.satip_rtsp.specs.Asked.{asked, broken}
+use Rattle.satip_rtsp.specs.Asked.{asked, broken_request}
 use Rattle.satip_hearing.proofs.TextLemmas.{nothing_asked, more_came, all_so_far}
 use Rattle.satip_talk_command.specs.Talk.{replies_to, talk_replies, Answered}
 use Rattle.satip_talk_command.specs.Talking.{HasAnswered}
@@ -72,7 +72,7 @@ goes_more in_tells out_tells i j k o m n taken count held next talker later buf 
 answered_all : (tells : Type 0) (o n : Drain) (text held : List ℕ) (talker : Talker) → Listens tells o n [] text held talker
     → Answered tells o.sent n.sent text
 answered_all tells o n text held talker listens =
-    let all = all_so_far asked broken text listens.requests held listens.heard in
+    let all = all_so_far asked broken_request text listens.requests held listens.heard in
     record {
       messages = all.messages;
       tail = all.tail;
@@ -118,7 +118,7 @@ ends_closed in_tells out_tells i j k o m n taken count held talker later buf goe
     let text = goes.text ++ take count buf in
     let read = read_more in_tells i j k goes.text buf count goes.read took in
     let last = closed.last in
-    let all : closed.before ++ closed.request ∷ [] ≡ map asked last.messages ++ broken last.cause ∷ [] =
+    let all : closed.before ++ closed.request ∷ [] ≡ map asked last.messages ++ broken_request last.cause ∷ [] =
     ap (λ (rs : List Request). rs ++ closed.request ∷ []) last.before_are
     ∙ ap (λ (r : Request). map asked last.messages ++ r ∷ []) last.request_is in
     let sent : out_tells → n.sent ≡ o.sent ++ talk_replies last.messages (Broken last.cause) = λ told.

@@ -2,7 +2,7 @@
 use Rattle.std.specs.Prelude.{◌≡◌, ℕ, List, [], ◌∷◌, ◌++◌}
 use Rattle.satip_base.specs.Streams.{Drain, Rose}
 use Rattle.satip_rtsp.specs.declared.requests.Request.{Request}
-use Rattle.satip_rtsp.specs.Asked.{asked, broken}
+use Rattle.satip_rtsp.specs.Asked.{asked, broken_request}
 use Rattle.satip_hearing.specs.Asking.{AsksFirst, AsksSoFar, AsksLast}
 use Rattle.satip_talk_command.specs.Talk.{replies_to, PartlyAnswered}
 use Rattle.satip_talk_command.specs.Talking.{HasAnswered}
@@ -33,7 +33,7 @@ pub record Listens (tells : Type 0) (o n : Drain) (waiting text held : List ℕ)
 pub record HasClosed (tells : Type 0) (o n : Drain) (waiting text : List ℕ) (talker : Talker) : Type 0 where
   pub before : List Request
   pub request : Request
-  pub last : AsksLast asked broken text before request
+  pub last : AsksLast asked broken_request text before request
   pub replied : Replied tells o n waiting (before ++ request ∷ []) talker
 
 -- the output failed in the middle of the replies

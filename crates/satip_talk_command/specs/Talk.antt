@@ -5,7 +5,7 @@ use Rattle.satip_base.specs.Streams.{Began}
 use Rattle.satip_frame.specs.Said.{Said}
 use Rattle.satip_frame.specs.Stream.{Tail, Messages}
 use Rattle.satip_rtsp.specs.declared.requests.Request.{Request}
-use Rattle.satip_rtsp.specs.Asked.{asked, broken}
+use Rattle.satip_rtsp.specs.Asked.{asked, broken_request}
 use Rattle.satip_hearing.specs.Asking.{asked_by_tail}
 use Rattle.satip_config.specs.Configuration.{Configuration}
 use Rattle.satip_plain.specs.declared.events.Event.{Event}
@@ -59,7 +59,7 @@ events_of requests = events_from 1 requests
 
 -- the request of what is no message
 abbrev pub tail_requests : Tail → List Request
-tail_requests = asked_by_tail broken
+tail_requests = asked_by_tail broken_request
 
 -- one request for each message in order, and one more for what is no message; its reply is a closing one, and the last
 abbrev pub requests_of : List Said → Tail → List Request

@@ -5,7 +5,7 @@ use Rattle.std.specs.Option.{option_map_or}
 use Rattle.std.proofs.lemmas.Bool.{not-true}
 use Rattle.satip_fronts.specs.declared.choice.Place.{Place}
 use Rattle.satip_fronts.specs.Choice.{choose}
-use Rattle.satip_tune.specs.Frontends.{mux_of}
+use Rattle.satip_tune.specs.Frontends.{mux_for}
 use Rattle.satip_history.specs.Lists.{Each}
 use Rattle.satip_history.proofs.Elements.{Each-append}
 use Rattle.satip_rtp.specs.Cut.{cut}
@@ -145,11 +145,11 @@ retuned_grounded us c number tuning st grounded (Some place) = grounded
 lands_retune : (us : List SetUp) (c : Config) (number : ℕ) (st : State) (tuning : Tuning) → Grounded us st → Lands us (retune c number st tuning)
 lands_retune us c number st tuning grounded =
     lands_then us (each_of (λ s. s.stream == number && not s.http) (let_go true st.clock) st)
-    (λ now. settle (option_map_or (put_at c number tuning now) (choose (outlook_of c now number) (mux_of c.muxes tuning) tuning) now))
+    (λ now. settle (option_map_or (put_at c number tuning now) (choose (outlook_of c now number) (mux_for c.muxes tuning) tuning) now))
     (lands_some us (λ s. s.stream == number && not s.http) (let_go true st.clock) st
     (λ x e is. let_go_lands us true st.clock x (not-true x.http (and_second (x.stream == number) (not x.http) e)) is) grounded)
-    (λ now g. lands_still us (option_map_or (put_at c number tuning now) (choose (outlook_of c now number) (mux_of c.muxes tuning) tuning) now)
-    (retuned_grounded us c number tuning now g (choose (outlook_of c now number) (mux_of c.muxes tuning) tuning)))
+    (λ now g. lands_still us (option_map_or (put_at c number tuning now) (choose (outlook_of c now number) (mux_for c.muxes tuning) tuning) now)
+    (retuned_grounded us c number tuning now g (choose (outlook_of c now number) (mux_for c.muxes tuning) tuning)))
 
 retune_if : (us : List SetUp) (c : Config) (number : ℕ) (st : State) → Grounded us st → (o : Option Tuning)
     → Lands us (option_map_or (retune c number st) o (settle st))

@@ -12,7 +12,7 @@ use Rattle.satip_tune.specs.declared.signal.Fec.{Fec}
 use Rattle.satip_tune.specs.declared.signal.Fec.TheVariants.{F12, F23, F34, F56, F78, F89, F35, F45, F910}
 use Rattle.satip_tune.specs.declared.keys.Key.{Key}
 use Rattle.satip_tune.specs.declared.keys.Key.TheVariants.{Fe, Src, Freq, Pol as PolKey, Ro, Msys, Mtype, Plts, Sr, Fec as FecKey, Pids, Addpids, Delpids}
-use Rattle.satip_tune.specs.Words.{pol_text, pol_named, system_text, system_named, modulation_text, modulation_named, roll_off_text, roll_off_named, fec_text, fec_named, key_text, key_named, pilots_text, pilots_named}
+use Rattle.satip_tune.specs.Words.{pol_text, pol_named, system_text, system_named, modulation_text, modulation_named, roll_off_text, roll_off_named, fec_text, fec_named, key_text, key_named, pilots_text_of, pilots_named_of}
 
 -- the text of a polarisation is read as it
 pub pol_printed : (value : Pol) → pol_named (pol_text value) ≡ Some value
@@ -72,7 +72,7 @@ key_printed Addpids = refl
 key_printed Delpids = refl
 
 -- the text of the pilot tones is read as them
-pub pilots_printed : (on : Bool) → pilots_named (pilots_text on) ≡ Some on
-unfolding pilots_named pilots_text
+pub pilots_printed : (on : Bool) → pilots_named_of (pilots_text_of on) ≡ Some on
+unfolding pilots_named_of pilots_text_of
 pilots_printed true = refl
 pilots_printed false = refl

@@ -24,19 +24,19 @@ may_be None number = true
 may_be (Some wanted) number = wanted == number
 
 -- whether the front end can be tuned to this
-abbrev pub fits : Front → Tuning → Bool
-fits front tuning = reaches front tuning.src && receives front tuning.msys && may_be tuning.fe front.number
+abbrev pub fits_of : Front → Tuning → Bool
+fits_of front tuning = reaches front tuning.src && receives front tuning.msys && may_be tuning.fe front.number
 
 -- whether two frequencies in kHz are at most 2 MHz apart
 abbrev pub is_near : ℕ → ℕ → Bool
 is_near a b = nat_le a (b + 2000) && nat_le b (a + 2000)
 
 -- whether the multiplex is the one that a tuning means
-abbrev pub is_meant : Tuning → Mux → Bool
-is_meant tuning mux =
+abbrev pub is_meant_of : Tuning → Mux → Bool
+is_meant_of tuning mux =
     mux.src == tuning.src && pol_eq mux.pol tuning.pol && system_eq mux.msys tuning.msys && mux.sr == tuning.sr
     && is_near mux.freq tuning.freq
 
 -- the number, from 1, of the first multiplex that the tuning means
-abbrev pub mux_of : List Mux → Tuning → Option ℕ
-mux_of muxes tuning = option_map (λ place. place + 1) (position (is_meant tuning) muxes)
+abbrev pub mux_for : List Mux → Tuning → Option ℕ
+mux_for muxes tuning = option_map (λ place. place + 1) (position (is_meant_of tuning) muxes)

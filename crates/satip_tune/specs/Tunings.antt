@@ -11,8 +11,8 @@ use Rattle.satip_tune.specs.declared.tunings.Tuning.{Tuning}
 use Rattle.satip_tune.specs.declared.tunings.Change.{Change}
 
 -- the old tuning with each given field replaced by that of the change
-abbrev pub merge : Tuning → Change → Tuning
-merge old change = record {
+abbrev pub merge_of : Tuning → Change → Tuning
+merge_of old change = record {
   fe = option_or change.fe old.fe;
   src = unwrap_or change.src old.src;
   freq = unwrap_or change.freq old.freq;
@@ -26,28 +26,28 @@ merge old change = record {
 }
 
 -- whether a change gives the key's field; the keys of PIDs have none
-abbrev pub gives : Change → Key → Bool
-gives change Fe = is_some change.fe
-gives change Src = is_some change.src
-gives change Freq = is_some change.freq
-gives change PolKey = is_some change.pol
-gives change Ro = is_some change.ro
-gives change Msys = is_some change.msys
-gives change Mtype = is_some change.mtype
-gives change Plts = is_some change.plts
-gives change Sr = is_some change.sr
-gives change FecKey = is_some change.fec
-gives change Pids = false
-gives change Addpids = false
-gives change Delpids = false
+abbrev pub change_gives : Change → Key → Bool
+change_gives change Fe = is_some change.fe
+change_gives change Src = is_some change.src
+change_gives change Freq = is_some change.freq
+change_gives change PolKey = is_some change.pol
+change_gives change Ro = is_some change.ro
+change_gives change Msys = is_some change.msys
+change_gives change Mtype = is_some change.mtype
+change_gives change Plts = is_some change.plts
+change_gives change Sr = is_some change.sr
+change_gives change FecKey = is_some change.fec
+change_gives change Pids = false
+change_gives change Addpids = false
+change_gives change Delpids = false
 
 -- whether a change gives anything
 abbrev pub gives_any : Change → Bool
-gives_any change = list_any (gives change) all_keys
+gives_any change = list_any (change_gives change) all_keys
 
 -- the first needed key that a change doesn't give
 abbrev pub missing : Change → Option Key
-missing change = find (λ key. not (gives change key)) (Freq ∷ PolKey ∷ Msys ∷ Sr ∷ [])
+missing change = find (λ key. not (change_gives change key)) (Freq ∷ PolKey ∷ Msys ∷ Sr ∷ [])
 
 -- the tuning of the given fields, where the needed ones are these; the first needed one that is absent, else
 abbrev pub founded : Change → Option ℕ → Option Pol → Option System → Option ℕ → Result Tuning Key
@@ -69,5 +69,5 @@ founded change (Some freq) (Some pol) (Some msys) (Some sr) = Ok (record {
 })
 
 -- the first tuning of a stream, made of a change alone
-abbrev pub first : Change → Result Tuning Key
-first change = founded change change.freq change.pol change.msys change.sr
+abbrev pub first_of : Change → Result Tuning Key
+first_of change = founded change change.freq change.pol change.msys change.sr

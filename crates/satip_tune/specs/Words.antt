@@ -114,10 +114,10 @@ unfoldable pub key_named : List ℕ → Option Key
 key_named text = find (λ value. bytes_eq (key_text value) text) all_keys
 
 -- the word of the pilot tones, where they are on or off
-unfoldable pub pilots_text : Bool → List ℕ
-pilots_text true = codes "on"
-pilots_text false = codes "off"
+unfoldable pub pilots_text_of : Bool → List ℕ
+pilots_text_of true = codes "on"
+pilots_text_of false = codes "off"
 
 -- whether the pilot tones are on, of a word
-unfoldable pub pilots_named : List ℕ → Option Bool
-pilots_named text = find (λ on. bytes_eq (pilots_text on) text) (true ∷ false ∷ [])
+unfoldable pub pilots_named_of : List ℕ → Option Bool
+pilots_named_of text = find (λ on. bytes_eq (pilots_text_of on) text) (true ∷ false ∷ [])

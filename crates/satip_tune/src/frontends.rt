@@ -2,7 +2,7 @@
 
 ghost use Rattle.std.specs.Prelude.{◌≡◌, ◌≤◌, length, position, is_some};
 ghost use Rattle.std.specs.List.{list_any};
-ghost use Rattle.satip_tune.specs.Frontends.{fits as fits_of, is_meant as is_meant_of, mux_of as mux_for};
+ghost use Rattle.satip_tune.specs.Frontends.{fits_of, is_meant_of, mux_for};
 
 use crate::signal::{Pol, System};
 use crate::tunings::Tuning;

@@ -1,7 +1,7 @@
 //! What a satellite signal is sent with (SAT>IP 1.2.2, 3.5.10).
 
 ghost use Rattle.std.specs.Prelude.{◌≡◌};
-ghost use Rattle.satip_tune.specs.Words.{pol_text, pol_named, system_text, system_named, modulation_text, modulation_named, roll_off_text, roll_off_named, fec_text, fec_named, pilots_text as pilots_text_of, pilots_named as pilots_named_of};
+ghost use Rattle.satip_tune.specs.Words.{pol_text, pol_named, system_text, system_named, modulation_text, modulation_named, roll_off_text, roll_off_named, fec_text, fec_named, pilots_text_of, pilots_named_of};
 
 use crate::pieces::same_bytes;
 
@@ -221,7 +221,7 @@ impl Fec {
 }
 
 /// The value of `plts` in a query.
-#[tactic(auto, unfolding(crate::specs::Words::pilots_named, crate::specs::Words::pilots_text))]
+#[tactic(auto, unfolding(crate::specs::Words::pilots_named_of, crate::specs::Words::pilots_text_of))]
 pub fn pilots_text(on: bool) -> &'static [u8]
     ensures text { result.now ≡ pilots_text_of on }
     ensures read_again { pilots_named_of result.now ≡ Some on }
@@ -230,7 +230,7 @@ pub fn pilots_text(on: bool) -> &'static [u8]
 }
 
 /// Whether the pilot tones are on by this text, byte for byte; None where it is neither.
-#[tactic(auto, unfolding(crate::specs::Words::pilots_named))]
+#[tactic(auto, unfolding(crate::specs::Words::pilots_named_of))]
 pub fn pilots_named(text: &[u8]) -> Option<bool>
     ensures named { result ≡ pilots_named_of text.now }
 {

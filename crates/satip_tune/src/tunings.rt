@@ -1,7 +1,7 @@
 //! A tuning, and a change of it.
 
 ghost use Rattle.std.specs.Prelude.{◌≡◌, ◌↔◌, IsTrue, IsNone, MatchResult, None, Some};
-ghost use Rattle.satip_tune.specs.Tunings.{merge as merge_of, first as first_of, gives as gives_key, gives_any, missing};
+ghost use Rattle.satip_tune.specs.Tunings.{merge_of, first_of, change_gives, gives_any, missing};
 
 use crate::keys::Key;
 use crate::signal::{Fec, Modulation, Pol, RollOff, System};
@@ -41,7 +41,7 @@ pub struct Change {
 impl Change {
     /// Whether the field of a key is given; the keys of PIDs have none.
     pub fn gives(&self, key: Key) -> bool
-        ensures given { result ≡ gives_key self.now key }
+        ensures given { result ≡ change_gives self.now key }
     {
         match key {
             Key::Fe => self.fe.is_some(),

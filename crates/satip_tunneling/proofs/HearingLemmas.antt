@@ -15,7 +15,7 @@ use Rattle.satip_plain.specs.declared.events.Event.{Event}
 use Rattle.satip_plain.specs.declared.events.Event.TheVariants.{Request as Asks}
 use Rattle.satip_plain.specs.Histories.{Item}
 use Rattle.satip_rtsp.specs.declared.requests.Request.{Request}
-use Rattle.satip_rtsp.specs.Asked.{broken}
+use Rattle.satip_rtsp.specs.Asked.{broken_request}
 use Rattle.satip_interleave.proofs.Entries.{inners-append}
 use Rattle.satip_tunnel.specs.Histories.{TunnelItem, inners}
 use Rattle.satip_world.specs.Lines.{Line}
@@ -116,7 +116,7 @@ asks_more_by text more messages (broken_tail cause) read = record {
     messages = messages;
     tail = broken_tail cause;
     read = broken_stays text more messages cause read;
-    requests = append-nil (map asked_by_tunnel messages ++ broken cause ∷ []);
+    requests = append-nil (map asked_by_tunnel messages ++ broken_request cause ∷ []);
   };
 }
 
@@ -232,10 +232,10 @@ module _ (tells : Type 0) (course : Course) (o n : Seat) (l m : Line) (before af
       }
 
   -- what is no message was answered
-  pub closes_text : (cause : Break) → request ≡ broken cause → Parts text messages (broken_tail cause)
+  pub closes_text : (cause : Break) → request ≡ broken_request cause → Parts text messages (broken_tail cause)
       → Answers tells course.lane o n l m event true Free → HasClosed tells course n m after received text
   closes_text cause is read a =
-      let whole : made ++ request ∷ [] ≡ made ++ broken cause ∷ [] = ap (λ (r : Request). made ++ r ∷ []) is in
+      let whole : made ++ request ∷ [] ≡ made ++ broken_request cause ∷ [] = ap (λ (r : Request). made ++ r ∷ []) is in
       record {
         messages = messages;
         cause = cause;

@@ -6,7 +6,7 @@ use Rattle.satip_frame.specs.Stream.{Unfinished, Broken as broken_tail}
 use Rattle.satip_parts.specs.Held.{Held, new_parter}
 use Rattle.satip_parts.proofs.PartLemmas.{empty_ends}
 use Rattle.satip_rtsp.specs.declared.requests.Request.{Request}
-use Rattle.satip_rtsp.specs.Asked.{broken}
+use Rattle.satip_rtsp.specs.Asked.{broken_request}
 use Rattle.satip_world.specs.Lines.{Line, GotBytes, WasIdle, InputEnded, ReceiveFailed}
 use Rattle.satip_worker.specs.Progress.{Carries}
 use Rattle.satip_worker.proofs.ProgressLemmas.{carries_nothing, carries_received, carries_on, rises_from}
@@ -269,7 +269,7 @@ module _ (tells : Type 0) (course : Course) (n : Seat) (m : Line) (c : ChaCha) (
   -- a closing reply was sent
   pub talked_to_closing : m.ended ≡ false → HasClosed tells course n m c text text → Talked tells course n m c Done
   talked_to_closing goes_on closed =
-      let all : List Request = map asked_by_tunnel closed.messages ++ broken closed.cause ∷ [] in
+      let all : List Request = map asked_by_tunnel closed.messages ++ broken_request closed.cause ∷ [] in
       let A : List Request → Type 0 = λ rs. AsksInParts text rs in
       record {
         received = text;

@@ -9,7 +9,7 @@ use Rattle.satip_frame.specs.declared.framing.Break.{Break}
 use Rattle.satip_frame.specs.declared.framing.Break.TheVariants.{Bad, TooLong}
 use Rattle.satip_rtsp.specs.declared.requests.Refusal.{Refusal}
 use Rattle.satip_rtsp.specs.declared.requests.Refusal.TheVariants.{Broken as RefusedBroken, TooLong as RefusedTooLong, NoCseq, Version, Method as BadMethod, Require, Target as BadTarget, Query as QueryAt}
-use Rattle.satip_rtsp.specs.Asked.{asked, broken}
+use Rattle.satip_rtsp.specs.Asked.{asked, broken_request}
 use Rattle.satip_rtsp.proofs.Causes.{causes}
 use Rattle.satip_history.specs.History.{entry}
 use Rattle.satip_lanes.specs.declared.lane.Drained.{Drained}
@@ -115,21 +115,21 @@ replied_so peer draw request Left suits = absurd suits
 
 -- what was asked of no closing kind
 pub goes_on : (refusal : Option Refusal) → refusal ≢ Some RefusedBroken → refusal ≢ Some RefusedTooLong → closes refusal ≡ false
-goes_on None broken long = refl
-goes_on (Some RefusedBroken) broken long = absurd (broken refl)
-goes_on (Some RefusedTooLong) broken long = absurd (long refl)
-goes_on (Some NoCseq) broken long = refl
-goes_on (Some Version) broken long = refl
-goes_on (Some BadMethod) broken long = refl
-goes_on (Some (Require kept)) broken long = refl
-goes_on (Some BadTarget) broken long = refl
-goes_on (Some (QueryAt fault)) broken long = refl
+goes_on None broken_request long = refl
+goes_on (Some RefusedBroken) broken_request long = absurd (broken_request refl)
+goes_on (Some RefusedTooLong) broken_request long = absurd (long refl)
+goes_on (Some NoCseq) broken_request long = refl
+goes_on (Some Version) broken_request long = refl
+goes_on (Some BadMethod) broken_request long = refl
+goes_on (Some (Require kept)) broken_request long = refl
+goes_on (Some BadTarget) broken_request long = refl
+goes_on (Some (QueryAt fault)) broken_request long = refl
 
 -- a message closes no connection
 pub message_goes_on : (said : Said) → closes (asked_by_tunnel said).refusal ≡ false
 message_goes_on said = let by = causes said in goes_on (asked said).refusal by.not_broken by.not_too_long
 
 -- what is no message closes it
-pub broken_closes : (cause : Break) → closes (broken cause).refusal ≡ true
+pub broken_closes : (cause : Break) → closes (broken_request cause).refusal ≡ true
 broken_closes Bad = refl
 broken_closes TooLong = refl

@@ -14,7 +14,7 @@ use Rattle.satip_parts.specs.Held.{Held, IsReadUpTo, Tells}
 use Rattle.satip_parts.proofs.FrameLemmas.{behind_shorter}
 use Rattle.satip_plain.specs.declared.events.Event.TheVariants.{Request as Asks}
 use Rattle.satip_rtsp.specs.declared.requests.Request.{Request}
-use Rattle.satip_rtsp.specs.Asked.{broken}
+use Rattle.satip_rtsp.specs.Asked.{broken_request}
 use Rattle.satip_service.specs.Suits.{closes}
 use Rattle.satip_world.specs.Lines.{Line}
 use Rattle.satip_tunneling.specs.declared.ends.TunnelEnd.TheVariants.{Broken as end_broken}
@@ -53,16 +53,16 @@ asks_message text messages said next request is leads =
     let P : List Request → Type 0 = λ rs. AsksBehind text rs in
     record { before = before.0; more = before.1; behind = subst P whole (asks_first text (messages ++ said ∷ []) next leads) }
 
-asks_closing : (text : List ℕ) (messages : List Said) (cause : Break) (request : Request) → request ≡ broken cause
+asks_closing : (text : List ℕ) (messages : List Said) (cause : Break) (request : Request) → request ≡ broken_request cause
     → Parts text messages (broken_tail cause) → AsksNext text (map asked_by_tunnel messages) request
 asks_closing text messages cause request is read =
     let made : List Request = map asked_by_tunnel messages in
     let all = asks_all text messages (broken_tail cause) read in
-    let whole : made ++ broken cause ∷ [] ≡ (made ++ request ∷ []) ++ [] =
+    let whole : made ++ broken_request cause ∷ [] ≡ (made ++ request ∷ []) ++ [] =
     ap (λ (r : Request). made ++ r ∷ []) (sym is) ∙ sym (append-nil (made ++ request ∷ [])) in
     let P : List Request → Type 0 = λ rs. AsksInParts text rs in
     record {
-      before = record { left = broken cause ∷ []; asks = all };
+      before = record { left = broken_request cause ∷ []; asks = all };
       more = λ e. cc e;
       behind = record { left = []; asks = subst P whole all };
     }
@@ -100,7 +100,7 @@ module _ (tells : Type 0) (course : Course) (o n : Seat) (l m : Line) (before af
 
   -- ---- what is no message
 
-  module _ (cause : Break) (is : request ≡ broken cause) (read : Parts text messages (broken_tail cause)) where
+  module _ (cause : Break) (is : request ≡ broken_request cause) (read : Parts text messages (broken_tail cause)) where
     pub closing_on : Exchanges tells lane before after o n l m request On → HasClosed tells course n m after received text
     closing_on x =
         let e = exchange_here On x in

@@ -10,7 +10,7 @@ use Rattle.satip_frame.specs.Stream.{Unfinished, Broken as broken_tail}
 use Rattle.satip_parts.specs.Parts.{Parts}
 use Rattle.satip_parts.specs.Held.{Held, IsReadUpTo}
 use Rattle.satip_rtsp.specs.declared.requests.Request.{Request}
-use Rattle.satip_rtsp.specs.Asked.{broken}
+use Rattle.satip_rtsp.specs.Asked.{broken_request}
 use Rattle.satip_tunnel.specs.Histories.{TunnelItem, inners}
 use Rattle.satip_world.specs.Counts.{Rises}
 use Rattle.satip_world.specs.Lines.{Line}
@@ -65,8 +65,8 @@ pub record HasClosed (tells : Type 0) (course : Course) (n : Seat) (m : Line) (a
   pub read : Parts text messages (broken_tail cause)
   pub body : List TunnelItem
   pub draws : List Draw
-  pub counted : length draws ≡ length (map asked_by_tunnel messages ++ broken cause ∷ [])
-  pub events : asked_events body ≡ drawn_events (lane_peer course.lane) draws (map asked_by_tunnel messages ++ broken cause ∷ [])
+  pub counted : length draws ≡ length (map asked_by_tunnel messages ++ broken_request cause ∷ [])
+  pub events : asked_events body ≡ drawn_events (lane_peer course.lane) draws (map asked_by_tunnel messages ++ broken_request cause ∷ [])
   pub ended : ends_with_last (inners body) ≡ true
   pub so_far : SoFar tells course n m after received (wire body) Free body draws
 

@@ -17,7 +17,7 @@ use Rattle.satip_plain.specs.Steps.{step}
 use Rattle.satip_plain.specs.Histories.{datagram}
 use Rattle.satip_state.specs.Standing.{StandsFor}
 use Rattle.satip_records.proofs.Again.{none_begins}
-use Rattle.satip_record_reader.specs.ReadingEntries.{Entry, IsEntry, entry_text, read_entry}
+use Rattle.satip_record_reader.specs.ReadingEntries.{Entry, IsEntry, entry_text, entry_read}
 use Rattle.satip_record_reader.proofs.EntriesAgain.{entry_again}
 use Rattle.satip_core.specs.Held.{Held}
 use Rattle.satip_core.specs.Serving.{Steps}
@@ -76,7 +76,7 @@ same_digits (x ∷ a) (y ∷ b) are e =
 -- ---- the same line
 
 same_text : (a b : Entry) → IsEntry a → IsEntry b → entry_text a ≡ entry_text b → a ≡ b
-same_text a b is_a is_b e = (none_begins IsEntry entry_text read_entry entry_again a b [] [] is_a is_b (ap (λ (t : List ℕ). t ++ []) e)).0
+same_text a b is_a is_b e = (none_begins IsEntry entry_text entry_read entry_again a b [] [] is_a is_b (ap (λ (t : List ℕ). t ++ []) e)).0
 
 pub same_entry : (p q : Placed) → IsPlaced p → IsPlaced q → placed_line p ≡ placed_line q → p.entry ≡ q.entry
 same_entry p q is_p is_q e =

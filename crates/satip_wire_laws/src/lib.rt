@@ -5,7 +5,7 @@ mod laws;
 #[rattlefmt::skip]
 #[tactic(auto, unfolding(
     satip_channels::specs::Turned::turned,
-    satip_channels::specs::Turned::ports_told,
+    satip_channels::specs::Turned::told_ports,
     satip_channels::specs::Turned::channel_line,
     satip_base::specs::Numbers::number_of,
 ))]

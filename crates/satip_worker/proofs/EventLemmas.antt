@@ -5,7 +5,7 @@ use Rattle.std.proofs.lemmas.List.Concat.{flat_map-append}
 use Rattle.satip_base.specs.declared.network.Peer.{Peer}
 use Rattle.satip_base.specs.declared.identity.Draw.{Draw}
 use Rattle.satip_rtsp.specs.declared.requests.Request.{Request}
-use Rattle.satip_rtsp.specs.Asked.{asked, broken}
+use Rattle.satip_rtsp.specs.Asked.{asked, broken_request}
 use Rattle.satip_hearing.specs.Asking.{AsksMore}
 use Rattle.satip_plain.specs.Histories.{Item}
 use Rattle.satip_plain.specs.declared.events.Event.{Event}
@@ -74,7 +74,7 @@ pub length_push : (entries : List Item) (e : Item) → length (entries ++ e ∷ 
 length_push entries e = omega (arith, length-append entries (e ∷ []))
 
 -- the entries of the first of what the text asks
-pub first_entries : (course : Course) (text : List ℕ) (entries : List Item) (requests : List Request) → AsksMore asked broken text requests
+pub first_entries : (course : Course) (text : List ℕ) (entries : List Item) (requests : List Request) → AsksMore asked broken_request text requests
     → events_of entries ≡ course_events course requests → AreFirstOf course text entries
 first_entries course text entries requests more are =
     let d : ℕ → Draw = draw_at course.key course.stream in
@@ -90,7 +90,7 @@ first_entries course text entries requests more are =
 
 -- the entries before one request, whose event has none
 pub entries_before : (course : Course) (text : List ℕ) (entries : List Item) (requests : List Request) (request : Request)
-    → AsksMore asked broken text (requests ++ request ∷ []) → events_of entries ≡ course_events course requests
+    → AsksMore asked broken_request text (requests ++ request ∷ []) → events_of entries ≡ course_events course requests
     → (first : AreFirstOf course text entries) × (first.rest ≢ [])
 entries_before course text entries requests request more are =
     let d : ℕ → Draw = draw_at course.key course.stream in

@@ -5,7 +5,7 @@ use Rattle.satip_frame.specs.Stream.{Tail, Unfinished, Broken, Messages, Leads}
 use Rattle.satip_frame.proofs.StreamLemmas.{leads_first, leads-append, broken_stays}
 use Rattle.satip_frame.proofs.ReadingLemmas.{reading_of}
 use Rattle.satip_http.specs.declared.requests.HttpRequest.{HttpRequest}
-use Rattle.satip_http.specs.Gets.{asked, broken}
+use Rattle.satip_http.specs.Gets.{asked_get, broken_get}
 use Rattle.satip_hearing.specs.Asking.{AsksSoFar, AsksNext, AsksLast}
 use Rattle.satip_world.specs.Lines.{Line, GotBytes, InputEnded, ReceiveFailed}
 use Rattle.satip_worker.specs.Progress.{Carries}
@@ -51,25 +51,25 @@ first_read text request (inr by) = record {
 }
 
 -- where nothing was asked there is no message
-nothing_read_by : (text : List ℕ) (messages : List Said) (tail : Tail) → [] ≡ map asked messages → Messages text messages tail → Messages text [] tail
+nothing_read_by : (text : List ℕ) (messages : List Said) (tail : Tail) → [] ≡ map asked_get messages → Messages text messages tail → Messages text [] tail
 nothing_read_by text [] tail none read = read
 nothing_read_by text (m ∷ ms) tail none read = cc none
 
-nothing_read : (text rest : List ℕ) → AsksSoFar asked text [] rest → Messages text [] Unfinished
+nothing_read : (text rest : List ℕ) → AsksSoFar asked_get text [] rest → Messages text [] Unfinished
 nothing_read text rest heard = nothing_read_by text heard.first.messages Unfinished heard.first.requests_are heard.read
 
 -- the first message was found
-next_is_first : (text rest : List ℕ) (messages : List Said) (request : HttpRequest) → Leads text messages rest → request ∷ [] ≡ map asked messages
+next_is_first : (text rest : List ℕ) (messages : List Said) (request : HttpRequest) → Leads text messages rest → request ∷ [] ≡ map asked_get messages
     → AsksFirst text request
 next_is_first text rest [] request leads are = cc are
 next_is_first text rest (m ∷ []) request leads are = inl (record { message = m; first = (rest, leads); request_is = cc are })
 next_is_first text rest (m ∷ n ∷ ms) request leads are = cc are
 
-pub first_found : (text rest : List ℕ) (request : HttpRequest) → AsksNext asked text [] request rest → AsksFirst text request
+pub first_found : (text rest : List ℕ) (request : HttpRequest) → AsksNext asked_get text [] request rest → AsksFirst text request
 first_found text rest request next = next_is_first text rest next.first.messages request next.first.leads next.first.requests_are
 
 -- what stands first is no message
-pub first_broken : (text : List ℕ) (request : HttpRequest) → AsksLast asked broken text [] request → AsksFirst text request
+pub first_broken : (text : List ℕ) (request : HttpRequest) → AsksLast asked_get broken_get text [] request → AsksFirst text request
 first_broken text request last = inr (record {
   cause = last.cause;
   read = nothing_read_by text last.messages (Broken last.cause) last.before_are last.read;
@@ -86,7 +86,7 @@ read_asked ct l m m' text buf count request before got first = record {
   carries = carries_got ct l m m' text [] buf count before got;
 }
 
-module _ (ct : Type 0) (l m m' : Line) (text rest : List ℕ) (heard : AsksSoFar asked text [] rest) (before : Carries ct l m text []) where
+module _ (ct : Type 0) (l m m' : Line) (text rest : List ℕ) (heard : AsksSoFar asked_get text [] rest) (before : Carries ct l m text []) where
   -- the input ended
   pub read_nothing : InputEnded ct m m' → ReadNothing ct l m'
   read_nothing ended = record {

@@ -9,7 +9,7 @@ use Rattle.satip_frame.specs.Said.{Said}
 use Rattle.satip_rtsp.specs.declared.requests.Refusal.{Refusal}
 use Rattle.satip_rtsp.specs.declared.requests.Refusal.TheVariants.{Broken, TooLong, NoCseq, Version, Method, Require, Target, Query}
 use Rattle.satip_rtsp.specs.declared.requests.Request.{Request}
-use Rattle.satip_rtsp.specs.Asked.{asked, broken}
+use Rattle.satip_rtsp.specs.Asked.{asked, broken_request}
 use Rattle.satip_rtsp.proofs.Causes.{causes}
 use Rattle.satip_hearing.specs.Asking.{AsksNext, AsksLast, AsksMore}
 use Rattle.satip_hearing.proofs.TextLemmas.{all_with_last, all_is_more, first_is_less}
@@ -44,7 +44,7 @@ closes_message : (message : Said) → closes (asked message).refusal ≡ false
 closes_message message = let found = causes message in goes_on_after (asked message).refusal found.not_broken found.not_too_long
 
 -- and ends with what is no message
-closes_broken : (cause : Break) → closes (broken cause).refusal ≡ true
+closes_broken : (cause : Break) → closes (broken_request cause).refusal ≡ true
 closes_broken causes_of.Bad = refl
 closes_broken causes_of.TooLong = refl
 
@@ -76,7 +76,7 @@ drawn_next course draws count next is are =
     are ∙ ap (λ (n : ℕ). before_draw course.key course.stream n) same
 
 module _ (ct ot : Type 0) (course : Course) (n n' : Stage) (m m' : Line) (draws draws' : ChaCha) (text : List ℕ) (requests : List Request)
-    (request : Request) (answered : Answered ct ot course n m draws text requests false) (more : AsksMore asked broken text (requests ++ request ∷ []))
+    (request : Request) (answered : Answered ct ot course n m draws text requests false) (more : AsksMore asked broken_request text (requests ++ request ∷ []))
     (taken : draws' ≡ before_draw course.key course.stream ((course.from + length answered.entries) + 1)) where
   turns_here : (over : Bool) (turn : Turn) → Turns ct ot n n' m m' (next_event course answered.entries request) over turn
       → TurnsOn ct ot course n' m' draws' text (requests ++ request ∷ []) over turn
@@ -127,7 +127,7 @@ module _ (ct ot : Type 0) (course : Course) (n n' : Stage) (m m' : Line) (draws 
 module _ (ct ot : Type 0) (course : Course) (n n' : Stage) (m m' : Line) (draws draws' : ChaCha) (text : List ℕ) (requests : List Request)
     (request : Request) (answered : Answered ct ot course n m draws text requests false) (peer : Peer) (same : course.peer ≡ peer)
     (takes : TakesDraw draws draws') (turn : Turn) (turns : TurnsAny ct ot n n' m m' draws peer request turn) where
-  turns_on : AsksMore asked broken text (requests ++ request ∷ [])
+  turns_on : AsksMore asked broken_request text (requests ++ request ∷ [])
       → TurnsOn ct ot course n' m' draws' text (requests ++ request ∷ []) (closes request.refusal) turn
   turns_on more =
       let number : ℕ = course.from + length answered.entries in
@@ -141,12 +141,12 @@ module _ (ct ot : Type 0) (course : Course) (n n' : Stage) (m m' : Line) (draws 
   message_turns rest next =
       let B : Bool → Type 0 = λ b. TurnsOn ct ot course n' m' draws' text (requests ++ request ∷ []) b turn in
       subst B (ap (λ (r : Request). closes r.refusal) next.request_is ∙ closes_message next.message)
-      (turns_on (first_is_less asked broken text (requests ++ request ∷ []) rest next.first))
+      (turns_on (first_is_less asked broken_request text (requests ++ request ∷ []) rest next.first))
 
   -- the request of what is no message was made
-  pub last_turns : AsksLast asked broken text requests request
+  pub last_turns : AsksLast asked broken_request text requests request
       → TurnsOn ct ot course n' m' draws' text (requests ++ request ∷ []) true turn
   last_turns last =
       let B : Bool → Type 0 = λ b. TurnsOn ct ot course n' m' draws' text (requests ++ request ∷ []) b turn in
       subst B (ap (λ (r : Request). closes r.refusal) last.request_is ∙ closes_broken last.cause)
-      (turns_on (all_is_more asked broken text (requests ++ request ∷ []) (all_with_last asked broken text requests request last)))
+      (turns_on (all_is_more asked broken_request text (requests ++ request ∷ []) (all_with_last asked broken_request text requests request last)))

@@ -4,7 +4,7 @@ use Rattle.std.proofs.lemmas.List.{append-nil}
 use Rattle.rand_chacha.specs.ChaCha.{ChaCha}
 use Rattle.satip_frame.specs.Held.{Held, new_framer}
 use Rattle.satip_rtsp.specs.declared.requests.Request.{Request}
-use Rattle.satip_rtsp.specs.Asked.{asked, broken}
+use Rattle.satip_rtsp.specs.Asked.{asked, broken_request}
 use Rattle.satip_hearing.proofs.TextLemmas.{nothing_asked, more_came, all_so_far}
 use Rattle.satip_world.specs.Lines.{Line, GotBytes, WasIdle, InputEnded, ReceiveFailed}
 use Rattle.satip_world.specs.declared.doors.ConnEnd.{ConnEnd}
@@ -112,13 +112,13 @@ module _ (ct ot : Type 0) (course : Course) (n : Stage) (m m' : Line) (draws : C
   pub ran_to_end : InputEnded ct m m' → Ran ct ot course n m' draws Done
   ran_to_end ended =
       ran_to_done ct ot course n m' draws text listens.requests false (listens_on (carries_ended ct m m' ended))
-      (all_so_far asked broken text listens.requests held listens.heard) Done refl refl refl (inl (ended.after, refl)) tt
+      (all_so_far asked broken_request text listens.requests held listens.heard) Done refl refl refl (inl (ended.after, refl)) tt
 
   -- a receive failed
   pub ran_to_read_fault : ReceiveFailed ct m m' → Ran ct ot course n m' draws ReadFault
   ran_to_read_fault failed =
       ran_to_done ct ot course n m' draws text listens.requests false (listens_on (carries_failed ct m m' failed))
-      (all_so_far asked broken text listens.requests held listens.heard) ReadFault refl refl refl (record {
+      (all_so_far asked broken_request text listens.requests held listens.heard) ReadFault refl refl refl (record {
         goes_on = failed.after;
         unanswered = refl;
         faults = rises_from course.line.receive_faults m.receive_faults m'.receive_faults listens.answered.carries.receive_faults failed.receive_faults;

@@ -4,7 +4,7 @@ use Rattle.satip_frame.specs.declared.framing.Break.{Break}
 use Rattle.satip_frame.specs.Said.{Said}
 use Rattle.satip_frame.specs.Stream.{Unfinished, Broken, Messages, AreFirst}
 use Rattle.satip_http.specs.declared.requests.HttpRequest.{HttpRequest}
-use Rattle.satip_http.specs.Gets.{asked, broken}
+use Rattle.satip_http.specs.Gets.{asked_get, broken_get}
 use Rattle.satip_world.specs.Counts.{Rises}
 use Rattle.satip_world.specs.Lines.{Line}
 use Rattle.satip_worker.specs.declared.first.First.{First}
@@ -15,13 +15,13 @@ use Rattle.satip_worker.specs.Progress.{Carries}
 pub record AsksByMessage (text : List ℕ) (request : HttpRequest) : Type 0 where
   pub message : Said
   pub first : AreFirst (message ∷ []) text
-  pub request_is : request ≡ asked message
+  pub request_is : request ≡ asked_get message
 
 -- what stands first in the text is no message, and asks this
 pub record AsksByBreak (text : List ℕ) (request : HttpRequest) : Type 0 where
   pub cause : Break
   pub read : Messages text [] (Broken cause)
-  pub request_is : request ≡ broken cause
+  pub request_is : request ≡ broken_get cause
 
 -- this is what the text asks first
 abbrev pub AsksFirst : List ℕ → HttpRequest → Type 0

@@ -6,7 +6,7 @@ use Rattle.satip_base.specs.declared.identity.SessionId.{SessionId}
 use Rattle.satip_frame.specs.Said.{Said}
 use Rattle.satip_frame.specs.Stream.{Tail, Unfinished, Broken, Messages}
 use Rattle.satip_http.specs.declared.requests.HttpRequest.{HttpRequest}
-use Rattle.satip_http.specs.Gets.{asked, broken}
+use Rattle.satip_http.specs.Gets.{asked_get, broken_get}
 use Rattle.satip_plain.specs.declared.answers.Answer.{Answer}
 use Rattle.satip_plain.specs.declared.answers.Answer.TheVariants.{Get as Got, Pulled}
 use Rattle.satip_plain.specs.declared.answers.GetAnswer.TheVariants.{Started, Refused}
@@ -20,8 +20,8 @@ use Rattle.satip_worker.specs.Ends.{is_unmade}
 -- what is asked first: by the first message, or by what is none
 abbrev pub asked_first : List Said → Tail → Option HttpRequest
 asked_first [] Unfinished = None
-asked_first [] (Broken cause) = Some (broken cause)
-asked_first (message ∷ messages) tail = Some (asked message)
+asked_first [] (Broken cause) = Some (broken_get cause)
+asked_first (message ∷ messages) tail = Some (asked_get message)
 
 -- a session was closed for a reason: by a last entry, or by none where the service made none
 abbrev pub Closes : SessionId → (cause end : ConnEnd) → List Item → Type 0

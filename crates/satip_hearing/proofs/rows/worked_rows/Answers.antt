@@ -5,7 +5,7 @@ use Rattle.satip_frame.specs.Said.{Said}
 use Rattle.satip_frame.specs.Stream.{Tail, Unfinished, Broken, Messages}
 use Rattle.satip_frame.proofs.StreamLemmas.{begins_and_ends, one_list}
 use Rattle.satip_rtsp.specs.declared.requests.Request.{Request}
-use Rattle.satip_rtsp.specs.Asked.{asked, broken, cseq_of, method_named}
+use Rattle.satip_rtsp.specs.Asked.{asked, broken_request, cseq_of, method_named}
 use Rattle.satip_rtsp.specs.Targets.{target_of}
 use Rattle.satip_hearing.specs.Asking.{asked_by_tail}
 use Rattle.satip_hearing.specs.Rows.{whole, begun, bad, options_1}
@@ -28,11 +28,11 @@ still_asked (m ∷ ms) none read = cc none
 
 -- a broken text asks nothing behind that
 none_behind : (ms : List Said) (tail : Tail) → Messages (bad ++ whole) ms tail
-    → broken Bad ∷ options_1 ∷ [] ≡ map asked ms ++ asked_by_tail broken tail → ⊥
+    → broken_request Bad ∷ options_1 ∷ [] ≡ map asked ms ++ asked_by_tail broken_request tail → ⊥
 none_behind ms tail read all =
     let same = one_list (bad ++ whole) ms [] tail (Broken Bad) read (bad_ends whole) in
-    let P : List Said → Tail → Type 0 = λ ns t. broken Bad ∷ options_1 ∷ [] ≡ map asked ns ++ asked_by_tail broken t in
-    let one : broken Bad ∷ options_1 ∷ [] ≡ broken Bad ∷ [] =
+    let P : List Said → Tail → Type 0 = λ ns t. broken_request Bad ∷ options_1 ∷ [] ≡ map asked ns ++ asked_by_tail broken_request t in
+    let one : broken_request Bad ∷ options_1 ∷ [] ≡ broken_request Bad ∷ [] =
     subst (λ (t : Tail). P [] t) same.1 (subst (λ (ns : List Said). P ns tail) same.0 all) in
     cc one
 
@@ -68,7 +68,7 @@ returns-clause-whole_and_bad c = record {
   messages = with_number ∷ [];
   tail = Broken Bad;
   read = (bad, whole_begins bad, bad_ends []);
-  requests = ap (λ (r : Request). r ∷ broken Bad ∷ []) (sym asks_1);
+  requests = ap (λ (r : Request). r ∷ broken_request Bad ∷ []) (sym asks_1);
 }
 
 pub returns-clause-not_behind : goal.returns-clause-not_behind

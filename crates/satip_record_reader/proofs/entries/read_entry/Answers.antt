@@ -1,7 +1,7 @@
 use Rattle.std.proofs.Common.{◌≡◌, ℕ, ◌≤◌, List, [], Option, Some, None, arith, sym, ◌∙◌, ap, subst}
 use Rattle.satip_base.specs.declared.limits.TheConstants.{REPLY_BYTES, EVENT_BYTES, EVENT_DATAGRAMS}
 use Rattle.satip_base.specs.Output.{Datagram, Output}
-use Rattle.satip_record_reader.specs.ReadingEntries.{read_datagrams}
+use Rattle.satip_record_reader.specs.ReadingEntries.{datagrams_read}
 use Rattle.satip_record_reader.proofs.TakingSteps.{begins, behind_reply, counted_list, large_count, no_count, no_reply}
 use Rattle.satip_record_reader.proofs.entries.read_entry.Goals as goal
 
@@ -43,7 +43,7 @@ returns-then-not-read_datagrams-clause-read c =
     behind_reply c.in-Some.event c.in-Some-read_answer.answer c.in-Some-read_u32.length c.read_answer.new.self c.read_u32.new.self c.read_reply.new.bytes None
     c.in-Some-read_u32.ensures.read small c.if-not-read_reply.ensures.read none
     (counted_list c.in-Some-read_u16.count c.read_reply.new.bytes c.read_u16.new.self c.in-Some-read_u16.ensures.read few
-    ∙ sym (subst (λ (s : ℕ). None ≡ read_datagrams c.in-Some-read_u16.count s c.read_u16.new.self) spare c.if-not-read_datagrams.ensures.read))
+    ∙ sym (subst (λ (s : ℕ). None ≡ datagrams_read c.in-Some-read_u16.count s c.read_u16.new.self) spare c.if-not-read_datagrams.ensures.read))
     ∙ begins c.in-Some.event c.in-Some-read_answer.answer c.args.bytes.now c.read_event.new.bytes c.read_answer.new.self c.in-Some.ensures.read
     c.in-Some-read_answer.ensures.read
 
@@ -56,7 +56,7 @@ returns-clause-read c =
     c.if-not-read_reply.ensures.read.wrote.datagram_spare ∙ ap (λ (o : Output). o.datagram_spare) c.requires.empty in
     let found : Option (List Datagram × List ℕ) = Some (c.read_datagrams.new.out.datagrams, c.read_datagrams.new.bytes) in
     let list = counted_list c.in-Some-read_u16.count c.read_reply.new.bytes c.read_u16.new.self c.in-Some-read_u16.ensures.read few
-    ∙ subst (λ (s : ℕ). read_datagrams c.in-Some-read_u16.count s c.read_u16.new.self ≡ found) spare c.if-not-read_datagrams.ensures.read.read in
+    ∙ subst (λ (s : ℕ). datagrams_read c.in-Some-read_u16.count s c.read_u16.new.self ≡ found) spare c.if-not-read_datagrams.ensures.read.read in
     ap (λ (reply : List ℕ). Some (
       record {
         event = c.in-Some.event;

@@ -1,5 +1,5 @@
 use Rattle.satip_records.proofs.Again.{none_begins}
-use Rattle.satip_record_reader.specs.ReadingEntries.{IsEntry, entry_text, read_entry}
+use Rattle.satip_record_reader.specs.ReadingEntries.{IsEntry, entry_text, entry_read}
 use Rattle.satip_record_reader.proofs.EntriesAgain.{entry_again}
 use Rattle.satip_record_reader.proofs.laws.entries_are_read_again.Goals as goal
 
@@ -7,4 +7,4 @@ pub returns-clause-again : goal.returns-clause-again
 returns-clause-again c = entry_again
 
 pub returns-clause-none_begins : goal.returns-clause-none_begins
-returns-clause-none_begins c = none_begins IsEntry entry_text read_entry entry_again
+returns-clause-none_begins c = none_begins IsEntry entry_text entry_read entry_again

@@ -1,7 +1,7 @@
 use Rattle.satip_plain.specs.Values.{IsEvent}
 use Rattle.satip_records.specs.Records.{event_text}
 use Rattle.satip_records.proofs.Again.{none_begins}
-use Rattle.satip_record_reader.specs.ReadingEvents.{read_event}
+use Rattle.satip_record_reader.specs.ReadingEvents.{event_read}
 use Rattle.satip_record_reader.proofs.EventsAgain.{event_again}
 use Rattle.satip_record_reader.proofs.laws.events_are_read_again.Goals as goal
 
@@ -9,4 +9,4 @@ pub returns-clause-again : goal.returns-clause-again
 returns-clause-again c = event_again
 
 pub returns-clause-none_begins : goal.returns-clause-none_begins
-returns-clause-none_begins c = none_begins IsEvent event_text read_event event_again
+returns-clause-none_begins c = none_begins IsEvent event_text event_read event_again

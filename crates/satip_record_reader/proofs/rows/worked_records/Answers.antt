@@ -1,42 +1,42 @@
 use Rattle.std.proofs.Common.{refl}
-use Rattle.satip_records.specs.Reading.{read_bool, read_change, read_draw, read_fec, read_id, read_modulation, read_option, read_pol, read_ports, read_roll_off, read_system, read_u16, read_u32, read_u64, read_u8}
-use Rattle.satip_record_reader.specs.ReadingLists.{read_each, read_pid, read_pid_list}
-use Rattle.satip_record_reader.specs.ReadingRequests.{read_method, read_name, read_pids_given, read_query, read_refusal, read_request}
-use Rattle.satip_record_reader.specs.ReadingEvents.{read_ask, read_asked, read_close, read_ended, read_event, read_got, read_packet, read_pull, read_taken, read_tick}
+use Rattle.satip_records.specs.Reading.{bool_read, change_read, draw_read, fec_read, id_read, modulation_read, read_option, pol_read, ports_read, roll_off_read, system_read, u16_read, u32_read, u64_read, u8_read}
+use Rattle.satip_record_reader.specs.ReadingLists.{read_each, pid_read, pid_list_read}
+use Rattle.satip_record_reader.specs.ReadingRequests.{method_read, name_read, pids_given_read, query_read, refusal_read, request_read}
+use Rattle.satip_record_reader.specs.ReadingEvents.{ask_read, asked_read, close_read, ended_read, event_read, got_read, packet_read, pull_read, taken_read, tick_read}
 use Rattle.satip_record_reader.proofs.rows.worked_records.Goals as goal
 
 pub returns-clause-stop : goal.returns-clause-stop
-unfolding read_event read_asked read_got read_tick read_taken read_ended read_ask read_pull read_close read_packet read_request read_query read_change
-    read_pids_given read_method read_refusal read_name read_pid_list read_pid read_each read_option read_bool read_ports read_id read_draw read_pol
-    read_roll_off read_system read_modulation read_fec read_u64 read_u32 read_u16 read_u8
+unfolding event_read asked_read got_read tick_read taken_read ended_read ask_read pull_read close_read packet_read request_read query_read change_read
+    pids_given_read method_read refusal_read name_read pid_list_read pid_read read_each read_option bool_read ports_read id_read draw_read pol_read
+    roll_off_read system_read modulation_read fec_read u64_read u32_read u16_read u8_read
 returns-clause-stop c = refl
 
 pub returns-clause-tick : goal.returns-clause-tick
-unfolding read_event read_asked read_got read_tick read_taken read_ended read_ask read_pull read_close read_packet read_request read_query read_change
-    read_pids_given read_method read_refusal read_name read_pid_list read_pid read_each read_option read_bool read_ports read_id read_draw read_pol
-    read_roll_off read_system read_modulation read_fec read_u64 read_u32 read_u16 read_u8
+unfolding event_read asked_read got_read tick_read taken_read ended_read ask_read pull_read close_read packet_read request_read query_read change_read
+    pids_given_read method_read refusal_read name_read pid_list_read pid_read read_each read_option bool_read ports_read id_read draw_read pol_read
+    roll_off_read system_read modulation_read fec_read u64_read u32_read u16_read u8_read
 returns-clause-tick c = refl
 
 pub returns-clause-setup : goal.returns-clause-setup
-unfolding read_event read_asked read_got read_tick read_taken read_ended read_ask read_pull read_close read_packet read_request read_query read_change
-    read_pids_given read_method read_refusal read_name read_pid_list read_pid read_each read_option read_bool read_ports read_id read_draw read_pol
-    read_roll_off read_system read_modulation read_fec read_u64 read_u32 read_u16 read_u8
+unfolding event_read asked_read got_read tick_read taken_read ended_read ask_read pull_read close_read packet_read request_read query_read change_read
+    pids_given_read method_read refusal_read name_read pid_list_read pid_read read_each read_option bool_read ports_read id_read draw_read pol_read
+    roll_off_read system_read modulation_read fec_read u64_read u32_read u16_read u8_read
 returns-clause-setup c = refl
 
 pub returns-clause-large_pid : goal.returns-clause-large_pid
-unfolding read_event read_asked read_got read_tick read_taken read_ended read_ask read_pull read_close read_packet read_request read_query read_change
-    read_pids_given read_method read_refusal read_name read_pid_list read_pid read_each read_option read_bool read_ports read_id read_draw read_pol
-    read_roll_off read_system read_modulation read_fec read_u64 read_u32 read_u16 read_u8
+unfolding event_read asked_read got_read tick_read taken_read ended_read ask_read pull_read close_read packet_read request_read query_read change_read
+    pids_given_read method_read refusal_read name_read pid_list_read pid_read read_each read_option bool_read ports_read id_read draw_read pol_read
+    roll_off_read system_read modulation_read fec_read u64_read u32_read u16_read u8_read
 returns-clause-large_pid c = refl
 
 pub returns-clause-short_list : goal.returns-clause-short_list
-unfolding read_event read_asked read_got read_tick read_taken read_ended read_ask read_pull read_close read_packet read_request read_query read_change
-    read_pids_given read_method read_refusal read_name read_pid_list read_pid read_each read_option read_bool read_ports read_id read_draw read_pol
-    read_roll_off read_system read_modulation read_fec read_u64 read_u32 read_u16 read_u8
+unfolding event_read asked_read got_read tick_read taken_read ended_read ask_read pull_read close_read packet_read request_read query_read change_read
+    pids_given_read method_read refusal_read name_read pid_list_read pid_read read_each read_option bool_read ports_read id_read draw_read pol_read
+    roll_off_read system_read modulation_read fec_read u64_read u32_read u16_read u8_read
 returns-clause-short_list c = refl
 
 pub returns-clause-tenth_kind : goal.returns-clause-tenth_kind
-unfolding read_event read_asked read_got read_tick read_taken read_ended read_ask read_pull read_close read_packet read_request read_query read_change
-    read_pids_given read_method read_refusal read_name read_pid_list read_pid read_each read_option read_bool read_ports read_id read_draw read_pol
-    read_roll_off read_system read_modulation read_fec read_u64 read_u32 read_u16 read_u8
+unfolding event_read asked_read got_read tick_read taken_read ended_read ask_read pull_read close_read packet_read request_read query_read change_read
+    pids_given_read method_read refusal_read name_read pid_list_read pid_read read_each read_option bool_read ports_read id_read draw_read pol_read
+    roll_off_read system_read modulation_read fec_read u64_read u32_read u16_read u8_read
 returns-clause-tenth_kind c = refl

@@ -1,5 +1,5 @@
 use Rattle.std.proofs.Common.{refl}
-use Rattle.satip_http.specs.Gets.{asked}
+use Rattle.satip_http.specs.Gets.{asked_get}
 use Rattle.satip_script.specs.Texts.{get_of}
 use Rattle.satip_digits.specs.Digits.{bytes_of}
 use Rattle.satip_script.proofs.PartLemmas.{asks_whole, asks_broken}
@@ -7,7 +7,7 @@ use Rattle.satip_script.proofs.messages.read_get.Goals as goal
 
 pub returns-in-Whole-clause-asked : goal.returns-in-Whole-clause-asked
 returns-in-Whole-clause-asked c =
-    asks_whole (bytes_of c.args.digits.now) c.look_in.new.framer asked get_of (λ m. refl) c.read_found_get.new.into c.in-Whole.ensures.sees
+    asks_whole (bytes_of c.args.digits.now) c.look_in.new.framer asked_get get_of (λ m. refl) c.read_found_get.new.into c.in-Whole.ensures.sees
     c.read_found_get.ensures.asked
 
 pub returns-in-NotWhole-clause-asked : goal.returns-in-NotWhole-clause-asked

@@ -2,7 +2,7 @@ use Rattle.std.specs.Fmt.{digits}
 use Rattle.satip_base.specs.Numbers.{number_of}
 use Rattle.std.proofs.Common.{◌≡◌, ◌∙◌, ℕ, List, [], ◌∷◌, ◌++◌, arith, refl, ap, subst, inl, inr}
 use Rattle.satip_base.specs.declared.network.Peer.{Peer}
-use Rattle.satip_channels.specs.Turned.{turned, ports_told, channel_line}
+use Rattle.satip_channels.specs.Turned.{turned, told_ports, channel_line}
 use Rattle.satip_frame.specs.Stream.{Unfinished}
 use Rattle.satip_parts.proofs.PartLemmas.{empty_ends}
 use Rattle.satip_tunnel.specs.Histories.{TunnelItem}
@@ -90,7 +90,7 @@ pub returns-clause-no_leave : goal.returns-clause-no_leave
 returns-clause-no_leave c = λ walk. walk.1
 
 pub returns-clause-in_part : goal.returns-clause-in_part
-unfolding turned ports_told channel_line
+unfolding turned told_ports channel_line
 returns-clause-in_part c = record {
   before = [];
   last = asks 3 (1 ∷ 2 ∷ 3 ∷ []);
@@ -236,5 +236,5 @@ pub returns-clause-not_spent : goal.returns-clause-not_spent
 returns-clause-not_spent c = λ run. let e : 1 ≡ 18446744073709551615 = run.1.leaves.1 in absurd (omega (arith, e))
 
 pub returns-clause-wired : goal.returns-clause-wired
-unfolding turned ports_told channel_line number_of digits
+unfolding turned told_ports channel_line number_of digits
 returns-clause-wired c = refl

@@ -1,5 +1,5 @@
 use Rattle.std.proofs.Common.{◌≡◌, ℕ, List, [], None, length}
-use Rattle.satip_http.specs.Gets.{asked}
+use Rattle.satip_http.specs.Gets.{asked_get}
 use Rattle.satip_hearing.specs.Asking.{AsksSoFar}
 use Rattle.satip_worker.specs.Progress.{Carries}
 use Rattle.satip_worker.proofs.first.read_first.Given as goal
@@ -9,6 +9,6 @@ abbrev pub invariant-loop : goal.invariant-loop
 invariant-loop g l =
     (l.framer.ended ≡ None)
     × (length l.buf ≡ 4096)
-    × ((text : List ℕ) × AsksSoFar asked text [] l.framer.bytes
+    × ((text : List ℕ) × AsksSoFar asked_get text [] l.framer.bytes
     × Carries g.C.Conn.tells (g.C.Conn.line l.initial.conn) (g.C.Conn.line l.conn) text [])
     × ((g.C.Conn.line l.conn).receive_faults ≡ (g.C.Conn.line l.initial.conn).receive_faults)

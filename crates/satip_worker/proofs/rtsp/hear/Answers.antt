@@ -1,5 +1,5 @@
 use Rattle.std.proofs.Common.{refl, ◌∙◌, ◌++◌, ◌∷◌, []}
-use Rattle.satip_rtsp.specs.Asked.{asked, broken}
+use Rattle.satip_rtsp.specs.Asked.{asked, broken_request}
 use Rattle.satip_hearing.proofs.TextLemmas.{all_with_last}
 use Rattle.satip_worker.specs.declared.turns.Turn.TheVariants.{Sent, Lost, Unmade}
 use Rattle.satip_worker.proofs.HearingLemmas.{stands_whole, message_turns, last_turns}
@@ -51,7 +51,7 @@ returns-in-Sent-turn-clause-hears g c = λ course text same stands.
     let last = c.in-Last.ensures.hears text before.requests before.first in
     record {
       requests = before.requests ++ c.next_asked.new.request ∷ [];
-      asks = all_with_last asked broken text before.requests c.next_asked.new.request last;
+      asks = all_with_last asked broken_request text before.requests c.next_asked.new.request last;
       answered = last_turns _ _ course _ _ _ _ _ _ text before.requests c.next_asked.new.request before.answered _ same
           c.turn-in-Last.ensures.draws Sent c.in-Sent-turn.ensures.turns last;
     }

@@ -1,7 +1,7 @@
 use Rattle.std.proofs.Common.{◌≡◌, ◌∙◌, ap, sym, subst, None, Some, List, length}
 use Rattle.std.specs.Option.{option_map}
 use Rattle.std.specs.List.{refill}
-use Rattle.satip_tune.specs.Frontends.{mux_of}
+use Rattle.satip_tune.specs.Frontends.{mux_for}
 use Rattle.satip_tune.specs.declared.frontends.Mux.{Mux}
 use Rattle.satip_fronts.specs.declared.choice.Place.{Place}
 use Rattle.satip_fronts.specs.FrontEnds.{FrontEnds, Sound, choice, moved}
@@ -32,7 +32,7 @@ fields : (c : goal.After-self-in-Some-1)
       counts = c.count_streams-self-inside.result;
     }) ≡ moved c.args.self.now c.args.stream c.args.tuning.now c.in-Some.place
 fields c =
-    let wanted = c.mux_of-mux.ensures.found ∙ ap (λ (muxes : List Mux). mux_of muxes c.args.tuning.now) c.deref.ensures.value in
+    let wanted = c.mux_of-mux.ensures.found ∙ ap (λ (muxes : List Mux). mux_for muxes c.args.tuning.now) c.deref.ensures.value in
     let long = c.move_stream.auto.rows ∙ ap length c.deref_mut.ensures.value in
     moved_made (front_ends c.self.inside) c.args.stream c.args.tuning.now c.in-Some.place c.mux_of-mux.result c.deref_mut.result.now c.move_stream.new.rows _
     c.move_stream.new.places

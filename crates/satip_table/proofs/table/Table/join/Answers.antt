@@ -1,6 +1,6 @@
 use Rattle.std.proofs.Common.{◌≡◌, ◌∙◌, ap, false, true}
 use Rattle.satip_table.specs.declared.session.Session.{Session}
-use Rattle.satip_table.specs.Sessions.{next_id}
+use Rattle.satip_table.specs.Sessions.{following_id}
 use Rattle.satip_table.specs.Streams.{is_live}
 use Rattle.satip_table.specs.Living.{Living, is_full}
 use Rattle.satip_table.specs.View.{living}
@@ -24,7 +24,7 @@ invariant_of-self c =
 pub returns-clause-id : goal.returns-clause-id
 returns-clause-id c =
     ap (λ (s : Session). s.id) c.new_session-session.ensures.session ∙ session_id c.self.inside.made c.args.session c.args.stream
-    ∙ ap (λ (v : Living). next_id v.made c.args.session) c.self.view_is
+    ∙ ap (λ (v : Living). following_id v.made c.args.session) c.self.view_is
 
 pub returns-clause-sound : goal.returns-clause-sound
 returns-clause-sound c = (invariant_of-self c).sound

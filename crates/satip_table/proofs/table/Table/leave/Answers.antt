@@ -1,7 +1,7 @@
 use Rattle.std.proofs.Common.{◌≡◌, ◌∙◌, Some, find, ap, sym, rules}
 use Rattle.std.specs.Option.{option_map}
 use Rattle.satip_table.specs.declared.session.Seat.{Seat}
-use Rattle.satip_table.specs.Sessions.{has_id, owner_of, without}
+use Rattle.satip_table.specs.Sessions.{has_id_of, owner_of, without}
 use Rattle.satip_table.specs.Streams.{kept_streams}
 use Rattle.satip_table.specs.Owners.{handed}
 use Rattle.satip_table.specs.Living.{Living}
@@ -23,7 +23,7 @@ pub invariant_of-self-2 : goal.invariant_of-self-2
 invariant_of-self-2 c =
     let v = living c.self.inside in
     let removed : c.remove.new.self ≡ without c.args.id c.self.inside.seats = search rules in
-    let was : Some c.in-Some.stream ≡ option_map (λ (seat : Seat). seat.session.stream) (find (has_id c.args.id) c.self.inside.seats) = search rules in
+    let was : Some c.in-Some.stream ≡ option_map (λ (seat : Seat). seat.session.stream) (find (has_id_of c.args.id) c.self.inside.seats) = search rules in
     let first = c.first_member-first.ensures.first ∙ ap (λ ss. owner_of ss c.in-Some.stream) removed in
     let kept : c.hand_on.new.streams ≡ kept_streams c.remove.new.self c.self.inside.streams =
     c.hand_on.ensures.handed ∙ ap (λ o. handed c.in-Some.stream o c.self.inside.streams) first
@@ -35,7 +35,7 @@ pub returns-clause-streams : goal.returns-clause-streams
 returns-clause-streams c =
     let v = living c.self.inside in
     let removed : c.remove.new.self ≡ without c.args.id c.self.inside.seats = search rules in
-    let was : Some c.in-Some.stream ≡ option_map (λ (seat : Seat). seat.session.stream) (find (has_id c.args.id) c.self.inside.seats) = search rules in
+    let was : Some c.in-Some.stream ≡ option_map (λ (seat : Seat). seat.session.stream) (find (has_id_of c.args.id) c.self.inside.seats) = search rules in
     let first = c.first_member-first.ensures.first ∙ ap (λ ss. owner_of ss c.in-Some.stream) removed in
     let kept : c.hand_on.new.streams ≡ kept_streams c.remove.new.self c.self.inside.streams =
     c.hand_on.ensures.handed ∙ ap (λ o. handed c.in-Some.stream o c.self.inside.streams) first

@@ -1,6 +1,6 @@
 use Rattle.std.proofs.Common.{Bor}
 use Rattle.satip_table.specs.declared.session.Seat.{Seat}
-use Rattle.satip_table.specs.Sessions.{has_id}
+use Rattle.satip_table.specs.Sessions.{has_id_of}
 use Rattle.satip_table.proofs.SeatLaws.{found_within, lent_within}
 use Rattle.satip_table.proofs.table.Table.seat_of.Goals as goal
 
@@ -9,4 +9,4 @@ find-requires c = record { rising = (c.self.inside.made, c.self.invariant.sound.
 
 pub returns-clause-within : goal.returns-clause-within
 returns-clause-within c = lent_within (λ (s : Bor Seat). s.now) c.find.result c.find.ensures.seat
-    (found_within (has_id c.args.id) c.self.inside.seats c.self.invariant.sound.slots)
+    (found_within (has_id_of c.args.id) c.self.inside.seats c.self.invariant.sound.slots)
