@@ -20,7 +20,8 @@ pub fn worked_transports()
     ensures too_large { interleaved_by (codes "RTP/AVP/TCP;interleaved=0-256") ≡ None }
     ensures in_any_case { interleaved_by (codes " rtp/avp/tcp ; Interleaved=00-1 ")
         ≡ Some (record { rtp = 1; rtcp = 2 }) }
-    ensures first_counts { interleaved_by (codes "RTP/AVP/TCP;interleaved=x;interleaved=0-1") ≡ None }
+    ensures first_counts { interleaved_by (codes "RTP/AVP/TCP;interleaved=x;interleaved=0-1")
+        ≡ None }
     ensures without { interleaved_by (codes "RTP/AVP/TCP;unicast") ≡ None }
     ensures over_udp { interleaved_by (codes "RTP/AVP;unicast;client_port=1400-1401") ≡ None }
     ensures udp_interleaved { interleaved_by (codes "RTP/AVP/UDP;interleaved=0-1") ≡ None }

@@ -20,14 +20,17 @@ pub fn worked_rows()
 
     // Nothing behind what is no message is heard.
     ensures bad { AsksAll asked broken_request (bad ++ whole) (broken_request Bad ∷ []) }
-    ensures too_long { AsksAll asked broken_request (too_long ++ whole) (broken_request TooLong ∷ []) }
-    ensures whole_and_bad { AsksAll asked broken_request (whole ++ bad) (options_1 ∷ broken_request Bad ∷ []) }
-    ensures not_behind { ¬ (AsksAll asked broken_request (bad ++ whole) (broken_request Bad ∷ options_1 ∷ [])) }
+    ensures too_long { AsksAll asked broken_request (too_long ++ whole)
+        (broken_request TooLong ∷ []) }
+    ensures whole_and_bad { AsksAll asked broken_request (whole ++ bad)
+        (options_1 ∷ broken_request Bad ∷ []) }
+    ensures not_behind { ¬ (AsksAll asked broken_request (bad ++ whole)
+        (broken_request Bad ∷ options_1 ∷ [])) }
 
     // A piece that lacks the last byte, and the last byte.
-    ensures first_piece { Hears asked broken_request begun [] blank (record new_framer { bytes = begun })
-        [] Next.Nothing }
+    ensures first_piece { Hears asked broken_request begun [] blank
+        (record new_framer { bytes = begun }) [] Next.Nothing }
     ensures second_piece { Hears asked broken_request whole [] options_1 new_framer [] Next.Asked }
-    ensures last { Hears asked broken_request (whole ++ bad) (options_1 ∷ []) (broken_request Bad) new_framer
-        [] Next.Last }
+    ensures last { Hears asked broken_request (whole ++ bad) (options_1 ∷ [])
+        (broken_request Bad) new_framer [] Next.Last }
 {}

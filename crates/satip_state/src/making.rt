@@ -106,7 +106,8 @@ impl Parts {
             (next_id st draw)) }
         ensures joined { (c : Config) (st : State) → StandsFor c self.old st
             → StandsFor c self.new
-            (if is_full st || is_none (stream_of st number) then st else joined false peer draw ports number st) }
+            (if is_full st || is_none (stream_of st number) then st
+            else joined false peer draw ports number st) }
     {
         if self.table.full() {
             return None;
