@@ -12,7 +12,7 @@ use Rattle.satip_tune.specs.Pieces.{is_byte}
 use Rattle.satip_rtsp.specs.Targets.{is_begun_with}
 use Rattle.satip_rtsp.specs.Transports.{both_ports, port_at_most}
 use Rattle.satip_rtsp.proofs.CseqLemmas.{number_of-le}
-use Rattle.satip_channels.specs.Turned.{channel_line, is_empty_line, ports_beside, ports_name, told_ports, turned, turned_line, turned_lines, return_left}
+use Rattle.satip_channels.specs.Turned.{channel_line, is_empty_line, ports_beside, ports_name, told_ports, turned, turned_line, turned_lines, before_return}
 
 -- as many pieces as before
 same_count : (line : List ℕ) (parts turned_parts : List (List ℕ)) (b : Bool) → length turned_parts ≡ length parts
@@ -114,9 +114,9 @@ length-turned_line-le line = by (is_begun_with ports_name line) refl
     of_ports (Some ports) within long = omega (arith, long, length-channel_line-le ports within)
 
     by : (b : Bool) → is_begun_with ports_name line ≡ b
-        → length (option_map_or channel_line (option_and_then ports_beside (option_and_then return_left (cond b (Some (drop 39 line)) None))) line)
+        → length (option_map_or channel_line (option_and_then ports_beside (option_and_then before_return (cond b (Some (drop 39 line)) None))) line)
         ≤ 2 * length line
-    by true is = of_ports _ (between_within (return_left (drop 39 line))) (named_long line is)
+    by true is = of_ports _ (between_within (before_return (drop 39 line))) (named_long line is)
     by false is = omega arith
 
 twice_front : (line : List ℕ) (parts turned_parts : List (List ℕ)) (b : Bool) → 0 < length parts → 0 < length turned_parts

@@ -17,16 +17,16 @@ abbrev pub ports_beside : List ℕ → Option Ports
 ports_beside text = both_ports (port_at_most 65535 (before_first (is_byte 45) text)) (port_at_most 65535 (after_first (is_byte 45) text))
 
 -- what stands before the carriage return that ends a line
-abbrev pub return_left : List ℕ → Option (List ℕ)
-return_left line = if ends_with nat_eq line (13 ∷ []) then Some (take (length line - 1) line) else None
+abbrev pub before_return : List ℕ → Option (List ℕ)
+before_return line = if ends_with nat_eq line (13 ∷ []) then Some (take (length line - 1) line) else None
 
 -- what stands behind the beginning of a line that tells UDP ports
-abbrev pub name_left : List ℕ → Option (List ℕ)
-name_left line = if is_begun_with ports_name line then Some (drop 39 line) else None
+abbrev pub after_ports_name : List ℕ → Option (List ℕ)
+after_ports_name line = if is_begun_with ports_name line then Some (drop 39 line) else None
 
 -- the UDP ports that a line tells, which ends with its carriage return
 unfoldable pub told_ports : List ℕ → Option Ports
-told_ports line = option_and_then ports_beside (option_and_then return_left (name_left line))
+told_ports line = option_and_then ports_beside (option_and_then before_return (after_ports_name line))
 
 -- the line that tells channels, without its line feed
 unfoldable pub channel_line : Ports → List ℕ

@@ -2,7 +2,7 @@
 ghost use Rattle.std.specs.Prelude.{◌≡◌, ◌+◌, ◌≤◌, [], ◌++◌, length, vec_len, vec_capacity, decimal, IfSome, IfNone, IfOk};
 ghost use Rattle.std.specs.Option.{option_copied, option_and_then};
 ghost use Rattle.satip_base.specs.declared.limits.TheConstants.{REPLY_BYTES as MOST};
-ghost use Rattle.satip_channels.specs.Turned.{name_left, channel_line, ports_beside, told_ports, IsFirstLine, HasNoLine, turned, turned_line, return_left};
+ghost use Rattle.satip_channels.specs.Turned.{after_ports_name, channel_line, ports_beside, told_ports, IsFirstLine, HasNoLine, turned, turned_line, before_return};
 ghost use Rattle.satip_rtsp.specs.Transports.{port_at_most};
 
 use crate::texts::text_of;
@@ -150,13 +150,13 @@ fn ports_told(line: &[u8]) -> Option<Ports>
 }
 
 fn behind_name(line: &[u8]) -> Option<&[u8]>
-    ensures rest { option_copied result ≡ name_left line.now }
+    ensures rest { option_copied result ≡ after_ports_name line.now }
 {
     line.strip_prefix(b"Transport: RTP/AVP;unicast;client_port=")
 }
 
 fn without_return(line: Option<&[u8]>) -> Option<&[u8]>
-    ensures text { option_copied result ≡ option_and_then return_left (option_copied line.entry) }
+    ensures text { option_copied result ≡ option_and_then before_return (option_copied line.entry) }
 {
     match line {
         None => None,

@@ -6,7 +6,7 @@ use Rattle.satip_frame.specs.Said.{Said}
 use Rattle.satip_query.specs.Reading.{query_of}
 use Rattle.satip_query.specs.declared.faults.QueryFault.{QueryFault}
 use Rattle.satip_query.specs.declared.queries.Query.{Query}
-use Rattle.satip_http.specs.Gets.{AsksAtFault, IsGet, asked_get, is_path, is_served_text, query_in, refused, rest_text, of_path, of_query, of_rest}
+use Rattle.satip_http.specs.Gets.{AsksAtFault, IsGet, asked_get, is_path, is_served_text, query_in, refused, rest_text, get_of_path, get_of_query, get_of_rest}
 use Rattle.satip_http.specs.declared.requests.HttpRefusal.{HttpRefusal}
 use Rattle.satip_http.specs.declared.requests.HttpRefusal.TheVariants.{Broken, TooLong, Version, Method, Target, NotFound, Query as QueryAt}
 use Rattle.satip_http.specs.declared.requests.HttpRequest.{HttpRequest}
@@ -26,26 +26,26 @@ either : (k : ℕ) (b : Bool) (x y : HttpRequest) → k ≤ place x.refusal → 
 either k true x y a b = a
 either k false x y a b = b
 
-query_place : (found : Result Query QueryFault) → 4 ≤ place (of_query found).refusal
+query_place : (found : Result Query QueryFault) → 4 ≤ place (get_of_query found).refusal
 query_place (Err fault) = omega arith
 query_place (Ok query) = omega arith
 
-asking_place : (found : Result Query QueryFault) → 6 ≤ place (of_query found).refusal
+asking_place : (found : Result Query QueryFault) → 6 ≤ place (get_of_query found).refusal
 asking_place (Err fault) = omega arith
 asking_place (Ok query) = omega arith
 
-path_place : (path : List ℕ) → 4 ≤ place (of_path path).refusal
+path_place : (path : List ℕ) → 4 ≤ place (get_of_path path).refusal
 path_place path =
     let missing : 4 ≤ place (refused NotFound).refusal = omega arith in
     let wrong : 4 ≤ place (refused Target).refusal = omega arith in
     let neither : HttpRequest = cond (starts_with nat_eq path (codes "/")) (refused NotFound) (refused Target) in
     let last : 4 ≤ place neither.refusal = either 4 (starts_with nat_eq path (codes "/")) (refused NotFound) (refused Target) missing wrong in
-    either 4 (starts_with nat_eq path (codes "/?")) (of_query (query_of (drop 2 path))) neither (query_place (query_of (drop 2 path))) last
+    either 4 (starts_with nat_eq path (codes "/?")) (get_of_query (query_of (drop 2 path))) neither (query_place (query_of (drop 2 path))) last
 
-rest_place : (rest : List ℕ) → 4 ≤ place (of_rest rest).refusal
-unfolding of_rest
+rest_place : (rest : List ℕ) → 4 ≤ place (get_of_rest rest).refusal
+unfolding get_of_rest
 rest_place rest =
-    either 4 (starts_with nat_eq rest (codes "?")) (of_query (query_of (drop 1 rest))) (of_path rest) (query_place (query_of (drop 1 rest)))
+    either 4 (starts_with nat_eq rest (codes "?")) (get_of_query (query_of (drop 1 rest))) (get_of_path rest) (query_place (query_of (drop 1 rest)))
     (path_place rest)
 
 -- a refusal that comes later is another one
@@ -59,7 +59,7 @@ chosen served get r = cond served (cond get r (refused Method)) (refused Version
 -- what a target, once its beginnings were looked at, makes of the request
 abbrev pub chosen_rest : Bool → Bool → Bool → Result Query QueryFault → Result Query QueryFault → HttpRequest
 chosen_rest asks slash_asks slash behind_mark behind_path =
-    cond asks (of_query behind_mark) (cond slash_asks (of_query behind_path) (cond slash (refused NotFound) (refused Target)))
+    cond asks (get_of_query behind_mark) (cond slash_asks (get_of_query behind_path) (cond slash (refused NotFound) (refused Target)))
 
 -- the query so found
 abbrev pub chosen_query : Bool → Bool → List ℕ → List ℕ → Option (List ℕ)
@@ -71,11 +71,11 @@ pub record RestCauses (slash : Bool) (text : Option (List ℕ)) (refusal : Optio
   pub not_found : (refusal ≡ Some NotFound) ↔ ((slash ≡ true) × (text ≡ None))
   pub query : (fault : QueryFault) → (refusal ≡ Some (QueryAt fault)) ↔ AsksAtFault fault text
 
-query_by : (fault : QueryFault) (found : Result Query QueryFault) → ((of_query found).refusal ≡ Some (QueryAt fault)) ↔ (found ≡ Err fault)
+query_by : (fault : QueryFault) (found : Result Query QueryFault) → ((get_of_query found).refusal ≡ Some (QueryAt fault)) ↔ (found ≡ Err fault)
 query_by fault (Ok query) = (λ e. absurd (cc), λ e. absurd (cc))
 query_by fault (Err other) = (λ e. cc, λ e. cc)
 
-asking : (slash : Bool) (text : List ℕ) → RestCauses slash (Some text) (of_query (query_of text)).refusal
+asking : (slash : Bool) (text : List ℕ) → RestCauses slash (Some text) (get_of_query (query_of text)).refusal
 asking slash text = record {
   target = (λ e. absurd (later _ Target 6 (asking_place (query_of text)) (omega arith) e), λ e. absurd (let no : Some text ≡ None = e.1 in cc));
   not_found = (λ e. absurd (later _ NotFound 6 (asking_place (query_of text)) (omega arith) e), λ e. absurd (let no : Some text ≡ None = e.1 in cc));
@@ -98,8 +98,8 @@ rest_causes false false false behind_mark behind_path = record {
   query = λ fault. (λ e. absurd (cc), λ e. absurd e);
 }
 
-pub causes_of_rest : (rest : List ℕ) → RestCauses (is_path rest) (query_in rest) (of_rest rest).refusal
-unfolding of_rest
+pub causes_of_rest : (rest : List ℕ) → RestCauses (is_path rest) (query_in rest) (get_of_rest rest).refusal
+unfolding get_of_rest
 causes_of_rest rest =
     rest_causes (starts_with nat_eq rest (codes "?")) (starts_with nat_eq rest (codes "/?")) (is_path rest) (drop 1 rest) (drop 2 rest)
 
@@ -117,9 +117,9 @@ no_get m refusal low never = record {
   query = λ fault. (λ e. absurd (later (Some (QueryAt fault)) refusal 4 (omega arith) low (sym e)), λ e. absurd (never e.0));
 }
 
-of_get : (m : Said) → IsGet m → TargetCauses m (of_rest (rest_text m.target)).refusal
+of_get : (m : Said) → IsGet m → TargetCauses m (get_of_rest (rest_text m.target)).refusal
 of_get m is =
-    let found : RestCauses (is_path (rest_text m.target)) (query_in (rest_text m.target)) (of_rest (rest_text m.target)).refusal =
+    let found : RestCauses (is_path (rest_text m.target)) (query_in (rest_text m.target)) (get_of_rest (rest_text m.target)).refusal =
     causes_of_rest (rest_text m.target) in
     record {
       target = (λ e. (is, (found.target.0 e).0, (found.target.0 e).1), λ e. found.target.1 (e.1, e.2));
@@ -128,7 +128,7 @@ of_get m is =
     }
 
 target_causes_by : (m : Said) (served get : Bool) → is_served_text m.version ≡ served → bytes_eq m.method (codes "GET") ≡ get
-    → TargetCauses m (chosen served get (of_rest (rest_text m.target))).refusal
+    → TargetCauses m (chosen served get (get_of_rest (rest_text m.target))).refusal
 target_causes_by m false get v g = no_get m Version (omega arith) (λ is. let no : is_served_text m.version ≡ true = is.version in cc)
 target_causes_by m true false v g = no_get m Method (omega arith) (λ is. let no : bytes_eq m.method (codes "GET") ≡ true = is.method in cc)
 target_causes_by m true true v g = of_get m (record { version = v; method = g })
@@ -166,4 +166,4 @@ causes_of true true r high = record {
 
 pub causes : (m : Said) → Causes (is_served_text m.version) (bytes_eq m.method (codes "GET")) (asked_get m).refusal
 unfolding asked_get
-causes m = causes_of (is_served_text m.version) (bytes_eq m.method (codes "GET")) (of_rest (rest_text m.target)) (rest_place (rest_text m.target))
+causes m = causes_of (is_served_text m.version) (bytes_eq m.method (codes "GET")) (get_of_rest (rest_text m.target)) (rest_place (rest_text m.target))

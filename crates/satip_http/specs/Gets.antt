@@ -9,7 +9,7 @@ use Rattle.satip_query.specs.Queries.{new_query}
 use Rattle.satip_query.specs.Reading.{query_of}
 use Rattle.satip_query.specs.declared.queries.Query.{Query}
 use Rattle.satip_query.specs.declared.faults.QueryFault.{QueryFault}
-use Rattle.satip_rtsp.specs.Targets.{front_left}
+use Rattle.satip_rtsp.specs.Targets.{after_front}
 use Rattle.satip_http.specs.declared.requests.HttpRefusal.{HttpRefusal}
 use Rattle.satip_http.specs.declared.requests.HttpRefusal.TheVariants.{Broken, TooLong, Version, Method, Target, NotFound, Query as QueryAt}
 use Rattle.satip_http.specs.declared.requests.HttpRequest.{HttpRequest}
@@ -24,29 +24,29 @@ is_served_text version = bytes_eq version (codes "HTTP/1.0") || bytes_eq version
 
 -- what a target says behind its front, if it has one
 unfoldable pub rest_text : List ℕ → List ℕ
-rest_text target = unwrap_or (front_left (codes "http://") target) target
+rest_text target = unwrap_or (after_front (codes "http://") target) target
 
 -- the request of a query
-abbrev pub of_query : Result Query QueryFault → HttpRequest
-of_query (Ok query) = record { refusal = None; query = query }
-of_query (Err fault) = refused (QueryAt fault)
+abbrev pub get_of_query : Result Query QueryFault → HttpRequest
+get_of_query (Ok query) = record { refusal = None; query = query }
+get_of_query (Err fault) = refused (QueryAt fault)
 
 -- the request of a path with its query: `/` is the only path
-abbrev pub of_path : List ℕ → HttpRequest
-of_path path =
-    if starts_with nat_eq path (codes "/?") then of_query (query_of (drop 2 path))
+abbrev pub get_of_path : List ℕ → HttpRequest
+get_of_path path =
+    if starts_with nat_eq path (codes "/?") then get_of_query (query_of (drop 2 path))
     else if starts_with nat_eq path (codes "/") then refused NotFound
     else refused Target
 
 -- the request of what a target says behind its front: a path, or a query alone
-unfoldable pub of_rest : List ℕ → HttpRequest
-of_rest rest = if starts_with nat_eq rest (codes "?") then of_query (query_of (drop 1 rest)) else of_path rest
+unfoldable pub get_of_rest : List ℕ → HttpRequest
+get_of_rest rest = if starts_with nat_eq rest (codes "?") then get_of_query (query_of (drop 1 rest)) else get_of_path rest
 
 -- the request of a message: the first refusal counts, in the order version, method, target, query
 unfoldable pub asked_get : Said → HttpRequest
 asked_get m =
     if is_served_text m.version then
-    (if bytes_eq m.method (codes "GET") then of_rest (rest_text m.target) else refused Method)
+    (if bytes_eq m.method (codes "GET") then get_of_rest (rest_text m.target) else refused Method)
     else refused Version
 
 -- the message has a version that is served, and is a GET

@@ -3,7 +3,7 @@ ghost use Rattle.std.specs.Prelude.{◌≡◌, ◌≢◌, ◌↔◌, Some, None,
 ghost use Rattle.std.specs.Str.{bytes_eq};
 ghost use Rattle.satip_query.specs.Queries.{new_query};
 ghost use Rattle.satip_query.specs.Reading.{query_of};
-ghost use Rattle.satip_http.specs.Gets.{AsksAtFault, IsGet, asked_get, broken_get, is_path, is_served_text, query_in, rest_text, of_path, of_query, of_rest};
+ghost use Rattle.satip_http.specs.Gets.{AsksAtFault, IsGet, asked_get, broken_get, is_path, is_served_text, query_in, rest_text, get_of_path, get_of_query, get_of_rest};
 
 use satip_frame::{Break, Message};
 use satip_query::{Query, QueryFault, read};
@@ -126,10 +126,10 @@ fn rest_of(target: &[u8]) -> &[u8]
     }
 }
 
-#[tactic(auto, unfolding(crate::specs::Gets::of_rest))]
+#[tactic(auto, unfolding(crate::specs::Gets::get_of_rest))]
 fn fill_rest(rest: &[u8], into: &mut Query) -> Option<HttpRefusal>
     requires empty { into.old ≡ new_query }
-    ensures request { record { refusal = result; query = into.new } ≡ of_rest rest.now }
+    ensures request { record { refusal = result; query = into.new } ≡ get_of_rest rest.now }
 {
     if rest.starts_with(b"?") {
         fill_query(&rest[1..], into)
@@ -140,7 +140,7 @@ fn fill_rest(rest: &[u8], into: &mut Query) -> Option<HttpRefusal>
 
 fn fill_path(path: &[u8], into: &mut Query) -> Option<HttpRefusal>
     requires empty { into.old ≡ new_query }
-    ensures request { record { refusal = result; query = into.new } ≡ of_path path.now }
+    ensures request { record { refusal = result; query = into.new } ≡ get_of_path path.now }
 {
     if path.starts_with(b"/?") {
         fill_query(&path[2..], into)
@@ -152,7 +152,7 @@ fn fill_path(path: &[u8], into: &mut Query) -> Option<HttpRefusal>
 }
 
 fn fill_query(text: &[u8], into: &mut Query) -> Option<HttpRefusal>
-    ensures request { record { refusal = result; query = into.new } ≡ of_query (query_of text.now) }
+    ensures request { record { refusal = result; query = into.new } ≡ get_of_query (query_of text.now) }
 {
     match read(text, into) {
         Err(fault) => Some(HttpRefusal::Query(fault)),

@@ -184,9 +184,9 @@ fn run_journaled<
 
 /// Serves as `serve` does, and writes a journal for each job: one for caller 0, which makes the
 /// stop, then for the workers, the pumps in the order of front ends, and the ticker. Each has the
-/// lines of its job's entries, in order, with the places in the history and the job's number in that
-/// order, from 0; job 0's has the start line before them. Behind a put that failed nothing more is
-/// put on that sink; the jobs go on.
+/// lines of its job's entries, in order, with the places in the history and the job's number in
+/// that order, from 0; job 0's has the start line before them. Behind a put that failed nothing
+/// more is put on that sink; the jobs go on.
 ///
 /// All memory is taken before any job begins: where it was refused the kits come back, of which the
 /// clock alone was used, once, and the sinks as they were. It waits.

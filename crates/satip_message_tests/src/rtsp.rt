@@ -156,7 +156,7 @@ fn targets_name_streams(rt: HostRuntime) -> Result<(), Fail> {
 }
 
 // No method's target is the empty text.
-#[tactic(auto, unfolding(satip_rtsp::specs::Targets::target_of, satip_rtsp::specs::Targets::stream_in, satip_rtsp::specs::Targets::front_left))]
+#[tactic(auto, unfolding(satip_rtsp::specs::Targets::target_of, satip_rtsp::specs::Targets::stream_in, satip_rtsp::specs::Targets::after_front))]
 fn no_target_is_empty()
     ensures of_a_stream { target_of false [] ≡ None }
     ensures of_the_server { target_of true [] ≡ None }

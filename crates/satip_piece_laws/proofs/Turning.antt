@@ -15,7 +15,7 @@ use Rattle.satip_tune.specs.Pieces.{is_byte}
 use Rattle.satip_rtsp.specs.Targets.{is_begun_with}
 use Rattle.satip_rtsp.specs.Transports.{both_ports, port_at_most}
 use Rattle.satip_rtsp.proofs.CseqLemmas.{number_of-le}
-use Rattle.satip_channels.specs.Turned.{name_left, channel_line, is_empty_line, ports_beside, ports_name, told_ports, turned, turned_line, return_left}
+use Rattle.satip_channels.specs.Turned.{after_ports_name, channel_line, is_empty_line, ports_beside, ports_name, told_ports, turned, turned_line, before_return}
 use Rattle.satip_channels.proofs.TurnedLemmas.{turned_end, turned_step}
 use Rattle.satip_piece_laws.specs.Pieces.{IsLine, IsReply, is_plain, lined, size_name, told_size}
 use Rattle.satip_piece_laws.proofs.Plain.{IsPlain, plain-append, plain_decimal}
@@ -62,7 +62,7 @@ between_within (Some text) = both_within _ _ (port_within (before_first (is_byte
 
 told_within : (line : List ℕ) → IfSome (told_ports line) ArePorts
 unfolding told_ports
-told_within line = between_within (option_and_then return_left (name_left line))
+told_within line = between_within (option_and_then before_return (after_ports_name line))
 
 -- a line that tells ports begins as one
 
@@ -70,7 +70,7 @@ told_named : (line : List ℕ) (ports : Ports) → told_ports line ≡ Some port
 unfolding told_ports
 told_named line ports e = by (is_begun_with ports_name line) e
   where
-    by : (b : Bool) → option_and_then ports_beside (option_and_then return_left (cond b (Some (drop 39 line)) None)) ≡ Some ports → b ≡ true
+    by : (b : Bool) → option_and_then ports_beside (option_and_then before_return (cond b (Some (drop 39 line)) None)) ≡ Some ports → b ≡ true
     by true f = refl
     by false f = absurd (cc f)
 

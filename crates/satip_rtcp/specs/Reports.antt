@@ -15,22 +15,22 @@ abbrev pub part : ℕ → ℕ → List ℕ → List ℕ
 part first kind body = header first kind (4 + length body) ++ body
 
 -- seconds since 1900 of a clock that counts milliseconds from 1970
-abbrev pub seconds_of : ℕ → ℕ
-seconds_of clock = (clock / 1000 + 2208988800) % 2 ^ 32
+abbrev pub ntp_seconds_of : ℕ → ℕ
+ntp_seconds_of clock = (clock / 1000 + 2208988800) % 2 ^ 32
 
 -- the rest of the clock in units of 2^-32 seconds, rounded down
-abbrev pub fraction_of : ℕ → ℕ
-fraction_of clock = clock % 1000 * 2 ^ 32 / 1000
+abbrev pub ntp_fraction_of : ℕ → ℕ
+ntp_fraction_of clock = clock % 1000 * 2 ^ 32 / 1000
 
 -- the clock in units of 90 kHz
-abbrev pub time_of : ℕ → ℕ
-time_of clock = clock * 90 % 2 ^ 32
+abbrev pub rtp_time_of : ℕ → ℕ
+rtp_time_of clock = clock * 90 % 2 ^ 32
 
 -- what a sender report says
 unfoldable pub sender_body : Sender → List ℕ
 sender_body sender =
-    to_be_bytes w32 sender.ssrc ++ to_be_bytes w32 (seconds_of sender.clock) ++ to_be_bytes w32 (fraction_of sender.clock)
-    ++ to_be_bytes w32 (time_of sender.clock) ++ to_be_bytes w32 sender.datagrams ++ to_be_bytes w32 sender.octets
+    to_be_bytes w32 sender.ssrc ++ to_be_bytes w32 (ntp_seconds_of sender.clock) ++ to_be_bytes w32 (ntp_fraction_of sender.clock)
+    ++ to_be_bytes w32 (rtp_time_of sender.clock) ++ to_be_bytes w32 sender.datagrams ++ to_be_bytes w32 sender.octets
 
 -- a source's canonical name, and one to four zero bytes up to a whole number of words
 unfoldable pub description_body : ℕ → List ℕ → List ℕ

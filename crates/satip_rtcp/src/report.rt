@@ -3,7 +3,7 @@
 ghost use Rattle.std.specs.Prelude.{◌≡◌, ◌≢◌, ◌+◌, ◌<◌, ◌≤◌, length, replicate};
 ghost use Rattle.std.specs.Int.{to_be_bytes, w16, w32};
 ghost use Rattle.satip_base.specs.Output.{Extended, Sends};
-ghost use Rattle.satip_rtcp.specs.Reports.{application, header, fraction_of, seconds_of, report, time_of, sender_report, source_description};
+ghost use Rattle.satip_rtcp.specs.Reports.{application, header, ntp_fraction_of, ntp_seconds_of, report, rtp_time_of, sender_report, source_description};
 
 use crate::address::write_address;
 use crate::ses1::ses1_text;
@@ -133,21 +133,21 @@ fn extend_zeros(count: usize, out: &mut Out)
 
 // The seconds since 1900 (RFC 3550, 4), modulo 2^32.
 fn ntp_seconds(clock: u64) -> u32
-    ensures seconds { result ≡ seconds_of clock }
+    ensures seconds { result ≡ ntp_seconds_of clock }
 {
     ((clock / 1000 + 2208988800) % 0x1_0000_0000) as u32
 }
 
 // The rest of a second in units of 2^-32 seconds, rounded down.
 fn ntp_fraction(clock: u64) -> u32
-    ensures fraction { result ≡ fraction_of clock }
+    ensures fraction { result ≡ ntp_fraction_of clock }
 {
     (clock % 1000 * 0x1_0000_0000 / 1000) as u32
 }
 
 // The clock in units of 90 kHz (RFC 2250, 2), modulo 2^32.
 fn rtp_time(clock: u64) -> u32
-    ensures time { result ≡ time_of clock }
+    ensures time { result ≡ rtp_time_of clock }
 {
     (clock as u128 * 90 % 0x1_0000_0000) as u32
 }

@@ -108,7 +108,8 @@ served m method is =
 -- where the later refusals of a message come
 pub record LaterCauses (m : Said) (refusal : Option Refusal) : Type 0 where
   pub require : (method : Method) (kept : List ℕ) → IsServed m method → (refusal ≡ Some (Require kept)) ↔ (required_in m ≡ Some kept)
-  pub target : (method : Method) → IsServed m method → required_in m ≡ None → (refusal ≡ Some BadTarget) ↔ (target_of (is_options_method method) m.target ≡ None)
+  pub target : (method : Method) → IsServed m method → required_in m ≡ None
+      → (refusal ≡ Some BadTarget) ↔ (target_of (is_options_method method) m.target ≡ None)
   pub query : (method : Method) (target : TargetParts) (fault : QueryFault) → IsServed m method → required_in m ≡ None
       → target_of (is_options_method method) m.target ≡ Some target → (refusal ≡ Some (QueryAt fault)) ↔ (query_read method target.query ≡ Err fault)
 

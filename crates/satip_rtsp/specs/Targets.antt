@@ -26,22 +26,22 @@ abbrev pub host_size : List ℕ → ℕ
 host_size text = position_or_len is_slash_or_mark text
 
 -- what stands behind a host, which isn't empty
-abbrev pub host_left : List ℕ → Option (List ℕ)
-host_left text = if host_size text == 0 then None else Some (drop (host_size text) text)
+abbrev pub after_host : List ℕ → Option (List ℕ)
+after_host text = if host_size text == 0 then None else Some (drop (host_size text) text)
 
 -- what stands behind the front of this scheme and its host, if there is such a front
-unfoldable pub front_left : List ℕ → List ℕ → Option (List ℕ)
-front_left scheme text = if is_begun_like scheme text then host_left (drop (length scheme) text) else None
+unfoldable pub after_front : List ℕ → List ℕ → Option (List ℕ)
+after_front scheme text = if is_begun_like scheme text then after_host (drop (length scheme) text) else None
 
 -- a path without the slash at its end
-abbrev pub slash_left : List ℕ → List ℕ
-slash_left path = if ends_with nat_eq path (47 ∷ []) then take (length path - 1) path else path
+abbrev pub path_without_slash : List ℕ → List ℕ
+path_without_slash path = if ends_with nat_eq path (47 ∷ []) then take (length path - 1) path else path
 
 -- the stream that a path names: none for / alone; there is no answer where the path is none of this server's
 unfoldable pub stream_in : List ℕ → Option (Option ℕ)
 stream_in path =
     if bytes_eq path (codes "/") then Some None
-    else if is_begun_with (codes "/stream=") path then option_map Some (number_of 65535 (slash_left (drop 8 path)))
+    else if is_begun_with (codes "/stream=") path then option_map Some (number_of 65535 (path_without_slash (drop 8 path)))
     else None
 
 -- the target of a query and of what its path names
@@ -67,4 +67,4 @@ target_from text (Some rest) = parts_behind rest
 unfoldable pub target_of : Bool → List ℕ → Option TargetParts
 target_of star text =
     if star && bytes_eq text (codes "*") then Some (record { stream = None; query = [] })
-    else target_from text (front_left (codes "rtsp://") text)
+    else target_from text (after_front (codes "rtsp://") text)

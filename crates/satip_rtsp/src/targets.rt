@@ -1,7 +1,7 @@
 //! Targets of requests: an optional front, a path and an optional query (RFC 2326, section 3.2).
 ghost use Rattle.std.specs.Prelude.{◌≡◌};
 ghost use Rattle.std.specs.Option.{option_copied};
-ghost use Rattle.satip_rtsp.specs.Targets.{front_left, host_left, host_size, parts_behind, parts_of, stream_in, target_of, slash_left};
+ghost use Rattle.satip_rtsp.specs.Targets.{after_front, after_host, host_size, parts_behind, parts_of, stream_in, target_of, path_without_slash};
 
 use crate::texts::{begins_like, begins_with, behind, text_of};
 use satip_base::read_number;
@@ -59,9 +59,9 @@ impl<'a> Target<'a> {
 /// What stands behind the front of a target: the scheme, whose letters may be of either case, and a
 /// host of one or more bytes up to the next `/`, `?` or the end. None where the target has no such
 /// front.
-#[tactic(auto, unfolding(crate::specs::Targets::front_left))]
+#[tactic(auto, unfolding(crate::specs::Targets::after_front))]
 pub fn behind_front<'a>(scheme: &[u8], text: &'a [u8]) -> Option<&'a [u8]>
-    ensures rest { option_copied result ≡ front_left scheme.now text.now }
+    ensures rest { option_copied result ≡ after_front scheme.now text.now }
 {
     if begins_like(scheme, text) {
         behind_host(behind(text, scheme.len()))
@@ -71,7 +71,7 @@ pub fn behind_front<'a>(scheme: &[u8], text: &'a [u8]) -> Option<&'a [u8]>
 }
 
 fn behind_host(text: &[u8]) -> Option<&[u8]>
-    ensures rest { option_copied result ≡ host_left text.now }
+    ensures rest { option_copied result ≡ after_host text.now }
 {
     let host = host_length(text);
     if host == 0 {
@@ -137,7 +137,7 @@ fn read_stream(path: &[u8]) -> Option<Option<u16>>
 }
 
 fn without_slash(path: &[u8]) -> &[u8]
-    ensures path { result.now ≡ slash_left path.now }
+    ensures path { result.now ≡ path_without_slash path.now }
 {
     if path.ends_with(b"/") {
         &path[..path.len() - 1]

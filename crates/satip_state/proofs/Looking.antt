@@ -5,7 +5,7 @@ use Rattle.std.specs.List.{list_any, list_all}
 use Rattle.std.specs.Option.{option_map}
 use Rattle.std.proofs.lemmas.Bool.{eqb-true, ne_eqb, le-leb, lt-leb, and_parts, or_parts, or_from, false≢true}
 use Rattle.std.proofs.lemmas.List.{length-map}
-use Rattle.std.proofs.lemmas.Option.{slice_get-map, same_Some}
+use Rattle.std.proofs.lemmas.Option.{same_Some}
 use Rattle.satip_plain.proofs.SameIds.{same_id_is}
 use Rattle.satip_base.specs.declared.identity.SessionId.{SessionId}
 use Rattle.satip_table.specs.declared.session.Session.{Session as Row}
@@ -16,13 +16,13 @@ use Rattle.satip_table.specs.Streams.{has_number, is_live}
 use Rattle.satip_table.specs.Living.{Sound, CountsRise, Owned, is_full}
 use Rattle.satip_table.proofs.Listing.{find_any}
 use Rattle.satip_plain.specs.Types.{Config}
-use Rattle.satip_plain.specs.State.{Session, Stream, State, same_id, rtsp_session, http_session, stream_of}
+use Rattle.satip_plain.specs.State.{Session, Stream, State, same_id, rtsp_session, stream_of}
 use Rattle.satip_plain.specs.Refusals.{is_full as is_full_state}
 use Rattle.satip_plain.specs.Steps.{is_session}
 use Rattle.satip_state.specs.Kept.{Kept}
 use Rattle.satip_state.specs.Seated.{Seated, row_of, seat_of}
 use Rattle.satip_state.specs.Standing.{StandsFor, stream_in}
-use Rattle.satip_state.specs.Looks.{if_rtsp, if_http, owner_id}
+use Rattle.satip_state.specs.Looks.{if_rtsp, owner_id}
 
 abbrev pub sessions_in : List Seated → List Session
 sessions_in xs = map (λ x. x.session) xs
@@ -93,15 +93,6 @@ rtsp_row (Some s) = by s.http
     by true = refl
     by false = refl
 
-http_row : (o : Option Session) → if_http (option_map row_of o) ≡ option_map row_of (where_holds (λ s. s.http) o)
-unfolding row_of
-http_row None = refl
-http_row (Some s) = by s.http
-  where
-    by : (b : Bool) → cond b (Some (row_of s)) None ≡ option_map row_of (if_so b s)
-    by true = refl
-    by false = refl
-
 -- the row of an id is that of the one session
 row_found : (c : Config) (v : Kept) (st : State) (id : SessionId) (found : Option Row) → StandsFor c v st
     → found ≡ option_map (λ (seat : Seat). seat.session) (find (has_id_of id) v.table.seats)
@@ -119,15 +110,6 @@ rtsp_looked c v st id found stands sound is =
     ap if_rtsp (row_found c v st id found stands is stands) ∙ rtsp_row (find (λ s. same_id s.id id) (sessions_in stands.seated))
     ∙ ap (option_map row_of) (sym (kind_found (λ s. not s.http) id 0 v.table.made stands.seated rise)
     ∙ ap (find (λ s. same_id s.id id && not s.http)) (sym stands.sessions))
-
-pub http_looked : (c : Config) (v : Kept) (st : State) (id : SessionId) (found : Option Row) → StandsFor c v st → Sound v.table
-    → found ≡ option_map (λ (seat : Seat). seat.session) (find (has_id_of id) v.table.seats)
-    → if_http found ≡ option_map row_of (http_session st id)
-http_looked c v st id found stands sound is =
-    let rise = subst (λ (seats : List Seat). CountsRise 0 v.table.made seats) stands.seats sound.counts in
-    ap if_http (row_found c v st id found stands is stands) ∙ http_row (find (λ s. same_id s.id id) (sessions_in stands.seated))
-    ∙ ap (option_map row_of) (sym (kind_found (λ s. s.http) id 0 v.table.made stands.seated rise)
-    ∙ ap (find (λ s. same_id s.id id && s.http)) (sym stands.sessions))
 
 -- streams
 
@@ -151,13 +133,6 @@ pub stream_looked : (c : Config) (v : Kept) (st : State) (number : ℕ) (found :
     → option_map (λ (t : Bor StreamRow). stream_in t.now) found ≡ stream_of st number
 stream_looked c v st number found stands is =
     borrowed stream_in found ∙ ap (option_map stream_in) is ∙ sym (streams_find number v.table.streams) ∙ ap (find (λ t. t.number == number)) stands.streams
-
-pub stream_placed : (c : Config) (v : Kept) (st : State) (place : ℕ) (found : Option (Bor StreamRow)) → StandsFor c v st
-    → option_map (λ (t : Bor StreamRow). t.now) found ≡ slice_get v.table.streams place
-    → option_map (λ (t : Bor StreamRow). stream_in t.now) found ≡ slice_get st.streams place
-stream_placed c v st place found stands is =
-    borrowed stream_in found ∙ ap (option_map stream_in) is ∙ sym (slice_get-map stream_in v.table.streams place)
-    ∙ ap (λ (ts : List Stream). slice_get ts place) stands.streams
 
 -- that there is none at the first place
 pub none_first : (c : Config) (v : Kept) (st : State) (found : Option (Bor StreamRow)) → StandsFor c v st

@@ -218,7 +218,8 @@ no_http c v st stands sound id seat at rtsp =
     let http : f.who.session.http ≡ false = sym (row_http f.who) ∙ ap (λ (z : Seat). z.session.http) (sym f.seat_is) ∙ rtsp in
     ap (http_session st) f.id_is ∙ http_is st stands.seated f.who alone.alone stands.sessions ∙ ap (λ b. cond b (Some f.who.session) None) http
 
-pub no_session : (c : Config) (v : Kept) (st : State) → StandsFor c v st → (id : SessionId) → None ≡ find (has_id_of id) v.table.seats → http_session st id ≡ None
+pub no_session : (c : Config) (v : Kept) (st : State) → StandsFor c v st → (id : SessionId) → None ≡ find (has_id_of id) v.table.seats
+    → http_session st id ≡ None
 no_session c v st stands id none = http_nobody st id (sym (found_lives c v st stands id None none))
 
 abbrev pub pull_with : State → Option Session → Outcome

@@ -106,7 +106,8 @@ agree id slot above last (x ∷ xs) rise apart found = by (is_session id x.sessi
     same_false y both = both.0 ∙ sym both.1
 
     by : (b : Bool) → is_session id x.session ≡ b → (slot_found id xs ≡ Some slot → Each (Agrees id slot) xs)
-        → option_map (λ (seat : Seat). seat.slot) (cond b (Some (seat_of x)) (find (has_id_of id) (map seat_of xs))) ≡ Some slot → Each (Agrees id slot) (x ∷ xs)
+        → option_map (λ (seat : Seat). seat.slot) (cond b (Some (seat_of x)) (find (has_id_of id) (map seat_of xs))) ≡ Some slot
+        → Each (Agrees id slot) (x ∷ xs)
     by true is rest found =
         let at : x.slot ≡ slot = same_Some x.slot slot found in
         let count : x.session.id.count ≡ id.count = eqb-true x.session.id.count id.count (and_parts _ _ is).0 in

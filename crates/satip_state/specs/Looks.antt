@@ -16,14 +16,10 @@ use Rattle.satip_plain.specs.Streams.{outlook_of}
 use Rattle.satip_fronts.specs.Choice.{Outlook, blocked}
 use Rattle.satip_tune.specs.Frontends.{mux_for}
 
--- a session that isn't an HTTP session, or one that is
+-- a session that isn't an HTTP session
 abbrev pub if_rtsp : Option Row → Option Row
 if_rtsp None = None
 if_rtsp (Some s) = if s.http then None else Some s
-
-abbrev pub if_http : Option Row → Option Row
-if_http None = None
-if_http (Some s) = if s.http then Some s else None
 
 -- what is looked at for a stream that lives, or for one that is yet to be founded
 abbrev pub outlook_for : Config → State → Option ℕ → Outlook

@@ -1,13 +1,13 @@
 //! What the parts are asked: which sessions and streams live, and whether more are to be had.
 
-ghost use Rattle.std.specs.Prelude.{◌≡◌, ◌≤◌, ◌==◌, Some, IfSome, false, true, find, is_some, length, option_map, slice_get};
+ghost use Rattle.std.specs.Prelude.{◌≡◌, ◌≤◌, ◌==◌, Some, IfSome, false, true, find, is_some, length, option_map};
 ghost use Rattle.std.specs.List.{list_all};
 ghost use Rattle.satip_fronts.specs.Openings.{IsStreamOrNone};
 ghost use Rattle.satip_plain.specs.Types.{Config};
-ghost use Rattle.satip_plain.specs.State.{State, http_session, rtsp_session, stream_of};
+ghost use Rattle.satip_plain.specs.State.{State, rtsp_session, stream_of};
 ghost use Rattle.satip_plain.specs.Refusals.{is_full};
 ghost use Rattle.satip_plain.specs.Steps.{is_session};
-ghost use Rattle.satip_state.specs.Looks.{if_http, if_rtsp, is_blocked, kept_number, numbered, owner_id, rtsp_number};
+ghost use Rattle.satip_state.specs.Looks.{if_rtsp, is_blocked, kept_number, numbered, owner_id, rtsp_number};
 ghost use Rattle.satip_state.specs.Seated.{row_of};
 ghost use Rattle.satip_state.specs.Standing.{StandsFor, stream_in};
 
@@ -44,31 +44,12 @@ impl Parts {
         }
     }
 
-    /// The HTTP session with this id; None where none lives.
-    pub fn http_session(&self, id: SessionId) -> Option<Session>
-        ensures session { (c : Config) (st : State) → StandsFor c self.now st
-            → result ≡ option_map row_of (http_session st id) }
-    {
-        match self.table.find(id) {
-            None => None,
-            Some(session) => only_http(session),
-        }
-    }
-
     /// The stream of this number; None where it doesn't live.
     pub fn stream(&self, number: u16) -> Option<&Stream>
         ensures stream { (c : Config) (st : State) → StandsFor c self.now st
             → option_map (λ s. stream_in s.now) result ≡ stream_of st number }
     {
         self.table.find_stream(number)
-    }
-
-    /// The stream at this place, from 0, in rising number; None where there is none.
-    pub fn stream_at(&self, place: usize) -> Option<&Stream>
-        ensures stream { (c : Config) (st : State) → StandsFor c self.now st
-            → option_map (λ s. stream_in s.now) result ≡ slice_get st.streams place }
-    {
-        self.table.stream(place)
     }
 
     /// The owner of a stream; None where the stream doesn't live.
@@ -163,11 +144,4 @@ fn only_rtsp(session: &Session) -> Option<Session>
     ensures rtsp { result ≡ if_rtsp (Some session.now) }
 {
     if session.http { None } else { Some(*session) }
-}
-
-// The session, where it is an HTTP session.
-fn only_http(session: &Session) -> Option<Session>
-    ensures http { result ≡ if_http (Some session.now) }
-{
-    if session.http { Some(*session) } else { None }
 }

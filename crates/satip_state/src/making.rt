@@ -24,7 +24,7 @@ use satip_tune::{Front, Mux};
 use std::alloc::Global;
 
 /// Later moments count as this one, in milliseconds of Unix time.
-const LAST_MOMENT: u64 = 281474976710655;
+pub(crate) const LAST_MOMENT: u64 = 281474976710655;
 
 /// The moment, of which later ones than the last count as the last.
 fn capped_moment(moment: u64) -> u64

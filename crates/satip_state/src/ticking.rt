@@ -9,14 +9,13 @@ ghost use Rattle.satip_plain.specs.Steps.{capped, end_where, is_expired, send_re
 ghost use Rattle.satip_state.specs.Standing.{StandsFor, Moved};
 ghost use Rattle.satip_state.specs.Turns.{after_round, is_row_due, report_turn, turn_of};
 
+use crate::making::LAST_MOMENT;
 use crate::parts::Parts;
 use satip_base::limits::{REPORT, REPORT_MS, REPORTS, SESSIONS};
 use satip_base::{Address, Out};
 use satip_flow::SenderState;
 use satip_rtcp::{Sender, write_report};
 use satip_table::{Seat, Session};
-
-const LAST_MOMENT: u64 = 281474976710655;
 
 impl Parts {
     /// The clock goes on to `now`, a moment in milliseconds of Unix time of at most 2^48 - 1. What

@@ -149,9 +149,9 @@ fn a_full_queue_ends_its_session(rt: HostRuntime) -> Result<(), Fail> {
     for _queued in 0..4096 {
         sent(&mut parts, &mut out, 1, &packet);
     }
-    assert!(rt; parts.http_session(id).is_some());
+    assert_eq!(rt; parts.owner(1), Some(id));
     sent(&mut parts, &mut out, 1, &packet);
-    assert!(rt; parts.http_session(id).is_none());
+    assert_eq!(rt; parts.owner(1), None);
     out.clear();
     assert!(rt; !parts.end_session(id, &mut out));
     Ok(())

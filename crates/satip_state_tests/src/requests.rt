@@ -155,11 +155,9 @@ fn founds_first(rt: &impl Abort, parts: &mut Parts) {
         .found(true, Peer { ip: 7 }, draw(10), PORTS)
         .expect(rt, "room");
     assert_eq!(rt; number, 1);
-    assert!(rt;
-        parts
-            .http_session(id)
-            .is_some_and(|session| session.playing)
-    );
+    assert_eq!(rt; parts.owner(1), Some(id));
+    assert!(rt; parts.rtsp_session(id).is_none());
+    assert!(rt; parts.view(1).is_some_and(|view| view.playing));
 }
 
 /// Compares that there is room for no session.

@@ -157,7 +157,8 @@ pub find_place : (items : List Seat) (id : SessionId) (order : List ℕ) (place 
     → has_id_of id (get_or items (get_or order place 0) no_seat) ≡ true
     → find (has_id_of id) (in_order no_seat items order) ≡ Some (get_or items (get_or order place 0) no_seat)
 find_place items id [] place below before here = absurd (omega arith)
-find_place items id (j ∷ order) zero below before here = ap (λ b. cond b (Some (get_or items j no_seat)) (find (has_id_of id) (in_order no_seat items order))) here
+find_place items id (j ∷ order) zero below before here =
+    ap (λ b. cond b (Some (get_or items j no_seat)) (find (has_id_of id) (in_order no_seat items order))) here
 find_place items id (j ∷ order) (suc place) below before here =
     ap (λ b. cond b (Some (get_or items j no_seat)) (find (has_id_of id) (in_order no_seat items order))) (before 0 (omega arith))
     ∙ find_place items id order place (omega arith) (λ k less. before (suc k) (omega arith)) here

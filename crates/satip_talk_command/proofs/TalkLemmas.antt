@@ -182,7 +182,8 @@ pub hears_part : (tells : Type 0) (o m n : Drain) (waiting text held : List ℕ)
     → (heard ≡ heards.Failed → ⊥) → Hears tells o m waiting text held talker heard → FailedToPut tells m n waiting
     → HasFailed tells o n text
 hears_part tells o m n waiting text held talker heards.All sound hears put =
-    sent_in_part tells o m n waiting text hears.requests talker (first_is_less asked broken_request text hears.requests held hears.heard.first) hears.replied put
+    sent_in_part tells o m n waiting text hears.requests talker
+    (first_is_less asked broken_request text hears.requests held hears.heard.first) hears.replied put
 hears_part tells o m n waiting text held talker heards.Closed sound hears put =
     sent_in_part tells o m n waiting text (hears.before ++ hears.request ∷ []) talker (last_more text hears.before hears.request hears.last) hears.replied put
 hears_part tells o m n waiting text held talker heards.Failed sound hears put = absurd (sound refl)

@@ -1,4 +1,4 @@
-//! Connections and workers over memory and a scripted service, by example. It has nothing but tests.
+//! Connections and workers over memory and a scripted service, by example: tests alone.
 #![tactic(auto)]
 
 #[cfg(test)]

@@ -15,7 +15,8 @@ returns-in_default-clause-ended c config st stands =
 pub returns-in_default-clause-seats : goal.returns-in_default-clause-seats
 returns-in_default-clause-seats c =
     let none : None ≡ find (has_id_of c.args.id) c.args.self.now.table.seats = search rules in
-    sym (filter_none (has_id_of c.args.id) c.args.self.now.table.seats (sym (find_any (has_id_of c.args.id) c.args.self.now.table.seats) ∙ ap is_some (sym none)))
+    let held_none = sym (find_any (has_id_of c.args.id) c.args.self.now.table.seats) ∙ ap is_some (sym none) in
+    sym (filter_none (has_id_of c.args.id) c.args.self.now.table.seats held_none)
 
 pub returns-in_default-clause-fewer : goal.returns-in_default-clause-fewer
 returns-in_default-clause-fewer c lives =
