@@ -21,7 +21,6 @@ mod requests;
     crate::specs::Turned::channel_line,
 ))]
 mod rows;
-mod texts;
 mod transports;
 
 pub use replies::ChannelReply;

@@ -1,14 +1,13 @@
 //! Replies that tell channels in place of UDP ports (RFC 2326, sections 10.12 and 12.39).
 ghost use Rattle.std.specs.Prelude.{◌≡◌, ◌+◌, ◌≤◌, [], ◌++◌, length, vec_len, vec_capacity, decimal, IfSome, IfNone, IfOk};
 ghost use Rattle.std.specs.Option.{option_copied, option_and_then};
-ghost use Rattle.satip_base.specs.declared.limits.TheConstants.{REPLY_BYTES as MOST};
 ghost use Rattle.satip_channels.specs.Turned.{after_ports_name, channel_line, ports_beside, told_ports, IsFirstLine, HasNoLine, turned, turned_line, before_return};
 ghost use Rattle.satip_rtsp.specs.Transports.{port_at_most};
 
-use crate::texts::text_of;
 use itoa::Buffer;
 use satip_base::limits::REPLY_BYTES;
 use satip_base::{Ports, Want, read_number};
+use satip_rtsp::text_of;
 use satip_tune::{cut, same_bytes};
 use std::alloc::Global;
 use std::marker::Model;
@@ -48,7 +47,7 @@ impl ChannelReply {
     /// `Transport: RTP/AVP/TCP;unicast;interleaved=a-b`, where a is p - 1 and b is q - 1. All other
     /// lines stay, and so does what stands behind the head's empty line.
     pub fn turn(&mut self, reply: &[u8])
-        requires whole { length reply.now ≤ MOST }
+        requires whole { length reply.now ≤ REPLY_BYTES }
         ensures turned { self.new ≡ turned reply.now }
     {
         self.text.clear();

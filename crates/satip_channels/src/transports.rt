@@ -4,8 +4,8 @@ ghost use Rattle.satip_base.specs.Numbers.{number_of};
 ghost use Rattle.satip_channels.specs.Channels.{interleaved_by, channels_by, is_tcp_text, is_channel_text, channels_first, channels_text, channels_beginning, both_channels};
 ghost use Rattle.satip_rtsp.specs.Transports.{parameters};
 
-use crate::texts::{text_of, trimmed};
 use satip_base::{Ports, read_number};
+use satip_rtsp::{text_of, trimmed};
 use satip_tune::cut;
 
 /// The channels of the first acceptable transport in the value of a `Transport` header, as ports:

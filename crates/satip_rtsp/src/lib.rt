@@ -15,3 +15,4 @@ pub use replies::{
 pub use requests::{Method, Refusal, Request, SessionName};
 pub use short::Short;
 pub use targets::behind_front;
+pub use texts::{text_of, trimmed};
