@@ -1,4 +1,8 @@
-//! Texts that a client sends, the replies to them, and the text of a configuration.
+//! Texts that a client sends, the replies to them, the text of a configuration, and texts put
+//! together.
+
+use std::alloc::Global;
+use std::test::Fail;
 
 /// OPTIONS in no session.
 pub const OPTIONS: &[u8] = b"OPTIONS * RTSP/1.0\r\nCSeq: 1\r\n\r\n";
@@ -46,3 +50,35 @@ msys = \"dvbs\"
 sr = 27500
 file = \"b.ts\"
 ";
+
+/// The texts one after another.
+pub fn joined(alloc: Global, texts: &[&[u8]]) -> Result<Vec<u8>, Fail> {
+    let mut all = Vec::new(alloc);
+    for text in texts {
+        all.extend_from_slice(text)?;
+    }
+    Ok(all)
+}
+
+/// The texts one after another, each so often.
+pub fn repeated(alloc: Global, parts: &[(&[u8], usize)]) -> Result<Vec<u8>, Fail> {
+    let mut all = Vec::new(alloc);
+    for (part, times) in parts {
+        for _ in 0..*times {
+            all.extend_from_slice(part)?;
+        }
+    }
+    Ok(all)
+}
+
+/// Whether bytes are these texts one after another.
+pub fn is_joined(bytes: &[u8], texts: &[&[u8]]) -> bool {
+    let mut rest = bytes;
+    for text in texts {
+        let Some(behind) = rest.strip_prefix(*text) else {
+            return false;
+        };
+        rest = behind;
+    }
+    rest.is_empty()
+}
