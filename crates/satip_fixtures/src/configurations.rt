@@ -4,7 +4,7 @@ ghost use Rattle.std.specs.Prelude.{◌≡◌, length, IfOk};
 ghost use Rattle.satip_fronts.specs.FrontEnds.{IsNumbered};
 
 use satip_config::Config;
-use satip_tune::{Front, Mux, Pol, System};
+use satip_tune::{Fec, Front, Modulation, Mux, Pol, RollOff, System, Tuning};
 use std::alloc::{AllocError, Global};
 
 /// 11361.75 MHz, horizontal, DVB-S2.
@@ -14,6 +14,20 @@ pub const FIRST_MUX: Mux = Mux {
     pol: Pol::H,
     msys: System::Dvbs2,
     sr: 22000,
+};
+
+/// The tuning of the first multiplex that a client asks for, with every key but `fe`.
+pub const FIRST_TUNING: Tuning = Tuning {
+    fe: None,
+    src: 1,
+    freq: 11361750,
+    pol: Pol::H,
+    ro: Some(RollOff::R35),
+    msys: System::Dvbs2,
+    mtype: Some(Modulation::Psk8),
+    plts: Some(true),
+    sr: 22000,
+    fec: Some(Fec::F23),
 };
 
 /// 12402 MHz, vertical, DVB-S.

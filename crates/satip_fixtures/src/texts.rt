@@ -1,6 +1,7 @@
 //! Texts that a client sends, the replies to them, the text of a configuration, and texts put
 //! together.
 
+use satip_tune::cut;
 use std::alloc::Global;
 use std::test::Fail;
 
@@ -11,6 +12,9 @@ pub const OPTIONS: &[u8] = b"OPTIONS * RTSP/1.0\r\nCSeq: 1\r\n\r\n";
 pub const OPTIONS_REPLY: &[u8] = b"RTSP/1.0 200 OK\r\n\
     CSeq: 1\r\n\
     Public: OPTIONS, DESCRIBE, SETUP, PLAY, TEARDOWN\r\n\r\n";
+
+/// What closes an RTSP connection on which no message came.
+pub const CLOSING: &[u8] = b"RTSP/1.0 400 Bad Request\r\nConnection: close\r\n\r\n";
 
 /// A SETUP over UDP, to the client's ports, which founds the first stream at the first multiplex.
 /// It gives a key that the server doesn't know.
@@ -26,6 +30,13 @@ pub const SETUP_INTERLEAVED: &[u8] = b"SETUP rtsp://192.168.1.10/\
     &pids=0,16,17&x_pmt=100 RTSP/1.0\r\n\
     CSeq: 1\r\n\
     Transport: RTP/AVP/TCP;interleaved=0-1\r\n\r\n";
+
+/// The query of both SETUPs.
+pub fn first_query() -> &'static [u8] {
+    let (_, behind) = cut(SETUP, b'?');
+    let (query, _) = cut(behind.unwrap_or(b""), b' ');
+    query
+}
 
 /// The text of a configuration with two front ends and both multiplexes.
 pub const CONFIGURATION: &str = "address = \"192.168.1.10\"
