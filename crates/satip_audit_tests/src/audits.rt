@@ -1,16 +1,10 @@
-//! Audits over memory: what is written of journals, and each end.
+//! Audits over memory: what is written of journals, and their wrong lines.
 
 use satip_auditing::{AuditEnd, audit};
-use satip_base::{ReadSource, Source};
-use satip_config::{ConfigFault, ConfigKey, ConfigName};
 use satip_fixtures::texts::CONFIGURATION;
 use satip_memory::{MemorySink, MemorySource};
 use std::alloc::Global;
-use std::io::{Read, repeat};
 use std::test::Fail;
-
-// The stop, answered `Stopping`, by caller 0 at place 0.
-const STOP: &[u8] = b"start 0\nentry 0 0 080201000000000000\n";
 
 // What an audit came to.
 #[derive(Drop)]
@@ -19,56 +13,24 @@ pub(crate) struct Report {
     pub(crate) output: MemorySink,
 }
 
-pub(crate) fn run(
-    alloc: Global,
-    config: &[u8],
-    text: &[u8],
-    failing_puts: &[u64],
-) -> Result<Report, Fail> {
-    let mut config = MemorySource::make(alloc, config, &[], &[])?;
-    let input = MemorySource::make(alloc, text, &[], &[])?;
-    run_over(alloc, &mut config, input, failing_puts)
-}
-
-// An audit over any sources; a put that fails passes five bytes.
-fn run_over<C: Source, I: Source + Drop>(
-    alloc: Global,
-    config: &mut C,
-    mut input: I,
-    failing_puts: &[u64],
-) -> Result<Report, Fail> {
-    let mut output = MemorySink::make(alloc, failing_puts, 5)?;
-    let end = audit(alloc, config, &mut input, &mut output);
+pub(crate) fn run(alloc: Global, text: &[u8]) -> Result<Report, Fail> {
+    let mut config = MemorySource::make(alloc, CONFIGURATION.as_bytes(), &[], &[])?;
+    let mut input = MemorySource::make(alloc, text, &[], &[])?;
+    let mut output = MemorySink::make(alloc, &[], 0)?;
+    let end = audit(alloc, &mut config, &mut input, &mut output);
     Ok(Report { end, output })
 }
 
 // Whether an audit of the text ends well, and writes this.
 fn is_judged(alloc: Global, text: &[u8], line: &[u8]) -> Result<bool, Fail> {
-    let report = run(alloc, CONFIGURATION.as_bytes(), text, &[])?;
+    let report = run(alloc, text)?;
     Ok(report.end == AuditEnd::Done && report.output.sent() == line)
 }
 
 // Whether this line of the text is its first wrong one, and nothing is written.
 fn is_wrong(alloc: Global, text: &[u8], number: u64) -> Result<bool, Fail> {
-    let report = run(alloc, CONFIGURATION.as_bytes(), text, &[])?;
+    let report = run(alloc, text)?;
     Ok(report.end == AuditEnd::Journal(number) && report.output.sent().is_empty())
-}
-
-#[test]
-fn verdicts_are_written(rt: HostRuntime) -> Result<(), Fail> {
-    let alloc = rt.alloc();
-    assert!(rt; is_judged(alloc, STOP, b"yes 1\n")?);
-    let going = b"start 0\nentry 0 0 080200000000000000\n";
-    assert!(rt; is_judged(alloc, going, b"no differs 0\n")?);
-    let gap = b"start 0\nentry 0 0 080201000000000000\nentry 2 1 080201000000000000\n";
-    assert!(rt; is_judged(alloc, gap, b"no missing 1\n")?);
-    let twice = b"start 0\nentry 0 0 080201000000000000\nentry 0 0 080201000000000000\n";
-    assert!(rt; is_judged(alloc, twice, b"no repeated 0\n")?);
-    let unbegun = b"entry 0 0 080201000000000000\n";
-    assert!(rt; is_judged(alloc, unbegun, b"no start\n")?);
-    let tick = b"start 0\nentry 0 0 02000000000000000a0200000000000000\n";
-    assert!(rt; is_judged(alloc, tick, b"yes 1\n")?);
-    Ok(())
 }
 
 #[test]
@@ -142,52 +104,5 @@ fn other_lines_are_wrong(rt: HostRuntime) -> Result<(), Fail> {
     let alloc = rt.alloc();
     assert!(rt; is_wrong(alloc, b"# a comment\n", 1)?);
     assert!(rt; is_wrong(alloc, b"start 0\nentry 0 0 08020100000000000000\n", 2)?);
-    Ok(())
-}
-
-#[test]
-fn a_wrong_configuration_is_told(rt: HostRuntime) -> Result<(), Fail> {
-    let alloc = rt.alloc();
-    let mut config = Vec::new(alloc);
-    config.extend_from_slice(b"timeout = 5\n")?;
-    config.extend_from_slice(CONFIGURATION.as_bytes())?;
-    let report = run(alloc, &config, b"wrong\n", &[])?;
-    let fault = ConfigFault::Value(ConfigKey::top(ConfigName::Timeout));
-    assert!(rt; report.end == AuditEnd::Configuration(fault));
-    assert_eq!(rt; report.output.sent(), b"".as_slice());
-    Ok(())
-}
-
-#[test]
-fn a_fault_of_either_source_is_an_input_fault(rt: HostRuntime) -> Result<(), Fail> {
-    let alloc = rt.alloc();
-    let mut failing = MemorySource::make(alloc, CONFIGURATION.as_bytes(), &[20], &[2])?;
-    let input = MemorySource::make(alloc, STOP, &[], &[])?;
-    let report = run_over(alloc, &mut failing, input, &[])?;
-    assert!(rt; report.end == AuditEnd::InputFault);
-    let mut config = MemorySource::make(alloc, CONFIGURATION.as_bytes(), &[7, 1], &[])?;
-    let input = MemorySource::make(alloc, STOP, &[3], &[2])?;
-    let report = run_over(alloc, &mut config, input, &[])?;
-    assert!(rt; report.end == AuditEnd::InputFault);
-    assert_eq!(rt; report.output.sent(), b"".as_slice());
-    Ok(())
-}
-
-#[test]
-fn a_fault_of_the_output_leaves_a_beginning(rt: HostRuntime) -> Result<(), Fail> {
-    let report = run(rt.alloc(), CONFIGURATION.as_bytes(), STOP, &[1])?;
-    assert!(rt; report.end == AuditEnd::OutputFault);
-    assert_eq!(rt; report.output.sent(), b"yes 1".as_slice());
-    Ok(())
-}
-
-#[test]
-fn an_input_of_one_byte_too_many_is_too_long(rt: HostRuntime) -> Result<(), Fail> {
-    let alloc = rt.alloc();
-    let mut config = MemorySource::make(alloc, CONFIGURATION.as_bytes(), &[], &[])?;
-    let input = ReadSource::new(repeat(b'\n').take(67108865));
-    let report = run_over(alloc, &mut config, input, &[])?;
-    assert!(rt; report.end == AuditEnd::TooLong);
-    assert_eq!(rt; report.output.sent(), b"".as_slice());
     Ok(())
 }

@@ -1,7 +1,6 @@
 //! Journals of which one byte is another.
 
 use crate::audits::run;
-use satip_fixtures::texts::CONFIGURATION;
 use std::alloc::Global;
 use std::test::Fail;
 
@@ -94,7 +93,7 @@ fn is_yes(alloc: Global, text: &[u8], at: usize, byte: u8) -> Result<bool, Fail>
     if let Some(place) = text.get_mut(at) {
         *place = byte;
     }
-    let report = run(alloc, CONFIGURATION.as_bytes(), &text, &[])?;
+    let report = run(alloc, &text)?;
     Ok(report.output.sent().starts_with(b"yes"))
 }
 

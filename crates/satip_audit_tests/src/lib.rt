@@ -1,4 +1,4 @@
-//! Audits over memory by example: verdicts, wrong lines, and each end. It has nothing but tests.
+//! Audits over memory by example: verdicts and wrong lines. It has nothing but tests.
 #![tactic(auto)]
 
 #[cfg(test)]

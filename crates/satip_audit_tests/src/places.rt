@@ -18,9 +18,9 @@ fn the_least_place_is_told(rt: HostRuntime) -> Result<(), Fail> {
     assert_eq!(rt; first_repeated(&twice), Some(0));
     let mut apart = vec![in rt.alloc(); spot(4), spot(0), spot(2)]?;
     sort_spots(&mut apart);
-    match first_repeated(&apart) {
-        Some(_place) => assert!(rt; false),
-        None => assert_eq!(rt; first_missing(&apart), Some(1)),
+    if first_repeated(&apart).is_some() {
+        return Err(Fail::from("a place is repeated"));
     }
+    assert_eq!(rt; first_missing(&apart), Some(1));
     Ok(())
 }

@@ -3,6 +3,7 @@
 ghost use Rattle.std.specs.Prelude.{◌<◌};
 
 use satip_base::{Address, Draw, Out, Peer, Ports, SessionId};
+use satip_fixtures::texts::is_joined;
 use satip_http::{HttpRefusal, HttpRequest};
 use satip_pids::PidList;
 use satip_plain::{Answer, Beat, Event, GetAnswer, Pulled, Replied, Work};
@@ -21,18 +22,6 @@ fn a_start_is_one_line(rt: HostRuntime) -> Result<(), Fail> {
     write_start(u64::MAX, &mut line);
     assert_eq!(rt; line.bytes(), b"start 18446744073709551615\n".as_slice());
     Ok(())
-}
-
-// Whether bytes are these texts one after another.
-fn is_joined(bytes: &[u8], texts: &[&[u8]]) -> bool {
-    let mut rest = bytes;
-    for text in texts {
-        if !rest.starts_with(text) {
-            return false;
-        }
-        rest = rest.split_at(text.len().min(rest.len())).1;
-    }
-    rest.is_empty()
 }
 
 // An entry at a place, of a caller, and the texts of its line.

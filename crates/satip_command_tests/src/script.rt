@@ -14,7 +14,7 @@ ghost use Rattle.satip_script.specs.Printed.{entry_text, datagram_line};
 
 use satip_base::{Address, Draw, Out, Peer, Ports, SessionId};
 use satip_digits::read_packet;
-use satip_fixtures::texts::{OPTIONS, SETUP};
+use satip_fixtures::texts::{OPTIONS, SETUP, repeated};
 use satip_fixtures::{CLIENT, DRAW};
 use satip_frame::{Break, Framer};
 use satip_http::{HttpRefusal, HttpRequest};
@@ -198,10 +198,8 @@ const LINES: &[(&[u8], Said)] = &[
 #[test]
 fn lines_of_each_kind_are_read_and_others_are_wrong(rt: HostRuntime) -> Result<(), Fail> {
     let mut framer = Framer::make(rt.alloc())?;
-    let mut place = 0usize;
-    for (line, wanted) in LINES {
+    for (place, (line, wanted)) in LINES.iter().enumerate() {
         assert_eq!(rt; line_says(line, &mut framer), *wanted, "at {place}");
-        place = place.saturating_add(1);
     }
     Ok(())
 }
@@ -426,20 +424,10 @@ const TEXTS: &[Texts] = &[
     ),
 ];
 
-fn text_of(alloc: Global, parts: &[(&[u8], usize)]) -> Result<Vec<u8>, Fail> {
-    let mut text = Vec::new(alloc);
-    for (part, times) in parts {
-        for _ in 0..*times {
-            text.extend_from_slice(part)?;
-        }
-    }
-    Ok(text)
-}
-
 #[test]
 fn texts_say_one_thing(rt: HostRuntime) -> Result<(), Fail> {
     for (name, parts, wanted) in TEXTS {
-        let text = text_of(rt.alloc(), parts)?;
+        let text = repeated(rt.alloc(), parts)?;
         assert_eq!(rt; read_of(rt.alloc(), b"rtsp", &text)?, *wanted, "{name}");
         assert_eq!(rt; read_of(rt.alloc(), b"http", &text)?, *wanted, "{name}");
     }
@@ -464,10 +452,7 @@ fn first_wrong_line_is_told(rt: HostRuntime) -> Result<(), Fail> {
 
 // What the next event of a script says.
 fn next_said(script: &mut Script, framer: &mut Framer) -> Option<Said> {
-    match script.next(framer) {
-        Some(event) => Some(said_by(&event)),
-        None => None,
-    }
+    script.next(framer).map(|event| said_by(&event))
 }
 
 #[test]
@@ -519,51 +504,63 @@ struct Kept {
     get: HttpRequest,
 }
 
+// Whether the parts of a line say what the whole line does: they are read where it has an event,
+// which is equal to theirs, and not where it is wrong.
+fn agree(line: &Line, reads: bool, equal: bool) -> bool {
+    match line {
+        Line::Event(_) => reads && equal,
+        Line::Wrong => !reads,
+        Line::Skip => false,
+    }
+}
+
 // Whether an RTSP line says the same in parts and as a whole.
 fn same_request(peer: Peer, draw: Draw, digits: &[u8], line: &[u8], kept: &mut Kept) -> bool {
     let reads = read_request(digits, &mut kept.framer, &mut kept.request);
-    match read_line(line, &mut kept.framer) {
+    let line = read_line(line, &mut kept.framer);
+    let equal = match &line {
         Line::Event(
             Event::Request {
                 peer: by,
                 draw: drawn,
                 request,
             },
-        ) => reads && peer == by && draw == drawn && kept.request == request,
-        Line::Wrong => !reads,
+        ) => peer == *by && draw == *drawn && kept.request == *request,
         _ => false,
-    }
+    };
+    agree(&line, reads, equal)
 }
 
 // Whether an HTTP line says the same in parts and as a whole.
 fn same_get(peer: Peer, draw: Draw, digits: &[u8], line: &[u8], kept: &mut Kept) -> bool {
     let reads = read_get(digits, &mut kept.framer, &mut kept.get);
-    match read_line(line, &mut kept.framer) {
+    let line = read_line(line, &mut kept.framer);
+    let equal = match &line {
         Line::Event(
             Event::Get {
                 peer: by,
                 draw: drawn,
                 request,
             },
-        ) => reads && peer == by && draw == drawn && kept.get == request,
-        Line::Wrong => !reads,
+        ) => peer == *by && draw == *drawn && kept.get == *request,
         _ => false,
-    }
+    };
+    agree(&line, reads, equal)
 }
 
 // Whether a packet's line says the same in parts and as a whole, but for the packet's bytes.
-fn same_packet(front: u16, tune: u64, digits: &[u8], line: Line) -> bool {
-    match line {
+fn same_packet(front: u16, tune: u64, digits: &[u8], line: &Line) -> bool {
+    let equal = match line {
         Line::Event(
             Event::Packet {
                 front: at,
                 tune: by,
                 ..
             },
-        ) => { front == at && tune == by && read_packet(digits).is_some() }
-        Line::Wrong => read_packet(digits).is_none(),
+        ) => front == *at && tune == *by,
         _ => false,
-    }
+    };
+    agree(line, read_packet(digits).is_some(), equal)
 }
 
 // Whether a line says the same in parts and as a whole.
@@ -579,7 +576,7 @@ fn is_same(line: &[u8], kept: &mut Kept) -> bool {
                 tune,
                 digits,
             },
-        ) => same_packet(front, tune, digits, read_line(line, &mut kept.framer)),
+        ) => same_packet(front, tune, digits, &read_line(line, &mut kept.framer)),
         Some(parts) => is_same_short(&parts, read_line(line, &mut kept.framer)),
         None => matches!(read_line(line, &mut kept.framer), Line::Skip),
     }
