@@ -1,9 +1,9 @@
 //! Each status once, with what is written and what is told.
 
-use satip_base::{ReadSource, Source, Text};
-use satip_memory::{MemorySink, MemorySource};
+use satip_base::{ReadSource, Source};
+use satip_memory::MemorySource;
 use satip_memory_desk::MemoryDesk;
-use satip_program::offline;
+use satip_replay_fixtures::runs::{Ran, run};
 use std::alloc::Global;
 use std::io::{Read, repeat};
 use std::test::Fail;
@@ -19,56 +19,22 @@ const WORDS: [&str; 2] = ["audit", "c1.toml"];
 // The stop, answered `Stopping`, by caller 0 at place 0.
 const STOP: &[u8] = b"start 0\nentry 0 0 080201000000000000\n";
 
-// What a run came to, and whether a configuration was given back.
-#[derive(Drop)]
-struct Report {
-    status: u8,
-    configured: bool,
-    output: MemorySink,
-    errors: MemorySink,
-}
-
-impl Report {
-    fn is(&self, status: u8, output: &[u8], errors: &[u8]) -> bool {
-        self.status == status && self.output.sent() == output && self.errors.sent() == errors
-    }
-}
-
-// A run over a desk with one configuration; a put that fails passes five bytes.
-fn run<I: Source + Drop>(
+// A run with these words, over a desk with one configuration; a put that fails passes five bytes.
+fn run_words<I: Source + Drop>(
     alloc: Global,
-    names: &[&str],
+    words: &[&str],
     config: &[u8],
-    mut input: I,
+    input: I,
     failing_puts: &[u64],
-) -> Result<Report, Fail> {
-    let mut words = Vec::new(alloc);
-    for name in names {
-        words.push(Text::of(alloc, name)?)?;
-    }
+) -> Result<Ran, Fail> {
     let mut desk = MemoryDesk::make(alloc, 0);
     desk.add("c1.toml", config, &[])?;
-    let mut output = MemorySink::make(alloc, failing_puts, 5)?;
-    let mut errors = MemorySink::make(alloc, &[], 0)?;
-    let ended = offline(
-        alloc,
-        &words,
-        &mut input,
-        &mut output,
-        &mut errors,
-        &mut desk,
-    );
-    Ok(Report {
-        status: ended.status,
-        configured: ended.config.is_some(),
-        output,
-        errors,
-    })
+    run(alloc, words, input, failing_puts, 5, &mut desk)
 }
 
-fn audit(alloc: Global, config: &[u8], text: &[u8]) -> Result<Report, Fail> {
+fn audit(alloc: Global, config: &[u8], text: &[u8]) -> Result<Ran, Fail> {
     let input = MemorySource::make(alloc, text, &[], &[])?;
-    run(alloc, &WORDS, config, input, &[])
+    run_words(alloc, &WORDS, config, input, &[])
 }
 
 #[test]
@@ -96,7 +62,7 @@ fn verdicts_are_written(rt: HostRuntime) -> Result<(), Fail> {
     for (text, verdict) in rows {
         let report = audit(rt.alloc(), CONFIG, text)?;
         assert!(rt; report.is(0, verdict, b""));
-        assert!(rt; report.configured);
+        assert!(rt; report.ended.config.is_some());
     }
     Ok(())
 }
@@ -108,7 +74,7 @@ fn faults_of_the_texts_are_told(rt: HostRuntime) -> Result<(), Fail> {
     assert!(rt; report.is(4, b"", b"journal: line 2\n"));
     let report = audit(rt.alloc(), WRONG_CONFIG, upper)?;
     assert!(rt; report.is(3, b"", b"configuration: value of timeout\n"));
-    assert!(rt; report.configured);
+    assert!(rt; report.ended.config.is_some());
     Ok(())
 }
 
@@ -116,17 +82,23 @@ fn faults_of_the_texts_are_told(rt: HostRuntime) -> Result<(), Fail> {
 fn faults_of_the_devices_are_told(rt: HostRuntime) -> Result<(), Fail> {
     let alloc = rt.alloc();
     let input = MemorySource::make(alloc, STOP, &[3], &[2])?;
-    let report = run(alloc, &WORDS, CONFIG, input, &[])?;
+    let report = run_words(alloc, &WORDS, CONFIG, input, &[])?;
     assert!(rt; report.is(5, b"", b"input fault\n"));
     let input = MemorySource::make(alloc, STOP, &[], &[])?;
-    let report = run(alloc, &["audit", "c2.toml"], CONFIG, input, &[])?;
+    let report = run_words(alloc, &["audit", "c2.toml"], CONFIG, input, &[])?;
     assert!(rt; report.is(5, b"", b"input fault\n"));
-    assert!(rt; !report.configured);
+    assert!(rt; report.ended.config.is_none());
+    let mut desk = MemoryDesk::make(alloc, 0);
+    desk.add("c1.toml", CONFIG, &[1])?;
     let input = MemorySource::make(alloc, STOP, &[], &[])?;
-    let report = run(alloc, &WORDS, CONFIG, input, &[1])?;
+    let report = run(alloc, &WORDS, input, &[], 5, &mut desk)?;
+    assert!(rt; report.is(5, b"", b"input fault\n"));
+    assert!(rt; report.ended.config.is_some());
+    let input = MemorySource::make(alloc, STOP, &[], &[])?;
+    let report = run_words(alloc, &WORDS, CONFIG, input, &[1])?;
     assert!(rt; report.is(6, b"yes 1", b"output fault\n"));
     let input = ReadSource::new(repeat(b'\n').take(67108865));
-    let report = run(alloc, &WORDS, CONFIG, input, &[])?;
+    let report = run_words(alloc, &WORDS, CONFIG, input, &[])?;
     assert!(rt; report.is(8, b"", b"input too long\n"));
     Ok(())
 }
@@ -141,10 +113,10 @@ fn other_words_are_a_faulty_command_line(rt: HostRuntime) -> Result<(), Fail> {
     ];
     for words in wrong {
         let input = MemorySource::make(rt.alloc(), STOP, &[], &[])?;
-        let report = run(rt.alloc(), words, CONFIG, input, &[])?;
-        assert_eq!(rt; report.status, 2);
+        let report = run_words(rt.alloc(), words, CONFIG, input, &[])?;
+        assert_eq!(rt; report.ended.status, 2);
         assert_eq!(rt; report.output.sent(), b"".as_slice());
-        assert!(rt; !report.configured);
+        assert!(rt; report.ended.config.is_none());
     }
     Ok(())
 }

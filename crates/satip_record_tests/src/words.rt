@@ -1,6 +1,6 @@
 //! The words of a recording.
 
-use crate::recordings::run;
+use crate::recordings::record;
 use satip_memory::MemoryConn;
 use satip_memory_desk::MemoryDesk;
 use std::alloc::Global;
@@ -13,8 +13,8 @@ fn status(alloc: Global, address: &str, query: &str, count: &str) -> Result<u8, 
     let mut desk = MemoryDesk::make(alloc, 0);
     let wire = MemoryConn::make(alloc, &[], &[], &[], 0)?;
     desk.lend(Some(wire), None, None);
-    let played = run(alloc, &["record", address, query, count], 0, &mut desk)?;
-    Ok(played.status())
+    let ran = record(alloc, &["record", address, query, count], 0, &mut desk)?;
+    Ok(ran.ended.status)
 }
 
 // Words in the form come to the desk, which has no inlet.
@@ -76,24 +76,14 @@ fn other_counts_are_a_faulty_command_line(rt: HostRuntime) -> Result<(), Fail> {
 
 #[test]
 fn fewer_or_more_words_are_a_faulty_command_line(rt: HostRuntime) -> Result<(), Fail> {
-    let mut desk = MemoryDesk::make(rt.alloc(), 0);
-    let played = run(rt.alloc(), &["record", "127.0.0.1", QUERY], 0, &mut desk)?;
-    assert_eq!(rt; played.status(), 2);
-    desk.renew();
-    let played = run(
-        rt.alloc(),
+    let wrong: [&[&str]; 3] = [
+        &["record", "127.0.0.1", QUERY],
         &["record", "127.0.0.1", QUERY, "1", "1"],
-        0,
-        &mut desk,
-    )?;
-    assert_eq!(rt; played.status(), 2);
-    desk.renew();
-    let played = run(
-        rt.alloc(),
         &["Record", "127.0.0.1", QUERY, "1"],
-        0,
-        &mut desk,
-    )?;
-    assert_eq!(rt; played.status(), 2);
+    ];
+    for words in wrong {
+        let mut desk = MemoryDesk::make(rt.alloc(), 0);
+        assert_eq!(rt; record(rt.alloc(), words, 0, &mut desk)?.ended.status, 2);
+    }
     Ok(())
 }

@@ -2,11 +2,10 @@
 
 use crate::bytes::{datagram, packet, report};
 use crate::clients::{Client, Session};
-use satip_base::Text;
+use crate::runs::run;
 use satip_fixtures::texts::CONFIGURATION;
-use satip_memory::{MemorySink, MemorySource};
+use satip_memory::MemorySource;
 use satip_memory_desk::MemoryDesk;
-use satip_program::offline;
 use std::alloc::Global;
 use std::test::Fail;
 
@@ -14,6 +13,10 @@ use std::test::Fail;
 pub const FIRST_MUX: &str =
     "?src=1&freq=11361.75&pol=h&ro=0.35&msys=dvbs2&mtype=8psk&plts=on&sr=22000&fec=23&pids=0,16,17\
     &x_pmt=100";
+
+/// The SES1 text of a stream of the first multiplex at the first front end, with these PIDs.
+pub const FIRST_MUX_TEXT: &str =
+    "ver=1.0;src=1;tuner=1,240,1,15,11361.75,h,dvbs2,8psk,on,0.35,22000,23;pids=0,16,17";
 
 /// The second multiplex.
 pub const SECOND_MUX: &str = "?freq=12402&pol=v&msys=dvbs&sr=27500";
@@ -30,41 +33,6 @@ const DESCRIPTION: &str = "v=0\r\n\
     c=IN IP4 0.0.0.0\r\n\
     a=control:stream=1\r\n\
     a=fmtp:33 ";
-
-/// What a run came to.
-#[derive(Drop)]
-pub struct Ran {
-    /// The exit status.
-    pub status: u8,
-    /// What it printed.
-    pub output: MemorySink,
-    /// What it told of errors.
-    pub errors: MemorySink,
-}
-
-/// Runs the program with these words over an input; the puts with a number in `failing` fail with
-/// nothing sent.
-pub fn run(
-    alloc: Global,
-    words: &[&str],
-    mut input: MemorySource,
-    failing: &[u64],
-    desk: &mut MemoryDesk,
-) -> Result<Ran, Fail> {
-    let mut texts = Vec::new(alloc);
-    for word in words {
-        texts.push(Text::of(alloc, word)?)?;
-    }
-    let mut output = MemorySink::make(alloc, failing, 0)?;
-    let mut errors = MemorySink::make(alloc, &[], 0)?;
-    desk.renew();
-    let ended = offline(alloc, &texts, &mut input, &mut output, &mut errors, desk);
-    Ok(Ran {
-        status: ended.status,
-        output,
-        errors,
-    })
-}
 
 /// A script of events, and what is to be printed of them.
 #[derive(Drop)]
@@ -260,12 +228,8 @@ impl Row {
         let mut desk = MemoryDesk::make(self.alloc, 0);
         desk.add("c1.toml", CONFIGURATION.as_bytes(), &[])?;
         let input = MemorySource::make(self.alloc, self.script.as_bytes(), &[], &[])?;
-        let ran = run(self.alloc, &["replay", "c1.toml"], input, &[], &mut desk)?;
-        Ok(
-            ran.status == 0
-                && ran.output.sent() == self.printed.as_bytes()
-                && ran.errors.sent().is_empty(),
-        )
+        let ran = run(self.alloc, &["replay", "c1.toml"], input, &[], 0, &mut desk)?;
+        Ok(ran.is(0, self.printed.as_bytes(), b""))
     }
 }
 

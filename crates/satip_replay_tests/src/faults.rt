@@ -1,120 +1,121 @@
 //! Faults of the words, the configuration, the script, the input and the output, with their exit
 //! statuses.
 
-use crate::row::{Ran, run};
-use satip_fixtures::texts::{CONFIGURATION, OPTIONS, OPTIONS_REPLY};
+use crate::runs::{Ran, run};
+use satip_base::{ReadSource, Source};
+use satip_fixtures::texts::CONFIGURATION;
 use satip_memory::MemorySource;
 use satip_memory_desk::MemoryDesk;
 use std::alloc::Global;
+use std::io::{Read, repeat};
 use std::test::Fail;
 
-// A replay by this configuration.
-fn replay(
+const STOP: &[u8] = b"stop\n";
+
+// A replay by this configuration; a put that fails passes nine bytes.
+fn replay<I: Source + Drop>(
     alloc: Global,
     configuration: &str,
-    input: MemorySource,
+    input: I,
     failing: &[u64],
 ) -> Result<Ran, Fail> {
     let mut desk = MemoryDesk::make(alloc, 0);
     desk.add("c1.toml", configuration.as_bytes(), &[])?;
-    run(alloc, &["replay", "c1.toml"], input, failing, &mut desk)
+    run(alloc, &["replay", "c1.toml"], input, failing, 9, &mut desk)
+}
+
+// A replay of a stop with these words.
+fn stopped(alloc: Global, words: &[&str], desk: &mut MemoryDesk) -> Result<Ran, Fail> {
+    let input = MemorySource::make(alloc, STOP, &[], &[])?;
+    run(alloc, words, input, &[], 0, desk)
 }
 
 #[test]
-fn no_words_are_a_faulty_command_line(rt: HostRuntime) -> Result<(), Fail> {
-    let alloc = rt.alloc();
-    let input = MemorySource::make(alloc, OPTIONS, &[], &[])?;
-    let ran = run(alloc, &[], input, &[], &mut MemoryDesk::make(alloc, 0))?;
-    assert_eq!(rt; ran.status, 2);
-    assert_eq!(rt; ran.output.sent(), b"".as_slice());
+fn a_replay_names_one_configuration(rt: HostRuntime) -> Result<(), Fail> {
+    let wrong: [&[&str]; 2] = [&["replay", ""], &["replay", "c1.toml", "c2.toml"]];
+    for words in wrong {
+        let mut desk = MemoryDesk::make(rt.alloc(), 0);
+        assert_eq!(rt; stopped(rt.alloc(), words, &mut desk)?.ended.status, 2);
+    }
     Ok(())
 }
 
 #[test]
 fn the_first_fault_of_a_configuration_is_told(rt: HostRuntime) -> Result<(), Fail> {
     let alloc = rt.alloc();
-    let configuration = format!(in alloc; "timeout = 5\n{CONFIGURATION}")?;
-    let input = MemorySource::make(alloc, b"stop\n", &[], &[])?;
-    let ran = replay(alloc, &configuration, input, &[])?;
-    assert_eq!(rt; ran.status, 3);
-    assert_eq!(rt; ran.output.sent(), b"".as_slice());
-    let told = b"configuration: value of timeout\n".as_slice();
-    assert_eq!(rt; ran.errors.sent(), told);
+    let timeout = format!(in alloc; "timeout = 5\n{CONFIGURATION}")?;
+    let wrong: [(&str, &[u8]); 2] = [
+        (&timeout, b"configuration: value of timeout\n"),
+        (
+            "address = \"192.168.1.10\"\n",
+            b"configuration: shape of frontend\n",
+        ),
+    ];
+    for (configuration, told) in wrong {
+        let input = MemorySource::make(alloc, STOP, &[], &[])?;
+        let ran = replay(alloc, configuration, input, &[])?;
+        assert!(rt; ran.is(3, b"", told));
+        assert!(rt; ran.ended.config.is_some());
+    }
     Ok(())
 }
 
 #[test]
 fn the_first_wrong_line_of_a_script_is_told(rt: HostRuntime) -> Result<(), Fail> {
     let alloc = rt.alloc();
-    let input = MemorySource::make(alloc, b"tick 1\ntik 5\n", &[], &[])?;
+    let input = MemorySource::make(alloc, b"tick 1\ntik 5\ntok 5\n", &[], &[])?;
     let ran = replay(alloc, CONFIGURATION, input, &[])?;
-    assert_eq!(rt; ran.status, 4);
-    assert_eq!(rt; ran.output.sent(), b"".as_slice());
-    assert_eq!(rt; ran.errors.sent(), b"script: line 2\n".as_slice());
+    assert!(rt; ran.is(4, b"", b"script: line 2\n"));
     Ok(())
 }
 
 #[test]
-fn a_second_take_that_fails_is_an_input_fault(rt: HostRuntime) -> Result<(), Fail> {
+fn a_configuration_that_cannot_be_opened_is_an_input_fault(rt: HostRuntime) -> Result<(), Fail> {
     let alloc = rt.alloc();
-    let input = MemorySource::make(alloc, OPTIONS, &[31], &[2])?;
-    let ran = run(
-        alloc,
-        &["talk"],
-        input,
-        &[],
-        &mut MemoryDesk::make(alloc, 0),
-    )?;
-    assert_eq!(rt; ran.status, 5);
-    assert_eq!(rt; ran.output.sent(), OPTIONS_REPLY);
-    assert_eq!(rt; ran.errors.sent(), b"input fault\n".as_slice());
-    let input = MemorySource::make(alloc, b"stop\n", &[3], &[2])?;
-    let ran = replay(alloc, CONFIGURATION, input, &[])?;
-    assert_eq!(rt; ran.status, 5);
-    assert_eq!(rt; ran.output.sent(), b"".as_slice());
+    let mut desk = MemoryDesk::make(alloc, 1);
+    desk.add("c1.toml", CONFIGURATION.as_bytes(), &[])?;
+    let unopened = stopped(alloc, &["replay", "c1.toml"], &mut desk)?;
+    assert!(rt; unopened.is(5, b"", b"input fault\n"));
+    assert!(rt; unopened.ended.config.is_none());
+    let opened = stopped(alloc, &["replay", "c1.toml"], &mut desk)?;
+    assert_eq!(rt; opened.ended.status, 0);
+    let unnamed = stopped(alloc, &["replay", "c2.toml"], &mut desk)?;
+    assert!(rt; unnamed.is(5, b"", b"input fault\n"));
     Ok(())
 }
 
 #[test]
-fn a_configuration_that_fails_is_an_input_fault(rt: HostRuntime) -> Result<(), Fail> {
+fn a_take_that_fails_is_an_input_fault(rt: HostRuntime) -> Result<(), Fail> {
     let alloc = rt.alloc();
-    let mut desk = MemoryDesk::make(alloc, 0);
-    desk.add("c1.toml", CONFIGURATION.as_bytes(), &[2])?;
-    let input = MemorySource::make(alloc, b"stop\n", &[], &[])?;
-    let ran = run(alloc, &["replay", "c1.toml"], input, &[], &mut desk)?;
-    assert_eq!(rt; ran.status, 5);
-    assert_eq!(rt; ran.output.sent(), b"".as_slice());
-    let input = MemorySource::make(alloc, b"stop\n", &[], &[])?;
-    let ran = run(alloc, &["replay", "c2.toml"], input, &[], &mut desk)?;
-    assert_eq!(rt; ran.status, 5);
-    assert_eq!(rt; ran.errors.sent(), b"input fault\n".as_slice());
+    for failing in [1, 2] {
+        let mut desk = MemoryDesk::make(alloc, 0);
+        desk.add("c1.toml", CONFIGURATION.as_bytes(), &[failing])?;
+        let unread = stopped(alloc, &["replay", "c1.toml"], &mut desk)?;
+        assert!(rt; unread.is(5, b"", b"input fault\n"));
+        assert!(rt; unread.ended.config.is_some());
+        let input = MemorySource::make(alloc, STOP, &[3], &[failing])?;
+        let unread = replay(alloc, CONFIGURATION, input, &[])?;
+        assert!(rt; unread.is(5, b"", b"input fault\n"));
+        assert!(rt; unread.ended.config.is_some());
+    }
     Ok(())
 }
 
 #[test]
-fn a_put_that_fails_is_an_output_fault(rt: HostRuntime) -> Result<(), Fail> {
+fn an_output_that_fails_has_a_beginning_of_the_printed_run(rt: HostRuntime) -> Result<(), Fail> {
     let alloc = rt.alloc();
-    let input = MemorySource::make(alloc, b"tick 1\n", &[], &[])?;
+    let input = MemorySource::make(alloc, b"tick 1\nask 1\n", &[], &[])?;
     let ran = replay(alloc, CONFIGURATION, input, &[1])?;
-    assert_eq!(rt; ran.status, 6);
-    assert_eq!(rt; ran.errors.sent(), b"output fault\n".as_slice());
-    let mut twice = Vec::from_slice(alloc, OPTIONS)?;
-    twice.extend_from_slice(OPTIONS)?;
-    let input = MemorySource::make(alloc, &twice, &[], &[])?;
-    let mut desk = MemoryDesk::make(alloc, 0);
-    let ran = run(alloc, &["talk"], input, &[2], &mut desk)?;
-    assert_eq!(rt; ran.status, 6);
-    assert_eq!(rt; ran.output.sent(), OPTIONS_REPLY);
+    assert!(rt; ran.is(6, b"going\nnot", b"output fault\n"));
     Ok(())
 }
 
 #[test]
 fn an_input_of_67108865_bytes_is_too_long(rt: HostRuntime) -> Result<(), Fail> {
-    let alloc = rt.alloc();
-    let newlines = vec![in alloc; b'\n'; 67108865]?;
-    let input = MemorySource::make(alloc, &newlines, &[], &[])?;
-    let ran = replay(alloc, CONFIGURATION, input, &[])?;
-    assert_eq!(rt; ran.status, 8);
-    assert_eq!(rt; ran.errors.sent(), b"input too long\n".as_slice());
+    for byte in [b'\n', b'#'] {
+        let input = ReadSource::new(repeat(byte).take(67108865));
+        let ran = replay(rt.alloc(), CONFIGURATION, input, &[])?;
+        assert!(rt; ran.is(8, b"", b"input too long\n"));
+    }
     Ok(())
 }

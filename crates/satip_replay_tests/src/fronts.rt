@@ -1,13 +1,10 @@
 //! Which front end a stream has, and streams that share one.
 
 use crate::clients::{Client, Session};
-use crate::row::{FIRST_MUX, NO_MUX, SECOND_MUX};
+use crate::row::{FIRST_MUX, FIRST_MUX_TEXT, NO_MUX, SECOND_MUX};
 use crate::steps::Step::*;
 use crate::steps::is_replayed;
 use std::test::Fail;
-
-const TEXT: &str =
-    "ver=1.0;src=1;tuner=1,240,1,15,11361.75,h,dvbs2,8psk,on,0.35,22000,23;pids=0,16,17";
 
 // A tuning to the first multiplex, and one that no multiplex has, at the second front end.
 const FIRST_MUX_AT_2: &str = "?fe=2&src=1&freq=11361.75&pol=h&msys=dvbs2&sr=22000&pids=0,16,17";
@@ -60,8 +57,8 @@ fn two_streams_of_one_multiplex_share_a_front_end(rt: HostRuntime) -> Result<(),
         Ticks(40),
         Sends(Client::First, 65535, 40, 16, &[0]),
         Sends(Client::Second, 0, 40, 16, &[0]),
-        Reports(Client::First, 40, 1, TEXT),
-        Reports(Client::Second, 40, 1, TEXT),
+        Reports(Client::First, 40, 1, FIRST_MUX_TEXT),
+        Reports(Client::Second, 40, 1, FIRST_MUX_TEXT),
     ];
     assert!(rt; is_replayed(rt.alloc(), &steps)?);
     Ok(())
@@ -88,7 +85,7 @@ fn a_stream_leaves_a_shared_front_end_for_a_free_one(rt: HostRuntime) -> Result<
         Ticks(40),
         Sends(Client::Second, 0, 40, 16, &[0]),
         Reports(Client::First, 40, 0, moved),
-        Reports(Client::Second, 40, 1, TEXT),
+        Reports(Client::Second, 40, 1, FIRST_MUX_TEXT),
     ];
     assert!(rt; is_replayed(rt.alloc(), &steps)?);
     Ok(())

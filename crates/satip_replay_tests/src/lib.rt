@@ -23,6 +23,8 @@ mod refusals;
 mod reports;
 #[cfg(test)]
 mod retuning;
+#[cfg(test)]
+mod stopping;
 
 #[cfg(test)]
-use satip_replay_fixtures::{bytes, clients, row, steps};
+use satip_replay_fixtures::{bytes, clients, row, runs, steps};

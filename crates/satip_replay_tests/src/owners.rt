@@ -1,7 +1,7 @@
 //! Sessions that join a stream, and the stream's owner.
 
 use crate::clients::{Client, Session};
-use crate::row::FIRST_MUX;
+use crate::row::{FIRST_MUX, FIRST_MUX_TEXT};
 use crate::steps::Step::*;
 use crate::steps::is_replayed;
 use std::test::Fail;
@@ -9,7 +9,6 @@ use std::test::Fail;
 #[test]
 fn a_joined_session_plays_and_changes_no_pids(rt: HostRuntime) -> Result<(), Fail> {
     let (owner, joined) = (Session::first(1), Session::second(2));
-    let text = "ver=1.0;src=1;tuner=1,240,1,15,11361.75,h,dvbs2,8psk,on,0.35,22000,23;pids=0,16,17";
     let steps = [
         Founds(owner, FIRST_MUX, 1),
         Plays(owner, "stream=1", 1, 65535),
@@ -21,8 +20,8 @@ fn a_joined_session_plays_and_changes_no_pids(rt: HostRuntime) -> Result<(), Fai
         Ticks(40),
         Sends(Client::First, 65535, 40, 16, &[0]),
         Sends(Client::Second, 0, 40, 16, &[0]),
-        Reports(Client::First, 40, 1, text),
-        Reports(Client::Second, 40, 1, text),
+        Reports(Client::First, 40, 1, FIRST_MUX_TEXT),
+        Reports(Client::Second, 40, 1, FIRST_MUX_TEXT),
     ];
     assert!(rt; is_replayed(rt.alloc(), &steps)?);
     Ok(())

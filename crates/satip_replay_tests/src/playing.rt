@@ -1,7 +1,7 @@
 //! Playing: datagrams, their numbers and reports.
 
 use crate::clients::{Client, Session};
-use crate::row::FIRST_MUX;
+use crate::row::{FIRST_MUX, FIRST_MUX_TEXT};
 use crate::steps::Step::*;
 use crate::steps::is_replayed;
 use std::test::Fail;
@@ -10,9 +10,6 @@ const SESSION: Session = Session {
     client: Client::First,
     count: 1,
 };
-
-const TEXT: &str =
-    "ver=1.0;src=1;tuner=1,240,1,15,11361.75,h,dvbs2,8psk,on,0.35,22000,23;pids=0,16,17";
 
 // PLAY, after which the first datagram has the number 65535.
 const PLAY: &[&str] = &[
@@ -38,7 +35,7 @@ fn six_packets_leave_at_a_tick_before_the_report(rt: HostRuntime) -> Result<(), 
         Receives(1, 16, &[0, 1, 2, 3, 4, 5], "tune 1 1"),
         Ticks(1040),
         Sends(Client::First, 65535, 1040, 16, &[0, 1, 2, 3, 4, 5]),
-        Reports(Client::First, 1040, 6, TEXT),
+        Reports(Client::First, 1040, 6, FIRST_MUX_TEXT),
     ];
     assert!(rt; is_replayed(rt.alloc(), &steps)?);
     Ok(())

@@ -18,6 +18,7 @@ fn doors_that_fail_are_told(rt: HostRuntime) -> Result<(), Fail> {
     let Some(last) = &ran.ended.last else {
         return Err(Fail::from("no job began"));
     };
+    assert_eq!(rt; last.jobs.workers.len(), 1);
     assert!(rt;
         last.jobs
             .workers

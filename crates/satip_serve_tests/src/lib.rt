@@ -1,4 +1,5 @@
-//! Runs of the whole program over memory, of `serve` and of `talk`. It has nothing but tests.
+//! Runs of the whole program over memory, of `serve`, `journal` and `tunnel`. It has nothing but
+//! tests.
 #![tactic(auto)]
 
 #[cfg(test)]
@@ -16,9 +17,9 @@ mod serving;
 #[cfg(test)]
 mod shared;
 #[cfg(test)]
-mod talking;
-#[cfg(test)]
 mod together;
+#[cfg(test)]
+mod told;
 #[cfg(test)]
 mod tunnelling;
 #[cfg(test)]

@@ -4,6 +4,7 @@ ghost use Rattle.std.specs.Prelude.{◌≡◌, None, IfOk};
 ghost use Rattle.satip_serving.specs.Handed.{nothing_handed};
 
 use crate::shared::{SERVE, desk, kits, run, worker};
+use crate::told::Told;
 use satip_fixtures::texts::OPTIONS;
 use satip_memory_desk::MemoryDesk;
 use std::alloc::Global;
@@ -31,13 +32,12 @@ fn desk_for_two(alloc: Global) -> Result<MemoryDesk, Fail>
 fn two_workers_serve_or_their_kits_come_back(rt: HostRuntime) -> Result<(), Fail> {
     let mut desk = desk_for_two(rt.alloc())?;
     let ran = run(&rt, rt.alloc(), SERVE, b"", &mut desk)?;
-    let served = match &ran.ended.last {
-        Some(last) if last.jobs.workers.len() == 2 => Some("served"),
-        Some(_) => Some("wrong"),
+    let told = ran.told(match &ran.ended.last {
+        Some(last) if last.jobs.workers.len() == 2 => Some(Told::Served),
+        Some(_) => Some(Told::Wrong),
         None => None,
-    };
-    let told = ran.told(served);
+    });
     println!(rt; "{told}")?;
-    assert!(rt; told != "wrong");
+    assert!(rt; told != Told::Wrong);
     Ok(())
 }

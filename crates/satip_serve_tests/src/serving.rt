@@ -42,6 +42,7 @@ fn a_journal_that_fails_is_told_at_the_end(rt: HostRuntime) -> Result<(), Fail> 
     let Some(last) = &ran.ended.last else {
         return Err(Fail::from("no job began"));
     };
+    assert_eq!(rt; last.jobs.workers.len(), 1);
     assert!(rt; have_served(&last.jobs.workers));
     let [program, worker, _, _] = ran.ended.journals.as_slice() else {
         return Err(Fail::from("not each job has a journal"));

@@ -5,6 +5,7 @@
 
 use crate::deeds::{Deeds, Gate, OPEN};
 use crate::shared::{JOURNAL, Ran, SERVE, run};
+use crate::told::Told;
 use crate::waiting::Piece;
 use crate::waiting_desk::{Plan, WaitingDesk, WaitingWorker, run_plan};
 use satip_fixtures::texts::{OPTIONS, OPTIONS_REPLY, SETUP};
@@ -87,25 +88,23 @@ const MEETING_PLAN: Plan = Plan {
 };
 
 // What is told of the kits of workers, the first of which sent these bytes.
-fn told_of(workers: &[WaitingWorker], sent: &[u8]) -> &'static str {
+fn told_of(workers: &[WaitingWorker], sent: &[u8]) -> Told {
     match workers {
         [first, second] => {
             if first.doors.have_sent(sent) && second.doors.have_sent(OPTIONS_REPLY) {
-                "served"
+                Told::Served
             } else {
-                "wrong replies"
+                Told::WrongBytes
             }
         }
-        _ => "wrong kits",
+        _ => Told::WrongKits,
     }
 }
 
 // What is told of a run whose first client is sent these bytes.
-fn told(ran: &Ran<WaitingDesk>, sent: &[u8]) -> &'static str {
-    ran.told(match &ran.ended.last {
-        Some(last) => Some(told_of(&last.jobs.workers, sent)),
-        None => None,
-    })
+fn told(ran: &Ran<WaitingDesk>, sent: &[u8]) -> Told {
+    let last = ran.ended.last.as_ref();
+    ran.told(last.map(|last| told_of(&last.jobs.workers, sent)))
 }
 
 // Jobs that ran one after another would never come together.
@@ -114,7 +113,7 @@ fn all_jobs_of_a_serve_meet(rt: HostRuntime) -> Result<(), Fail> {
     let deeds = Deeds::new();
     let ran = run_plan(&rt, rt.alloc(), SERVE, MEETING_PLAN, &deeds)?;
     assert!(rt; !deeds.gave_up());
-    assert_eq!(rt; told(&ran, OPTIONS_REPLY), "served");
+    assert_eq!(rt; told(&ran, OPTIONS_REPLY), Told::Served);
     Ok(())
 }
 
@@ -125,7 +124,7 @@ fn two_workers_play_a_recording_together(rt: HostRuntime) -> Result<(), Fail> {
     let told = told(&ran, REPLIES);
     println!(rt; "{told}")?;
     assert!(rt; !deeds.gave_up());
-    assert_eq!(rt; told, "served");
+    assert_eq!(rt; told, Told::Served);
     Ok(())
 }
 
@@ -144,7 +143,7 @@ fn their_journals_are_one_history(rt: HostRuntime) -> Result<(), Fail> {
     let deeds = Deeds::new();
     let ran = run_plan(&rt, alloc, JOURNAL, PLAN, &deeds)?;
     assert!(rt; !deeds.gave_up());
-    assert_eq!(rt; told(&ran, REPLIES), "served");
+    assert_eq!(rt; told(&ran, REPLIES), Told::Served);
     assert_eq!(rt; ran.ended.journals.len(), 6);
     let journals = joined(alloc, &ran)?;
     let mut desk = WaitingDesk::new(alloc, &deeds, PLAN);

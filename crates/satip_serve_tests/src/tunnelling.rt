@@ -3,6 +3,7 @@
 use crate::deeds::{Deeds, Gate, OPEN};
 use crate::shared::{Ran, TUNNEL, desk_for_one, have_served, run};
 use crate::together::{PLAY, SECOND, TEARDOWN};
+use crate::told::Told;
 use crate::waiting::{Piece, Served};
 use crate::waiting_desk::{Plan, WaitingDesk, WaitingWorker, run_plan};
 use satip_fixtures::texts::{OPTIONS, OPTIONS_REPLY, SETUP_INTERLEAVED};
@@ -68,15 +69,6 @@ fn after_frame(bytes: &[u8]) -> Option<&[u8]> {
     Some(bytes.split_at(length).1)
 }
 
-// What stands behind a text that these bytes begin with; None where they don't.
-fn after_text<'a>(bytes: &'a [u8], text: &[u8]) -> Option<&'a [u8]> {
-    if bytes.len() < text.len() {
-        return None;
-    }
-    let (first, behind) = bytes.split_at(text.len());
-    if first == text { Some(behind) } else { None }
-}
-
 // Whether these are whole frames and, behind one of them, one reply to TEARDOWN.
 fn is_played_out(bytes: &[u8]) -> bool {
     let mut rest = bytes;
@@ -86,7 +78,7 @@ fn is_played_out(bytes: &[u8]) -> bool {
         if let Some(behind) = after_frame(rest) {
             framed = true;
             rest = behind;
-        } else if let Some(behind) = after_text(rest, OVER) {
+        } else if let Some(behind) = rest.strip_prefix(OVER) {
             if over || !framed {
                 return false;
             }
@@ -103,32 +95,30 @@ fn has_played(served: Option<&Served>) -> bool {
     let Some(served) = served else {
         return false;
     };
-    match after_text(served.sent.as_slice(), BEGUN) {
+    match served.sent.strip_prefix(BEGUN) {
         Some(behind) => served.end == ConnEnd::Done && is_played_out(behind),
         None => false,
     }
 }
 
 // What is told of the kits of workers, the first of which played.
-fn told_of(workers: &[WaitingWorker]) -> &'static str {
+fn told_of(workers: &[WaitingWorker]) -> Told {
     match workers {
         [first, second] => {
             if has_played(first.doors.served()) && second.doors.have_sent(OPTIONS_REPLY) {
-                "served"
+                Told::Served
             } else {
-                "wrong bytes"
+                Told::WrongBytes
             }
         }
-        _ => "wrong kits",
+        _ => Told::WrongKits,
     }
 }
 
 // What is told of a run.
-fn told(ran: &Ran<WaitingDesk>) -> &'static str {
-    ran.told(match &ran.ended.tunnel {
-        Some(left) => Some(told_of(&left.jobs.workers)),
-        None => None,
-    })
+fn told(ran: &Ran<WaitingDesk>) -> Told {
+    let left = ran.ended.tunnel.as_ref();
+    ran.told(left.map(|left| told_of(&left.jobs.workers)))
 }
 
 // A connection that doesn't send frames while nothing comes in would never be torn down.
@@ -140,7 +130,7 @@ fn frames_are_sent_while_a_connection_is_idle(rt: HostRuntime) -> Result<(), Fai
     println!(rt; "{told}")?;
     assert!(rt; !deeds.gave_up());
     assert!(rt; ran.ended.last.is_none());
-    assert_eq!(rt; told, "served");
+    assert_eq!(rt; told, Told::Served);
     Ok(())
 }
 

@@ -14,6 +14,7 @@ use crate::shared::{Ran, run};
 use crate::waiting::{Piece, WaitingDoors};
 use satip_base::{Address, Failed, Text, Want};
 use satip_config::Config;
+use satip_fixtures::texts::CONFIGURATION;
 use satip_memory::{MemoryConn, MemoryInlet, MemorySink, MemorySource};
 use satip_memory_desk::MemoryMoment;
 use satip_program::{Desk, Jobs, JobsFault};
@@ -24,31 +25,6 @@ use std::snapshot::Snapshot;
 use std::sync::Wait;
 use std::test::Fail;
 use std::thread::Threads;
-
-/// Two front ends, and two multiplexes that they receive.
-const C1: &[u8] = b"address = \"192.168.1.10\"
-workers = 2
-[[frontend]]
-sources = [1]
-systems = [\"dvbs\", \"dvbs2\"]
-[[frontend]]
-sources = [1]
-systems = [\"dvbs\", \"dvbs2\"]
-[[mux]]
-src = 1
-freq = \"11361.75\"
-pol = \"h\"
-msys = \"dvbs2\"
-sr = 22000
-file = \"a.ts\"
-[[mux]]
-src = 1
-freq = \"12402\"
-pol = \"v\"
-msys = \"dvbs\"
-sr = 27500
-file = \"b.ts\"
-";
 
 /// How often a pause of a pump or of the ticker looks at least.
 const LOOKS: u64 = 100_000;
@@ -145,6 +121,14 @@ fn kits<'a>(
     })
 }
 
+// The configuration, with two workers.
+fn configuration(alloc: Global) -> Result<MemorySource, Want> {
+    let Ok(text) = format!(in alloc; "workers = 2\n{CONFIGURATION}") else {
+        return Err(Want);
+    };
+    MemorySource::make(alloc, text.as_bytes(), &[], &[])
+}
+
 /// A desk that has one configuration for each name, and the kits for it. It tells no text.
 #[derive(Drop)]
 pub struct WaitingDesk<'a> {
@@ -230,7 +214,7 @@ impl<'a> Desk for WaitingDesk<'a> {
     }
 
     fn config(&mut self, _name: &Text) -> Result<MemorySource, Failed> {
-        match MemorySource::make(self.alloc, C1, &[], &[]) {
+        match configuration(self.alloc) {
             Ok(source) => Ok(source),
             Err(Want) => {
                 self.faults = self.faults.saturating_add(1);

@@ -3,6 +3,3 @@
 
 #[cfg(test)]
 mod stress;
-
-#[cfg(test)]
-use satip_replay_fixtures::row;

@@ -1,12 +1,12 @@
 //! Stress runs: the six counts of two runs, the words, the statuses, and the replay of a script
 //! with the texts of the same events.
 
-use crate::row::{Ran, run};
 use rand_chacha::ChaCha8Rng;
 use rand_core::SeedableRng;
 use rand_core::utils::NextWord;
 use satip_memory::MemorySource;
 use satip_memory_desk::MemoryDesk;
+use satip_replay_fixtures::runs::{Ran, run};
 use std::alloc::Global;
 use std::test::Fail;
 
@@ -121,67 +121,109 @@ fn script_of(alloc: Global, seed: u8, count: u32) -> Result<Script, Fail> {
     Ok(script)
 }
 
-// The six lines of a printed run.
-fn counted(alloc: Global, printed: &[u8]) -> Result<String, Fail> {
-    let (mut events, mut replies, mut refused) = (0u64, 0u64, 0u64);
-    let (mut datagrams, mut payload, mut reports) = (0u64, 0u64, 0u64);
-    for line in std::str::from_utf8(printed)?.lines() {
-        let Some((word, rest)) = line.split_once(' ') else {
-            events = events.saturating_add(1);
-            continue;
-        };
-        if word != "datagram" {
-            events = events.saturating_add(1);
-            if word == "reply" {
-                replies = replies.saturating_add(1);
-                if !rest.starts_with("200 ") {
-                    refused = refused.saturating_add(1);
-                }
-            }
-            continue;
-        }
-        let digits = rest.split_once(' ').ok_or("digits")?.1;
-        if digits.starts_with("8021") {
-            datagrams = datagrams.saturating_add(1);
-            let packets = (digits.len() / 2).saturating_sub(12) / 188;
-            payload = payload.saturating_add(packets as u64);
-        } else if digits.starts_with("80c8") {
-            reports = reports.saturating_add(1);
+// What a printed run counts up to.
+#[derive(Drop)]
+struct Counts {
+    events: u64,
+    replies: u64,
+    refused: u64,
+    datagrams: u64,
+    payload: u64,
+    reports: u64,
+}
+
+impl Counts {
+    fn new() -> Counts {
+        Counts {
+            events: 0,
+            replies: 0,
+            refused: 0,
+            datagrams: 0,
+            payload: 0,
+            reports: 0,
         }
     }
-    Ok(format!(in alloc;
-        "events {events}\nreplies {replies}\nrefused {refused}\ndatagrams {datagrams}\npayload {payload}\nreports {reports}\n"
-    )?)
+
+    // A line of the printed run.
+    fn add(&mut self, line: &str) -> Result<(), Fail> {
+        match line.strip_prefix("datagram ") {
+            Some(datagram) => self.add_datagram(datagram.split_once(' ').ok_or("digits")?.1),
+            None => self.add_answer(line),
+        }
+        Ok(())
+    }
+
+    fn add_answer(&mut self, line: &str) {
+        self.events = self.events.saturating_add(1);
+        let Some(reply) = line.strip_prefix("reply ") else {
+            return;
+        };
+        self.replies = self.replies.saturating_add(1);
+        if !reply.starts_with("200 ") {
+            self.refused = self.refused.saturating_add(1);
+        }
+    }
+
+    // A datagram of RTP or RTCP, by its digits.
+    fn add_datagram(&mut self, digits: &str) {
+        if digits.starts_with("8021") {
+            let packets = (digits.len() / 2).saturating_sub(12) / 188;
+            self.datagrams = self.datagrams.saturating_add(1);
+            self.payload = self.payload.saturating_add(packets as u64);
+        } else if digits.starts_with("80c8") {
+            self.reports = self.reports.saturating_add(1);
+        }
+    }
+}
+
+// The six lines of a printed run.
+fn counted(alloc: Global, printed: &[u8]) -> Result<String, Fail> {
+    let mut counts = Counts::new();
+    for line in std::str::from_utf8(printed)?.lines() {
+        counts.add(line)?;
+    }
+    let mut text = String::new(alloc);
+    writeln!(text, "events {}", counts.events)?;
+    writeln!(text, "replies {}", counts.replies)?;
+    writeln!(text, "refused {}", counts.refused)?;
+    writeln!(text, "datagrams {}", counts.datagrams)?;
+    writeln!(text, "payload {}", counts.payload)?;
+    writeln!(text, "reports {}", counts.reports)?;
+    Ok(text)
 }
 
 fn stressed(alloc: Global, seed: &str, count: &str, failing: &[u64]) -> Result<Ran, Fail> {
     let input = MemorySource::make(alloc, b"stop\n", &[], &[])?;
     let mut desk = MemoryDesk::make(alloc, 0);
-    run(alloc, &["stress", seed, count], input, failing, &mut desk)
+    run(
+        alloc,
+        &["stress", seed, count],
+        input,
+        failing,
+        0,
+        &mut desk,
+    )
 }
 
 #[test]
 fn without_made_events_there_are_five(rt: HostRuntime) -> Result<(), Fail> {
     let ran = stressed(rt.alloc(), "7", "0", &[])?;
-    assert_eq!(rt; ran.status, 0);
-    let counts = b"events 5\nreplies 4\nrefused 0\ndatagrams 0\npayload 0\nreports 0\n".as_slice();
-    assert_eq!(rt; ran.output.sent(), counts);
-    assert_eq!(rt; ran.errors.sent(), b"".as_slice());
+    let counts = b"events 5\nreplies 4\nrefused 0\ndatagrams 0\npayload 0\nreports 0\n";
+    assert!(rt; ran.is(0, counts, b""));
     Ok(())
 }
 
+// Counted outside, by a model of both sessions over the words of ChaCha8.
 #[test]
 fn a_hundred_thousand_made_events_are_counted(rt: HostRuntime) -> Result<(), Fail> {
     let ran = stressed(rt.alloc(), "7", "100000", &[])?;
-    assert_eq!(rt; ran.status, 0);
     let counts = b"events 100005\n\
         replies 6324\n\
         refused 0\n\
         datagrams 14076\n\
         payload 88982\n\
-        reports 628\n"
-        .as_slice();
-    assert_eq!(rt; ran.output.sent(), counts);
+        reports 628\n";
+    assert!(rt; ran.is(0, counts, b""));
     Ok(())
 }
 
@@ -202,8 +244,8 @@ fn a_replay_of_the_texts_has_the_same_counts(rt: HostRuntime) -> Result<(), Fail
     let input = MemorySource::make(alloc, script.text.as_bytes(), &[], &[])?;
     let mut desk = MemoryDesk::make(alloc, 0);
     desk.add("c1.toml", CONFIGURATION.as_bytes(), &[])?;
-    let replayed = run(alloc, &["replay", "c1.toml"], input, &[], &mut desk)?;
-    assert_eq!(rt; replayed.status, 0);
+    let replayed = run(alloc, &["replay", "c1.toml"], input, &[], 0, &mut desk)?;
+    assert_eq!(rt; replayed.ended.status, 0);
     let counts = counted(alloc, replayed.output.sent())?;
     let ran = stressed(alloc, "200", "600", &[])?;
     assert_eq!(rt; ran.output.sent(), counts.as_bytes());
@@ -213,25 +255,21 @@ fn a_replay_of_the_texts_has_the_same_counts(rt: HostRuntime) -> Result<(), Fail
 #[test]
 fn an_output_that_fails_has_a_beginning_of_the_counts(rt: HostRuntime) -> Result<(), Fail> {
     let ran = stressed(rt.alloc(), "7", "0", &[1])?;
-    assert_eq!(rt; ran.status, 6);
-    assert_eq!(rt; ran.output.sent(), b"".as_slice());
-    assert_eq!(rt; ran.errors.sent(), b"output fault\n".as_slice());
+    assert!(rt; ran.is(6, b"", b"output fault\n"));
     Ok(())
 }
 
 #[test]
 fn other_numbers_are_a_faulty_command_line(rt: HostRuntime) -> Result<(), Fail> {
-    let alloc = rt.alloc();
-    assert_eq!(rt;
-        stressed(alloc, "18446744073709551615", "1", &[])?.status,
-        0
-    );
-    assert_eq!(rt;
-        stressed(alloc, "18446744073709551616", "1", &[])?.status,
-        2
-    );
-    assert_eq!(rt; stressed(alloc, "1", "1000001", &[])?.status, 2);
-    assert_eq!(rt; stressed(alloc, "", "1", &[])?.status, 2);
-    assert_eq!(rt; stressed(alloc, "1", "-1", &[])?.status, 2);
+    for (seed, count, status) in [
+        ("18446744073709551615", "1", 0),
+        ("18446744073709551616", "1", 2),
+        ("1", "1000001", 2),
+        ("", "1", 2),
+        ("1", "-1", 2),
+    ] {
+        let ran = stressed(rt.alloc(), seed, count, &[])?;
+        assert_eq!(rt; ran.ended.status, status, "{seed} {count}");
+    }
     Ok(())
 }

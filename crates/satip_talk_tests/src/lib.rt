@@ -1,4 +1,4 @@
-//! The words of the commands, talks, and small replays over memory. It has nothing but tests.
+//! The words of the commands, and talks over memory. It has nothing but tests.
 #![tactic(auto)]
 
 #[cfg(test)]
