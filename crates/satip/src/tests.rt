@@ -2,6 +2,7 @@
 
 use crate::desk::RealDesk;
 use satip_base::{Sink, Text};
+use satip_fixtures::texts::{OPTIONS, OPTIONS_REPLY};
 use satip_memory::{MemorySink, MemorySource};
 use satip_program::{Desk, satip};
 use std::alloc::Global;
@@ -12,11 +13,6 @@ use std::test::Fail;
 use std::thread::Threads;
 use std::time::Duration;
 use std::{fs, thread};
-
-const OPTIONS: &[u8] = b"OPTIONS * RTSP/1.0\r\nCSeq: 1\r\n\r\n";
-
-const REPLY: &[u8] =
-    b"RTSP/1.0 200 OK\r\nCSeq: 1\r\nPublic: OPTIONS, DESCRIBE, SETUP, PLAY, TEARDOWN\r\n\r\n";
 
 const CONFIGURATION: &[u8] =
     b"address = \"127.0.0.1\"\nrtsp_port = 18554\nhttp_port = 18875\nworkers = 1\n\
@@ -89,13 +85,13 @@ fn is_answered(rt: HostRuntime) -> bool {
 
 fn asks(mut stream: TcpStream) -> bool {
     let mut reply = [0u8; 128];
-    let reply = &mut reply[..REPLY.len()];
+    let reply = &mut reply[..OPTIONS_REPLY.len()];
     stream
         .set_read_timeout(Some(Duration::from_secs(20)))
         .is_ok()
         && stream.write_all(OPTIONS).is_ok()
         && stream.read_exact(reply).is_ok()
-        && *reply == *REPLY
+        && *reply == *OPTIONS_REPLY
 }
 
 #[test]

@@ -1,5 +1,6 @@
 //! Whole recordings: each status, with the requests, the packets and the lines.
 
+use satip_fixtures::recordings::{ACCEPTED, ADDRESS, GRANTED, HEAD, LEFT, OPENED, QUERY, datagram};
 use satip_fixtures::texts::is_joined;
 use satip_memory::{MemoryClock, MemoryConn, MemoryInlet, MemorySource};
 use satip_memory_desk::MemoryDesk;
@@ -7,43 +8,7 @@ use satip_replay_fixtures::runs::{Ran, run};
 use std::alloc::Global;
 use std::test::Fail;
 
-const WORDS: [&str; 4] = [
-    "record",
-    "127.0.0.1:18554",
-    "freq=12402&pol=v&msys=dvbs&sr=27500&pids=all",
-    "2",
-];
-
-const GRANTED: &[u8] =
-    b"RTSP/1.0 200 OK\r\nCSeq: 1\r\nSession: 1a;timeout=2\r\ncom.ses.streamID: 7\r\n\r\n";
-
-const ACCEPTED: &[u8] = b"RTSP/1.0 200 OK\r\nCSeq: 2\r\n\r\n";
-
-const OPENED: &[u8] =
-    b"SETUP rtsp://127.0.0.1:18554/?freq=12402&pol=v&msys=dvbs&sr=27500&pids=all RTSP/1.0\r\n\
-    CSeq: 1\r\n\
-    Transport: RTP/AVP;unicast;client_port=5000-5001\r\n\r\n\
-    PLAY rtsp://127.0.0.1:18554/stream=7 RTSP/1.0\r\n\
-    CSeq: 2\r\n\
-    Session: 1a\r\n\r\n";
-
-const LEFT: &[u8] =
-    b"TEARDOWN rtsp://127.0.0.1:18554/stream=7 RTSP/1.0\r\nCSeq: 3\r\nSession: 1a\r\n\r\n";
-
-const HEAD: usize = 12;
-
-const PACKET: usize = 188;
-
-// The datagram with number 9, of three packets.
-fn datagram() -> [u8; 576] {
-    let mut bytes = [7; 576];
-    let head = [0x80, 33, 0, 9, 0, 0, 0, 0, 0, 0, 0, 7];
-    bytes[..HEAD].copy_from_slice(&head);
-    bytes[HEAD] = 0x47;
-    bytes[HEAD + PACKET] = 0x47;
-    bytes[HEAD + 2 * PACKET] = 0x47;
-    bytes
-}
+const WORDS: [&str; 4] = ["record", ADDRESS, QUERY, "2"];
 
 // A run with these words over a desk, whose put with the number `failing_put` fails after 100
 // bytes.
@@ -81,11 +46,11 @@ fn play(
 
 #[test]
 fn two_packets_are_recorded(rt: HostRuntime) -> Result<(), Fail> {
-    let came = datagram();
+    let came = datagram(9);
     let played = play(rt.alloc(), &[GRANTED, ACCEPTED], &[&came], 0, 0)?;
     assert!(rt; played.is(0, &came[HEAD..HEAD + 376], b""));
-    let sent = sent(&played).ok_or("connection")?;
-    assert!(rt; is_joined(sent, &[OPENED, LEFT]));
+    let all = sent(&played).ok_or("connection")?;
+    assert!(rt; is_joined(all, &[OPENED, LEFT]));
     assert!(rt; played.ended.inlet.is_some() && played.ended.moment.is_some());
     Ok(())
 }
@@ -176,7 +141,7 @@ fn without_a_port_nothing_is_sent(rt: HostRuntime) -> Result<(), Fail> {
 
 #[test]
 fn a_failing_output_is_told(rt: HostRuntime) -> Result<(), Fail> {
-    let came = datagram();
+    let came = datagram(9);
     let played = play(rt.alloc(), &[GRANTED, ACCEPTED], &[&came], 0, 1)?;
     assert!(rt; played.is(6, &came[HEAD..HEAD + 100], b"output fault\n"));
     Ok(())

@@ -1,12 +1,11 @@
 //! The words of a recording.
 
 use crate::recordings::record;
+use satip_fixtures::recordings::QUERY;
 use satip_memory::MemoryConn;
 use satip_memory_desk::MemoryDesk;
 use std::alloc::Global;
 use std::test::Fail;
-
-const QUERY: &str = "freq=12402&pol=v&msys=dvbs&sr=27500&pids=all";
 
 // The status of a recording by these words, at a server that ends the connection at once.
 fn status(alloc: Global, address: &str, query: &str, count: &str) -> Result<u8, Fail> {

@@ -1,7 +1,7 @@
 //! The words of the commands, and what a talk answers.
 
 use satip_base::{ReadSource, Source};
-use satip_fixtures::texts::{OPTIONS, OPTIONS_REPLY, joined, repeated};
+use satip_fixtures::texts::{CLOSING, OPTIONS, OPTIONS_REPLY, joined, repeated};
 use satip_memory::MemorySource;
 use satip_memory_desk::MemoryDesk;
 use satip_replay_fixtures::runs::{Ran, run};
@@ -18,8 +18,6 @@ const SETUP: &[u8] = b"SETUP rtsp://127.0.0.1/ RTSP/1.0\r\n\
     Transport: RTP/AVP;unicast;client_port=1400-1401\r\n\r\n";
 
 const DESCRIBE: &[u8] = b"DESCRIBE rtsp://127.0.0.1/ RTSP/1.0\r\nCSeq: 2\r\n\r\n";
-
-const BAD: &[u8] = b"RTSP/1.0 400 Bad Request\r\nConnection: close\r\n\r\n";
 
 const LARGE: &[u8] = b"RTSP/1.0 413 Request Entity Too Large\r\nConnection: close\r\n\r\n";
 
@@ -92,9 +90,9 @@ fn a_head_has_at_most_8192_bytes(rt: HostRuntime) -> Result<(), Fail> {
         )?
     );
     let longer = joined(alloc, &[FRONT, b"X: x", &filler, b"\r\n\r\n", OPTIONS])?;
-    assert!(rt; answers(alloc, &longer, &[], BAD)?);
+    assert!(rt; answers(alloc, &longer, &[], CLOSING)?);
     let noise = vec![in alloc; b'a'; 100000]?;
-    assert!(rt; answers(alloc, &noise, &[], BAD)?);
+    assert!(rt; answers(alloc, &noise, &[], CLOSING)?);
     Ok(())
 }
 
@@ -116,7 +114,7 @@ fn a_body_of_4096_bytes_is_ignored_and_a_longer_one_closes(rt: HostRuntime) -> R
     let text = joined(alloc, &[head, &body, OPTIONS])?;
     assert!(rt; answers(alloc, &text, &[], LARGE)?);
     let head = b"OPTIONS * RTSP/1.0\r\nCSeq: 1\r\nContent-Length: 0\r\nContent-Length: 0\r\n\r\n";
-    assert!(rt; answers(alloc, head, &[], BAD)?);
+    assert!(rt; answers(alloc, head, &[], CLOSING)?);
     Ok(())
 }
 
@@ -127,7 +125,7 @@ fn a_head_has_at_most_64_headers(rt: HostRuntime) -> Result<(), Fail> {
     let most = joined(alloc, &[FRONT, &further, b"\r\n"])?;
     assert!(rt; answers(alloc, &most, &[], OPTIONS_REPLY)?);
     let more = joined(alloc, &[FRONT, &further, HEADER, b"\r\n"])?;
-    assert!(rt; answers(alloc, &more, &[], BAD)?);
+    assert!(rt; answers(alloc, &more, &[], CLOSING)?);
     Ok(())
 }
 
@@ -189,7 +187,7 @@ fn replies_behind_the_first_to_a_take_are_put_together(rt: HostRuntime) -> Resul
     );
     let closing = joined(alloc, &[OPTIONS, b"OPTIONS\r\n\r\n", OPTIONS])?;
     let closed = talked(alloc, &closing, &[], &[3])?;
-    assert!(rt; closed.is(0, &joined(alloc, &[OPTIONS_REPLY, BAD])?, b""));
+    assert!(rt; closed.is(0, &joined(alloc, &[OPTIONS_REPLY, CLOSING])?, b""));
     let failed = talked(alloc, &three, &[62], &[3])?;
     let sent = joined(alloc, &[OPTIONS_REPLY, OPTIONS_REPLY, b"RTSP/1.0 "])?;
     assert!(rt; failed.is(6, &sent, b"output fault\n"));
