@@ -4,8 +4,8 @@
     tools/check_docs.py
 
 Each path between backticks is a file or a folder, from the top or from crates/, and so is what a
-link leads to, from the folder of its page; where a name stands before a path, as in `law_5`,
-`crates/satip_laws/src/theorems.rt`, or names stand before a colon and a path, as in `choose`,
+link leads to, from the folder of its page; where a name stands before a path, as in `Entry`,
+`crates/satip_history/src/entry.rt`, or names stand before a colon and a path, as in `choose`,
 `blocked`: `crates/satip_fronts/specs/Choice.antt`, the file has each as a word; each crate
 `satip_..` is one of crates.txt; what is quoted behind a path and a colon stands there word for
 word. It prints what isn't there, one line each, and ends with status 1 where there is something. It
