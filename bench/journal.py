@@ -80,6 +80,8 @@ def audit(program, mebibytes):
             told = auditing.stdout.read().decode().strip()
             _, _, usage = os.wait4(auditing.pid, 0)
             took = time.monotonic() - begun
+        if not told.startswith("yes "):
+            sys.exit(f"the verdict: {told}")
         size, cpu = os.path.getsize(text), usage.ru_utime + usage.ru_stime
         print(
             f"audit of {size / (1 << 20):.1f} MiB: {told}, {cpu:.2f} s of CPU, {took:.2f} s, "
