@@ -127,10 +127,11 @@ write_log() {
 
 record() {
   declare -A check used first last
-  local log=$1
+  local log=$1 help
   shift
-  # Kits that keep what a run proved take this word.
-  if [[ -z ${KEEP-} && $(rt help 2>&1) == *--anew* ]]; then set -- --anew "$@"; fi
+  # Kits whose rt ci keeps what it proved take this word.
+  help=$(rt help 2>&1) || true
+  if [[ -z ${KEEP-} && ${help%%rt must-fail *} == *--anew* ]]; then set -- --anew "$@"; fi
   (cd "$top" && rt ci "$@") >"$log.out" 2>&1 &
   local gate=$!
   # The subshell's end writes the log, however it ends.
