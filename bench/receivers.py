@@ -9,9 +9,9 @@ word. CPU is that of all threads of the server, by /proc/PID/task/*/schedstat. P
 by the bytes that came, since a datagram that a tick sends off has less than seven; what is missing
 is read off the RTP numbers.
 
-PROGRAM is crates/satip/out/satip without the word; `cd crates/satip && rt run -- --version` builds
-it. Needs the Debian packages python3 and ffmpeg. Ports 18554 and 18875 of 127.0.0.1 are to be
-free."""
+PROGRAM is SATIP_PROGRAM or crates/satip/out/satip without the word; `cd crates/satip && rt run --
+--version` builds it. Needs the Debian packages python3 and ffmpeg. Ports 18554 and 18875 of
+127.0.0.1 are to be free."""
 
 import glob
 import os

@@ -3,9 +3,10 @@
 
     python3 bench/replay.py [PROGRAM [WORD..]]
 
-PROGRAM is crates/satip/out/satip without this word; `cd crates/satip && rt run -- --version` builds it.
-With words, only the rows with one of them in their names are measured. Needs python3, and valgrind for the
-counts of instructions. Writes nothing into the repository."""
+PROGRAM is SATIP_PROGRAM or crates/satip/out/satip without the word; `cd crates/satip && rt run --
+--version` builds it. With words, only the rows with one of them in their names are measured. Needs
+the Debian packages python3, and valgrind for the counts of instructions. Writes nothing into the
+repository."""
 
 import os
 import re
@@ -15,7 +16,11 @@ import sys
 import tempfile
 import time
 
-HERE = os.path.dirname(os.path.abspath(__file__))
+TOP = os.path.dirname(os.path.dirname(os.path.abspath(__file__)))
+sys.path.insert(0, os.path.join(TOP, "tools"))
+sys.dont_write_bytecode = True
+from serving import PROGRAM
+
 INPUT_LIMIT = 67108864
 RUNS = 5
 
@@ -25,7 +30,7 @@ SECOND_MUX = "src=1&freq=12402&pol=v&msys=dvbs&sr=27500"
 
 def configuration():
     """The example, with sessions that outlive the script."""
-    with open(os.path.join(HERE, "..", "examples", "satip.toml")) as file:
+    with open(os.path.join(TOP, "examples", "satip.toml")) as file:
         return file.read().replace("timeout = 60", "timeout = 3600")
 
 
@@ -298,7 +303,7 @@ def options(count):
 
 
 def main():
-    program = os.path.abspath(sys.argv[1] if len(sys.argv) > 1 else os.path.join(HERE, "..", "crates", "satip", "out", "satip"))
+    program = os.path.abspath(sys.argv[1] if len(sys.argv) > 1 else PROGRAM)
     wanted = sys.argv[2:]
     print("| run | CPU | into a file | instructions each | memory at most |\n|---|---|---|---|---|", flush=True)
     with tempfile.TemporaryDirectory() as folder:

@@ -9,9 +9,10 @@ CPU is that of all threads of the server, by /proc/PID/task/*/schedstat. Packets
 bytes that came; what is late or missing is read off the RTP numbers. SECONDS, 20 without the word,
 is how long each row takes.
 
-PROGRAM is crates/satip/out/satip without the word; `cd crates/satip && rt run -- --version` builds
-it. Needs the right to trace it, and the Debian packages python3, gcc, libc6-dev, strace, and ffmpeg
-for tools/make_recording.sh. Ports 18554 and 18875 of 127.0.0.1 are to be free."""
+PROGRAM is SATIP_PROGRAM or crates/satip/out/satip without the word; `cd crates/satip && rt run --
+--version` builds it. Needs the right to trace it, and the Debian packages python3, gcc,
+libc6-dev, strace, and ffmpeg for tools/make_recording.sh. Ports 18554 and 18875 of 127.0.0.1 are to
+be free."""
 
 import os
 import subprocess

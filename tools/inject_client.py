@@ -1,11 +1,14 @@
 #!/usr/bin/env python3
-"""The clients of inject_faults.sh: one that streams over RTP, others that come and go, and one that comes afterwards.
+"""The clients of inject_faults.sh: one that streams over RTP, others that come and go, and one that
+comes afterwards.
 
     inject_client.py PID RTSP_PORT HTTP_PORT CALL ERROR LOG
 
-It lets strace(1) make each 11th CALL of each thread of the process PID fail with ERROR from the 7th on, and of calls that are
-rare each second from the first on, for some seconds, and prints one line of four words: how many calls failed so, and
-whether the server lives, the stream went on, and a later client was served. LOG gets the calls.
+It lets strace(1) make each 11th CALL of each thread of the process PID fail with ERROR from the 7th
+on, and of calls that are rare each second from the first on, for some seconds, and prints one line
+of four words: how many calls failed so, and whether the server lives, the stream went on, and a
+later client was served. LOG gets the calls. Needs the right to trace the process, and the Debian
+packages python3 and strace.
 """
 import re
 import signal

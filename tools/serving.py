@@ -15,7 +15,7 @@ FREQUENCIES = ("11361.75", "11422.75", "11464.25", "11494.25")
 QUERIES = [f"src=1&freq={freq}&pol=h&msys=dvbs2&sr=22000" for freq in FREQUENCIES]
 QUERY = QUERIES[0]
 TOP = os.path.dirname(os.path.dirname(os.path.abspath(__file__)))
-PROGRAM = os.path.join(TOP, "crates", "satip", "out", "satip")
+PROGRAM = os.environ.get("SATIP_PROGRAM", os.path.join(TOP, "crates", "satip", "out", "satip"))
 PACKETS_A_SECOND = 3200
 FRONT_END = """\
 [[frontend]]

@@ -3,10 +3,11 @@
 #
 #   tools/try_wall_clock.sh
 #
-# No step ends a session, a silent client's session ends in time all the same, and the time in the sender reports goes on.
-# Ends with status 1 where that isn't so, as with STEP_ALL=1 in the environment, where the monotonic clock steps too.
-# Needs crates/satip/out/satip (`cd crates/satip && rt run -- --version` builds it), or SATIP_PROGRAM, and python3 and cc; ports
-# 18554 and 18875 of 127.0.23.3.
+# No step ends a session, a silent client's session ends in time all the same, and the time in the
+# sender reports goes on. Ends with status 1 where that isn't so, as with STEP_ALL=1 in the
+# environment, where the monotonic clock steps too.
+# Needs crates/satip/out/satip (`cd crates/satip && rt run -- --version` builds it) or SATIP_PROGRAM,
+# and the Debian packages python3, gcc and libc6-dev; ports 18554 and 18875 of 127.0.23.3.
 set -eu
 tools=$(cd "$(dirname "$0")" && pwd)
 folder=$(mktemp -d)
