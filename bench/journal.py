@@ -8,8 +8,8 @@ SECONDS, 6 without the word, is how long each server is measured. CPU is that of
 /proc/PID/task/*/schedstat; an audit's is what the system tells of it when it ended. The journals of
 an audit are those of a server with one receiver that was killed when they had the size.
 
-PROGRAM is crates/satip/out/satip without the word; `cd crates/satip && rt run -- --version` builds
-it. Needs python3."""
+PROGRAM is SATIP_PROGRAM or crates/satip/out/satip without the word; `cd crates/satip && rt run --
+--version` builds it. Needs the Debian package python3."""
 import glob
 import os
 import subprocess
@@ -80,6 +80,8 @@ def audit(program, mebibytes):
             told = auditing.stdout.read().decode().strip()
             _, _, usage = os.wait4(auditing.pid, 0)
             took = time.monotonic() - begun
+        if not told.startswith("yes "):
+            sys.exit(f"the verdict: {told}")
         size, cpu = os.path.getsize(text), usage.ru_utime + usage.ru_stime
         print(
             f"audit of {size / (1 << 20):.1f} MiB: {told}, {cpu:.2f} s of CPU, {took:.2f} s, "

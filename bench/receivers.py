@@ -9,8 +9,9 @@ word. CPU is that of all threads of the server, by /proc/PID/task/*/schedstat. P
 by the bytes that came, since a datagram that a tick sends off has less than seven; what is missing
 is read off the RTP numbers.
 
-PROGRAM is crates/satip/out/satip without the word; `cd crates/satip && rt run -- --version` builds
-it. Needs python3 and ffmpeg. Ports 18554 and 18875 of 127.0.0.1 are to be free."""
+PROGRAM is SATIP_PROGRAM or crates/satip/out/satip without the word; `cd crates/satip && rt run --
+--version` builds it. Needs the Debian packages python3 and ffmpeg. Ports 18554 and 18875 of
+127.0.0.1 are to be free."""
 
 import glob
 import os
@@ -60,13 +61,13 @@ def resident_megabytes(pid):
 
 
 class Receivers:
-    """Sockets for RTP, what came, and how many datagrams are missing by their numbers."""
+    """Sockets for RTP, what came, and how many datagrams are late or missing by their numbers."""
 
     def __init__(self, count):
         self.socks = [receiver(ADDRESS) for _ in range(count)]
         self.by_file = {sock.fileno(): sock for sock in self.socks}
         self.last = {}
-        self.datagrams = self.payload = self.missing = 0
+        self.datagrams = self.payload = self.late = self.missing = 0
         self.poll = select.epoll()
         for file, sock in self.by_file.items():
             sock.setblocking(False)
@@ -88,11 +89,20 @@ class Receivers:
                 length = sock.recv_into(buffer)
             except BlockingIOError:
                 return
-            number = buffer[2] << 8 | buffer[3]
-            self.missing += skipped(self.last.get(file), number) or 0
-            self.last[file] = number
             self.datagrams += 1
             self.payload += length - RTP_HEADER
+            self.count_number(file, buffer[2] << 8 | buffer[3])
+
+    def count_number(self, file, number):
+        gap = skipped(self.last.get(file), number)
+        if gap is None:
+            self.late += 1
+            return
+        self.missing += gap
+        self.last[file] = number
+
+    def packets(self):
+        return self.payload // PACKET
 
     def close(self):
         self.poll.close()

@@ -10,9 +10,9 @@ of the process (wait4) and its most memory (VmHWM), and how many packets were lo
 datagram that a line `gap FROM COUNT` or FFmpeg's `RTP: missed COUNT packets` tells. What they write
 goes to a file.
 
-PROGRAM is crates/satip/out/satip without the word; `cd crates/satip && rt run -- --version` builds
-it. Needs python3 and ffmpeg (Debian: apt-get install ffmpeg). Without ffmpeg the recording is
-random bytes in packets, and `satip record` is measured alone."""
+PROGRAM is SATIP_PROGRAM or crates/satip/out/satip without the word; `cd crates/satip && rt run --
+--version` builds it. Needs the Debian packages python3 and ffmpeg. Without ffmpeg the recording
+is random bytes in packets, and `satip record` is measured alone."""
 
 import os
 import random

@@ -3,9 +3,10 @@
 
     python3 bench/replay.py [PROGRAM [WORD..]]
 
-PROGRAM is crates/satip/out/satip without this word; `cd crates/satip && rt run -- --version` builds it.
-With words, only the rows with one of them in their names are measured. Needs python3, and valgrind for the
-counts of instructions. Writes nothing into the repository."""
+PROGRAM is SATIP_PROGRAM or crates/satip/out/satip without the word; `cd crates/satip && rt run --
+--version` builds it. With words, only the rows with one of them in their names are measured. Needs
+the Debian packages python3, and valgrind for the counts of instructions. Writes nothing into the
+repository."""
 
 import os
 import re
@@ -15,7 +16,11 @@ import sys
 import tempfile
 import time
 
-HERE = os.path.dirname(os.path.abspath(__file__))
+TOP = os.path.dirname(os.path.dirname(os.path.abspath(__file__)))
+sys.path.insert(0, os.path.join(TOP, "tools"))
+sys.dont_write_bytecode = True
+from serving import PROGRAM
+
 INPUT_LIMIT = 67108864
 RUNS = 5
 
@@ -25,7 +30,7 @@ SECOND_MUX = "src=1&freq=12402&pol=v&msys=dvbs&sr=27500"
 
 def configuration():
     """The example, with sessions that outlive the script."""
-    with open(os.path.join(HERE, "..", "examples", "satip.toml")) as file:
+    with open(os.path.join(TOP, "examples", "satip.toml")) as file:
         return file.read().replace("timeout = 60", "timeout = 3600")
 
 
@@ -62,7 +67,8 @@ def play(number, stream, pids=""):
 
 def opening():
     """Seven sessions of three streams, two of which share a front end."""
-    lines = [setup(1, f"?{FIRST_MUX}&pids=100"), setup(2, f"?{SECOND_MUX}&pids=100,200"), setup(3, f"?{FIRST_MUX}&pids=200")]
+    lines = [setup(1, f"?{FIRST_MUX}&pids=100"), setup(2, f"?{SECOND_MUX}&pids=100,200")]
+    lines.append(setup(3, f"?{FIRST_MUX}&pids=200"))
     lines += [setup(number, f"stream={1 + number % 3}") for number in range(4, 8)]
     streams = [1, 2, 3] + [1 + number % 3 for number in range(4, 8)]
     return "".join(lines + [play(1 + place, stream) for place, stream in enumerate(streams)])
@@ -220,9 +226,14 @@ ROWS = [
 ]
 
 # the same where more sessions live than an event touches: name, how many lines, what they are, and the opening
+CROWD_KINDS = (
+    ("packet that one selects", "one_pid"),
+    ("OPTIONS", "options"),
+    ("PLAY with two PIDs", "play_alone"),
+)
 CROWDS = [
     (f"replay, {name}, {count} sessions", 50_000, in_turn(kind), one_selects(count))
-    for name, kind in (("packet that one selects", "one_pid"), ("OPTIONS", "options"), ("PLAY with two PIDs", "play_alone"))
+    for name, kind in CROWD_KINDS
     for count in (1, 8, 64)
 ] + [("replay, packet that four select, 64 sessions", 50_000, in_turn("sixteen_pids"), sixteen_sets())]
 
@@ -256,8 +267,9 @@ def instructions(words, text, folder):
     with open(os.path.join(folder, "in"), "wb") as file:
         file.write(text)
     with open(os.path.join(folder, "in"), "rb") as given:
-        done = subprocess.run(["valgrind", "--tool=callgrind", "--callgrind-out-file=/dev/null", *words], cwd=folder, stdin=given,
-                              stdout=subprocess.DEVNULL, stderr=subprocess.PIPE, check=True)
+        counting = ["valgrind", "--tool=callgrind", "--callgrind-out-file=/dev/null", *words]
+        done = subprocess.run(counting, cwd=folder, stdin=given, stdout=subprocess.DEVNULL,
+                              stderr=subprocess.PIPE, check=True)
     counted = [line for line in done.stderr.decode().splitlines() if "Collected" in line]
     return int(counted[0].split(":")[1])
 
@@ -298,7 +310,7 @@ def options(count):
 
 
 def main():
-    program = os.path.abspath(sys.argv[1] if len(sys.argv) > 1 else os.path.join(HERE, "..", "crates", "satip", "out", "satip"))
+    program = os.path.abspath(sys.argv[1] if len(sys.argv) > 1 else PROGRAM)
     wanted = sys.argv[2:]
     print("| run | CPU | into a file | instructions each | memory at most |\n|---|---|---|---|---|", flush=True)
     with tempfile.TemporaryDirectory() as folder:
@@ -311,7 +323,8 @@ def main():
         for name, lines, kind_at, opened in CROWDS:
             if not wanted or any(word in name for word in wanted):
                 short = tuple(script(count, kind_at, (), opened) for count in (1_000, 4_000))
-                measure(name, [program, "replay", "bench.toml"], script(lines, kind_at, (), opened), short, folder, b"\n")
+                text = script(lines, kind_at, (), opened)
+                measure(name, [program, "replay", "bench.toml"], text, short, folder, b"\n")
         name = "talk, OPTIONS"
         if not wanted or any(word in name for word in wanted):
             measure(name, [program, "talk"], options(200_000), (options(1_000), options(3_000)), folder, b"OPTIONS")

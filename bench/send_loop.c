@@ -1,9 +1,11 @@
-// The plain loop that `satip tunnel` is compared with: the same frames at the same pace, and nothing but the calls that send.
+// The plain loop that `satip tunnel` is compared with: the same frames at the same pace, and
+// nothing but the calls that send.
 //
 //   send_loop SECONDS PORT COUNT
 //
-// It takes COUNT connections at PORT of 127.0.0.1. Then, every 20 ms, it sends 64 transport packets to each, seven in a datagram,
-// each datagram in a frame of 4 bytes and its length, as a front end plays; a send that doesn't take all goes on.
+// It takes COUNT connections at PORT of 127.0.0.1. Then, every 20 ms, it sends 64 transport packets
+// to each, seven in a datagram, each datagram in a frame of 4 bytes and its length, as a front end
+// plays; a send that doesn't take all goes on. Needs the Debian packages gcc and libc6-dev.
 #define _GNU_SOURCE
 #include <arpa/inet.h>
 #include <netinet/in.h>
@@ -37,7 +39,11 @@ int main(int count, char **words) {
         return 2;
     }
     int door = socket(AF_INET, SOCK_STREAM, 0), receivers = atoi(words[3]), on = 1;
-    struct sockaddr_in at = {.sin_family = AF_INET, .sin_port = htons(atoi(words[2])), .sin_addr.s_addr = htonl(INADDR_LOOPBACK)};
+    struct sockaddr_in at = {
+        .sin_family = AF_INET,
+        .sin_port = htons(atoi(words[2])),
+        .sin_addr.s_addr = htonl(INADDR_LOOPBACK),
+    };
     setsockopt(door, SOL_SOCKET, SO_REUSEADDR, &on, sizeof on);
     if (door < 0 || bind(door, (struct sockaddr *)&at, sizeof at) < 0 || listen(door, 64) < 0) {
         fail("listen");

@@ -1,9 +1,11 @@
-// The plain loops that `satip serve` is compared with: the same datagrams at the same pace, and nothing but the calls that send.
+// The plain loops that `satip serve` is compared with: the same datagrams at the same pace, and
+// nothing but the calls that send.
 //
 //   sendto_loop one|connected SECONDS PORT...
 //
-// Every 20 ms it sends 64 transport packets to each port of 127.0.0.1, seven in a datagram, as a front end plays: by sendto from
-// one socket, or by send from a connected socket for each port.
+// Every 20 ms it sends 64 transport packets to each port of 127.0.0.1, seven in a datagram, as a
+// front end plays: by sendto from one socket, or by send from a connected socket for each port.
+// Needs the Debian packages gcc and libc6-dev.
 #define _GNU_SOURCE
 #include <arpa/inet.h>
 #include <netinet/in.h>

@@ -9,8 +9,8 @@ CPU is that of all threads of the server, by /proc/PID/task/*/schedstat. Packets
 bytes that came; what is missing is read off the RTP numbers. SECONDS, 6 without the word, is how
 long each row takes.
 
-PROGRAM is crates/satip/out/satip without the word; `cd crates/satip && rt run -- --version` builds
-it. Needs python3, gcc, and ffmpeg (for tools/make_recording.sh)."""
+PROGRAM is SATIP_PROGRAM or crates/satip/out/satip without the word; `cd crates/satip && rt run --
+--version` builds it. Needs the Debian packages python3, gcc and libc6-dev."""
 import os
 import select
 import socket
@@ -132,7 +132,8 @@ def main():
     seconds = int(sys.argv[2]) if len(sys.argv) > 2 else 6
     with tempfile.TemporaryDirectory() as folder:
         loop = os.path.join(folder, "send_loop")
-        subprocess.run(["gcc", "-O2", "-o", loop, os.path.join(TOP, "bench", "send_loop.c")], check=True)
+        source = os.path.join(TOP, "bench", "send_loop.c")
+        subprocess.run(["gcc", "-O2", "-o", loop, source], check=True)
         ports = free_ports(ADDRESS)
         server = Server(ADDRESS, workers=20, ports=ports, seconds=20 * seconds + 60, command="tunnel")
         try:

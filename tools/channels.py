@@ -8,7 +8,7 @@
   --m3u     a playlist: each programme by satip:// for VLC, then each by http:// for other players
   --vdr     lines for VDR's channels.conf, for its plugin satip
 
-Needs python3 (3.11 or later) and ffprobe (Debian: apt-get install ffmpeg). File names of the
+Needs the Debian packages python3 (3.11 or later) and ffmpeg (for ffprobe). File names of the
 configuration are those of the folder that this is started in, as for `satip serve`. A recording
 without programmes is told on standard error and left out; the status is 1 where one was, 2 where
 the configuration can't be read.

@@ -6,7 +6,7 @@ usage: count_late.py ADDRESS RTSP_PORT QUERY RECEIVERS SECONDS
 The first receiver asks for a new stream with the query, as
 'src=1&freq=11361.75&pol=h&msys=dvbs2&sr=22000&pids=all'; the others join it. All requests go over
 one connection. A datagram that comes late was missing in its place, and counts as both. It ends
-with status 1 where one was late or missing.
+with status 1 where one was late or missing. Needs the Debian package python3.
 """
 import re
 import select

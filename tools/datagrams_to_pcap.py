@@ -9,6 +9,7 @@ skipped. With no such line the report of an example is written: one datagram sen
 
 The second command prints nothing where no datagram is malformed; the ports are those of the
 clients' `client_port`. Add `-T fields -e rtcp.app.name -e rtcp.sdes.text` for single fields.
+Needs the Debian packages python3, and tshark for the second command.
 """
 import ipaddress
 import struct

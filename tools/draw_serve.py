@@ -5,9 +5,11 @@
 
 It makes two recordings, a configuration by tools/new_config.py, starts the server, prints its
 channels by tools/channels.py, and takes a stream by curl. Each line of the picture is one that a
-command wrote, but for the prompts and for the scratch folder's name, which is told as ~. Needs python3, ffmpeg and curl (Debian: apt-get install ffmpeg
-curl), and PROGRAM, which is crates/satip/out/satip without the word (`cd crates/satip && rt run --
---version` builds it). Ports from 18554 and 18875 on of 127.0.0.1 are to be free.
+command wrote, but for the prompts and for the scratch folder's name, which is told as ~.
+
+Needs the Debian packages python3, ffmpeg and curl, and PROGRAM, which is SATIP_PROGRAM or
+crates/satip/out/satip without the word (`cd crates/satip && rt run -- --version` builds it). Ports
+from 18554 and 18875 on of 127.0.0.1 are to be free.
 """
 
 import argparse
@@ -22,6 +24,7 @@ from xml.sax.saxutils import escape
 
 sys.dont_write_bytecode = True
 from channels import read
+from serving import PROGRAM
 
 TOP = os.path.dirname(os.path.dirname(os.path.abspath(__file__)))
 COLUMNS, LINE_HEIGHT, CHARACTER_WIDTH, EDGE = 100, 18, 7.8, 14
@@ -120,7 +123,7 @@ def session(screen, environment):
 
 def main():
     words = argparse.ArgumentParser(description="Draws what one sees of a server.")
-    words.add_argument("--program", default=f"{TOP}/crates/satip/out/satip")
+    words.add_argument("--program", default=PROGRAM)
     words.add_argument("--to", metavar="PICTURE", default=f"{TOP}/docs/serve.svg")
     given = words.parse_args()
     signal.signal(signal.SIGTERM, lambda *_: sys.exit(1))

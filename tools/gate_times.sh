@@ -1,17 +1,26 @@
 #!/usr/bin/env bash
-# Tells what the gate costs, in processor seconds and seconds that passed: each crate's check, the check of its tests, and its
-# must-fail edits, the dearest first. It needs nothing but the kit and procps.
-#   tools/gate_times.sh record LOG [NAME..]   runs `rt ci` at the top, from nothing, and writes LOG when it ends; seconds that passed are the gate's own where it is alone;
-#                                             names of crates only where the kit's rt ci takes them
-#   tools/gate_times.sh LOG                   prints the table of a log
-# A line of LOG is one check: its kind (library, tests, seed or edit), its crate, its edit or -, and both times.
+# Tells what the gate costs, in processor seconds and seconds that passed: each crate's check, the
+# check of its tests, and its must-fail edits, the dearest first.
+#
+#   tools/gate_times.sh record LOG [NAME..]
+#       runs `rt ci --anew` at the top, which proves all and keeps nothing of it, and writes LOG when
+#       it ends; seconds that passed are the gate's own where it is alone; names of crates only where
+#       the kit's rt ci takes them
+#   KEEP=1 tools/gate_times.sh record LOG [NAME..]
+#       runs `rt ci`, which keeps what it proves for later runs on this machine; on a new one, where
+#       nothing is kept, it proves all as well, and else only what changed
+#   tools/gate_times.sh LOG
+#       prints the table of a log
+#
+# A line of LOG is one check: its kind (library, tests, seed or edit), its crate, its edit or -, and
+# both times. Needs the kit, and the Debian packages bash and procps.
 set -euo pipefail
 # Edits are numbered in the order of their bytes.
 export LC_ALL=C
 top=$(cd "$(dirname "$0")/.." && pwd)
 
 usage() {
-  sed -n '2,7s/^# //p' "$0" >&2
+  sed -n '2,/^set/s/^# \{0,1\}//p' "$0" >&2
   exit 2
 }
 
@@ -26,7 +35,7 @@ next_of() {
 name_of() {
   local -a words
   mapfile -d '' -t words 2>/dev/null <"/proc/$1/cmdline" || return 0
-  local kind= crate= number= at
+  local kind='' crate='' number='' at
   [[ ${words[0]-} == */rattle ]] || return 0
   # A check over nothing that was proved before is an edit's, that of a crate with a single one.
   case ${words[1]-} in build) kind=library ;; check) kind=edit ;; *) return 0 ;; esac
@@ -118,11 +127,12 @@ write_log() {
 
 record() {
   declare -A check used first last
-  local log=$1 anew=
+  local log=$1 help
   shift
-  # Some kits keep what an earlier run proved unless told not to.
-  if rt help 2>&1 | grep -q 'rt ci.*--anew'; then anew=--anew; fi
-  (cd "$top" && rt ci $anew "$@") >"$log.out" 2>&1 &
+  # Kits whose rt ci keeps what it proved take this word.
+  help=$(rt help 2>&1) || true
+  if [[ -z ${KEEP-} && ${help%%rt must-fail *} == *--anew* ]]; then set -- --anew "$@"; fi
+  (cd "$top" && rt ci "$@") >"$log.out" 2>&1 &
   local gate=$!
   # The subshell's end writes the log, however it ends.
   (
@@ -133,7 +143,8 @@ record() {
   local watch=$!
   local status=0
   wait "$gate" || status=$?
-  kill "$watch" && wait "$watch" || true
+  kill "$watch" || true
+  wait "$watch" || true
   tail -n 1 "$log.out"
   return "$status"
 }
@@ -148,7 +159,10 @@ table() {
     awk -v kind="$kind" '$1 == kind { print $4, $5, $2, ($3 == "-" ? "" : $3) }' "$1" | sort -rn | head -20
   done
   printf '\nEdits by crate: how many, processor seconds with their seed\n'
-  awk '$1 == "edit" { n[$2]++ } $1 == "edit" || $1 == "seed" { s[$2] += $4 } END { for (c in s) print s[c], n[c] + 0, c }' "$1" | sort -rn
+  awk '
+    $1 == "edit" { n[$2]++ }
+    $1 == "edit" || $1 == "seed" { s[$2] += $4 }
+    END { for (c in s) print s[c], n[c] + 0, c }' "$1" | sort -rn
 }
 
 case ${1-} in

@@ -5,7 +5,8 @@ ask for a description first, as FFmpeg and GStreamer do, have a stream to join.
     tools/hold_stream.py ADDRESS:PORT QUERY
 
 QUERY is what stands behind `?` in a line of the playlist of tools/channels.py. It prints the URL to
-play, `rtsp://ADDRESS:PORT/stream=N`, and asks for OPTIONS every 10 seconds. Needs python3."""
+play, `rtsp://ADDRESS:PORT/stream=N`, and asks for OPTIONS every 10 seconds. Needs the Debian
+package python3."""
 import sys
 import time
 

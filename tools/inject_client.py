@@ -1,11 +1,14 @@
 #!/usr/bin/env python3
-"""The clients of inject_faults.sh: one that streams over RTP, others that come and go, and one that comes afterwards.
+"""The clients of inject_faults.sh: one that streams over RTP, others that come and go, and one that
+comes afterwards.
 
     inject_client.py PID RTSP_PORT HTTP_PORT CALL ERROR LOG
 
-It lets strace(1) make each 11th CALL of each thread of the process PID fail with ERROR from the 7th on, and of calls that are
-rare each second from the first on, for some seconds, and prints one line of four words: how many calls failed so, and
-whether the server lives, the stream went on, and a later client was served. LOG gets the calls.
+It lets strace(1) make each 11th CALL of each thread of the process PID fail with ERROR from the 7th
+on, and of calls that are rare each second from the first on, for some seconds, and prints one line
+of four words: how many calls failed so, and whether the server lives, the stream went on, and a
+later client was served. LOG gets the calls. Needs the right to trace the process, and the Debian
+packages python3 and strace.
 """
 import re
 import signal
@@ -17,7 +20,8 @@ import time
 
 TUNING = "src=1&freq=11361.75&pol=h&msys=dvbs2&sr=22000&pids=all"
 OTHER_TUNING = "src=1&freq=12402&pol=v&msys=dvbs&sr=27500&pids=all"
-RARE = ("openat", "statx", "lseek", "socket", "bind", "connect", "setsockopt", "getsockopt", "ioctl", "shutdown", "close")
+RARE = ("openat", "statx", "lseek", "socket", "bind", "connect", "setsockopt", "getsockopt")
+RARE += ("ioctl", "shutdown", "close")
 SECONDS = 4
 
 
@@ -55,7 +59,8 @@ class Receiver:
                           f"Transport: RTP/AVP;unicast;client_port={self.port}-{self.port + 1}\r\n\r\n")
         self.session = re.search(r"Session: *([^;\r]+)", reply).group(1)
         self.number = number = re.search(r"com.ses.streamID: *(\d+)", reply).group(1)
-        reply = ask(rtsp, f"PLAY rtsp://127.0.0.1/stream={number} RTSP/1.0\r\nCSeq: 2\r\nSession: {self.session}\r\n\r\n")
+        reply = ask(rtsp, f"PLAY rtsp://127.0.0.1/stream={number} RTSP/1.0\r\nCSeq: 2\r\n"
+                          f"Session: {self.session}\r\n\r\n")
         assert " 200 " in reply, reply
         self.on = True
         threading.Thread(target=self.receive, daemon=True).start()
@@ -79,7 +84,8 @@ class Receiver:
 
     def end(self):
         self.on = False
-        ask(self.rtsp, f"TEARDOWN rtsp://127.0.0.1/stream={self.number} RTSP/1.0\r\nCSeq: 3\r\nSession: {self.session}\r\n\r\n", 1)
+        ask(self.rtsp, f"TEARDOWN rtsp://127.0.0.1/stream={self.number} RTSP/1.0\r\nCSeq: 3\r\n"
+                       f"Session: {self.session}\r\n\r\n", 1)
 
     def count_since(self, moment):
         return sum(1 for when in self.times if when >= moment)
@@ -117,7 +123,8 @@ def is_served(rtsp, http):
     end = time.monotonic() + 15
     while time.monotonic() < end:
         try:
-            if " 200 " in ask(rtsp, "OPTIONS rtsp://127.0.0.1/ RTSP/1.0\r\nCSeq: 9\r\n\r\n", 2) and stream(http, 2) > 18800:
+            reply = ask(rtsp, "OPTIONS rtsp://127.0.0.1/ RTSP/1.0\r\nCSeq: 9\r\n\r\n", 2)
+            if " 200 " in reply and stream(http, 2) > 18800:
                 return True
         except OSError:
             pass
@@ -142,6 +149,8 @@ def main():
     time.sleep(SECONDS - 1)
     last_second = time.monotonic()
     time.sleep(1)
+    if strace.poll() is not None and lives(pid):
+        sys.exit(f"strace ended with status {strace.returncode}, so nothing failed")
     strace.send_signal(signal.SIGINT)
     strace.wait()
     goes_on = receiver.count_since(last_second) >= 10
@@ -150,7 +159,8 @@ def main():
     receiver.on = False
     with open(log) as lines:
         failed = sum(1 for line in lines if "(INJECTED)" in line)
-    print(failed, "lives" if alive else "ended", "streams" if goes_on else "stopped", "served" if served else "unserved")
+    print(failed, "lives" if alive else "ended", "streams" if goes_on else "stopped",
+          "served" if served else "unserved")
 
 
 main()

@@ -4,17 +4,17 @@
 #   tools/install.sh [PREFIX]
 #
 # PREFIX is /usr/local without the word. A packager sets DESTDIR, which goes in front of every path
-# that is written and stands in none of the files. PROGRAM names the program, crates/satip/out/satip
-# without it (`cd crates/satip && rt run -- --version` builds it). Nothing is started, and /etc is
-# left alone. Needs coreutils and sed alone.
+# that is written and stands in none of the files. SATIP_PROGRAM names the program,
+# crates/satip/out/satip without it (`cd crates/satip && rt run -- --version` builds it). Nothing is
+# started, and /etc is left alone. Needs the Debian packages coreutils and sed alone.
 set -eu
 top=$(cd "$(dirname "$0")/.." && pwd)
 prefix=${1:-/usr/local}
-program=${PROGRAM:-$top/crates/satip/out/satip}
+program=${SATIP_PROGRAM:-$top/crates/satip/out/satip}
 case $prefix in
 /*) ;;
 *)
-    echo "usage: [DESTDIR=FOLDER] [PROGRAM=FILE] $0 [PREFIX], PREFIX from the root on" >&2
+    echo "usage: [DESTDIR=FOLDER] [SATIP_PROGRAM=FILE] $0 [PREFIX], PREFIX from the root on" >&2
     exit 2
     ;;
 esac

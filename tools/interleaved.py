@@ -1,5 +1,5 @@
 """A client of `satip tunnel`: requests, and the frames of RTP and RTCP that come between replies
-on the same connection (RFC 2326, section 10.12)."""
+on the same connection (RFC 2326, section 10.12). Needs the Debian package python3."""
 import re
 import socket
 

@@ -1,9 +1,10 @@
 #!/bin/sh
-# Makes a recording of a test picture with a tone, at the rate at which a front end plays: 64 packets every 20 ms, 4812800 bit/s.
+# Makes a recording of a test picture with a tone, at the rate at which a front end plays: 64 packets
+# every 20 ms, 4812800 bit/s.
 #
 #   tools/make_recording.sh FILE [SECONDS]
 #
-# SECONDS is 60 without the second word. Needs ffmpeg (Debian: apt-get install ffmpeg).
+# SECONDS is 60 without the second word. Needs the Debian package ffmpeg.
 # PIDs: 0 PAT, 17 SDT, 4096 PMT, 256 picture (MPEG-2), 257 sound (MPEG-1 layer II).
 set -eu
 if [ $# -lt 1 ]; then

@@ -9,7 +9,7 @@ this machine on its network without the word. The ports are 554 and 8875 where t
 may be opened, else the next free ones from 18554 and 18875 on.
 
 Of each file it says whether it is a transport stream, its rate, and what SATIP_PACE=recording is
-good for. Needs python3 and ffprobe (Debian: apt-get install ffmpeg). The status is 1 where a file
+good for. Needs the Debian packages python3 and ffmpeg (for ffprobe). The status is 1 where a file
 was left out, 2 where nothing was written.
 """
 

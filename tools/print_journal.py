@@ -11,6 +11,7 @@ With --by-place the entries of all journals come in order of their places.
 docs/PROTOCOL.md, "Lines of journals", says what a record is. A line that is none of these, or whose
 record ends too early or too late, is told on standard error, and the status is then 1. Whether the
 entries are one history isn't looked at. Frequencies are in MHz, symbol rates in kS/s.
+Needs the Debian package python3.
 """
 import argparse
 import fileinput

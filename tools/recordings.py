@@ -1,7 +1,7 @@
 """What recordings hold, for channels.py and new_config.py.
 
-The tables of a transport stream (PAT, PMT, SDT; ISO 13818-1, EN 300 468) are read by ffprobe alone
-(Debian: apt-get install ffmpeg).
+The tables of a transport stream (PAT, PMT, SDT; ISO 13818-1, EN 300 468) are read by ffprobe alone.
+Needs the Debian packages python3 and ffmpeg.
 """
 
 import json

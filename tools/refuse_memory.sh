@@ -3,19 +3,31 @@
 #
 #   tools/refuse_memory.sh
 #
-# The runs: `replay` of a SETUP, a tick, its PLAY, six packets and a second tick, which are lines of examples/session.script;
-# `audit` of examples/session.journal; `stress` of 1000 made events; and the test of `serve` with two workers that play a recording
-# together. A replay ends as with all memory, or with status 70 and a beginning of its output, an audit and a stress run with status
-# 70 and no output; a serve ends well, or with status 70, or its desk had no memory. Of its last four requests each is a thread's:
-# where one is refused its jobs run one after another, as where no thread can be started, and the test, whose jobs wait for each
-# other, is served, gives up or doesn't end.
-# Needs cc (Debian package gcc), crates/satip/out/satip (`cd crates/satip && rt run -- --version` builds it) and
-# crates/satip_serve_tests/out/satip_serve_tests_tests (`cd crates/satip_serve_tests && rt test` builds it).
+# The runs: `replay` of a SETUP, a tick, its PLAY, six packets and a second tick, which are lines of
+# examples/session.script; `audit` of examples/session.journal; `stress` of 1000 made events; and
+# the test of `serve` with two workers that play a recording together. A replay ends as with all
+# memory, or with status 70 and a beginning of its output, an audit and a stress run with status 70
+# and no output; a serve ends well, or with status 70, or its desk had no memory. Of its last four
+# requests each is a thread's: where one is refused its jobs run one after another, as where no
+# thread can be started, and the test, whose jobs wait for each other, is served, gives up or
+# doesn't end. Ends with status 1 where a run of the program ends otherwise, the test tells something
+# wrong or crashes, or no request was refused.
+# Needs crates/satip/out/satip (`cd crates/satip && rt run -- --version` builds it) or
+# SATIP_PROGRAM, crates/satip_serve_tests/out/satip_serve_tests_tests (`cd crates/satip_serve_tests
+# && rt test` builds it), and the Debian packages gcc and libc6-dev.
 set -eu
 top=$(cd "$(dirname "$0")/.." && pwd)
+program=${SATIP_PROGRAM:-$top/crates/satip/out/satip}
 folder=$(mktemp -d)
 trap 'rm -rf "$folder"' EXIT
 cc -O2 -shared -fPIC -o "$folder/refuse.so" "$top/tools/refuse_nth.c" -ldl
+failed=0
+
+# Tells what a run did wrong.
+fault() {
+    echo "$1"
+    failed=1
+}
 
 # Runs the words with one request refused; its status, or 99 once there are fewer requests.
 refuse() {
@@ -41,8 +53,13 @@ session() {
     awk '/^tick/ || (/^rtsp/ && ++requests < 3) || (/^packet/ && ++packets < 7)' "$top/examples/session.script"
 }
 
-# Runs these words over an input, and then with each request refused. With status 70 the output is a beginning of that with all
-# memory; that of an audit and of a stress run is empty.
+# Whether some request was refused, of which there are so many.
+some_refused() {
+    [ "$2" -gt 0 ] || fault "$1: no request was refused"
+}
+
+# Runs these words over an input, and then with each request refused. With status 70 the output is a
+# beginning of that with all memory; that of an audit and of a stress run is empty.
 each() {
     name=$1
     input=$2
@@ -53,18 +70,26 @@ each() {
     wants=0
     while :; do
         refuse "$number" "$@" < "$input"
+        run="$name, request $number"
         case $status in
         99) break ;;
-        0) cmp -s "$folder/whole" "$folder/output" && usual=$((usual + 1)) || echo "$name, request $number: status 0 with another output" ;;
-        70) begins && wants=$((wants + 1)) || echo "$name, request $number: status 70 with another output" ;;
-        *) echo "$name, request $number: status $status: $(head -1 "$folder/errors")" ;;
+        0)
+            usual=$((usual + 1))
+            cmp -s "$folder/whole" "$folder/output" || fault "$run: status 0 with another output"
+            ;;
+        70)
+            wants=$((wants + 1))
+            begins || fault "$run: status 70 with another output"
+            ;;
+        *) fault "$run: status $status: $(head -1 "$folder/errors")" ;;
         esac
         if [ "$name" != replay ] && [ "$status" = 70 ] && [ -s "$folder/output" ]; then
-            echo "$name, request $number: status 70 with an output"
+            fault "$run: status 70 with an output"
         fi
         number=$((number + 1))
     done
-    echo "$name: $((number - 1)) requests: $usual runs as usual, $wants with status 70"
+    some_refused "$name" $((number - 1))
+    echo "$name: $((number - 1)) requests: $usual ended with status 0, $wants with status 70"
 }
 
 serve() {
@@ -77,12 +102,16 @@ serve() {
         echo "status $status: $(cat "$folder/output" "$folder/errors" | tr '\n' ' ')" >> "$folder/ends"
         number=$((number + 1))
     done
+    some_refused serve $((number - 1))
     echo "serve: $((number - 1)) requests"
     sort "$folder/ends" | uniq -c
 }
 
 session > "$folder/script"
-each replay "$folder/script" "$top/crates/satip/out/satip" replay "$top/examples/satip.toml"
-each audit "$top/examples/session.journal" "$top/crates/satip/out/satip" audit "$top/examples/satip.toml"
-each stress /dev/null "$top/crates/satip/out/satip" stress 7 1000
+: > "$folder/ends"
+each replay "$folder/script" "$program" replay "$top/examples/satip.toml"
+each audit "$top/examples/session.journal" "$program" audit "$top/examples/satip.toml"
+each stress /dev/null "$program" stress 7 1000
 serve "together::two_workers_play_a_recording_together"
+! grep -q -e wrong -e '^status 139:' "$folder/ends" || failed=1
+exit $failed

@@ -1,5 +1,6 @@
-/* Refuses one request for memory of a program that is run with this library before others (LD_PRELOAD): the one of the number
-   REFUSE_NTH, counted from 1. It then makes the file REFUSE_MARK. */
+/* Refuses one request for memory of a program that is run with this library before others
+   (LD_PRELOAD): the one of the number REFUSE_NTH, counted from 1. It then makes the file
+   REFUSE_MARK. Needs the Debian packages gcc and libc6-dev. */
 #define _GNU_SOURCE
 #include <dlfcn.h>
 #include <fcntl.h>

@@ -1,6 +1,7 @@
-/* Steps the wall clock of a program that is run with this library before others (LD_PRELOAD): by as many seconds as the eight bytes
-   of the file STEP_FILE say, a signed number in the machine's order, read anew at each call. The other clocks stay; with STEP_ALL
-   they step with it. */
+/* Steps the wall clock of a program that is run with this library before others (LD_PRELOAD): by as
+   many seconds as the eight bytes of the file STEP_FILE say, a signed number in the machine's
+   order, read anew at each call. The other clocks stay; with STEP_ALL they step with it. Needs the
+   Debian packages gcc and libc6-dev. */
 #define _GNU_SOURCE
 #include <fcntl.h>
 #include <stdint.h>

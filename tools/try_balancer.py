@@ -12,7 +12,7 @@ status 0 where
 - only the readers of the killed server lost their stream,
 - each of them came back by the balancer and got a stream again.
 
-Needs python3, haproxy and ffmpeg (Debian: apt-get install haproxy ffmpeg), and PROGRAM, which is
+Needs the Debian packages python3, haproxy and ffmpeg, and PROGRAM, which is SATIP_PROGRAM or
 crates/satip/out/satip without the word (`cd crates/satip && rt run -- --version` builds it). The
 ports 18554 and 18875 of these addresses are to be free.
 """
@@ -31,7 +31,7 @@ import tempfile
 import time
 
 sys.dont_write_bytecode = True
-from serving import QUERY, configuration, wait_for
+from serving import PROGRAM, QUERY, configuration, wait_for
 
 TOP = os.path.dirname(os.path.dirname(os.path.abspath(__file__)))
 BALANCER = ("127.0.1.10", 18875)
@@ -237,7 +237,7 @@ def main():
     words = argparse.ArgumentParser(description="Tries several servers behind HAProxy.")
     words.add_argument("--readers", type=int, default=200)
     words.add_argument("--seconds", type=float, default=10)
-    words.add_argument("--program", default=f"{TOP}/crates/satip/out/satip")
+    words.add_argument("--program", default=PROGRAM)
     given = words.parse_args()
     most = resource.getrlimit(resource.RLIMIT_NOFILE)[1]
     resource.setrlimit(resource.RLIMIT_NOFILE, (min(most, 65536), most))

@@ -9,9 +9,9 @@ family netdev, gives each packet to a server by the hash of its source address; 
 the clients directly. It ends with status 0 where each client got RTP from 10.77.0.10 in order with
 none missing, and the balancer passed requests and acknowledgements alone.
 
-Needs root, python3 and a kernel with nf_tables, iproute2, nftables and ffmpeg (Debian: apt-get
-install iproute2 nftables ffmpeg), and PROGRAM, which is crates/satip/out/satip without the word
-(`cd crates/satip && rt run -- --version` builds it). The namespaces are gone when it ends.
+Needs root, a kernel with nf_tables, the Debian packages python3, iproute2, nftables and ffmpeg, and
+PROGRAM, which is SATIP_PROGRAM or crates/satip/out/satip without the word (`cd crates/satip && rt
+run -- --version` builds it). The namespaces are gone when it ends.
 """
 
 import argparse
@@ -26,7 +26,7 @@ import time
 
 sys.dont_write_bytecode = True
 from count_late import Client, receiver, skipped
-from serving import QUERY, configuration
+from serving import PROGRAM, QUERY, configuration
 
 TOP = os.path.dirname(os.path.dirname(os.path.abspath(__file__)))
 ADDRESS, RTSP_PORT, HTTP_PORT = "10.77.0.10", 554, 8875
@@ -209,7 +209,7 @@ def main():
     words = argparse.ArgumentParser(description="Tries direct return by nftables.")
     words.add_argument("--clients", type=int, default=16)
     words.add_argument("--seconds", type=float, default=5)
-    words.add_argument("--program", default=f"{TOP}/crates/satip/out/satip")
+    words.add_argument("--program", default=PROGRAM)
     given = words.parse_args()
     if os.geteuid() != 0:
         sys.exit("network namespaces need root")

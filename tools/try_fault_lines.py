@@ -13,7 +13,7 @@ threads can't be started the server is to serve by those that it has.
 Ends with status 1 where that isn't so, as with WITHOUT=1 in the environment, where no such line is
 written. It takes 80 seconds, and needs crates/satip/out/satip (`cd crates/satip && rt run --
 --version` builds it) or SATIP_PROGRAM, the right to trace it, and the Debian packages strace and
-python3; cc with WITHOUT. Its ports are free ones of 127.0.23.4.
+python3, with WITHOUT gcc and libc6-dev. Its ports are free ones of 127.0.23.4.
 """
 
 import email.utils

@@ -10,7 +10,7 @@ its end isn't counted, and one that asked before its end is served.
 Ends with status 1 where that isn't so, as with WITHOUT=1 in the environment, where each listener
 has the system's own backlog and each connection is served. Needs crates/satip/out/satip (`cd
 crates/satip && rt run -- --version` builds it) or SATIP_PROGRAM, and the Debian packages iproute2
-(for ss) and python3; cc with WITHOUT. Its ports are free ones of 127.0.23.5.
+(for ss) and python3, with WITHOUT gcc and libc6-dev. Its ports are free ones of 127.0.23.5.
 """
 
 import signal

@@ -8,8 +8,8 @@ and also behind a symbolic link; a link to a regular file plays.
 
 Ends with status 1 where that isn't so, as with WITHOUT=1 in the environment, where each looks like
 a regular file. Needs crates/satip/out/satip (`cd crates/satip && rt run -- --version` builds it) or
-SATIP_PROGRAM, and the Debian package python3; cc with WITHOUT. Its ports are free ones of
-127.0.23.6.
+SATIP_PROGRAM, and the Debian packages python3, with WITHOUT gcc and libc6-dev. Its ports are free
+ones of 127.0.23.6.
 """
 
 import os

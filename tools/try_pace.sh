@@ -7,13 +7,13 @@
 #   tools/try_pace.sh [FOLDER]
 #
 # FOLDER gets the recordings, configurations and logs; without the word it is a new one.
-# Needs crates/satip/out/satip (`cd crates/satip && rt run -- --version` builds it; SATIP names
-# another), ports 18654 and 18975 of 127.0.0.1, and the Debian packages ffmpeg, python3 and, for
+# Needs crates/satip/out/satip (`cd crates/satip && rt run -- --version` builds it) or
+# SATIP_PROGRAM, ports 18654 and 18975 of 127.0.0.1, and the Debian packages ffmpeg, python3 and, for
 # VLC, vlc-bin and vlc-plugin-base. Without VLC it says so and leaves that out. VLC doesn't run as
 # root: it is run as the user nobody there.
 set -eu
 top=$(cd "$(dirname "$0")/.." && pwd)
-satip=${SATIP:-$top/crates/satip/out/satip}
+program=${SATIP_PROGRAM:-$top/crates/satip/out/satip}
 folder=${1:-$(mktemp -d)}
 mkdir -p "$folder"
 chmod 755 "$folder"
@@ -44,7 +44,7 @@ serve() {
 import sys
 from serving import configuration
 print(configuration("127.0.0.1", 18654, 18975, files=[sys.argv[1]]))' "$file" > "$folder/$1.toml"
-    SATIP_PACE=recording "$satip" serve "$folder/$1.toml" 0 2> "$folder/$1.log" &
+    SATIP_PACE=recording "$program" serve "$folder/$1.toml" 0 2> "$folder/$1.log" &
     server=$!
     tries=0
     until [ -e "$folder/$1.log" ] && grep -q " ready at " "$folder/$1.log"; do
@@ -95,9 +95,9 @@ stop
 
 if command -v cvlc > /dev/null; then
     serve 8000
-    as=
-    [ "$(id -u)" -ne 0 ] || as="setpriv --reuid nobody --clear-groups env HOME=/tmp"
-    timeout 60 $as cvlc --intf dummy --vout dummy --aout dummy --no-interact -vv --run-time 30 \
+    set --
+    [ "$(id -u)" -ne 0 ] || set -- setpriv --reuid nobody --clear-groups env HOME=/tmp
+    timeout 60 "$@" cvlc --intf dummy --vout dummy --aout dummy --no-interact -vv --run-time 30 \
         "$url" vlc://quit 2> "$folder/vlc.log" || true
     late=$(grep -c -i -E 'called too late|too late to be displayed' "$folder/vlc.log" || true)
     if ! grep -q 'using video decoder module' "$folder/vlc.log"; then

@@ -9,9 +9,9 @@ and starts a server at 127.0.0.1. VLC opens the whole playlist, is told to go to
 must show pictures of the second size; VDR gets a timer for channel 2, and what it records must have
 pictures of the second size too. The status is 0 where both did.
 
-Needs python3, ffmpeg, VLC and VDR with its plugin satip (Debian: apt-get install ffmpeg vlc-bin
-vlc-plugin-base vdr vdr-plugin-satip), and PROGRAM, which is crates/satip/out/satip without the word
-(`cd crates/satip && rt run -- --version` builds it). As root VLC runs as nobody.
+Needs the Debian packages python3, ffmpeg, vlc-bin, vlc-plugin-base, vdr and vdr-plugin-satip, and
+PROGRAM, which is SATIP_PROGRAM or crates/satip/out/satip without the word (`cd crates/satip && rt
+run -- --version` builds it). As root VLC runs as nobody.
 """
 
 import argparse
@@ -27,6 +27,7 @@ import time
 
 sys.dont_write_bytecode = True
 from channels import read
+from serving import PROGRAM
 
 TOP = os.path.dirname(os.path.dirname(os.path.abspath(__file__)))
 SIZES = {"first.ts": (720, 576), "second.ts": (544, 576)}
@@ -153,7 +154,7 @@ def channels(folder, form):
 
 def main():
     words = argparse.ArgumentParser(description="Tries VLC and VDR at what channels.py writes.")
-    words.add_argument("--program", default=f"{TOP}/crates/satip/out/satip")
+    words.add_argument("--program", default=PROGRAM)
     program = os.path.abspath(words.parse_args().program)
     signal.signal(signal.SIGTERM, lambda *_: sys.exit(1))
     with tempfile.TemporaryDirectory(prefix="satip-") as folder:

@@ -8,12 +8,12 @@ order and with none missing. For SECONDS each, 6 without the word: one connectio
 which stops reading, of which the other seven are to miss nothing; a connection that sends frames of
 its own, as the receiver reports of a player, between its requests; one that misses nothing beside 62
 that stop reading, each of which the server ends. A transport over UDP is refused with 461. Then
-players: FFmpeg and GStreamer, where they are installed, join a stream that another
-connection founded, and each is to write a file in which FFmpeg finds a picture. It ends with a line that counts what held, and with
-status 1 where something didn't.
+players: FFmpeg and GStreamer, where they are installed, join a stream that another connection
+founded, and each is to write a file in which FFmpeg finds a picture. It ends with a line that
+counts what held, and with status 1 where something didn't.
 
 Needs crates/satip/out/satip (`cd crates/satip && rt run -- --version` builds it), or SATIP_PROGRAM,
-and python3; for the players the Debian packages ffmpeg, gstreamer1.0-tools, and
+and the Debian packages python3, and for the players ffmpeg, gstreamer1.0-tools, and
 gstreamer1.0-plugins-base, -good and -bad. VLC as Debian has it opens no rtsp:// by TCP."""
 import os
 import shutil

@@ -3,10 +3,11 @@
 #
 #   tools/try_wall_clock.sh
 #
-# No step ends a session, a silent client's session ends in time all the same, and the time in the sender reports goes on.
-# Ends with status 1 where that isn't so, as with STEP_ALL=1 in the environment, where the monotonic clock steps too.
-# Needs crates/satip/out/satip (`cd crates/satip && rt run -- --version` builds it), or SATIP_PROGRAM, and python3 and cc; ports
-# 18554 and 18875 of 127.0.23.3.
+# No step ends a session, a silent client's session ends in time all the same, and the time in the
+# sender reports goes on. Ends with status 1 where that isn't so, as with STEP_ALL=1 in the
+# environment, where the monotonic clock steps too.
+# Needs crates/satip/out/satip (`cd crates/satip && rt run -- --version` builds it) or SATIP_PROGRAM,
+# and the Debian packages python3, gcc and libc6-dev; ports 18554 and 18875 of 127.0.23.3.
 set -eu
 tools=$(cd "$(dirname "$0")" && pwd)
 folder=$(mktemp -d)
@@ -56,7 +57,8 @@ def report_time(rtcp):
 
 
 step_to(DAY)
-server, checks = Server(ADDRESS, workers=4, timeout=TIMEOUT, before=("env", f"LD_PRELOAD={LIBRARY}", f"STEP_FILE={STEP}")), Checks()
+stepped = ("env", f"LD_PRELOAD={LIBRARY}", f"STEP_FILE={STEP}")
+server, checks = Server(ADDRESS, workers=4, timeout=TIMEOUT, before=stepped), Checks()
 try:
     ahead = email.utils.parsedate_to_datetime(server.said().split(": ready")[0]).timestamp() - time.time()
     checks.check(abs(ahead - DAY) < 60, f"the server sees a wall clock that is {ahead / DAY:.2f} days ahead")
@@ -65,18 +67,21 @@ try:
     client.play(rtp.getsockname()[1])
     begun = time.monotonic()
     usual, before = arrived(rtp, 1), report_time(rtcp)
-    checks.check(usual > 0 and abs(before - DAY) < 5, f"a client gets a stream, {usual} datagrams in 1 s, and reports {before / DAY:.2f} days ahead")
+    text = f"{usual} datagrams in 1 s, and reports {before / DAY:.2f} days ahead"
+    checks.check(usual > 0 and abs(before - DAY) < 5, f"a client gets a stream, {text}")
     for name, ahead in (("a day forward", 2 * DAY), ("two days back", 0)):
         step_to(ahead)
         arrived(rtp, 0.5)
         count = arrived(rtp, 1)
         checks.check(count > 0, f"{name}: the stream goes on, {count} datagrams in 1 s")
         shift = report_time(rtcp) - before if count else None
-        checks.check(shift is not None and abs(shift) < 3, f"{name}: the time of the reports goes on, off by {shift and round(shift, 1)} s")
+        text = f"the time of the reports goes on, off by {shift and round(shift, 1)} s"
+        checks.check(shift is not None and abs(shift) < 3, f"{name}: {text}")
     time.sleep(max(0, begun + TIMEOUT + 4 - time.monotonic()))
     arrived(rtp, 1)
     left = arrived(rtp, 2)
-    checks.check(left == 0, f"a session whose client was silent for longer than {TIMEOUT} s is over: {left} datagrams in 2 s")
+    text = f"a session whose client was silent for longer than {TIMEOUT} s is over"
+    checks.check(left == 0, f"{text}: {left} datagrams in 2 s")
     took = options(ADDRESS)
     checks.check(server.lives() and took is not None, f"a client comes in: {took and round(took, 2)} s")
 finally:

@@ -1,6 +1,8 @@
-/* Undoes what the edge of a serving server does, where it is run with this library before others (LD_PRELOAD), so that a try shows
-   that it fails without it: no line tells a fault, the backlog of a listener stays the system's own, a connection with nothing but
-   its end looks like one with bytes, and each name looks like that of a regular file. */
+/* Undoes what the edge of a serving server does, where it is run with this library before others
+   (LD_PRELOAD), so that a try shows that it fails without it: no line tells a fault, the backlog of
+   a listener stays the system's own, a connection with nothing but its end looks like one with
+   bytes, and each name looks like that of a regular file. Needs the Debian packages gcc and
+   libc6-dev. */
 #define _GNU_SOURCE
 #include <errno.h>
 #include <fcntl.h>
