@@ -17,6 +17,7 @@ use Rattle.satip_serving.specs.declared.serving.ServingEnd.TheVariants as ends
 pub record GivenFrom (tells : Type 0) (text : Option (List ℕ)) (Said : Feed → Type 0) : Type 0 where
   pub source : Feed
   pub started : IsStarted tells source text
+  pub untaken : source.taken ≡ 0
   pub said : Said source
 
 -- how serving ends whose configuration isn't read
