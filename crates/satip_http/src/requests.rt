@@ -152,7 +152,8 @@ fn fill_path(path: &[u8], into: &mut Query) -> Option<HttpRefusal>
 }
 
 fn fill_query(text: &[u8], into: &mut Query) -> Option<HttpRefusal>
-    ensures request { record { refusal = result; query = into.new } ≡ get_of_query (query_of text.now) }
+    ensures request { record { refusal = result; query = into.new }
+        ≡ get_of_query (query_of text.now) }
 {
     match read(text, into) {
         Err(fault) => Some(HttpRefusal::Query(fault)),

@@ -10,4 +10,19 @@ pub use laws::{
     packets_are_recorded, payload_is_given, retuning_flushes, sessions_are_counted, ssrc_tells,
     taken_is_given, tick_flushes,
 };
-pub use theorems::{law_1, law_2, law_3, law_4, law_5, law_6, law_7, law_8, law_9};
+pub use satip_readings::{
+    busy_where_blocked, ends_by_its_causes, only_owner_changes, pulls_in_order, state_is_read,
+};
+pub use theorems::{
+    numbers_from_draw, packets_are_of_recordings, payload_is_selected, ssrc_of_draw_tells,
+};
+
+// The nine laws by their numbers.
+pub use satip_readings::{
+    busy_where_blocked as law_4, ends_by_its_causes as law_5, only_owner_changes as law_3,
+    pulls_in_order as law_8, state_is_read as law_1,
+};
+pub use theorems::{
+    numbers_from_draw as law_6, packets_are_of_recordings as law_9, payload_is_selected as law_2,
+    ssrc_of_draw_tells as law_7,
+};
