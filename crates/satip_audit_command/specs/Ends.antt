@@ -76,8 +76,8 @@ pub record AuditEnds {C : Type 0} (config_tells in_tells out_tells error_tells :
       GivenFrom config_tells text (λ a. EndsByJournal config_tells in_tells a (view s) i j o n number))
   -- the configuration is given back as it was read, unless the desk failed to open it
   pub config : MatchOption source (Rises before now) (λ _. now ≡ before)
-  pub config_limit : IfSome source (λ s.
-      GivenFrom config_tells text (λ a. (view s).taken ≤ a.taken + configuration_limit + 1))
+  -- at most one byte more than its limit is taken of it
+  pub config_limit : IfSome source (λ s. (view s).taken ≤ configuration_limit + 1)
   -- where nothing failed the texts of the configuration and of the journals say the status
   pub settled : (told : List ℕ) → text ≡ Some told → in_tells → (Rose before now → ⊥)
       → (IsSomeAnd source (λ s. Rose 0 (view s).faults) → ⊥) → (Rose i.faults j.faults → ⊥) → IsAuditSettled told i.left status

@@ -204,9 +204,9 @@ input_told a b end new input read = (
 
 -- the configuration is that of the desk's text
 pub served_by : {L : Type 0} (ct : Type 0) (text : Option (List ℕ)) (a b : Feed) (last : Option L) (Said : L → Feed → Feed → Type 0) → IsStarted ct a text
-    → IfSome last (λ l. Said l a b) → IfSome last (λ l. GivenFrom ct text (λ before. Said l before b))
-served_by ct text a b None Said started said = tt
-served_by ct text a b (Some l) Said started said = record { source = a; started = started; said = said }
+    → a.taken ≡ 0 → IfSome last (λ l. Said l a b) → IfSome last (λ l. GivenFrom ct text (λ before. Said l before b))
+served_by ct text a b None Said started untaken said = tt
+served_by ct text a b (Some l) Said started untaken said = record { source = a; started = started; untaken = untaken; said = said }
 
 -- where the source doesn't fail its text says the status
 pub settled_told : (ct : Type 0) (text : Option (List ℕ)) (a b : Feed) (end : JournalEnd) → IsStarted ct a text

@@ -1,10 +1,10 @@
 -- What serving with journals comes to, by its status.
-use Rattle.std.specs.Prelude.{◌≡◌, ℕ, ◌⊎◌, ◌↔◌, List, ◌++◌, length, Option, Some, None, IsSome, IsNone, IfSome, IsSomeAnd, MatchOption}
+use Rattle.std.specs.Prelude.{◌≡◌, ℕ, ◌+◌, ◌≤◌, ◌⊎◌, ◌↔◌, List, ◌++◌, length, Option, Some, None, IsSome, IsNone, IfSome, IsSomeAnd, MatchOption}
 use Rattle.satip_base.specs.Streams.{Feed, Drain, Rose, fresh_drain}
 use Rattle.satip_world.specs.Counts.{Rises}
 use Rattle.satip_config.specs.declared.fault.ConfigFault.{ConfigFault}
 use Rattle.satip_history.specs.Lists.{Each, Has}
-use Rattle.satip_reading.specs.Configurations.{Configured, Refused}
+use Rattle.satip_reading.specs.Configurations.{configuration_limit, Configured, Refused}
 use Rattle.satip_serve.specs.declared.kits.Jobs.{Jobs}
 use Rattle.satip_serve.specs.declared.serving.Last.{Last}
 use Rattle.satip_serve.specs.Fresh.{AreFresh}
@@ -35,6 +35,8 @@ pub record JournalEnds {S D O P M C : Type 0} (config_tells conn_tells outlet_te
   -- the configuration is given back, unless the desk failed to open it; its count rises then, or where it gives no kits,
   -- or not all journals
   pub config : MatchOption source (Rises before now) (λ _. (now ≡ before) ⊎ (((status ≡ 6) ⊎ (status ≡ 7)) × IsNone last))
+  -- at most one byte more than its limit is taken of it, and with any other status than 5 it never failed
+  pub config_limit : IfSome source (λ s. (seen s).taken ≤ configuration_limit + 1)
   pub read : (status ≡ 5 → ⊥) → IsSomeAnd source (λ s. (seen s).faults ≡ 0)
   -- the kits that the desk gave are what the jobs left, or no job began with them, and they come back untouched
   pub kits : MatchOption given (IsNeitherOf last unused) (λ _. IsOneOf last unused)

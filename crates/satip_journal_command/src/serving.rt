@@ -1,12 +1,12 @@
 //! `journal`: a configuration is read, the desk gives the kits and the journals of all jobs, and
 //! the jobs serve.
 
-ghost use Rattle.std.specs.Prelude.{◌≡◌, ℕ, ◌⊎◌, ◌+◌, ◌++◌, List, Some, None, length, map, IfSome, IsNone, IsSomeAnd, MatchOption};
+ghost use Rattle.std.specs.Prelude.{◌≡◌, ℕ, ◌⊎◌, ◌+◌, ◌≤◌, ◌++◌, List, Some, None, length, map, IfSome, IsNone, IsSomeAnd, MatchOption};
 ghost use Rattle.satip_base.specs.Streams.{Rose, fresh_drain};
 ghost use Rattle.satip_config.specs.declared.fault.ConfigFault.{ConfigFault as Fault};
 ghost use Rattle.satip_fronts.specs.FrontEnds.{IsNumbered};
 ghost use Rattle.satip_history.specs.Lists.{Each};
-ghost use Rattle.satip_reading.specs.Configurations.{Configured, IsServed, Refused};
+ghost use Rattle.satip_reading.specs.Configurations.{configuration_limit, Configured, IsServed, Refused};
 ghost use Rattle.satip_serve.specs.Fresh.{AreFresh};
 ghost use Rattle.satip_serve.specs.Views.{jobs_view};
 ghost use Rattle.satip_world.specs.Counts.{Rises};
@@ -196,6 +196,8 @@ fn run_source<R: Threads + Wait + Sync, K: Desk>(
         → Rose (K.Config.feed source.old).faults (K.Config.feed source.new).faults }
     ensures read_through { (result.end ≡ JournalEnd.InputFault → ⊥)
         → (K.Config.feed source.new).faults ≡ (K.Config.feed source.old).faults }
+    ensures limit { (K.Config.feed source.new).taken
+        ≤ (K.Config.feed source.old).taken + configuration_limit + 1 }
     ensures no_fault { IfSome result.last (λ _. K.faults desk.new ≡ K.faults desk.old) }
     ensures settled { K.Config.tells → (Rose (K.Config.feed source.old).faults
         (K.Config.feed source.new).faults → ⊥) → IsJournalOf (K.Config.feed source.old).left

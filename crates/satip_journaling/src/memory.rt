@@ -3,10 +3,10 @@
 ghost use Rattle.std.specs.Prelude.{◌≡◌, ◌<◌, ◌^◌, length, vec_capacity, IfOk};
 ghost use Rattle.satip_journaling.specs.Memories.{IsMemory};
 
-use satip_base::{Sink, Want};
+use satip_base::{Sink, Want, with_room};
 use satip_journal::{Journal, JournalGear};
 use satip_records::LineRoom;
-use satip_serve::{ServeSpace, take_space, with_room};
+use satip_serve::{ServeSpace, take_space};
 use std::alloc::Global;
 use std::sync::Wait;
 

@@ -254,6 +254,7 @@ impl MemoryDesk {
 fn open(alloc: Global, drawers: &[Drawer], name: &[u8]) -> Option<MemorySource>
     ensures started { IfSome result (λ source. IsStarted (Unit {0}) source
         (text_in (map row_of drawers.now) name.now)) }
+    ensures untaken { IfSome result (λ source. source.taken ≡ 0) }
 {
     let Some(drawer) = find_drawer(drawers, name) else {
         return None;

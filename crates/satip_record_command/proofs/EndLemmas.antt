@@ -1,5 +1,5 @@
 -- What a recording comes to, by its end.
-use Rattle.std.proofs.Common.{◌≡◌, ℕ, ◌⊎◌, inl, inr, true, List, [], Some, refl, ◌∙◌, ap, subst, arith}
+use Rattle.std.proofs.Common.{◌≡◌, ℕ, ◌⊎◌, inl, inr, true, List, [], Some, refl, sym, ◌∙◌, ap, subst, arith}
 use Rattle.satip_base.specs.Streams.{Feed, Drain}
 use Rattle.satip_world.specs.Dials.{Dial, fresh_dial}
 use Rattle.satip_world.specs.Lines.{Line, fresh_line}
@@ -13,15 +13,37 @@ use Rattle.satip_record_command.specs.Words.{Wanted}
 use Rattle.satip_record_command.specs.Ends.{FromNew, Ran, RecordEnds}
 
 -- from devices with which nothing was done
-from_new : (line : Line) (clock : Dial) (inlet : Inbox) (o : Drain) (Says : Outside → Type 0) → line ≡ fresh_line → clock.readings ≡ []
-    → inlet ≡ fresh_inbox inlet.port → Says (outside line clock inlet o) → FromNew o Says
-from_new line clock inlet o Says line_new clock_new inlet_new said =
+from_new : (line : Line) (clock : Dial) (inlet : Inbox) (port : ℕ) (o : Drain) (Says : Outside → Type 0) → line ≡ fresh_line
+    → clock.readings ≡ [] → inlet ≡ fresh_inbox inlet.port → port ≡ inlet.port → Says (outside line clock inlet o) → FromNew port o Says
+from_new line clock inlet port o Says line_new clock_new inlet_new port_is said =
     let first : outside line clock inlet o ≡ outside fresh_line clock inlet o = ap (λ (l : Line). outside l clock inlet o) line_new in
     let second : outside fresh_line clock inlet o ≡ outside fresh_line (fresh_dial clock.told) inlet o =
     ap (λ (r : List ℕ). outside fresh_line (record { readings = r; told = clock.told }) inlet o) clock_new in
-    let third : outside fresh_line (fresh_dial clock.told) inlet o ≡ outside fresh_line (fresh_dial clock.told) (fresh_inbox inlet.port) o =
-    ap (λ (b : Inbox). outside fresh_line (fresh_dial clock.told) b o) inlet_new in
-    record { told = clock.told; port = inlet.port; said = subst Says (first ∙ second ∙ third) said }
+    let third : outside fresh_line (fresh_dial clock.told) inlet o ≡ outside fresh_line (fresh_dial clock.told) (fresh_inbox port) o =
+    ap (λ (b : Inbox). outside fresh_line (fresh_dial clock.told) b o) (inlet_new ∙ ap (λ (k : ℕ). fresh_inbox k) (sym port_is)) in
+    record { told = clock.told; said = subst Says (first ∙ second ∙ third) said }
+
+-- the inlet keeps its port
+opening_port : (wt : Type 0) (a b : Outside) (address query lines : List ℕ) (end : RecordEnd) → EndedOpening wt a b address query lines end
+    → b.inlet.port ≡ a.inlet.port
+opening_port wt a b address query lines end is = ap (λ (i : Inbox). i.port) is.inlet
+
+records_port : (wt it ot : Type 0) (a b : Outside) (address query : List ℕ) (count : ℕ) (lines : List ℕ) (end : RecordEnd)
+    → Records wt it ot a b address query count lines end → b.inlet.port ≡ a.inlet.port
+records_port wt it ot a b address query count lines Done is = is.filled.port
+records_port wt it ot a b address query count lines OutputFault is = is.port
+records_port wt it ot a b address query count lines (Refused code) is = opening_port wt a b address query lines (Refused code) is
+records_port wt it ot a b address query count lines BadReply is = opening_port wt a b address query lines BadReply is
+records_port wt it ot a b address query count lines Silent (inl is) = opening_port wt a b address query lines Silent is
+records_port wt it ot a b address query count lines Silent (inr is) = is.port
+records_port wt it ot a b address query count lines PeerFault (inl is) = opening_port wt a b address query lines PeerFault is
+records_port wt it ot a b address query count lines PeerFault (inr (inl is)) = is.port
+records_port wt it ot a b address query count lines PeerFault (inr (inr is)) = is.filled.port
+records_port wt it ot a b address query count lines Closed is = opening_port wt a b address query lines Closed is
+records_port wt it ot a b address query count lines OutOfMemory (inl is) = ap (λ (x : Outside). x.inlet.port) is.same
+records_port wt it ot a b address query count lines OutOfMemory (inr (inl is)) = opening_port wt a b address query lines OutOfMemory is
+records_port wt it ot a b address query count lines OutOfMemory (inr (inr (inl is))) = is.port
+records_port wt it ot a b address query count lines OutOfMemory (inr (inr (inr is))) = is.filled.port
 
 -- how a recording ended, by its end
 records_of : (wt it ot et : Type 0) (a b : Outside) (address query : List ℕ) (count : ℕ) (e m : Drain) (end : RecordEnd)
@@ -217,8 +239,10 @@ pub all_given : (wt it ot et : Type 0) (w : Wanted) (handed : Handed) (before no
     → RecordEnds wt it ot et w handed before now (record { wire = Some line2; clock = Some clock2; inlet = Some inlet2 }) i i o n e m (status_of end)
 all_given wt it ot et w handed before now line line2 clock clock2 inlet inlet2 i o n e m end wire moment inside same line_new clock_new inlet_new
     done output refused bad silent peer closed wants =
+    let a : Outside = outside line clock inlet o in
     let b : Outside = outside line2 clock2 inlet2 n in
-    let Says : Outside → Type 0 = λ a. Ends et e m end (λ (lines : List ℕ). Records wt it ot a b w.address w.query w.count lines end) in
+    let Says : Outside → Type 0 = λ x. Ends et e m end (λ (lines : List ℕ). Records wt it ot x b w.address w.query w.count lines end) in
+    let ended = records_of wt it ot et a b w.address w.query w.count e m end done output refused bad silent peer closed wants in
+    let port_is = records_port wt it ot a b w.address w.query w.count ended.lines end ended.comes in
     given_ends wt it ot et w handed before now line2 clock2 inlet2 i o n e m end wire moment inside same
-    (from_new line clock inlet o Says line_new clock_new inlet_new
-    (records_of wt it ot et (outside line clock inlet o) b w.address w.query w.count e m end done output refused bad silent peer closed wants))
+    (from_new line clock inlet inlet2.port o Says line_new clock_new inlet_new port_is ended)

@@ -37,15 +37,14 @@ outside_of None clock inlet output = None
 abbrev pub outside_left : Left → Drain → Option Outside
 outside_left left output = outside_of left.wire left.clock left.inlet output
 
--- a connection, a clock and an inlet with which nothing was done, the output, and what is said of them
-pub record FromNew (output : Drain) (Says : Outside → Type 0) : Type 0 where
+-- a connection, a clock and an inlet of this port with which nothing was done, the output, and what is said of them
+pub record FromNew (port : ℕ) (output : Drain) (Says : Outside → Type 0) : Type 0 where
   pub told : Bool
-  pub port : ℕ
   pub said : Says (outside fresh_line (fresh_dial told) (fresh_inbox port) output)
 
--- with what the desk gave the recording ended so
+-- with what the desk gave the recording ended so; the inlet had the port that it has when it comes back
 abbrev pub Ran : (wire_tells inlet_tells out_tells error_tells : Type 0) → Wanted → Option Outside → (o e m : Drain) → RecordEnd → Type 0
-Ran wire_tells inlet_tells out_tells error_tells w left o e m end = IsSomeAnd left (λ b. FromNew o (λ a.
+Ran wire_tells inlet_tells out_tells error_tells w left o e m end = IsSomeAnd left (λ b. FromNew b.inlet.port o (λ a.
     Ends error_tells e m end (λ lines. Records wire_tells inlet_tells out_tells a b w.address w.query w.count lines end)))
 
 -- the desk failed to give the connection or the inlet, and nothing was done

@@ -121,6 +121,7 @@ beaten-wanted tells o n d e p q address terms moment reads beat = record {
 -- nothing more came
 caught-nothing : (tells tells_output tells_errors : Type 0) (i : Inbox) (o : Reel) → Caught tells tells_output tells_errors i i o o 0
 caught-nothing tells tells_output tells_errors i o = record {
+  port = refl;
   datagrams = [];
   given = λ _. sym (append-nil i.given);
   faults = refl;
@@ -209,6 +210,7 @@ stopped-catching t ti to te w x d e p q i j o n address terms limit end moment r
 
 caught-all : (ti to te : Type 0) (i j : Inbox) (o n : Reel) (turns : ℕ) → Caught ti to te i j o n turns → CaughtUntil ti to te i j o n Silent
 caught-all ti to te i j o n turns caught = record {
+  port = caught.port;
   datagrams = caught.datagrams;
   given = caught.given;
   wound = wound-all to te o n Silent caught.datagrams caught.wound (λ bytes puts. puts);
@@ -231,6 +233,7 @@ pub stopped-failed : (t ti to te : Type 0) (w x : Line) (d e : Dial) (p q : Puls
 stopped-failed t ti to te w x d e p q i o address terms limit moment reads beat = record {
   talks = beaten-failed t w x d e p q address terms moment reads beat;
   reels = record {
+    port = refl;
     datagrams = [];
     given = λ _. sym (append-nil i.given);
     wound = wound-all to te o o PeerFault [] (wound-none to te o) (λ bytes puts. puts);
@@ -244,6 +247,7 @@ pub stopped-wanted : (t ti to te : Type 0) (w x : Line) (d e : Dial) (p q : Puls
 stopped-wanted t ti to te w x d e p q i o address terms limit moment reads beat = record {
   talks = beaten-wanted t w x d e p q address terms moment reads beat;
   reels = record {
+    port = refl;
     datagrams = [];
     given = λ _. sym (append-nil i.given);
     wound = wound-all to te o o OutOfMemory [] (wound-none to te o) (λ bytes puts. puts);

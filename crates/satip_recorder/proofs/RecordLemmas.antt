@@ -87,6 +87,7 @@ filled t ti to te o m w x d e f mark q i j p r n address query count terms last 
           (options_sent address terms (first_pulse mark) course.moments) opened.content course.talks.asked) sent;
       pulse_is = course.talks.pulse;
       clock = reads-first d e f mark course.moments opened.reads course.talks.clock;
+      port = course.reels.port;
       datagrams = course.reels.datagrams;
       arrivals = ds;
       given = course.reels.given;
@@ -117,6 +118,7 @@ ended_receiving t ti to te o m x d e f mark q i j p r n address query count term
           (setup_request address query i.port ++ play_request address terms.stream terms.session) stopped.talks.part
           opened.content stopped.talks.asked;
       clock = reads-first d e f mark stopped.talks.moments opened.reads stopped.talks.clock;
+      port = stopped.reels.port;
       datagrams = stopped.reels.datagrams;
       arrivals = w.arrivals;
       given = stopped.reels.given;

@@ -151,6 +151,7 @@ wound-failed tells tells_lines c e p q o n d f bytes view says number failed = r
 pub caught-got : (tells tells_output tells_errors : Type 0) (i j : Inbox) (o n : Reel) (buf : List ℕ) (size : ℕ) → GotDatagram tells i j buf size
     → Wound tells_output tells_errors o n (take size buf ∷ []) → Caught tells tells_output tells_errors i j o n 1
 caught-got tells tells_output tells_errors i j o n buf size got wound = record {
+  port = got.port;
   datagrams = take size buf ∷ [];
   given = got.content;
   faults = got.faults;
@@ -161,6 +162,7 @@ caught-got tells tells_output tells_errors i j o n buf size got wound = record {
 pub caught-idle : (tells tells_output tells_errors : Type 0) (i j : Inbox) (o : Reel) → GotNone tells i j
     → Caught tells tells_output tells_errors i j o o 1
 caught-idle tells tells_output tells_errors i j o got = record {
+  port = got.port;
   datagrams = [];
   given = λ told. got.content told ∙ sym (append-nil i.given);
   faults = got.faults;
@@ -172,6 +174,7 @@ pub caught-output : (tells tells_output tells_errors : Type 0) (i j : Inbox) (o 
     → WoundUntil tells_output tells_errors o n OutputFault (take size buf ∷ [])
     → CaughtUntil tells tells_output tells_errors i j o n OutputFault
 caught-output tells tells_output tells_errors i j o n buf size got wound = record {
+  port = got.port;
   datagrams = take size buf ∷ [];
   given = got.content;
   wound = wound;
@@ -180,6 +183,7 @@ caught-output tells tells_output tells_errors i j o n buf size got wound = recor
 pub caught-failed : (tells tells_output tells_errors : Type 0) (i j : Inbox) (o : Reel) → FailedToGet tells i j
     → CaughtUntil tells tells_output tells_errors i j o o PeerFault
 caught-failed tells tells_output tells_errors i j o failed = record {
+  port = failed.port;
   datagrams = [];
   given = λ told. failed.content told ∙ sym (append-nil i.given);
   wound = wound-all tells_output tells_errors o o PeerFault [] (wound-none tells_output tells_errors o) (λ bytes puts. puts);
@@ -190,6 +194,7 @@ pub caught-then : (tells tells_output tells_errors : Type 0) (i m j : Inbox) (o 
     → Caught tells tells_output tells_errors i m o p k → 0 < p.tape.left → Caught tells tells_output tells_errors m j p n l
     → Caught tells tells_output tells_errors i j o n (k + l)
 caught-then tells tells_output tells_errors i m j o p n k l first some second = record {
+  port = second.port ∙ first.port;
   datagrams = first.datagrams ++ second.datagrams;
   given = λ told. second.given told ∙ ap (λ (t : List (List ℕ)). t ++ second.datagrams) (first.given told)
       ∙ append_assoc i.given first.datagrams second.datagrams;
@@ -202,6 +207,7 @@ pub caught-until : (tells tells_output tells_errors : Type 0) (i m j : Inbox) (o
     → Caught tells tells_output tells_errors i m o p k → 0 < p.tape.left → CaughtUntil tells tells_output tells_errors m j p n end
     → CaughtUntil tells tells_output tells_errors i j o n end
 caught-until tells tells_output tells_errors i m j o p n k end first some second = record {
+  port = second.port ∙ first.port;
   datagrams = first.datagrams ++ second.datagrams;
   given = λ told. second.given told ∙ ap (λ (t : List (List ℕ)). t ++ second.datagrams) (first.given told)
       ∙ append_assoc i.given first.datagrams second.datagrams;

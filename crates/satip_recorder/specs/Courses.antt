@@ -81,6 +81,7 @@ pub record Wound (tells_output tells_errors : Type 0) (o n : Reel) (datagrams : 
 
 -- in so many turns these datagrams came
 pub record Caught (tells tells_output tells_errors : Type 0) (i j : Inbox) (o n : Reel) (turns : ℕ) : Type 0 where
+  pub port : j.port ≡ i.port
   pub datagrams : List (List ℕ)
   pub given : tells → j.given ≡ i.given ++ datagrams
   pub faults : j.faults ≡ i.faults
@@ -110,6 +111,7 @@ pub record WoundUntil (tells_output tells_errors : Type 0) (o n : Reel) (end : R
 
 -- these datagrams came, and then no more
 pub record CaughtUntil (tells tells_output tells_errors : Type 0) (i j : Inbox) (o n : Reel) (end : RecordEnd) : Type 0 where
+  pub port : j.port ≡ i.port
   pub datagrams : List (List ℕ)
   pub given : tells → j.given ≡ i.given ++ datagrams
   pub wound : WoundUntil tells_output tells_errors o n end datagrams

@@ -77,6 +77,7 @@ pub record Filled (tells tells_inlet tells_output : Type 0) (o n : Outside) (add
       ++ options_sent address terms (first_pulse mark) moments ++ last)
   pub pulse_is : pulse ≡ after_readings terms.timeout (first_pulse mark) moments
   pub clock : ReadsAll o.clock n.clock (mark ∷ moments)
+  pub port : n.inlet.port ≡ o.inlet.port
   pub datagrams : List (List ℕ)
   pub arrivals : List Datagram
   pub given : tells_inlet → n.inlet.given ≡ o.inlet.given ++ datagrams
@@ -129,6 +130,7 @@ pub record EndedReceiving (tells tells_inlet tells_output : Type 0) (o n : Outsi
   pub requests : Grew tells o.wire n.wire got
       (setup_request address query o.inlet.port ++ play_request address terms.stream terms.session ++ part)
   pub clock : ReadsAll o.clock n.clock (mark ∷ moments)
+  pub port : n.inlet.port ≡ o.inlet.port
   pub datagrams : List (List ℕ)
   pub arrivals : List Datagram
   pub given : tells_inlet → n.inlet.given ≡ o.inlet.given ++ datagrams

@@ -138,7 +138,7 @@ unopened_ends ct it ot et text before now view i o e m rises = record {
 
 -- the desk gave a configuration
 pub opened_ends : {C : Type 0} (ct it ot et : Type 0) (text : Option (List ℕ)) (before now : ℕ) (view : C → Feed) (s : C) (a i j : Feed) (o n e m : Drain)
-    (end : ReplayEnd) → now ≡ before → IsStarted ct a text
+    (end : ReplayEnd) → now ≡ before → IsStarted ct a text → a.taken ≡ 0
     → (end ≡ Done → Replayed ct it ot a (view s) i j o n)
     → (end ≡ OutputFault → EndsByOutput ct it ot a (view s) i j o n)
     → ((fault : ConfigFault) → end ≡ Configuration fault → EndsByConfiguration ct a (view s) i j o n fault)
@@ -150,22 +150,22 @@ pub opened_ends : {C : Type 0} (ct it ot et : Type 0) (text : Option (List ℕ))
     → (ct → it → (Rose a.faults (view s).faults → ⊥) → (Rose i.faults j.faults → ⊥) → IsEndOf a.left i.left end)
     → Says et e m (replay_line end)
     → ReplayEnds ct it ot et text before now view (Some s) i j o n e m (replay_status end)
-opened_ends ct it ot et text before now view s a i j o n e m end desk started done output fault number input long wants limit settled line = record {
+opened_ends ct it ot et text before now view s a i j o n e m end desk started untaken done output fault number input long wants limit settled line = record {
   status_is = has_end end;
-  replayed = λ is. record { source = a; started = started; said = done (ends_done end is) };
-  replayed_partly = λ is. record { source = a; started = started; said = output (ends_output end is) };
+  replayed = λ is. record { source = a; started = started; untaken = untaken; said = done (ends_done end is) };
+  replayed_partly = λ is. record { source = a; started = started; untaken = untaken; said = output (ends_output end is) };
   nothing_written = λ whole part wanting. nothing_put ct it a (view s) i j o n end fault number input long whole part wanting;
-  input = λ is. record { source = a; started = started; said = input (ends_input end is) };
-  long = λ is. record { source = a; started = started; said = long (ends_long end is) };
-  wants = λ is. record { source = a; started = started; said = wants (ends_wanting end is) };
+  input = λ is. record { source = a; started = started; untaken = untaken; said = input (ends_input end is) };
+  long = λ is. record { source = a; started = started; untaken = untaken; said = long (ends_long end is) };
+  wants = λ is. record { source = a; started = started; untaken = untaken; said = wants (ends_wanting end is) };
   configuration = λ is.
       fault_told (λ text. Says et e m text) (λ cause. GivenFrom ct text (λ b. EndsByConfiguration ct b (view s) i j o n cause)) end line
-      (λ cause same. record { source = a; started = started; said = fault cause same }) is;
+      (λ cause same. record { source = a; started = started; untaken = untaken; said = fault cause same }) is;
   script = λ is.
       number_told (λ text. Says et e m text) (λ place. GivenFrom ct text (λ b. EndsByScript ct it b (view s) i j o n place)) end line
-      (λ place same. record { source = a; started = started; said = number place same }) is;
+      (λ place same. record { source = a; started = started; untaken = untaken; said = number place same }) is;
   config = desk;
-  config_limit = record { source = a; started = started; said = limit };
+  config_limit = omega (arith, limit, untaken);
   settled = λ told is tells still source failed. settled_told ct it text a (view s) i j end started settled told is tells source failed;
 }
 

@@ -15,4 +15,4 @@ pub use run::run_services;
 pub use satip_crew::ServeEnd;
 pub use seat::{PumpRoom, pump_seat, tick_seat, work_seat};
 pub use serving::{Last, serve};
-pub use space::{ServeSpace, make_gears, make_pump_rooms, take_space, with_room};
+pub use space::{ServeSpace, make_gears, make_pump_rooms, take_space};

@@ -3,7 +3,7 @@
 ghost use Rattle.std.specs.Prelude.{◌≡◌, ◌≤◌, [], length, vec_capacity, IfOk};
 
 use crate::seat::PumpRoom;
-use satip_base::{Out, Want};
+use satip_base::{Out, Want, with_room};
 use satip_crew::Space;
 use satip_pump::{Batch, PumpKit};
 use satip_worker::{Room, WorkerKit};
@@ -18,17 +18,6 @@ pub type ServeSpace<X, D, O, P, M> = Space<
     PumpRoom,
     Out,
 >;
-
-/// An empty list with memory for so many. `Want` where it was refused.
-pub fn with_room<T: Drop>(alloc: Global, count: usize) -> Result<Vec<T>, Want>
-    ensures empty { IfOk result (λ items. items.items ≡ []) }
-    ensures room { IfOk result (λ items. count ≤ vec_capacity items) }
-{
-    match Vec::with_capacity(alloc, count) {
-        Ok(items) => Ok(items),
-        Err(_) => Err(Want),
-    }
-}
 
 fn make_rooms(alloc: Global, count: usize) -> Result<Vec<Room>, Want>
     ensures count { IfOk result (λ rooms. length rooms.items ≡ count) }

@@ -1,5 +1,5 @@
 -- What serving comes to, by its status, from how it ended.
-use Rattle.std.proofs.Common.{◌≡◌, ◌∙◌, ℕ, ◌<◌, ◌≤◌, ◌⊎◌, ◌↔◌, inl, inr, true, List, Option, Some, None, IfSome, IsNone, IsSome, IsSomeAnd, MatchOption, refl}
+use Rattle.std.proofs.Common.{◌≡◌, ◌∙◌, ℕ, ◌+◌, ◌<◌, ◌≤◌, ◌⊎◌, ◌↔◌, inl, inr, true, List, Option, Some, None, IfSome, IsNone, IsSome, IsSomeAnd, MatchOption, refl}
 use Rattle.std.proofs.Common.{sym, ap, subst, ⊎_elim, arith}
 use Rattle.satip_base.specs.Streams.{Feed, Rose}
 use Rattle.satip_world.specs.Counts.{Rises}
@@ -7,7 +7,7 @@ use Rattle.satip_world.specs.Recordings.{IsStarted}
 use Rattle.satip_config.specs.Configuration.{Configuration}
 use Rattle.satip_config.specs.declared.fault.ConfigFault.{ConfigFault}
 use Rattle.satip_history.specs.Lists.{Each, Has}
-use Rattle.satip_reading.specs.Configurations.{Configured, Refused}
+use Rattle.satip_reading.specs.Configurations.{configuration_limit, Configured, Refused}
 use Rattle.satip_crew.specs.declared.end.ServeEnd.{ServeEnd}
 use Rattle.satip_crew.specs.declared.end.ServeEnd.TheVariants as serves
 use Rattle.satip_serve.specs.ServeRuns.{HasFault, MatchEnd}
@@ -181,33 +181,36 @@ settled_told ct text a b end started read told is still =
 -- all of it, where the desk opened the configuration
 ends_by : {S L J : Type 0} (ct : Type 0) (accepts : ℕ) (text : Option (List ℕ)) (before now : ℕ) (seen : S → Feed) (s : S) (view : J → JobsView)
     (given : Option JobsView) (config_of : L → Configuration) (Ran : JobsView → L → Type 0) (last : Option L) (unused : Option J) (end : ServingEnd)
-    (a : Feed) → IsStarted ct a text → IsRead ct a (seen s) end → IsLeft before now given last unused end
+    (a : Feed) → IsStarted ct a text → a.taken ≡ 0 → (seen s).taken ≤ a.taken + configuration_limit + 1
+    → IsRead ct a (seen s) end → IsLeft before now given last unused end
     → IfSome last (λ l. IsSomeAnd given (λ g. Ran g l)) → IfSome last (λ l. GivenFrom ct text (λ from. Configured ct from (seen s) (config_of l)))
     → MatchOption given (IsNeitherOf last unused) (λ _. IsOneOf last unused) → IfSome unused (λ k. IsSomeAnd given (λ g. ComeUnused g (view k)))
     → IfSome unused (λ k. AreUnused accepts (view k))
     → ServingEnds ct (λ fault. end ≡ OfConfiguration fault) accepts text before now seen (Some s) view given config_of Ran last unused (serving_status end)
-ends_by ct accepts text before now seen s view given config_of Ran last unused end a started read left ran served_by kits kits_unused unused_kits = record {
-  status_is = has_end end;
-  ran = ran;
-  served_by = served_by;
-  config =
-      ⊎_elim (λ (same : now ≡ before). inl same) (λ (none : (end ≡ DoorsFault) × IsNone last). inr (ap serving_status none.0, none.1)) left.config;
-  read = λ other. read.faults (λ is. other (ap serving_status is)) ∙ started.faults;
-  kits = kits;
-  kits_unused = kits_unused;
-  unused_kits = unused_kits;
-  unused_status = unused_told unused end left.unused_end;
-  served = λ is. left.served (ends_by_serving end is);
-  configuration = λ is.
-      refused_at (λ fault. GivenFrom ct text (λ from. Refused ct from (seen s) fault)) end
-      (λ fault same. record { source = a; started = started; said = read.refused fault same }) is;
-  input = input_told ct a (seen s) end started.faults read;
-  doors_fault = λ is none. left.doors_fault (ends_by_doors end is) none;
-  settled = λ told is still. record { ending = end; told = refl; ends = settled_told ct text a (seen s) end started read told is still };
-} where
-  unused_told : {J : Type 0} (unused : Option J) (end : ServingEnd) → IfSome unused (λ _. end ≡ OutOfMemory) → IfSome unused (λ _. serving_status end ≡ 70)
-  unused_told None end none = none
-  unused_told (Some kits) end none = ap serving_status none
+ends_by ct accepts text before now seen s view given config_of Ran last unused end a started untaken limit read left ran served_by kits kits_unused
+    unused_kits = record {
+      status_is = has_end end;
+      ran = ran;
+      served_by = served_by;
+      config =
+          ⊎_elim (λ (same : now ≡ before). inl same) (λ (none : (end ≡ DoorsFault) × IsNone last). inr (ap serving_status none.0, none.1)) left.config;
+      config_limit = omega (arith, limit, untaken);
+      read = λ other. read.faults (λ is. other (ap serving_status is)) ∙ started.faults;
+      kits = kits;
+      kits_unused = kits_unused;
+      unused_kits = unused_kits;
+      unused_status = unused_told unused end left.unused_end;
+      served = λ is. left.served (ends_by_serving end is);
+      configuration = λ is.
+          refused_at (λ fault. GivenFrom ct text (λ from. Refused ct from (seen s) fault)) end
+          (λ fault same. record { source = a; started = started; untaken = untaken; said = read.refused fault same }) is;
+      input = input_told ct a (seen s) end started.faults read;
+      doors_fault = λ is none. left.doors_fault (ends_by_doors end is) none;
+      settled = λ told is still. record { ending = end; told = refl; ends = settled_told ct text a (seen s) end started read told is still };
+    } where
+      unused_told : {J : Type 0} (unused : Option J) (end : ServingEnd) → IfSome unused (λ _. end ≡ OutOfMemory) → IfSome unused (λ _. serving_status end ≡ 70)
+      unused_told None end none = none
+      unused_told (Some kits) end none = ap serving_status none
 
 -- the desk gave kits
 left_by : {L J : Type 0} (before now : ℕ) (given : Option JobsView) (last : Option L) (unused : Option J) (end : ServingEnd) → now ≡ before
@@ -238,25 +241,28 @@ with_given None given g P is each = tt
 with_given (Some t) given g P is each = rw is each
 
 served_from : {L : Type 0} (ct : Type 0) (text : Option (List ℕ)) (a b : Feed) (c : Configuration) (last : Option L) (config_of : L → Configuration)
-    → IsStarted ct a text → Configured ct a b c → IfSome last (λ l. config_of l ≡ c)
+    → IsStarted ct a text → a.taken ≡ 0 → Configured ct a b c → IfSome last (λ l. config_of l ≡ c)
     → IfSome last (λ l. GivenFrom ct text (λ from. Configured ct from b (config_of l)))
-served_from ct text a b c None config_of started well same = tt
-served_from ct text a b c (Some l) config_of started well same =
-    let P : Configuration → Type 0 = λ d. Configured ct a b d in record { source = a; started = started; said = subst P (sym same) well }
+served_from ct text a b c None config_of started untaken well same = tt
+served_from ct text a b c (Some l) config_of started untaken well same =
+    let P : Configuration → Type 0 = λ d. Configured ct a b d in
+    record { source = a; started = started; untaken = untaken; said = subst P (sym same) well }
 
 pub kits_ends : {S L J ct : Type 0} {accepts : ℕ} {text : Option (List ℕ)} {before now : ℕ} {seen : S → Feed} {s : S} {view : J → JobsView}
     {given : Option JobsView} {config_of : L → Configuration} {Ran : JobsView → L → Type 0} {last : Option L} {unused : Option J} (end : ServingEnd)
-    {a : Feed} (c : Configuration) (jobs : J) → IsStarted ct a text → Configured ct a (seen s) c → given ≡ Some (view jobs) → now ≡ before
+    {a : Feed} (c : Configuration) (jobs : J) → IsStarted ct a text → a.taken ≡ 0 → (seen s).taken ≤ a.taken + configuration_limit + 1
+    → Configured ct a (seen s) c → given ≡ Some (view jobs) → now ≡ before
     → IsOneOf last unused → IfSome last (λ l. config_of l ≡ c) → IfSome last (λ l. Ran (view jobs) l)
     → MatchOption last (end ≡ OutOfMemory) (λ _. IsEndOfRun end) → IfSome unused (λ k. ComeUnused (view jobs) (view k))
     → IfSome unused (λ k. AreUnused accepts (view k))
     → ServingEnds ct (λ fault. end ≡ OfConfiguration fault) accepts text before now seen (Some s) view given config_of Ran last unused (serving_status end)
 kits_ends {ct = ct} {accepts = accepts} {text = text} {before = before} {now = now} {seen = seen} {s = s} {view = view} {given = given}
-    {config_of = config_of} {Ran = Ran} {last = last} {unused = unused} end {a = a} c jobs started well is same one config ran begun kits_unused unused_kits =
-    ends_by ct accepts text before now seen s view given config_of Ran last unused end a started
+    {config_of = config_of} {Ran = Ran} {last = last} {unused = unused} end {a = a} c jobs started untaken limit well is same one config ran begun kits_unused
+    unused_kits =
+    ends_by ct accepts text before now seen s view given config_of Ran last unused end a started untaken limit
     (read_well ct a (seen s) c end well (behind last end begun))
     (left_by before now given last unused end same one begun)
-    (with_given last given (view jobs) Ran is ran) (served_from ct text a (seen s) c last config_of started well config) (rw is one)
+    (with_given last given (view jobs) Ran is ran) (served_from ct text a (seen s) c last config_of started untaken well config) (rw is one)
     (with_given unused given (view jobs) (λ g k. ComeUnused g (view k)) is kits_unused) unused_kits
 
 -- the desk failed to open the configuration
@@ -268,6 +274,7 @@ unopened_ends none rises = record {
   ran = tt;
   served_by = tt;
   config = rises;
+  config_limit = tt;
   read = λ other. absurd (other refl);
   kits = rw none (refl, refl);
   kits_unused = tt;
@@ -291,6 +298,7 @@ told_otherwise tells ends = record {
   ran = ends.ran;
   served_by = ends.served_by;
   config = ends.config;
+  config_limit = ends.config_limit;
   read = ends.read;
   kits = ends.kits;
   kits_unused = ends.kits_unused;

@@ -1,11 +1,11 @@
 -- What serving comes to, by its status.
-use Rattle.std.specs.Prelude.{◌≡◌, ℕ, ◌⊎◌, ◌↔◌, List, Option, Some, None, IsSome, IsNone, IfSome, IsSomeAnd, MatchOption}
+use Rattle.std.specs.Prelude.{◌≡◌, ℕ, ◌+◌, ◌≤◌, ◌⊎◌, ◌↔◌, List, Option, Some, None, IsSome, IsNone, IfSome, IsSomeAnd, MatchOption}
 use Rattle.satip_base.specs.Streams.{Feed, Rose}
 use Rattle.satip_world.specs.Counts.{Rises}
 use Rattle.satip_config.specs.Configuration.{Configuration}
 use Rattle.satip_config.specs.declared.fault.ConfigFault.{ConfigFault}
 use Rattle.satip_history.specs.Lists.{Has}
-use Rattle.satip_reading.specs.Configurations.{Configured, Refused}
+use Rattle.satip_reading.specs.Configurations.{configuration_limit, Configured, Refused}
 use Rattle.satip_serve.specs.declared.kits.Jobs.{Jobs}
 use Rattle.satip_serve.specs.declared.serving.Last.{Last}
 use Rattle.satip_serve.specs.Views.{JobsView}
@@ -27,7 +27,8 @@ pub record ServingEnds {S L J : Type 0} (config_tells : Type 0) (Told : ConfigFa
   pub served_by : IfSome last (λ l. IsSomeAnd source (λ s. GivenFrom config_tells text (λ a. Configured config_tells a (seen s) (config_of l))))
   -- the configuration is given back, unless the desk failed to open it; its count rises then, or where it gives no kits
   pub config : MatchOption source (Rises before now) (λ _. (now ≡ before) ⊎ ((status ≡ 7) × IsNone last))
-  -- with any other status than 5 the source of the configuration never failed
+  -- at most one byte more than its limit is taken of it, and with any other status than 5 it never failed
+  pub config_limit : IfSome source (λ s. (seen s).taken ≤ configuration_limit + 1)
   pub read : (status ≡ 5 → ⊥) → IsSomeAnd source (λ s. (seen s).faults ≡ 0)
   -- the kits that the desk gave are what the jobs left, or no job began with them, and they come back as they were, but for
   -- one reading of the clock

@@ -8,8 +8,7 @@ use Rattle.satip_reading.specs.declared.configuration.ConfigurationEnd.TheVarian
 use Rattle.satip_reading.specs.Configurations.{IsConfiguration}
 use Rattle.satip_crew.specs.declared.end.ServeEnd.{ServeEnd}
 use Rattle.satip_crew.specs.declared.end.ServeEnd.TheVariants as serves
-use Rattle.satip_history.specs.Lists.{Each}
-use Rattle.satip_serve.specs.Fresh.{FreshWorker, FreshPump, ReadOnce}
+use Rattle.satip_serve.specs.Fresh.{FreshJobs}
 use Rattle.satip_serve.specs.Views.{JobsView}
 use Rattle.satip_serving.specs.declared.serving.ServingEnd.{ServingEnd}
 use Rattle.satip_serving.specs.declared.serving.ServingEnd.TheVariants as ends
@@ -18,6 +17,7 @@ use Rattle.satip_serving.specs.declared.serving.ServingEnd.TheVariants as ends
 pub record GivenFrom (tells : Type 0) (text : Option (List ℕ)) (Said : Feed → Type 0) : Type 0 where
   pub source : Feed
   pub started : IsStarted tells source text
+  pub untaken : source.taken ≡ 0
   pub said : Said source
 
 -- how serving ends whose configuration isn't read
@@ -52,10 +52,8 @@ IsEndOfRun ends.OutOfMemory = ⊥
 
 -- no job began with these kits: nothing was done with them but that the ticker's clock was read once
 pub record AreUnused (accepts : ℕ) (kits : JobsView) : Type 0 where
-  pub workers_are : Each (FreshWorker accepts) kits.workers
-  pub pumps_are : Each FreshPump kits.pumps
   pub start : ℕ
-  pub ticker_is : ReadOnce start kits.ticker
+  pub fresh : FreshJobs start accepts kits
 
 -- one of both is there
 abbrev pub IsOneOf : {S T : Type 0} → Option S → Option T → Type 0

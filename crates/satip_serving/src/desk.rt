@@ -85,6 +85,7 @@ pub trait Desk {
         ensures started { IfOk result (λ source. IsStarted Self.Config.tells
             (Self.Config.feed source)
             (text self.old name.now)) }
+        ensures untaken { IfOk result (λ source. (Self.Config.feed source).taken ≡ 0) }
         ensures no_fault { IfOk result (λ _. faults self.new ≡ faults self.old) }
         ensures failed { OnErr result (Rises (faults self.old) (faults self.new)) };
 

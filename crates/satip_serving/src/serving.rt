@@ -156,6 +156,7 @@ fn serve_source<R: Threads + Wait + Sync, K: Desk>(
     ensures journaled { K.journaled desk.new ≡ K.journaled desk.old }
     ensures ends { (text : Option (List ℕ))
         → IsStarted K.Config.tells (K.Config.feed source.old) text
+        → (K.Config.feed source.old).taken ≡ 0
         → Serves K.Config.tells K.Doors.Conn.tells K.Outlet.tells
         (λ fault. result.end ≡ ServingEnd.Configuration fault) accepts
         text (K.faults desk.old) (K.faults desk.new) K.Config.feed (Some source.new)

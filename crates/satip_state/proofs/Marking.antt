@@ -155,7 +155,7 @@ marked_ended c v w st ends marks slot e sound seat found bit after seats =
           (each_filter (λ z. z.slot < slot → ends z.session.id ≡ false) (λ z. not (has_id_of id z)) v.table.seats e.clear)
           (λ other has at.
           let it : other ≡ seat =
-              slots_once v.table.seats slot seat other sound.slots found (filter_in (λ z. not (has_id_of id z)) v.table.seats other has) at in
+          slots_once v.table.seats slot seat other sound.slots found (filter_in (λ z. not (has_id_of id z)) v.table.seats other has) at in
           let not_it : has_id_of id other ≡ false = not-true (has_id_of id other) (filter_passing (λ z. not (has_id_of id z)) v.table.seats other has) in
           absurd (true≢false (sym (ap (λ (z : Seat). has_id_of id z) it ∙ id_itself id) ∙ not_it))));
     }

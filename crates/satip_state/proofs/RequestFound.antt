@@ -358,7 +358,7 @@ pub begin_is : (v w : Kept) (id : SessionId) (at : ℕ) (its : TableRow) (its_st
 unfolding begun
 begin_is v w id at its its_stream dues flow due same slots rows streams subscribed ends set slot row t seat stream known =
     let seats : find (has_id_of id) v.table.seats ≡ Some (record { slot = slot; session = row }) =
-        ap (λ (k : Kept). find (has_id_of id) k.table.seats) same ∙ seat in
+    ap (λ (k : Kept). find (has_id_of id) k.table.seats) same ∙ seat in
     let at_is : at ≡ slot = same_Some at slot (slots ∙ ap (option_map (λ (x : Seat). x.slot)) seats) in
     let its_is : its ≡ row = same_Some its row (rows ∙ ap (option_map (λ (x : Seat). x.session)) seats) in
     let t_is : its_stream ≡ t = same_Some its_stream t (streams ∙ ap (λ (r : TableRow). find (has_number r.stream) v.table.streams) its_is

@@ -333,7 +333,7 @@ unfolding playing_now row_of
 plays_already c o v st s id slot row same sound found plays =
     let known : Sound v.table = subst (λ (k : Kept). Sound k.table) same sound in
     let seat : find (has_id_of id) v.table.seats ≡ Some (record { slot = slot; session = row }) =
-        ap (λ (k : Kept). find (has_id_of id) k.table.seats) (sym same) ∙ found in
+    ap (λ (k : Kept). find (has_id_of id) k.table.seats) (sym same) ∙ found in
     let r = its_seat c v st s id slot row known seat in
     let all = agrees c v st s id slot known (ap (option_map (λ (x : Seat). x.slot)) seat) in
     let playing : r.it.session.playing ≡ true = ap (λ (x : TableRow). x.playing) r.its ∙ plays in

@@ -1,7 +1,7 @@
 //! The clients of a run.
 
 ghost use Rattle.std.specs.Prelude.{◌≡◌};
-ghost use Rattle.satip_stress.specs.Making.{first as the_first, second as the_second, draw_of};
+ghost use Rattle.satip_stress.specs.Making.{first, second, draw_of};
 
 use satip_base::{Draw, Peer, SessionId};
 
@@ -12,25 +12,23 @@ pub(crate) struct Client {
     pub(crate) session: SessionId,
 }
 
-impl Client {
-    /// The client at 10.0.0.2.
-    pub(crate) fn first() -> Client
-        ensures first { result ≡ the_first }
-    {
-        Client {
-            peer: Peer { ip: 167772162 },
-            session: SessionId { count: 1, word: 1 },
-        }
+/// The client at 10.0.0.2.
+pub(crate) fn first_client() -> Client
+    ensures first { result ≡ first }
+{
+    Client {
+        peer: Peer { ip: 167772162 },
+        session: SessionId { count: 1, word: 1 },
     }
+}
 
-    /// The client at 10.0.0.3.
-    pub(crate) fn second() -> Client
-        ensures second { result ≡ the_second }
-    {
-        Client {
-            peer: Peer { ip: 167772163 },
-            session: SessionId { count: 2, word: 2 },
-        }
+/// The client at 10.0.0.3.
+pub(crate) fn second_client() -> Client
+    ensures second { result ≡ second }
+{
+    Client {
+        peer: Peer { ip: 167772163 },
+        session: SessionId { count: 2, word: 2 },
     }
 }
 

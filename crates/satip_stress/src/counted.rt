@@ -9,7 +9,7 @@ ghost use Rattle.satip_stress.specs.Counted.{none_counted, HasRoom, IsBounded};
 ghost use Rattle.satip_stress.specs.Running.{Makes};
 
 use crate::counting::Counts;
-use crate::making::stress_config;
+use crate::making::make_config;
 use satip_base::{Draw, Out, Peer, Want};
 use satip_core::Server;
 use satip_plain::Answer;
@@ -33,7 +33,7 @@ impl Counted {
         ensures opening { IfOk result (λ counted. Stands counted.server (opening stress_setting)) }
         ensures none { IfOk result (λ counted. counted.counts ≡ none_counted) }
     {
-        let config = stress_config(alloc)?;
+        let config = make_config(alloc)?;
         Ok(Counted {
             server: Server::make(alloc, config, 0)?,
             counts: Counts::none(),

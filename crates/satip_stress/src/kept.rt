@@ -4,8 +4,8 @@ ghost use Rattle.std.specs.Prelude.{◌≡◌};
 ghost use Rattle.satip_stress.specs.Making.{first, options, play, adding, removing};
 ghost use Rattle.satip_stress.specs.Running.{AreKept, IsOptions, IsAdding, IsRemoving};
 
-use crate::clients::Client;
-use crate::making::{one_pid, options_request, play_request};
+use crate::clients::{Client, first_client};
+use crate::making::{make_options, make_play, one_pid};
 use satip_query::Query;
 use satip_rtsp::{Request, SessionName};
 
@@ -27,9 +27,9 @@ impl Kept {
         let mut removing = Query::new();
         removing.delpids = Some(one_pid(0));
         Kept {
-            options: options_request(0, Client::first()),
-            adding: play_request(0, Client::first(), adding),
-            removing: play_request(0, Client::first(), removing),
+            options: make_options(0, first_client()),
+            adding: make_play(0, first_client(), adding),
+            removing: make_play(0, first_client(), removing),
         }
     }
 }

@@ -1,7 +1,7 @@
 //! What a run is made of: a configuration, requests and packets.
 
 ghost use Rattle.std.specs.Prelude.{◌≡◌, ◌<◌, ◌∷◌, [], Some, None, IfOk};
-ghost use Rattle.satip_stress.specs.Making.{stress_config as the_config, front_end as the_front_end, multiplex as the_multiplex, setup as the_setup, play as the_play, options as the_options, founding_query as the_founding_query, packet_of as the_packet, seed_bytes as the_seed};
+ghost use Rattle.satip_stress.specs.Making.{stress_config, front_end, multiplex, setup, play, options, founding_query, packet_of, seed_bytes};
 ghost use Rattle.satip_query.specs.Queries.{new_query};
 
 use crate::clients::Client;
@@ -15,12 +15,12 @@ use satip_tune::{Change, Front, Mux, Pol, System};
 use std::alloc::Global;
 
 /// The configuration of a run: one front end and one multiplex.
-pub(crate) fn stress_config(alloc: Global) -> Result<Config, Want>
-    ensures config { IfOk result (λ config. config ≡ the_config) }
+pub(crate) fn make_config(alloc: Global) -> Result<Config, Want>
+    ensures config { IfOk result (λ config. config ≡ stress_config) }
 {
     let mut fronts = Vec::new(alloc);
     let mut muxes = Vec::new(alloc);
-    let (Ok(()), Ok(())) = (fronts.push(front_end()), muxes.push(multiplex())) else {
+    let (Ok(()), Ok(())) = (fronts.push(make_front_end()), muxes.push(make_multiplex())) else {
         return Err(Want);
     };
     Ok(Config {
@@ -35,8 +35,8 @@ pub(crate) fn stress_config(alloc: Global) -> Result<Config, Want>
     })
 }
 
-fn front_end() -> Front
-    ensures front { result ≡ the_front_end }
+fn make_front_end() -> Front
+    ensures front { result ≡ front_end }
 {
     let mut sources = [false; 256];
     sources[1] = true;
@@ -47,8 +47,8 @@ fn front_end() -> Front
     }
 }
 
-fn multiplex() -> Mux
-    ensures mux { result ≡ the_multiplex }
+fn make_multiplex() -> Mux
+    ensures mux { result ≡ multiplex }
 {
     Mux {
         src: 1,
@@ -60,9 +60,9 @@ fn multiplex() -> Mux
 }
 
 /// A SETUP of a stream, or of a new one.
-pub(crate) fn setup_request(cseq: u32, stream: Option<u16>, query: Query, port: u16) -> Request
+pub(crate) fn make_setup(cseq: u32, stream: Option<u16>, query: Query, port: u16) -> Request
     requires port { port < 65535 }
-    ensures request { result ≡ the_setup cseq stream query port }
+    ensures request { result ≡ setup cseq stream query port }
 {
     Request {
         cseq: Some(cseq),
@@ -79,8 +79,8 @@ pub(crate) fn setup_request(cseq: u32, stream: Option<u16>, query: Query, port: 
 }
 
 /// A PLAY of stream 1.
-pub(crate) fn play_request(cseq: u32, client: Client, query: Query) -> Request
-    ensures request { result ≡ the_play cseq client query }
+pub(crate) fn make_play(cseq: u32, client: Client, query: Query) -> Request
+    ensures request { result ≡ play cseq client query }
 {
     Request {
         cseq: Some(cseq),
@@ -94,8 +94,8 @@ pub(crate) fn play_request(cseq: u32, client: Client, query: Query) -> Request
 }
 
 /// An OPTIONS.
-pub(crate) fn options_request(cseq: u32, client: Client) -> Request
-    ensures request { result ≡ the_options cseq client }
+pub(crate) fn make_options(cseq: u32, client: Client) -> Request
+    ensures request { result ≡ options cseq client }
 {
     Request {
         cseq: Some(cseq),
@@ -109,8 +109,8 @@ pub(crate) fn options_request(cseq: u32, client: Client) -> Request
 }
 
 /// The query of the SETUP that founds the stream.
-pub(crate) fn founding_query() -> Query
-    ensures query { result ≡ the_founding_query }
+pub(crate) fn make_founding_query() -> Query
+    ensures query { result ≡ founding_query }
 {
     Query {
         change: Change {
@@ -152,8 +152,8 @@ pub(crate) fn one_pid(pid: u8) -> PidList
 
 /// A packet of a PID below 128: a payload of zeros, and no adaptation field.
 #[tactic(auto, unfolding(crate::specs::Making::packet_of))]
-pub(crate) fn packet_of(pid: u8) -> Packet
-    ensures packet { result ≡ the_packet pid }
+pub(crate) fn make_packet(pid: u8) -> Packet
+    ensures packet { result ≡ packet_of pid }
 {
     let mut bytes = [0; 188];
     bytes[0] = 0x47;
@@ -166,8 +166,8 @@ pub(crate) fn packet_of(pid: u8) -> Packet
 }
 
 /// The seed of the generator: the number, low byte first, and zeros.
-pub(crate) fn seed_bytes(seed: u64) -> [u8; 32]
-    ensures seed { result ≡ the_seed seed }
+pub(crate) fn make_seed(seed: u64) -> [u8; 32]
+    ensures seed { result ≡ seed_bytes seed }
 {
     let mut bytes = [0; 32];
     bytes[..8].copy_from_slice(&seed.to_le_bytes());

@@ -6,15 +6,15 @@ ghost use Rattle.satip_plain.specs.declared.events.Event.TheVariants.{Request as
 ghost use Rattle.satip_plain.specs.Histories.{opening};
 ghost use Rattle.satip_core.specs.Serving.{Stands};
 ghost use Rattle.satip_stress.specs.Counting.{counts};
-ghost use Rattle.satip_stress.specs.Making.{stress, stress_setting, event_of, moment_after, cseq_after, first, draw_of, options, play, adding, removing, packet_of as the_packet, word};
+ghost use Rattle.satip_stress.specs.Making.{stress, stress_setting, event_of, moment_after, cseq_after, first, draw_of, options, play, adding, removing, packet_of, word};
 ghost use Rattle.satip_stress.specs.Counted.{none_counted, IsBounded};
 ghost use Rattle.satip_stress.specs.Running.{Goes, IsReady, Opens, before_word};
 
-use crate::clients::{Client, draw_of_number};
+use crate::clients::{Client, draw_of_number, first_client, second_client};
 use crate::counted::Counted;
 use crate::counting::Counts;
 use crate::kept::{Kept, renew_adding, renew_options, renew_removing};
-use crate::making::{founding_query, packet_of, play_request, seed_bytes, setup_request};
+use crate::making::{make_founding_query, make_packet, make_play, make_seed, make_setup};
 use rand_chacha::ChaCha8Rng;
 use rand_core::SeedableRng;
 use rand_core::utils::NextWord;
@@ -39,7 +39,7 @@ pub(crate) fn count_events(alloc: Global, seed: u64, count: u32) -> Result<Count
         ≡ counts (run stress_setting (stress seed count))) }
 {
     let mut run = open(alloc)?;
-    let mut words = ChaCha8Rng::from_seed(seed_bytes(seed));
+    let mut words = ChaCha8Rng::from_seed(make_seed(seed));
     for place in 0..count {
         run.answer(next_word(&mut words));
     }
@@ -84,15 +84,15 @@ fn make_opening(counted: &mut Counted)
     ensures bounded { IsBounded counted.new.counts }
     ensures events { counted.new.counts.events ≡ 5 }
 {
-    let (first, second) = (Client::first(), Client::second());
+    let (first, second) = (first_client(), second_client());
     counted.tick(1000);
-    let founding = setup_request(1, None, founding_query(), 1400);
+    let founding = make_setup(1, None, make_founding_query(), 1400);
     counted.request(first.peer, draw_of_number(1), &founding);
-    let playing = play_request(2, first, Query::new());
+    let playing = make_play(2, first, Query::new());
     counted.request(first.peer, draw_of_number(0), &playing);
-    let joining = setup_request(3, Some(1), Query::new(), 1500);
+    let joining = make_setup(3, Some(1), Query::new(), 1500);
     counted.request(second.peer, draw_of_number(2), &joining);
-    let playing = play_request(4, second, Query::new());
+    let playing = make_play(4, second, Query::new());
     counted.request(second.peer, draw_of_number(0), &playing);
 }
 
@@ -108,8 +108,8 @@ impl Run {
         let pid = (word / 64 % 128) as u8;
         match word % 64 {
             0 => self.tick(),
-            1 => self.options(Client::first()),
-            2 => self.options(Client::second()),
+            1 => self.options(first_client()),
+            2 => self.options(second_client()),
             3 => self.add(pid),
             4 => self.remove(pid),
             _ => self.packet(pid),
@@ -145,7 +145,7 @@ impl Run {
     {
         renew_adding(&mut self.kept.adding, self.cseq, pid);
         self.counted
-            .request(Client::first().peer, draw_of_number(0), &self.kept.adding);
+            .request(first_client().peer, draw_of_number(0), &self.kept.adding);
         self.cseq += 1;
     }
 
@@ -156,15 +156,15 @@ impl Run {
             self.old.moment (self.old.cseq + 1) self.new }
     {
         renew_removing(&mut self.kept.removing, self.cseq, pid);
-        self.counted.request(Client::first().peer, draw_of_number(0), &self.kept.removing);
+        self.counted.request(first_client().peer, draw_of_number(0), &self.kept.removing);
         self.cseq += 1;
     }
 
     fn packet(&mut self, pid: u8)
         requires ready { IsReady self.old }
-        ensures goes { Goes self.old (PacketCame 1 1 (the_packet pid)) self.old.moment
+        ensures goes { Goes self.old (PacketCame 1 1 (packet_of pid)) self.old.moment
             self.old.cseq self.new }
     {
-        self.counted.packet(&packet_of(pid));
+        self.counted.packet(&make_packet(pid));
     }
 }

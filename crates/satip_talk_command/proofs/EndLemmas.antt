@@ -62,16 +62,21 @@ never_long it ot i j o n ends told (inr closes) =
     never_unbroken i.left in_time.earlier (in_time.piece ++ j.left) in_time.messages closes whole all in_time.unbroken
 
 -- a talk that doesn't end well
-other_ends : (it ot : Type 0) (i j : Feed) (o n : Drain) (status : ℕ) → Has status talk_statuses → (status ≡ 0 → ⊥) → EndsEarly it ot i j o n
+other_ends : (it ot : Type 0) (i j : Feed) (o n : Drain) (status : ℕ) → Has status talk_statuses → (status ≡ 0 → ⊥) → (status ≡ 5 → n.faults ≡ o.faults)
+    → (status ≡ 6 → j.faults ≡ i.faults) → (status ≡ 8 → j.faults ≡ i.faults) → (status ≡ 8 → n.faults ≡ o.faults) → EndsEarly it ot i j o n
     → (status ≡ 70 → NothingDone i j o n)
     → (it → IsWithinLimit i.left → (Rose i.faults j.faults → ⊥) → (Rose o.faults n.faults → ⊥) → (status ≡ 0) ⊎ (status ≡ 70))
     → TalkEnds it ot i j o n status
-other_ends it ot i j o n status has never early nothing settled = record {
+other_ends it ot i j o n status has never by_input by_output in_long out_long early nothing settled = record {
   status_is = has;
   replies = λ is told. absurd (never is);
   in_faults = λ is. absurd (never is);
   out_faults = λ is. absurd (never is);
   in_time = λ is. absurd (never is);
+  out_faults_at_input_fault = by_input;
+  in_faults_at_output_fault = by_output;
+  in_faults_at_limit = in_long;
+  out_faults_at_limit = out_long;
   beginning = λ other. early;
   out_of_memory = nothing;
   settled = settled;
@@ -85,21 +90,29 @@ talk_ends it ot i j o n Done runs = record {
   in_faults = λ is. runs.in_faults;
   out_faults = λ is. runs.out_faults;
   in_time = λ is. record { text = runs.text; read = runs.read; ending = runs.ending; in_time = runs.in_time };
+  out_faults_at_input_fault = λ is. runs.out_faults;
+  in_faults_at_output_fault = λ is. runs.in_faults;
+  in_faults_at_limit = λ is. runs.in_faults;
+  out_faults_at_limit = λ is. runs.out_faults;
   beginning = λ other. absurd (other refl);
   out_of_memory = λ is. absurd (omega (arith, is));
   settled = λ told within input output. inl refl;
 }
 talk_ends it ot i j o n InputFault runs =
-    other_ends it ot i j o n 5 (inr (inl refl)) (λ is. omega (arith, is)) runs.early (λ is. absurd (omega (arith, is)))
+    other_ends it ot i j o n 5 (inr (inl refl)) (λ is. omega (arith, is)) (λ is. runs.out_faults) (λ is. absurd (omega (arith, is)))
+    (λ is. absurd (omega (arith, is))) (λ is. absurd (omega (arith, is))) runs.early (λ is. absurd (omega (arith, is)))
     (λ told within input output. absurd (input runs.rose))
 talk_ends it ot i j o n OutputFault runs =
-    other_ends it ot i j o n 6 (inr (inr (inl refl))) (λ is. omega (arith, is)) runs.early (λ is. absurd (omega (arith, is)))
+    other_ends it ot i j o n 6 (inr (inr (inl refl))) (λ is. omega (arith, is)) (λ is. absurd (omega (arith, is))) (λ is. runs.in_faults)
+    (λ is. absurd (omega (arith, is))) (λ is. absurd (omega (arith, is))) runs.early (λ is. absurd (omega (arith, is)))
     (λ told within input output. absurd (output runs.rose))
 talk_ends it ot i j o n TooLong runs =
-    other_ends it ot i j o n 8 (inr (inr (inr (inl refl)))) (λ is. omega (arith, is)) runs.early (λ is. absurd (omega (arith, is)))
+    other_ends it ot i j o n 8 (inr (inr (inr (inl refl)))) (λ is. omega (arith, is)) (λ is. absurd (omega (arith, is)))
+    (λ is. absurd (omega (arith, is))) (λ is. runs.in_faults) (λ is. runs.out_faults) runs.early (λ is. absurd (omega (arith, is)))
     (λ told within input output. absurd (never_long it ot i j o n runs told within))
 talk_ends it ot i j o n OutOfMemory runs =
-    other_ends it ot i j o n 70 (inr (inr (inr (inr (inl refl))))) (λ is. omega (arith, is))
+    other_ends it ot i j o n 70 (inr (inr (inr (inr (inl refl))))) (λ is. omega (arith, is)) (λ is. absurd (omega (arith, is)))
+    (λ is. absurd (omega (arith, is))) (λ is. absurd (omega (arith, is))) (λ is. absurd (omega (arith, is)))
     (early_from_nothing it ot i j o n runs) (λ is. runs) (λ told within input output. inr refl)
 
 -- how a talk ended that has this status

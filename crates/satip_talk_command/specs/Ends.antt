@@ -47,7 +47,12 @@ pub record TalkEnds (in_tells out_tells : Type 0) (i j : Feed) (o n : Drain) (st
   pub in_faults : status ≡ 0 → j.faults ≡ i.faults
   pub out_faults : status ≡ 0 → n.faults ≡ o.faults
   pub in_time : status ≡ 0 → ReadsInTime in_tells i j
-  -- with another status a beginning of the replies to what was taken was sent
+  -- with 5 the output never failed, with 6 the input never did, and with 8 neither did
+  pub out_faults_at_input_fault : status ≡ 5 → n.faults ≡ o.faults
+  pub in_faults_at_output_fault : status ≡ 6 → j.faults ≡ i.faults
+  pub in_faults_at_limit : status ≡ 8 → j.faults ≡ i.faults
+  pub out_faults_at_limit : status ≡ 8 → n.faults ≡ o.faults
+  -- with another status than 0 a beginning of the replies to what was taken was sent
   pub beginning : (status ≡ 0 → ⊥) → EndsEarly in_tells out_tells i j o n
   -- with 70 nothing was taken, and nothing was sent
   pub out_of_memory : status ≡ 70 → NothingDone i j o n

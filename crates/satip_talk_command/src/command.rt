@@ -12,9 +12,10 @@ use crate::telling::tell;
 use satip_base::{Sink, Source};
 use std::alloc::Global;
 
-/// Answers the requests of one RTSP connection: they come from the input, and the replies go to the
-/// output. All memory is taken before any input, and it always returns. What isn't an end of the
-/// input or a closing reply is told in a line on the errors sink.
+/// Answers the requests of one RTSP connection in order (RFC 2326, sections 9.1 and 10): they come
+/// from the input, and the replies go to the output. All memory is taken before any input, and it
+/// always returns. What isn't an end of the input or a closing reply is told in a line on the
+/// errors sink.
 pub fn talk<I: Source, O: Sink, E: Sink>(
     alloc: Global,
     input: &mut I,

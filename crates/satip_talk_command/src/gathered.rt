@@ -1,10 +1,10 @@
 //! Replies that wait to be put together.
 
-ghost use Rattle.std.specs.Prelude.{◌≡◌, ◌+◌, ◌≤◌, [], ◌++◌, length, vec_len, vec_capacity, IfOk};
+ghost use Rattle.std.specs.Prelude.{◌≡◌, [], IfOk};
 ghost use Rattle.satip_base.specs.Streams.{Puts};
 ghost use Rattle.satip_talk_command.specs.Gathering.{Gathers};
 
-use satip_base::{Put, Sink, Want};
+use satip_base::{Put, Sink, Want, append_reserved, with_room};
 use std::alloc::Global;
 use std::marker::Model;
 
@@ -33,13 +33,10 @@ impl Gathered {
     pub(crate) fn make(alloc: Global) -> Result<Gathered, Want>
         ensures empty { IfOk result (λ gathered. gathered ≡ []) }
     {
-        match Vec::with_capacity(alloc, ROOM) {
-            Ok(waiting) => Ok(Gathered {
-                waiting,
-                begun: false,
-            }),
-            Err(_) => Err(Want),
-        }
+        Ok(Gathered {
+            waiting: with_room(alloc, ROOM)?,
+            begun: false,
+        })
     }
 
     /// Has bytes wait behind the others. The first bytes, and bytes for which there is no room, are
@@ -50,7 +47,7 @@ impl Gathered {
             self.old self.new bytes.now result }
     {
         if self.begun && bytes.len() <= ROOM - self.waiting.len() {
-            append(&mut self.waiting, bytes);
+            append_reserved(&mut self.waiting, bytes);
             return Put::Whole;
         }
         match self.flush(output) {
@@ -85,14 +82,4 @@ impl Gathered {
         self.waiting.clear();
         put
     }
-}
-
-// Appends within the memory that the list has.
-fn append(list: &mut Vec<u8>, bytes: &[u8])
-    requires room { vec_len list.old + length bytes.now ≤ vec_capacity list.old }
-    ensures items { list.new.items ≡ list.old.items ++ bytes.now }
-    ensures count { vec_len list.new ≡ vec_len list.old + length bytes.now }
-    ensures capacity { vec_capacity list.old ≤ vec_capacity list.new }
-{
-    list.extend_from_slice(bytes).unwrap();
 }

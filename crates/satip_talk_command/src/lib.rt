@@ -1,4 +1,5 @@
-//! The command `talk` as a function of its input, its output and its errors: one RTSP connection.
+//! The command `talk` as a function of its input, its output and its errors: one RTSP connection
+//! (RFC 2326, section 10).
 #![tactic(auto)]
 
 mod answering;

@@ -6,9 +6,9 @@ ghost use Rattle.satip_tunnel_serve.specs.Asides.{IsSpareFor};
 
 use crate::aside::Spare;
 use crate::run::TunnelSpace;
-use satip_base::{Out, Want};
+use satip_base::{Out, Want, with_room};
 use satip_crew::Space;
-use satip_serve::{make_gears, make_pump_rooms, with_room};
+use satip_serve::{make_gears, make_pump_rooms};
 use satip_tunnel_worker::WorkerRoom;
 use std::alloc::Global;
 

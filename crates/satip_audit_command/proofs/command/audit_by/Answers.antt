@@ -4,8 +4,8 @@ use Rattle.satip_audit_command.proofs.command.audit_by.Goals as goal
 pub returns-in-Ok-clause-ends : goal.returns-in-Ok-clause-ends
 returns-in-Ok-clause-ends g c =
     opened_ends g.K.Config.Source.tells g.I.Source.tells g.O.Sink.tells g.E.Sink.tells _ _ _ g.K.Config.Source.feed _ _ _ _ _ _ _ _ c.audit-end.result
-    c.in-Ok.ensures.no_fault c.in-Ok.ensures.started c.audit-end.ensures.done c.audit-end.ensures.output_fault c.audit-end.ensures.configuration
-    c.audit-end.ensures.journal c.audit-end.ensures.input_fault c.audit-end.ensures.long c.audit-end.ensures.out_of_memory
+    c.in-Ok.ensures.no_fault c.in-Ok.ensures.started c.in-Ok.ensures.untaken c.audit-end.ensures.done c.audit-end.ensures.output_fault
+    c.audit-end.ensures.configuration c.audit-end.ensures.journal c.audit-end.ensures.input_fault c.audit-end.ensures.long c.audit-end.ensures.out_of_memory
     c.audit-end.ensures.configuration_taken c.audit-end.ensures.settled c.tell.ensures.says
 
 pub returns-in-Ok-clause-input_fault : goal.returns-in-Ok-clause-input_fault

@@ -24,9 +24,10 @@ returns-in-Ok-clause-ends g c =
     record {
       status_is = has_end end;
       served_by = served_by g.K.Config.Source.tells _ given left_of_it run.result.last (λ l a b. Configured g.K.Config.Source.tells a b l.server.setting.config)
-          opened.started run.ensures.config;
+          opened.started opened.untaken run.ensures.config;
       ran = run.ensures.ran;
       config = faults_told _ _ _ run.result.last run.result.unused end left;
+      config_limit = omega (arith, run.ensures.limit, opened.untaken);
       read = λ other. run.ensures.read_through (λ is. other (ap journal_status is)) ∙ opened.started.faults;
       kits = run.ensures.kits;
       fresh = run.ensures.fresh;
@@ -40,7 +41,7 @@ returns-in-Ok-clause-ends g c =
           fault_told (λ line. Says g.E.Sink.tells (g.E.Sink.drain c.args.errors.now) (g.E.Sink.drain c.tell_journal.new.errors) line)
           (λ fault. GivenFrom g.K.Config.Source.tells (g.K.Desk.text c.args.desk.now c.args.name.now)
           (λ a. Refused g.K.Config.Source.tells a (g.K.Config.Source.feed c.run_source-end.new.source) fault)) end c.tell_journal.ensures.says
-          (λ fault same. record { source = given; started = opened.started; said = run.ensures.configuration fault same }) is;
+          (λ fault same. record { source = given; started = opened.started; untaken = opened.untaken; said = run.ensures.configuration fault same }) is;
       input = input_told given left_of_it end opened.started.faults run.ensures.input_fault run.ensures.read_through;
       journal_fault = λ is none. journals_told _ _ _ run.result.last run.result.unused end left is none;
       doors_fault = λ is none. doors_told _ _ _ run.result.last run.result.unused end left is none;
@@ -53,6 +54,7 @@ returns-in-Err-clause-ends g c = record {
   served_by = tt;
   ran = tt;
   config = c.in-Err.ensures.failed;
+  config_limit = tt;
   read = λ other. absurd (other refl);
   kits = rw (c.in-Err.ensures.kits ∙ c.requires.new) (refl, refl);
   fresh = rw (c.in-Err.ensures.kits ∙ c.requires.new) tt;

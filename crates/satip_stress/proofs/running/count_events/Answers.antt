@@ -6,7 +6,7 @@ use Rattle.satip_stress.proofs.running.count_events.Goals as goal
 
 pub loop-place-init : goal.loop-place-init
 loop-place-init c = record {
-  words = c.from_seed-words.ensures ∙ ap of_seed c.seed_bytes.ensures.seed;
+  words = c.from_seed-words.ensures ∙ ap of_seed c.make_seed.ensures.seed;
   events = c.in_ok-run.ensures.events;
   moment = omega (arith, c.in_ok-run.ensures.moment);
   cseq = omega (arith, c.in_ok-run.ensures.cseq);

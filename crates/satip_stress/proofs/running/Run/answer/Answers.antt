@@ -17,7 +17,7 @@ returns-in-1-clause-goes c =
     let P : Client → Type 0 = λ x. Goes c.args.self.now (Asked x.peer (draw_of 0) (options c.args.self.now.cseq x)) c.args.self.now.moment
     (c.args.self.now.cseq + 1) c.options.new.self in
     goes_as _ _ _ _ _ _ _ _ (event_first _ _ _ is) (moment_rests _ _ (omega (arith, is))) (cseq_asks _ _ (omega (arith, is)) (omega (arith, is)))
-    (subst P c.first.ensures.first c.options.ensures.goes)
+    (subst P c.first_client.ensures.first c.options.ensures.goes)
 
 pub returns-in-2-clause-goes : goal.returns-in-2-clause-goes
 returns-in-2-clause-goes c =
@@ -25,7 +25,7 @@ returns-in-2-clause-goes c =
     let P : Client → Type 0 = λ x. Goes c.args.self.now (Asked x.peer (draw_of 0) (options c.args.self.now.cseq x)) c.args.self.now.moment
     (c.args.self.now.cseq + 1) c.options-in-2.new.self in
     goes_as _ _ _ _ _ _ _ _ (event_second _ _ _ is) (moment_rests _ _ (omega (arith, is))) (cseq_asks _ _ (omega (arith, is)) (omega (arith, is)))
-    (subst P c.second.ensures.second c.options-in-2.ensures.goes)
+    (subst P c.second_client.ensures.second c.options-in-2.ensures.goes)
 
 pub returns-in-3-clause-goes : goal.returns-in-3-clause-goes
 returns-in-3-clause-goes c =

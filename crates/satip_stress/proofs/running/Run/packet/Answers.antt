@@ -6,7 +6,7 @@ pub returns : goal.returns
 returns c = record {
   goes = record {
     setting = c.packet.ensures.setting;
-    made = makes_packet _ _ _ _ c.packet_of.ensures.packet c.packet.ensures.made;
+    made = makes_packet _ _ _ _ c.make_packet.ensures.packet c.packet.ensures.made;
     events = c.packet.ensures.events;
     bounded = c.packet.ensures.bounded;
     kept = c.requires.ready.kept;

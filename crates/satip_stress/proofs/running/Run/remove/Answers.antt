@@ -7,7 +7,7 @@ pub returns : goal.returns
 returns c = record {
   goes = record {
     setting = c.request.ensures.setting;
-    made = makes_asked _ _ _ _ _ _ _ _ (ap (λ (x : Client). x.peer) c.first.ensures.first) c.draw_of_number.ensures.draw c.renew_removing.ensures.renewed
+    made = makes_asked _ _ _ _ _ _ _ _ (ap (λ (x : Client). x.peer) c.first_client.ensures.first) c.draw_of_number.ensures.draw c.renew_removing.ensures.renewed
         c.request.ensures.made;
     events = c.request.ensures.events;
     bounded = c.request.ensures.bounded;
