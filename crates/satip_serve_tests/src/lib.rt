@@ -9,6 +9,8 @@ mod deeds;
 #[cfg(test)]
 mod faults;
 #[cfg(test)]
+mod outcomes;
+#[cfg(test)]
 mod reel;
 #[cfg(test)]
 mod refused;
@@ -18,8 +20,6 @@ mod serving;
 mod shared;
 #[cfg(test)]
 mod together;
-#[cfg(test)]
-mod told;
 #[cfg(test)]
 mod tunnelling;
 #[cfg(test)]

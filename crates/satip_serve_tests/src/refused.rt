@@ -3,8 +3,8 @@
 ghost use Rattle.std.specs.Prelude.{◌≡◌, None, IfOk};
 ghost use Rattle.satip_serving.specs.Handed.{nothing_handed};
 
+use crate::outcomes::Outcome;
 use crate::shared::{SERVE, desk, kits, run, worker};
-use crate::told::Told;
 use satip_fixtures::texts::OPTIONS;
 use satip_memory_desk::MemoryDesk;
 use std::alloc::Global;
@@ -33,11 +33,11 @@ fn two_workers_serve_or_their_kits_come_back(rt: HostRuntime) -> Result<(), Fail
     let mut desk = desk_for_two(rt.alloc())?;
     let ran = run(&rt, rt.alloc(), SERVE, b"", &mut desk)?;
     let told = ran.told(match &ran.ended.last {
-        Some(last) if last.jobs.workers.len() == 2 => Some(Told::Served),
-        Some(_) => Some(Told::Wrong),
+        Some(last) if last.jobs.workers.len() == 2 => Some(Outcome::Served),
+        Some(_) => Some(Outcome::Wrong),
         None => None,
     });
     println!(rt; "{told}")?;
-    assert!(rt; told != Told::Wrong);
+    assert!(rt; told != Outcome::Wrong);
     Ok(())
 }

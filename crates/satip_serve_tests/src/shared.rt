@@ -10,7 +10,7 @@ ghost use Rattle.satip_serving.specs.Handed.{nothing_handed};
 ghost use Rattle.satip_world.specs.Halls.{Hall, fresh_hall};
 ghost use Rattle.satip_world.specs.Outboxes.{Outbox, fresh_outbox};
 
-use crate::told::Told;
+use crate::outcomes::Outcome;
 use satip_base::{Text, Want};
 use satip_fixtures::CLIENT;
 use satip_fixtures::texts::OPTIONS_REPLY;
@@ -71,13 +71,13 @@ impl<K: Desk> Ran<K> {
     }
 
     /// What is told of it, given what is told of the workers' kits if jobs began.
-    pub fn told(&self, served: Option<Told>) -> Told {
+    pub fn told(&self, served: Option<Outcome>) -> Outcome {
         match (self.ended.status, served, &self.ended.unused) {
             (0, Some(served), None) => served,
-            (70, None, Some(jobs)) if jobs.workers.len() == 2 => Told::KitsUnused,
-            (70, None, None) => Told::NoKits,
-            (5, None, None) => Told::NoConfiguration,
-            _ => Told::Wrong,
+            (70, None, Some(jobs)) if jobs.workers.len() == 2 => Outcome::KitsUnused,
+            (70, None, None) => Outcome::NoKits,
+            (5, None, None) => Outcome::NoConfiguration,
+            _ => Outcome::Wrong,
         }
     }
 }

@@ -4,8 +4,8 @@
 //! get there.
 
 use crate::deeds::{Deeds, Gate, OPEN};
+use crate::outcomes::Outcome;
 use crate::shared::{JOURNAL, Ran, SERVE, run};
-use crate::told::Told;
 use crate::waiting::Piece;
 use crate::waiting_desk::{Plan, WaitingDesk, WaitingWorker, run_plan};
 use satip_fixtures::texts::{OPTIONS, OPTIONS_REPLY, SETUP};
@@ -88,21 +88,21 @@ const MEETING_PLAN: Plan = Plan {
 };
 
 // What is told of the kits of workers, the first of which sent these bytes.
-fn told_of(workers: &[WaitingWorker], sent: &[u8]) -> Told {
+fn told_of(workers: &[WaitingWorker], sent: &[u8]) -> Outcome {
     match workers {
         [first, second] => {
             if first.doors.have_sent(sent) && second.doors.have_sent(OPTIONS_REPLY) {
-                Told::Served
+                Outcome::Served
             } else {
-                Told::WrongBytes
+                Outcome::WrongBytes
             }
         }
-        _ => Told::WrongKits,
+        _ => Outcome::WrongKits,
     }
 }
 
 // What is told of a run whose first client is sent these bytes.
-fn told(ran: &Ran<WaitingDesk>, sent: &[u8]) -> Told {
+fn told(ran: &Ran<WaitingDesk>, sent: &[u8]) -> Outcome {
     let last = ran.ended.last.as_ref();
     ran.told(last.map(|last| told_of(&last.jobs.workers, sent)))
 }
@@ -113,7 +113,7 @@ fn all_jobs_of_a_serve_meet(rt: HostRuntime) -> Result<(), Fail> {
     let deeds = Deeds::new();
     let ran = run_plan(&rt, rt.alloc(), SERVE, MEETING_PLAN, &deeds)?;
     assert!(rt; !deeds.gave_up());
-    assert_eq!(rt; told(&ran, OPTIONS_REPLY), Told::Served);
+    assert_eq!(rt; told(&ran, OPTIONS_REPLY), Outcome::Served);
     Ok(())
 }
 
@@ -124,7 +124,7 @@ fn two_workers_play_a_recording_together(rt: HostRuntime) -> Result<(), Fail> {
     let told = told(&ran, REPLIES);
     println!(rt; "{told}")?;
     assert!(rt; !deeds.gave_up());
-    assert_eq!(rt; told, Told::Served);
+    assert_eq!(rt; told, Outcome::Served);
     Ok(())
 }
 
@@ -143,7 +143,7 @@ fn their_journals_are_one_history(rt: HostRuntime) -> Result<(), Fail> {
     let deeds = Deeds::new();
     let ran = run_plan(&rt, alloc, JOURNAL, PLAN, &deeds)?;
     assert!(rt; !deeds.gave_up());
-    assert_eq!(rt; told(&ran, REPLIES), Told::Served);
+    assert_eq!(rt; told(&ran, REPLIES), Outcome::Served);
     assert_eq!(rt; ran.ended.journals.len(), 6);
     let journals = joined(alloc, &ran)?;
     let mut desk = WaitingDesk::new(alloc, &deeds, PLAN);

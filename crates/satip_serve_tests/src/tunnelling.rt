@@ -1,9 +1,9 @@
 //! The command `tunnel`: RTP inside the RTSP connections (RFC 2326, section 10.12).
 
 use crate::deeds::{Deeds, Gate, OPEN};
+use crate::outcomes::Outcome;
 use crate::shared::{Ran, TUNNEL, desk_for_one, have_served, run};
 use crate::together::{PLAY, SECOND, TEARDOWN};
-use crate::told::Told;
 use crate::waiting::{Piece, Served};
 use crate::waiting_desk::{Plan, WaitingDesk, WaitingWorker, run_plan};
 use satip_fixtures::texts::{OPTIONS, OPTIONS_REPLY, SETUP_INTERLEAVED};
@@ -102,21 +102,21 @@ fn has_played(served: Option<&Served>) -> bool {
 }
 
 // What is told of the kits of workers, the first of which played.
-fn told_of(workers: &[WaitingWorker]) -> Told {
+fn told_of(workers: &[WaitingWorker]) -> Outcome {
     match workers {
         [first, second] => {
             if has_played(first.doors.served()) && second.doors.have_sent(OPTIONS_REPLY) {
-                Told::Served
+                Outcome::Served
             } else {
-                Told::WrongBytes
+                Outcome::WrongBytes
             }
         }
-        _ => Told::WrongKits,
+        _ => Outcome::WrongKits,
     }
 }
 
 // What is told of a run.
-fn told(ran: &Ran<WaitingDesk>) -> Told {
+fn told(ran: &Ran<WaitingDesk>) -> Outcome {
     let left = ran.ended.tunnel.as_ref();
     ran.told(left.map(|left| told_of(&left.jobs.workers)))
 }
@@ -130,7 +130,7 @@ fn frames_are_sent_while_a_connection_is_idle(rt: HostRuntime) -> Result<(), Fai
     println!(rt; "{told}")?;
     assert!(rt; !deeds.gave_up());
     assert!(rt; ran.ended.last.is_none());
-    assert_eq!(rt; told, Told::Served);
+    assert_eq!(rt; told, Outcome::Served);
     Ok(())
 }
 

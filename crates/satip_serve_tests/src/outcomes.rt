@@ -1,10 +1,10 @@
-//! What is told of a run.
+//! What comes of a run of jobs.
 
 use std::fmt;
 
 /// How the workers were served, or what came of a run whose memory is refused.
 #[derive(Clone, Copy, Debug, PartialEq, Eq)]
-pub enum Told {
+pub enum Outcome {
     /// Each worker was served to its end.
     Served,
     /// A connection was sent other bytes.
@@ -21,16 +21,16 @@ pub enum Told {
     Wrong,
 }
 
-impl fmt::Display for Told {
+impl fmt::Display for Outcome {
     fn fmt<W: fmt::Write>(&self, f: &mut fmt::Formatter<W>) -> fmt::Result {
         f.write_str(match self {
-            Told::Served => "served",
-            Told::WrongBytes => "wrong bytes",
-            Told::WrongKits => "wrong kits",
-            Told::KitsUnused => "no memory, kits unused",
-            Told::NoKits => "no memory, no kits given",
-            Told::NoConfiguration => "the desk had no memory",
-            Told::Wrong => "wrong",
+            Outcome::Served => "served",
+            Outcome::WrongBytes => "wrong bytes",
+            Outcome::WrongKits => "wrong kits",
+            Outcome::KitsUnused => "no memory, kits unused",
+            Outcome::NoKits => "no memory, no kits given",
+            Outcome::NoConfiguration => "the desk had no memory",
+            Outcome::Wrong => "wrong",
         })
     }
 }
