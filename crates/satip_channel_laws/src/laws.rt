@@ -2,7 +2,7 @@
 
 ghost use Rattle.satip_channel_laws.specs.Channels.{ChannelsCarryPayload};
 
-use satip_laws::law_2;
+use satip_laws::payload_is_selected;
 use satip_targets::datagrams_go_to_one;
 use satip_tunnel::lane_numbers_rise;
 
@@ -15,5 +15,5 @@ pub fn channels_carry_payload()
 {
     datagrams_go_to_one();
     lane_numbers_rise();
-    law_2();
+    payload_is_selected();
 }

@@ -4,7 +4,9 @@ ghost use Rattle.std.specs.Prelude.{◌<◌, ◌^◌, length};
 ghost use Rattle.satip_plain.specs.Histories.{Legal};
 ghost use Rattle.satip_serving.specs.Laws.{SendsSelected, ObeysOwners, TellsBusy, GivesRecordings};
 
-use satip_laws::{law_2, law_3, law_4, law_9};
+use satip_laws::{
+    busy_where_blocked, only_owner_changes, packets_are_of_recordings, payload_is_selected,
+};
 use satip_plain::prefix_is_legal;
 use satip_shared::{SharedPass, SharedServer};
 
@@ -20,8 +22,8 @@ pub fn keeps_laws(server: &SharedServer, pass: &SharedPass)
 {
     let (_server, _pass) = (server, pass);
     prefix_is_legal();
-    law_2();
-    law_3();
-    law_4();
-    law_9();
+    payload_is_selected();
+    only_owner_changes();
+    busy_where_blocked();
+    packets_are_of_recordings();
 }

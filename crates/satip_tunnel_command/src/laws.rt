@@ -8,7 +8,7 @@ ghost use Rattle.satip_tunnel_command.specs.Sent.{SendsPayloads};
 
 use satip_channel_laws::channels_carry_payload;
 use satip_interleave::{SharedTunnel, TunnelPass};
-use satip_laws::{law_2, law_3, law_4};
+use satip_laws::{busy_where_blocked, only_owner_changes, payload_is_selected};
 use satip_plain::prefix_is_legal;
 
 // The server's entries of what a pass has seen, where that is legal, keep the laws.
@@ -22,8 +22,8 @@ pub(crate) fn keeps_laws(server: &SharedTunnel, pass: &TunnelPass)
 {
     let (_server, _pass) = (server, pass);
     prefix_is_legal();
-    law_2();
-    law_3();
-    law_4();
+    payload_is_selected();
+    only_owner_changes();
+    busy_where_blocked();
     channels_carry_payload();
 }
