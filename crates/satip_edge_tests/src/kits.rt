@@ -1,5 +1,6 @@
 //! Kits over loopback.
 
+use crate::network::listen;
 use satip_base::Text;
 use satip_config::Config;
 use satip_fixtures::config_with;
@@ -117,10 +118,22 @@ fn settings_have_one_value_each(rt: HostRuntime) {
 }
 
 #[test]
-fn a_port_in_use_is_named(rt: HostRuntime) -> Result<(), Fail> {
+fn an_address_that_is_not_ours_is_named(rt: HostRuntime) -> Result<(), Fail> {
     let mut config = config(rt.alloc())?;
     config.address = 0xc000_0201;
     assert!(rt; matches!(fault(rt, rt, &config), Some(KitsFault::RtspPort(_))));
+    Ok(())
+}
+
+#[test]
+fn a_port_in_use_is_named(rt: HostRuntime) -> Result<(), Fail> {
+    let used = listen(&rt, 0, 0)?;
+    let mut config = config(rt.alloc())?;
+    config.rtsp_port = used.rtsp_port()?;
+    assert!(rt; matches!(fault(rt, rt, &config), Some(KitsFault::RtspPort(_))));
+    config.rtsp_port = 0;
+    config.http_port = used.http_port()?;
+    assert!(rt; matches!(fault(rt, rt, &config), Some(KitsFault::HttpPort(_))));
     Ok(())
 }
 

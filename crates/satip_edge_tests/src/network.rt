@@ -241,7 +241,7 @@ fn a_port_in_use_is_refused(rt: HostRuntime) -> Result<(), Fail> {
     Ok(())
 }
 
-fn listen(rt: &HostRuntime, rtsp_port: u16, http_port: u16) -> Result<Listeners, Fail> {
+pub(crate) fn listen(rt: &HostRuntime, rtsp_port: u16, http_port: u16) -> Result<Listeners, Fail> {
     match Listeners::bind(rt, LOCALHOST, rtsp_port, http_port, 8) {
         Ok(listeners) => Ok(listeners),
         Err(_) => Err(Fail::from("no listeners")),

@@ -2,10 +2,12 @@
 ghost use Rattle.std.specs.Prelude.{◌≡◌, false, IfOk};
 
 use satip_base::{Address, Out, Put};
+use satip_fixtures::texts::{SETUP, joined, repeated};
+use satip_fixtures::{CLIENT, packet_bytes};
 use satip_memory::{MemoryClock, MemoryConn, MemoryDoors, MemoryOutlet, MemoryPacer, MemoryStore};
 use satip_pump::{Batch, JobEnd, PumpKit, TickKit, run_pump, run_ticker};
-use satip_run_fixtures::serving::{KEY, PLAY, SETUP, joined};
-use satip_run_fixtures::setting::{CLIENT, give, letters, packet_bytes, play, set_up, solo};
+use satip_run_fixtures::serving::{KEY, PLAY};
+use satip_run_fixtures::setting::{give, letters, play, set_up, solo};
 use satip_solo::Solo;
 use satip_worker::{Draws, Room, WorkerEnd, WorkerKit, run_worker, serve_connection};
 use satip_world::{Conn, ConnEnd, DoorKind, Outlet, Received};
@@ -123,10 +125,7 @@ fn pump<R: Wait + Sync>(
     solo: &mut Solo,
     tally: &Tally,
 ) -> Result<JobEnd, Fail> {
-    let mut text = Vec::new(alloc);
-    for _ in 0..7u8 {
-        text.extend_from_slice(&packet_bytes())?;
-    }
+    let text = repeated(alloc, &[(packet_bytes(16).as_slice(), 7)])?;
     let mut store = MemoryStore::make(alloc, &[])?;
     store.add(1, &text, &[], &[])?;
     let mut kit = PumpKit {

@@ -2,11 +2,13 @@
 ghost use Rattle.std.specs.Prelude.{◌≡◌, false, IfOk};
 
 use satip_base::{Out, Want};
+use satip_fixtures::packet_bytes;
+use satip_fixtures::texts::repeated;
 use satip_history::Entry;
 use satip_memory::{MemoryOutlet, MemoryPacer, MemoryStore};
 use satip_plain::{Answer, Event, Work};
 use satip_pump::{Batch, JobEnd, PumpKit, run_pump};
-use satip_run_fixtures::setting::{ask, end, give, letters, packet_bytes, set_up, solo};
+use satip_run_fixtures::setting::{ask, end, give, letters, set_up, solo};
 use satip_solo::Solo;
 use std::alloc::Global;
 use std::process::Abort;
@@ -19,14 +21,15 @@ const TOLD: Answer = Answer::Work(Work::Tune { mux: 1, tune: 1 });
 
 const STOPPING: Answer = Answer::Work(Work::Stopping);
 
-// What a pump came to: its end, the kinds of all entries, the answer of the last one, and how often
-// it paused.
+// What a pump came to: its end, the kinds of all entries, the answer of the last one, how often it
+// paused, and how many sources are out.
 #[derive(Drop)]
 struct Pumped {
     end: JobEnd,
     kinds: Vec<u8>,
     last: Option<Answer>,
     pauses: u64,
+    lent: u64,
 }
 
 // A kit with this recording of the first multiplex, whose starts of these numbers fail, and which
@@ -50,13 +53,15 @@ fn kit(
 }
 
 // A recording of so many packets, with bytes before and behind them.
-fn recording(alloc: Global, before: &[u8], count: u8, behind: &[u8]) -> Result<Vec<u8>, Fail> {
-    let mut text = Vec::from_slice(alloc, before)?;
-    for _ in 0..count {
-        text.extend_from_slice(&packet_bytes())?;
-    }
-    text.extend_from_slice(behind)?;
-    Ok(text)
+fn recording(alloc: Global, before: &[u8], count: usize, behind: &[u8]) -> Result<Vec<u8>, Fail> {
+    repeated(
+        alloc,
+        &[
+            (before, 1),
+            (packet_bytes(16).as_slice(), count),
+            (behind, 1),
+        ],
+    )
 }
 
 // A service whose call 0 was the SETUP.
@@ -82,10 +87,7 @@ fn run<R: Wait + Sync>(
 
 // The answer of the entry at a place.
 fn answer_at(solo: &Solo, place: usize) -> Option<Answer> {
-    match solo.entries().get(place) {
-        Some(entry) => Some(entry.answer),
-        None => None,
-    }
+    solo.entries().get(place).map(|entry| entry.answer)
 }
 
 // Runs a pump over a service.
@@ -105,6 +107,7 @@ fn pump<R: Wait + Sync>(
         kinds,
         last,
         pauses: kit.pacer.pauses(),
+        lent: kit.store.lent(),
     })
 }
 
@@ -117,9 +120,11 @@ fn pump_tuned<R: Wait + Sync>(rt: &R, alloc: Global, stop: u64, kit: Kit) -> Res
     pump(rt, alloc, &mut solo, kit)
 }
 
-// Compares the end with a stop, and the kinds of all entries with those wanted.
+// Compares the end with a stop, with no source out, and the kinds of all entries with those wanted.
 fn is_stopped(rt: &impl Abort, pumped: &Pumped, kinds: &[u8]) {
     assert_eq!(rt; pumped.end, JobEnd::Stopped);
+    assert!(rt; pumped.last == Some(STOPPING));
+    assert_eq!(rt; pumped.lent, 0);
     assert_eq!(rt; pumped.kinds.as_slice(), kinds);
 }
 
@@ -130,7 +135,7 @@ fn rubbish_and_a_tail_are_no_packets(rt: HostRuntime) -> Result<(), Fail> {
     let kit = kit(alloc, &[], &text, &[], &[])?;
     let pumped = pump_tuned(&rt, alloc, 5, kit)?;
     is_stopped(&rt, &pumped, b"RAPPESA");
-    assert!(rt; pumped.last == Some(STOPPING));
+    assert_eq!(rt; pumped.pauses, 1);
     Ok(())
 }
 

@@ -15,14 +15,12 @@ use std::process::Abort;
 use std::test::Fail;
 
 // The Stop comes before the call of its number, and before no other.
-fn rows_of_stops(n: u64)
+fn rows_of_stops()
     ensures here { is_at (Some 2) 2 ≡ true }
     ensures later { is_at (Some 2) 1 ≡ false }
     ensures never { is_at None 2 ≡ false }
     ensures nothing { Before false [] }
-{
-    let _ = n;
-}
+{}
 
 // A server with one front end.
 fn server(alloc: Global) -> Result<Server, Fail>
@@ -57,7 +55,6 @@ fn stops_third(
 #[test]
 fn the_stop_comes_before_its_call(rt: HostRuntime) -> Result<(), Fail> {
     let alloc = rt.alloc();
-    rows_of_stops(2);
     let mut out = Out::make(alloc)?;
     let mut solo = solo(alloc, Some(2))?;
     let ask = Event::Ask { front: 1 };

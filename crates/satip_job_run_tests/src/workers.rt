@@ -1,11 +1,11 @@
 //! Workers and the connections of their doors.
 ghost use Rattle.std.specs.Prelude.{◌≡◌, false, IfOk};
 
+use satip_fixtures::CLIENT;
+use satip_fixtures::texts::{OPTIONS, OPTIONS_REPLY, SETUP, joined};
 use satip_memory::{MemoryConn, MemoryDoors, MemoryOutlet, MemoryPacer};
-use satip_run_fixtures::serving::{
-    GET, HEAD, KEY, OPTIONS, OPTIONS_REPLY, SETUP, SETUP_REPLY, joined,
-};
-use satip_run_fixtures::setting::{CLIENT, letters, solo};
+use satip_run_fixtures::serving::{GET, HEAD, KEY, SETUP_REPLY};
+use satip_run_fixtures::setting::{letters, solo};
 use satip_solo::Solo;
 use satip_worker::{Room, WorkerEnd, WorkerKit, run_worker};
 use satip_world::{ConnEnd, DoorKind};

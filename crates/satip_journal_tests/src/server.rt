@@ -5,7 +5,7 @@ ghost use Rattle.satip_turn.specs.Shown.{IsOf, Knows};
 
 use satip_base::Out;
 use satip_fixtures::config_with;
-use satip_journal::{Journal, worked_journal};
+use satip_journal::Journal;
 use satip_memory::MemorySink;
 use satip_plain::{Answer, Beat, Event, Work};
 use satip_records::LineRoom;
@@ -57,7 +57,6 @@ fn ask_stop_ask<R: Wait + Sync>(
 
 #[test]
 fn a_journal_has_the_places_of_its_own_entries(rt: HostRuntime) -> Result<(), Fail> {
-    worked_journal();
     let mut out = Out::make(rt.alloc())?;
     let sink = MemorySink::make(rt.alloc(), &[], 0)?;
     let line = LineRoom::make(rt.alloc())?;

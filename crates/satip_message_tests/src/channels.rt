@@ -3,9 +3,7 @@
 use crate::framed::framer_at;
 use satip_base::Ports;
 use satip_base::limits::REPLY_BYTES;
-use satip_channels::{
-    ChannelReply, interleaved, read_request, request, worked_replies, worked_transports,
-};
+use satip_channels::{ChannelReply, interleaved, read_request, request};
 use satip_frame::Break;
 use satip_rtsp::Request;
 use std::alloc::Global;
@@ -36,7 +34,6 @@ fn turns(told: &mut ChannelReply, reply: &[u8], want: &[u8]) -> bool {
 
 #[test]
 fn setup_asks_for_channels(rt: HostRuntime) -> Result<(), Fail> {
-    worked_transports();
     let text = b"SETUP rtsp://h/?src=1 RTSP/1.0\r\n\
         CSeq: 1\r\n\
         Transport: RTP/AVP/TCP;unicast;interleaved=0-1\r\n\r\n";
@@ -66,7 +63,6 @@ fn setup_asks_for_channels(rt: HostRuntime) -> Result<(), Fail> {
 
 #[test]
 fn reply_to_setup_tells_channels(rt: HostRuntime) -> Result<(), Fail> {
-    worked_replies();
     let mut told = ChannelReply::make(rt.alloc())?;
     let reply: &[u8] = b"RTSP/1.0 200 OK\r\n\
         CSeq: 1\r\n\

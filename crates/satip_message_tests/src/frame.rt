@@ -1,9 +1,7 @@
 //! Texts at the limits, fed in pieces of several sizes.
+use satip_fixtures::texts::{OPTIONS, repeated};
 use satip_frame::{Framer, Message, Step};
-use std::alloc::{AllocError, Global};
 use std::test::Fail;
-
-const OPTIONS: &[u8] = b"OPTIONS * RTSP/1.0\r\nCSeq: 1\r\n\r\n";
 
 // Feeds the text in pieces of at most `size` bytes, and counts the messages up to the last step.
 fn read_all(framer: &mut Framer, text: &[u8], size: usize) -> (usize, Step) {
@@ -201,17 +199,6 @@ const ROWS: &[Row] = &[
     },
 ];
 
-// The parts one after another.
-fn text_of(alloc: Global, parts: &[(&[u8], usize)]) -> Result<Vec<u8>, AllocError> {
-    let mut text = Vec::new(alloc);
-    for (part, times) in parts {
-        for _ in 0..*times {
-            text.extend_from_slice(part)?;
-        }
-    }
-    Ok(text)
-}
-
 // Whether no more is taken and no other step follows once a framer has ended.
 fn stays_ended(framer: &mut Framer, step: Step) -> bool {
     step == Step::More || framer.feed(OPTIONS) == 0 && framer.next() == step
@@ -221,7 +208,7 @@ fn stays_ended(framer: &mut Framer, step: Step) -> bool {
 fn texts_have_the_messages_that_their_rows_say(rt: HostRuntime) -> Result<(), Fail> {
     let mut framer = Framer::make(rt.alloc())?;
     for row in ROWS {
-        let text = text_of(rt.alloc(), row.parts)?;
+        let text = repeated(rt.alloc(), row.parts)?;
         let name = row.name;
         framer.reset();
         let seen = read_all(&mut framer, &text, row.size);

@@ -2,11 +2,10 @@
 ghost use Rattle.std.specs.Prelude.{◌≡◌, [], ◌∷◌, ◌++◌, codes, replicate};
 ghost use Rattle.satip_parts.specs.Frames.{Between, frame, behind};
 
+use satip_fixtures::texts::OPTIONS;
 use satip_frame::Step;
 use satip_parts::Parter;
 use std::test::Fail;
-
-const OPTIONS: &[u8] = b"OPTIONS * RTSP/1.0\r\nCSeq: 1\r\n\r\n";
 
 const FRAME_AND_OPTIONS: &[u8] =
     b"$\x01\x00\x04\x00\x00\x00\x00OPTIONS * RTSP/1.0\r\nCSeq: 1\r\n\r\n";
@@ -131,7 +130,6 @@ fn all_follow(parter: &mut Parter, feeds: &[Feed]) -> bool {
 
 #[test]
 fn frames_are_passed_over_as_their_rows_say(rt: HostRuntime) -> Result<(), Fail> {
-    worked_frames();
     let mut parter = Parter::make(rt.alloc())?;
     for (name, feeds) in ROWS {
         parter.reset();

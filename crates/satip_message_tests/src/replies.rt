@@ -18,33 +18,30 @@ fn a_reply_is_read_once_it_is_whole(rt: HostRuntime) -> Result<(), Fail> {
     for cut in 0..SETUP.len() {
         assert!(rt; is_more(&SETUP[..cut]));
     }
-    match read_reply(SETUP) {
-        ReplyRead::Reply(view) => {
-            assert_eq!(rt; view.length, 85);
-            assert_eq!(rt; view.status, 200);
-            assert_eq!(rt; view.cseq, Some(1));
-            assert!(rt; view.session == Some(b"a".as_slice()));
-            assert_eq!(rt; view.timeout, 5);
-            assert_eq!(rt; view.stream, Some(17));
-        }
-        ReplyRead::More | ReplyRead::Bad => assert!(rt; false),
-    }
+    let ReplyRead::Reply(view) = read_reply(SETUP) else {
+        return Err(Fail::from("no reply"));
+    };
+    assert_eq!(rt; view.length, 85);
+    assert_eq!(rt; view.status, 200);
+    assert_eq!(rt; view.cseq, Some(1));
+    assert!(rt; view.session == Some(b"a".as_slice()));
+    assert_eq!(rt; view.timeout, 5);
+    assert_eq!(rt; view.stream, Some(17));
     Ok(())
 }
 
 #[test]
 fn a_reply_may_say_little(rt: HostRuntime) -> Result<(), Fail> {
-    match read_reply(b"RTSP/1.0 454\nSession: ;timeout=0\n\nRTSP/1.0 200") {
-        ReplyRead::Reply(view) => {
-            assert_eq!(rt; view.length, 34);
-            assert_eq!(rt; view.status, 454);
-            assert_eq!(rt; view.cseq, None);
-            assert!(rt; view.session.is_none());
-            assert_eq!(rt; view.timeout, 60);
-            assert_eq!(rt; view.stream, None);
-        }
-        ReplyRead::More | ReplyRead::Bad => assert!(rt; false),
-    }
+    let text = b"RTSP/1.0 454\nSession: ;timeout=0\n\nRTSP/1.0 200";
+    let ReplyRead::Reply(view) = read_reply(text) else {
+        return Err(Fail::from("no reply"));
+    };
+    assert_eq!(rt; view.length, 34);
+    assert_eq!(rt; view.status, 454);
+    assert_eq!(rt; view.cseq, None);
+    assert!(rt; view.session.is_none());
+    assert_eq!(rt; view.timeout, 60);
+    assert_eq!(rt; view.stream, None);
     Ok(())
 }
 

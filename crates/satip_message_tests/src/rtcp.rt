@@ -1,7 +1,8 @@
 use satip_base::{Address, Out, Strip, Want};
+use satip_fixtures::FIRST_TUNING;
 use satip_pids::{PidList, PidSet};
 use satip_rtcp::{Sender, StreamView, ses1_text, write_address, write_report};
-use satip_tune::{Fec, Modulation, Pol, RollOff, System, Tuning};
+use satip_tune::{Fec, Pol, System, Tuning};
 
 const DVBS: Tuning = Tuning {
     fe: None,
@@ -14,19 +15,6 @@ const DVBS: Tuning = Tuning {
     plts: None,
     sr: 27500,
     fec: Some(Fec::F34),
-};
-
-const DVBS2: Tuning = Tuning {
-    fe: None,
-    src: 1,
-    freq: 11361750,
-    pol: Pol::H,
-    ro: Some(RollOff::R35),
-    msys: System::Dvbs2,
-    mtype: Some(Modulation::Psk8),
-    plts: Some(true),
-    sr: 22000,
-    fec: Some(Fec::F23),
 };
 
 fn view(tuning: Option<Tuning>, front: u16, locked: bool, pids: PidSet) -> StreamView {
@@ -70,7 +58,7 @@ fn a_tuned_stream_shows_its_fields(rt: HostRuntime) {
         b"ver=1.0;src=1;tuner=1,240,1,15,12402,v,dvbs,,,,27500,34;pids=0,400".as_slice()
     );
     pids.set_all();
-    let without_multiplex = view(Some(DVBS2), 2, false, pids);
+    let without_multiplex = view(Some(FIRST_TUNING), 2, false, pids);
     assert_eq!(rt;
         text(&without_multiplex).bytes(),
         b"ver=1.0;src=1;tuner=2,0,0,0,11361.75,h,dvbs2,8psk,on,0.35,22000,23;pids=all".as_slice()
@@ -115,7 +103,7 @@ const REPORT: [u8; 152] =
 fn a_report_has_three_parts(rt: HostRuntime) -> Result<(), Want> {
     let mut pids = PidSet::new();
     assert!(rt; pids.set(&[0, 16, 17]).is_ok());
-    let stream = view(Some(DVBS2), 1, true, pids);
+    let stream = view(Some(FIRST_TUNING), 1, true, pids);
     let mut out = Out::make(rt.alloc())?;
     write_report(&stream, &sender(0xc0a8010a), &mut out);
     assert_eq!(rt; out.count(), 1);

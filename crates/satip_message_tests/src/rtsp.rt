@@ -5,6 +5,8 @@ ghost use Rattle.satip_rtsp.specs.Targets.{target_of};
 
 use crate::framed::framer_at;
 use satip_base::{Out, Ports, SessionId};
+use satip_fixtures::PORTS;
+use satip_fixtures::texts::{CLOSING, OPTIONS_REPLY};
 use satip_frame::Break;
 use satip_query::{QueryFault, RefusalBody};
 use satip_rtsp::{
@@ -14,6 +16,8 @@ use satip_rtsp::{
 use satip_tune::Key;
 use std::alloc::Global;
 use std::test::Fail;
+
+const SESSION: SessionId = SessionId { count: 1, word: 10 };
 
 fn request_of(alloc: Global, text: &[u8]) -> Option<Request> {
     let framer = framer_at(alloc, text)?;
@@ -94,6 +98,11 @@ fn first_refusal_counts(rt: HostRuntime) -> Result<(), Fail> {
         let request = request_of(rt.alloc(), text).ok_or("message")?;
         assert_eq!(rt; request.refusal, Some(refusal));
     }
+    Ok(())
+}
+
+#[test]
+fn what_is_no_message_is_refused(rt: HostRuntime) -> Result<(), Fail> {
     assert_eq!(rt; Request::broken(Break::Bad).refusal, Some(Refusal::Broken));
     assert_eq!(rt;
         Request::broken(Break::TooLong).refusal,
@@ -102,53 +111,44 @@ fn first_refusal_counts(rt: HostRuntime) -> Result<(), Fail> {
     Ok(())
 }
 
+// Messages, and the streams that their targets name.
+const STREAMS: &[(&[u8], Option<u16>)] = &[
+    (b"OPTIONS rtsp://h RTSP/1.0\r\nCSeq: 4\r\n\r\n", None),
+    (b"DESCRIBE rtsp://h?x RTSP/1.0\r\nCSeq: 4\r\n\r\n", None),
+    (b"SETUP rtsp://h/ RTSP/1.0\r\nCSeq: 4\r\n\r\n", None),
+    (b"SETUP / RTSP/1.0\r\nCSeq: 4\r\n\r\n", None),
+    (b"OPTIONS * RTSP/1.0\r\nCSeq: 4\r\n\r\n", None),
+    (b"PLAY /stream=1 RTSP/1.0\r\nCSeq: 4\r\n\r\n", Some(1)),
+    (
+        b"PLAY rtsp://h/stream=65535 RTSP/1.0\r\nCSeq: 4\r\n\r\n",
+        Some(65535),
+    ),
+    (b"TEARDOWN /stream=1/ RTSP/1.0\r\nCSeq: 4\r\n\r\n", Some(1)),
+    (
+        b"PLAY RTSP://H/stream=07?pids=all RTSP/1.0\r\nCSeq: 4\r\n\r\n",
+        Some(7),
+    ),
+];
+
+// Messages whose targets are none.
+const NO_TARGETS: &[&[u8]] = &[
+    b"PLAY /stream=65536 RTSP/1.0\r\nCSeq: 4\r\n\r\n",
+    b"PLAY stream=1 RTSP/1.0\r\nCSeq: 4\r\n\r\n",
+    b"PLAY rtsp:///stream=1 RTSP/1.0\r\nCSeq: 4\r\n\r\n",
+    b"PLAY ?pids=all RTSP/1.0\r\nCSeq: 4\r\n\r\n",
+    b"DESCRIBE * RTSP/1.0\r\nCSeq: 4\r\n\r\n",
+    b"OPTIONS /x RTSP/1.0\r\nCSeq: 4\r\n\r\n",
+    b"OPTIONS ** RTSP/1.0\r\nCSeq: 4\r\n\r\n",
+];
+
 #[test]
 fn targets_name_streams(rt: HostRuntime) -> Result<(), Fail> {
-    for (text, stream) in [
-        (
-            b"OPTIONS rtsp://h RTSP/1.0\r\nCSeq: 4\r\n\r\n".as_slice(),
-            None,
-        ),
-        (
-            b"DESCRIBE rtsp://h?x RTSP/1.0\r\nCSeq: 4\r\n\r\n".as_slice(),
-            None,
-        ),
-        (
-            b"SETUP rtsp://h/ RTSP/1.0\r\nCSeq: 4\r\n\r\n".as_slice(),
-            None,
-        ),
-        (b"SETUP / RTSP/1.0\r\nCSeq: 4\r\n\r\n".as_slice(), None),
-        (b"OPTIONS * RTSP/1.0\r\nCSeq: 4\r\n\r\n".as_slice(), None),
-        (
-            b"PLAY /stream=1 RTSP/1.0\r\nCSeq: 4\r\n\r\n".as_slice(),
-            Some(1),
-        ),
-        (
-            b"PLAY rtsp://h/stream=65535 RTSP/1.0\r\nCSeq: 4\r\n\r\n".as_slice(),
-            Some(65535),
-        ),
-        (
-            b"TEARDOWN /stream=1/ RTSP/1.0\r\nCSeq: 4\r\n\r\n".as_slice(),
-            Some(1),
-        ),
-        (
-            b"PLAY RTSP://H/stream=07?pids=all RTSP/1.0\r\nCSeq: 4\r\n\r\n".as_slice(),
-            Some(7),
-        ),
-    ] {
+    for (text, stream) in STREAMS {
         let request = request_of(rt.alloc(), text).ok_or("message")?;
         assert_eq!(rt; request.refusal, None);
-        assert_eq!(rt; request.stream, stream);
+        assert_eq!(rt; request.stream, *stream);
     }
-    for text in [
-        b"PLAY /stream=65536 RTSP/1.0\r\nCSeq: 4\r\n\r\n".as_slice(),
-        b"PLAY stream=1 RTSP/1.0\r\nCSeq: 4\r\n\r\n".as_slice(),
-        b"PLAY rtsp:///stream=1 RTSP/1.0\r\nCSeq: 4\r\n\r\n".as_slice(),
-        b"PLAY ?pids=all RTSP/1.0\r\nCSeq: 4\r\n\r\n".as_slice(),
-        b"DESCRIBE * RTSP/1.0\r\nCSeq: 4\r\n\r\n".as_slice(),
-        b"OPTIONS /x RTSP/1.0\r\nCSeq: 4\r\n\r\n".as_slice(),
-        b"OPTIONS ** RTSP/1.0\r\nCSeq: 4\r\n\r\n".as_slice(),
-    ] {
+    for text in NO_TARGETS {
         let request = request_of(rt.alloc(), text).ok_or("message")?;
         assert_eq!(rt; request.refusal, Some(Refusal::Target));
     }
@@ -214,137 +214,128 @@ fn long_requirement_is_cut(rt: HostRuntime) -> Result<(), Fail> {
     Ok(())
 }
 
+// Messages, and the ports that they ask for.
+const TRANSPORTS: &[(&[u8], Option<Ports>)] = &[
+    (
+        b"SETUP / RTSP/1.0\r\n\
+        CSeq: 4\r\n\
+        Transport: RTP/AVP;unicast;client_port=0-1 , \
+        rtp/avp/udp ;\tUNICAST; Client_Port=65535-1,x\r\n\r\n",
+        Some(Ports {
+            rtp: 65535,
+            rtcp: 1,
+        }),
+    ),
+    (
+        b"SETUP / RTSP/1.0\r\n\
+        CSeq: 4\r\n\
+        Transport: RTP/AVP;client_port=65534;client_port=1;unicast\r\n\r\n",
+        Some(Ports {
+            rtp: 65534,
+            rtcp: 65535,
+        }),
+    ),
+    (
+        b"SETUP / RTSP/1.0\r\n\
+        CSeq: 4\r\n\
+        Transport: RTP/AVP;unicast;client_port=65535\r\n\r\n",
+        None,
+    ),
+    (
+        b"SETUP / RTSP/1.0\r\n\
+        CSeq: 4\r\n\
+        Transport: RTP/AVP;unicast;client_port=1400-\r\n\r\n",
+        None,
+    ),
+    (
+        b"SETUP / RTSP/1.0\r\n\
+        CSeq: 4\r\n\
+        Transport: RTP/AVP;multicast;client_port=2\r\n\r\n",
+        None,
+    ),
+    (
+        b"SETUP / RTSP/1.0\r\n\
+        CSeq: 4\r\n\
+        Transport: RTP/AVP/TCP;unicast;client_port=2,RTP/AVP/UDP;unicast;client_port=3\r\n\r\n",
+        Some(Ports { rtp: 3, rtcp: 4 }),
+    ),
+    (
+        b"SETUP / RTSP/1.0\r\n\
+        CSeq: 4\r\n\
+        Transport: RTP/AVP;unicast;client_port=1400-1401\r\n\
+        Transport: RTP/AVP;unicast;client_port=8\r\n\r\n",
+        Some(Ports {
+            rtp: 1400,
+            rtcp: 1401,
+        }),
+    ),
+    (
+        b"SETUP / RTSP/1.0\r\n\
+        CSeq: 4\r\n\
+        Transport: RTP/AVP;unicast;client_port=7-7\r\n\r\n",
+        Some(Ports { rtp: 7, rtcp: 7 }),
+    ),
+    (
+        b"SETUP / RTSP/1.0\r\nCSeq: 4\r\nTransport: RTP/AVP;client_port=2-3\r\n\r\n",
+        None,
+    ),
+    (b"SETUP / RTSP/1.0\r\nCSeq: 4\r\n\r\n", None),
+    (
+        b"PLAY / RTSP/1.0\r\n\
+        CSeq: 4\r\n\
+        Transport: RTP/AVP;unicast;client_port=2\r\n\r\n",
+        None,
+    ),
+];
+
 #[test]
 fn transports_give_ports(rt: HostRuntime) -> Result<(), Fail> {
-    for (text, ports) in [
-        (
-            b"SETUP / RTSP/1.0\r\n\
-            CSeq: 4\r\n\
-            Transport: RTP/AVP;unicast;client_port=0-1 , \
-            rtp/avp/udp ;\tUNICAST; Client_Port=65535-1,x\r\n\r\n"
-                .as_slice(),
-            Some(Ports {
-                rtp: 65535,
-                rtcp: 1,
-            }),
-        ),
-        (
-            b"SETUP / RTSP/1.0\r\n\
-            CSeq: 4\r\n\
-            Transport: RTP/AVP;client_port=65534;client_port=1;unicast\r\n\r\n"
-                .as_slice(),
-            Some(Ports {
-                rtp: 65534,
-                rtcp: 65535,
-            }),
-        ),
-        (
-            b"SETUP / RTSP/1.0\r\n\
-            CSeq: 4\r\n\
-            Transport: RTP/AVP;unicast;client_port=65535\r\n\r\n"
-                .as_slice(),
-            None,
-        ),
-        (
-            b"SETUP / RTSP/1.0\r\n\
-            CSeq: 4\r\n\
-            Transport: RTP/AVP;unicast;client_port=1400-\r\n\r\n"
-                .as_slice(),
-            None,
-        ),
-        (
-            b"SETUP / RTSP/1.0\r\n\
-            CSeq: 4\r\n\
-            Transport: RTP/AVP;multicast;client_port=2\r\n\r\n"
-                .as_slice(),
-            None,
-        ),
-        (
-            b"SETUP / RTSP/1.0\r\n\
-            CSeq: 4\r\n\
-            Transport: RTP/AVP/TCP;unicast;client_port=2,RTP/AVP/UDP;unicast;client_port=3\r\n\r\n"
-                .as_slice(),
-            Some(Ports { rtp: 3, rtcp: 4 }),
-        ),
-        (
-            b"SETUP / RTSP/1.0\r\n\
-            CSeq: 4\r\n\
-            Transport: RTP/AVP;unicast;client_port=1400-1401\r\n\
-            Transport: RTP/AVP;unicast;client_port=8\r\n\r\n"
-                .as_slice(),
-            Some(Ports {
-                rtp: 1400,
-                rtcp: 1401,
-            }),
-        ),
-        (
-            b"SETUP / RTSP/1.0\r\n\
-            CSeq: 4\r\n\
-            Transport: RTP/AVP;unicast;client_port=7-7\r\n\r\n"
-                .as_slice(),
-            Some(Ports { rtp: 7, rtcp: 7 }),
-        ),
-        (
-            b"SETUP / RTSP/1.0\r\nCSeq: 4\r\nTransport: RTP/AVP;client_port=2-3\r\n\r\n".as_slice(),
-            None,
-        ),
-        (b"SETUP / RTSP/1.0\r\nCSeq: 4\r\n\r\n".as_slice(), None),
-        (
-            b"PLAY / RTSP/1.0\r\n\
-            CSeq: 4\r\n\
-            Transport: RTP/AVP;unicast;client_port=2\r\n\r\n"
-                .as_slice(),
-            None,
-        ),
-    ] {
+    for (text, ports) in TRANSPORTS {
         let request = request_of(rt.alloc(), text).ok_or("message")?;
-        assert_eq!(rt; request.ports, ports);
+        assert_eq!(rt; request.ports, *ports);
     }
     Ok(())
 }
 
+// Messages, and how they name their sessions.
+const SESSIONS: &[(&[u8], SessionName)] = &[
+    (b"PLAY / RTSP/1.0\r\nCSeq: 4\r\n\r\n", SessionName::Absent),
+    (
+        b"PLAY / RTSP/1.0\r\n\
+        CSeq: 4\r\n\
+        Session: 000000010000000a\t; timeout=60\r\n\r\n",
+        SessionName::Named(SESSION),
+    ),
+    (
+        b"PLAY / RTSP/1.0\r\nCSeq: 4\r\nSession: 000000010000000A\r\n\r\n",
+        SessionName::Other,
+    ),
+    (
+        b"PLAY / RTSP/1.0\r\nCSeq: 4\r\nSession: 0000000010000000a\r\n\r\n",
+        SessionName::Other,
+    ),
+    (
+        b"PLAY / RTSP/1.0\r\nCSeq: 4\r\nSession: 00000001000000a\r\n\r\n",
+        SessionName::Other,
+    ),
+    (
+        b"PLAY / RTSP/1.0\r\nCSeq: 4\r\nSession:\r\n\r\n",
+        SessionName::Other,
+    ),
+    (
+        b"PLAY / RTSP/1.0\r\n\
+        CSeq: 4\r\n\
+        Session: 000000010000000a\r\n\
+        Session: 000000020000000b\r\n\r\n",
+        SessionName::Named(SESSION),
+    ),
+];
+
 #[test]
 fn sessions_are_named(rt: HostRuntime) -> Result<(), Fail> {
-    let id = SessionId { count: 1, word: 10 };
-    for (text, session) in [
-        (
-            b"PLAY / RTSP/1.0\r\nCSeq: 4\r\n\r\n".as_slice(),
-            SessionName::Absent,
-        ),
-        (
-            b"PLAY / RTSP/1.0\r\n\
-            CSeq: 4\r\n\
-            Session: 000000010000000a\t; timeout=60\r\n\r\n"
-                .as_slice(),
-            SessionName::Named(id),
-        ),
-        (
-            b"PLAY / RTSP/1.0\r\nCSeq: 4\r\nSession: 000000010000000A\r\n\r\n".as_slice(),
-            SessionName::Other,
-        ),
-        (
-            b"PLAY / RTSP/1.0\r\nCSeq: 4\r\nSession: 0000000010000000a\r\n\r\n".as_slice(),
-            SessionName::Other,
-        ),
-        (
-            b"PLAY / RTSP/1.0\r\nCSeq: 4\r\nSession: 00000001000000a\r\n\r\n".as_slice(),
-            SessionName::Other,
-        ),
-        (
-            b"PLAY / RTSP/1.0\r\nCSeq: 4\r\nSession:\r\n\r\n".as_slice(),
-            SessionName::Other,
-        ),
-        (
-            b"PLAY / RTSP/1.0\r\n\
-            CSeq: 4\r\n\
-            Session: 000000010000000a\r\n\
-            Session: 000000020000000b\r\n\r\n"
-                .as_slice(),
-            SessionName::Named(id),
-        ),
-    ] {
+    for (text, session) in SESSIONS {
         let request = request_of(rt.alloc(), text).ok_or("message")?;
-        assert_eq!(rt; request.session, session);
+        assert_eq!(rt; request.session, *session);
     }
     Ok(())
 }
@@ -366,13 +357,6 @@ enum Reply {
     NoMoreFrontends,
     Unsupported,
 }
-
-const SESSION: SessionId = SessionId { count: 1, word: 10 };
-
-const PORTS: Ports = Ports {
-    rtp: 1400,
-    rtcp: 1401,
-};
 
 // The host 192.168.1.10.
 const ADDRESS: u32 = 3232235786;
@@ -399,20 +383,14 @@ fn write_reply(reply: Reply, out: &mut Out) {
 }
 
 const REPLIES: &[(Reply, &[u8])] = &[
-    (
-        Reply::Options,
-        b"RTSP/1.0 200 OK\r\nCSeq: 1\r\nPublic: OPTIONS, DESCRIBE, SETUP, PLAY, TEARDOWN\r\n\r\n",
-    ),
+    (Reply::Options, OPTIONS_REPLY),
     (
         Reply::OptionsOfSession,
         b"RTSP/1.0 200 OK\r\n\
         Public: OPTIONS, DESCRIBE, SETUP, PLAY, TEARDOWN\r\n\
         Session: 000000010000000a\r\n\r\n",
     ),
-    (
-        Reply::Bad,
-        b"RTSP/1.0 400 Bad Request\r\nConnection: close\r\n\r\n",
-    ),
+    (Reply::Bad, CLOSING),
     (
         Reply::TooLong,
         b"RTSP/1.0 413 Request Entity Too Large\r\nConnection: close\r\n\r\n",

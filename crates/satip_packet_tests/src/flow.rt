@@ -4,8 +4,10 @@ mod plain;
 ghost use Rattle.std.specs.Prelude.{◌≡◌, ◌<◌};
 ghost use Rattle.satip_flow.specs.Subscriptions.{IsFrontOrNone};
 
+use crate::filled::filled;
 use plain::Plain;
 use satip_base::{Address, Out};
+use satip_fixtures::draws::{FIRST_DRAW, next_draw};
 use satip_flow::{Flow, Place};
 use satip_pids::PidSet;
 use satip_ts::Packet;
@@ -15,13 +17,6 @@ use std::test::Fail;
 const FIRST: Address = Address { ip: 1, port: 1400 };
 
 const SECOND: Address = Address { ip: 2, port: 1500 };
-
-fn packet(pid: u8) -> Option<Packet> {
-    let mut bytes = [0x47; 188];
-    bytes[1] = 0;
-    bytes[2] = pid;
-    Packet::of(&bytes)
-}
 
 // Gives a packet of front 1 this many times; the marks of the last time.
 fn give(flow: &mut Flow, packet: &Packet, times: u16, out: &mut Out) -> u64 {
@@ -80,7 +75,7 @@ fn one_queue(alloc: Global) -> Result<Flow, Fail> {
 #[derive(Clone, Copy)]
 enum Step {
     /// So many packets of a PID; the marks of the last one.
-    Give(u8, u16, u64),
+    Give(u16, u16, u64),
     /// Stream 1 moves to front end 2.
     Move,
     Address(u16, Address, bool),
@@ -89,7 +84,7 @@ enum Step {
     /// How many bytes are pulled; they are in the reply.
     Pull(u16, Option<usize>),
     /// The reply begins with the packet of a PID.
-    Begins(u8),
+    Begins(u16),
     /// How many datagrams there are.
     Datagrams(usize),
     /// Where a datagram goes.
@@ -100,11 +95,9 @@ enum Step {
     State(u16, Option<(u16, u32, u32)>),
 }
 
-fn give_all(flow: &mut Flow, pid: u8, times: u16, out: &mut Out) -> Option<u64> {
-    match packet(pid) {
-        Some(packet) => Some(give(flow, &packet, times, out)),
-        None => None,
-    }
+fn give_all(flow: &mut Flow, pid: u16, times: u16, out: &mut Out) -> Option<u64> {
+    let packet = filled(pid)?;
+    Some(give(flow, &packet, times, out))
 }
 
 fn flush(flow: &mut Flow, slot: u16, clock: u64, out: &mut Out) -> bool {
@@ -118,8 +111,8 @@ fn pulls(flow: &mut Flow, slot: u16, bytes: Option<usize>, out: &mut Out) -> boo
     flow.pull(slot, out) == bytes && out.reply().len() == bytes.unwrap_or(0)
 }
 
-fn begins(out: &Out, pid: u8) -> bool {
-    match packet(pid) {
+fn begins(out: &Out, pid: u16) -> bool {
+    match filled(pid) {
         Some(packet) => out.reply().starts_with(packet.bytes()),
         None => false,
     }
@@ -140,10 +133,8 @@ fn has_length(out: &Out, place: usize, length: usize) -> bool {
 }
 
 fn state(flow: &Flow, slot: u16) -> Option<(u16, u32, u32)> {
-    match flow.state(slot) {
-        Some(state) => Some((state.next, state.datagrams, state.octets)),
-        None => None,
-    }
+    flow.state(slot)
+        .map(|state| (state.next, state.datagrams, state.octets))
 }
 
 /// Whether a flow answers so.
@@ -169,12 +160,10 @@ fn is_answered(flow: &mut Flow, out: &mut Out, step: Step) -> bool {
 /// Takes all steps; the place of the first that isn't answered so.
 fn take_all(alloc: Global, flow: &mut Flow, steps: &[Step]) -> Result<Option<usize>, Fail> {
     let mut out = Out::make(alloc)?;
-    let mut place = 0usize;
-    for step in steps {
+    for (place, step) in steps.iter().enumerate() {
         if !is_answered(flow, &mut out, *step) {
             return Ok(Some(place));
         }
-        place = place.saturating_add(1);
     }
     Ok(None)
 }
@@ -328,13 +317,6 @@ fn some_pid(draw: u32) -> u16
     (draw % 10 * 29) as u16
 }
 
-fn packet_of(pid: u16) -> Option<Packet> {
-    let mut bytes = [0x47; 188];
-    bytes[1] = (pid / 256 % 32) as u8;
-    bytes[2] = (pid % 256) as u8;
-    Packet::of(&bytes)
-}
-
 /// One of four front ends for most numbers, else none.
 fn some_front(draw: u32) -> Option<u16>
     ensures front { IsFrontOrNone result }
@@ -370,7 +352,7 @@ impl Both {
             }
             _ => {
                 let front = drawn / 16 % 3 + drawn / 64 % 2 * 15;
-                match packet_of(some_pid(drawn)) {
+                match filled(some_pid(drawn)) {
                     Some(packet) => self.packet(front as u16, &packet, made as u64),
                     None => false,
                 }
@@ -387,9 +369,9 @@ fn ten_thousand_calls_are_as_on_a_plain_list(rt: HostRuntime) -> Result<(), Fail
         out: Out::make(rt.alloc())?,
         other: Out::make(rt.alloc())?,
     };
-    let mut draw: u32 = 2463534242;
+    let mut draw = FIRST_DRAW;
     for made in 0..10000u32 {
-        draw = draw.wrapping_mul(1664525).wrapping_add(1013904223);
+        draw = next_draw(draw);
         let same = both.call(rt.alloc(), draw, made);
         assert!(rt; same && both.wrote_same());
     }

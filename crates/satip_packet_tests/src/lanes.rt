@@ -198,15 +198,28 @@ fn take(alloc: Global, lanes: &mut Lanes, out: &mut Out, step: Step) -> Result<b
     Ok(is_answered(lanes, out, step))
 }
 
+// Takes steps, and stops at the first that isn't answered so.
+fn take_each(
+    alloc: Global,
+    lanes: &mut Lanes,
+    out: &mut Out,
+    steps: &[Step],
+) -> Result<bool, Fail> {
+    for step in steps {
+        if !take(alloc, lanes, out, *step)? {
+            return Ok(false);
+        }
+    }
+    Ok(true)
+}
+
 // Takes all steps, each list so often, and stops at the first that isn't answered so.
 fn take_all(alloc: Global, lanes: &mut Lanes, lists: &[(u32, &[Step])]) -> Result<bool, Fail> {
     let mut out = Out::make(alloc)?;
     for (times, steps) in lists {
         for _ in 0..*times {
-            for step in *steps {
-                if !take(alloc, lanes, &mut out, *step)? {
-                    return Ok(false);
-                }
+            if !take_each(alloc, lanes, &mut out, steps)? {
+                return Ok(false);
             }
         }
     }

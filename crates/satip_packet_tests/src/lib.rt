@@ -5,6 +5,8 @@
 #[cfg(test)]
 mod catching;
 #[cfg(test)]
+mod filled;
+#[cfg(test)]
 mod flow;
 #[cfg(test)]
 mod lanes;

@@ -64,7 +64,6 @@ fn state(packer: &Packer) -> (u16, u32, u32) {
 
 #[test]
 fn the_seventh_packet_sends_and_the_number_wraps(rt: HostRuntime) -> Result<(), Fail> {
-    worked_cuts();
     let mut out = Out::make(rt.alloc())?;
     let packet = Packet::of(&[0x47; 188]).ok_or("packet")?;
     let mut packer = Packer::new(0x11223344, 65535);

@@ -2,16 +2,9 @@
 ghost use Rattle.std.specs.Prelude.{◌≡◌, [], ◌∷◌, ◌++◌, replicate};
 ghost use Rattle.satip_ts.specs.Recording.{cut_packets};
 
+use crate::filled::{filled, filled_bytes};
 use satip_ts::{Cutter, Packet};
 use std::test::Fail;
-
-// A packet of this PID, filled with the byte 0x47.
-fn packet_bytes(pid: u8) -> [u8; 188] {
-    let mut bytes = [0x47; 188];
-    bytes[1] = 0;
-    bytes[2] = pid;
-    bytes
-}
 
 // Bytes before a packet and a shorter rest are dropped.
 fn worked_recording()
@@ -26,10 +19,10 @@ fn takes(cutter: &mut Cutter, bytes: &[u8]) -> bool {
 }
 
 // Whether the next packet is the one of this PID.
-fn hands_out(cutter: &mut Cutter, pid: u8) -> bool {
+fn hands_out(cutter: &mut Cutter, pid: u16) -> bool {
     match cutter.next() {
         Some(packet) => {
-            packet.pid() == pid as u16 && packet.bytes().as_slice() == packet_bytes(pid).as_slice()
+            packet.pid() == pid && packet.bytes().as_slice() == filled_bytes(pid).as_slice()
         }
         None => false,
     }
@@ -37,11 +30,10 @@ fn hands_out(cutter: &mut Cutter, pid: u8) -> bool {
 
 #[test]
 fn packets_of_a_recording(rt: HostRuntime) -> Result<(), Fail> {
-    worked_recording();
     let mut cutter = Cutter::new();
     assert!(rt; takes(&mut cutter, &[0, 1, 2, 3, 4]));
-    assert!(rt; takes(&mut cutter, &packet_bytes(16)));
-    assert!(rt; takes(&mut cutter, &packet_bytes(17)));
+    assert!(rt; takes(&mut cutter, &filled_bytes(16)));
+    assert!(rt; takes(&mut cutter, &filled_bytes(17)));
     assert!(rt; takes(&mut cutter, &[0x47; 100]));
     assert!(rt; hands_out(&mut cutter, 16));
     assert!(rt; hands_out(&mut cutter, 17));
@@ -54,11 +46,11 @@ fn one_byte_at_a_time(rt: HostRuntime) -> Result<(), Fail> {
     let mut cutter = Cutter::new();
     let mut handed = 0u8;
     for pid in [1, 2, 3] {
-        for byte in packet_bytes(pid) {
+        for byte in filled_bytes(pid) {
             cutter.feed(&[byte]);
             if let Some(packet) = cutter.next() {
                 handed = handed.saturating_add(1);
-                assert!(rt; packet == Packet::of(&packet_bytes(pid)).ok_or("packet")?);
+                assert!(rt; packet == filled(pid).ok_or("packet")?);
             }
         }
     }
@@ -71,7 +63,7 @@ fn two_hundred_packets(rt: HostRuntime) {
     let mut cutter = Cutter::new();
     let mut handed = 0u8;
     for pid in 0..200 {
-        assert_eq!(rt; cutter.feed(&packet_bytes(pid)), 188);
+        assert_eq!(rt; cutter.feed(&filled_bytes(pid)), 188);
         if cutter.next().is_some() {
             handed = handed.saturating_add(1);
         }
@@ -90,7 +82,7 @@ fn no_more_than_4096_bytes_are_held(rt: HostRuntime) {
 
 #[test]
 fn thirteen_bits_are_the_pid(rt: HostRuntime) -> Result<(), Fail> {
-    let mut bytes = packet_bytes(0xfe);
+    let mut bytes = filled_bytes(0xfe);
     bytes[1] = 0xff;
     assert_eq!(rt; Packet::of(&bytes).ok_or("packet")?.pid(), 8190);
     bytes[0] = 0x48;

@@ -12,6 +12,8 @@ mod script;
 mod sides;
 
 use satip_base::{Out, Want};
+use satip_fixtures::packet_bytes;
+use satip_fixtures::texts::repeated;
 use satip_memory::{MemoryClock, MemoryOutlet, MemoryPacer, MemoryStore};
 use satip_plain::{Answer, Beat, Event, Work};
 use satip_pump::{Batch, JobEnd, PumpKit, TickKit, run_pump, run_ticker};
@@ -84,30 +86,6 @@ fn rows_of_sources(a: Packet)
     let _ = a;
 }
 
-// A packet of this PID.
-fn packet_bytes(pid: u8) -> [u8; 188] {
-    let mut bytes = [0; 188];
-    bytes[0] = 0x47;
-    bytes[2] = pid;
-    bytes
-}
-
-// A recording of so many packets of a PID, with bytes before and behind them.
-fn recording(
-    alloc: Global,
-    before: &[u8],
-    pid: u8,
-    count: u8,
-    behind: &[u8],
-) -> Result<Vec<u8>, Fail> {
-    let mut text = Vec::from_slice(alloc, before)?;
-    for _ in 0..count {
-        text.extend_from_slice(&packet_bytes(pid))?;
-    }
-    text.extend_from_slice(behind)?;
-    Ok(text)
-}
-
 fn kit(alloc: Global, store: MemoryStore, sends: &[u64]) -> Result<Kit, Fail>
     ensures free { IfOk result (λ kit. kit.outlet.held ≡ false) }
 {
@@ -153,47 +131,24 @@ fn letter(note: &Note) -> u8 {
     }
 }
 
-// A recording of so many packets of a PID, with bytes before and behind them, and how it is taken:
-// in takes of these sizes, of which these fail.
-#[derive(Clone, Copy)]
-struct Reel {
-    before: &'static [u8],
-    pid: u8,
-    count: u8,
-    behind: &'static [u8],
-    takes: &'static [usize],
-    failing: &'static [u64],
-}
-
-// No packet of PID 1.
-const PACKETS: Reel = Reel {
-    before: &[],
-    pid: 1,
-    count: 0,
-    behind: &[],
-    takes: &[],
-    failing: &[],
-};
-
-// What a pump is run over: starts and sends that fail, a recording of each multiplex, another work
-// from a call on, and where the service stops or has no more room.
+// What a pump is run over: how many packets of PID 1 the first multiplex's recording has, and of PID
+// 2 the second's, sends that fail, another work from a call on, and where the service stops or has
+// no more room.
 #[derive(Clone, Copy)]
 struct Case {
-    starts: &'static [u64],
+    first: usize,
+    second: usize,
     sends: &'static [u64],
-    first: Reel,
-    second: Option<Reel>,
     later: Option<(usize, Work)>,
     stop: usize,
     room: usize,
 }
 
-// A recording of the first multiplex, with nothing that fails.
+// Recordings without a packet, and nothing that fails.
 const WHOLE: Case = Case {
-    starts: &[],
+    first: 0,
+    second: 0,
     sends: &[],
-    first: PACKETS,
-    second: None,
     later: None,
     stop: 0,
     room: usize::MAX,
@@ -212,26 +167,18 @@ struct Pumped {
     peak: u64,
 }
 
-fn add_reel(alloc: Global, store: &mut MemoryStore, mux: u16, reel: &Reel) -> Result<(), Fail> {
-    let text = recording(alloc, reel.before, reel.pid, reel.count, reel.behind)?;
-    store.add(mux, &text, reel.takes, reel.failing)?;
-    Ok(())
-}
-
+// The recordings of both multiplexes.
 fn store_of(alloc: Global, case: &Case) -> Result<MemoryStore, Fail> {
-    let mut store = MemoryStore::make(alloc, case.starts)?;
-    add_reel(alloc, &mut store, 1, &case.first)?;
-    if let Some(second) = &case.second {
-        add_reel(alloc, &mut store, 2, second)?;
-    }
+    let mut store = MemoryStore::make(alloc, &[])?;
+    let first = repeated(alloc, &[(packet_bytes(1).as_slice(), case.first)])?;
+    store.add(1, &first, &[], &[])?;
+    let second = repeated(alloc, &[(packet_bytes(2).as_slice(), case.second)])?;
+    store.add(2, &second, &[], &[])?;
     Ok(store)
 }
 
 fn last_answer(notes: &[Note]) -> Option<Answer> {
-    match notes.last() {
-        Some(note) => Some(note.answer),
-        None => None,
-    }
+    notes.last().map(|note| note.answer)
 }
 
 fn run_case<R: Wait + Sync>(rt: &R, alloc: Global, case: &Case) -> Result<Pumped, Fail> {
@@ -247,16 +194,6 @@ fn run_case<R: Wait + Sync>(rt: &R, alloc: Global, case: &Case) -> Result<Pumped
         lent: kit.store.lent(),
         peak: kit.store.peak(),
     })
-}
-
-#[test]
-fn rows_are_computed(rt: HostRuntime) -> Result<(), Fail> {
-    let packet = Packet::of(&packet_bytes(1)).ok_or("packet")?;
-    rows_of_tunings(packet, packet);
-    row_of_a_run(packet);
-    rows_of_pauses(packet);
-    rows_of_sources(packet);
-    Ok(())
 }
 
 // A case, and what a pump is to come to over it; a number is looked at where it is given.
@@ -275,12 +212,7 @@ const ROWS: &[Row] = &[
     Row {
         name: "a pump gives the packets of a recording",
         case: Case {
-            first: Reel {
-                before: &[0, 1, 2, 3, 4],
-                count: 2,
-                behind: &[0x47; 100],
-                ..PACKETS
-            },
+            first: 2,
             stop: 4,
             ..WHOLE
         },
@@ -291,47 +223,9 @@ const ROWS: &[Row] = &[
         peak: None,
     },
     Row {
-        name: "a recording whose start fails ends early",
-        case: Case {
-            starts: &[1],
-            first: Reel {
-                count: 3,
-                ..PACKETS
-            },
-            stop: 2,
-            ..WHOLE
-        },
-        end: JobEnd::Stopped,
-        entries: b"AEA",
-        datagrams: None,
-        pauses: None,
-        peak: None,
-    },
-    Row {
-        name: "a recording whose take fails ends early",
-        case: Case {
-            first: Reel {
-                count: 3,
-                takes: &[188, 188],
-                failing: &[2],
-                ..PACKETS
-            },
-            stop: 3,
-            ..WHOLE
-        },
-        end: JobEnd::Stopped,
-        entries: b"APEA",
-        datagrams: None,
-        pauses: None,
-        peak: None,
-    },
-    Row {
         name: "a pump that is stopped hands its source back",
         case: Case {
-            first: Reel {
-                count: 70,
-                ..PACKETS
-            },
+            first: 70,
             stop: 3,
             ..WHOLE
         },
@@ -344,15 +238,8 @@ const ROWS: &[Row] = &[
     Row {
         name: "a new tuning drops the old packets",
         case: Case {
-            first: Reel {
-                count: 9,
-                ..PACKETS
-            },
-            second: Some(Reel {
-                pid: 2,
-                count: 2,
-                ..PACKETS
-            }),
+            first: 9,
+            second: 2,
             later: Some((3, SECOND)),
             stop: 7,
             ..WHOLE
@@ -366,10 +253,7 @@ const ROWS: &[Row] = &[
     Row {
         name: "a pump ends where there is no memory",
         case: Case {
-            first: Reel {
-                count: 9,
-                ..PACKETS
-            },
+            first: 9,
             stop: 99,
             room: 3,
             ..WHOLE
@@ -407,10 +291,7 @@ fn pumps_come_to_what_their_rows_say(rt: HostRuntime) -> Result<(), Fail> {
 fn a_pump_gives_130_packets_in_bursts(rt: HostRuntime) -> Result<(), Fail> {
     let case = Case {
         sends: &[3],
-        first: Reel {
-            count: 130,
-            ..PACKETS
-        },
+        first: 130,
         stop: 132,
         ..WHOLE
     };

@@ -1,15 +1,11 @@
 //! Exchanges over memory.
 use satip_base::{Strip, Want};
 use satip_client::{Heard, Lease, Pulse, RecordEnd, keep_alive, set_up, start};
+use satip_fixtures::recordings::{ACCEPTED, GRANTED};
 use satip_memory::{MemoryClock, MemoryConn};
 use satip_requests::Page;
 use std::alloc::Global;
 use std::test::Fail;
-
-const GRANTED: &[u8] =
-    b"RTSP/1.0 200 OK\r\nCSeq: 1\r\nSession: 1a;timeout=2\r\ncom.ses.streamID: 7\r\n\r\n";
-
-const ACCEPTED: &[u8] = b"RTSP/1.0 200 OK\r\nCSeq: 2\r\n\r\n";
 
 fn asks(alloc: Global, wire: &mut MemoryConn) -> Result<Lease, RecordEnd> {
     let mut page = Page::new(alloc);
@@ -103,8 +99,7 @@ const ROWS: &[Row] = &[
 
 #[test]
 fn replies_faults_and_silence_end_it(rt: HostRuntime) -> Result<(), Fail> {
-    let mut place = 0usize;
-    for (texts, receives, sends, end) in ROWS {
+    for (place, (texts, receives, sends, end)) in ROWS.iter().enumerate() {
         let mut pieces = Vec::new(rt.alloc());
         for (text, times) in *texts {
             for _ in 0..*times {
@@ -113,7 +108,6 @@ fn replies_faults_and_silence_end_it(rt: HostRuntime) -> Result<(), Fail> {
         }
         let seen = ends(rt.alloc(), &pieces, receives, sends)?;
         assert_eq!(rt; seen, *end, "at {place}");
-        place = place.saturating_add(1);
     }
     Ok(())
 }

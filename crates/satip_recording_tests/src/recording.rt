@@ -1,46 +1,12 @@
 //! Whole recordings over memory.
 use satip_base::Want;
 use satip_client::RecordEnd;
+use satip_fixtures::recordings::{ACCEPTED, ADDRESS, GRANTED, HEAD, OPENED, QUERY, datagram};
+use satip_fixtures::texts::is_joined;
 use satip_memory::{MemoryClock, MemoryConn, MemoryInlet, MemorySink};
 use satip_recorder::{Recorded, Wish, record_by};
 use std::alloc::Global;
 use std::test::Fail;
-
-const ADDRESS: &[u8] = b"127.0.0.1:18554";
-
-const QUERY: &[u8] = b"freq=12402&pol=v&msys=dvbs&sr=27500&pids=all";
-
-const GRANTED: &[u8] =
-    b"RTSP/1.0 200 OK\r\nCSeq: 1\r\nSession: 1a;timeout=2\r\ncom.ses.streamID: 7\r\n\r\n";
-
-const ACCEPTED: &[u8] = b"RTSP/1.0 200 OK\r\nCSeq: 2\r\n\r\n";
-
-const OPENED: &[u8] =
-    b"SETUP rtsp://127.0.0.1:18554/?freq=12402&pol=v&msys=dvbs&sr=27500&pids=all RTSP/1.0\r\n\
-    CSeq: 1\r\n\
-    Transport: RTP/AVP;unicast;client_port=5000-5001\r\n\r\n\
-    PLAY rtsp://127.0.0.1:18554/stream=7 RTSP/1.0\r\n\
-    CSeq: 2\r\n\
-    Session: 1a\r\n\r\n";
-
-const LEFT: &[u8] =
-    b"TEARDOWN rtsp://127.0.0.1:18554/stream=7 RTSP/1.0\r\nCSeq: 3\r\nSession: 1a\r\n\r\n";
-
-const HEAD: usize = 12;
-
-const PACKET: usize = 188;
-
-// A datagram of three packets, whose bytes behind the first tell its number.
-fn datagram(number: u16) -> [u8; 576] {
-    let [high, low] = number.to_be_bytes();
-    let mut bytes = [low; 576];
-    let head = [0x80, 33, high, low, 0, 0, 0, 0, 0, 0, 0, 7];
-    bytes[..HEAD].copy_from_slice(&head);
-    bytes[HEAD] = 0x47;
-    bytes[HEAD + PACKET] = 0x47;
-    bytes[HEAD + 2 * PACKET] = 0x47;
-    bytes
-}
 
 // Which call of a device fails, from 1; 0 is none. `idle` is a call of the inlet that finds
 // nothing.
@@ -49,7 +15,6 @@ struct Troubles {
     idle: u64,
     send: u64,
     inlet: u64,
-    output: u64,
     errors: u64,
 }
 
@@ -57,7 +22,6 @@ const NONE: Troubles = Troubles {
     idle: 0,
     send: 0,
     inlet: 0,
-    output: 0,
     errors: 0,
 };
 
@@ -98,11 +62,11 @@ fn play(
     let (idle, failing) = ([troubles.idle], [troubles.inlet]);
     let inlet = MemoryInlet::make(alloc, 5000, datagrams, &idle, &failing)?;
     let moment = MemoryClock::make(alloc, &[5, 1004, 1005, 1006])?;
-    let mut output = MemorySink::make(alloc, &[troubles.output], 100)?;
+    let mut output = MemorySink::make(alloc, &[], 0)?;
     let mut errors = MemorySink::make(alloc, &[troubles.errors], 3)?;
     let wish = Wish {
-        address: ADDRESS,
-        query: QUERY,
+        address: ADDRESS.as_bytes(),
+        query: QUERY.as_bytes(),
         count: count.clamp(1, 1000000),
     };
     let recorded = record_by(alloc, wire, inlet, moment, &wish, &mut output, &mut errors);
@@ -149,24 +113,6 @@ const PLAYED: Row = Row {
 
 const ROWS: &[Row] = &[
     Row {
-        name: "two packets are recorded",
-        came: &[Came::Data(9)],
-        count: 2,
-        sent: Some(&[OPENED, LEFT]),
-        written: Some(&[(9, 376)]),
-        told: Some(b""),
-        ..PLAYED
-    },
-    Row {
-        name: "a busy server is told",
-        replies: &[b"RTSP/1.0 503 Service Unavailable\r\nCSeq: 1\r\n\r\n"],
-        count: 2,
-        end: RecordEnd::Refused(503),
-        written: Some(&[]),
-        told: Some(b"refused 503\n"),
-        ..PLAYED
-    },
-    Row {
         name: "a gap is told once it is passed",
         came: &[
             Came::Data(10),
@@ -206,22 +152,6 @@ const ROWS: &[Row] = &[
         ..PLAYED
     },
     Row {
-        name: "a failing inlet ends it",
-        came: &[Came::Data(9)],
-        troubles: Troubles { inlet: 1, ..NONE },
-        end: RecordEnd::PeerFault,
-        told: Some(b"peer fault\n"),
-        ..PLAYED
-    },
-    Row {
-        name: "a failing output ends it",
-        came: &[Came::Data(9)],
-        troubles: Troubles { output: 1, ..NONE },
-        end: RecordEnd::OutputFault,
-        written: Some(&[(9, 100)]),
-        ..PLAYED
-    },
-    Row {
         name: "a last request that fails ends it",
         came: &[Came::Data(9)],
         troubles: Troubles { send: 3, ..NONE },
@@ -230,16 +160,10 @@ const ROWS: &[Row] = &[
         ..PLAYED
     },
     Row {
-        name: "a connection that ends early ends it",
+        name: "a connection that ends behind the first reply ends it",
         replies: &[GRANTED],
         end: RecordEnd::Closed,
         told: Some(b"closed\n"),
-        ..PLAYED
-    },
-    Row {
-        name: "silence ends it",
-        end: RecordEnd::Silent,
-        told: Some(b"silent\n"),
         ..PLAYED
     },
     Row {
@@ -277,21 +201,6 @@ fn play_row(alloc: Global, row: &Row) -> Result<Played, Fail> {
     Ok(play(alloc, row.replies, &datagrams, row.troubles, row.count)?)
 }
 
-// Whether bytes are these texts one after another, where they are looked at.
-fn is_joined(bytes: &[u8], texts: Option<&[&[u8]]>) -> bool {
-    let Some(texts) = texts else {
-        return true;
-    };
-    let mut rest = bytes;
-    for text in texts {
-        if !rest.starts_with(text) {
-            return false;
-        }
-        rest = rest.split_at(text.len().min(rest.len())).1;
-    }
-    rest.is_empty()
-}
-
 // Whether bytes are the beginnings of the packets of these datagrams, where they are looked at.
 fn are_packets(bytes: &[u8], parts: Option<&[(u16, usize)]>) -> bool {
     let Some(parts) = parts else {
@@ -315,7 +224,10 @@ fn recordings_come_to_what_their_rows_say(rt: HostRuntime) -> Result<(), Fail> {
         let played = play_row(rt.alloc(), row)?;
         let name = row.name;
         assert_eq!(rt; played.end(), row.end, "{name}");
-        assert!(rt; is_joined(played.sent(), row.sent), "{name}");
+        assert!(rt;
+            row.sent.is_none_or(|texts| is_joined(played.sent(), texts)),
+            "{name}"
+        );
         assert!(rt; are_packets(played.written(), row.written), "{name}");
         assert_eq!(rt; played.told(), row.told.unwrap_or(played.told()), "{name}");
     }

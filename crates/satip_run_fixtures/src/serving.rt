@@ -1,9 +1,9 @@
 //! Connections over memory, and texts that are received and sent on them.
 ghost use Rattle.std.specs.Prelude.{◌≡◌, false};
 
-use crate::setting::{CLIENT, ask_of_stream, give, letters, play, set_up, solo, tick};
+use crate::setting::{ask_of_stream, give, letters, play, set_up, solo, tick};
 use satip_base::Out;
-pub use satip_fixtures::texts::{OPTIONS, OPTIONS_REPLY, SETUP};
+use satip_fixtures::CLIENT;
 use satip_memory::{MemoryConn, MemoryOutlet, MemoryPacer};
 use satip_solo::Solo;
 use satip_worker::{Draws, Room, serve_connection};
@@ -45,15 +45,6 @@ pub struct Seen {
     pub sent: Vec<u8>,
     /// How many datagrams left.
     pub datagrams: usize,
-}
-
-/// The texts one after another.
-pub fn joined(alloc: Global, texts: &[&[u8]]) -> Result<Vec<u8>, Fail> {
-    let mut all = Vec::new(alloc);
-    for text in texts {
-        all.extend_from_slice(text)?;
-    }
-    Ok(all)
 }
 
 // Serves a connection with the draws of the key.

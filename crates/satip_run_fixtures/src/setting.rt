@@ -4,8 +4,8 @@ ghost use Rattle.satip_core.specs.Serving.{StandsAfter};
 
 use satip_base::{Out, SessionId};
 use satip_core::Server;
-pub use satip_fixtures::CLIENT;
-use satip_fixtures::{DRAW, FIRST_MUX, PORTS, SECOND_MUX, config_with, packet};
+use satip_fixtures::texts::first_query;
+use satip_fixtures::{CLIENT, DRAW, FIRST_MUX, PORTS, SECOND_MUX, config_with, packet};
 use satip_history::Entry;
 use satip_plain::{Answer, Event};
 use satip_query::{Query, read};
@@ -16,10 +16,6 @@ use std::alloc::Global;
 use std::test::Fail;
 
 const FIRST: SessionId = SessionId { count: 1, word: 10 };
-
-const TUNING: &[u8] =
-    b"src=1&freq=11361.75&pol=h&ro=0.35&msys=dvbs2&mtype=8psk&plts=on&sr=22000&fec=23&pids=0,16,17\
-    &x_pmt=100";
 
 fn server(alloc: Global) -> Result<Server, Fail>
     ensures history { IfOk result (λ server. StandsAfter server []) }
@@ -65,11 +61,6 @@ fn setup(query: Query) -> Request {
     }
 }
 
-/// The bytes of a packet of PID 16.
-pub fn packet_bytes() -> [u8; 188] {
-    satip_fixtures::packet_bytes(16)
-}
-
 // Makes an event.
 fn make(solo: &mut Solo, event: &Event, out: &mut Out) -> Result<Answer, Fail> {
     Ok(solo.call(event, out).ok().ok_or("answer")?)
@@ -96,7 +87,7 @@ fn make_request(solo: &mut Solo, request: Request, out: &mut Out) -> Result<u16,
 /// Makes the SETUP that founds the first stream.
 pub fn set_up(solo: &mut Solo, out: &mut Out) -> Result<u16, Fail> {
     let mut query = Query::new();
-    read(TUNING, &mut query).ok().ok_or("query")?;
+    read(first_query(), &mut query).ok().ok_or("query")?;
     make_request(solo, setup(query), out)
 }
 

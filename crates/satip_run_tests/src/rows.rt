@@ -1,15 +1,12 @@
 //! Connections that are served by a new server, a row each.
 
+use satip_fixtures::texts::{CLOSING, OPTIONS, OPTIONS_REPLY, SETUP, is_joined, repeated};
 use satip_memory::MemoryConn;
-use satip_run_fixtures::serving::{
-    GET, HEAD, OPTIONS, OPTIONS_REPLY, SETUP, SETUP_REPLY, Seen, joined, serve_alone,
-};
+use satip_run_fixtures::serving::{GET, HEAD, SETUP_REPLY, Seen, serve_alone};
 use satip_world::{ConnEnd, DoorKind};
 use std::alloc::Global;
 use std::sync::Wait;
 use std::test::Fail;
-
-const CLOSING: &[u8] = b"RTSP/1.0 400 Bad Request\r\nConnection: close\r\n\r\n";
 
 const BEGINNING: &[u8] = b"OPTIONS * RTSP/1.0\r\nCSeq: 1\r\n";
 
@@ -85,8 +82,8 @@ const ROWS: &[Row] = &[
         ..RTSP
     },
     Row {
-        name: "a hundred thousand letters are answered once",
-        texts: &[(b"a", 100000)],
+        name: "a hundred thousand letters are answered once, and nothing behind them",
+        texts: &[(b"a", 100000), (OPTIONS, 1)],
         kinds: b"R",
         sent: &[CLOSING],
         ..RTSP
@@ -162,17 +159,6 @@ const ROWS: &[Row] = &[
     },
 ];
 
-// The texts of a row one after another.
-fn text_of(alloc: Global, row: &Row) -> Result<Vec<u8>, Fail> {
-    let mut all = Vec::new(alloc);
-    for (text, times) in row.texts {
-        for _ in 0..*times {
-            all.extend_from_slice(text)?;
-        }
-    }
-    Ok(all)
-}
-
 // What a connection receives at a time.
 fn pieces_of<'a>(alloc: Global, row: &Row, whole: &'a [u8]) -> Result<Vec<&'a [u8]>, Fail> {
     let mut pieces = Vec::new(alloc);
@@ -187,7 +173,7 @@ fn pieces_of<'a>(alloc: Global, row: &Row, whole: &'a [u8]) -> Result<Vec<&'a [u
 }
 
 fn serve_row<R: Wait + Sync>(rt: &R, alloc: Global, row: &Row) -> Result<Seen, Fail> {
-    let whole = text_of(alloc, row)?;
+    let whole = repeated(alloc, row.texts)?;
     let pieces = pieces_of(alloc, row, &whole)?;
     let conn = MemoryConn::make(alloc, &pieces, row.receives, row.sends, row.passed)?;
     serve_alone(rt, alloc, row.kind, conn)
@@ -197,12 +183,10 @@ fn serve_row<R: Wait + Sync>(rt: &R, alloc: Global, row: &Row) -> Result<Seen, F
 fn connections_come_to_what_their_rows_say(rt: HostRuntime) -> Result<(), Fail> {
     for row in ROWS {
         let seen = serve_row(&rt, rt.alloc(), row)?;
-        let sent = joined(rt.alloc(), row.sent)?;
         let name = row.name;
         assert!(rt; seen.end == row.end, "{name}");
         assert_eq!(rt; seen.kinds.as_slice(), row.kinds, "{name}");
-        assert_eq!(rt; seen.sent.as_slice(), sent.as_slice(), "{name}");
+        assert!(rt; is_joined(&seen.sent, row.sent), "{name}");
     }
-    assert_eq!(rt; HEAD.len(), 64);
     Ok(())
 }

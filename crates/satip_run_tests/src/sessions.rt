@@ -1,9 +1,8 @@
 //! RTSP connections of sessions whose devices fail.
 
+use satip_fixtures::texts::{SETUP, joined};
 use satip_memory::MemoryConn;
-use satip_run_fixtures::serving::{
-    PLAY, SETUP, SETUP_REPLY, Seen, joined, serve_and_ask, serve_playing,
-};
+use satip_run_fixtures::serving::{PLAY, SETUP_REPLY, Seen, serve_and_ask, serve_playing};
 use satip_world::ConnEnd;
 use std::alloc::Global;
 use std::sync::Wait;

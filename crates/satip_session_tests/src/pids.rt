@@ -6,6 +6,7 @@ ghost use Rattle.satip_pids.specs.Pids.{Pids, Every, Only, AllPids, Unsaid, List
 
 use plain::PlainSet;
 use satip_base::Strip;
+use satip_fixtures::draws::next_word;
 use satip_pids::{PidFault, PidList, PidSet};
 
 // The PIDs below a number, and in front of them those that are given.
@@ -35,7 +36,6 @@ fn changes_go_in_order()
 
 #[test]
 fn a_set_has_what_was_listed(rt: HostRuntime) {
-    changes_go_in_order();
     let mut set = PidSet::new();
     assert_eq!(rt; set.set(&[17, 0, 16, 17]), Ok(()));
     assert_eq!(rt; set.add(&[100, 16]), Ok(()));
@@ -118,20 +118,13 @@ fn a_word_holds_64_pids(rt: HostRuntime) {
     assert_eq!(rt; set.word(127), u64::MAX);
 }
 
-// The next number of a linear congruential generator.
-fn next(state: u64) -> u64 {
-    state
-        .wrapping_mul(6_364_136_223_846_793_005)
-        .wrapping_add(1_442_695_040_888_963_407)
-}
-
 // Up to 63 PIDs that a number makes, one in four times near each other.
 fn made_list(seed: u64) -> PidList {
     let mut list = PidList::new();
     let span = if seed >> 62 == 0 { 100 } else { 8192 };
     let mut state = seed;
     for _pid in 0..(seed >> 40) % 64 {
-        state = next(state);
+        state = next_word(state);
         list.push(((state >> 33) % span % 8192) as u16);
     }
     list
@@ -139,7 +132,7 @@ fn made_list(seed: u64) -> PidList {
 
 // Makes one call of each set, and tells whether both answer alike.
 fn answer_alike(set: &mut PidSet, plain: &mut PlainSet, seed: u64) -> bool {
-    let list = made_list(next(seed));
+    let list = made_list(next_word(seed));
     match (seed >> 48) % 16 {
         0 => {
             set.set_all();
@@ -167,7 +160,7 @@ fn bits_and_a_list_are_the_same_set(rt: HostRuntime) {
     let mut plain = PlainSet::new();
     let mut state = 25;
     for _call in 0..10_000 {
-        state = next(state);
+        state = next_word(state);
         assert!(rt; answer_alike(&mut set, &mut plain, state));
         assert!(rt; are_alike(&set, &plain, (state >> 50) as u16 % 8192));
     }

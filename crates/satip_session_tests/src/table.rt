@@ -4,6 +4,7 @@ mod plain;
 
 use plain::Plain;
 use satip_base::{Draw, Peer, Ports, SessionId, Want};
+use satip_fixtures::draws::{FIRST_DRAW, next_draw};
 use satip_fixtures::{CLIENT, DRAW, PORTS};
 use satip_pids::PidSet;
 use satip_table::{NewSession, Session, Stream, Table};
@@ -232,9 +233,9 @@ fn ten_thousand_calls_are_as_on_plain_lists(rt: HostRuntime) -> Result<(), Want>
         streams: Vec::new(rt.alloc()),
         made: 0,
     };
-    let mut draw: u32 = 2463534242;
+    let mut draw = FIRST_DRAW;
     for _ in 0..10000 {
-        draw = draw.wrapping_mul(1664525).wrapping_add(1013904223);
+        draw = next_draw(draw);
         let kind = draw >> 28;
         let drawn = (draw >> 8) % 65536;
         let same = match kind {

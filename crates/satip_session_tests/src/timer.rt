@@ -4,6 +4,7 @@ mod plain;
 
 use plain::Plain;
 use satip_base::Want;
+use satip_fixtures::draws::{FIRST_DRAW, next_draw};
 use satip_timer::Timer;
 use std::alloc::Global;
 
@@ -50,9 +51,9 @@ fn a_deadline_is_replaced(rt: HostRuntime) -> Result<(), Want> {
 fn ten_thousand_calls_are_as_on_a_plain_list(rt: HostRuntime) -> Result<(), Want> {
     let mut timer = Timer::make(rt.alloc())?;
     let mut plain = Plain { dues: [None; 64] };
-    let mut draw: u32 = 2463534242;
+    let mut draw = FIRST_DRAW;
     for _ in 0..10000 {
-        draw = draw.wrapping_mul(1664525).wrapping_add(1013904223);
+        draw = next_draw(draw);
         let key = (draw >> 26) as usize;
         let moment = ((draw >> 12) % 128) as u64;
         if (draw >> 8) % 3 == 0 {

@@ -72,7 +72,6 @@ fn ask_stop_ask<R: Wait + Sync>(
 fn a_caller_sees_anothers_entry_between_its_own(rt: HostRuntime) -> Result<(), Fail> {
     let mut out = Out::make(rt.alloc())?;
     let (server, first) = shared(rt.alloc())?;
-    caller_rows(&server, 1);
     let (pass, before, stop, after) = ask_stop_ask(&rt, &server, first, &mut out).ok_or("spent")?;
     assert_eq!(rt; before, Answer::Work(Work::Nothing));
     assert_eq!(rt; stop, Answer::Beat(Beat::Stopping));

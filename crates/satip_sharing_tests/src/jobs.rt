@@ -116,8 +116,3 @@ fn numbers_side_by_side()
     ensures other { Both (λ x y. y ≡ x + 1) (1 ∷ 2 ∷ []) (2 ∷ 4 ∷ []) → ⊥ }
     ensures shorter { Both (λ x y. y ≡ x + 1) (1 ∷ 2 ∷ []) (2 ∷ []) → ⊥ }
 {}
-
-#[test]
-fn both_lists_have_the_same_length(_rt: HostRuntime) {
-    numbers_side_by_side();
-}

@@ -13,7 +13,7 @@ use satip_memory::{MemoryClock, MemoryConn, MemoryDoors, MemoryOutlet, MemoryPac
 use satip_pump::TickKit;
 use satip_serve::{Jobs, ServeEnd, serve};
 use satip_worker::WorkerKit;
-use satip_world::DoorKind;
+use satip_world::{ConnEnd, DoorKind};
 use std::alloc::Global;
 use std::sync::Wait;
 use std::test::Fail;
@@ -54,12 +54,11 @@ fn two_workers(alloc: Global) -> Result<MemoryJobs, Fail>
     })
 }
 
-fn all_replied(kits: &[MemoryKit]) -> bool {
-    kits.iter().all(|kit| {
-        kit.doors
-            .returned()
-            .iter()
-            .all(|handed| handed.conn.sent() == OPTIONS_REPLY)
+// Whether each worker served its connection.
+fn have_served(kits: &[MemoryKit]) -> bool {
+    kits.iter().all(|kit| match kit.doors.returned() {
+        [handed] => handed.end == ConnEnd::Done && handed.conn.sent() == OPTIONS_REPLY,
+        _ => false,
     })
 }
 
@@ -76,6 +75,6 @@ fn two_workers_serve_a_connection_each(rt: HostRuntime) -> Result<(), Fail> {
     };
     assert!(rt; end == ServeEnd::Served);
     assert!(rt; last.jobs.workers.len() == 2);
-    assert!(rt; all_replied(last.jobs.workers.as_slice()));
+    assert!(rt; have_served(last.jobs.workers.as_slice()));
     Ok(())
 }

@@ -2,7 +2,7 @@
 
 use satip_base::Strip;
 use satip_config::*;
-use satip_tune::{Mux, Pol, System};
+use satip_fixtures::{FIRST_MUX, SECOND_MUX};
 use std::alloc::{AllocError, Global};
 use std::test::Fail;
 
@@ -372,22 +372,8 @@ fn two_fronts_and_two_multiplexes_are_read(rt: HostRuntime) -> Result<(), Fail> 
     assert!(rt; config.fronts[1].sources[1] && !config.fronts[1].sources[2]);
     assert_eq!(rt; config.fronts[1].systems, [true, true]);
     assert_eq!(rt; config.muxes.len(), 2);
-    let first = Mux {
-        src: 1,
-        freq: 11361750,
-        pol: Pol::H,
-        msys: System::Dvbs2,
-        sr: 22000,
-    };
-    let second = Mux {
-        src: 1,
-        freq: 12402000,
-        pol: Pol::V,
-        msys: System::Dvbs,
-        sr: 27500,
-    };
-    assert_eq!(rt; config.muxes[0], first);
-    assert_eq!(rt; config.muxes[1], second);
+    assert_eq!(rt; config.muxes[0], FIRST_MUX);
+    assert_eq!(rt; config.muxes[1], SECOND_MUX);
     assert_eq!(rt; config.files.len(), 2);
     assert_eq!(rt; config.files[0].bytes(), b"a.ts".as_slice());
     assert_eq!(rt; config.files[1].bytes(), b"b.ts".as_slice());

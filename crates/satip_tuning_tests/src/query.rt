@@ -8,10 +8,7 @@ use std::test::Fail;
 
 fn fault_of(text: &[u8]) -> Option<QueryFault> {
     let mut query = Query::new();
-    match read(text, &mut query) {
-        Ok(()) => None,
-        Err(fault) => Some(fault),
-    }
+    read(text, &mut query).err()
 }
 
 fn list_of(pid: u16) -> PidList {

@@ -1,5 +1,6 @@
 //! Tunings, words and frequencies by example.
 
+use satip_fixtures::{FIRST_MUX, FIRST_TUNING};
 use satip_tune::*;
 
 const NOTHING: Change = Change {
@@ -15,29 +16,8 @@ const NOTHING: Change = Change {
     fec: None,
 };
 
-fn tuning() -> Tuning {
-    Tuning {
-        fe: None,
-        src: 1,
-        freq: 11361750,
-        pol: Pol::H,
-        ro: Some(RollOff::R35),
-        msys: System::Dvbs2,
-        mtype: Some(Modulation::Psk8),
-        plts: Some(true),
-        sr: 22000,
-        fec: Some(Fec::F23),
-    }
-}
-
 fn mux(freq: u32) -> Mux {
-    Mux {
-        src: 1,
-        freq,
-        pol: Pol::H,
-        msys: System::Dvbs2,
-        sr: 22000,
-    }
+    Mux { freq, ..FIRST_MUX }
 }
 
 #[test]
@@ -48,12 +28,12 @@ fn change_keeps_what_it_does_not_give(rt: HostRuntime) {
         plts: Some(false),
         ..NOTHING
     };
-    let merged = merge(&tuning(), &change);
+    let merged = merge(&FIRST_TUNING, &change);
     let wanted = Tuning {
         fe: Some(2),
         pol: Pol::V,
         plts: Some(false),
-        ..tuning()
+        ..FIRST_TUNING
     };
     assert_eq!(rt; merged, wanted);
     assert!(rt; change.any());
@@ -102,13 +82,13 @@ fn front_fits_by_source_system_and_number(rt: HostRuntime) {
         sources,
         systems: [false, true],
     };
-    assert!(rt; fits(&front, &tuning()));
+    assert!(rt; fits(&front, &FIRST_TUNING));
     assert!(rt;
         fits(
             &front,
             &Tuning {
                 fe: Some(2),
-                ..tuning()
+                ..FIRST_TUNING
             }
         )
     );
@@ -117,17 +97,25 @@ fn front_fits_by_source_system_and_number(rt: HostRuntime) {
             &front,
             &Tuning {
                 fe: Some(1),
-                ..tuning()
+                ..FIRST_TUNING
             }
         )
     );
-    assert!(rt; !fits(&front, &Tuning { src: 2, ..tuning() }));
+    assert!(rt;
+        !fits(
+            &front,
+            &Tuning {
+                src: 2,
+                ..FIRST_TUNING
+            }
+        )
+    );
     assert!(rt;
         !fits(
             &front,
             &Tuning {
                 msys: System::Dvbs,
-                ..tuning()
+                ..FIRST_TUNING
             }
         )
     );
@@ -136,13 +124,13 @@ fn front_fits_by_source_system_and_number(rt: HostRuntime) {
 #[test]
 fn multiplex_is_the_first_within_2000_khz(rt: HostRuntime) {
     let muxes = [mux(11363751), mux(11363750), mux(11359750), mux(11361750)];
-    assert_eq!(rt; mux_of(&muxes, &tuning()), Some(2));
+    assert_eq!(rt; mux_of(&muxes, &FIRST_TUNING), Some(2));
     assert_eq!(rt;
         mux_of(
             &muxes,
             &Tuning {
                 freq: 11357750,
-                ..tuning()
+                ..FIRST_TUNING
             }
         ),
         Some(3)
@@ -152,12 +140,12 @@ fn multiplex_is_the_first_within_2000_khz(rt: HostRuntime) {
             &muxes,
             &Tuning {
                 pol: Pol::V,
-                ..tuning()
+                ..FIRST_TUNING
             }
         ),
         None
     );
-    assert_eq!(rt; mux_of(&[], &tuning()), None);
+    assert_eq!(rt; mux_of(&[], &FIRST_TUNING), None);
 }
 
 #[test]

@@ -83,8 +83,6 @@ fn ask_enter_ask<R: Wait + Sync>(
 fn a_caller_counts_entries_of_lanes(rt: HostRuntime) -> Result<(), Fail> {
     let mut out = Out::make(rt.alloc())?;
     let (server, first) = shared(rt.alloc())?;
-    entry_rows();
-    caller_rows(&server, 1);
     let (pass, before, entered, after) = ask_enter_ask(&rt, &server, first, &mut out).ok_or(
         "spent",
     )?;

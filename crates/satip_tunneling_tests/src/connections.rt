@@ -3,7 +3,7 @@ ghost use Rattle.satip_tunnel.specs.Histories.{TunnelLegal};
 ghost use Rattle.satip_turn.specs.Shown.{IsOf, Knows};
 
 use crate::setting::shared;
-use satip_fixtures::texts::{OPTIONS, OPTIONS_REPLY, SETUP, SETUP_INTERLEAVED};
+use satip_fixtures::texts::{CLOSING, OPTIONS, OPTIONS_REPLY, SETUP, SETUP_INTERLEAVED};
 use satip_interleave::{SharedTunnel, TunnelCaller, TunnelPass, TunnelRoom};
 use satip_memory::{MemoryConn, MemoryPacer};
 use satip_tunnel::TunnelEvent;
@@ -28,9 +28,6 @@ pub const SETUP_REPLY: &[u8] = b"RTSP/1.0 200 OK\r\n\
 
 const REFUSED: &[u8] = b"RTSP/1.0 461 Unsupported Transport\r\nCSeq: 1\r\n\r\n";
 
-/// What closes a connection on which no message came.
-const CLOSING: &[u8] = b"RTSP/1.0 400 Bad Request\r\nConnection: close\r\n\r\n";
-
 /// The key of what is drawn. Its first draw has the word ade0b876 (the first word of the ChaCha20
 /// stream of this key).
 pub const KEY: [u8; 32] = [0; 32];
@@ -46,6 +43,64 @@ struct Row<'a> {
     sent: &'a [u8],
     entries: u64,
 }
+
+// A connection that ends well, on which nothing comes in.
+const DONE: Row<'static> = Row {
+    pieces: &[],
+    failing_receives: &[],
+    failing_sends: &[],
+    end: TunnelEnd::Done,
+    sent: b"",
+    entries: 2,
+};
+
+// Connections that end well, and such whose receive or send fails.
+const ROWS: &[Row<'static>] = &[
+    Row {
+        pieces: &[SETUP],
+        sent: REFUSED,
+        entries: 4,
+        ..DONE
+    },
+    Row {
+        pieces: &[SETUP_INTERLEAVED],
+        sent: SETUP_REPLY,
+        entries: 4,
+        ..DONE
+    },
+    Row {
+        pieces: &[b"", OPTIONS],
+        sent: OPTIONS_REPLY,
+        entries: 5,
+        ..DONE
+    },
+    Row {
+        pieces: &[b"OPTIONS * RTSP"],
+        ..DONE
+    },
+    Row {
+        pieces: &[b"a\r\n\r\n", OPTIONS],
+        sent: CLOSING,
+        entries: 4,
+        ..DONE
+    },
+    Row {
+        pieces: &[OPTIONS],
+        failing_sends: &[1],
+        end: TunnelEnd::WriteFault,
+        sent: b"RTSP/1.0 2",
+        entries: 3,
+        ..DONE
+    },
+    Row {
+        pieces: &[OPTIONS, OPTIONS],
+        failing_receives: &[2],
+        end: TunnelEnd::ReadFault,
+        sent: OPTIONS_REPLY,
+        entries: 4,
+        ..DONE
+    },
+];
 
 // Serves a connection; a send that fails passes ten bytes.
 fn serve<R: Wait + Sync + Abort>(
@@ -72,18 +127,6 @@ fn serve<R: Wait + Sync + Abort>(
     Ok(())
 }
 
-// A connection that ends well.
-fn expect_done<'a>(pieces: &'a [&'a [u8]], sent: &'a [u8], entries: u64) -> Row<'a> {
-    Row {
-        pieces,
-        failing_receives: &[],
-        failing_sends: &[],
-        end: TunnelEnd::Done,
-        sent,
-        entries,
-    }
-}
-
 // The text of the report and the OPTIONS, cut at every byte.
 fn serve_cut<R: Wait + Sync + Abort>(
     rt: &R,
@@ -93,65 +136,28 @@ fn serve_cut<R: Wait + Sync + Abort>(
 ) -> Result<(), Fail> {
     for cut in 1..REPORT_AND_OPTIONS.len() {
         let (front, back) = REPORT_AND_OPTIONS.split_at(cut);
-        serve(
-            rt,
-            alloc,
-            caller,
-            room,
-            &expect_done(&[front, back], OPTIONS_REPLY, 4),
-        )?;
+        let pieces = [front, back];
+        let row = Row {
+            pieces: &pieces,
+            sent: OPTIONS_REPLY,
+            entries: 4,
+            ..DONE
+        };
+        serve(rt, alloc, caller, room, &row)?;
     }
     Ok(())
 }
 
-// Connections that end well, and such whose receive or send fails.
 fn serve_rows<R: Wait + Sync + Abort>(
     rt: &R,
     alloc: Global,
     caller: &mut TunnelCaller<R>,
     room: &mut TunnelRoom,
 ) -> Result<(), Fail> {
-    serve(rt, alloc, caller, room, &expect_done(&[SETUP], REFUSED, 4))?;
-    serve(
-        rt,
-        alloc,
-        caller,
-        room,
-        &expect_done(&[SETUP_INTERLEAVED], SETUP_REPLY, 4),
-    )?;
-    serve(
-        rt,
-        alloc,
-        caller,
-        room,
-        &expect_done(&[b"", OPTIONS], OPTIONS_REPLY, 5),
-    )?;
-    serve(
-        rt,
-        alloc,
-        caller,
-        room,
-        &expect_done(&[b"OPTIONS * RTSP"], b"", 2),
-    )?;
-    serve(
-        rt,
-        alloc,
-        caller,
-        room,
-        &expect_done(&[b"a\r\n\r\n", OPTIONS], CLOSING, 4),
-    )?;
-    let lost = Row {
-        failing_sends: &[1],
-        end: TunnelEnd::WriteFault,
-        ..expect_done(&[OPTIONS], b"RTSP/1.0 2", 3)
-    };
-    serve(rt, alloc, caller, room, &lost)?;
-    let unread = Row {
-        failing_receives: &[2],
-        end: TunnelEnd::ReadFault,
-        ..expect_done(&[OPTIONS, OPTIONS], OPTIONS_REPLY, 4)
-    };
-    serve(rt, alloc, caller, room, &unread)
+    for row in ROWS {
+        serve(rt, alloc, caller, room, row)?;
+    }
+    Ok(())
 }
 
 // Takes all lanes, and serves one connection more.
@@ -167,8 +173,10 @@ fn serve_full<R: Wait + Sync + Abort>(
             .call(rt, &mut caller.pass, &TunnelEvent::Enter, &mut room.out);
     }
     let full = Row {
+        pieces: &[OPTIONS],
         end: TunnelEnd::Full,
-        ..expect_done(&[OPTIONS], b"", 1)
+        entries: 1,
+        ..DONE
     };
     serve(rt, alloc, caller, room, &full)
 }

@@ -104,7 +104,6 @@ fn two_callers_share_one_history(rt: HostRuntime) -> Result<(), Fail> {
     let (cell, mut first) = TurnCell::make(rt.alloc(), Counter { sum: 0 })
         .ok()
         .ok_or("memory")?;
-    longer_rows(5, 7, 1);
     assert!(rt; call_by_two(&rt, &cell, &mut first) == Some((5, 12, 13)));
     assert!(rt; first.place() == 3);
     cell.refresh(&rt, &mut first);

@@ -3,7 +3,9 @@
 mod script;
 
 use satip_base::Peer;
+use satip_fixtures::texts::{is_joined, joined};
 use satip_memory::{MemoryConn, MemoryDoors, MemoryOutlet, MemoryPacer};
+use satip_plain::Pulled;
 use satip_worker::*;
 use satip_world::{ConnEnd, DoorKind};
 use script::Scripted;
@@ -15,7 +17,10 @@ const CLIENT: Peer = Peer { ip: 0x7f00_0001 };
 
 const KEY: [u8; 32] = [7; 32];
 
-const NO_PULLS: [u8; 4] = [0; 4];
+const NO_PULLS: [Pulled; 4] = [Pulled::Gone; 4];
+
+// The bytes of OK.
+const BYTES: Pulled = Pulled::Bytes(19);
 
 const SETUP: &[u8] =
     b"SETUP rtsp://192.168.1.10/?src=1&freq=12402&pol=v&msys=dvbs&sr=27500 RTSP/1.0\r\n\
@@ -35,24 +40,22 @@ const BAD: &[u8] = b"RTSP/1.0 400 Bad Request\r\n\r\n";
 
 const HEAD: &[u8] = b"HTTP/1.1 200 OK\r\n";
 
-// A connection over a scripted service, and what serving it is to come to. It receives so many
-// bytes of noise and then these pieces, each alone or all at once; receives, sends and posts of
-// these numbers fail, and of a failing send so many bytes are passed. The service starts a session
-// at a GET or refuses it, answers pulls so, sends a datagram at each call or none, and has room for
-// so many entries. The number of the pauses, datagrams and draws is looked at where it is given.
+// A connection over a scripted service, and what serving it is to come to. It receives these
+// pieces, each alone or all at once; sends and posts of these numbers fail, and of a failing send so
+// many bytes are passed. The service starts a session at a GET or refuses it, answers pulls so,
+// sends a datagram at each call or none, and has room for so many entries. The number of the pauses,
+// datagrams and draws is looked at where it is given.
 #[derive(Clone, Copy)]
 struct Row {
     name: &'static str,
     kind: DoorKind,
-    noise: (u8, usize),
     pieces: &'static [&'static [u8]],
     joined: bool,
-    receives: &'static [u64],
     sends: &'static [u64],
     passed: usize,
     posts: &'static [u64],
     starts: bool,
-    pulls: [u8; 4],
+    pulls: [Pulled; 4],
     posting: bool,
     room: u8,
     end: ConnEnd,
@@ -67,10 +70,8 @@ struct Row {
 const RTSP: Row = Row {
     name: "",
     kind: DoorKind::Rtsp,
-    noise: (0, 0),
     pieces: &[],
     joined: false,
-    receives: &[],
     sends: &[],
     passed: 0,
     posts: &[],
@@ -115,50 +116,6 @@ const ROWS: &[Row] = &[
         ..RTSP
     },
     Row {
-        name: "a closing reply is the last",
-        noise: (b'a', 100000),
-        pieces: &[OPTIONS],
-        kinds: *b"R---",
-        sent: &[BAD],
-        ..RTSP
-    },
-    Row {
-        name: "newlines are no message",
-        noise: (b'\n', 1000000),
-        ..RTSP
-    },
-    Row {
-        name: "half a message is not answered",
-        pieces: &[b"OPTIONS * RTSP/1.0"],
-        ..RTSP
-    },
-    Row {
-        name: "a first receive that fails ends the connection",
-        pieces: &[SETUP],
-        receives: &[1],
-        end: ConnEnd::ReadFault,
-        ..RTSP
-    },
-    Row {
-        name: "a second receive that fails ends the connection",
-        pieces: &[SETUP, PLAY],
-        receives: &[2],
-        end: ConnEnd::ReadFault,
-        kinds: *b"R---",
-        sent: &[OK],
-        ..RTSP
-    },
-    Row {
-        name: "a send that fails has a beginning of the reply",
-        pieces: &[OPTIONS],
-        sends: &[1],
-        passed: 10,
-        end: ConnEnd::WriteFault,
-        kinds: *b"R---",
-        sent: &[b"RTSP/1.0 2"],
-        ..RTSP
-    },
-    Row {
         name: "a failed outlet changes nothing else",
         pieces: &[OPTIONS, OPTIONS],
         joined: true,
@@ -180,41 +137,17 @@ const ROWS: &[Row] = &[
         ..RTSP
     },
     Row {
-        name: "a GET is pulled and closed",
-        pulls: *b"EEEE",
-        kinds: *b"GPC-",
-        sent: &[HEAD],
-        ..HTTP
-    },
-    Row {
         name: "what is pulled is sent until the session is gone",
-        pulls: *b"BB\0\0",
+        pulls: [BYTES, BYTES, Pulled::Gone, Pulled::Gone],
         kinds: *b"GPPP",
         sent: &[HEAD, OK, OK],
-        ..HTTP
-    },
-    Row {
-        name: "a session is closed where its head is not sent",
-        sends: &[1],
-        pulls: *b"EEEE",
-        end: ConnEnd::WriteFault,
-        kinds: *b"GC--",
-        ..HTTP
-    },
-    Row {
-        name: "a session is closed where a receive fails",
-        receives: &[2],
-        pulls: *b"EEEE",
-        end: ConnEnd::ReadFault,
-        kinds: *b"GPC-",
-        sent: &[HEAD],
         ..HTTP
     },
     Row {
         name: "an end closes a session before a send fails",
         sends: &[2],
         passed: 4,
-        pulls: *b"EBBB",
+        pulls: [Pulled::Empty, BYTES, BYTES, BYTES],
         kinds: *b"GPC-",
         sent: &[HEAD],
         ..HTTP
@@ -223,7 +156,7 @@ const ROWS: &[Row] = &[
         name: "a session is closed where what was pulled is not sent",
         sends: &[3],
         passed: 4,
-        pulls: *b"BBBB",
+        pulls: [BYTES; 4],
         end: ConnEnd::WriteFault,
         kinds: *b"GPPC",
         sent: &[HEAD, OK, b"RTSP"],
@@ -248,43 +181,12 @@ struct Report {
     pauses: u64,
 }
 
-// The texts one after another.
-fn joined(alloc: Global, texts: &[&[u8]]) -> Result<Vec<u8>, Fail> {
-    let mut all = Vec::new(alloc);
-    for text in texts {
-        all.extend_from_slice(text)?;
-    }
-    Ok(all)
-}
-
-// What a connection receives at a time.
-fn pieces_of<'a>(
-    alloc: Global,
-    row: &Row,
-    noise: &'a [u8],
-    joined: &'a [u8],
-) -> Result<Vec<&'a [u8]>, Fail> {
-    let mut pieces = Vec::new(alloc);
-    if !noise.is_empty() {
-        pieces.push(noise)?;
-    }
-    if row.joined {
-        pieces.push(joined)?;
-        return Ok(pieces);
-    }
-    for piece in row.pieces {
-        pieces.push(*piece)?;
-    }
-    Ok(pieces)
-}
-
 fn conn_of(alloc: Global, row: &Row) -> Result<MemoryConn, Fail> {
-    let (byte, count) = row.noise;
-    let noise = vec![in alloc; byte; count]?;
-    let joined = joined(alloc, row.pieces)?;
-    let pieces = pieces_of(alloc, row, &noise, &joined)?;
-    let conn = MemoryConn::make(alloc, &pieces, row.receives, row.sends, row.passed)?;
-    Ok(conn)
+    if !row.joined {
+        return Ok(MemoryConn::make(alloc, row.pieces, &[], row.sends, row.passed)?);
+    }
+    let whole = joined(alloc, row.pieces)?;
+    Ok(MemoryConn::make(alloc, &[&whole], &[], row.sends, row.passed)?)
 }
 
 fn serve<R: Wait + Sync>(rt: &R, alloc: Global, row: &Row) -> Result<Report, Fail> {
@@ -312,18 +214,6 @@ fn serve<R: Wait + Sync>(rt: &R, alloc: Global, row: &Row) -> Result<Report, Fai
         datagrams: outlet.count(),
         pauses: pacer.pauses(),
     })
-}
-
-// Whether bytes are these texts one after another.
-fn is_joined(bytes: &[u8], texts: &[&[u8]]) -> bool {
-    let mut rest = bytes;
-    for text in texts {
-        if !rest.starts_with(text) {
-            return false;
-        }
-        rest = rest.split_at(text.len().min(rest.len())).1;
-    }
-    rest.is_empty()
 }
 
 // Whether the first entries have these draws.
@@ -431,7 +321,7 @@ fn a_worker_serves_its_connections_until_its_doors_fail(rt: HostRuntime) -> Resu
     let mut doors = MemoryDoors::make(alloc, 0, &[2], &[4])?;
     add(&mut doors, alloc, DoorKind::Rtsp, OPTIONS, &[])?;
     add(&mut doors, alloc, DoorKind::Http, GET, &[1])?;
-    let service = Scripted::new(true, *b"EEEE", false, 4);
+    let service = Scripted::new(true, [Pulled::Empty; 4], false, 4);
     let shift = work(&rt, alloc, doors, service, 3)?;
     assert!(rt; shift.end == WorkerEnd::DoorsFault && shift.pauses == 1);
     assert!(rt; shift.service.kinds() == *b"RGC-");

@@ -2,6 +2,7 @@
 
 use super::plain::PlainPacker;
 use satip_base::{Address, Out};
+use satip_fixtures::draws::next_word;
 use satip_rtp::Packer;
 use satip_ts::Packet;
 use std::test::Fail;
@@ -65,12 +66,6 @@ fn packet_of(word: u64) -> Option<Packet> {
         bytes[place] = (word.rotate_left(place as u32 % 64) & 0xff) as u8 ^ place as u8;
     }
     Packet::of(&bytes)
-}
-
-/// The next word of a linear congruential generator (Knuth's MMIX).
-fn next_word(word: u64) -> u64 {
-    word.wrapping_mul(6364136223846793005)
-        .wrapping_add(1442695040888963407)
 }
 
 #[test]

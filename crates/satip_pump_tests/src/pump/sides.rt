@@ -6,6 +6,7 @@ use super::plain::PlainPump;
 use super::script::{Note, Scripted};
 use super::{FIRST, SECOND, kit, pump};
 use satip_base::Out;
+use satip_fixtures::draws::next_word;
 use satip_memory::MemoryStore;
 use satip_pump::JobEnd;
 use std::alloc::Global;
@@ -18,7 +19,7 @@ const ROUNDS: u64 = 64;
 // How many packets a recording has, or parts that are none in place of some.
 const UNITS: u32 = 150;
 
-// The words of a linear congruential generator (Knuth's MMIX).
+// The words of a generator.
 #[derive(Drop)]
 struct Words {
     last: u64,
@@ -26,10 +27,7 @@ struct Words {
 
 impl Words {
     fn next(&mut self) -> u64 {
-        self.last = self
-            .last
-            .wrapping_mul(6364136223846793005)
-            .wrapping_add(1442695040888963407);
+        self.last = next_word(self.last);
         self.last >> 8
     }
 

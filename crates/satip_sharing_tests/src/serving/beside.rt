@@ -4,7 +4,7 @@ ghost use Rattle.std.specs.Prelude.{◌≡◌, length, IfOk};
 
 use super::gated::{Client, Gate, GatedClock, GatedDoors, GatedOutlet, GatedPacer, Signals};
 use satip_config::Config;
-use satip_fixtures::texts::{OPTIONS, OPTIONS_REPLY};
+use satip_fixtures::texts::{OPTIONS, OPTIONS_REPLY, repeated};
 use satip_fixtures::{CLIENT, FIRST_MUX, config_with, packet_bytes};
 use satip_memory::{MemoryClock, MemoryConn, MemoryDoors, MemoryOutlet, MemoryPacer, MemoryStore};
 use satip_pump::{PumpKit, TickKit};
@@ -87,20 +87,11 @@ fn worker<'a>(alloc: Global, signals: &'a Signals, client: Client) -> Result<Wor
     })
 }
 
-// So many packets of PID 16.
-fn recording(alloc: Global, count: usize) -> Result<Vec<u8>, Fail> {
-    let packet = packet_bytes(16);
-    let mut bytes = Vec::new(alloc);
-    for _ in 0..count {
-        bytes.extend_from_slice(&packet)?;
-    }
-    Ok(bytes)
-}
-
 // It pauses after 64 packets until the PLAY was answered, so that packets are left for it.
 fn pump<'a>(alloc: Global, signals: &'a Signals) -> Result<Pump<'a>, Fail> {
+    let recording = repeated(alloc, &[(packet_bytes(16).as_slice(), 200)])?;
     let mut store = MemoryStore::make(alloc, &[])?;
-    store.add(1, &recording(alloc, 200)?, &[], &[])?;
+    store.add(1, &recording, &[], &[])?;
     Ok(PumpKit {
         store,
         outlet: outlet(alloc, signals)?,

@@ -47,13 +47,13 @@ pub(crate) struct Notes {
     fourth: Option<Note>,
 }
 
-// Whether a GET starts a session, what its pulls find (B for bytes, E for none, else the session is
-// gone), whether each call sends a datagram, and how many entries are made at most.
+// Whether a GET starts a session, what its pulls find, whether each call sends a datagram, and how
+// many entries are made at most.
 #[derive(Drop)]
 pub(crate) struct Scripted {
     notes: Notes,
     starts: bool,
-    pulls: [u8; 4],
+    pulls: [Pulled; 4],
     next: usize,
     sends: bool,
     room: u8,
@@ -221,14 +221,11 @@ fn kind_of(note: &Option<Note>) -> u8 {
 }
 
 fn draw_of(note: &Option<Note>) -> Option<Draw> {
-    match note {
-        Some(note) => Some(note.draw),
-        None => None,
-    }
+    note.as_ref().map(|note| note.draw)
 }
 
 impl Scripted {
-    pub(crate) fn new(starts: bool, pulls: [u8; 4], sends: bool, room: u8) -> Scripted {
+    pub(crate) fn new(starts: bool, pulls: [Pulled; 4], sends: bool, room: u8) -> Scripted {
         Scripted {
             notes: Notes {
                 first: None,
@@ -268,13 +265,9 @@ impl Scripted {
     fn pull(&mut self) -> Pulled
         ensures same { self.new.notes ≡ self.old.notes }
     {
-        let found = self.pulls.get(self.next).copied().unwrap_or(0);
+        let found = self.pulls.get(self.next).copied();
         self.next = self.next.saturating_add(1);
-        match found {
-            b'B' => Pulled::Bytes(19),
-            b'E' => Pulled::Empty,
-            _ => Pulled::Gone,
-        }
+        found.unwrap_or(Pulled::Gone)
     }
 
     fn answer(&mut self, event: &Event) -> Option<Answer>
