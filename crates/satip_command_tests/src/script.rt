@@ -452,7 +452,10 @@ fn first_wrong_line_is_told(rt: HostRuntime) -> Result<(), Fail> {
 
 // What the next event of a script says.
 fn next_said(script: &mut Script, framer: &mut Framer) -> Option<Said> {
-    script.next(framer).map(|event| said_by(&event))
+    match script.next(framer) {
+        Some(event) => Some(said_by(&event)),
+        None => None,
+    }
 }
 
 #[test]

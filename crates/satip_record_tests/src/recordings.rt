@@ -24,7 +24,10 @@ pub(crate) fn record(
 
 // What was sent, if there was a connection.
 fn sent(ran: &Ran) -> Option<&[u8]> {
-    ran.ended.wire.as_ref().map(|wire| wire.sent())
+    match &ran.ended.wire {
+        Some(wire) => Some(wire.sent()),
+        None => None,
+    }
 }
 
 // A recording over a connection on which these pieces come in, and an inlet with these datagrams,

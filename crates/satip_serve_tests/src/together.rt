@@ -103,8 +103,10 @@ fn told_of(workers: &[WaitingWorker], sent: &[u8]) -> Outcome {
 
 // What is told of a run whose first client is sent these bytes.
 fn told(ran: &Ran<WaitingDesk>, sent: &[u8]) -> Outcome {
-    let last = ran.ended.last.as_ref();
-    ran.told(last.map(|last| told_of(&last.jobs.workers, sent)))
+    ran.told(match &ran.ended.last {
+        Some(last) => Some(told_of(&last.jobs.workers, sent)),
+        None => None,
+    })
 }
 
 // Jobs that ran one after another would never come together.

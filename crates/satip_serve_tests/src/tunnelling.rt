@@ -117,8 +117,10 @@ fn told_of(workers: &[WaitingWorker]) -> Outcome {
 
 // What is told of a run.
 fn told(ran: &Ran<WaitingDesk>) -> Outcome {
-    let left = ran.ended.tunnel.as_ref();
-    ran.told(left.map(|left| told_of(&left.jobs.workers)))
+    ran.told(match &ran.ended.tunnel {
+        Some(left) => Some(told_of(&left.jobs.workers)),
+        None => None,
+    })
 }
 
 // A connection that doesn't send frames while nothing comes in would never be torn down.
