@@ -121,14 +121,6 @@ fn kits<'a>(
     })
 }
 
-// The configuration, with two workers.
-fn configuration(alloc: Global) -> Result<MemorySource, Want> {
-    let Ok(text) = format!(in alloc; "workers = 2\n{CONFIGURATION}") else {
-        return Err(Want);
-    };
-    MemorySource::make(alloc, text.as_bytes(), &[], &[])
-}
-
 /// A desk that has one configuration for each name, and the kits for it. It tells no text.
 #[derive(Drop)]
 pub struct WaitingDesk<'a> {
@@ -214,7 +206,11 @@ impl<'a> Desk for WaitingDesk<'a> {
     }
 
     fn config(&mut self, _name: &Text) -> Result<MemorySource, Failed> {
-        match configuration(self.alloc) {
+        let Ok(text) = format!(in self.alloc; "workers = 2\n{CONFIGURATION}") else {
+            self.faults = self.faults.saturating_add(1);
+            return Err(Failed);
+        };
+        match MemorySource::make(self.alloc, text.as_bytes(), &[], &[]) {
             Ok(source) => Ok(source),
             Err(Want) => {
                 self.faults = self.faults.saturating_add(1);
