@@ -4,7 +4,7 @@ ghost use Rattle.satip_plain.specs.declared.events.Event.TheVariants.{Ask};
 ghost use Rattle.satip_plain.specs.Histories.{Legal};
 ghost use Rattle.satip_turn.specs.Shown.{IsOf, Knows};
 
-use crate::server::shared;
+use crate::server::{devices, shared};
 use satip_base::Out;
 use satip_journal::Journal;
 use satip_memory::MemorySink;
@@ -72,9 +72,7 @@ fn ask_often<R: Wait + Sync>(
 
 #[test]
 fn each_event_of_a_burst_has_a_line(rt: HostRuntime) -> Result<(), Fail> {
-    let mut out = Out::make(rt.alloc())?;
-    let sink = MemorySink::make(rt.alloc(), &[], 0)?;
-    let line = LineRoom::make(rt.alloc())?;
+    let (mut out, sink, line) = devices(rt.alloc())?;
     let (server, pass) = shared(rt.alloc())?;
     let (sink, left) = ask_often(&rt, &server, pass, sink, line, &mut out, 2).ok_or("spent")?;
     assert_eq!(rt; left, 0);
@@ -85,9 +83,7 @@ fn each_event_of_a_burst_has_a_line(rt: HostRuntime) -> Result<(), Fail> {
 
 #[test]
 fn a_burst_has_64_events_at_most(rt: HostRuntime) -> Result<(), Fail> {
-    let mut out = Out::make(rt.alloc())?;
-    let sink = MemorySink::make(rt.alloc(), &[], 0)?;
-    let line = LineRoom::make(rt.alloc())?;
+    let (mut out, sink, line) = devices(rt.alloc())?;
     let (server, pass) = shared(rt.alloc())?;
     let (sink, left) = ask_often(&rt, &server, pass, sink, line, &mut out, 70).ok_or("spent")?;
     assert_eq!(rt; left, 6);

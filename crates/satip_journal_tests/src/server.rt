@@ -24,6 +24,13 @@ pub(crate) fn shared(alloc: Global) -> Result<(SharedServer, SharedPass), Fail>
     Ok(make(alloc, config, 1000)?)
 }
 
+// What a journal writes with: an event's output, an empty sink, and the room of a line.
+pub(crate) fn devices(alloc: Global) -> Result<(Out, MemorySink, LineRoom), Fail> {
+    let out = Out::make(alloc)?;
+    let sink = MemorySink::make(alloc, &[], 0)?;
+    Ok((out, sink, LineRoom::make(alloc)?))
+}
+
 // The journal of job 7 asks before and after another caller's stop.
 fn ask_stop_ask<R: Wait + Sync>(
     rt: &R,
@@ -57,9 +64,7 @@ fn ask_stop_ask<R: Wait + Sync>(
 
 #[test]
 fn a_journal_has_the_places_of_its_own_entries(rt: HostRuntime) -> Result<(), Fail> {
-    let mut out = Out::make(rt.alloc())?;
-    let sink = MemorySink::make(rt.alloc(), &[], 0)?;
-    let line = LineRoom::make(rt.alloc())?;
+    let (mut out, sink, line) = devices(rt.alloc())?;
     let (server, first) = shared(rt.alloc())?;
     let (sink, before, after) = ask_stop_ask(&rt, &server, first, sink, line, &mut out).ok_or(
         "spent",
@@ -90,9 +95,7 @@ fn stop_first<R: Wait + Sync>(
 
 #[test]
 fn a_stop_is_one_line(rt: HostRuntime) -> Result<(), Fail> {
-    let mut out = Out::make(rt.alloc())?;
-    let sink = MemorySink::make(rt.alloc(), &[], 0)?;
-    let line = LineRoom::make(rt.alloc())?;
+    let (mut out, sink, line) = devices(rt.alloc())?;
     let (server, pass) = shared(rt.alloc())?;
     let (sink, answer) = stop_first(&rt, &server, pass, sink, line, &mut out).ok_or("spent")?;
     assert_eq!(rt; answer, Answer::Beat(Beat::Stopping));
