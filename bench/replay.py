@@ -15,6 +15,7 @@ import subprocess
 import sys
 import tempfile
 import time
+from functools import partial
 
 TOP = os.path.dirname(os.path.dirname(os.path.abspath(__file__)))
 sys.path.insert(0, os.path.join(TOP, "tools"))
@@ -292,7 +293,7 @@ def measure(name, words, text, short, folder, unit):
           f"{stored:.2f} s | {each} | {peak / 1024:.1f} MB |", flush=True)
 
 
-def measure_stress(name, program, folder):
+def stress_row(program, folder, name):
     """The row of made events, which have no input."""
     words = [program, "stress", "7"]
     open(os.path.join(folder, "in"), "wb").close()
@@ -309,28 +310,41 @@ def options(count):
     return b"".join(b"OPTIONS * RTSP/1.0\r\nCSeq: %d\r\n\r\n" % number for number in range(1, count + 1))
 
 
+def replay_row(program, folder, name, lines, kind_at, opened=(), opening_lines=None):
+    """The row of a script of so many lines."""
+    short = tuple(script(count, kind_at, opened, opening_lines) for count in (1_000, 4_000))
+    text = script(lines, kind_at, opened, opening_lines)
+    measure(name, [program, "replay", "bench.toml"], text, short, folder, b"\n")
+
+
+def talk_row(program, folder, name):
+    """The row of a connection's requests."""
+    short = (options(1_000), options(3_000))
+    measure(name, [program, "talk"], options(200_000), short, folder, b"OPTIONS")
+
+
+def rows(program, folder):
+    """The name of each row, and what measures it."""
+    for row in ROWS:
+        yield row[0], partial(replay_row, program, folder, *row)
+    for name, lines, kind_at, opened in CROWDS:
+        yield name, partial(replay_row, program, folder, name, lines, kind_at, (), opened)
+    for name, row in (("talk, OPTIONS", talk_row), ("stress, made events", stress_row)):
+        yield name, partial(row, program, folder, name)
+
+
 def main():
     program = os.path.abspath(sys.argv[1] if len(sys.argv) > 1 else PROGRAM)
-    wanted = sys.argv[2:]
-    print("| run | CPU | into a file | instructions each | memory at most |\n|---|---|---|---|---|", flush=True)
+    wanted = sys.argv[2:] or [""]
     with tempfile.TemporaryDirectory() as folder:
         with open(os.path.join(folder, "bench.toml"), "w") as file:
             file.write(configuration())
-        for name, lines, kind_at, opened in ROWS:
-            if not wanted or any(word in name for word in wanted):
-                short = tuple(script(count, kind_at, opened) for count in (1_000, 4_000))
-                measure(name, [program, "replay", "bench.toml"], script(lines, kind_at, opened), short, folder, b"\n")
-        for name, lines, kind_at, opened in CROWDS:
-            if not wanted or any(word in name for word in wanted):
-                short = tuple(script(count, kind_at, (), opened) for count in (1_000, 4_000))
-                text = script(lines, kind_at, (), opened)
-                measure(name, [program, "replay", "bench.toml"], text, short, folder, b"\n")
-        name = "talk, OPTIONS"
-        if not wanted or any(word in name for word in wanted):
-            measure(name, [program, "talk"], options(200_000), (options(1_000), options(3_000)), folder, b"OPTIONS")
-        name = "stress, made events"
-        if not wanted or any(word in name for word in wanted):
-            measure_stress(name, program, folder)
+        found = [row for name, row in rows(program, folder) if any(word in name for word in wanted)]
+        if not found:
+            sys.exit("no row has one of these words in its name")
+        print("| run | CPU | into a file | instructions each | memory at most |\n|---|---|---|---|---|", flush=True)
+        for row in found:
+            row()
 
 
 if __name__ == "__main__":

@@ -55,7 +55,7 @@ def free_ports(address):
 
 def program_words(folder):
     """The program; where WITHOUT is in the environment, without what its edge does at faults."""
-    program = os.path.abspath(os.environ.get("SATIP_PROGRAM", PROGRAM))
+    program = os.path.abspath(PROGRAM)
     if "WITHOUT" not in os.environ:
         return [program]
     library = os.path.join(folder, "without_edge.so")

@@ -19,7 +19,7 @@ import sys
 import tempfile
 
 sys.dont_write_bytecode = True
-from serving import Checks, free_ports, options, program_words, wait_for
+from serving import PROGRAM, Checks, free_ports, options, wait_for
 
 ADDRESS = "127.0.0.1"
 WORKERS = 2
@@ -97,8 +97,7 @@ def serve(program, accepts, fault=""):
 
 def main():
     checks = Checks()
-    with tempfile.TemporaryDirectory() as place:
-        program = program_words(place)
+    program = [os.path.abspath(PROGRAM)]
     folder, config, port, process = serve(program, 1)
     wait_and_ask(port, process, WORKERS)
     checks.check(process.wait(20) == 0, "a server whose doors end has status 0")

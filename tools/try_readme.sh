@@ -9,7 +9,7 @@
 # the line above its fence:
 #
 #   <!-- try: skip, REASON -->   nothing of it is run
-#   <!-- try: server -->         it goes on in the background till README ends, or the next one
+#   <!-- try: server -->         it goes on in the background till the pages end, or the next one
 #   <!-- try: N seconds -->      each line is a command of its own that gets N seconds; being ended
 #                                by that is no failure
 #   <!-- try: N seconds beside -->   the same, but all beside each other: each begins two seconds

@@ -1,6 +1,6 @@
 #!/usr/bin/env python3
 """Plays to receivers of which 3, and then 40, leave the network without a word: the one that stays
-gets all its datagrams.
+gets its datagrams, 99 of 100 at least.
 
     tools/try_vanished_receivers.py
 
