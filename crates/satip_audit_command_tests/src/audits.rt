@@ -62,7 +62,7 @@ fn verdicts_are_written(rt: HostRuntime) -> Result<(), Fail> {
     for (text, verdict) in rows {
         let report = audit(rt.alloc(), CONFIG, text)?;
         assert!(rt; report.is(0, verdict, b""));
-        assert!(rt; report.ended.config.is_some());
+        assert!(rt; report.config);
     }
     Ok(())
 }
@@ -74,7 +74,7 @@ fn faults_of_the_texts_are_told(rt: HostRuntime) -> Result<(), Fail> {
     assert!(rt; report.is(4, b"", b"journal: line 2\n"));
     let report = audit(rt.alloc(), WRONG_CONFIG, upper)?;
     assert!(rt; report.is(3, b"", b"configuration: value of timeout\n"));
-    assert!(rt; report.ended.config.is_some());
+    assert!(rt; report.config);
     Ok(())
 }
 
@@ -87,13 +87,13 @@ fn faults_of_the_devices_are_told(rt: HostRuntime) -> Result<(), Fail> {
     let input = MemorySource::make(alloc, STOP, &[], &[])?;
     let report = run_words(alloc, &["audit", "c2.toml"], CONFIG, input, &[])?;
     assert!(rt; report.is(5, b"", b"input fault\n"));
-    assert!(rt; report.ended.config.is_none());
+    assert!(rt; !report.config);
     let mut desk = MemoryDesk::make(alloc, 0);
     desk.add("c1.toml", CONFIG, &[1])?;
     let input = MemorySource::make(alloc, STOP, &[], &[])?;
     let report = run(alloc, &WORDS, input, &[], 5, &mut desk)?;
     assert!(rt; report.is(5, b"", b"input fault\n"));
-    assert!(rt; report.ended.config.is_some());
+    assert!(rt; report.config);
     let input = MemorySource::make(alloc, STOP, &[], &[])?;
     let report = run_words(alloc, &WORDS, CONFIG, input, &[1])?;
     assert!(rt; report.is(6, b"yes 1", b"output fault\n"));
@@ -114,9 +114,9 @@ fn other_words_are_a_faulty_command_line(rt: HostRuntime) -> Result<(), Fail> {
     for words in wrong {
         let input = MemorySource::make(rt.alloc(), STOP, &[], &[])?;
         let report = run_words(rt.alloc(), words, CONFIG, input, &[])?;
-        assert_eq!(rt; report.ended.status, 2);
+        assert_eq!(rt; report.status, 2);
         assert_eq!(rt; report.output.sent(), b"".as_slice());
-        assert!(rt; report.ended.config.is_none());
+        assert!(rt; !report.config);
     }
     Ok(())
 }

@@ -24,7 +24,7 @@ pub(crate) fn record(
 
 // What was sent, if there was a connection.
 fn sent(ran: &Ran) -> Option<&[u8]> {
-    match &ran.ended.wire {
+    match &ran.wire {
         Some(wire) => Some(wire.sent()),
         None => None,
     }
@@ -54,7 +54,7 @@ fn two_packets_are_recorded(rt: HostRuntime) -> Result<(), Fail> {
     assert!(rt; played.is(0, &came[HEAD..HEAD + 376], b""));
     let all = sent(&played).ok_or("connection")?;
     assert!(rt; is_joined(all, &[OPENED, LEFT]));
-    assert!(rt; played.ended.inlet.is_some() && played.ended.moment.is_some());
+    assert!(rt; played.inlet && played.moment);
     Ok(())
 }
 
@@ -125,8 +125,8 @@ fn a_server_that_is_not_there_is_a_fault_of_the_peer(rt: HostRuntime) -> Result<
     let mut desk = MemoryDesk::make(rt.alloc(), 0);
     let played = record(rt.alloc(), &WORDS, 0, &mut desk)?;
     assert!(rt; played.is(13, b"", b"peer fault\n"));
-    assert!(rt; played.ended.wire.is_none() && played.ended.inlet.is_none());
-    assert!(rt; played.ended.moment.is_some());
+    assert!(rt; played.wire.is_none() && !played.inlet);
+    assert!(rt; played.moment);
     Ok(())
 }
 
@@ -138,7 +138,7 @@ fn without_a_port_nothing_is_sent(rt: HostRuntime) -> Result<(), Fail> {
     let played = record(rt.alloc(), &WORDS, 0, &mut desk)?;
     assert!(rt; played.is(13, b"", b"peer fault\n"));
     assert_eq!(rt; sent(&played), Some(b"".as_slice()));
-    assert!(rt; played.ended.inlet.is_none());
+    assert!(rt; !played.inlet);
     Ok(())
 }
 

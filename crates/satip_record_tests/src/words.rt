@@ -13,7 +13,7 @@ fn status(alloc: Global, address: &str, query: &str, count: &str) -> Result<u8, 
     let wire = MemoryConn::make(alloc, &[], &[], &[], 0)?;
     desk.lend(Some(wire), None, None);
     let ran = record(alloc, &["record", address, query, count], 0, &mut desk)?;
-    Ok(ran.ended.status)
+    Ok(ran.status)
 }
 
 // Words in the form come to the desk, which has no inlet.
@@ -82,7 +82,7 @@ fn fewer_or_more_words_are_a_faulty_command_line(rt: HostRuntime) -> Result<(), 
     ];
     for words in wrong {
         let mut desk = MemoryDesk::make(rt.alloc(), 0);
-        assert_eq!(rt; record(rt.alloc(), words, 0, &mut desk)?.ended.status, 2);
+        assert_eq!(rt; record(rt.alloc(), words, 0, &mut desk)?.status, 2);
     }
     Ok(())
 }

@@ -1,27 +1,35 @@
 //! Runs of the program over memory.
 
 use satip_base::{Source, Text};
-use satip_memory::MemorySink;
+use satip_memory::{MemoryConn, MemorySink};
 use satip_memory_desk::MemoryDesk;
-use satip_program::{Ended, offline};
+use satip_program::offline;
 use std::alloc::Global;
 use std::test::Fail;
 
-/// How a run ended, and what it wrote.
+/// How a run ended, what came back of what the desk gave, and what was written.
 #[derive(Drop)]
 pub struct Ran {
-    /// The status, and what the desk gave.
-    pub ended: Ended<MemoryDesk>,
-    /// What it printed.
+    /// The status.
+    pub status: u8,
+    /// Whether a configuration came back.
+    pub config: bool,
+    /// The connection of a recording, if one came back.
+    pub wire: Option<MemoryConn>,
+    /// Whether an inlet of a recording came back.
+    pub inlet: bool,
+    /// Whether a clock of a recording came back.
+    pub moment: bool,
+    /// What was printed.
     pub output: MemorySink,
-    /// What it told of errors.
+    /// What was told of errors.
     pub errors: MemorySink,
 }
 
 impl Ran {
     /// Whether it ended with this status, printed this, and told this of errors.
     pub fn is(&self, status: u8, output: &[u8], errors: &[u8]) -> bool {
-        self.ended.status == status && self.output.sent() == output && self.errors.sent() == errors
+        self.status == status && self.output.sent() == output && self.errors.sent() == errors
     }
 }
 
@@ -42,9 +50,13 @@ pub fn run<I: Source + Drop>(
     let mut output = MemorySink::make(alloc, failing, passed)?;
     let mut errors = MemorySink::make(alloc, &[], 0)?;
     desk.renew();
-    let ended = offline(alloc, &texts, &mut input, &mut output, &mut errors, desk);
+    let mut ended = offline(alloc, &texts, &mut input, &mut output, &mut errors, desk);
     Ok(Ran {
-        ended,
+        status: ended.status,
+        config: ended.config.is_some(),
+        wire: ended.wire.take(),
+        inlet: ended.inlet.is_some(),
+        moment: ended.moment.is_some(),
         output,
         errors,
     })

@@ -35,7 +35,7 @@ fn a_replay_names_one_configuration(rt: HostRuntime) -> Result<(), Fail> {
     let wrong: [&[&str]; 2] = [&["replay", ""], &["replay", "c1.toml", "c2.toml"]];
     for words in wrong {
         let mut desk = MemoryDesk::make(rt.alloc(), 0);
-        assert_eq!(rt; stopped(rt.alloc(), words, &mut desk)?.ended.status, 2);
+        assert_eq!(rt; stopped(rt.alloc(), words, &mut desk)?.status, 2);
     }
     Ok(())
 }
@@ -55,7 +55,7 @@ fn the_first_fault_of_a_configuration_is_told(rt: HostRuntime) -> Result<(), Fai
         let input = MemorySource::make(alloc, STOP, &[], &[])?;
         let ran = replay(alloc, configuration, input, &[])?;
         assert!(rt; ran.is(3, b"", told));
-        assert!(rt; ran.ended.config.is_some());
+        assert!(rt; ran.config);
     }
     Ok(())
 }
@@ -76,9 +76,9 @@ fn a_configuration_that_cannot_be_opened_is_an_input_fault(rt: HostRuntime) -> R
     desk.add("c1.toml", CONFIGURATION.as_bytes(), &[])?;
     let unopened = stopped(alloc, &["replay", "c1.toml"], &mut desk)?;
     assert!(rt; unopened.is(5, b"", b"input fault\n"));
-    assert!(rt; unopened.ended.config.is_none());
+    assert!(rt; !unopened.config);
     let opened = stopped(alloc, &["replay", "c1.toml"], &mut desk)?;
-    assert_eq!(rt; opened.ended.status, 0);
+    assert_eq!(rt; opened.status, 0);
     let unnamed = stopped(alloc, &["replay", "c2.toml"], &mut desk)?;
     assert!(rt; unnamed.is(5, b"", b"input fault\n"));
     Ok(())
@@ -92,11 +92,11 @@ fn a_take_that_fails_is_an_input_fault(rt: HostRuntime) -> Result<(), Fail> {
         desk.add("c1.toml", CONFIGURATION.as_bytes(), &[failing])?;
         let unread = stopped(alloc, &["replay", "c1.toml"], &mut desk)?;
         assert!(rt; unread.is(5, b"", b"input fault\n"));
-        assert!(rt; unread.ended.config.is_some());
+        assert!(rt; unread.config);
         let input = MemorySource::make(alloc, STOP, &[3], &[failing])?;
         let unread = replay(alloc, CONFIGURATION, input, &[])?;
         assert!(rt; unread.is(5, b"", b"input fault\n"));
-        assert!(rt; unread.ended.config.is_some());
+        assert!(rt; unread.config);
     }
     Ok(())
 }

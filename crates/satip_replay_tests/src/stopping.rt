@@ -20,7 +20,7 @@ fn behind_the_stop_of_a_script_pumps_are_to_stop(rt: HostRuntime) -> Result<(), 
         let input = MemorySource::make(alloc, script, &[], &[])?;
         let ran = run(alloc, &["replay", "c1.toml"], input, &[], 0, &mut desk)?;
         assert!(rt; ran.is(0, PRINTED, b""));
-        assert!(rt; ran.ended.config.is_some());
+        assert!(rt; ran.config);
     }
     Ok(())
 }

@@ -245,7 +245,7 @@ fn a_replay_of_the_texts_has_the_same_counts(rt: HostRuntime) -> Result<(), Fail
     let mut desk = MemoryDesk::make(alloc, 0);
     desk.add("c1.toml", CONFIGURATION.as_bytes(), &[])?;
     let replayed = run(alloc, &["replay", "c1.toml"], input, &[], 0, &mut desk)?;
-    assert_eq!(rt; replayed.ended.status, 0);
+    assert_eq!(rt; replayed.status, 0);
     let counts = counted(alloc, replayed.output.sent())?;
     let ran = stressed(alloc, "200", "600", &[])?;
     assert_eq!(rt; ran.output.sent(), counts.as_bytes());
@@ -269,7 +269,7 @@ fn other_numbers_are_a_faulty_command_line(rt: HostRuntime) -> Result<(), Fail> 
         ("1", "-1", 2),
     ] {
         let ran = stressed(rt.alloc(), seed, count, &[])?;
-        assert_eq!(rt; ran.ended.status, status, "{seed} {count}");
+        assert_eq!(rt; ran.status, status, "{seed} {count}");
     }
     Ok(())
 }

@@ -212,7 +212,7 @@ fn replies_for_which_there_is_no_room_are_put_in_order(rt: HostRuntime) -> Resul
     assert!(rt; replies.len() > 5 * 65536);
     assert_eq!(rt; many.output.sent(), replies.as_slice());
     let failed = talked(alloc, &text, &[], &[6])?;
-    assert_eq!(rt; failed.ended.status, 6);
+    assert_eq!(rt; failed.status, 6);
     assert!(rt; failed.output.sent().len() > 65536);
     assert!(rt; replies.starts_with(failed.output.sent()));
     Ok(())
@@ -243,10 +243,10 @@ fn other_words_are_a_faulty_command_line(rt: HostRuntime) -> Result<(), Fail> {
 #[test]
 fn help_and_version_are_written(rt: HostRuntime) -> Result<(), Fail> {
     let help = told(rt.alloc(), &["--help"])?;
-    assert_eq!(rt; help.ended.status, 0);
+    assert_eq!(rt; help.status, 0);
     assert!(rt; help.output.sent().starts_with(b"usage: satip talk | "));
     let version = told(rt.alloc(), &["--version"])?;
-    assert_eq!(rt; version.ended.status, 0);
+    assert_eq!(rt; version.status, 0);
     assert_eq!(rt; version.output.sent(), b"satip 0.1.0\n".as_slice());
     Ok(())
 }
