@@ -28,6 +28,7 @@ impl Model for Heard {
 }
 
 impl Heard {
+    /// No bytes.
     pub fn new() -> Heard
         ensures empty { result ≡ [] }
     {
@@ -37,6 +38,7 @@ impl Heard {
         }
     }
 
+    /// The bytes that came and weren't used yet, in their order.
     pub fn bytes(&self) -> &[u8]
         ensures bytes { result.now ≡ self.now }
         ensures limit { length self.now ≤ 12288 }

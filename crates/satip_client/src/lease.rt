@@ -44,18 +44,21 @@ impl Lease {
         }
     }
 
+    /// The session's name, as the Session header of the SETUP's reply has it (RFC 2326, 12.37).
     pub fn session(&self) -> &[u8]
         ensures session { result.now ≡ self.now.session }
     {
         &self.session
     }
 
+    /// After how many seconds without a request the server ends the session (RFC 2326, 12.37).
     pub fn timeout(&self) -> u32
         ensures timeout { result ≡ self.now.timeout }
     {
         self.timeout
     }
 
+    /// The number of the stream, from the header `com.ses.streamID` (SAT>IP 1.2.2, 3.5.3).
     pub fn stream(&self) -> u16
         ensures stream { result ≡ self.now.stream }
     {

@@ -6,12 +6,16 @@ ghost use Rattle.satip_history.specs.History.{entry};
 /// A value that answers events. It has a setting, which no event changes, and stands for
 /// histories: those that may have led to it, each legal in its setting.
 pub trait Served: Drop + Send {
+    /// What it answers.
     type Event: Drop;
 
+    /// What an event writes besides its answer.
     type Out;
 
+    /// The answer to an event.
     type Answer: Drop;
 
+    /// What no event changes.
     type Setting;
 
     // the setting of a value

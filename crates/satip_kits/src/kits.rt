@@ -15,7 +15,7 @@ use std::alloc::Global;
 use std::sync::Wait;
 
 /// A kit for each worker, one for the pump of each front end, and one for the ticker. Their doors
-/// share two listeners, their outlets one UDP socket.
+/// share two listeners, their outlets one table of UDP sockets.
 #[derive(Drop)]
 pub struct RealKits<R: Wait + Drop> {
     pub workers: Vec<WorkerKit<RealDoors, RealOutlet<R>, RealPacer>>,

@@ -12,7 +12,7 @@ use satip_report::{Start, Starts};
 use std::alloc::Global;
 use std::sync::{Arc, Wait};
 
-/// The listeners and how long a client may be silent, the UDP socket, the names of the recordings
+/// The listeners and how long a client may be silent, the UDP sockets, the names of the recordings
 /// and how they are played, the moment from which clocks count, and which jobs have begun.
 #[derive(Drop)]
 pub(crate) struct Shared {
@@ -70,7 +70,7 @@ impl Shared {
         Ok(RealDoors::new(host, start, listeners, self.timeout_s, accepts))
     }
 
-    /// An outlet at the UDP socket.
+    /// An outlet at the UDP sockets.
     pub(crate) fn outlet<R: Wait + Drop>(&self, rt: R) -> Result<RealOutlet<R>, KitsFault>
         ensures fresh { IfOk result (λ outlet. outlet ≡ fresh_outbox) }
     {

@@ -33,6 +33,7 @@ impl<const ROOM: usize> Model for Numbers<ROOM> {
 }
 
 impl<const ROOM: usize> Numbers<ROOM> {
+    /// The empty list.
     pub fn new() -> Self
         ensures empty { result ≡ [] }
     {
@@ -42,6 +43,7 @@ impl<const ROOM: usize> Numbers<ROOM> {
         }
     }
 
+    /// The numbers, in the order in which they were pushed.
     pub fn as_slice(&self) -> &[u16]
         ensures numbers { result.now ≡ self.now }
         ensures within { length self.now ≤ ROOM }
@@ -49,6 +51,7 @@ impl<const ROOM: usize> Numbers<ROOM> {
         &self.places[..self.count]
     }
 
+    /// Whether there are `ROOM` numbers.
     pub fn is_full(&self) -> bool
         ensures full { IsTrue result ↔ (length self.now ≡ ROOM) }
         ensures within { length self.now ≤ ROOM }
@@ -56,6 +59,7 @@ impl<const ROOM: usize> Numbers<ROOM> {
         self.count == ROOM
     }
 
+    /// Appends a number.
     pub fn push(&mut self, number: u16)
         requires room { length self.old < ROOM }
         ensures added { self.new ≡ self.old ++ number ∷ [] }

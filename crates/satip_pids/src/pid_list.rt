@@ -50,6 +50,7 @@ impl PidList {
         true
     }
 
+    /// The PIDs, in the order in which they were pushed.
     pub fn as_slice(&self) -> &[u16]
         ensures pids { result.now ≡ self.now }
         ensures limits { IsPidList result.now }

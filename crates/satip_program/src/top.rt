@@ -78,7 +78,7 @@ pub struct Ended<K: Desk> {
     pub status: u8,
     /// The configuration that the desk gave, as far as it was read.
     pub config: Option<K::Config>,
-    /// What the jobs of a `serve` left, if any began.
+    /// What the jobs of a `serve` or a `journal` left, if any began.
     pub last: Option<Last<K::Doors, K::Outlet, K::Pacer, K::Store, K::Clock>>,
     /// What the jobs of a `tunnel` left, if any began.
     pub tunnel: Option<TunnelLast<K::Doors, K::Outlet, K::Pacer, K::Store, K::Clock>>,

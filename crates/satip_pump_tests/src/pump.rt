@@ -131,9 +131,9 @@ fn letter(note: &Note) -> u8 {
     }
 }
 
-// What a pump is run over: how many packets of PID 1 the first multiplex's recording has, and of PID
-// 2 the second's, sends that fail, another work from a call on, and where the service stops or has
-// no more room.
+// What a pump is run over: how many packets of PID 1 the first multiplex's recording has, and of
+// PID 2 the second's, sends that fail, another work from a call on, and where the service stops or
+// has no more room.
 #[derive(Clone, Copy)]
 struct Case {
     first: usize,

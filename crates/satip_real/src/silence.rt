@@ -49,7 +49,7 @@ impl Silence {
     }
 
     // Whether the client is given up: it was silent for longer than it may, or it sent nothing in
-    /// 2 s and others wait at the doors. Who reads a stream over HTTP has nothing to say.
+    // 2 s and others wait at the doors. Who reads a stream over HTTP has nothing to say.
     fn is_over(&self) -> bool {
         if self.kind == DoorKind::Http && self.was_answered {
             return false;

@@ -58,6 +58,7 @@ fn read_pids(count: u16, bytes: &mut Reading<'_>) -> Option<PidList>
     Some(pids)
 }
 
+/// Reads a list of PIDs; None where it has more than 512 or one isn't below 8192.
 #[tactic(auto, unfolding(crate::specs::ReadingLists::pid_list_read))]
 pub fn read_pid_list(bytes: &mut Reading<'_>) -> Option<PidList>
     ensures read { behind result bytes.new ≡ pid_list_read bytes.old }
@@ -75,6 +76,7 @@ pub fn read_pid_list(bytes: &mut Reading<'_>) -> Option<PidList>
     Some(pids)
 }
 
+/// Reads a short text; None where it has more than 128 bytes.
 #[tactic(auto, unfolding(crate::specs::ReadingLists::short_read))]
 pub fn read_short(bytes: &mut Reading<'_>) -> Option<Short>
     ensures read { behind result bytes.new ≡ short_read bytes.old }

@@ -145,7 +145,7 @@ fn record<W: Conn, I: Inlet, M: Clock, O: Sink, E: Sink>(
 /// of the session's time has gone by since the mark. Once all packets are written TEARDOWN is sent.
 /// Replies to OPTIONS and TEARDOWN aren't read. Each gap is told in a line of its own, and then the
 /// end, unless all went well; after a line that couldn't be told there is none (RFC 2326, section
-/// 10; RFC 3550, section 5.1; SAT>IP 1.2.2, section 3.5; docs/PROTOCOL.md, Recordings of a client).
+/// 10; RFC 3550, section 5.1; SAT>IP 1.2.2, section 3.5; docs/PROTOCOL.md, Recording a stream).
 pub fn record_by<W: Conn, I: Inlet, M: Clock, O: Sink, E: Sink>(
     alloc: Global,
     wire: W,

@@ -8,6 +8,7 @@ use crate::room::LineRoom;
 use satip_base::{Address, Draw, Ports, SessionId};
 use satip_tune::{Fec, Key, Modulation, Pol, RollOff, System};
 
+/// Puts a bool: a byte, 1 where it is true, else 0.
 #[tactic(auto, using(crate::proofs::Writing::writing_steps))]
 pub fn encode_bool(value: bool, line: &mut LineRoom)
     requires room { 2 * length (bool_text value) ≤ line.old.spare }
@@ -20,6 +21,7 @@ pub fn encode_bool(value: bool, line: &mut LineRoom)
     }
 }
 
+/// Puts a polarisation: a byte, 0 to 3 for H, V, L and R.
 #[tactic(auto, using(crate::proofs::Writing::writing_steps))]
 pub fn encode_pol(value: Pol, line: &mut LineRoom)
     requires room { 2 * length (pol_text value) ≤ line.old.spare }
@@ -33,6 +35,7 @@ pub fn encode_pol(value: Pol, line: &mut LineRoom)
     }
 }
 
+/// Puts a roll-off: a byte, 0 to 2 for 0.35, 0.25 and 0.20.
 #[tactic(auto, using(crate::proofs::Writing::writing_steps))]
 pub fn encode_roll_off(value: RollOff, line: &mut LineRoom)
     requires room { 2 * length (roll_off_text value) ≤ line.old.spare }
@@ -45,6 +48,7 @@ pub fn encode_roll_off(value: RollOff, line: &mut LineRoom)
     }
 }
 
+/// Puts a delivery system: a byte, 0 for DVB-S and 1 for DVB-S2.
 #[tactic(auto, using(crate::proofs::Writing::writing_steps))]
 pub fn encode_system(value: System, line: &mut LineRoom)
     requires room { 2 * length (system_text value) ≤ line.old.spare }
@@ -56,6 +60,7 @@ pub fn encode_system(value: System, line: &mut LineRoom)
     }
 }
 
+/// Puts a modulation: a byte, 0 for QPSK and 1 for 8PSK.
 #[tactic(auto, using(crate::proofs::Writing::writing_steps))]
 pub fn encode_modulation(value: Modulation, line: &mut LineRoom)
     requires room { 2 * length (modulation_text value) ≤ line.old.spare }
@@ -67,6 +72,7 @@ pub fn encode_modulation(value: Modulation, line: &mut LineRoom)
     }
 }
 
+/// Puts a code rate: a byte, 0 to 8 for 1/2, 2/3, 3/4, 5/6, 7/8, 8/9, 3/5, 4/5 and 9/10.
 #[tactic(auto, using(crate::proofs::Writing::writing_steps))]
 pub fn encode_fec(value: Fec, line: &mut LineRoom)
     requires room { 2 * length (fec_text value) ≤ line.old.spare }
@@ -85,6 +91,7 @@ pub fn encode_fec(value: Fec, line: &mut LineRoom)
     }
 }
 
+/// Puts a key of a query: a byte, its place in `Key`, from 0.
 #[tactic(auto, using(crate::proofs::Writing::writing_steps))]
 pub fn encode_key(value: Key, line: &mut LineRoom)
     requires room { 2 * length (key_text value) ≤ line.old.spare }
@@ -107,6 +114,7 @@ pub fn encode_key(value: Key, line: &mut LineRoom)
     }
 }
 
+/// Puts an optional number of 8 bits: the byte 0, or the byte 1 and the number.
 #[tactic(auto, using(crate::proofs::Writing::writing_steps))]
 pub fn encode_option_u8(value: Option<u8>, line: &mut LineRoom)
     requires room { 2 * length (option_text u8_text value) ≤ line.old.spare }
@@ -121,6 +129,7 @@ pub fn encode_option_u8(value: Option<u8>, line: &mut LineRoom)
     }
 }
 
+/// Puts an optional number of 16 bits: the byte 0, or the byte 1 and the number.
 #[tactic(auto, using(crate::proofs::Writing::writing_steps))]
 pub fn encode_option_u16(value: Option<u16>, line: &mut LineRoom)
     requires room { 2 * length (option_text u16_text value) ≤ line.old.spare }
@@ -135,6 +144,7 @@ pub fn encode_option_u16(value: Option<u16>, line: &mut LineRoom)
     }
 }
 
+/// Puts an optional number of 32 bits: the byte 0, or the byte 1 and the number.
 #[tactic(auto, using(crate::proofs::Writing::writing_steps))]
 pub fn encode_option_u32(value: Option<u32>, line: &mut LineRoom)
     requires room { 2 * length (option_text u32_text value) ≤ line.old.spare }
@@ -149,6 +159,7 @@ pub fn encode_option_u32(value: Option<u32>, line: &mut LineRoom)
     }
 }
 
+/// Puts an optional bool: the byte 0, or the byte 1 and the bool.
 #[tactic(auto, using(crate::proofs::Writing::writing_steps))]
 pub fn encode_option_bool(value: Option<bool>, line: &mut LineRoom)
     requires room { 2 * length (option_text bool_text value) ≤ line.old.spare }
@@ -163,6 +174,7 @@ pub fn encode_option_bool(value: Option<bool>, line: &mut LineRoom)
     }
 }
 
+/// Puts an optional polarisation: the byte 0, or the byte 1 and the polarisation.
 #[tactic(auto, using(crate::proofs::Writing::writing_steps))]
 pub fn encode_option_pol(value: Option<Pol>, line: &mut LineRoom)
     requires room { 2 * length (option_text pol_text value) ≤ line.old.spare }
@@ -177,6 +189,7 @@ pub fn encode_option_pol(value: Option<Pol>, line: &mut LineRoom)
     }
 }
 
+/// Puts an optional roll-off: the byte 0, or the byte 1 and the roll-off.
 #[tactic(auto, using(crate::proofs::Writing::writing_steps))]
 pub fn encode_option_roll_off(value: Option<RollOff>, line: &mut LineRoom)
     requires room { 2 * length (option_text roll_off_text value) ≤ line.old.spare }
@@ -191,6 +204,7 @@ pub fn encode_option_roll_off(value: Option<RollOff>, line: &mut LineRoom)
     }
 }
 
+/// Puts an optional delivery system: the byte 0, or the byte 1 and the delivery system.
 #[tactic(auto, using(crate::proofs::Writing::writing_steps))]
 pub fn encode_option_system(value: Option<System>, line: &mut LineRoom)
     requires room { 2 * length (option_text system_text value) ≤ line.old.spare }
@@ -205,6 +219,7 @@ pub fn encode_option_system(value: Option<System>, line: &mut LineRoom)
     }
 }
 
+/// Puts an optional modulation: the byte 0, or the byte 1 and the modulation.
 #[tactic(auto, using(crate::proofs::Writing::writing_steps))]
 pub fn encode_option_modulation(value: Option<Modulation>, line: &mut LineRoom)
     requires room { 2 * length (option_text modulation_text value) ≤ line.old.spare }
@@ -219,6 +234,7 @@ pub fn encode_option_modulation(value: Option<Modulation>, line: &mut LineRoom)
     }
 }
 
+/// Puts an optional code rate: the byte 0, or the byte 1 and the code rate.
 #[tactic(auto, using(crate::proofs::Writing::writing_steps))]
 pub fn encode_option_fec(value: Option<Fec>, line: &mut LineRoom)
     requires room { 2 * length (option_text fec_text value) ≤ line.old.spare }
@@ -233,6 +249,7 @@ pub fn encode_option_fec(value: Option<Fec>, line: &mut LineRoom)
     }
 }
 
+/// Puts a session's identifier: its count and its drawn word, four bytes each.
 #[tactic(auto, using(crate::proofs::Writing::writing_steps))]
 pub fn encode_id(id: SessionId, line: &mut LineRoom)
     requires room { 2 * length (id_text id) ≤ line.old.spare }
@@ -242,6 +259,7 @@ pub fn encode_id(id: SessionId, line: &mut LineRoom)
     line.encode_u32(id.word);
 }
 
+/// Puts a draw: its word and its SSRC, four bytes each, and its first sequence number, two.
 #[tactic(auto, using(crate::proofs::Writing::writing_steps))]
 pub fn encode_draw(draw: Draw, line: &mut LineRoom)
     requires room { 2 * length (draw_text draw) ≤ line.old.spare }
@@ -252,6 +270,7 @@ pub fn encode_draw(draw: Draw, line: &mut LineRoom)
     line.encode_u16(draw.first);
 }
 
+/// Puts a pair of ports: those of RTP and RTCP, two bytes each.
 #[tactic(auto, using(crate::proofs::Writing::writing_steps))]
 pub fn encode_ports(ports: Ports, line: &mut LineRoom)
     requires room { 2 * length (ports_text ports) ≤ line.old.spare }
@@ -261,6 +280,7 @@ pub fn encode_ports(ports: Ports, line: &mut LineRoom)
     line.encode_u16(ports.rtcp);
 }
 
+/// Puts an optional pair of ports: the byte 0, or the byte 1 and the pair of ports.
 #[tactic(auto, using(crate::proofs::Writing::writing_steps))]
 pub fn encode_option_ports(ports: Option<Ports>, line: &mut LineRoom)
     requires room { 2 * length (option_text ports_text ports) ≤ line.old.spare }
@@ -275,6 +295,7 @@ pub fn encode_option_ports(ports: Option<Ports>, line: &mut LineRoom)
     }
 }
 
+/// Puts an address: its IPv4 address, four bytes, and its port, two.
 #[tactic(auto, using(crate::proofs::Writing::writing_steps))]
 pub fn encode_address(to: Address, line: &mut LineRoom)
     requires room { 2 * length (address_text to) ≤ line.old.spare }

@@ -22,6 +22,7 @@ impl<'a> Model for Reading<'a> {
 }
 
 impl<'a> Reading<'a> {
+    /// Nothing of the bytes is read yet.
     pub fn new(bytes: &'a [u8]) -> Reading<'a>
         ensures bytes { result ≡ bytes.now }
     {

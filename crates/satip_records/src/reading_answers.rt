@@ -9,6 +9,7 @@ use crate::reading::Reading;
 use satip_plain::{Answer, Beat, Closed, GetAnswer, Pulled, Replied, Work};
 
 impl Reading<'_> {
+    /// Reads an RTSP reply's status and whether it closes the connection.
     #[tactic(auto, unfolding(crate::specs::ReadingAnswers::replied_read))]
     pub fn read_replied(&mut self) -> Option<Replied>
         ensures read { behind result self.new ≡ replied_read self.old }
@@ -23,6 +24,7 @@ impl Reading<'_> {
         Some(Replied { status, closing })
     }
 
+    /// Reads the answer to a GET: the session that it started, or the status of its refusal.
     #[tactic(auto, unfolding(crate::specs::ReadingAnswers::get_read))]
     pub fn read_get(&mut self) -> Option<GetAnswer>
         ensures read { behind result self.new ≡ get_read self.old }
@@ -48,6 +50,7 @@ impl Reading<'_> {
         }
     }
 
+    /// Reads the answer to a tick.
     #[tactic(auto, unfolding(crate::specs::ReadingAnswers::beat_read))]
     pub fn read_beat(&mut self) -> Option<Beat>
         ensures read { behind result self.new ≡ beat_read self.old }
@@ -63,6 +66,7 @@ impl Reading<'_> {
         }
     }
 
+    /// Reads the answer to a front end's ask.
     #[tactic(auto, unfolding(crate::specs::ReadingAnswers::work_read))]
     pub fn read_work(&mut self) -> Option<Work>
         ensures read { behind result self.new ≡ work_read self.old }
@@ -87,6 +91,7 @@ impl Reading<'_> {
         }
     }
 
+    /// Reads the answer to a pull.
     #[tactic(auto, unfolding(crate::specs::ReadingAnswers::pulled_read))]
     pub fn read_pulled(&mut self) -> Option<Pulled>
         ensures read { behind result self.new ≡ pulled_read self.old }
@@ -108,6 +113,7 @@ impl Reading<'_> {
         }
     }
 
+    /// Reads the answer to a close.
     #[tactic(auto, unfolding(crate::specs::ReadingAnswers::closed_read))]
     pub fn read_closed(&mut self) -> Option<Closed>
         ensures read { behind result self.new ≡ closed_read self.old }
@@ -123,6 +129,7 @@ impl Reading<'_> {
         }
     }
 
+    /// Reads an answer of any kind.
     #[tactic(auto, unfolding(crate::specs::ReadingAnswers::answer_read, crate::specs::Records::answer_text))]
     pub fn read_answer(&mut self) -> Option<Answer>
         ensures read { behind result self.new ≡ answer_read self.old }

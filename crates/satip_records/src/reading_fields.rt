@@ -10,6 +10,7 @@ use satip_base::{Draw, Ports, SessionId};
 use satip_tune::{Change, Fec, Modulation, Pol, RollOff, System};
 
 impl Reading<'_> {
+    /// Reads a polarisation.
     #[tactic(auto, unfolding(crate::specs::Reading::pol_read))]
     pub fn read_pol(&mut self) -> Option<Pol>
         ensures read { behind result self.new ≡ pol_read self.old }
@@ -27,6 +28,7 @@ impl Reading<'_> {
         }
     }
 
+    /// Reads a roll-off.
     #[tactic(auto, unfolding(crate::specs::Reading::roll_off_read))]
     pub fn read_roll_off(&mut self) -> Option<RollOff>
         ensures read { behind result self.new ≡ roll_off_read self.old }
@@ -43,6 +45,7 @@ impl Reading<'_> {
         }
     }
 
+    /// Reads a delivery system.
     #[tactic(auto, unfolding(crate::specs::Reading::system_read))]
     pub fn read_system(&mut self) -> Option<System>
         ensures read { behind result self.new ≡ system_read self.old }
@@ -58,6 +61,7 @@ impl Reading<'_> {
         }
     }
 
+    /// Reads a modulation.
     #[tactic(auto, unfolding(crate::specs::Reading::modulation_read))]
     pub fn read_modulation(&mut self) -> Option<Modulation>
         ensures read { behind result self.new ≡ modulation_read self.old }
@@ -73,6 +77,7 @@ impl Reading<'_> {
         }
     }
 
+    /// Reads a code rate.
     #[tactic(auto, unfolding(crate::specs::Reading::fec_read))]
     pub fn read_fec(&mut self) -> Option<Fec>
         ensures read { behind result self.new ≡ fec_read self.old }
@@ -95,6 +100,7 @@ impl Reading<'_> {
         }
     }
 
+    /// Reads an optional number of 8 bits.
     #[tactic(auto, unfolding(crate::specs::Reading::read_option))]
     pub fn read_option_u8(&mut self) -> Option<Option<u8>>
         ensures read { behind result self.new ≡ read_option u8_read self.old }
@@ -112,6 +118,7 @@ impl Reading<'_> {
         Some(Some(value))
     }
 
+    /// Reads an optional number of 16 bits.
     #[tactic(auto, unfolding(crate::specs::Reading::read_option))]
     pub fn read_option_u16(&mut self) -> Option<Option<u16>>
         ensures read { behind result self.new ≡ read_option u16_read self.old }
@@ -129,6 +136,7 @@ impl Reading<'_> {
         Some(Some(value))
     }
 
+    /// Reads an optional number of 32 bits.
     #[tactic(auto, unfolding(crate::specs::Reading::read_option))]
     pub fn read_option_u32(&mut self) -> Option<Option<u32>>
         ensures read { behind result self.new ≡ read_option u32_read self.old }
@@ -146,6 +154,7 @@ impl Reading<'_> {
         Some(Some(value))
     }
 
+    /// Reads an optional bool.
     #[tactic(auto, unfolding(crate::specs::Reading::read_option))]
     pub fn read_option_bool(&mut self) -> Option<Option<bool>>
         ensures read { behind result self.new ≡ read_option bool_read self.old }
@@ -163,6 +172,7 @@ impl Reading<'_> {
         Some(Some(value))
     }
 
+    /// Reads an optional polarisation.
     #[tactic(auto, unfolding(crate::specs::Reading::read_option))]
     pub fn read_option_pol(&mut self) -> Option<Option<Pol>>
         ensures read { behind result self.new ≡ read_option pol_read self.old }
@@ -180,6 +190,7 @@ impl Reading<'_> {
         Some(Some(value))
     }
 
+    /// Reads an optional roll-off.
     #[tactic(auto, unfolding(crate::specs::Reading::read_option))]
     pub fn read_option_roll_off(&mut self) -> Option<Option<RollOff>>
         ensures read { behind result self.new ≡ read_option roll_off_read self.old }
@@ -197,6 +208,7 @@ impl Reading<'_> {
         Some(Some(value))
     }
 
+    /// Reads an optional delivery system.
     #[tactic(auto, unfolding(crate::specs::Reading::read_option))]
     pub fn read_option_system(&mut self) -> Option<Option<System>>
         ensures read { behind result self.new ≡ read_option system_read self.old }
@@ -214,6 +226,7 @@ impl Reading<'_> {
         Some(Some(value))
     }
 
+    /// Reads an optional modulation.
     #[tactic(auto, unfolding(crate::specs::Reading::read_option))]
     pub fn read_option_modulation(&mut self) -> Option<Option<Modulation>>
         ensures read { behind result self.new ≡ read_option modulation_read self.old }
@@ -231,6 +244,7 @@ impl Reading<'_> {
         Some(Some(value))
     }
 
+    /// Reads an optional code rate.
     #[tactic(auto, unfolding(crate::specs::Reading::read_option))]
     pub fn read_option_fec(&mut self) -> Option<Option<Fec>>
         ensures read { behind result self.new ≡ read_option fec_read self.old }
@@ -248,6 +262,7 @@ impl Reading<'_> {
         Some(Some(value))
     }
 
+    /// Reads a session's identifier.
     #[tactic(auto, unfolding(crate::specs::Reading::id_read))]
     pub fn read_id(&mut self) -> Option<SessionId>
         ensures read { behind result self.new ≡ id_read self.old }
@@ -262,6 +277,7 @@ impl Reading<'_> {
         Some(SessionId { count, word })
     }
 
+    /// Reads a draw.
     #[tactic(auto, unfolding(crate::specs::Reading::draw_read))]
     pub fn read_draw(&mut self) -> Option<Draw>
         ensures read { behind result self.new ≡ draw_read self.old }
@@ -279,6 +295,7 @@ impl Reading<'_> {
         Some(Draw { word, ssrc, first })
     }
 
+    /// Reads a pair of ports.
     #[tactic(auto, unfolding(crate::specs::Reading::ports_read))]
     pub fn read_ports(&mut self) -> Option<Ports>
         ensures read { behind result self.new ≡ ports_read self.old }
@@ -293,6 +310,7 @@ impl Reading<'_> {
         Some(Ports { rtp, rtcp })
     }
 
+    /// Reads the parts of a tuning that a query names.
     #[tactic(auto, unfolding(crate::specs::Reading::change_read, crate::specs::Requests::change_text))]
     pub fn read_change(&mut self) -> Option<Change>
         ensures read { behind result self.new ≡ change_read self.old }

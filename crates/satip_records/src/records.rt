@@ -12,6 +12,7 @@ use crate::room::LineRoom;
 use satip_base::{Address, Out};
 use satip_plain::{Answer, Beat, Closed, Event, GetAnswer, Pulled, Replied, Work};
 
+/// Puts an event: a byte, its place in `Event` from 0, then its fields in their order.
 #[tactic(auto, using(crate::proofs::Writing::writing_steps), unfolding(crate::specs::Records::event_text))]
 pub fn encode_event(event: &Event, line: &mut LineRoom)
     requires room { 2 * length (event_text event.now) ≤ line.old.spare }
@@ -152,6 +153,7 @@ fn encode_closed(closed: Closed, line: &mut LineRoom)
     }
 }
 
+/// Puts an answer: a byte, its place in `Answer` from 0, then its fields in their order.
 #[tactic(auto, using(crate::proofs::Writing::writing_steps), unfolding(crate::specs::Records::answer_text))]
 pub fn encode_answer(answer: Answer, line: &mut LineRoom)
     requires room { 2 * length (answer_text answer) ≤ line.old.spare }
@@ -220,6 +222,8 @@ fn encode_datagrams(out: &Out, line: &mut LineRoom)
     }
 }
 
+/// Puts the record of an entry: its event, its answer, its reply behind its length, and its
+/// datagrams behind their count.
 #[tactic(auto, using(crate::proofs::Writing::writing_steps, crate::proofs::Lists::list_steps), unfolding(crate::specs::Records::record_text))]
 pub fn encode_record(event: &Event, answer: Answer, out: &Out, line: &mut LineRoom)
     requires room { 2 * length (record_text event.now answer out.now.reply out.now.datagrams)

@@ -17,6 +17,7 @@ use satip_query::{PidsGiven, Query, QueryFault};
 use satip_rtsp::{Method, Refusal, Request, SessionName, Short};
 use satip_tune::Change;
 
+/// Puts the parts of a tuning that a query names, in the order of `Change`, each an optional value.
 #[tactic(auto, using(crate::proofs::Writing::writing_steps), unfolding(crate::specs::Requests::change_text))]
 pub fn encode_change(change: &Change, line: &mut LineRoom)
     requires room { 2 * length (change_text change.now) ≤ line.old.spare }
@@ -54,6 +55,7 @@ fn encode_pid_list(list: &PidList, line: &mut LineRoom)
     encode_pids(pids, line);
 }
 
+/// Puts an optional list of PIDs: the byte 0, or the byte 1, their count and each, two bytes long.
 #[tactic(auto, using(crate::proofs::Writing::writing_steps))]
 pub fn encode_option_pid_list(list: &Option<PidList>, line: &mut LineRoom)
     requires room { 2 * length (option_text pid_list_text list.now) ≤ line.old.spare }
@@ -68,6 +70,7 @@ pub fn encode_option_pid_list(list: &Option<PidList>, line: &mut LineRoom)
     }
 }
 
+/// Puts what `pids` was given: a byte, 0 to 3 for absent, `all`, `none` and a list, then the list.
 #[tactic(auto, using(crate::proofs::Writing::writing_steps), unfolding(crate::specs::Requests::pids_text))]
 pub fn encode_pids_given(pids: &PidsGiven, line: &mut LineRoom)
     requires room { 2 * length (pids_text pids.now) ≤ line.old.spare }
@@ -84,6 +87,7 @@ pub fn encode_pids_given(pids: &PidsGiven, line: &mut LineRoom)
     }
 }
 
+/// Puts a query: its tuning, `pids`, and the lists of `addpids` and `delpids`.
 #[tactic(auto, using(crate::proofs::Writing::writing_steps), unfolding(crate::specs::Requests::query_text))]
 pub fn encode_query(query: &Query, line: &mut LineRoom)
     requires room { 2 * length (query_text query.now) ≤ line.old.spare }
@@ -95,6 +99,7 @@ pub fn encode_query(query: &Query, line: &mut LineRoom)
     encode_option_pid_list(&query.delpids, line);
 }
 
+/// Puts what is wrong with a query: a byte, 0 for its syntax and 1 for its range, and the key.
 #[tactic(auto, using(crate::proofs::Writing::writing_steps))]
 pub fn encode_fault(fault: QueryFault, line: &mut LineRoom)
     requires room { 2 * length (fault_text fault) ≤ line.old.spare }
@@ -112,6 +117,7 @@ pub fn encode_fault(fault: QueryFault, line: &mut LineRoom)
     }
 }
 
+/// Puts a method: a byte, 0 to 4 for OPTIONS, DESCRIBE, SETUP, PLAY and TEARDOWN.
 #[tactic(auto, using(crate::proofs::Writing::writing_steps))]
 pub fn encode_method(method: Method, line: &mut LineRoom)
     requires room { 2 * length (method_text method) ≤ line.old.spare }
@@ -126,6 +132,7 @@ pub fn encode_method(method: Method, line: &mut LineRoom)
     }
 }
 
+/// Puts a short text: its length, two bytes, and its bytes.
 #[tactic(auto, using(crate::proofs::Writing::writing_steps))]
 pub fn encode_short(kept: &Short, line: &mut LineRoom)
     requires room { 2 * length (short_text kept.now) ≤ line.old.spare }
@@ -136,6 +143,7 @@ pub fn encode_short(kept: &Short, line: &mut LineRoom)
     line.encode(bytes);
 }
 
+/// Puts why an RTSP request is refused: a byte, its place in `Refusal`, then its text or fault.
 #[tactic(auto, using(crate::proofs::Writing::writing_steps), unfolding(crate::specs::Requests::refusal_text))]
 pub fn encode_refusal(refusal: &Refusal, line: &mut LineRoom)
     requires room { 2 * length (refusal_text refusal.now) ≤ line.old.spare }
@@ -159,6 +167,7 @@ pub fn encode_refusal(refusal: &Refusal, line: &mut LineRoom)
     }
 }
 
+/// Puts an optional refusal: the byte 0, or the byte 1 and the refusal.
 #[tactic(auto, using(crate::proofs::Writing::writing_steps))]
 pub fn encode_option_refusal(refusal: &Option<Refusal>, line: &mut LineRoom)
     requires room { 2 * length (option_text refusal_text refusal.now) ≤ line.old.spare }
@@ -173,6 +182,7 @@ pub fn encode_option_refusal(refusal: &Option<Refusal>, line: &mut LineRoom)
     }
 }
 
+/// Puts a Session header: a byte, 0 to 2 for none, a session's and another, then the identifier.
 #[tactic(auto, using(crate::proofs::Writing::writing_steps), unfolding(crate::specs::Requests::name_text))]
 pub fn encode_name(name: SessionName, line: &mut LineRoom)
     requires room { 2 * length (name_text name) ≤ line.old.spare }
@@ -188,6 +198,7 @@ pub fn encode_name(name: SessionName, line: &mut LineRoom)
     }
 }
 
+/// Puts an RTSP request: its CSeq, refusal, method, stream, session, query and ports.
 #[tactic(auto, using(crate::proofs::Writing::writing_steps), unfolding(crate::specs::Requests::request_text))]
 pub fn encode_request(request: &Request, line: &mut LineRoom)
     requires room { 2 * length (request_text request.now) ≤ line.old.spare }
@@ -202,6 +213,7 @@ pub fn encode_request(request: &Request, line: &mut LineRoom)
     encode_option_ports(request.ports, line);
 }
 
+/// Puts why an HTTP request is refused: a byte, its place in `HttpRefusal`, then its fault.
 #[tactic(auto, using(crate::proofs::Writing::writing_steps), unfolding(crate::specs::Requests::http_refusal_text))]
 pub fn encode_http_refusal(refusal: HttpRefusal, line: &mut LineRoom)
     requires room { 2 * length (http_refusal_text refusal) ≤ line.old.spare }
@@ -221,6 +233,7 @@ pub fn encode_http_refusal(refusal: HttpRefusal, line: &mut LineRoom)
     }
 }
 
+/// Puts an optional refusal: the byte 0, or the byte 1 and the refusal.
 #[tactic(auto, using(crate::proofs::Writing::writing_steps))]
 pub fn encode_option_http_refusal(refusal: Option<HttpRefusal>, line: &mut LineRoom)
     requires room { 2 * length (option_text http_refusal_text refusal) ≤ line.old.spare }
@@ -235,6 +248,7 @@ pub fn encode_option_http_refusal(refusal: Option<HttpRefusal>, line: &mut LineR
     }
 }
 
+/// Puts an HTTP request: its refusal and its query.
 #[tactic(auto, using(crate::proofs::Writing::writing_steps), unfolding(crate::specs::Requests::http_request_text))]
 pub fn encode_http_request(request: &HttpRequest, line: &mut LineRoom)
     requires room { 2 * length (http_request_text request.now) ≤ line.old.spare }

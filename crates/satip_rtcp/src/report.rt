@@ -24,7 +24,6 @@ const APPLICATION: u8 = 204;
 /// Appends one datagram: a sender report, a source description whose canonical name is the server's
 /// address, and an application-defined part with the SES1 text (RFC 3550, 6.4.1, 6.5 and 6.7;
 /// SAT>IP 1.2.2, 3.5.13).
-
 pub fn write_report(view: &StreamView, sender: &Sender, out: &mut Out)
     requires count_room { out.old.count_spare ≢ 0 }
     requires room { REPORT ≤ out.old.datagram_spare }

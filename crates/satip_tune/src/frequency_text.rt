@@ -33,6 +33,7 @@ impl FrequencyText {
         FrequencyText { text: text_of(khz) }
     }
 
+    /// The text's bytes.
     pub fn bytes(&self) -> &[u8]
         ensures text { result.now ≡ self.now }
     {

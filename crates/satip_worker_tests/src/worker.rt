@@ -41,10 +41,10 @@ const BAD: &[u8] = b"RTSP/1.0 400 Bad Request\r\n\r\n";
 const HEAD: &[u8] = b"HTTP/1.1 200 OK\r\n";
 
 // A connection over a scripted service, and what serving it is to come to. It receives these
-// pieces, each alone or all at once; sends and posts of these numbers fail, and of a failing send so
-// many bytes are passed. The service starts a session at a GET or refuses it, answers pulls so,
-// sends a datagram at each call or none, and has room for so many entries. The number of the pauses,
-// datagrams and draws is looked at where it is given.
+// pieces, each alone or all at once; sends and posts of these numbers fail, and of a failing send
+// so many bytes are passed. The service starts a session at a GET or refuses it, answers pulls so,
+// sends a datagram at each call or none, and has room for so many entries. The number of the
+// pauses, datagrams and draws is looked at where it is given.
 #[derive(Clone, Copy)]
 struct Row {
     name: &'static str,
