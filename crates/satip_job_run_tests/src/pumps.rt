@@ -120,42 +120,79 @@ fn pump_tuned<R: Wait + Sync>(rt: &R, alloc: Global, stop: u64, kit: Kit) -> Res
     pump(rt, alloc, &mut solo, kit)
 }
 
-// Compares the end with a stop, with no source out, and the kinds of all entries with those wanted.
-fn is_stopped(rt: &impl Abort, pumped: &Pumped, kinds: &[u8]) {
-    assert_eq!(rt; pumped.end, JobEnd::Stopped);
-    assert!(rt; pumped.last == Some(STOPPING));
-    assert_eq!(rt; pumped.lent, 0);
-    assert_eq!(rt; pumped.kinds.as_slice(), kinds);
+// A recording of the first multiplex with bytes before and behind its packets, whose starts and
+// takes of these numbers fail, and which is given in takes of these sizes; the number of the call
+// before which the Stop comes, and the kinds of all entries.
+struct Row {
+    name: &'static str,
+    before: &'static [u8],
+    count: usize,
+    behind: &'static [u8],
+    starts: &'static [u64],
+    takes: &'static [usize],
+    failing: &'static [u64],
+    stop: u64,
+    kinds: &'static [u8],
+}
+
+const ROWS: [Row; 3] = [
+    Row {
+        name: "bytes before the packets and a tail behind them",
+        before: &[0, 1, 2, 3, 4],
+        count: 2,
+        behind: &[0x47; 100],
+        starts: &[],
+        takes: &[],
+        failing: &[],
+        stop: 5,
+        kinds: b"RAPPESA",
+    },
+    Row {
+        name: "a start that fails",
+        before: &[],
+        count: 3,
+        behind: &[],
+        starts: &[1],
+        takes: &[],
+        failing: &[],
+        stop: 3,
+        kinds: b"RAESA",
+    },
+    Row {
+        name: "a take that fails",
+        before: &[],
+        count: 3,
+        behind: &[],
+        starts: &[],
+        takes: &[188, 188],
+        failing: &[2],
+        stop: 4,
+        kinds: b"RAPESA",
+    },
+];
+
+// Runs a pump over the recording of a row.
+fn pump_row<R: Wait + Sync>(rt: &R, alloc: Global, row: &Row) -> Result<Pumped, Fail> {
+    let text = recording(alloc, row.before, row.count, row.behind)?;
+    let kit = kit(alloc, row.starts, &text, row.takes, row.failing)?;
+    pump_tuned(rt, alloc, row.stop, kit)
+}
+
+// Whether a pump was stopped, with no source out and entries of these kinds.
+fn is_stopped(pumped: &Pumped, kinds: &[u8]) -> bool {
+    pumped.end == JobEnd::Stopped
+        && pumped.last == Some(STOPPING)
+        && pumped.lent == 0
+        && pumped.kinds.as_slice() == kinds
 }
 
 #[test]
-fn rubbish_and_a_tail_are_no_packets(rt: HostRuntime) -> Result<(), Fail> {
-    let alloc = rt.alloc();
-    let text = recording(alloc, &[0, 1, 2, 3, 4], 2, &[0x47; 100])?;
-    let kit = kit(alloc, &[], &text, &[], &[])?;
-    let pumped = pump_tuned(&rt, alloc, 5, kit)?;
-    is_stopped(&rt, &pumped, b"RAPPESA");
-    assert_eq!(rt; pumped.pauses, 1);
-    Ok(())
-}
-
-#[test]
-fn a_start_that_fails_ends_the_recording(rt: HostRuntime) -> Result<(), Fail> {
-    let alloc = rt.alloc();
-    let text = recording(alloc, &[], 3, &[])?;
-    let kit = kit(alloc, &[1], &text, &[], &[])?;
-    let pumped = pump_tuned(&rt, alloc, 3, kit)?;
-    is_stopped(&rt, &pumped, b"RAESA");
-    Ok(())
-}
-
-#[test]
-fn a_take_that_fails_ends_the_recording(rt: HostRuntime) -> Result<(), Fail> {
-    let alloc = rt.alloc();
-    let text = recording(alloc, &[], 3, &[])?;
-    let kit = kit(alloc, &[], &text, &[188, 188], &[2])?;
-    let pumped = pump_tuned(&rt, alloc, 4, kit)?;
-    is_stopped(&rt, &pumped, b"RAPESA");
+fn recordings_end_where_they_end_or_fail(rt: HostRuntime) -> Result<(), Fail> {
+    for row in &ROWS {
+        let pumped = pump_row(&rt, rt.alloc(), row)?;
+        let name = row.name;
+        assert!(rt; is_stopped(&pumped, row.kinds), "{name}");
+    }
     Ok(())
 }
 
@@ -216,19 +253,6 @@ fn have_like_entries(first: &Solo, second: &Solo) -> bool {
     first.entries().len() == second.entries().len()
 }
 
-// Compares what a pump of 130 packets came to with what is wanted.
-fn is_of_130(rt: &impl Abort, pumped: &Pumped) {
-    assert_eq!(rt; pumped.end, JobEnd::Stopped);
-    // behind 64 and 128 packets, and where the end of the recording was told to do nothing
-    assert_eq!(rt; pumped.pauses, 3);
-    assert_eq!(rt; pumped.kinds.len(), 135);
-    assert_eq!(rt;
-        pumped.kinds.iter().filter(|kind| **kind == b'P').count(),
-        130
-    );
-    assert!(rt; pumped.last == Some(STOPPING));
-}
-
 // Compares the entries with those of single calls.
 fn is_told_singly(rt: &impl Abort, alloc: Global, solo: &Solo) -> Result<(), Fail> {
     let other = singly(alloc, 130, 133)?;
@@ -244,6 +268,8 @@ fn bursts_make_the_entries_of_single_calls(rt: HostRuntime) -> Result<(), Fail> 
     let kit = kit(alloc, &[], &text, &[], &[])?;
     let mut solo = tuned(alloc, 133)?;
     let pumped = pump(&rt, alloc, &mut solo, kit)?;
-    is_of_130(&rt, &pumped);
+    // behind 64 and 128 packets, and where the end of the recording was told to do nothing
+    assert_eq!(rt; pumped.pauses, 3);
+    assert_eq!(rt; pumped.end, JobEnd::Stopped);
     is_told_singly(&rt, alloc, &solo)
 }

@@ -10,7 +10,6 @@ use satip_solo::Solo;
 use satip_worker::{Room, WorkerEnd, WorkerKit, run_worker};
 use satip_world::{ConnEnd, DoorKind};
 use std::alloc::Global;
-use std::process::Abort;
 use std::sync::Wait;
 use std::test::Fail;
 
@@ -89,22 +88,6 @@ fn work<R: Wait + Sync>(rt: &R, alloc: Global, doors: MemoryDoors) -> Result<Wor
     })
 }
 
-// Compares the end, the kinds of all entries and the bytes that were sent with those wanted.
-fn wants(rt: &impl Abort, worked: &Worked, end: WorkerEnd, kinds: &[u8], sent: &[u8]) {
-    assert!(rt; worked.end == end);
-    assert_eq!(rt; worked.kinds.as_slice(), kinds);
-    assert_eq!(rt; worked.sent.as_slice(), sent);
-}
-
-#[test]
-fn doors_that_fail_end_the_worker(rt: HostRuntime) -> Result<(), Fail> {
-    let alloc = rt.alloc();
-    let doors = doors(alloc, &[(DoorKind::Rtsp, OPTIONS)])?;
-    let worked = work(&rt, alloc, doors)?;
-    wants(&rt, &worked, WorkerEnd::DoorsFault, b"R", OPTIONS_REPLY);
-    Ok(())
-}
-
 #[test]
 fn two_connections_come_before_the_doors_fail(rt: HostRuntime) -> Result<(), Fail> {
     let alloc = rt.alloc();
@@ -112,7 +95,9 @@ fn two_connections_come_before_the_doors_fail(rt: HostRuntime) -> Result<(), Fai
     let wanted = joined(alloc, &[SETUP_REPLY, OPTIONS_REPLY, HEAD])?;
     let doors = doors(alloc, &[(DoorKind::Rtsp, &two), (DoorKind::Http, GET)])?;
     let worked = work(&rt, alloc, doors)?;
-    wants(&rt, &worked, WorkerEnd::DoorsFault, b"RRGLC", &wanted);
+    assert!(rt; worked.end == WorkerEnd::DoorsFault);
+    assert_eq!(rt; worked.kinds.as_slice(), b"RRGLC".as_slice());
+    assert_eq!(rt; worked.sent.as_slice(), wanted.as_slice());
     assert_eq!(rt; worked.count, 2);
     assert!(rt; worked.done);
     Ok(())

@@ -291,18 +291,3 @@ fn what_waits_is_shown_and_passed_over(rt: HostRuntime) -> Result<(), Fail> {
     assert_eq!(rt; framer.held(), b"left".as_slice());
     Ok(())
 }
-
-#[test]
-fn a_message_is_gone_where_bytes_are_passed_over(rt: HostRuntime) -> Result<(), Fail> {
-    let mut framer = Framer::make(rt.alloc())?;
-    framer.reset();
-    framer.feed(b"OPTIONS * RTSP/1.0\r\n\r\n");
-    match framer.next() {
-        Step::Message => framer.skip(0),
-        Step::More => return Err(Fail::from("More")),
-        Step::Bad => return Err(Fail::from("Bad")),
-        Step::TooLong => return Err(Fail::from("TooLong")),
-    }
-    assert!(rt; framer.message().is_none());
-    Ok(())
-}

@@ -64,16 +64,3 @@ fn a_get_in_two_pieces_is_asked_once(rt: HostRuntime) -> Result<(), Fail> {
     assert!(rt; !asks_more(&mut framer, &mut piece, &mut request)?);
     Ok(())
 }
-
-#[test]
-fn a_message_that_is_too_long_is_asked_last(rt: HostRuntime) -> Result<(), Fail> {
-    let mut framer = Framer::make(rt.alloc())?;
-    let mut request = Request::broken(Break::Bad);
-    let mut piece = Piece::new(b"OPTIONS * RTSP/1.0\r\nContent-Length: 4097\r\n\r\n");
-    assert_eq!(rt;
-        next_asked(&mut framer, &mut piece, &mut request),
-        Next::Last
-    );
-    assert_eq!(rt; request.refusal, Some(Refusal::TooLong));
-    Ok(())
-}

@@ -28,30 +28,6 @@ fn queries_are_read(rt: HostRuntime) -> Result<(), Fail> {
     Ok(())
 }
 
-// Reads a message over the request of an older one.
-fn read_over(alloc: Global, request: &mut HttpRequest, text: &[u8]) -> Result<(), Fail> {
-    let framer = framer_at(alloc, text).ok_or("message")?;
-    request.read(&framer.message().ok_or("message")?);
-    Ok(())
-}
-
-#[test]
-fn nothing_of_an_older_request_is_left(rt: HostRuntime) -> Result<(), Fail> {
-    let older = b"GET /?src=1&pids=0,16&addpids=17&delpids=18 HTTP/1.1\r\n\r\n";
-    let mut request = request_of(rt.alloc(), older).ok_or("message")?;
-    assert!(rt; request.query.addpids.is_some());
-    for text in [
-        b"GET /?sr=22000 HTTP/1.1\r\n\r\n".as_slice(),
-        b"GET /x HTTP/1.1\r\n\r\n".as_slice(),
-        b"GET /?pids=none HTTP/1.1\r\n\r\n".as_slice(),
-    ] {
-        let alone = request_of(rt.alloc(), text).ok_or("message")?;
-        read_over(rt.alloc(), &mut request, text)?;
-        assert_eq!(rt; request, alone);
-    }
-    Ok(())
-}
-
 #[test]
 fn first_refusal_counts(rt: HostRuntime) -> Result<(), Fail> {
     for (text, refusal) in [

@@ -1,7 +1,7 @@
 use satip_base::{Address, Out, Strip, Want};
 use satip_fixtures::FIRST_TUNING;
 use satip_pids::{PidList, PidSet};
-use satip_rtcp::{Sender, StreamView, ses1_text, write_address, write_report};
+use satip_rtcp::{Sender, StreamView, ses1_text, write_report};
 use satip_tune::{Fec, Pol, System, Tuning};
 
 const DVBS: Tuning = Tuning {
@@ -66,15 +66,6 @@ fn a_tuned_stream_shows_its_fields(rt: HostRuntime) {
 }
 
 #[test]
-fn an_untuned_stream_shows_no_fields(rt: HostRuntime) {
-    let untuned = view(None, 0, false, PidSet::new());
-    assert_eq!(rt;
-        text(&untuned).bytes(),
-        b"ver=1.0;src=1;tuner=0,0,0,0,,,,,,,,;pids=none".as_slice()
-    );
-}
-
-#[test]
 fn the_longest_list_fits(rt: HostRuntime) {
     let mut list = PidList::new();
     for pid in 7936..8192 {
@@ -84,13 +75,6 @@ fn the_longest_list_fits(rt: HostRuntime) {
     assert!(rt; pids.set(list.as_slice()).is_ok());
     let untuned = view(None, 0, false, pids);
     assert_eq!(rt; text(&untuned).bytes().len(), 1320);
-}
-
-#[test]
-fn an_address_is_printed_with_dots(rt: HostRuntime) {
-    let mut strip = Strip::new();
-    write_address(0xc0a8010a, &mut strip);
-    assert_eq!(rt; strip.bytes(), b"192.168.1.10".as_slice());
 }
 
 const REPORT: [u8; 152] =

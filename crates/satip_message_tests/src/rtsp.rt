@@ -34,33 +34,6 @@ fn options_is_asked(rt: HostRuntime) -> Result<(), Fail> {
     Ok(())
 }
 
-// Reads a message over the request of an older one.
-fn read_over(alloc: Global, request: &mut Request, text: &[u8]) -> Result<(), Fail> {
-    let framer = framer_at(alloc, text).ok_or("message")?;
-    request.read(&framer.message().ok_or("message")?);
-    Ok(())
-}
-
-#[test]
-fn nothing_of_an_older_request_is_left(rt: HostRuntime) -> Result<(), Fail> {
-    let setup = b"SETUP rtsp://h/stream=2?src=1&pids=0,16&addpids=17&delpids=18 RTSP/1.0\r\n\
-        CSeq: 3\r\n\
-        Session: 0000000a00000007\r\n\
-        Transport: RTP/AVP;unicast;client_port=1400-1401\r\n\r\n";
-    let mut request = request_of(rt.alloc(), setup).ok_or("message")?;
-    assert!(rt; request.ports.is_some() && request.stream == Some(2));
-    for text in [
-        b"OPTIONS * RTSP/1.0\r\nCSeq: 4\r\n\r\n".as_slice(),
-        b"PAUSE / RTSP/1.0\r\nCSeq: 5\r\n\r\n".as_slice(),
-        setup.as_slice(),
-        b"TEARDOWN / RTSP/1.0\r\n\r\n".as_slice(),
-    ] {
-        read_over(rt.alloc(), &mut request, text)?;
-        assert!(rt; Some(request) == request_of(rt.alloc(), text));
-    }
-    Ok(())
-}
-
 // The first refusal counts where a request has two faults.
 #[test]
 fn first_refusal_counts(rt: HostRuntime) -> Result<(), Fail> {
@@ -98,16 +71,6 @@ fn first_refusal_counts(rt: HostRuntime) -> Result<(), Fail> {
         let request = request_of(rt.alloc(), text).ok_or("message")?;
         assert_eq!(rt; request.refusal, Some(refusal));
     }
-    Ok(())
-}
-
-#[test]
-fn what_is_no_message_is_refused(rt: HostRuntime) -> Result<(), Fail> {
-    assert_eq!(rt; Request::broken(Break::Bad).refusal, Some(Refusal::Broken));
-    assert_eq!(rt;
-        Request::broken(Break::TooLong).refusal,
-        Some(Refusal::TooLong)
-    );
     Ok(())
 }
 
