@@ -4,14 +4,16 @@
     tools/try_fault_lines.py
 
 strace(1) makes them fail: the listener of one worker, reads of one recording, datagrams of one
-pump, accept4 for want of descriptors, writes to standard error, and the start of threads; one
-recording is taken away. Each line has to come with its time, its cause and, where the table of
+pump, accept4 and the opening of a recording for want of descriptors, sends of a stream over HTTP for
+want of memory, writes to standard error, and the start of threads; one recording is taken away.
+Each line has to come with its time, its cause and, where the table of
 docs/PROTOCOL.md has brackets, its advice, once, and again behind a minute where it counts, while
 clients of the rest are served; and where the server ends, the line of its status is the last. Where
-threads can't be started the server is to serve by those that it has.
+threads can't be started the server is to serve by those that it has, a shortage that passes is to
+end no stream, and a line that nobody reads is to hold up its own job alone.
 
 Ends with status 1 where that isn't so, as with WITHOUT=1 in the environment, where no such line is
-written. It takes 80 seconds, and needs crates/satip/out/satip (`cd crates/satip && rt run --
+written. It takes 100 seconds, and needs crates/satip/out/satip (`cd crates/satip && rt run --
 --version` builds it) or SATIP_PROGRAM, the right to trace it, and the Debian packages strace and
 python3, with WITHOUT gcc and libc6-dev. Its ports are free ones of 127.0.23.4.
 """
@@ -56,6 +58,24 @@ class Player:
         client = Rtsp(ADDRESS, port=self.server.ports[0])
         client.ask("TEARDOWN", self.target, f"Session: {self.session}")
         client.close()
+
+
+class Reader:
+    """A client that reads a multiplex over HTTP."""
+
+    def __init__(self, server):
+        self.line = socket.create_connection((ADDRESS, server.ports[1]), timeout=5)
+        self.line.sendall(f"GET /?{QUERIES[0]}&pids=all HTTP/1.1\r\n\r\n".encode())
+
+    def goes_on(self, seconds=2):
+        """Whether more bytes come in so many seconds than a connection holds."""
+        count, end = 0, time.monotonic() + seconds
+        while time.monotonic() < end:
+            piece = self.line.recv(1 << 16)
+            if not piece:
+                return False
+            count += len(piece)
+        return count > 500_000
 
 
 class Injection:
@@ -247,6 +267,56 @@ def no_descriptors():
         server.close()
 
 
+def no_descriptor_for_a_recording():
+    server = start(workers=4)
+    try:
+        paths = ("-P", "a.ts", "-P", os.path.realpath(server.path("a.ts")))
+        fault = Injection(server, "openat", "error=EMFILE:when=1..5", *paths)
+        what = "a recording can't be opened for want of descriptors"
+        player = Player(server)
+        checks.check(player.goes_on(4), f"{what}: its stream begins when there are some")
+        failed = sum("EMFILE" in line for line in fault.end())
+        checks.check(failed == 5, f"{what}: {failed} calls failed")
+        checks.check(lines_of(server) == [], f"{what}: no line tells it")
+    finally:
+        server.close()
+
+
+def no_memory_for_a_stream():
+    server = start(workers=4, before=("env", "SATIP_REPEAT=1"))
+    try:
+        reader = Reader(server)
+        what = "sends of a stream fail for want of memory"
+        checks.check(reader.goes_on(), f"{what}: it plays before")
+        worker = threads_that(server, "sendto", "<TCP")[0]
+        fault = Injection(server, "sendto", "error=ENOMEM", thread=worker)
+        time.sleep(0.3)
+        failed = sum("ENOMEM" in line for line in fault.end())
+        checks.check(failed > 1, f"{what}: {failed} calls failed")
+        checks.check(reader.goes_on(), f"{what}: it goes on behind them")
+    finally:
+        server.close()
+
+
+def slow_standard_error():
+    server = start(workers=4, fronts=2, files=("a.ts", "b.ts"))
+    try:
+        players = [Player(server), Player(server, QUERIES[1])]
+        pump = threads_that(server, "sendto", "<UDP")[0]
+        slow = ("-e", "inject=write:delay_enter=8000000")
+        fault = Injection(
+            server, "sendto", "error=EAGAIN:when=2+2", *slow, thread=pump, trace="sendto,write"
+        )
+        what = "a line on standard error takes 8 seconds"
+        going = [player.goes_on(1) for player in players]
+        checks.check(any(going), f"{what}: the other pump's stream goes on")
+        took = options(ADDRESS, port=server.ports[0])
+        checks.check(took is not None, f"{what}: a client comes in: {took and round(took, 2)} s")
+        fault.end()
+    finally:
+        server.close()
+
+
 def no_standard_error():
     server = start(workers=4)
     try:
@@ -326,6 +396,9 @@ try:
     one_recording_fails()
     one_recording_goes()
     no_descriptors()
+    no_descriptor_for_a_recording()
+    no_memory_for_a_stream()
+    slow_standard_error()
     no_standard_error()
     few_threads("", 1)
     few_threads(":when=2+", 3)

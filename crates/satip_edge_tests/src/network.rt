@@ -419,11 +419,13 @@ fn the_session_clock_goes_on(rt: HostRuntime) {
     assert!(rt; after <= later && later <= after.saturating_add(5_000));
 }
 
-// A client that takes one byte behind each so many waits.
+// A client that takes one byte behind each so many waits, which end early or not.
 #[derive(Drop)]
 struct SlowReader {
     every: u32,
+    early: bool,
     waits: u32,
+    rests: u32,
     taken: u8,
 }
 
@@ -445,27 +447,38 @@ impl Write for SlowReader {
 }
 
 impl Unhurried for SlowReader {
-    fn wait(&mut self) {
+    fn wait(&mut self) -> bool {
         self.waits = self.waits.saturating_add(1);
+        self.early
+    }
+
+    fn rest(&mut self) {
+        self.rests = self.rests.saturating_add(1);
     }
 }
 
 #[test]
 fn a_send_goes_on_while_its_client_takes_bytes(rt: HostRuntime) {
-    // 5 bytes, each behind so many waits; whether all are taken, and how many of them.
-    for (every, whole, taken) in [
-        (1, true, 5),
-        (150, true, 5),
-        (200, true, 5),
-        (201, false, 0),
+    // 5 bytes, each behind so many waits, which end early or not; whether all are taken, how many
+    // of them, and how many rests follow waits that brought nothing.
+    for (every, early, whole, taken, rests) in [
+        (1, false, true, 5, 0),
+        (150, false, true, 5, 0),
+        (150, true, true, 5, 745),
+        (200, false, true, 5, 0),
+        (201, false, false, 0, 0),
+        (201, true, false, 0, 200),
     ] {
         let mut reader = SlowReader {
             every,
+            early,
             waits: 0,
+            rests: 0,
             taken: 0,
         };
         let sent = send_all(&mut reader, &[0, 1, 2, 3, 4]);
         assert_eq!(rt; sent.is_ok(), whole, "each behind {every} waits");
         assert_eq!(rt; reader.taken, taken, "each behind {every} waits");
+        assert_eq!(rt; reader.rests, rests, "each behind {every} waits");
     }
 }

@@ -23,6 +23,7 @@ pub(crate) struct Destinations {
     common: UdpSocket,
     connected: LruCache<SocketAddrV4, UdpSocket>,
     refused: u64,
+    untold: bool,
     reports: Throttle,
 }
 
@@ -51,6 +52,7 @@ impl Destinations {
             common: open(&rt, ip)?,
             connected: LruCache::new(rt.alloc(), capacity)?,
             refused: 0,
+            untold: false,
             reports: Throttle::new(),
         })
     }
@@ -80,27 +82,54 @@ impl Destinations {
         match sent {
             Ok(count) => count == bytes.len(),
             Err(error) => {
-                self.note(&error);
+                self.give_up(to, &error);
                 false
             }
         }
     }
 
-    // Counts the datagrams for which there was no room, and tells it once a minute at most.
-    fn note(&mut self, error: &io::Error) {
-        if !lacks_room(error) {
-            return;
+    // Counts a datagram for which there was no room. A socket that refused one twice for another
+    // reason may be broken itself: it is closed, and the next datagram gets a new one.
+    fn give_up(&mut self, to: SocketAddrV4, error: &io::Error) {
+        if lacks_room(error) {
+            self.refused = self.refused.saturating_add(1);
+            self.untold = true;
+        } else {
+            let _ = self.connected.pop(&to);
         }
-        self.refused = self.refused.saturating_add(1);
-        if self.reports.is_due(&self.rt) {
-            let refused = self.refused;
-            report_line(
-                &self.rt,
-                format_args!(
-                    "datagrams refused since the start by full send buffers: {refused} \
-                     (for larger ones: sysctl net.core.wmem_max)"
-                ),
-            );
+    }
+
+    /// The datagrams for which there was no room, where there are new ones and a line on them is
+    /// due: once a minute at most.
+    pub(crate) fn due(&mut self) -> Option<Refusals> {
+        if !self.untold || !self.reports.is_due(&self.rt) {
+            return None;
         }
+        self.untold = false;
+        Some(Refusals {
+            rt: self.rt,
+            count: self.refused,
+        })
+    }
+}
+
+/// How many datagrams had no room since the start.
+#[derive(Drop)]
+pub(crate) struct Refusals {
+    rt: HostRuntime,
+    count: u64,
+}
+
+impl Refusals {
+    /// Tells them in a line on standard error.
+    pub(crate) fn report(&self) {
+        let count = self.count;
+        report_line(
+            &self.rt,
+            format_args!(
+                "datagrams refused since the start by full send buffers: {count} (for larger \
+                 ones: sysctl net.core.wmem_max)"
+            ),
+        );
     }
 }

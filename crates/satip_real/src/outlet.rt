@@ -47,6 +47,15 @@ impl SharedSocket {
     fn send<R: Wait>(&self, rt: &R, to: Address, bytes: &[u8]) -> bool {
         self.destinations.lock(rt).send(to, bytes)
     }
+
+    // Tells of the datagrams for which there was no room, where a line is due. Nothing is locked
+    // meanwhile, as standard error may wait for who reads it.
+    fn tell<R: Wait>(&self, rt: &R) {
+        let due = self.destinations.lock(rt).due();
+        if let Some(refusals) = due {
+            refusals.report();
+        }
+    }
 }
 
 /// An outlet at the shared UDP sockets. A datagram that its socket doesn't take at once, or refuses
@@ -57,6 +66,8 @@ pub struct RealOutlet<R: Wait + Drop> {
     shared: Arc<SharedSocket>,
     faults: u64,
     held: bool,
+    // Whether a datagram failed since the last unlock.
+    failed: bool,
 }
 
 impl<R: Wait + Drop> Model for RealOutlet<R> {
@@ -80,6 +91,7 @@ impl<R: Wait + Drop> RealOutlet<R> {
             shared,
             faults: 0,
             held: false,
+            failed: false,
         }
     }
 }
@@ -99,6 +111,10 @@ impl<R: Wait + Drop> Outlet for RealOutlet<R> {
             self.held = false;
             self.shared.unlock(&self.rt);
         }
+        if self.failed {
+            self.failed = false;
+            self.shared.tell(&self.rt);
+        }
     }
 
     fn send(&mut self, to: Address, bytes: &[u8]) -> Put {
@@ -106,6 +122,7 @@ impl<R: Wait + Drop> Outlet for RealOutlet<R> {
             return Put::Whole;
         }
         self.faults = self.faults.saturating_add(1);
+        self.failed = true;
         Put::Failed
     }
 }

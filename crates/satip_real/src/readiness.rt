@@ -23,6 +23,17 @@ pub(crate) fn takes_output(socket: &impl AsRawFd, wait_ms: i32) -> bool {
     c::poll(&mut [asked(socket.as_raw_fd(), c::POLLOUT)], wait_ms) > 0
 }
 
+/// Waits until a socket takes output, or failed, up to so many milliseconds, and says whether that
+/// took less. A wait that fails ends early too.
+pub(crate) fn ends_early(socket: &impl AsRawFd, wait_ms: i32) -> bool {
+    c::poll(&mut [asked(socket.as_raw_fd(), c::POLLOUT)], wait_ms) != 0
+}
+
+/// Waits for so many milliseconds, or until a signal cuts it short.
+pub(crate) fn pause(wait_ms: i32) {
+    c::poll(&mut [], wait_ms);
+}
+
 /// Waits until one of two sockets has input, or failed, up to so many milliseconds, and says which
 /// of them.
 pub(crate) fn have_input(

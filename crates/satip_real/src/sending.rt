@@ -3,7 +3,7 @@
 ghost use Rattle.std.specs.Prelude.{◌≡◌, ◌+◌, ◌<◌, ◌≤◌, min};
 
 use crate::errors::is_passing;
-use crate::readiness::takes_output;
+use crate::readiness::{ends_early, pause};
 use mio::net::TcpStream;
 use std::io;
 use std::io::{ErrorKind, Write};
@@ -16,13 +16,20 @@ const WAIT_MS: i32 = 50;
 
 /// A writer that doesn't wait by itself.
 pub trait Unhurried: Write {
-    /// Waits until it takes bytes, or for a while.
-    fn wait(&mut self);
+    /// Waits until it takes bytes, or for a while. Whether it waited for less than that.
+    fn wait(&mut self) -> bool;
+
+    /// Waits for a while, whether it takes bytes or not.
+    fn rest(&mut self);
 }
 
 impl Unhurried for TcpStream {
-    fn wait(&mut self) {
-        takes_output(self, WAIT_MS);
+    fn wait(&mut self) -> bool {
+        ends_early(self, WAIT_MS)
+    }
+
+    fn rest(&mut self) {
+        pause(WAIT_MS);
     }
 }
 
@@ -46,7 +53,8 @@ fn idle_waits(waits: u32, before: usize, left: usize) -> u32
     waits.saturating_add(1)
 }
 
-/// Writes all, and gives up after 200 waits one after another in which the client took nothing.
+/// Writes all, and gives up after 200 waits one after another in which the client took nothing. Where
+/// the system has no memory for a stream that is ready, a wait ends at once; a rest follows it.
 pub fn send_all<W: Unhurried>(writer: &mut W, bytes: &[u8]) -> io::Result<()> {
     let mut rest = advance(writer, bytes)?;
     let mut waits = 0u32;
@@ -57,8 +65,11 @@ pub fn send_all<W: Unhurried>(writer: &mut W, bytes: &[u8]) -> io::Result<()> {
         if waits >= IDLE_WAITS {
             break;
         }
-        writer.wait();
+        let early = writer.wait();
         let left = advance(writer, rest)?;
+        if early && left.len() == rest.len() {
+            writer.rest();
+        }
         waits = idle_waits(waits, rest.len(), left.len());
         rest = left;
     }

@@ -22,6 +22,13 @@ const AHEAD: usize = 65536;
 // How many bytes go to a cutter at once: with less than a packet before them they fit into it.
 const PIECE: usize = 3008;
 
+// Errors of a shortage (errno(3)).
+const ENOMEM: i32 = 12;
+
+const ENFILE: i32 = 23;
+
+const EMFILE: i32 = 24;
+
 /// Why a recording can't be played.
 #[derive(Debug, Drop)]
 pub enum RecordingFault {
@@ -31,6 +38,19 @@ pub enum RecordingFault {
     Irregular,
     /// The file can't be opened.
     Open(io::Error),
+}
+
+impl RecordingFault {
+    /// Whether descriptors or memory were short, so that the file may be opened later (open(2)).
+    pub(crate) fn is_shortage(&self) -> bool {
+        match self {
+            RecordingFault::Open(error) => {
+                error.kind() == ErrorKind::OutOfMemory
+                    || matches!(error.raw_os_error(), Some(ENOMEM | ENFILE | EMFILE))
+            }
+            RecordingFault::Unnamed | RecordingFault::Irregular => false,
+        }
+    }
 }
 
 impl fmt::Display for RecordingFault {

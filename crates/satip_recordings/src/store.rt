@@ -11,6 +11,14 @@ use satip_world::MuxStore;
 use std::fmt;
 use std::marker::Model;
 use std::sync::Arc;
+use std::thread;
+use std::time::Duration;
+
+// How often a recording is opened again that a shortage is in the way of.
+const SHORTAGE_WAITS: u32 = 40;
+
+// How long after, in milliseconds.
+const SHORTAGE_MS: u64 = 50;
 
 /// The recordings of the multiplexes, each in the regular file of its name. A multiplex without a
 /// name, or whose file can't be opened, has none.
@@ -75,6 +83,25 @@ fn name_of(files: &[Text], mux: u16) -> Option<&Text> {
     files.get((mux as usize).checked_sub(1)?)
 }
 
+// Opens a recording, and again where a shortage is in the way, which may pass, for two seconds.
+fn open(
+    rt: &HostRuntime,
+    name: &Text,
+    playing: &Playing,
+) -> Result<RealRecording, RecordingFault>
+    ensures fresh { IfOk result (λ recording. recording ≡ fresh_feed []) }
+{
+    for _ in 0..SHORTAGE_WAITS {
+        match RealRecording::open(rt, name, playing) {
+            Err(fault) if fault.is_shortage() => {
+                thread::sleep(rt, Duration::from_millis(SHORTAGE_MS));
+            }
+            opened => return opened,
+        }
+    }
+    RealRecording::open(rt, name, playing)
+}
+
 // Begins the recording of a multiplex. A fault is told on standard error.
 fn begin(
     rt: &HostRuntime,
@@ -87,7 +114,7 @@ fn begin(
     let Some(name) = name_of(files, mux) else {
         return Err(RecordingFault::Unnamed);
     };
-    match RealRecording::open(rt, name, playing) {
+    match open(rt, name, playing) {
         Ok(recording) => Ok(recording),
         Err(fault) => {
             report_line(

@@ -2,7 +2,7 @@
 
 use httpdate::HttpDate;
 use std::fmt::Display;
-use std::io::Print;
+use std::io::Write;
 use std::sync::atomic::{AtomicU64, Ordering};
 use std::time::{Clock, SystemTime, UNIX_EPOCH};
 
@@ -15,16 +15,16 @@ fn date(rt: &HostRuntime) -> Option<HttpDate> {
     HttpDate::from_unix_secs(since.as_secs()).ok()
 }
 
-/// Writes one line to standard error: the date in UTC in the form of RFC 9110, 5.6.7, and a text,
-/// or the text alone where the clock can't be read. A fault of standard error, or want of memory,
-/// changes nothing.
+/// Writes one line to standard error, by one call: the date in UTC in the form of RFC 9110, 5.6.7,
+/// and a text, or the text alone where the clock can't be read. A fault of standard error, or want
+/// of memory, changes nothing.
 pub fn report_line<D: Display + Drop>(rt: &HostRuntime, text: D) {
     let line = match date(rt) {
         Some(date) => format!(in rt.alloc(); "{date}: {text}\n"),
         None => format!(in rt.alloc(); "{text}\n"),
     };
     if let Ok(line) = line {
-        let _ = rt.eprint(line);
+        let _ = rt.stderr().write_all(line.as_bytes());
     }
 }
 
