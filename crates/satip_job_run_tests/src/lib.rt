@@ -1,5 +1,5 @@
-//! Workers, pumps and the ticker over memory and the one-thread server, and that server as a
-//! service. It has nothing but tests.
+//! Workers, pumps and the ticker over memory and the one-thread server as a service. It has nothing
+//! but tests.
 #![tactic(auto)]
 
 #[cfg(test)]
@@ -8,5 +8,3 @@ mod locks;
 mod pumps;
 #[cfg(test)]
 mod solo;
-#[cfg(test)]
-mod workers;

@@ -8,11 +8,10 @@ use crate::recording::{Playing, RealRecording, RecordingFault, file_length};
 use satip_base::{Failed, Text};
 use satip_report::{Shown, report_line};
 use satip_world::MuxStore;
-use std::fmt;
 use std::marker::Model;
 use std::sync::Arc;
-use std::thread;
 use std::time::Duration;
+use std::{fmt, thread};
 
 // How often a recording is opened again that a shortage is in the way of.
 const SHORTAGE_WAITS: u32 = 40;
@@ -84,11 +83,7 @@ fn name_of(files: &[Text], mux: u16) -> Option<&Text> {
 }
 
 // Opens a recording, and again where a shortage is in the way, which may pass, for two seconds.
-fn open(
-    rt: &HostRuntime,
-    name: &Text,
-    playing: &Playing,
-) -> Result<RealRecording, RecordingFault>
+fn open(rt: &HostRuntime, name: &Text, playing: &Playing) -> Result<RealRecording, RecordingFault>
     ensures fresh { IfOk result (λ recording. recording ≡ fresh_feed []) }
 {
     for _ in 0..SHORTAGE_WAITS {

@@ -70,15 +70,6 @@ fn a_set_lists_256_pids_and_no_more(rt: HostRuntime) {
     assert_eq!(rt; printed(&set).bytes(), before.bytes());
 }
 
-#[test]
-fn a_list_has_room_for_512(rt: HostRuntime) {
-    let mut list = pids_below(511, &[]);
-    assert!(rt; list.push(8191));
-    assert!(rt; !list.push(7));
-    assert_eq!(rt; list.as_slice().len(), 512);
-    assert_eq!(rt; list.as_slice()[511], 8191);
-}
-
 fn printed(set: &PidSet) -> Strip {
     let mut strip = Strip::new();
     set.print(&mut strip);
@@ -93,18 +84,6 @@ fn a_set_is_printed_in_rising_order(rt: HostRuntime) {
     assert_eq!(rt; printed(&set).bytes(), b"0,400,8191".as_slice());
     set.set_all();
     assert_eq!(rt; printed(&set).bytes(), b"all".as_slice());
-}
-
-#[test]
-fn a_copy_stays_as_it_is(rt: HostRuntime) {
-    let mut set = PidSet::new();
-    assert_eq!(rt; set.set(&[63, 64, 8191]), Ok(()));
-    let copy = set.copy();
-    let mut other = PidSet::new();
-    other.copy_from(&set);
-    set.set_all();
-    assert_eq!(rt; printed(&copy).bytes(), b"63,64,8191".as_slice());
-    assert_eq!(rt; printed(&other).bytes(), b"63,64,8191".as_slice());
 }
 
 #[test]

@@ -1,5 +1,3 @@
-//! The server over memory.
+//! The words of a serve run.
 
-mod beside;
-mod gated;
 mod rows;

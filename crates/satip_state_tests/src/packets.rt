@@ -139,20 +139,3 @@ fn a_queue_is_pulled_and_closed(rt: HostRuntime) -> Result<(), Fail> {
     assert_eq!(rt; parts.work(1), Work::Stopping);
     Ok(())
 }
-
-#[test]
-fn a_full_queue_ends_its_session(rt: HostRuntime) -> Result<(), Fail> {
-    let mut out = Out::make(rt.alloc())?;
-    let mut parts = parts(rt.alloc())?;
-    let packet = packet(0)?;
-    let id = tuned(&rt, &mut parts, &mut out, true);
-    for _queued in 0..4096 {
-        sent(&mut parts, &mut out, 1, &packet);
-    }
-    assert_eq!(rt; parts.owner(1), Some(id));
-    sent(&mut parts, &mut out, 1, &packet);
-    assert_eq!(rt; parts.owner(1), None);
-    out.clear();
-    assert!(rt; !parts.end_session(id, &mut out));
-    Ok(())
-}

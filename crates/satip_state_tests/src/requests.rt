@@ -117,33 +117,6 @@ fn a_session_plays_to_where_it_moved(rt: HostRuntime) -> Result<(), Fail> {
     Ok(())
 }
 
-/// Asks for a multiplex on a stream, which then has this front end and this frequency.
-fn retune(
-    rt: &impl Abort,
-    parts: &mut Parts,
-    out: &mut Out,
-    number: u16,
-    mux: Mux,
-    wanted: (u16, u32),
-) {
-    out.clear();
-    parts.change_by(number, &query(mux), out);
-    assert_eq!(rt; tuned(parts, number), Some(wanted));
-}
-
-#[test]
-fn streams_of_one_multiplex_come_to_share_a_front_end(rt: HostRuntime) -> Result<(), Fail> {
-    let mut out = Out::make(rt.alloc())?;
-    let mut parts = parts(rt.alloc())?;
-    found(&rt, &mut parts, 10);
-    found(&rt, &mut parts, 11);
-    retune(&rt, &mut parts, &mut out, 1, FIRST_MUX, (1, 11361750));
-    retune(&rt, &mut parts, &mut out, 2, SECOND_MUX, (2, 12402000));
-    retune(&rt, &mut parts, &mut out, 2, FIRST_MUX, (1, 11361750));
-    assert_eq!(rt; tuned(&parts, 1), Some((1, 11361750)));
-    Ok(())
-}
-
 /// Joins the first stream, which gives this session.
 fn joins(rt: &impl Abort, parts: &mut Parts, word: u32, wanted: Option<SessionId>) {
     assert_eq!(rt; parts.join(Peer { ip: 7 }, draw(word), PORTS, 1), wanted);

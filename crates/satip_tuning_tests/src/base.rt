@@ -1,8 +1,7 @@
 //! Numbers, addresses, texts, and what the server writes to, each public function once.
 
 use satip_base::{
-    Address, Out, Put, ReadSource, SessionId, Sink, Source, Strip, Taken, Text, WriteSink, read_ip,
-    read_number,
+    Address, Out, Put, ReadSource, SessionId, Sink, Source, Taken, WriteSink, read_ip, read_number,
 };
 use std::test::Fail;
 
@@ -80,22 +79,6 @@ fn an_out_keeps_a_reply_and_datagrams(rt: HostRuntime) -> Result<(), Fail> {
     assert_eq!(rt; out.room(), 262144);
     out.write_id(SessionId { count: 2, word: 3 });
     assert_eq!(rt; out.reply(), b"0000000200000003".as_slice());
-    Ok(())
-}
-
-#[test]
-#[tactic(auto, using(satip_base::proofs::NumberLemmas::digit_bounds, satip_base::proofs::TextLemmas::text_bounds))]
-fn a_strip_keeps_what_is_printed(rt: HostRuntime) {
-    let mut strip = Strip::new();
-    strip.write(b"src=");
-    strip.write_number(12);
-    assert_eq!(rt; strip.bytes(), b"src=12".as_slice());
-}
-
-#[test]
-fn a_text_keeps_its_bytes(rt: HostRuntime) -> Result<(), Fail> {
-    let text = Text::of(rt.alloc(), "talk")?;
-    assert_eq!(rt; text.bytes(), b"talk".as_slice());
     Ok(())
 }
 

@@ -134,17 +134,6 @@ fn first_piece_at_fault_counts(rt: HostRuntime) {
     assert_eq!(rt; query, Query::new());
 }
 
-#[test]
-fn cleared_query_gives_nothing(rt: HostRuntime) {
-    let mut query = Query::new();
-    assert_eq!(rt;
-        read(b"src=1&pids=1&addpids=2&delpids=3", &mut query),
-        Ok(())
-    );
-    query.clear();
-    assert_eq!(rt; query, Query::new());
-}
-
 // A digit at every other place behind `pids=`.
 fn put_numbers(text: &mut [u8]) {
     for (place, byte) in text.iter_mut().enumerate() {

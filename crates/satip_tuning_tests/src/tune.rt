@@ -199,14 +199,3 @@ fn frequencies_print_without_end_zeros(rt: HostRuntime) {
     assert_eq!(rt; FrequencyText::of(10700050).bytes(), b"10700.05".as_slice());
     assert_eq!(rt; FrequencyText::of(10700500).bytes(), b"10700.5".as_slice());
 }
-
-#[test]
-fn text_is_cut_at_the_first_byte(rt: HostRuntime) {
-    assert_eq!(rt;
-        cut(b"a=b=c", b'='),
-        (b"a".as_slice(), Some(b"b=c".as_slice()))
-    );
-    assert_eq!(rt; cut(b"abc", b'='), (b"abc".as_slice(), None));
-    assert!(rt; same_bytes(b"ab", b"ab"));
-    assert!(rt; !same_bytes(b"ab", b"AB"));
-}
