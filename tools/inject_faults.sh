@@ -9,8 +9,8 @@
 #
 # Without a word it tries all calls of the list below. JOBS runs go side by side, 4 without it; each
 # takes about 8 seconds. An error of `read`, `openat`, `statx` and `lseek` may be the recording's own:
-# its stream may end there. EBADF, EINVAL and ENOTSOCK of `accept4` are faults of the listener itself,
-# which end workers, so they are left out.
+# its stream may end there. EBADF, EINVAL and ENOTSOCK of `accept4` are faults of the listener itself:
+# one that comes twice in a row ends a worker (tools/try_fault_lines.py), which these runs never do.
 # Needs crates/satip/out/satip (`cd crates/satip && rt run -- --version` builds it) or SATIP_PROGRAM,
 # the right to trace it, ports from 20000 on of 127.0.0.1, and the Debian packages strace, python3 and
 # ffmpeg.
@@ -24,7 +24,7 @@ trap 'rm -rf "$folder"' EXIT
 # The errors of a call: those that its manual page names, and of a socket those that socket(7), ip(7) and tcp(7) add.
 errors_of() {
     case $1 in
-        accept4) echo EAGAIN ECONNABORTED EFAULT EINTR EMFILE ENFILE ENOBUFS ENOMEM EOPNOTSUPP EPERM EPROTO ENOSR \
+        accept4) echo EAGAIN EBADF ECONNABORTED EFAULT EINVAL ENOTSOCK EINTR EMFILE ENFILE ENOBUFS ENOMEM EOPNOTSUPP EPERM EPROTO ENOSR \
             ESOCKTNOSUPPORT EPROTONOSUPPORT ETIMEDOUT ENETDOWN ENOPROTOOPT EHOSTDOWN ENONET EHOSTUNREACH \
             ENETUNREACH ;;
         recvfrom) echo EAGAIN EBADF ECONNREFUSED ECONNRESET EFAULT EINTR EINVAL ENOMEM ENOTCONN ENOTSOCK \
