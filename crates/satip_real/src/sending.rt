@@ -53,8 +53,8 @@ fn idle_waits(waits: u32, before: usize, left: usize) -> u32
     waits.saturating_add(1)
 }
 
-/// Writes all, and gives up after 200 waits one after another in which the client took nothing. Where
-/// the system has no memory for a stream that is ready, a wait ends at once; a rest follows it.
+/// Writes all, and gives up after 200 waits one after another in which the client took nothing.
+/// Where the system has no memory for a ready stream a wait ends at once, and a rest follows it.
 pub fn send_all<W: Unhurried>(writer: &mut W, bytes: &[u8]) -> io::Result<()> {
     let mut rest = advance(writer, bytes)?;
     let mut waits = 0u32;

@@ -1,5 +1,5 @@
-//! Jobs beside each other, callers of the shared server, and rows of the words of a serve run. It has
-//! nothing but tests.
+//! Jobs beside each other, callers of the shared server, and rows of the words of a serve run. It
+//! has nothing but tests.
 #![tactic(auto)]
 
 #[cfg(test)]
