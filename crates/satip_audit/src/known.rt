@@ -3,7 +3,7 @@
 ghost use Rattle.std.specs.Prelude.{IfSome};
 ghost use Rattle.satip_base.specs.Output.{IsWithinRoom, shown};
 ghost use Rattle.satip_history.specs.Lists.{Each};
-ghost use Rattle.satip_records.specs.ReadingAnswers.{IsAnswer};
+ghost use Rattle.satip_record_values.specs.ReadingAnswers.{IsAnswer};
 ghost use Rattle.satip_record_reader.specs.ReadingEntries.{IsEntry, IsTarget};
 
 use satip_base::{Address, Out, SessionId};

@@ -8,7 +8,8 @@ use satip_http::{HttpRefusal, HttpRequest};
 use satip_pids::PidList;
 use satip_plain::{Answer, Beat, Event, GetAnswer, Pulled, Replied, Work};
 use satip_query::{PidsGiven, Query, QueryFault};
-use satip_records::*;
+use satip_record_values::Reading;
+use satip_records::{LineRoom, write_entry, write_start};
 use satip_rtsp::{Method, Request, SessionName};
 use satip_tune::{Fec, Key, Modulation, Pol, RollOff, System};
 use std::alloc::Global;
@@ -17,10 +18,13 @@ use std::test::Fail;
 #[test]
 fn a_start_is_one_line(rt: HostRuntime) -> Result<(), Fail> {
     let mut line = LineRoom::make(rt.alloc())?;
-    write_start(0, &mut line);
-    assert_eq!(rt; line.bytes(), b"start 0\n".as_slice());
-    write_start(u64::MAX, &mut line);
-    assert_eq!(rt; line.bytes(), b"start 18446744073709551615\n".as_slice());
+    for (moment, text) in [
+        (0, b"start 0\n".as_slice()),
+        (u64::MAX, b"start 18446744073709551615\n"),
+    ] {
+        write_start(moment, &mut line);
+        assert_eq!(rt; line.bytes(), text);
+    }
     Ok(())
 }
 
@@ -51,7 +55,6 @@ fn a_stop_and_a_tick_are_short_lines(rt: HostRuntime) -> Result<(), Fail> {
         answer: &Answer::Beat(Beat::Stopping),
         texts: &[b"entry 0 0 080201000000000000\n"],
     };
-    assert!(rt; is_written(&mut line, &out, &stop));
     let tick = Row {
         place: 0,
         caller: 0,
@@ -59,14 +62,15 @@ fn a_stop_and_a_tick_are_short_lines(rt: HostRuntime) -> Result<(), Fail> {
         answer: &Answer::Beat(Beat::Going),
         texts: &[b"entry 0 0 02000000000000000a0200000000000000\n"],
     };
-    assert!(rt; is_written(&mut line, &out, &tick));
     let later = Row {
         place: 2,
         caller: 1,
         texts: &[b"entry 2 1 080201000000000000\n"],
         ..stop
     };
-    assert!(rt; is_written(&mut line, &out, &later));
+    for (name, row) in [("stop", stop), ("tick", tick), ("later stop", later)] {
+        assert!(rt; is_written(&mut line, &out, &row), "{name}");
+    }
     Ok(())
 }
 
@@ -180,7 +184,7 @@ fn refused_get() -> Event {
 }
 
 #[test]
-fn refusals_packets_and_ids_are_written(rt: HostRuntime) -> Result<(), Fail> {
+fn a_refused_get_is_written(rt: HostRuntime) -> Result<(), Fail> {
     let out = Out::make(rt.alloc())?;
     let mut line = LineRoom::make(rt.alloc())?;
     let refused = Row {
@@ -195,18 +199,24 @@ fn refusals_packets_and_ids_are_written(rt: HostRuntime) -> Result<(), Fail> {
         ],
     };
     assert!(rt; is_written(&mut line, &out, &refused));
-    let id = SessionId {
+    Ok(())
+}
+
+#[test]
+fn pulls_and_asks_are_written(rt: HostRuntime) -> Result<(), Fail> {
+    let out = Out::make(rt.alloc())?;
+    let mut line = LineRoom::make(rt.alloc())?;
+    let session = SessionId {
         count: 1,
         word: 0xdead_beef,
     };
     let pulled = Row {
         place: 5,
         caller: 6,
-        event: &Event::Pull { session: id },
+        event: &Event::Pull { session },
         answer: &Answer::Pulled(Pulled::Bytes(1316)),
         texts: &[b"entry 5 6 0600000001deadbeef04000000000000000524000000000000\n"],
     };
-    assert!(rt; is_written(&mut line, &out, &pulled));
     let asked = Row {
         place: 7,
         caller: 8,
@@ -214,21 +224,33 @@ fn refusals_packets_and_ids_are_written(rt: HostRuntime) -> Result<(), Fail> {
         answer: &Answer::Work(Work::Tune { mux: 3, tune: 9 }),
         texts: &[b"entry 7 8 050002030000030000000000000009000000000000\n"],
     };
-    assert!(rt; is_written(&mut line, &out, &asked));
+    for (name, row) in [("pull", pulled), ("ask", asked)] {
+        assert!(rt; is_written(&mut line, &out, &row), "{name}");
+    }
     Ok(())
 }
 
 #[test]
 fn parts_are_read_from_the_front(rt: HostRuntime) {
     let mut reading = Reading::new(b"\x01\x01\x02\x00\x00\x00\x07\x00\x00\x00\x08\x01\x00\x02");
-    assert_eq!(rt; reading.read_option_u16(), Some(Some(258)));
-    assert_eq!(rt; reading.read_id(), Some(SessionId { count: 7, word: 8 }));
-    assert_eq!(rt; reading.read_bool(), Some(true));
-    assert_eq!(rt; reading.read_option_pol(), Some(None));
+    let port_and_id = (reading.read_option_u16(), reading.read_id());
+    assert_eq!(rt;
+        port_and_id,
+        (Some(Some(258)), Some(SessionId { count: 7, word: 8 }))
+    );
+    assert_eq!(rt;
+        (reading.read_bool(), reading.read_option_pol()),
+        (Some(true), Some(None))
+    );
     assert_eq!(rt; reading.read_bool(), None);
+}
+
+#[test]
+fn what_is_no_part_is_not_read(rt: HostRuntime) {
     assert_eq!(rt; Reading::new(b"\x01\x02").read_u32(), None);
-    assert_eq!(rt; Reading::new(b"\x09").read_fec(), None);
-    assert_eq!(rt; Reading::new(b"\x08").read_fec(), Some(Fec::F910));
+    for (text, fec) in [(b"\x09", None), (b"\x08", Some(Fec::F910))] {
+        assert_eq!(rt; Reading::new(text).read_fec(), fec);
+    }
 }
 
 #[test]
@@ -236,13 +258,16 @@ fn answers_are_read_from_the_front(rt: HostRuntime) {
     let mut reading = Reading::new(
         b"\x02\x01\x03\x00\x00\x03\x00\x00\x00\x00\x00\x00\x00\x09\x00\x00\xc8\x01\x06",
     );
-    assert_eq!(rt; reading.read_answer(), Some(Answer::Beat(Beat::Stopping)));
-    let tune = Answer::Work(Work::Tune { mux: 3, tune: 9 });
-    assert_eq!(rt; reading.read_answer(), Some(tune));
-    let replied = Answer::Replied(Replied {
+    let replied = Replied {
         status: 200,
         closing: true,
-    });
-    assert_eq!(rt; reading.read_answer(), Some(replied));
-    assert_eq!(rt; reading.read_answer(), None);
+    };
+    for answer in [
+        Some(Answer::Beat(Beat::Stopping)),
+        Some(Answer::Work(Work::Tune { mux: 3, tune: 9 })),
+        Some(Answer::Replied(replied)),
+        None,
+    ] {
+        assert_eq!(rt; reading.read_answer(), answer);
+    }
 }

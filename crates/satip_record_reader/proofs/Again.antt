@@ -17,8 +17,8 @@ use Rattle.satip_http.specs.declared.requests.HttpRequest.{HttpRequest}
 use Rattle.satip_plain.specs.Values.{ArePidsGiven, ArePorts, IsName, IsQuery, IsRefusal, IsRequest}
 use Rattle.satip_records.specs.Fields.{u8_text, u16_text, u32_text, option_text, id_text, ports_text, pid_list_text, key_text}
 use Rattle.satip_records.specs.Requests.{change_text, fault_text, http_refusal_text, http_request_text, method_text, name_text, pids_text, query_text, refusal_text, request_text, short_text}
-use Rattle.satip_records.specs.Reading.{ReadsAgain, u8_read, u16_read, u32_read, ports_read}
-use Rattle.satip_records.proofs.Again.{change_again, id_again, option_again, ports_again, u16_again, u32_again}
+use Rattle.satip_record_values.specs.Reading.{ReadsAgain, u8_read, u16_read, u32_read, ports_read}
+use Rattle.satip_record_values.proofs.Again.{change_again, id_again, option_again, ports_again, u16_again, u32_again}
 use Rattle.satip_record_reader.specs.ReadingLists.{pid_list_read}
 use Rattle.satip_record_reader.specs.ReadingRequests.{fault_read, http_refusal_read, http_request_read, key_read, method_read, name_read, pids_given_read, query_read, refusal_read, request_read}
 use Rattle.satip_record_reader.proofs.ListsAgain.{pid_list_again, short_again}

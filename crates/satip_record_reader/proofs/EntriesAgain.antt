@@ -6,9 +6,9 @@ use Rattle.satip_base.specs.Output.{Datagram, datagram_bytes}
 use Rattle.satip_history.specs.Lists.{Each}
 use Rattle.satip_records.specs.Fields.{u8_text, u16_text, u32_text, address_text, list_text}
 use Rattle.satip_records.specs.Records.{answer_text, bytes_text, datagram_text, event_text, record_text}
-use Rattle.satip_records.specs.Reading.{ReadsAgain, u8_read}
-use Rattle.satip_records.proofs.Again.{u16_again, u32_again}
-use Rattle.satip_records.proofs.AnswersAgain.{answer_again}
+use Rattle.satip_record_values.specs.Reading.{ReadsAgain, u8_read}
+use Rattle.satip_record_values.proofs.Again.{u16_again, u32_again}
+use Rattle.satip_record_values.proofs.AnswersAgain.{answer_again}
 use Rattle.satip_record_reader.specs.ReadingEntries.{Entry, IsEntry, IsTarget, entry_text, read_address, read_counted, datagram_read, read_datagram_list, datagrams_read, entry_read}
 use Rattle.satip_record_reader.proofs.ListsAgain.{bytes_again, within}
 use Rattle.satip_record_reader.proofs.EventsAgain.{event_again}

@@ -5,8 +5,8 @@ use Rattle.satip_plain.specs.Values.{IsEvent, IsPacketOfBytes}
 use Rattle.satip_records.specs.Fields.{u8_text, u16_text, u32_text, u64_text, id_text, draw_text}
 use Rattle.satip_records.specs.Requests.{http_request_text, request_text}
 use Rattle.satip_records.specs.Records.{event_text}
-use Rattle.satip_records.specs.Reading.{ReadsAgain}
-use Rattle.satip_records.proofs.Again.{draw_again, id_again, u16_again, u32_again, u64_again}
+use Rattle.satip_record_values.specs.Reading.{ReadsAgain}
+use Rattle.satip_record_values.proofs.Again.{draw_again, id_again, u16_again, u32_again, u64_again}
 use Rattle.satip_record_reader.specs.ReadingLists.{read_bytes}
 use Rattle.satip_record_reader.specs.ReadingEvents.{ask_read, asked_read, close_read, ended_read, event_read, got_read, packet_read, pull_read, taken_read, tick_read}
 use Rattle.satip_record_reader.proofs.ListsAgain.{bytes_again}

@@ -7,8 +7,8 @@ use Rattle.satip_pids.specs.Pids.{IsPidList}
 use Rattle.satip_plain.specs.Values.{IsKept}
 use Rattle.satip_records.specs.Fields.{u16_text, pid_list_text}
 use Rattle.satip_records.specs.Requests.{short_text}
-use Rattle.satip_records.specs.Reading.{ReadsAgain}
-use Rattle.satip_records.proofs.Again.{u16_again}
+use Rattle.satip_record_values.specs.Reading.{ReadsAgain}
+use Rattle.satip_record_values.proofs.Again.{u16_again}
 use Rattle.satip_record_reader.specs.ReadingLists.{read_bytes, read_each, pid_read, pid_list_read, short_read}
 
 pub within : (a b : ℕ) → a ≤ b → nat_le a b ≡ true

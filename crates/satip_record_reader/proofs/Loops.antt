@@ -7,7 +7,7 @@ use Rattle.satip_records.specs.Fields.{u8_text}
 use Rattle.std.specs.Prelude.{IfSome, IsNone, slice_index, ◌↔◌, ◌≢◌, if◌then◌else◌, nat_eq, nat_le}
 use Rattle.std.proofs.lemmas.Bool.{eqb-false, eqb-true}
 use Rattle.std.proofs.lemmas.Bool.Decides.{nat_tests}
-use Rattle.satip_records.specs.Reading.{behind, u8_read, then_read}
+use Rattle.satip_record_values.specs.Reading.{behind, u8_read, then_read}
 use Rattle.satip_record_reader.specs.ReadingEvents.{packet_read}
 use Rattle.satip_record_reader.proofs.ListsAgain.{bytes_again}
 use Rattle.satip_record_reader.specs.ReadingLists.{read_bytes, read_each, read_more}

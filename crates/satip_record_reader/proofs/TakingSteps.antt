@@ -6,8 +6,8 @@ use Rattle.satip_base.specs.declared.network.Address.{Address}
 use Rattle.satip_base.specs.Output.{Datagram, Output, Sends, Wrote, Extended}
 use Rattle.satip_base.proofs.Writing.{◌then◌, ◌then_extended◌, nothing_wrote}
 use Rattle.satip_records.specs.Fields.{u8_text, u16_text, u32_text}
-use Rattle.satip_records.specs.Reading.{u8_read, u16_read, u32_read, then_read}
-use Rattle.satip_records.specs.ReadingAnswers.{answer_read}
+use Rattle.satip_record_values.specs.Reading.{u8_read, u16_read, u32_read, then_read}
+use Rattle.satip_record_values.specs.ReadingAnswers.{answer_read}
 use Rattle.satip_plain.specs.declared.events.Event.{Event}
 use Rattle.satip_plain.specs.declared.answers.Answer.{Answer}
 use Rattle.satip_base.specs.declared.limits.TheConstants.{REPLY_BYTES, EVENT_BYTES, EVENT_DATAGRAMS}

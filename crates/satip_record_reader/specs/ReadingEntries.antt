@@ -8,8 +8,8 @@ use Rattle.satip_plain.specs.declared.events.Event.{Event}
 use Rattle.satip_plain.specs.declared.answers.Answer.{Answer}
 use Rattle.satip_plain.specs.Values.{IsEvent}
 use Rattle.satip_records.specs.Records.{record_text}
-use Rattle.satip_records.specs.Reading.{then_read, u16_read, u32_read}
-use Rattle.satip_records.specs.ReadingAnswers.{IsAnswer, answer_read}
+use Rattle.satip_record_values.specs.Reading.{then_read, u16_read, u32_read}
+use Rattle.satip_record_values.specs.ReadingAnswers.{IsAnswer, answer_read}
 use Rattle.satip_record_reader.specs.ReadingLists.{read_bytes}
 use Rattle.satip_record_reader.specs.ReadingEvents.{event_read}
 

@@ -2,7 +2,7 @@
 use Rattle.std.specs.Prelude.{ℕ, ◌==◌, if◌then◌else◌, List, slice_index, Option, Some, None}
 use Rattle.satip_plain.specs.declared.events.Event.{Event}
 use Rattle.satip_plain.specs.declared.events.Event.TheVariants.{Request as Asked, Get as Got, Tick, Packet, Ended, Ask, Pull, Close, Stop}
-use Rattle.satip_records.specs.Reading.{then_read, u8_read, u16_read, u32_read, u64_read, id_read, draw_read}
+use Rattle.satip_record_values.specs.Reading.{then_read, u8_read, u16_read, u32_read, u64_read, id_read, draw_read}
 use Rattle.satip_record_reader.specs.ReadingLists.{read_bytes}
 use Rattle.satip_record_reader.specs.ReadingRequests.{http_request_read, request_read}
 

@@ -1,6 +1,6 @@
 -- How lists are read from the front of some bytes.
 use Rattle.std.specs.Prelude.{ℕ, zero, suc, List, [], ◌∷◌, ◌++◌, length, take, drop, nat_le, if◌then◌else◌, Option, Some, None}
-use Rattle.satip_records.specs.Reading.{then_read, u16_read}
+use Rattle.satip_record_values.specs.Reading.{then_read, u16_read}
 
 -- so many values, one behind the other
 unfoldable pub read_each : {T : Type 0} → (List ℕ → Option (T × List ℕ)) → ℕ → List ℕ → Option (List T × List ℕ)

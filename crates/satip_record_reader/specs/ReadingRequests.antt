@@ -17,7 +17,7 @@ use Rattle.satip_rtsp.specs.declared.requests.Request.{Request}
 use Rattle.satip_http.specs.declared.requests.HttpRefusal.{HttpRefusal}
 use Rattle.satip_http.specs.declared.requests.HttpRefusal.TheVariants.{Broken as HttpBroken, TooLong as HttpTooLong, Version as HttpVersion, Method as HttpMethod, Target as HttpTarget, NotFound, Query as HttpQuery}
 use Rattle.satip_http.specs.declared.requests.HttpRequest.{HttpRequest}
-use Rattle.satip_records.specs.Reading.{behind, then_read, u8_read, u16_read, u32_read, read_option, id_read, ports_read, change_read}
+use Rattle.satip_record_values.specs.Reading.{behind, then_read, u8_read, u16_read, u32_read, read_option, id_read, ports_read, change_read}
 use Rattle.satip_record_reader.specs.ReadingLists.{pid_list_read, short_read}
 
 -- what follows a variant's place

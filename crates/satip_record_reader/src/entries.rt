@@ -11,7 +11,7 @@ use crate::events::read_event;
 use satip_base::limits::{EVENT_DATAGRAMS, REPLY_BYTES};
 use satip_base::{Address, Out};
 use satip_plain::{Answer, Event};
-use satip_records::Reading;
+use satip_record_values::Reading;
 
 /// Reads the record of an entry: its event and its answer, and into `out` its reply and its
 /// datagrams. `None` exactly where the bytes are no record, and then `out` is empty. It takes no

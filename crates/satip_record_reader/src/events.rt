@@ -3,14 +3,14 @@
 ghost use Rattle.std.specs.Prelude.{◌≡◌, ◌++◌, IfSome};
 ghost use Rattle.satip_records.specs.Fields.{u8_text};
 ghost use Rattle.satip_records.specs.Records.{event_text};
-ghost use Rattle.satip_records.specs.Reading.{behind};
+ghost use Rattle.satip_record_values.specs.Reading.{behind};
 ghost use Rattle.satip_record_reader.specs.ReadingEvents.{ask_read, asked_read, close_read, ended_read, event_read, got_read, packet_read, pull_read, taken_read, tick_read};
 
 use crate::lists::fill;
 use crate::requests::{read_http_request, read_request};
 use satip_base::Peer;
 use satip_plain::Event;
-use satip_records::Reading;
+use satip_record_values::Reading;
 use satip_ts::Packet;
 
 /// Reads an event: the place of its kind, and then its fields.

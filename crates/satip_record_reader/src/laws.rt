@@ -2,7 +2,7 @@
 
 ghost use Rattle.satip_http.specs.declared.requests.HttpRequest.{HttpRequest as Get};
 ghost use Rattle.satip_plain.specs.Values.{IsEvent, IsQuery, IsRequest};
-ghost use Rattle.satip_records.specs.Reading.{NoneBegins, ReadsAgain};
+ghost use Rattle.satip_record_values.specs.Reading.{NoneBegins, ReadsAgain};
 ghost use Rattle.satip_records.specs.Records.{event_text};
 ghost use Rattle.satip_records.specs.Requests.{http_request_text, query_text, request_text};
 ghost use Rattle.satip_record_reader.specs.ReadingEntries.{IsEntry, entry_text, entry_read};

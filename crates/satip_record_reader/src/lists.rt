@@ -3,12 +3,12 @@
 ghost use Rattle.std.specs.Prelude.{◌≡◌, ◌<◌, ◌≤◌, ◌++◌, IfSome, flat_map, length};
 ghost use Rattle.std.specs.Bool.{MatchBool};
 ghost use Rattle.satip_records.specs.Fields.{u16_text, pid_list_text};
-ghost use Rattle.satip_records.specs.Reading.{behind};
+ghost use Rattle.satip_record_values.specs.Reading.{behind};
 ghost use Rattle.satip_records.specs.Requests.{short_text};
 ghost use Rattle.satip_record_reader.specs.ReadingLists.{read_bytes, read_each, pid_read, pid_list_read, short_read};
 
 use satip_pids::PidList;
-use satip_records::Reading;
+use satip_record_values::Reading;
 use satip_rtsp::Short;
 
 /// Fills the places with the next bytes; `false` where there are fewer, and then what the places

@@ -3,7 +3,7 @@
 ghost use Rattle.std.specs.Prelude.{◌≡◌, ◌++◌, IfSome};
 ghost use Rattle.satip_records.specs.Fields.{key_text, option_text, pid_list_text, ports_text};
 ghost use Rattle.satip_records.specs.Requests.{fault_text, http_refusal_text, http_request_text, method_text, name_text, pids_text, query_text, refusal_text, request_text};
-ghost use Rattle.satip_records.specs.Reading.{behind, read_option, ports_read};
+ghost use Rattle.satip_record_values.specs.Reading.{behind, read_option, ports_read};
 ghost use Rattle.satip_record_reader.specs.ReadingLists.{pid_list_read};
 ghost use Rattle.satip_record_reader.specs.ReadingRequests.{fault_read, http_refusal_read, http_request_read, key_read, method_read, name_read, pids_given_read, query_read, refusal_read, request_read};
 
@@ -12,11 +12,11 @@ use satip_base::Ports;
 use satip_http::{HttpRefusal, HttpRequest};
 use satip_pids::PidList;
 use satip_query::{PidsGiven, Query, QueryFault};
-use satip_records::Reading;
+use satip_record_values::Reading;
 use satip_rtsp::{Method, Refusal, Request, SessionName};
 use satip_tune::Key;
 
-#[tactic(auto, unfolding(satip_records::specs::Reading::read_option))]
+#[tactic(auto, unfolding(satip_record_values::specs::Reading::read_option))]
 fn read_option_pid_list(bytes: &mut Reading<'_>) -> Option<Option<PidList>>
     ensures read { behind result bytes.new ≡ read_option pid_list_read bytes.old }
     ensures front { IfSome result (λ x. bytes.old ≡ option_text pid_list_text x ++ bytes.new) }
@@ -181,7 +181,7 @@ fn read_refusal(bytes: &mut Reading<'_>) -> Option<Refusal>
     }
 }
 
-#[tactic(auto, unfolding(satip_records::specs::Reading::read_option))]
+#[tactic(auto, unfolding(satip_record_values::specs::Reading::read_option))]
 fn read_option_refusal(bytes: &mut Reading<'_>) -> Option<Option<Refusal>>
     ensures read { behind result bytes.new ≡ read_option refusal_read bytes.old }
     ensures front { IfSome result (λ x. bytes.old ≡ option_text refusal_text x ++ bytes.new) }
@@ -219,7 +219,7 @@ fn read_name(bytes: &mut Reading<'_>) -> Option<SessionName>
     }
 }
 
-#[tactic(auto, unfolding(satip_records::specs::Reading::read_option))]
+#[tactic(auto, unfolding(satip_record_values::specs::Reading::read_option))]
 fn read_option_ports(bytes: &mut Reading<'_>) -> Option<Option<Ports>>
     ensures read { behind result bytes.new ≡ read_option ports_read bytes.old }
     ensures front { IfSome result (λ x. bytes.old ≡ option_text ports_text x ++ bytes.new) }
@@ -299,7 +299,7 @@ fn read_http_refusal(bytes: &mut Reading<'_>) -> Option<HttpRefusal>
     }
 }
 
-#[tactic(auto, unfolding(satip_records::specs::Reading::read_option))]
+#[tactic(auto, unfolding(satip_record_values::specs::Reading::read_option))]
 fn read_option_http_refusal(bytes: &mut Reading<'_>) -> Option<Option<HttpRefusal>>
     ensures read { behind result bytes.new ≡ read_option http_refusal_read bytes.old }
     ensures front { IfSome result (λ x. bytes.old ≡ option_text http_refusal_text x ++ bytes.new) }

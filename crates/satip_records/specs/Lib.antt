@@ -5,5 +5,3 @@ pub mod Lines
 pub mod Sheets
 pub mod RoomFields
 pub mod Rows
-pub mod Reading
-pub mod ReadingAnswers

@@ -16,7 +16,7 @@ use Rattle.satip_plain.specs.State.{State}
 use Rattle.satip_plain.specs.Steps.{step}
 use Rattle.satip_plain.specs.Histories.{datagram}
 use Rattle.satip_state.specs.Standing.{StandsFor}
-use Rattle.satip_records.proofs.Again.{none_begins}
+use Rattle.satip_record_values.proofs.Again.{none_begins}
 use Rattle.satip_record_reader.specs.ReadingEntries.{Entry, IsEntry, entry_text, entry_read}
 use Rattle.satip_record_reader.proofs.EntriesAgain.{entry_again}
 use Rattle.satip_core.specs.Held.{Held}

@@ -1,4 +1,4 @@
-use Rattle.satip_records.proofs.Again.{none_begins}
+use Rattle.satip_record_values.proofs.Again.{none_begins}
 use Rattle.satip_record_reader.specs.ReadingEntries.{IsEntry, entry_text, entry_read}
 use Rattle.satip_record_reader.proofs.EntriesAgain.{entry_again}
 use Rattle.satip_record_reader.proofs.laws.entries_are_read_again.Goals as goal

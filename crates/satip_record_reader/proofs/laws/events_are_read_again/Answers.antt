@@ -1,6 +1,6 @@
 use Rattle.satip_plain.specs.Values.{IsEvent}
 use Rattle.satip_records.specs.Records.{event_text}
-use Rattle.satip_records.proofs.Again.{none_begins}
+use Rattle.satip_record_values.proofs.Again.{none_begins}
 use Rattle.satip_record_reader.specs.ReadingEvents.{event_read}
 use Rattle.satip_record_reader.proofs.EventsAgain.{event_again}
 use Rattle.satip_record_reader.proofs.laws.events_are_read_again.Goals as goal

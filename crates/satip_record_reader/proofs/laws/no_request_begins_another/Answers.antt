@@ -1,7 +1,7 @@
 use Rattle.satip_http.specs.declared.requests.HttpRequest.{HttpRequest}
 use Rattle.satip_plain.specs.Values.{IsQuery, IsRequest}
 use Rattle.satip_records.specs.Requests.{http_request_text, query_text, request_text}
-use Rattle.satip_records.proofs.Again.{none_begins}
+use Rattle.satip_record_values.proofs.Again.{none_begins}
 use Rattle.satip_record_reader.specs.ReadingRequests.{http_request_read, query_read, request_read}
 use Rattle.satip_record_reader.proofs.Again.{http_request_again, query_again, request_again}
 use Rattle.satip_record_reader.proofs.laws.no_request_begins_another.Goals as goal

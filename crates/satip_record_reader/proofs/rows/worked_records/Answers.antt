@@ -1,5 +1,5 @@
 use Rattle.std.proofs.Common.{refl}
-use Rattle.satip_records.specs.Reading.{bool_read, change_read, draw_read, fec_read, id_read, modulation_read, read_option, pol_read, ports_read, roll_off_read, system_read, u16_read, u32_read, u64_read, u8_read}
+use Rattle.satip_record_values.specs.Reading.{bool_read, change_read, draw_read, fec_read, id_read, modulation_read, read_option, pol_read, ports_read, roll_off_read, system_read, u16_read, u32_read, u64_read, u8_read}
 use Rattle.satip_record_reader.specs.ReadingLists.{read_each, pid_read, pid_list_read}
 use Rattle.satip_record_reader.specs.ReadingRequests.{method_read, name_read, pids_given_read, query_read, refusal_read, request_read}
 use Rattle.satip_record_reader.specs.ReadingEvents.{ask_read, asked_read, close_read, ended_read, event_read, got_read, packet_read, pull_read, taken_read, tick_read}

@@ -2,7 +2,7 @@
 
 ghost use Rattle.std.specs.Prelude.{◌≡◌, ◌++◌, IfSome};
 ghost use Rattle.satip_records.specs.Fields.{u8_text, u16_text, u32_text, u64_text, bool_text};
-ghost use Rattle.satip_records.specs.Reading.{behind, u8_read, u16_read, u32_read, u64_read, bool_read};
+ghost use Rattle.satip_record_values.specs.Reading.{behind, u8_read, u16_read, u32_read, u64_read, bool_read};
 
 use std::marker::Model;
 
@@ -30,7 +30,7 @@ impl<'a> Reading<'a> {
     }
 
     /// Reads a byte.
-    #[tactic(auto, unfolding(crate::specs::Reading::u8_read, crate::specs::Fields::u8_text))]
+    #[tactic(auto, unfolding(crate::specs::Reading::u8_read, satip_records::specs::Fields::u8_text))]
     pub fn read_u8(&mut self) -> Option<u8>
         ensures read { behind result self.new ≡ u8_read self.old }
         ensures front { IfSome result (λ x. self.old ≡ u8_text x ++ self.new) }
@@ -43,7 +43,7 @@ impl<'a> Reading<'a> {
     }
 
     /// Reads a number of 16 bits, high byte first.
-    #[tactic(auto, unfolding(crate::specs::Reading::u16_read, crate::specs::Fields::u8_text, crate::specs::Fields::u16_text))]
+    #[tactic(auto, unfolding(crate::specs::Reading::u16_read, satip_records::specs::Fields::u8_text, satip_records::specs::Fields::u16_text))]
     pub fn read_u16(&mut self) -> Option<u16>
         ensures read { behind result self.new ≡ u16_read self.old }
         ensures front { IfSome result (λ x. self.old ≡ u16_text x ++ self.new) }
@@ -58,7 +58,7 @@ impl<'a> Reading<'a> {
     }
 
     /// Reads a number of 32 bits, high byte first.
-    #[tactic(auto, unfolding(crate::specs::Reading::u32_read, crate::specs::Fields::u16_text, crate::specs::Fields::u32_text))]
+    #[tactic(auto, unfolding(crate::specs::Reading::u32_read, satip_records::specs::Fields::u16_text, satip_records::specs::Fields::u32_text))]
     pub fn read_u32(&mut self) -> Option<u32>
         ensures read { behind result self.new ≡ u32_read self.old }
         ensures front { IfSome result (λ x. self.old ≡ u32_text x ++ self.new) }
@@ -73,7 +73,7 @@ impl<'a> Reading<'a> {
     }
 
     /// Reads a number of 64 bits, high byte first.
-    #[tactic(auto, unfolding(crate::specs::Reading::u64_read, crate::specs::Fields::u32_text, crate::specs::Fields::u64_text))]
+    #[tactic(auto, unfolding(crate::specs::Reading::u64_read, satip_records::specs::Fields::u32_text, satip_records::specs::Fields::u64_text))]
     pub fn read_u64(&mut self) -> Option<u64>
         ensures read { behind result self.new ≡ u64_read self.old }
         ensures front { IfSome result (λ x. self.old ≡ u64_text x ++ self.new) }

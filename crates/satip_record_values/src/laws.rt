@@ -4,9 +4,9 @@ ghost use Rattle.std.specs.Prelude.{◌<◌, ◌^◌};
 ghost use Rattle.satip_plain.specs.Values.{ArePorts, IsChange, IsDraw, IsId};
 ghost use Rattle.satip_records.specs.Fields.{bool_text, draw_text, fec_text, id_text, modulation_text, pol_text, ports_text, roll_off_text, system_text, u16_text, u32_text, u64_text, u8_text};
 ghost use Rattle.satip_records.specs.Records.{answer_text};
-ghost use Rattle.satip_records.specs.ReadingAnswers.{IsAnswer, answer_read};
+ghost use Rattle.satip_record_values.specs.ReadingAnswers.{IsAnswer, answer_read};
 ghost use Rattle.satip_records.specs.Requests.{change_text};
-ghost use Rattle.satip_records.specs.Reading.{NoneBegins, ReadsAgain, bool_read, change_read, draw_read, fec_read, id_read, modulation_read, pol_read, ports_read, roll_off_read, system_read, u16_read, u32_read, u64_read, u8_read};
+ghost use Rattle.satip_record_values.specs.Reading.{NoneBegins, ReadsAgain, bool_read, change_read, draw_read, fec_read, id_read, modulation_read, pol_read, ports_read, roll_off_read, system_read, u16_read, u32_read, u64_read, u8_read};
 
 /// Each value of a small part's type is read again from its text, whatever stands behind that.
 pub fn parts_are_read_again()

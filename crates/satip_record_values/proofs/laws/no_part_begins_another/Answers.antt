@@ -1,12 +1,12 @@
 use Rattle.satip_records.specs.Records.{answer_text}
-use Rattle.satip_records.specs.ReadingAnswers.{IsAnswer, answer_read}
-use Rattle.satip_records.proofs.AnswersAgain.{answer_again}
+use Rattle.satip_record_values.specs.ReadingAnswers.{IsAnswer, answer_read}
+use Rattle.satip_record_values.proofs.AnswersAgain.{answer_again}
 use Rattle.satip_plain.specs.Values.{IsId, IsDraw, ArePorts, IsChange}
 use Rattle.satip_records.specs.Fields.{id_text, draw_text, ports_text}
 use Rattle.satip_records.specs.Requests.{change_text}
-use Rattle.satip_records.specs.Reading.{id_read, draw_read, ports_read, change_read}
-use Rattle.satip_records.proofs.Again.{none_begins, id_again, draw_again, ports_again, change_again}
-use Rattle.satip_records.proofs.laws.no_part_begins_another.Goals as goal
+use Rattle.satip_record_values.specs.Reading.{id_read, draw_read, ports_read, change_read}
+use Rattle.satip_record_values.proofs.Again.{none_begins, id_again, draw_again, ports_again, change_again}
+use Rattle.satip_record_values.proofs.laws.no_part_begins_another.Goals as goal
 
 pub returns-clause-id : goal.returns-clause-id
 returns-clause-id c = none_begins IsId id_text id_read id_again

@@ -3,7 +3,7 @@
 ghost use Rattle.std.specs.Prelude.{◌≡◌, ◌++◌, IfSome};
 ghost use Rattle.satip_records.specs.Fields.{u8_text, u16_text, u32_text, bool_text, option_text, id_text, draw_text, ports_text, pol_text, roll_off_text, system_text, modulation_text, fec_text};
 ghost use Rattle.satip_records.specs.Requests.{change_text};
-ghost use Rattle.satip_records.specs.Reading.{behind, u8_read, u16_read, u32_read, bool_read, read_option, id_read, draw_read, ports_read, pol_read, roll_off_read, system_read, modulation_read, fec_read, change_read};
+ghost use Rattle.satip_record_values.specs.Reading.{behind, u8_read, u16_read, u32_read, bool_read, read_option, id_read, draw_read, ports_read, pol_read, roll_off_read, system_read, modulation_read, fec_read, change_read};
 
 use crate::reading::Reading;
 use satip_base::{Draw, Ports, SessionId};
@@ -311,7 +311,7 @@ impl Reading<'_> {
     }
 
     /// Reads the parts of a tuning that a query names.
-    #[tactic(auto, unfolding(crate::specs::Reading::change_read, crate::specs::Requests::change_text))]
+    #[tactic(auto, unfolding(crate::specs::Reading::change_read, satip_records::specs::Requests::change_text))]
     pub fn read_change(&mut self) -> Option<Change>
         ensures read { behind result self.new ≡ change_read self.old }
         ensures front { IfSome result (λ x. self.old ≡ change_text x ++ self.new) }

@@ -1,6 +1,6 @@
-use Rattle.satip_records.proofs.AnswersAgain.{answer_again}
-use Rattle.satip_records.proofs.Again.{u8_again, u16_again, u32_again, u64_again, bool_again, pol_again, roll_off_again, system_again, modulation_again, fec_again, id_again, draw_again, ports_again, change_again}
-use Rattle.satip_records.proofs.laws.parts_are_read_again.Goals as goal
+use Rattle.satip_record_values.proofs.AnswersAgain.{answer_again}
+use Rattle.satip_record_values.proofs.Again.{u8_again, u16_again, u32_again, u64_again, bool_again, pol_again, roll_off_again, system_again, modulation_again, fec_again, id_again, draw_again, ports_again, change_again}
+use Rattle.satip_record_values.proofs.laws.parts_are_read_again.Goals as goal
 
 pub returns-clause-u8 : goal.returns-clause-u8
 returns-clause-u8 c = u8_again

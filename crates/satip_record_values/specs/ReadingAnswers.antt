@@ -14,7 +14,7 @@ use Rattle.satip_plain.specs.declared.answers.Pulled.TheVariants.{Bytes, Empty, 
 use Rattle.satip_plain.specs.declared.answers.Closed.{Closed}
 use Rattle.satip_plain.specs.declared.answers.Closed.TheVariants.{Yes, Gone}
 use Rattle.satip_plain.specs.Values.{IsId}
-use Rattle.satip_records.specs.Reading.{behind, then_read, u8_read, u16_read, u64_read, bool_read, id_read}
+use Rattle.satip_record_values.specs.Reading.{behind, then_read, u8_read, u16_read, u64_read, bool_read, id_read}
 
 unfoldable pub replied_read : List ℕ → Option (Replied × List ℕ)
 replied_read bytes =

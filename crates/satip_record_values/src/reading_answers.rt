@@ -1,9 +1,9 @@
 //! Answers, read from the front of a record's bytes.
 
 ghost use Rattle.std.specs.Prelude.{◌≡◌, ◌++◌, IfSome};
-ghost use Rattle.satip_records.specs.Reading.{behind};
+ghost use Rattle.satip_record_values.specs.Reading.{behind};
 ghost use Rattle.satip_records.specs.Records.{answer_text, beat_text, closed_text, get_text, pulled_text, replied_text, work_text};
-ghost use Rattle.satip_records.specs.ReadingAnswers.{answer_read, beat_read, closed_read, get_read, pulled_read, replied_read, work_read};
+ghost use Rattle.satip_record_values.specs.ReadingAnswers.{answer_read, beat_read, closed_read, get_read, pulled_read, replied_read, work_read};
 
 use crate::reading::Reading;
 use satip_plain::{Answer, Beat, Closed, GetAnswer, Pulled, Replied, Work};
@@ -130,7 +130,7 @@ impl Reading<'_> {
     }
 
     /// Reads an answer of any kind.
-    #[tactic(auto, unfolding(crate::specs::ReadingAnswers::answer_read, crate::specs::Records::answer_text))]
+    #[tactic(auto, unfolding(crate::specs::ReadingAnswers::answer_read, satip_records::specs::Records::answer_text))]
     pub fn read_answer(&mut self) -> Option<Answer>
         ensures read { behind result self.new ≡ answer_read self.old }
         ensures front { IfSome result (λ x. self.old ≡ answer_text x ++ self.new) }

@@ -14,7 +14,7 @@ use Rattle.satip_tune.specs.declared.signal.Fec.TheVariants.{F12, F23, F34, F56,
 use Rattle.satip_plain.specs.Values.{IsId, IsDraw, ArePorts, IsChange}
 use Rattle.satip_records.specs.Fields.{u8_text, u16_text, u32_text, u64_text, bool_text, option_text, id_text, draw_text, ports_text, pol_text, roll_off_text, system_text, modulation_text, fec_text}
 use Rattle.satip_records.specs.Requests.{change_text}
-use Rattle.satip_records.specs.Reading.{ReadsAgain, u8_read, u16_read, u32_read, u64_read, bool_read, read_option, id_read, draw_read, ports_read, pol_read, roll_off_read, system_read, modulation_read, fec_read, change_read, NoneBegins}
+use Rattle.satip_record_values.specs.Reading.{ReadsAgain, u8_read, u16_read, u32_read, u64_read, bool_read, read_option, id_read, draw_read, ports_read, pol_read, roll_off_read, system_read, modulation_read, fec_read, change_read, NoneBegins}
 
 pub u8_again : ReadsAgain (λ n. n < 2 ^ 8) u8_text u8_read
 unfolding u8_read u8_text

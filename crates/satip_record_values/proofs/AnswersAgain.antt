@@ -10,9 +10,9 @@ use Rattle.satip_plain.specs.declared.answers.Closed.{Closed}
 use Rattle.satip_plain.specs.declared.answers.Closed.TheVariants.{Yes, Gone}
 use Rattle.satip_records.specs.Fields.{u8_text, u16_text, u64_text, bool_text, id_text}
 use Rattle.satip_records.specs.Records.{answer_text, beat_text, closed_text, get_text, pulled_text, replied_text, work_text}
-use Rattle.satip_records.specs.Reading.{ReadsAgain, u8_read}
-use Rattle.satip_records.specs.ReadingAnswers.{IsAnswer, IsGet, IsPulled, IsReplied, IsWork, answer_read, beat_read, closed_read, get_read, pulled_read, replied_read, work_read}
-use Rattle.satip_records.proofs.Again.{bool_again, id_again, u16_again, u64_again}
+use Rattle.satip_record_values.specs.Reading.{ReadsAgain, u8_read}
+use Rattle.satip_record_values.specs.ReadingAnswers.{IsAnswer, IsGet, IsPulled, IsReplied, IsWork, answer_read, beat_read, closed_read, get_read, pulled_read, replied_read, work_read}
+use Rattle.satip_record_values.proofs.Again.{bool_again, id_again, u16_again, u64_again}
 
 -- the place of a variant
 place_again : (place : ℕ) (rest : List ℕ) → u8_read (u8_text place ++ rest) ≡ Some (place, rest)
