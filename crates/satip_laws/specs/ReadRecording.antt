@@ -39,8 +39,8 @@ fresh_packets c h front tune = fresh_from c.config (nothing_read c) h front tune
 abbrev pub AreReadAt : Config → Readings → ℕ → ℕ → Type 0
 AreReadAt c g front mux = Each (λ m. is_at (g.front m.home) front ≡ true → option_and_then (mux_for c.muxes) (g.tuned m.home) ≡ Some mux) (living g)
 
--- the packets of one tuning number are a beginning of the recording of one multiplex, and before each of them the streams at
--- the front end are tuned to that multiplex
+-- the packets of one tuning number that weren't stale are a beginning of the recording of one multiplex, and before each of
+-- them the streams at the front end are tuned to that multiplex
 pub record IsRecording (c : Setting) (h : List Item) (front tune : ℕ) (recording : ℕ → Option (List ℕ)) : Type 0 where
   pub mux : ℕ
   pub packets : BeginsTold (fresh_packets c h front tune) (option_map cut_packets (recording mux))

@@ -89,7 +89,7 @@ pub shows_tells : {C : Type 0} (ot et : Type 0) (form : Form) (before now : ℕ)
 shows_tells ot et form before now view source i o n e m text status shows line =
     output_tells et form before now view source i o n e m status (shows_has ot o n text status shows.1) (shows_rose ot o n text status shows.1) line
 
--- the words are in no form
+-- the words are an unknown command line
 pub usage_tells : {C : Type 0} (et : Type 0) (before now : ℕ) (view : C → Feed) (source : Option C) (i : Feed) (o e m : Drain)
     → Says et e m (line_of 2) → StatusTells et None None before now view source i i o o e m 2
 usage_tells et before now view source i o e m line = record {

@@ -69,12 +69,12 @@ const VERSION: &[u8] = b"satip 0.1.0\n";
 
 /// How a run ended.
 pub struct Ended<K: Desk> {
-    /// 0 where all went well; 2 where the words are in no form; 3 where the configuration has a
-    /// fault, 4 where the script or the journals have a wrong line; 5 where the input failed, 6
-    /// where the output or a journal did; 7 where the doors of a worker or the desk failed; 8 where
-    /// the input is too long; 9 where the history is full; 10 to 14 where a recording was refused,
-    /// got a bad reply, met silence, a fault of the peer, or an end before a reply; 70 where there
-    /// was no memory.
+    /// 0 where all went well; 2 where the words are an unknown command line; 3 where the
+    /// configuration has a fault, 4 where the script or the journals have a wrong line; 5 where the
+    /// input failed, 6 where the output or a journal did; 7 where the doors of a worker or the desk
+    /// failed; 8 where the input is too long; 9 where the history is full; 10 to 14 where a
+    /// recording was refused, got a bad reply, met silence, a fault of the peer, or an end before a
+    /// reply; 70 where there was no memory.
     pub status: u8,
     /// The configuration that the desk gave, as far as it was read.
     pub config: Option<K::Config>,
@@ -324,7 +324,7 @@ fn run_tunnel<R: Threads + Wait + Sync, K: Desk, E: Sink>(
 }
 
 /// The commands that wait for nobody: `talk`, `replay`, `stress`, `audit`, `record`, `--help` and
-/// `--version`. It always returns. The words of a server are in no form here.
+/// `--version`. It always returns. The words of a server are an unknown command line here.
 pub fn offline<K: Desk, I: Source, O: Sink, E: Sink>(
     alloc: Global,
     words: &[Text],
