@@ -37,28 +37,39 @@ fn setup_asks_for_channels(rt: HostRuntime) -> Result<(), Fail> {
     let text = b"SETUP rtsp://h/?src=1 RTSP/1.0\r\n\
         CSeq: 1\r\n\
         Transport: RTP/AVP/TCP;unicast;interleaved=0-1\r\n\r\n";
-    assert_eq!(rt;
-        ports_of(rt.alloc(), text)?,
-        Some(Ports { rtp: 1, rtcp: 2 })
-    );
-    assert_eq!(rt;
-        ports_over(rt.alloc(), text)?,
-        Some(Ports { rtp: 1, rtcp: 2 })
-    );
-    let text = b"SETUP rtsp://h/?src=1 RTSP/1.0\r\n\
+    let wanted = Some(Ports { rtp: 1, rtcp: 2 });
+    assert_eq!(rt; ports_of(rt.alloc(), text)?, wanted);
+    assert_eq!(rt; ports_over(rt.alloc(), text)?, wanted);
+    Ok(())
+}
+
+#[test]
+fn setup_over_udp_and_play_ask_for_none(rt: HostRuntime) -> Result<(), Fail> {
+    for text in [
+        b"SETUP rtsp://h/?src=1 RTSP/1.0\r\n\
         CSeq: 1\r\n\
-        Transport: RTP/AVP;unicast;client_port=1400-1401\r\n\r\n";
-    assert_eq!(rt; ports_of(rt.alloc(), text)?, None);
-    let text =
-        b"PLAY rtsp://h/ RTSP/1.0\r\nCSeq: 1\r\nTransport: RTP/AVP/TCP;interleaved=0-1\r\n\r\n";
-    assert_eq!(rt; ports_of(rt.alloc(), text)?, None);
+        Transport: RTP/AVP;unicast;client_port=1400-1401\r\n\r\n"
+            .as_slice(),
+        b"PLAY rtsp://h/ RTSP/1.0\r\nCSeq: 1\r\nTransport: RTP/AVP/TCP;interleaved=0-1\r\n\r\n",
+    ] {
+        assert_eq!(rt; ports_of(rt.alloc(), text)?, None);
+    }
+    Ok(())
+}
+
+#[test]
+fn setup_without_a_number_asks_for_none(rt: HostRuntime) -> Result<(), Fail> {
     let text = b"SETUP rtsp://h/ RTSP/1.0\r\nTransport: RTP/AVP/TCP;interleaved=0-1\r\n\r\n";
     assert_eq!(rt; ports_over(rt.alloc(), text)?, None);
+    Ok(())
+}
+
+#[test]
+fn channels_may_fall(rt: HostRuntime) {
     assert_eq!(rt;
         interleaved(b"RTP/AVP/TCP;interleaved=8-3"),
         Some(Ports { rtp: 9, rtcp: 4 })
     );
-    Ok(())
 }
 
 #[test]

@@ -1,12 +1,12 @@
 //! Requests as texts, and replies to them.
 use satip_reply::{ReplyRead, read_reply};
 use satip_requests::{Grant, Page, ReplyFault, accept, grant_of};
-use std::test::Fail;
+use std::alloc::Global;
 
 const ADDRESS: &[u8; 15] = b"127.0.0.1:18554";
 
 #[test]
-fn requests_are_these_bytes(rt: HostRuntime) -> Result<(), Fail> {
+fn a_setup_has_these_bytes(rt: HostRuntime) {
     let mut page = Page::new(rt.alloc());
     assert!(rt;
         page.write_setup(ADDRESS, b"src=1&freq=12402&pids=all", 65534)
@@ -16,20 +16,41 @@ fn requests_are_these_bytes(rt: HostRuntime) -> Result<(), Fail> {
         CSeq: 1\r\n\
         Transport: RTP/AVP;unicast;client_port=65534-65535\r\n\r\n";
     assert!(rt; page.bytes() == text);
+}
+
+// A page with a request, which the next one replaces.
+fn written_page(alloc: Global) -> Page {
+    let mut page = Page::new(alloc);
+    let _ = page.write_setup(ADDRESS, b"src=1&freq=12402&pids=all", 65534);
+    page
+}
+
+#[test]
+fn a_play_has_these_bytes(rt: HostRuntime) {
+    let mut page = written_page(rt.alloc());
     assert!(rt; page.write_play(ADDRESS, 65535, b"1a2b").is_ok());
     let text: &[u8] =
         b"PLAY rtsp://127.0.0.1:18554/stream=65535 RTSP/1.0\r\nCSeq: 2\r\nSession: 1a2b\r\n\r\n";
     assert!(rt; page.bytes() == text);
+}
+
+#[test]
+fn options_have_these_bytes(rt: HostRuntime) {
+    let mut page = written_page(rt.alloc());
     assert!(rt; page.write_options(ADDRESS, 3, b"1a2b").is_ok());
     let text: &[u8] =
         b"OPTIONS rtsp://127.0.0.1:18554/ RTSP/1.0\r\nCSeq: 3\r\nSession: 1a2b\r\n\r\n";
     assert!(rt; page.bytes() == text);
+}
+
+#[test]
+fn a_teardown_has_these_bytes(rt: HostRuntime) {
+    let mut page = written_page(rt.alloc());
     assert!(rt; page.write_teardown(ADDRESS, 0, 4294967295, b"1a2b").is_ok());
     let text: &[u8] = b"TEARDOWN rtsp://127.0.0.1:18554/stream=0 RTSP/1.0\r\n\
         CSeq: 4294967295\r\n\
         Session: 1a2b\r\n\r\n";
     assert!(rt; page.bytes() == text);
-    Ok(())
 }
 
 // What a reply to SETUP gives: the fault, or whether it is this grant.
@@ -56,29 +77,44 @@ fn accepts(text: &[u8], cseq: u32) -> Result<(), ReplyFault> {
 }
 
 #[test]
-fn a_reply_gives_a_session_and_a_stream(rt: HostRuntime) -> Result<(), Fail> {
-    let text = b"RTSP/1.0 200 OK\nCSeq: 1\nSession: a;timeout=5\ncom.ses.streamID: 17\n\n";
-    assert_eq!(rt; grants(text, b"a", 5, 17), Ok(true));
-    let text = b"RTSP/1.0 200 OK\nCSeq: 1\nSession: a\n\n";
-    assert_eq!(rt; grants(text, b"a", 60, 17), Err(ReplyFault::Bad));
-    let text = b"RTSP/1.0 200 OK\nCSeq: 1\ncom.ses.streamID: 17\n\n";
-    assert_eq!(rt; grants(text, b"a", 60, 17), Err(ReplyFault::Bad));
-    let text = b"RTSP/1.0 503 No\nCSeq: 1\n\n";
-    assert_eq!(rt; grants(text, b"a", 60, 17), Err(ReplyFault::Refused(503)));
-    Ok(())
+fn a_reply_gives_a_session_and_a_stream(rt: HostRuntime) {
+    for (text, timeout, granted) in [
+        (
+            b"RTSP/1.0 200 OK\nCSeq: 1\nSession: a;timeout=5\ncom.ses.streamID: 17\n\n".as_slice(),
+            5,
+            Ok(true),
+        ),
+        (
+            b"RTSP/1.0 200 OK\nCSeq: 1\nSession: a\n\n",
+            60,
+            Err(ReplyFault::Bad),
+        ),
+        (
+            b"RTSP/1.0 200 OK\nCSeq: 1\ncom.ses.streamID: 17\n\n",
+            60,
+            Err(ReplyFault::Bad),
+        ),
+        (
+            b"RTSP/1.0 503 No\nCSeq: 1\n\n",
+            60,
+            Err(ReplyFault::Refused(503)),
+        ),
+    ] {
+        assert_eq!(rt; grants(text, b"a", timeout, 17), granted);
+    }
 }
 
 #[test]
-fn a_reply_to_another_request_is_bad(rt: HostRuntime) -> Result<(), Fail> {
-    assert_eq!(rt; accepts(b"RTSP/1.0 200 OK\nCSeq: 2\n\n", 2), Ok(()));
-    assert_eq!(rt;
-        accepts(b"RTSP/1.0 454 No\nCSeq: 2\n\n", 2),
-        Err(ReplyFault::Refused(454))
-    );
-    assert_eq!(rt;
-        accepts(b"RTSP/1.0 454 No\nCSeq: 3\n\n", 2),
-        Err(ReplyFault::Bad)
-    );
-    assert_eq!(rt; accepts(b"RTSP/1.0 200 OK\n\n", 2), Err(ReplyFault::Bad));
-    Ok(())
+fn a_reply_to_another_request_is_bad(rt: HostRuntime) {
+    for (text, accepted) in [
+        (b"RTSP/1.0 200 OK\nCSeq: 2\n\n".as_slice(), Ok(())),
+        (
+            b"RTSP/1.0 454 No\nCSeq: 2\n\n",
+            Err(ReplyFault::Refused(454)),
+        ),
+        (b"RTSP/1.0 454 No\nCSeq: 3\n\n", Err(ReplyFault::Bad)),
+        (b"RTSP/1.0 200 OK\n\n", Err(ReplyFault::Bad)),
+    ] {
+        assert_eq!(rt; accepts(text, 2), accepted);
+    }
 }

@@ -1,6 +1,8 @@
 //! Texts at the limits, fed in pieces of several sizes.
+use crate::framed::framer_at;
 use satip_fixtures::texts::{OPTIONS, repeated};
 use satip_frame::{Framer, Message, Step};
+use std::alloc::Global;
 use std::test::Fail;
 
 // Feeds the text in pieces of at most `size` bytes, and counts the messages up to the last step.
@@ -253,12 +255,11 @@ fn has_fields(message: &Message, fields: &[(&[u8], Option<&[u8]>)]) -> bool {
     true
 }
 
+const PLAY: &[u8] = b"\r\nPLAY /stream=1 RTSP/1.0\nCSeq:\t7 \r\nSession: a\nsession: b\r\n\r\n";
+
 #[test]
 fn a_message_has_words_and_headers(rt: HostRuntime) -> Result<(), Fail> {
-    let mut framer = Framer::make(rt.alloc())?;
-    assert!(rt; framer.message().is_none());
-    framer.feed(b"\r\nPLAY /stream=1 RTSP/1.0\nCSeq:\t7 \r\nSession: a\nsession: b\r\n\r\n");
-    assert_eq!(rt; framer.next(), Step::Message);
+    let framer = framer_at(rt.alloc(), PLAY).ok_or("message")?;
     let message = framer.message().ok_or("message")?;
     assert!(rt; has_words(&message, b"PLAY", b"/stream=1", b"RTSP/1.0"));
     let fields: [(&[u8], Option<&[u8]>); 3] = [
@@ -267,25 +268,57 @@ fn a_message_has_words_and_headers(rt: HostRuntime) -> Result<(), Fail> {
         (b"Require", None),
     ];
     assert!(rt; has_fields(&message, &fields));
-    framer.feed(b"P");
+    Ok(())
+}
+
+#[test]
+fn there_is_no_message_before_one_was_read(rt: HostRuntime) -> Result<(), Fail> {
+    let framer = Framer::make(rt.alloc())?;
     assert!(rt; framer.message().is_none());
     Ok(())
 }
 
 #[test]
-fn what_waits_is_shown_and_passed_over(rt: HostRuntime) -> Result<(), Fail> {
+fn a_message_is_gone_once_more_is_fed(rt: HostRuntime) -> Result<(), Fail> {
+    let mut framer = framer_at(rt.alloc(), PLAY).ok_or("message")?;
+    assert!(rt; framer.message().is_some());
+    framer.feed(b"P");
+    assert!(rt; framer.message().is_none());
+    Ok(())
+}
+
+const FIVE_BYTES_AND_OPTIONS: &[u8] = b"$\x00\x00\x01OOPTIONS * RTSP/1.0\r\n\r\nleft";
+
+#[test]
+fn what_waits_is_shown(rt: HostRuntime) -> Result<(), Fail> {
     let mut framer = Framer::make(rt.alloc())?;
     framer.reset();
     assert!(rt; framer.held().is_empty());
-    framer.feed(b"$\x00\x00\x01OOPTIONS * RTSP/1.0\r\n\r\nleft");
-    assert_eq!(rt;
-        framer.held().split_at(framer.held().len().min(6)).0,
-        b"$\x00\x00\x01OO".as_slice()
-    );
+    framer.feed(FIVE_BYTES_AND_OPTIONS);
+    assert!(rt; framer.held().starts_with(b"$\x00\x00\x01OO"));
+    Ok(())
+}
+
+// A framer that was fed five bytes before a message, and passed over them.
+fn behind_five_bytes(alloc: Global) -> Result<Framer, Fail> {
+    let mut framer = Framer::make(alloc)?;
+    framer.feed(FIVE_BYTES_AND_OPTIONS);
     if framer.held().len() > 5 {
         framer.skip(5);
     }
+    Ok(framer)
+}
+
+#[test]
+fn what_is_passed_over_waits_no_more(rt: HostRuntime) -> Result<(), Fail> {
+    let framer = behind_five_bytes(rt.alloc())?;
     assert_eq!(rt; framer.held(), b"OPTIONS * RTSP/1.0\r\n\r\nleft".as_slice());
+    Ok(())
+}
+
+#[test]
+fn a_message_is_read_behind_what_is_passed_over(rt: HostRuntime) -> Result<(), Fail> {
+    let mut framer = behind_five_bytes(rt.alloc())?;
     assert_eq!(rt; framer.next(), Step::Message);
     assert!(rt; framer.message().is_some());
     assert_eq!(rt; framer.held(), b"left".as_slice());

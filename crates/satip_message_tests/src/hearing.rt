@@ -6,6 +6,7 @@ use satip_frame::{Break, Framer};
 use satip_hearing::{Asks, Next, Piece, next_asked};
 use satip_http::HttpRequest;
 use satip_rtsp::{Method, Refusal, Request};
+use std::alloc::Global;
 use std::test::Fail;
 
 // Whether the text asks once more; it isn't broken.
@@ -24,43 +25,89 @@ fn asks_more<A: Asks>(
     }
 }
 
+// The method and the number of what is asked next; nothing where the text asks no more.
+fn asked_next(
+    framer: &mut Framer,
+    piece: &mut Piece<'_>,
+    request: &mut Request,
+) -> Result<Option<(Method, Option<u32>)>, Fail>
+    requires open { framer.old.ended ≡ None }
+    ensures open { IfOk result (λ _. framer.new.ended ≡ None) }
+{
+    if !asks_more(framer, piece, request)? {
+        return Ok(None);
+    }
+    Ok(Some((request.method, request.cseq)))
+}
+
+const FIRST_PIECE: &[u8] = b"OPTIONS * RTSP/1.0\r\nCSe";
+
+const SECOND_PIECE: &[u8] = b"q: 1\r\n\r\n\r\n\
+    PLAY / RTSP/1.0\r\n\
+    CSeq: 2\r\n\r\n\
+    no message\r\n\r\n\
+    OPTIONS * RTSP/1.0\r\n\r\n";
+
+// A framer that has heard the first piece.
+fn begun(alloc: Global, request: &mut Request) -> Result<Framer, Fail>
+    ensures open { IfOk result (λ framer. framer.ended ≡ None) }
+{
+    let mut framer = Framer::make(alloc)?;
+    let mut piece = Piece::new(FIRST_PIECE);
+    if asks_more(&mut framer, &mut piece, request)? {
+        return Err(Fail::from("the first piece asks"));
+    }
+    Ok(framer)
+}
+
 #[test]
-fn a_text_in_two_pieces_asks_three_times(rt: HostRuntime) -> Result<(), Fail> {
-    let mut framer = Framer::make(rt.alloc())?;
+fn a_text_in_two_pieces_asks_twice(rt: HostRuntime) -> Result<(), Fail> {
     let mut request = Request::broken(Break::TooLong);
-    let mut piece = Piece::new(b"OPTIONS * RTSP/1.0\r\nCSe");
-    assert!(rt; !asks_more(&mut framer, &mut piece, &mut request)?);
-    let mut piece = Piece::new(
-        b"q: 1\r\n\r\n\r\n\
-        PLAY / RTSP/1.0\r\n\
-        CSeq: 2\r\n\r\n\
-        no message\r\n\r\n\
-        OPTIONS * RTSP/1.0\r\n\r\n",
-    );
-    assert!(rt; asks_more(&mut framer, &mut piece, &mut request)?);
-    assert_eq!(rt; request.method, Method::Options);
-    assert_eq!(rt; request.cseq, Some(1));
-    assert!(rt; asks_more(&mut framer, &mut piece, &mut request)?);
-    assert_eq!(rt; request.method, Method::Play);
-    assert_eq!(rt; request.cseq, Some(2));
+    let mut framer = begun(rt.alloc(), &mut request)?;
+    let mut piece = Piece::new(SECOND_PIECE);
     assert_eq!(rt;
-        next_asked(&mut framer, &mut piece, &mut request),
-        Next::Last
+        asked_next(&mut framer, &mut piece, &mut request)?,
+        Some((Method::Options, Some(1)))
     );
-    assert_eq!(rt; request.refusal, Some(Refusal::Broken));
+    assert_eq!(rt;
+        asked_next(&mut framer, &mut piece, &mut request)?,
+        Some((Method::Play, Some(2)))
+    );
     Ok(())
 }
 
 #[test]
-fn a_get_in_two_pieces_is_asked_once(rt: HostRuntime) -> Result<(), Fail> {
-    let mut framer = Framer::make(rt.alloc())?;
+fn what_is_no_message_is_asked_last(rt: HostRuntime) -> Result<(), Fail> {
+    let mut request = Request::broken(Break::TooLong);
+    let mut framer = begun(rt.alloc(), &mut request)?;
+    let mut piece = Piece::new(SECOND_PIECE);
+    let _ = asked_next(&mut framer, &mut piece, &mut request)?;
+    let _ = asked_next(&mut framer, &mut piece, &mut request)?;
+    let last = next_asked(&mut framer, &mut piece, &mut request);
+    assert_eq!(rt; last, Next::Last);
+    assert_eq!(rt; request.refusal, Some(Refusal::Broken));
+    Ok(())
+}
+
+// Whether the first piece of a GET asks, the second, and what is behind it; and what the second
+// asks.
+fn ask_in_two_pieces(alloc: Global) -> Result<([bool; 3], HttpRequest), Fail> {
+    let mut framer = Framer::make(alloc)?;
     let mut request = HttpRequest::broken(Break::Bad);
     let mut piece = Piece::new(b"GET /?src=2 HT");
-    assert!(rt; !asks_more(&mut framer, &mut piece, &mut request)?);
+    let first = asks_more(&mut framer, &mut piece, &mut request)?;
     let mut piece = Piece::new(b"TP/1.1\r\n\r\n");
-    assert!(rt; asks_more(&mut framer, &mut piece, &mut request)?);
-    assert_eq!(rt; request.refusal, None);
-    assert_eq!(rt; request.query.change.src, Some(2));
-    assert!(rt; !asks_more(&mut framer, &mut piece, &mut request)?);
+    let second = asks_more(&mut framer, &mut piece, &mut request)?;
+    let asked = request;
+    let third = asks_more(&mut framer, &mut piece, &mut request)?;
+    Ok(([first, second, third], asked))
+}
+
+#[test]
+fn a_get_in_two_pieces_is_asked_once(rt: HostRuntime) -> Result<(), Fail> {
+    let (asks, asked) = ask_in_two_pieces(rt.alloc())?;
+    assert_eq!(rt; asks, [false, true, false]);
+    assert_eq!(rt; asked.refusal, None);
+    assert_eq!(rt; asked.query.change.src, Some(2));
     Ok(())
 }

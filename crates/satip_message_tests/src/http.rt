@@ -55,26 +55,34 @@ fn first_refusal_counts(rt: HostRuntime) -> Result<(), Fail> {
         let request = request_of(rt.alloc(), text).ok_or("message")?;
         assert_eq!(rt; request.refusal, Some(refusal));
     }
-    assert_eq!(rt;
-        HttpRequest::broken(Break::Bad).refusal,
-        Some(HttpRefusal::Broken)
-    );
-    assert_eq!(rt;
-        HttpRequest::broken(Break::TooLong).refusal,
-        Some(HttpRefusal::TooLong)
-    );
+    Ok(())
+}
+
+#[test]
+fn what_is_no_message_is_refused(rt: HostRuntime) {
+    for (fault, refusal) in [
+        (Break::Bad, HttpRefusal::Broken),
+        (Break::TooLong, HttpRefusal::TooLong),
+    ] {
+        assert_eq!(rt; HttpRequest::broken(fault).refusal, Some(refusal));
+    }
+}
+
+#[test]
+#[tactic(auto, using(satip_http::proofs::HeadLemmas::head_bounds))]
+fn a_start_has_64_bytes(rt: HostRuntime) -> Result<(), Fail> {
+    let mut out = Out::make(rt.alloc())?;
+    write_start(&mut out);
+    assert_eq!(rt; out.reply().len(), 64);
+    let text = b"HTTP/1.1 200 OK\r\nContent-Type: video/mp2t\r\nConnection: close\r\n\r\n";
+    assert_eq!(rt; out.reply(), text.as_slice());
     Ok(())
 }
 
 #[test]
 #[tactic(auto, using(satip_http::proofs::HeadLemmas::head_bounds))]
-fn heads_have_these_texts(rt: HostRuntime) -> Result<(), Fail> {
-    let mut out = Out::make(rt.alloc()).ok().ok_or("memory")?;
-    write_start(&mut out);
-    assert_eq!(rt; out.reply().len(), 64);
-    let text = b"HTTP/1.1 200 OK\r\nContent-Type: video/mp2t\r\nConnection: close\r\n\r\n";
-    assert_eq!(rt; out.reply(), text.as_slice());
-    out.clear();
+fn a_refusal_may_have_a_body(rt: HostRuntime) -> Result<(), Fail> {
+    let mut out = Out::make(rt.alloc())?;
     write_refusal(503, Some(RefusalBody::NoMoreFrontends), &mut out);
     let text = b"HTTP/1.1 503 Service Unavailable\r\n\
         Connection: close\r\n\
@@ -82,7 +90,13 @@ fn heads_have_these_texts(rt: HostRuntime) -> Result<(), Fail> {
         Content-Length: 19\r\n\r\n\
         No-More:frontends\r\n";
     assert_eq!(rt; out.reply(), text.as_slice());
-    out.clear();
+    Ok(())
+}
+
+#[test]
+#[tactic(auto, using(satip_http::proofs::HeadLemmas::head_bounds))]
+fn a_refusal_may_be_a_head_alone(rt: HostRuntime) -> Result<(), Fail> {
+    let mut out = Out::make(rt.alloc())?;
     write_refusal(505, None, &mut out);
     let text = b"HTTP/1.1 505 HTTP Version Not Supported\r\nConnection: close\r\n\r\n";
     assert_eq!(rt; out.reply(), text.as_slice());

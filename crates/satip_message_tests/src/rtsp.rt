@@ -15,6 +15,7 @@ use satip_rtsp::{
 };
 use satip_tune::Key;
 use std::alloc::Global;
+use std::process::Abort;
 use std::test::Fail;
 
 const SESSION: SessionId = SessionId { count: 1, word: 10 };
@@ -34,10 +35,18 @@ fn options_is_asked(rt: HostRuntime) -> Result<(), Fail> {
     Ok(())
 }
 
+fn show_refusals(rt: &impl Abort, alloc: Global, rows: &[(&[u8], Refusal)]) -> Result<(), Fail> {
+    for (text, refusal) in rows {
+        let request = request_of(alloc, text).ok_or("message")?;
+        assert_eq!(rt; request.refusal, Some(*refusal));
+    }
+    Ok(())
+}
+
 // The first refusal counts where a request has two faults.
 #[test]
 fn first_refusal_counts(rt: HostRuntime) -> Result<(), Fail> {
-    for (text, refusal) in [
+    let rows = [
         (b"PAUSE /x RTSP/2.0\r\n\r\n".as_slice(), Refusal::NoCseq),
         (
             b"PAUSE / RTSP/2.0\r\nCSeq: 4294967296\r\n\r\n".as_slice(),
@@ -67,11 +76,8 @@ fn first_refusal_counts(rt: HostRuntime) -> Result<(), Fail> {
             b"PLAY /?pol=n&pol=h RTSP/1.0\r\nCSeq: 4\r\n\r\n".as_slice(),
             Refusal::Query(QueryFault::Range(Key::Pol)),
         ),
-    ] {
-        let request = request_of(rt.alloc(), text).ok_or("message")?;
-        assert_eq!(rt; request.refusal, Some(refusal));
-    }
-    Ok(())
+    ];
+    show_refusals(&rt, rt.alloc(), &rows)
 }
 
 // Messages, and the streams that their targets name.
@@ -111,6 +117,11 @@ fn targets_name_streams(rt: HostRuntime) -> Result<(), Fail> {
         assert_eq!(rt; request.refusal, None);
         assert_eq!(rt; request.stream, *stream);
     }
+    Ok(())
+}
+
+#[test]
+fn other_targets_are_refused(rt: HostRuntime) -> Result<(), Fail> {
     for text in NO_TARGETS {
         let request = request_of(rt.alloc(), text).ok_or("message")?;
         assert_eq!(rt; request.refusal, Some(Refusal::Target));
@@ -128,7 +139,7 @@ fn no_target_is_empty()
 // Of two faults in a request the earlier place counts, whatever comes first in the text.
 #[test]
 fn earlier_place_counts_for_each_method(rt: HostRuntime) -> Result<(), Fail> {
-    for (text, refusal) in [
+    let rows = [
         (
             b"TEARDOWN /x RTSP/1.0\r\nRequire: y\r\nCSeq: 4\r\n\r\n".as_slice(),
             Refusal::Require(Short::of(b"y")),
@@ -157,11 +168,8 @@ fn earlier_place_counts_for_each_method(rt: HostRuntime) -> Result<(), Fail> {
             b"SETUP /?pids=8192&fe=0 RTSP/1.0\r\nCSeq: 4\r\n\r\n".as_slice(),
             Refusal::Query(QueryFault::Range(Key::Pids)),
         ),
-    ] {
-        let request = request_of(rt.alloc(), text).ok_or("message")?;
-        assert_eq!(rt; request.refusal, Some(refusal));
-    }
-    Ok(())
+    ];
+    show_refusals(&rt, rt.alloc(), &rows)
 }
 
 // Of what a message requires 128 bytes are kept.
@@ -171,10 +179,12 @@ fn long_requirement_is_cut(rt: HostRuntime) -> Result<(), Fail> {
         CSeq: 4\r\n\
         Require: aaaaaaaaaaaaaaaaaaaaaaaaaaaaaaaaaaaaaaaaaaaaaaaaaaaaaaaaaaaaaaaaaaaaaaaaaaaaaaaaaa\
         aaaaaaaaaaaaaaaaaaaaaaaaaaaaaaaaaaaaaaaaaaaaaab\r\n\r\n";
-    let request = request_of(rt.alloc(), text).ok_or("message")?;
     let kept = Short::of(&[b'a'; 128]);
-    assert_eq!(rt; request.refusal, Some(Refusal::Require(kept)));
-    Ok(())
+    show_refusals(
+        &rt,
+        rt.alloc(),
+        &[(text.as_slice(), Refusal::Require(kept))],
+    )
 }
 
 // Messages, and the ports that they ask for.

@@ -238,6 +238,16 @@ struct Both {
 }
 
 impl Both {
+    /// Both without a session.
+    fn make(alloc: Global) -> Result<Both, Fail> {
+        Ok(Both {
+            flow: Flow::make(alloc)?,
+            plain: Plain::new(alloc),
+            out: Out::make(alloc)?,
+            other: Out::make(alloc)?,
+        })
+    }
+
     /// Whether both wrote the same.
     fn wrote_same(&self) -> bool {
         if self.out.count() != self.other.count() || self.out.reply() != self.other.reply() {
@@ -363,12 +373,7 @@ impl Both {
 
 #[test]
 fn ten_thousand_calls_are_as_on_a_plain_list(rt: HostRuntime) -> Result<(), Fail> {
-    let mut both = Both {
-        flow: Flow::make(rt.alloc())?,
-        plain: Plain::new(rt.alloc()),
-        out: Out::make(rt.alloc())?,
-        other: Out::make(rt.alloc())?,
-    };
+    let mut both = Both::make(rt.alloc())?;
     let mut draw = FIRST_DRAW;
     for made in 0..10000u32 {
         draw = next_draw(draw);

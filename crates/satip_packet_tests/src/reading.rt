@@ -17,15 +17,19 @@ fn datagram() -> [u8; 1328] {
 
 #[test]
 fn a_datagram_is_read(rt: HostRuntime) -> Result<(), Fail> {
-    let mut bytes = datagram();
+    let bytes = datagram();
     let view = read_rtp(&bytes).ok_or("view")?;
-    assert_eq!(rt; view.number, 65534);
-    assert_eq!(rt; view.ssrc, 0x11223344);
+    assert_eq!(rt; (view.number, view.ssrc), (65534, 0x11223344));
     assert!(rt; view.packets == bytes.split_at(12).1);
+    Ok(())
+}
+
+#[test]
+fn a_marked_and_a_shorter_datagram_are_read(rt: HostRuntime) {
+    let mut bytes = datagram();
     bytes[1] = 0xa1;
     assert!(rt; read_rtp(&bytes).is_some());
     assert!(rt; read_rtp(bytes.split_at(200).0).is_some());
-    Ok(())
 }
 
 // Whether a datagram is dropped that has another byte at a place.
@@ -39,7 +43,7 @@ fn is_dropped_with(at: usize, byte: u8) -> bool {
 }
 
 #[test]
-fn other_datagrams_are_dropped(rt: HostRuntime) -> Result<(), Fail> {
+fn datagrams_with_other_bytes_are_dropped(rt: HostRuntime) {
     // another version, padding, an extension, a contributing source; another payload type; and a
     // packet that doesn't begin so
     for (at, byte) in [
@@ -59,6 +63,10 @@ fn other_datagrams_are_dropped(rt: HostRuntime) -> Result<(), Fail> {
     ] {
         assert!(rt; is_dropped_with(at, byte), "at {at}");
     }
+}
+
+#[test]
+fn datagrams_of_other_lengths_are_dropped(rt: HostRuntime) {
     let bytes = datagram();
     for cut in [0, 1, 11, 12, 13, 199, 201, 1327] {
         assert!(rt; read_rtp(&bytes[..cut]).is_none(), "up to {cut}");
@@ -66,7 +74,6 @@ fn other_datagrams_are_dropped(rt: HostRuntime) -> Result<(), Fail> {
     let mut eight = [0x47; 12 + 8 * 188];
     eight[..12].copy_from_slice(&bytes[..12]);
     assert!(rt; read_rtp(&eight).is_none());
-    Ok(())
 }
 
 // Whether a datagram has this number and source, and two packets of the byte 0x47.

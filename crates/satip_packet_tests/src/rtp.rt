@@ -11,6 +11,7 @@ ghost use Rattle.satip_rtp.specs.Held.{packets_in};
 use satip_base::{Address, Out};
 use satip_rtp::Packer;
 use satip_ts::Packet;
+use std::alloc::Global;
 use std::test::Fail;
 
 const TO: Address = Address {
@@ -62,19 +63,33 @@ fn state(packer: &Packer) -> (u16, u32, u32) {
     (packer.next(), packer.datagrams(), packer.octets())
 }
 
-#[test]
-fn the_seventh_packet_sends_and_the_number_wraps(rt: HostRuntime) -> Result<(), Fail> {
-    let mut out = Out::make(rt.alloc())?;
+// What eight packets and two flushes come to: the packer, what it sent, and whether each flush
+// sent.
+fn send_eight(alloc: Global) -> Result<(Packer, Out, [bool; 2]), Fail> {
+    let mut out = Out::make(alloc)?;
     let packet = Packet::of(&[0x47; 188]).ok_or("packet")?;
     let mut packer = Packer::new(0x11223344, 65535);
     push_packets(&mut packer, &packet, 8, &mut out);
-    assert!(rt; packer.flush(1000, TO, &mut out));
-    assert!(rt; !packer.flush(1000, TO, &mut out));
-    assert_eq!(rt; out.count(), 2);
+    let first = packer.flush(1000, TO, &mut out);
+    let second = packer.flush(1000, TO, &mut out);
+    Ok((packer, out, [first, second]))
+}
+
+#[test]
+fn the_seventh_packet_sends_and_the_number_wraps(rt: HostRuntime) -> Result<(), Fail> {
+    let (_, out, flushed) = send_eight(rt.alloc())?;
+    assert_eq!(rt; flushed, [true, false]);
     let first = b"\x80\x21\xff\xff\x00\x01\x5f\x90\x11\x22\x33\x44";
     assert!(rt; is_sent(&out, 0, first, 1316));
     let second = b"\x80\x21\x00\x00\x00\x01\x5f\x90\x11\x22\x33\x44";
     assert!(rt; is_sent(&out, 1, second, 188));
+    Ok(())
+}
+
+#[test]
+fn datagrams_and_octets_are_counted(rt: HostRuntime) -> Result<(), Fail> {
+    let (packer, out, _) = send_eight(rt.alloc())?;
+    assert_eq!(rt; out.count(), 2);
     assert_eq!(rt; state(&packer), (1, 2, 1504));
     Ok(())
 }

@@ -29,16 +29,18 @@ fn hands_out(cutter: &mut Cutter, pid: u16) -> bool {
 }
 
 #[test]
-fn packets_of_a_recording(rt: HostRuntime) -> Result<(), Fail> {
+fn packets_of_a_recording(rt: HostRuntime) {
     let mut cutter = Cutter::new();
-    assert!(rt; takes(&mut cutter, &[0, 1, 2, 3, 4]));
-    assert!(rt; takes(&mut cutter, &filled_bytes(16)));
-    assert!(rt; takes(&mut cutter, &filled_bytes(17)));
-    assert!(rt; takes(&mut cutter, &[0x47; 100]));
-    assert!(rt; hands_out(&mut cutter, 16));
-    assert!(rt; hands_out(&mut cutter, 17));
+    let first = filled_bytes(16);
+    let second = filled_bytes(17);
+    let rest = [0x47u8; 100];
+    for bytes in [b"\0\x01\x02\x03\x04".as_slice(), &first, &second, &rest] {
+        assert!(rt; takes(&mut cutter, bytes));
+    }
+    for pid in [16, 17] {
+        assert!(rt; hands_out(&mut cutter, pid));
+    }
     assert!(rt; cutter.next().is_none());
-    Ok(())
 }
 
 #[test]
@@ -74,8 +76,8 @@ fn two_hundred_packets(rt: HostRuntime) {
 #[test]
 fn no_more_than_4096_bytes_are_held(rt: HostRuntime) {
     let mut cutter = Cutter::new();
-    assert_eq!(rt; cutter.feed(&[0x47; 5000]), 4096);
-    assert_eq!(rt; cutter.feed(&[0x47; 10]), 0);
+    let taken = [cutter.feed(&[0x47; 5000]), cutter.feed(&[0x47; 10])];
+    assert_eq!(rt; taken, [4096, 0]);
     assert!(rt; cutter.next().is_some());
     assert_eq!(rt; cutter.feed(&[0x47; 200]), 188);
 }

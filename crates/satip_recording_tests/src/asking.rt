@@ -4,7 +4,7 @@ use satip_client::{Heard, Lease, Pulse, RecordEnd, keep_alive, set_up, start};
 use satip_fixtures::recordings::{ACCEPTED, GRANTED};
 use satip_memory::{MemoryClock, MemoryConn};
 use satip_requests::Page;
-use std::alloc::Global;
+use std::alloc::{AllocError, Global};
 use std::test::Fail;
 
 fn asks(alloc: Global, wire: &mut MemoryConn) -> Result<Lease, RecordEnd> {
@@ -97,55 +97,87 @@ const ROWS: &[Row] = &[
     (&[(b"", 10000)], &[], &[], RecordEnd::Silent),
 ];
 
+// The texts, each so often.
+fn pieces_of(
+    alloc: Global,
+    texts: &[(&'static [u8], usize)],
+) -> Result<Vec<&'static [u8]>, AllocError> {
+    let mut pieces = Vec::new(alloc);
+    for (text, times) in texts {
+        for _ in 0..*times {
+            pieces.push(*text)?;
+        }
+    }
+    Ok(pieces)
+}
+
 #[test]
 fn replies_faults_and_silence_end_it(rt: HostRuntime) -> Result<(), Fail> {
     for (place, (texts, receives, sends, end)) in ROWS.iter().enumerate() {
-        let mut pieces = Vec::new(rt.alloc());
-        for (text, times) in *texts {
-            for _ in 0..*times {
-                pieces.push(*text)?;
-            }
-        }
+        let pieces = pieces_of(rt.alloc(), texts)?;
         let seen = ends(rt.alloc(), &pieces, receives, sends)?;
         assert_eq!(rt; seen, *end, "at {place}");
     }
     Ok(())
 }
 
-// Whether it goes on behind a moment of the clock.
-fn goes_on(
-    wire: &mut MemoryConn,
-    clock: &mut MemoryClock,
-    lease: &Lease,
-    pulse: &mut Pulse,
-    page: &mut Page,
-) -> bool {
-    pulse.cseq < u32::MAX && keep_alive(wire, clock, b"10.0.0.1", lease, pulse, page).is_ok()
+// A recording that began, with the moments of its clock.
+#[derive(Drop)]
+struct Begun {
+    wire: MemoryConn,
+    clock: MemoryClock,
+    lease: Lease,
+    page: Page,
 }
 
-// Whether what was sent behind a place is this.
-fn was_sent(wire: &MemoryConn, before: usize, text: &[u8]) -> bool {
-    wire.sent().split_at(before.min(wire.sent().len())).1 == text
+fn just_begun(alloc: Global) -> Result<Begun, Fail> {
+    let mut wire = MemoryConn::make(alloc, &[GRANTED, ACCEPTED], &[], &[], 0)?;
+    let lease = asks(alloc, &mut wire).ok().ok_or("lease")?;
+    let clock = MemoryClock::make(alloc, &[1004, 1005, 1006])?;
+    Ok(Begun {
+        wire,
+        clock,
+        lease,
+        page: Page::new(alloc),
+    })
+}
+
+impl Begun {
+    // Whether it goes on behind a moment of the clock.
+    fn goes_on(&mut self, pulse: &mut Pulse) -> bool {
+        pulse.cseq < u32::MAX
+            && keep_alive(
+                &mut self.wire,
+                &mut self.clock,
+                b"10.0.0.1",
+                &self.lease,
+                pulse,
+                &mut self.page,
+            )
+            .is_ok()
+    }
+
+    // Whether what was sent behind a place is this.
+    fn has_sent(&self, before: usize, text: &[u8]) -> bool {
+        let sent = self.wire.sent();
+        sent.split_at(before.min(sent.len())).1 == text
+    }
 }
 
 #[test]
 fn half_of_the_timeout_brings_options(rt: HostRuntime) -> Result<(), Fail> {
-    let alloc = rt.alloc();
-    let mut wire = MemoryConn::make(alloc, &[GRANTED, ACCEPTED], &[], &[], 0)?;
-    let lease = asks(alloc, &mut wire).ok().ok_or("lease")?;
-    let mut clock = MemoryClock::make(alloc, &[1004, 1005, 1006])?;
+    let mut begun = just_begun(rt.alloc())?;
     let mut pulse = Pulse { mark: 5, cseq: 3 };
-    let mut page = Page::new(alloc);
-    let before = wire.sent().len();
+    let before = begun.wire.sent().len();
     let options = b"OPTIONS rtsp://10.0.0.1/ RTSP/1.0\r\nCSeq: 3\r\nSession: 1a\r\n\r\n";
     for (mark, cseq, text) in [
         (5, 3, b"".as_slice()),
         (1005, 4, options),
         (1005, 4, options),
     ] {
-        assert!(rt; goes_on(&mut wire, &mut clock, &lease, &mut pulse, &mut page));
+        assert!(rt; begun.goes_on(&mut pulse));
         assert_eq!(rt; pulse, Pulse { mark, cseq });
-        assert!(rt; was_sent(&wire, before, text));
+        assert!(rt; begun.has_sent(before, text));
     }
     Ok(())
 }

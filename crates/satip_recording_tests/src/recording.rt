@@ -51,30 +51,51 @@ impl Played {
     }
 }
 
-fn play(
+// What a recording is made over, where it is written, and where it is told of.
+#[derive(Drop)]
+struct Devices {
+    wire: MemoryConn,
+    inlet: MemoryInlet,
+    moment: MemoryClock,
+    output: MemorySink,
+    errors: MemorySink,
+}
+
+fn memory_devices(
     alloc: Global,
     replies: &[&[u8]],
     datagrams: &[&[u8]],
     troubles: Troubles,
-    count: u32,
-) -> Result<Played, Want> {
-    let wire = MemoryConn::make(alloc, replies, &[], &[troubles.send], 5)?;
+) -> Result<Devices, Want> {
     let (idle, failing) = ([troubles.idle], [troubles.inlet]);
-    let inlet = MemoryInlet::make(alloc, 5000, datagrams, &idle, &failing)?;
-    let moment = MemoryClock::make(alloc, &[5, 1004, 1005, 1006])?;
-    let mut output = MemorySink::make(alloc, &[], 0)?;
-    let mut errors = MemorySink::make(alloc, &[troubles.errors], 3)?;
+    Ok(Devices {
+        wire: MemoryConn::make(alloc, replies, &[], &[troubles.send], 5)?,
+        inlet: MemoryInlet::make(alloc, 5000, datagrams, &idle, &failing)?,
+        moment: MemoryClock::make(alloc, &[5, 1004, 1005, 1006])?,
+        output: MemorySink::make(alloc, &[], 0)?,
+        errors: MemorySink::make(alloc, &[troubles.errors], 3)?,
+    })
+}
+
+fn play(alloc: Global, devices: Devices, count: u32) -> Played {
+    let Devices {
+        wire,
+        inlet,
+        moment,
+        mut output,
+        mut errors,
+    } = devices;
     let wish = Wish {
         address: ADDRESS.as_bytes(),
         query: QUERY.as_bytes(),
         count: count.clamp(1, 1000000),
     };
     let recorded = record_by(alloc, wire, inlet, moment, &wish, &mut output, &mut errors);
-    Ok(Played {
+    Played {
         recorded,
         output,
         errors,
-    })
+    }
 }
 
 // What comes to the inlet: the datagram of a number, or another.
@@ -99,7 +120,7 @@ struct Row {
     told: Option<&'static [u8]>,
 }
 
-const PLAYED: Row = Row {
+const USUAL: Row = Row {
     name: "",
     replies: &[GRANTED, ACCEPTED],
     came: &[],
@@ -123,7 +144,7 @@ const ROWS: &[Row] = &[
         count: 6,
         written: Some(&[(10, 564), (12, 564)]),
         told: Some(b"gap 11 1\n"),
-        ..PLAYED
+        ..USUAL
     },
     Row {
         name: "repeated and late datagrams are put in order",
@@ -138,7 +159,7 @@ const ROWS: &[Row] = &[
         count: 8,
         written: Some(&[(65535, 564), (0, 564), (1, 376)]),
         told: Some(b""),
-        ..PLAYED
+        ..USUAL
     },
     Row {
         name: "half of the timeout brings OPTIONS",
@@ -149,7 +170,7 @@ const ROWS: &[Row] = &[
             b"OPTIONS rtsp://127.0.0.1:18554/ RTSP/1.0\r\nCSeq: 3\r\nSession: 1a\r\n\r\n",
             b"TEARDOWN rtsp://127.0.0.1:18554/stream=7 RTSP/1.0\r\nCSeq: 4\r\nSession: 1a\r\n\r\n",
         ]),
-        ..PLAYED
+        ..USUAL
     },
     Row {
         name: "a last request that fails ends it",
@@ -157,14 +178,14 @@ const ROWS: &[Row] = &[
         troubles: Troubles { send: 3, ..NONE },
         end: RecordEnd::PeerFault,
         sent: Some(&[OPENED, b"TEARD"]),
-        ..PLAYED
+        ..USUAL
     },
     Row {
         name: "a connection that ends behind the first reply ends it",
         replies: &[GRANTED],
         end: RecordEnd::Closed,
         told: Some(b"closed\n"),
-        ..PLAYED
+        ..USUAL
     },
     Row {
         name: "behind a line that fails none is told",
@@ -177,7 +198,7 @@ const ROWS: &[Row] = &[
         count: 6,
         end: RecordEnd::PeerFault,
         told: Some(b"gap"),
-        ..PLAYED
+        ..USUAL
     },
 ];
 
@@ -194,11 +215,17 @@ fn play_row(alloc: Global, row: &Row) -> Result<Played, Fail> {
     for came in row.came {
         owned.push(bytes_of(alloc, *came)?)?;
     }
+    let devices = devices_of(alloc, row, &owned)?;
+    Ok(play(alloc, devices, row.count))
+}
+
+// The devices of a row, to whose inlet these datagrams come.
+fn devices_of(alloc: Global, row: &Row, owned: &[Vec<u8>]) -> Result<Devices, Fail> {
     let mut datagrams = Vec::new(alloc);
-    for bytes in &owned {
+    for bytes in owned {
         datagrams.push(bytes.as_slice())?;
     }
-    Ok(play(alloc, row.replies, &datagrams, row.troubles, row.count)?)
+    Ok(memory_devices(alloc, row.replies, &datagrams, row.troubles)?)
 }
 
 // Whether bytes are the beginnings of the packets of these datagrams, where they are looked at.
@@ -218,17 +245,19 @@ fn are_packets(bytes: &[u8], parts: Option<&[(u16, usize)]>) -> bool {
     rest.is_empty()
 }
 
+// Whether what was sent is as a row says, and what was written.
+fn sent_and_written(played: &Played, row: &Row) -> [bool; 2] {
+    let sent = row.sent.is_none_or(|texts| is_joined(played.sent(), texts));
+    [sent, are_packets(played.written(), row.written)]
+}
+
 #[test]
 fn recordings_come_to_what_their_rows_say(rt: HostRuntime) -> Result<(), Fail> {
     for row in ROWS {
         let played = play_row(rt.alloc(), row)?;
         let name = row.name;
         assert_eq!(rt; played.end(), row.end, "{name}");
-        assert!(rt;
-            row.sent.is_none_or(|texts| is_joined(played.sent(), texts)),
-            "{name}"
-        );
-        assert!(rt; are_packets(played.written(), row.written), "{name}");
+        assert_eq!(rt; sent_and_written(&played, row), [true, true], "{name}");
         assert_eq!(rt; played.told(), row.told.unwrap_or(played.told()), "{name}");
     }
     Ok(())

@@ -35,82 +35,166 @@ fn tuning(fe: Option<u16>, mux: Mux) -> Tuning {
     }
 }
 
-/// What a front end is doing whose recording hasn't ended.
-fn doing(streams: u16, mux: Option<u16>, tune: u64) -> Option<FrontState> {
-    Some(FrontState {
-        streams,
-        mux,
-        tune,
-        ended: false,
-    })
+/// What is done to front ends, and what they answer or do behind it.
+#[derive(Clone, Copy)]
+enum Step {
+    /// A stream is tuned to a multiplex, at the front end of this number where one is wanted; the
+    /// front end that it gets.
+    Take(u16, Option<u16>, Mux, Option<u16>),
+    Leave(u16),
+    /// The recording of a tune number ends at a front end; whether it was that front end's.
+    End(u16, u64, bool),
+    /// How many streams a front end has whose recording hasn't ended, its multiplex and its tune
+    /// number.
+    Does(u16, u16, Option<u16>, u64),
+    /// How many streams a front end has whose recording has ended.
+    Ended(u16, u16),
+    /// Whether a front end serves a stream.
+    Serves(u16, u16, bool),
+    /// Whether there is a front end of this number.
+    Front(u16, bool),
 }
+
+/// Whether a stream gets this front end.
+fn takes(fronts: &mut Fronts, stream: u16, tuning: &Tuning, front: Option<u16>) -> bool {
+    if stream < 1 || stream > 64 {
+        return false;
+    }
+    fronts.take(stream, tuning) == front
+}
+
+fn leaves(fronts: &mut Fronts, stream: u16) -> bool {
+    if stream < 1 || stream > 64 {
+        return false;
+    }
+    fronts.leave(stream);
+    true
+}
+
+fn does(fronts: &Fronts, front: u16, wanted: FrontState) -> bool {
+    fronts.state(front) == Some(wanted)
+}
+
+fn has_ended(fronts: &Fronts, front: u16, streams: u16) -> bool {
+    fronts
+        .state(front)
+        .is_some_and(|state| state.ended && state.streams == streams)
+}
+
+/// Whether front ends answer so.
+fn is_answered(fronts: &mut Fronts, step: Step) -> bool {
+    match step {
+        Step::Take(stream, fe, mux, front) => takes(fronts, stream, &tuning(fe, mux), front),
+        Step::Leave(stream) => leaves(fronts, stream),
+        Step::End(front, tune, current) => fronts.end(front, tune) == current,
+        Step::Does(front, streams, mux, tune) => {
+            let wanted = FrontState {
+                streams,
+                mux,
+                tune,
+                ended: false,
+            };
+            does(fronts, front, wanted)
+        }
+        Step::Ended(front, streams) => has_ended(fronts, front, streams),
+        Step::Serves(front, stream, served) => fronts.serves(front, stream) == served,
+        Step::Front(front, there) => {
+            fronts.front(front).is_some() == there && fronts.state(front).is_some() == there
+        }
+    }
+}
+
+/// Takes all steps; the place of the first that isn't answered so.
+fn take_all(alloc: Global, steps: &[Step]) -> Result<Option<usize>, AllocError> {
+    let mut fronts = fronts(alloc)?;
+    for (place, step) in steps.iter().enumerate() {
+        if !is_answered(&mut fronts, *step) {
+            return Ok(Some(place));
+        }
+    }
+    Ok(None)
+}
+
+const SHARED: &[Step] = &[
+    Step::Take(1, None, FIRST_MUX, Some(1)),
+    Step::Take(2, None, FIRST_MUX, Some(1)),
+    Step::Does(1, 2, Some(1), 1),
+    Step::Take(3, None, SECOND_MUX, Some(2)),
+    Step::Take(4, None, UNKNOWN_MUX, None),
+    Step::Does(2, 1, Some(2), 1),
+];
 
 #[test]
 fn streams_of_one_multiplex_share_a_front_end(rt: HostRuntime) -> Result<(), AllocError> {
-    let mut fronts = fronts(rt.alloc())?;
-    assert_eq!(rt; fronts.take(1, &tuning(None, FIRST_MUX)), Some(1));
-    assert_eq!(rt; fronts.take(2, &tuning(None, FIRST_MUX)), Some(1));
-    assert_eq!(rt; fronts.state(1), doing(2, Some(1), 1));
-    assert_eq!(rt; fronts.take(3, &tuning(None, SECOND_MUX)), Some(2));
-    assert_eq!(rt; fronts.take(4, &tuning(None, UNKNOWN_MUX)), None);
-    assert_eq!(rt; fronts.state(2), doing(1, Some(2), 1));
+    assert_eq!(rt; take_all(rt.alloc(), SHARED)?, None);
     Ok(())
 }
+
+const FREED: &[Step] = &[
+    Step::Take(1, None, FIRST_MUX, Some(1)),
+    Step::Take(2, None, FIRST_MUX, Some(1)),
+    Step::Leave(1),
+    Step::Does(1, 1, Some(1), 1),
+    Step::Serves(1, 2, true),
+    Step::Serves(1, 1, false),
+    Step::Leave(2),
+    Step::Does(1, 0, None, 1),
+    Step::Take(3, None, UNKNOWN_MUX, Some(1)),
+    Step::Does(1, 1, None, 2),
+];
 
 #[test]
 fn the_last_stream_frees_its_front_end(rt: HostRuntime) -> Result<(), AllocError> {
-    let mut fronts = fronts(rt.alloc())?;
-    let _ = fronts.take(1, &tuning(None, FIRST_MUX));
-    let _ = fronts.take(2, &tuning(None, FIRST_MUX));
-    fronts.leave(1);
-    assert_eq!(rt; fronts.state(1), doing(1, Some(1), 1));
-    assert!(rt; fronts.serves(1, 2) && !fronts.serves(1, 1));
-    fronts.leave(2);
-    assert_eq!(rt; fronts.state(1), doing(0, None, 1));
-    assert_eq!(rt; fronts.take(3, &tuning(None, UNKNOWN_MUX)), Some(1));
-    assert_eq!(rt; fronts.state(1), doing(1, None, 2));
+    assert_eq!(rt; take_all(rt.alloc(), FREED)?, None);
     Ok(())
 }
+
+const MOVED: &[Step] = &[
+    Step::Take(1, None, FIRST_MUX, Some(1)),
+    Step::Take(2, None, SECOND_MUX, Some(2)),
+    Step::Take(1, None, SECOND_MUX, Some(2)),
+    Step::Does(1, 0, None, 1),
+    Step::Does(2, 2, Some(2), 1),
+    Step::Take(2, None, FIRST_MUX, Some(1)),
+    Step::Take(2, None, UNKNOWN_MUX, Some(1)),
+    Step::Does(1, 1, None, 3),
+];
 
 #[test]
 fn a_stream_moves_to_the_front_end_of_its_multiplex(rt: HostRuntime) -> Result<(), AllocError> {
-    let mut fronts = fronts(rt.alloc())?;
-    let _ = fronts.take(1, &tuning(None, FIRST_MUX));
-    let _ = fronts.take(2, &tuning(None, SECOND_MUX));
-    assert_eq!(rt; fronts.take(1, &tuning(None, SECOND_MUX)), Some(2));
-    assert_eq!(rt; fronts.state(1), doing(0, None, 1));
-    assert_eq!(rt; fronts.state(2), doing(2, Some(2), 1));
-    assert_eq!(rt; fronts.take(2, &tuning(None, FIRST_MUX)), Some(1));
-    assert_eq!(rt; fronts.take(2, &tuning(None, UNKNOWN_MUX)), Some(1));
-    assert_eq!(rt; fronts.state(1), doing(1, None, 3));
+    assert_eq!(rt; take_all(rt.alloc(), MOVED)?, None);
     Ok(())
 }
+
+const WANTED: &[Step] = &[
+    Step::Take(1, Some(2), FIRST_MUX, Some(2)),
+    Step::Take(2, Some(2), UNKNOWN_MUX, None),
+    Step::Does(1, 0, None, 0),
+    Step::Front(2, true),
+    Step::Front(3, false),
+];
 
 #[test]
 fn the_wanted_front_end_is_taken(rt: HostRuntime) -> Result<(), AllocError> {
-    let mut fronts = fronts(rt.alloc())?;
-    assert_eq!(rt; fronts.take(1, &tuning(Some(2), FIRST_MUX)), Some(2));
-    assert_eq!(rt; fronts.take(2, &tuning(Some(2), UNKNOWN_MUX)), None);
-    assert_eq!(rt; fronts.state(1), doing(0, None, 0));
-    assert_eq!(rt; fronts.state(3), None);
-    assert!(rt; fronts.front(2).is_some() && fronts.front(3).is_none());
+    assert_eq!(rt; take_all(rt.alloc(), WANTED)?, None);
     Ok(())
 }
 
+const ENDED: &[Step] = &[
+    Step::End(1, 0, false),
+    Step::Take(1, None, FIRST_MUX, Some(1)),
+    Step::End(1, 0, false),
+    Step::End(1, 1, true),
+    Step::End(3, 1, false),
+    Step::Take(2, None, FIRST_MUX, Some(1)),
+    Step::Ended(1, 2),
+    Step::Leave(2),
+    Step::Take(1, None, SECOND_MUX, Some(1)),
+    Step::Does(1, 1, Some(2), 2),
+];
+
 #[test]
 fn a_recording_ends_until_the_front_end_is_tuned_anew(rt: HostRuntime) -> Result<(), AllocError> {
-    let mut fronts = fronts(rt.alloc())?;
-    assert!(rt; !fronts.end(1, 0));
-    let _ = fronts.take(1, &tuning(None, FIRST_MUX));
-    assert!(rt; !fronts.end(1, 0) && fronts.end(1, 1) && !fronts.end(3, 1));
-    let _ = fronts.take(2, &tuning(None, FIRST_MUX));
-    assert!(rt;
-        fronts
-            .state(1)
-            .is_some_and(|state| state.ended && state.streams == 2)
-    );
-    fronts.leave(2);
-    let _ = fronts.take(1, &tuning(None, SECOND_MUX));
-    assert_eq!(rt; fronts.state(1), doing(1, Some(2), 2));
+    assert_eq!(rt; take_all(rt.alloc(), ENDED)?, None);
     Ok(())
 }

@@ -37,9 +37,14 @@ fn changes_go_in_order()
 #[test]
 fn a_set_has_what_was_listed(rt: HostRuntime) {
     let mut set = PidSet::new();
-    assert_eq!(rt; set.set(&[17, 0, 16, 17]), Ok(()));
-    assert_eq!(rt; set.add(&[100, 16]), Ok(()));
-    assert_eq!(rt; set.remove(&[0, 101]), Ok(()));
+    assert_eq!(rt;
+        [
+            set.set(&[17, 0, 16, 17]),
+            set.add(&[100, 16]),
+            set.remove(&[0, 101])
+        ],
+        [Ok(()), Ok(()), Ok(())]
+    );
     assert!(rt; set.has(16) && set.has(17) && set.has(100));
     assert!(rt; !set.has(0) && !set.has(18) && !set.has(101));
 }
@@ -48,25 +53,42 @@ fn a_set_has_what_was_listed(rt: HostRuntime) {
 fn a_set_of_all_refuses_to_remove(rt: HostRuntime) {
     let mut set = PidSet::new();
     set.set_all();
-    assert_eq!(rt; set.add(&[16]), Ok(()));
-    assert_eq!(rt; set.remove(&[16]), Err(PidFault::UnderAll));
+    assert_eq!(rt;
+        [set.add(&[16]), set.remove(&[16])],
+        [Ok(()), Err(PidFault::UnderAll)]
+    );
     assert!(rt; set.has(16) && set.has(8191));
+}
+
+#[test]
+fn a_set_of_all_becomes_one_of_none(rt: HostRuntime) {
+    let mut set = PidSet::new();
+    set.set_all();
     assert_eq!(rt; set.set(&[]), Ok(()));
     assert_eq!(rt; printed(&set).bytes(), b"none".as_slice());
 }
 
 #[test]
-fn a_set_lists_256_pids_and_no_more(rt: HostRuntime) {
+fn a_set_refuses_a_257th_pid(rt: HostRuntime) {
     let mut set = PidSet::new();
     assert_eq!(rt; set.set(pids_below(256, &[255, 3]).as_slice()), Ok(()));
     let before = printed(&set);
-    assert_eq!(rt; set.add(&[256]), Err(PidFault::TooMany));
     assert_eq!(rt;
-        set.set(pids_below(257, &[]).as_slice()),
-        Err(PidFault::TooMany)
+        [set.add(&[256]), set.set(pids_below(257, &[]).as_slice())],
+        [Err(PidFault::TooMany), Err(PidFault::TooMany)]
     );
     assert_eq!(rt; printed(&set).bytes(), before.bytes());
-    assert_eq!(rt; set.add(&[0, 255]), Ok(()));
+}
+
+#[test]
+fn a_set_of_256_pids_takes_them_again(rt: HostRuntime) {
+    let mut set = PidSet::new();
+    assert_eq!(rt; set.set(pids_below(256, &[255, 3]).as_slice()), Ok(()));
+    let before = printed(&set);
+    assert_eq!(rt;
+        [set.add(&[256]), set.add(&[0, 255])],
+        [Err(PidFault::TooMany), Ok(())]
+    );
     assert_eq!(rt; printed(&set).bytes(), before.bytes());
 }
 
@@ -79,9 +101,14 @@ fn printed(set: &PidSet) -> Strip {
 #[test]
 fn a_set_is_printed_in_rising_order(rt: HostRuntime) {
     let mut set = PidSet::new();
-    assert_eq!(rt; printed(&set).bytes(), b"none".as_slice());
     assert_eq!(rt; set.set(&[400, 8191, 0]), Ok(()));
     assert_eq!(rt; printed(&set).bytes(), b"0,400,8191".as_slice());
+}
+
+#[test]
+fn sets_of_none_and_of_all_are_printed_as_words(rt: HostRuntime) {
+    let mut set = PidSet::new();
+    assert_eq!(rt; printed(&set).bytes(), b"none".as_slice());
     set.set_all();
     assert_eq!(rt; printed(&set).bytes(), b"all".as_slice());
 }
@@ -90,9 +117,10 @@ fn a_set_is_printed_in_rising_order(rt: HostRuntime) {
 fn a_word_holds_64_pids(rt: HostRuntime) {
     let mut set = PidSet::new();
     assert_eq!(rt; set.set(&[64, 66, 127, 128]), Ok(()));
-    assert_eq!(rt; set.word(0), 0);
-    assert_eq!(rt; set.word(1), 0x8000_0000_0000_0005);
-    assert_eq!(rt; set.word(2), 1);
+    assert_eq!(rt;
+        [set.word(0), set.word(1), set.word(2)],
+        [0, 0x8000_0000_0000_0005, 1]
+    );
     set.set_all();
     assert_eq!(rt; set.word(127), u64::MAX);
 }

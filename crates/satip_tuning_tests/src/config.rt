@@ -2,8 +2,9 @@
 
 use satip_base::Strip;
 use satip_config::*;
-use satip_fixtures::{FIRST_MUX, SECOND_MUX};
+use satip_fixtures::{FIRST_MUX, SECOND_MUX, front_end};
 use std::alloc::{AllocError, Global};
+use std::process::Abort;
 use std::test::Fail;
 
 const ADDRESS: &str = "address = \"192.168.1.10\"\n";
@@ -336,16 +337,13 @@ const MULTIPLEXES: &[(&str, &str)] = &[
     ),
 ];
 
-/// The fault of the text that the pieces make, as it is printed; nothing where the text is read.
-fn fault_of(alloc: Global, pieces: &[&str]) -> Result<String, AllocError> {
+/// The text that the pieces make.
+fn joined(alloc: Global, pieces: &[&str]) -> Result<String, AllocError> {
     let mut text = String::new(alloc);
     for piece in pieces {
         text.push_str(piece)?;
     }
-    match read_config(alloc, text.as_bytes()) {
-        Ok(_) => Ok(String::new(alloc)),
-        Err(fault) => format!(in alloc; "{fault}"),
-    }
+    Ok(text)
 }
 
 /// The text so many times.
@@ -357,57 +355,106 @@ fn repeated(alloc: Global, text: &str, times: usize) -> Result<String, AllocErro
     Ok(all)
 }
 
-#[test]
-fn two_fronts_and_two_multiplexes_are_read(rt: HostRuntime) -> Result<(), Fail> {
-    let mut text = String::from_str(rt.alloc(), ADDRESS)?;
-    for piece in [FRONT, FRONT, TUNED, "file = \"a.ts\"\n", MUX] {
-        text.push_str(piece)?;
+/// The fault of the text that the pieces make, as it is printed; nothing where the text is read.
+fn fault_of(alloc: Global, pieces: &[&str]) -> Result<String, AllocError> {
+    let text = joined(alloc, pieces)?;
+    match read_config(alloc, text.as_bytes()) {
+        Ok(_) => Ok(String::new(alloc)),
+        Err(fault) => format!(in alloc; "{fault}"),
     }
-    let config = read_config(rt.alloc(), text.as_bytes())?;
+}
+
+/// Shows that the lines of each row have its fault between these texts.
+fn show_faults(
+    rt: &impl Abort,
+    alloc: Global,
+    before: &str,
+    rows: &[(&str, &str)],
+    after: &str,
+) -> Result<(), Fail> {
+    for (lines, want) in rows {
+        let printed = fault_of(alloc, &[before, lines, after])?;
+        assert_eq!(rt; printed.as_str(), *want, "at {lines}");
+    }
+    Ok(())
+}
+
+/// The configuration of two front ends and two multiplexes.
+fn read_whole(alloc: Global) -> Result<Config, Fail> {
+    let text = joined(
+        alloc,
+        &[ADDRESS, FRONT, FRONT, TUNED, "file = \"a.ts\"\n", MUX],
+    )?;
+    Ok(read_config(alloc, text.as_bytes())?)
+}
+
+#[test]
+fn the_address_is_read_and_the_rest_has_defaults(rt: HostRuntime) -> Result<(), Fail> {
+    let config = read_whole(rt.alloc())?;
     assert_eq!(rt; config.address, 0xC0A8_010A);
     assert_eq!(rt; (config.rtsp_port, config.http_port), (554, 8875));
     assert_eq!(rt; (config.timeout, config.workers), (60, 8));
-    assert_eq!(rt; config.fronts.len(), 2);
-    assert_eq!(rt; (config.fronts[0].number, config.fronts[1].number), (1, 2));
-    assert!(rt; config.fronts[1].sources[1] && !config.fronts[1].sources[2]);
-    assert_eq!(rt; config.fronts[1].systems, [true, true]);
-    assert_eq!(rt; config.muxes.len(), 2);
-    assert_eq!(rt; config.muxes[0], FIRST_MUX);
-    assert_eq!(rt; config.muxes[1], SECOND_MUX);
+    Ok(())
+}
+
+#[test]
+fn two_front_ends_are_read(rt: HostRuntime) -> Result<(), Fail> {
+    let config = read_whole(rt.alloc())?;
+    let wanted = [front_end(1), front_end(2)];
+    assert_eq!(rt; config.fronts.as_slice(), wanted.as_slice());
+    Ok(())
+}
+
+#[test]
+fn two_multiplexes_are_read(rt: HostRuntime) -> Result<(), Fail> {
+    let config = read_whole(rt.alloc())?;
+    let wanted = [FIRST_MUX, SECOND_MUX];
+    assert_eq!(rt; config.muxes.as_slice(), wanted.as_slice());
+    Ok(())
+}
+
+#[test]
+fn the_files_of_two_multiplexes_are_read(rt: HostRuntime) -> Result<(), Fail> {
+    let config = read_whole(rt.alloc())?;
     assert_eq!(rt; config.files.len(), 2);
-    assert_eq!(rt; config.files[0].bytes(), b"a.ts".as_slice());
-    assert_eq!(rt; config.files[1].bytes(), b"b.ts".as_slice());
+    for (file, name) in config.files.iter().zip([b"a.ts".as_slice(), b"b.ts"]) {
+        assert_eq!(rt; file.bytes(), name);
+    }
     Ok(())
 }
 
 #[test]
 fn keys_of_the_document(rt: HostRuntime) -> Result<(), Fail> {
-    for (line, want) in DOCUMENT {
-        let printed = fault_of(rt.alloc(), &[line, ADDRESS, FRONT])?;
-        assert_eq!(rt; printed.as_str(), *want, "at {line}");
-    }
-    Ok(())
+    let after = joined(rt.alloc(), &[ADDRESS, FRONT])?;
+    show_faults(&rt, rt.alloc(), "", DOCUMENT, after.as_str())
 }
 
 #[test]
-fn addresses_and_front_ends(rt: HostRuntime) -> Result<(), Fail> {
-    for (text, want) in HEADS {
-        let printed = fault_of(rt.alloc(), &[text])?;
-        assert_eq!(rt; printed.as_str(), *want, "at {text}");
-    }
-    for (lines, want) in FRONTS {
-        let printed = fault_of(rt.alloc(), &[ADDRESS, FRONT, "[[frontend]]\n", lines])?;
-        assert_eq!(rt; printed.as_str(), *want, "at {lines}");
-    }
-    Ok(())
+fn addresses_and_first_front_ends(rt: HostRuntime) -> Result<(), Fail> {
+    show_faults(&rt, rt.alloc(), "", HEADS, "")
+}
+
+#[test]
+fn keys_of_a_front_end(rt: HostRuntime) -> Result<(), Fail> {
+    let before = joined(rt.alloc(), &[ADDRESS, FRONT, "[[frontend]]\n"])?;
+    show_faults(&rt, rt.alloc(), before.as_str(), FRONTS, "")
 }
 
 #[test]
 fn keys_of_a_multiplex(rt: HostRuntime) -> Result<(), Fail> {
-    for (lines, want) in MULTIPLEXES {
-        let printed = fault_of(rt.alloc(), &[ADDRESS, FRONT, MUX, "[[mux]]\n", lines])?;
-        assert_eq!(rt; printed.as_str(), *want, "at {lines}");
-    }
+    let before = joined(rt.alloc(), &[ADDRESS, FRONT, MUX, "[[mux]]\n"])?;
+    show_faults(&rt, rt.alloc(), before.as_str(), MULTIPLEXES, "")
+}
+
+/// Shows that the text that the pieces make has this fault.
+fn show_fault(rt: &impl Abort, alloc: Global, pieces: &[&str], want: &str) -> Result<(), Fail> {
+    let printed = fault_of(alloc, pieces)?;
+    assert_eq!(rt; printed.as_str(), want);
+    Ok(())
+}
+
+#[test]
+fn names_of_files_have_1_to_255_bytes(rt: HostRuntime) -> Result<(), Fail> {
     for (length, want) in [
         (0, "value of mux.1.file"),
         (1, ""),
@@ -416,24 +463,38 @@ fn keys_of_a_multiplex(rt: HostRuntime) -> Result<(), Fail> {
     ] {
         let name = repeated(rt.alloc(), "a", length)?;
         let pieces = [ADDRESS, FRONT, TUNED, "file = \"", name.as_str(), "\"\n"];
-        let printed = fault_of(rt.alloc(), &pieces)?;
-        assert_eq!(rt; printed.as_str(), want, "at {length}");
+        show_fault(&rt, rt.alloc(), &pieces, want)?;
     }
     Ok(())
 }
 
+/// Shows that a configuration of this many front ends and multiplexes has this fault.
+fn show_fault_of_counts(
+    rt: &impl Abort,
+    alloc: Global,
+    fronts: usize,
+    muxes: usize,
+    want: &str,
+) -> Result<(), Fail> {
+    let fronts = repeated(alloc, FRONT, fronts)?;
+    let muxes = repeated(alloc, MUX, muxes)?;
+    show_fault(rt, alloc, &[ADDRESS, fronts.as_str(), muxes.as_str()], want)
+}
+
 #[test]
-fn counts_have_limits(rt: HostRuntime) -> Result<(), Fail> {
+fn front_ends_and_multiplexes_have_limits(rt: HostRuntime) -> Result<(), Fail> {
     for (fronts, muxes, want) in [
         (16, 256, ""),
         (17, 0, "value of frontend"),
         (1, 257, "value of mux"),
     ] {
-        let fronts = repeated(rt.alloc(), FRONT, fronts)?;
-        let muxes = repeated(rt.alloc(), MUX, muxes)?;
-        let printed = fault_of(rt.alloc(), &[ADDRESS, fronts.as_str(), muxes.as_str()])?;
-        assert_eq!(rt; printed.as_str(), want);
+        show_fault_of_counts(&rt, rt.alloc(), fronts, muxes, want)?;
     }
+    Ok(())
+}
+
+#[test]
+fn a_front_end_has_at_most_255_sources(rt: HostRuntime) -> Result<(), Fail> {
     for (sources, want) in [(255, ""), (256, "value of frontend.1.sources")] {
         let sources = repeated(rt.alloc(), "1, ", sources)?;
         let pieces = [
@@ -442,19 +503,26 @@ fn counts_have_limits(rt: HostRuntime) -> Result<(), Fail> {
             sources.as_str(),
             "]\nsystems = [\"dvbs2\"]\n",
         ];
-        let printed = fault_of(rt.alloc(), &pieces)?;
-        assert_eq!(rt; printed.as_str(), want);
+        show_fault(&rt, rt.alloc(), &pieces, want)?;
     }
+    Ok(())
+}
+
+#[test]
+fn a_file_has_at_most_a_mebibyte(rt: HostRuntime) -> Result<(), Fail> {
     for (bytes, want) in [(1_048_576, "shape of address"), (1_048_577, "too long")] {
         let comment = repeated(rt.alloc(), "#", bytes)?;
-        let printed = fault_of(rt.alloc(), &[comment.as_str()])?;
-        assert_eq!(rt; printed.as_str(), want);
+        show_fault(&rt, rt.alloc(), &[comment.as_str()], want)?;
     }
+    Ok(())
+}
+
+#[test]
+fn text_that_is_not_utf8_is_no_toml(rt: HostRuntime) {
     assert_eq!(rt;
         read_config(rt.alloc(), b"# \xFF\n").err(),
         Some(ConfigFault::NotToml)
     );
-    Ok(())
 }
 
 #[test]

@@ -4,6 +4,7 @@ use satip_base::Out;
 use satip_pids::PidList;
 use satip_query::*;
 use satip_tune::{Change, Fec, Key, Modulation, Pol, RollOff, System};
+use std::process::Abort;
 use std::test::Fail;
 
 fn fault_of(text: &[u8]) -> Option<QueryFault> {
@@ -25,20 +26,25 @@ fn every_key_gives_its_value(rt: HostRuntime) {
     let text =
         b"fe=2&src=255&freq=11361.75&pol=h&ro=0.35&msys=dvbs2&mtype=8psk&plts=on&sr=22000&fec=23\
         &pids=16&addpids=0&delpids=8191";
+    let wanted = Query {
+        change: Change {
+            fe: Some(2),
+            src: Some(255),
+            freq: Some(11361750),
+            pol: Some(Pol::H),
+            ro: Some(RollOff::R35),
+            msys: Some(System::Dvbs2),
+            mtype: Some(Modulation::Psk8),
+            plts: Some(true),
+            sr: Some(22000),
+            fec: Some(Fec::F23),
+        },
+        pids: PidsGiven::List(list_of(16)),
+        addpids: Some(list_of(0)),
+        delpids: Some(list_of(8191)),
+    };
     assert_eq!(rt; read(text, &mut query), Ok(()));
-    assert_eq!(rt; query.change.fe, Some(2));
-    assert_eq!(rt; query.change.src, Some(255));
-    assert_eq!(rt; query.change.freq, Some(11361750));
-    assert_eq!(rt; query.change.pol, Some(Pol::H));
-    assert_eq!(rt; query.change.ro, Some(RollOff::R35));
-    assert_eq!(rt; query.change.msys, Some(System::Dvbs2));
-    assert_eq!(rt; query.change.mtype, Some(Modulation::Psk8));
-    assert_eq!(rt; query.change.plts, Some(true));
-    assert_eq!(rt; query.change.sr, Some(22000));
-    assert_eq!(rt; query.change.fec, Some(Fec::F23));
-    assert_eq!(rt; query.pids, PidsGiven::List(list_of(16)));
-    assert_eq!(rt; query.addpids, Some(list_of(0)));
-    assert_eq!(rt; query.delpids, Some(list_of(8191)));
+    assert_eq!(rt; query, wanted);
     assert!(rt; query.any());
 }
 
@@ -57,75 +63,74 @@ fn pieces_without_a_known_key_give_nothing(rt: HostRuntime) {
     }
 }
 
+// Texts, and the faults that they have.
+type Row = (&'static [u8], Option<QueryFault>);
+
+fn show_faults(rt: &impl Abort, rows: &[Row]) {
+    for (text, fault) in rows {
+        assert_eq!(rt; fault_of(text), *fault, "at {text:?}");
+    }
+}
+
+const FORMS: &[Row] = &[
+    (b"pids=", Some(QueryFault::Syntax(Key::Pids))),
+    (b"pids=0,,1", Some(QueryFault::Syntax(Key::Pids))),
+    (b"pids=8192,", Some(QueryFault::Syntax(Key::Pids))),
+    (b"pids=ALL", Some(QueryFault::Syntax(Key::Pids))),
+    (b"pids", Some(QueryFault::Syntax(Key::Pids))),
+    (b"pids=8192", Some(QueryFault::Range(Key::Pids))),
+    (b"addpids=none", Some(QueryFault::Syntax(Key::Addpids))),
+    (b"pids=all", None),
+    (b"pids=none", None),
+    (b"fe=00000000000000000001", None),
+    (
+        b"fe=000000000000000000001",
+        Some(QueryFault::Syntax(Key::Fe)),
+    ),
+    (b"fe=65536", Some(QueryFault::Range(Key::Fe))),
+    (b"src=0", Some(QueryFault::Range(Key::Src))),
+    (b"sr=100000", Some(QueryFault::Range(Key::Sr))),
+    (b"freq=0.9999995", Some(QueryFault::Syntax(Key::Freq))),
+    (b"freq=0.999", Some(QueryFault::Range(Key::Freq))),
+];
+
+const WORDS: &[Row] = &[
+    (b"msys=dvbt", Some(QueryFault::Range(Key::Msys))),
+    (b"pol=H", Some(QueryFault::Range(Key::Pol))),
+    (b"pol=auto", Some(QueryFault::Range(Key::Pol))),
+    (b"fec=abcdefgh12345678", Some(QueryFault::Range(Key::Fec))),
+    (b"fec=abcdefgh123456789", Some(QueryFault::Syntax(Key::Fec))),
+    (b"plts=o-n", Some(QueryFault::Syntax(Key::Plts))),
+    (b"mtype=", Some(QueryFault::Syntax(Key::Mtype))),
+    (b"ro=0.350", Some(QueryFault::Range(Key::Ro))),
+    (b"ro=35", Some(QueryFault::Syntax(Key::Ro))),
+    (b"ro=0.3.5", Some(QueryFault::Syntax(Key::Ro))),
+];
+
+const ORDERS: &[Row] = &[
+    (b"pol=h&pol=v", Some(QueryFault::Syntax(Key::Pol))),
+    (b"src=1&msys=dvbt&src=x", Some(QueryFault::Range(Key::Msys))),
+    (b"plts=auto&plts=on", None),
+    (b"plts=on&plts=auto", None),
+];
+
 #[test]
 fn form_is_looked_at_before_range(rt: HostRuntime) {
-    for text in [
-        b"pids=".as_slice(),
-        b"pids=0,,1",
-        b"pids=8192,",
-        b"pids=ALL",
-        b"pids",
-    ] {
-        assert_eq!(rt;
-            fault_of(text),
-            Some(QueryFault::Syntax(Key::Pids)),
-            "at {text:?}"
-        );
-    }
-    assert_eq!(rt; fault_of(b"pids=8192"), Some(QueryFault::Range(Key::Pids)));
-    assert_eq!(rt;
-        fault_of(b"addpids=none"),
-        Some(QueryFault::Syntax(Key::Addpids))
-    );
-    assert_eq!(rt; fault_of(b"pids=all"), None);
-    assert_eq!(rt; fault_of(b"pids=none"), None);
-    assert_eq!(rt; fault_of(b"fe=00000000000000000001"), None);
-    assert_eq!(rt;
-        fault_of(b"fe=000000000000000000001"),
-        Some(QueryFault::Syntax(Key::Fe))
-    );
-    assert_eq!(rt; fault_of(b"fe=65536"), Some(QueryFault::Range(Key::Fe)));
-    assert_eq!(rt; fault_of(b"src=0"), Some(QueryFault::Range(Key::Src)));
-    assert_eq!(rt; fault_of(b"sr=100000"), Some(QueryFault::Range(Key::Sr)));
-    assert_eq!(rt;
-        fault_of(b"freq=0.9999995"),
-        Some(QueryFault::Syntax(Key::Freq))
-    );
-    assert_eq!(rt; fault_of(b"freq=0.999"), Some(QueryFault::Range(Key::Freq)));
+    show_faults(&rt, FORMS);
 }
 
 #[test]
 fn words_have_sixteen_letters_and_digits(rt: HostRuntime) {
-    assert_eq!(rt; fault_of(b"msys=dvbt"), Some(QueryFault::Range(Key::Msys)));
-    assert_eq!(rt; fault_of(b"pol=H"), Some(QueryFault::Range(Key::Pol)));
-    assert_eq!(rt; fault_of(b"pol=auto"), Some(QueryFault::Range(Key::Pol)));
-    assert_eq!(rt;
-        fault_of(b"fec=abcdefgh12345678"),
-        Some(QueryFault::Range(Key::Fec))
-    );
-    assert_eq!(rt;
-        fault_of(b"fec=abcdefgh123456789"),
-        Some(QueryFault::Syntax(Key::Fec))
-    );
-    assert_eq!(rt; fault_of(b"plts=o-n"), Some(QueryFault::Syntax(Key::Plts)));
-    assert_eq!(rt; fault_of(b"mtype="), Some(QueryFault::Syntax(Key::Mtype)));
-    assert_eq!(rt; fault_of(b"ro=0.350"), Some(QueryFault::Range(Key::Ro)));
-    assert_eq!(rt; fault_of(b"ro=35"), Some(QueryFault::Syntax(Key::Ro)));
-    assert_eq!(rt; fault_of(b"ro=0.3.5"), Some(QueryFault::Syntax(Key::Ro)));
+    show_faults(&rt, WORDS);
 }
 
 #[test]
 fn first_piece_at_fault_counts(rt: HostRuntime) {
-    assert_eq!(rt;
-        fault_of(b"pol=h&pol=v"),
-        Some(QueryFault::Syntax(Key::Pol))
-    );
-    assert_eq!(rt;
-        fault_of(b"src=1&msys=dvbt&src=x"),
-        Some(QueryFault::Range(Key::Msys))
-    );
-    assert_eq!(rt; fault_of(b"plts=auto&plts=on"), None);
-    assert_eq!(rt; fault_of(b"plts=on&plts=auto"), None);
+    show_faults(&rt, ORDERS);
+}
+
+#[test]
+fn a_query_at_fault_gives_nothing(rt: HostRuntime) {
     let mut query = Query::new();
     assert_eq!(rt;
         read(b"src=2&fe=0", &mut query),

@@ -2,7 +2,7 @@
 
 ghost use Rattle.std.specs.Prelude.{◌≡◌, false};
 
-use satip_base::{Address, Failed, Peer, Put, Source, Taken};
+use satip_base::{Address, Peer, Put, Source, Taken};
 use satip_memory::*;
 use satip_world::*;
 use std::alloc::Global;
@@ -10,8 +10,8 @@ use std::test::Fail;
 
 const CLIENT: Peer = Peer { ip: 0x7f00_0001 };
 
-// What a receive through the trait gives: at most so many bytes, which are handed back.
-fn receive<C: Conn>(alloc: Global, conn: &mut C, most: usize) -> Result<(Received, Vec<u8>), Fail> {
+// What a receive gives: at most so many bytes, which are handed back.
+fn receive(alloc: Global, conn: &mut MemoryConn, most: usize) -> Result<(Received, Vec<u8>), Fail> {
     let mut buf = vec![in alloc; 0; most.max(1)]?;
     let answer = conn.receive(&mut buf);
     let count = match answer {
@@ -32,22 +32,6 @@ fn post<O: Outlet>(outlet: &mut O, port: u16, bytes: &[u8]) -> Put
     put
 }
 
-fn moment<C: Clock>(clock: &mut C) -> u64 {
-    clock.now()
-}
-
-fn pause<P: Pacer>(pacer: &mut P) {
-    pacer.pause();
-}
-
-fn start<M: MuxStore>(store: &mut M, mux: u16) -> Result<M::From, Failed> {
-    store.start(mux)
-}
-
-fn next<D: Doors>(doors: &mut D) -> Door<D::Conn> {
-    doors.next()
-}
-
 #[test]
 fn a_connection_gives_its_pieces_and_then_ends(rt: HostRuntime) -> Result<(), Fail> {
     let pieces = [b"abc".as_slice(), b"".as_slice(), b"d".as_slice()];
@@ -62,8 +46,7 @@ fn a_connection_gives_its_pieces_and_then_ends(rt: HostRuntime) -> Result<(), Fa
         (9, Received::End, b""),
     ] {
         let (answer, received) = receive(rt.alloc(), &mut conn, most)?;
-        assert_eq!(rt; answer, wanted);
-        assert_eq!(rt; received.as_slice(), bytes);
+        assert_eq!(rt; (answer, received.as_slice()), (wanted, bytes));
     }
     Ok(())
 }
@@ -94,15 +77,18 @@ fn posted(alloc: Global) -> Result<(MemoryOutlet, [Put; 3]), Fail> {
 }
 
 #[test]
-fn an_outlet_keeps_its_datagrams(rt: HostRuntime) -> Result<(), Fail> {
+fn an_outlet_keeps_what_it_sends(rt: HostRuntime) -> Result<(), Fail> {
     let (outlet, puts) = posted(rt.alloc())?;
     assert!(rt; puts == [Put::Whole, Put::Failed, Put::Whole]);
     assert_eq!(rt; outlet.count(), 2);
-    let Some((to, bytes)) = outlet.datagram(0) else {
-        return Err(Fail::from("no datagram"));
-    };
-    assert_eq!(rt; to.port, 5);
-    assert_eq!(rt; bytes, b"abc".as_slice());
+    Ok(())
+}
+
+#[test]
+fn an_outlet_shows_its_datagrams(rt: HostRuntime) -> Result<(), Fail> {
+    let (outlet, _) = posted(rt.alloc())?;
+    let to = Address { ip: 1, port: 5 };
+    assert_eq!(rt; outlet.datagram(0), Some((to, b"abc".as_slice())));
     assert!(rt; outlet.datagram(2).is_none());
     Ok(())
 }
@@ -120,12 +106,15 @@ fn two_recordings(
     Ok(store)
 }
 
+// Starts the recording of the second multiplex.
+fn start_second(store: &mut MemoryStore) -> Result<MemoryRecording, Fail> {
+    Ok(store.start(2).ok().ok_or("no recording")?)
+}
+
 #[test]
 fn a_store_starts_the_recording_of_a_multiplex(rt: HostRuntime) -> Result<(), Fail> {
     let mut store = two_recordings(rt.alloc(), &[2], &[4], &[2])?;
-    let Ok(mut from) = start(&mut store, 2) else {
-        return Err(Fail::from("no recording"));
-    };
+    let mut from = start_second(&mut store)?;
     for (wanted, bytes) in [
         (Taken::Got(4), b"seco".as_slice()),
         (Taken::Failed, b""),
@@ -136,23 +125,44 @@ fn a_store_starts_the_recording_of_a_multiplex(rt: HostRuntime) -> Result<(), Fa
         assert_eq!(rt; from.take(&mut buf), wanted);
         assert!(rt; buf.starts_with(bytes));
     }
+    Ok(())
+}
+
+#[test]
+fn a_recording_is_out_until_it_is_back(rt: HostRuntime) -> Result<(), Fail> {
+    let mut store = two_recordings(rt.alloc(), &[2], &[4], &[2])?;
+    let from = start_second(&mut store)?;
     assert_eq!(rt; store.lent(), 1);
     store.back(from);
-    assert_eq!(rt; store.lent(), 0);
-    for mux in [1, 3] {
-        assert!(rt; start(&mut store, mux).is_err(), "at {mux}");
-    }
     assert_eq!(rt; store.lent(), 0);
     Ok(())
 }
 
 #[test]
-fn a_store_counts_the_sources_that_are_out(rt: HostRuntime) -> Result<(), Fail> {
-    let mut store = two_recordings(rt.alloc(), &[], &[], &[])?;
-    let mut out = Vec::new(rt.alloc());
-    for mux in [1, 2] {
-        out.push(start(&mut store, mux).ok().ok_or("no recording")?)?;
+fn a_start_that_fails_lends_nothing(rt: HostRuntime) -> Result<(), Fail> {
+    let mut store = two_recordings(rt.alloc(), &[2], &[4], &[2])?;
+    let from = start_second(&mut store)?;
+    store.back(from);
+    for mux in [1, 3] {
+        assert!(rt; store.start(mux).is_err(), "at {mux}");
     }
+    assert_eq!(rt; store.lent(), 0);
+    Ok(())
+}
+
+// The recordings of both multiplexes, and their store.
+fn both_started(alloc: Global) -> Result<(MemoryStore, Vec<MemoryRecording>), Fail> {
+    let mut store = two_recordings(alloc, &[], &[], &[])?;
+    let mut out = Vec::new(alloc);
+    for mux in [1, 2] {
+        out.push(store.start(mux).ok().ok_or("no recording")?)?;
+    }
+    Ok((store, out))
+}
+
+#[test]
+fn a_store_counts_the_sources_that_are_out(rt: HostRuntime) -> Result<(), Fail> {
+    let (mut store, mut out) = both_started(rt.alloc())?;
     assert_eq!(rt; store.lent(), 2);
     for lent in [1, 0] {
         store.back(out.pop().ok_or("a source")?);
@@ -163,22 +173,26 @@ fn a_store_counts_the_sources_that_are_out(rt: HostRuntime) -> Result<(), Fail> 
 }
 
 #[test]
-fn a_clock_shows_its_moments_and_a_pacer_counts(rt: HostRuntime) -> Result<(), Fail> {
+fn a_clock_shows_its_moments(rt: HostRuntime) -> Result<(), Fail> {
     let mut clock = MemoryClock::make(rt.alloc(), &[7, 5])?;
     for wanted in [7, 5, 0] {
-        assert_eq!(rt; moment(&mut clock), wanted);
+        assert_eq!(rt; clock.now(), wanted);
     }
-    let mut pacer = MemoryPacer::new();
-    pause(&mut pacer);
-    pause(&mut pacer);
-    assert_eq!(rt; pacer.pauses(), 2);
     Ok(())
+}
+
+#[test]
+fn a_pacer_counts_its_pauses(rt: HostRuntime) {
+    let mut pacer = MemoryPacer::new();
+    pacer.pause();
+    pacer.pause();
+    assert_eq!(rt; pacer.pauses(), 2);
 }
 
 // What a call of `next` came to: R or H for a connection, and else I, E or F. What came is handed
 // back.
 fn turn(doors: &mut MemoryDoors) -> u8 {
-    match next(doors) {
+    match doors.next() {
         Door::Came { kind, peer, conn } => {
             doors.back(conn, kind, peer, ConnEnd::Done);
             match kind {

@@ -5,6 +5,7 @@ use satip_base::{Address, Out};
 use satip_fixtures::draws::next_word;
 use satip_rtp::Packer;
 use satip_ts::Packet;
+use std::alloc::Global;
 use std::test::Fail;
 
 /// Both packers, each with what its last call wrote.
@@ -17,6 +18,23 @@ struct Sides {
 }
 
 impl Sides {
+    /// Both with the same source and first number.
+    fn make(alloc: Global) -> Result<Sides, Fail> {
+        Ok(Sides {
+            packer: Packer::new(0x11223344, 65000),
+            out: Out::make(alloc)?,
+            plain: PlainPacker {
+                ssrc: 0x11223344,
+                next: 65000,
+                datagrams: 0,
+                octets: 0,
+                places: [[0; 188]; 7],
+                count: 0,
+            },
+            plain_out: Out::make(alloc)?,
+        })
+    }
+
     /// Makes the same call of both, which a word stands for: one in eight flushes, and each other
     /// pushes a packet of its bytes. True where both answer and write the same, and tell the same
     /// afterwards.
@@ -70,19 +88,7 @@ fn packet_of(word: u64) -> Option<Packet> {
 
 #[test]
 fn the_packer_does_what_the_plain_one_does(rt: HostRuntime) -> Result<(), Fail> {
-    let mut sides = Sides {
-        packer: Packer::new(0x11223344, 65000),
-        out: Out::make(rt.alloc())?,
-        plain: PlainPacker {
-            ssrc: 0x11223344,
-            next: 65000,
-            datagrams: 0,
-            octets: 0,
-            places: [[0; 188]; 7],
-            count: 0,
-        },
-        plain_out: Out::make(rt.alloc())?,
-    };
+    let mut sides = Sides::make(rt.alloc())?;
     let mut word = 7;
     for _call in 0..10_000u32 {
         word = next_word(word);
