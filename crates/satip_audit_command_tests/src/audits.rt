@@ -2,8 +2,7 @@
 
 use satip_base::{ReadSource, Source};
 use satip_memory::MemorySource;
-use satip_memory_desk::MemoryDesk;
-use satip_replay_fixtures::runs::{Ran, run};
+use satip_replay_fixtures::runs::{Ran, desk_with, run};
 use std::alloc::Global;
 use std::io::{Read, repeat};
 use std::test::Fail;
@@ -27,8 +26,7 @@ fn run_words<I: Source + Drop>(
     input: I,
     failing_puts: &[u64],
 ) -> Result<Ran, Fail> {
-    let mut desk = MemoryDesk::make(alloc, 0);
-    desk.add("c1.toml", config, &[])?;
+    let mut desk = desk_with(alloc, config, &[])?;
     run(alloc, words, input, failing_puts, 5, &mut desk)
 }
 
@@ -61,44 +59,65 @@ fn verdicts_are_written(rt: HostRuntime) -> Result<(), Fail> {
     ];
     for (text, verdict) in rows {
         let report = audit(rt.alloc(), CONFIG, text)?;
-        assert!(rt; report.is(0, verdict, b""));
-        assert!(rt; report.config);
+        assert!(rt; report.is(0, verdict, b"") && report.config);
     }
     Ok(())
 }
 
+// Its second line has an upper-case digit.
+const WRONG_JOURNAL: &[u8] = b"start 0\nentry 0 0 02000000000000000A0200000000000000\n";
+
 #[test]
-fn faults_of_the_texts_are_told(rt: HostRuntime) -> Result<(), Fail> {
-    let upper = b"start 0\nentry 0 0 02000000000000000A0200000000000000\n";
-    let report = audit(rt.alloc(), CONFIG, upper)?;
+fn a_wrong_line_of_a_journal_is_told(rt: HostRuntime) -> Result<(), Fail> {
+    let report = audit(rt.alloc(), CONFIG, WRONG_JOURNAL)?;
     assert!(rt; report.is(4, b"", b"journal: line 2\n"));
-    let report = audit(rt.alloc(), WRONG_CONFIG, upper)?;
-    assert!(rt; report.is(3, b"", b"configuration: value of timeout\n"));
-    assert!(rt; report.config);
     Ok(())
 }
 
 #[test]
-fn faults_of_the_devices_are_told(rt: HostRuntime) -> Result<(), Fail> {
-    let alloc = rt.alloc();
-    let input = MemorySource::make(alloc, STOP, &[3], &[2])?;
-    let report = run_words(alloc, &WORDS, CONFIG, input, &[])?;
+fn a_fault_of_the_configuration_is_told_first(rt: HostRuntime) -> Result<(), Fail> {
+    let report = audit(rt.alloc(), WRONG_CONFIG, WRONG_JOURNAL)?;
+    assert!(rt; report.is(3, b"", b"configuration: value of timeout\n") && report.config);
+    Ok(())
+}
+
+#[test]
+fn a_journal_that_fails_is_an_input_fault(rt: HostRuntime) -> Result<(), Fail> {
+    let input = MemorySource::make(rt.alloc(), STOP, &[3], &[2])?;
+    let report = run_words(rt.alloc(), &WORDS, CONFIG, input, &[])?;
     assert!(rt; report.is(5, b"", b"input fault\n"));
-    let input = MemorySource::make(alloc, STOP, &[], &[])?;
-    let report = run_words(alloc, &["audit", "c2.toml"], CONFIG, input, &[])?;
-    assert!(rt; report.is(5, b"", b"input fault\n"));
-    assert!(rt; !report.config);
-    let mut desk = MemoryDesk::make(alloc, 0);
-    desk.add("c1.toml", CONFIG, &[1])?;
-    let input = MemorySource::make(alloc, STOP, &[], &[])?;
-    let report = run(alloc, &WORDS, input, &[], 5, &mut desk)?;
-    assert!(rt; report.is(5, b"", b"input fault\n"));
-    assert!(rt; report.config);
-    let input = MemorySource::make(alloc, STOP, &[], &[])?;
-    let report = run_words(alloc, &WORDS, CONFIG, input, &[1])?;
+    Ok(())
+}
+
+#[test]
+fn a_configuration_that_is_not_there_is_an_input_fault(rt: HostRuntime) -> Result<(), Fail> {
+    let input = MemorySource::make(rt.alloc(), STOP, &[], &[])?;
+    let report = run_words(rt.alloc(), &["audit", "c2.toml"], CONFIG, input, &[])?;
+    assert!(rt; report.is(5, b"", b"input fault\n") && !report.config);
+    Ok(())
+}
+
+#[test]
+fn a_configuration_that_fails_is_an_input_fault(rt: HostRuntime) -> Result<(), Fail> {
+    let mut desk = desk_with(rt.alloc(), CONFIG, &[1])?;
+    let input = MemorySource::make(rt.alloc(), STOP, &[], &[])?;
+    let report = run(rt.alloc(), &WORDS, input, &[], 5, &mut desk)?;
+    assert!(rt; report.is(5, b"", b"input fault\n") && report.config);
+    Ok(())
+}
+
+#[test]
+fn an_output_that_fails_is_an_output_fault(rt: HostRuntime) -> Result<(), Fail> {
+    let input = MemorySource::make(rt.alloc(), STOP, &[], &[])?;
+    let report = run_words(rt.alloc(), &WORDS, CONFIG, input, &[1])?;
     assert!(rt; report.is(6, b"yes 1", b"output fault\n"));
+    Ok(())
+}
+
+#[test]
+fn an_input_of_67108865_bytes_is_too_long(rt: HostRuntime) -> Result<(), Fail> {
     let input = ReadSource::new(repeat(b'\n').take(67108865));
-    let report = run_words(alloc, &WORDS, CONFIG, input, &[])?;
+    let report = run_words(rt.alloc(), &WORDS, CONFIG, input, &[])?;
     assert!(rt; report.is(8, b"", b"input too long\n"));
     Ok(())
 }
@@ -115,8 +134,7 @@ fn other_words_are_a_faulty_command_line(rt: HostRuntime) -> Result<(), Fail> {
         let input = MemorySource::make(rt.alloc(), STOP, &[], &[])?;
         let report = run_words(rt.alloc(), words, CONFIG, input, &[])?;
         assert_eq!(rt; report.status, 2);
-        assert_eq!(rt; report.output.sent(), b"".as_slice());
-        assert!(rt; !report.config);
+        assert!(rt; report.output.sent().is_empty() && !report.config);
     }
     Ok(())
 }

@@ -33,76 +33,115 @@ fn is_wrong(alloc: Global, text: &[u8], number: u64) -> Result<bool, Fail> {
     Ok(report.end == AuditEnd::Journal(number) && report.output.sent().is_empty())
 }
 
+// Texts, and what is written of them.
+const STARTS: &[(&[u8], &[u8])] = &[
+    (b"", b"no start\n"),
+    (b"start 5\n", b"yes 0\n"),
+    (b"start 5\nstart 5\n", b"no start\n"),
+    (b"entry 0 0 080201000000000000\nstart 0\n", b"yes 1\n"),
+];
+
 #[test]
 fn one_start_line_stands_anywhere(rt: HostRuntime) -> Result<(), Fail> {
-    let alloc = rt.alloc();
-    assert!(rt; is_judged(alloc, b"", b"no start\n")?);
-    assert!(rt; is_judged(alloc, b"start 5\n", b"yes 0\n")?);
-    assert!(rt; is_judged(alloc, b"start 5\nstart 5\n", b"no start\n")?);
-    let behind = b"entry 0 0 080201000000000000\nstart 0\n";
-    assert!(rt; is_judged(alloc, behind, b"yes 1\n")?);
+    for (place, (text, line)) in STARTS.iter().enumerate() {
+        assert!(rt; is_judged(rt.alloc(), text, line)?, "at {place}");
+    }
     Ok(())
 }
 
 // After the stop each front end's pump is told to stop, before it to do nothing.
+const ORDERS: &[(&[u8], &[u8])] = &[
+    (
+        b"entry 1 2 0500010302000000000000\nstart 0\nentry 0 0 080201000000000000\n",
+        b"yes 2\n",
+    ),
+    (
+        b"entry 1 0 080201000000000000\nstart 0\nentry 0 2 0500010301000000000000\n",
+        b"yes 2\n",
+    ),
+    (
+        b"start 0\nentry 0 0 080201000000000000\nentry 1 2 0500010301000000000000\n",
+        b"no differs 1\n",
+    ),
+];
+
 #[test]
 fn entries_are_made_again_in_the_order_of_their_places(rt: HostRuntime) -> Result<(), Fail> {
-    let alloc = rt.alloc();
-    let stop_first = b"entry 1 2 0500010302000000000000\nstart 0\nentry 0 0 080201000000000000\n";
-    assert!(rt; is_judged(alloc, stop_first, b"yes 2\n")?);
-    let ask_first = b"entry 1 0 080201000000000000\nstart 0\nentry 0 2 0500010301000000000000\n";
-    assert!(rt; is_judged(alloc, ask_first, b"yes 2\n")?);
-    let not_stopped = b"start 0\nentry 0 0 080201000000000000\nentry 1 2 0500010301000000000000\n";
-    assert!(rt; is_judged(alloc, not_stopped, b"no differs 1\n")?);
+    for (place, (text, line)) in ORDERS.iter().enumerate() {
+        assert!(rt; is_judged(rt.alloc(), text, line)?, "at {place}");
+    }
     Ok(())
 }
 
 #[test]
 fn the_reply_and_the_datagrams_are_compared(rt: HostRuntime) -> Result<(), Fail> {
-    let alloc = rt.alloc();
     let reply = b"start 0\nentry 0 0 08020100000001410000\n";
-    assert!(rt; is_judged(alloc, reply, b"no differs 0\n")?);
+    assert!(rt; is_judged(rt.alloc(), reply, b"no differs 0\n")?);
     let datagram = b"start 0\nentry 0 0 0802010000000000010a00000105780000000141\n";
-    assert!(rt; is_judged(alloc, datagram, b"no differs 0\n")?);
+    assert!(rt; is_judged(rt.alloc(), datagram, b"no differs 0\n")?);
     Ok(())
 }
+
+// Texts to which fewer and fewer verdicts apply.
+const VERDICTS: &[(&[u8], &[u8])] = &[
+    (
+        b"entry 3 0 080200000000000000\nentry 3 0 080200000000000000\n",
+        b"no start\n",
+    ),
+    (
+        b"start 0\nentry 3 0 080200000000000000\nentry 3 0 080200000000000000\n",
+        b"no repeated 3\n",
+    ),
+    (
+        b"start 0\nentry 3 0 080200000000000000\n",
+        b"no missing 0\n",
+    ),
+];
 
 #[test]
 fn the_first_verdict_that_applies_is_told(rt: HostRuntime) -> Result<(), Fail> {
-    let alloc = rt.alloc();
-    let all = b"entry 3 0 080200000000000000\nentry 3 0 080200000000000000\n";
-    assert!(rt; is_judged(alloc, all, b"no start\n")?);
-    let repeated = b"start 0\nentry 3 0 080200000000000000\nentry 3 0 080200000000000000\n";
-    assert!(rt; is_judged(alloc, repeated, b"no repeated 3\n")?);
-    let missing = b"start 0\nentry 3 0 080200000000000000\n";
-    assert!(rt; is_judged(alloc, missing, b"no missing 0\n")?);
+    for (place, (text, line)) in VERDICTS.iter().enumerate() {
+        assert!(rt; is_judged(rt.alloc(), text, line)?, "at {place}");
+    }
     Ok(())
 }
+
+// Texts, and the number of their first wrong line.
+const ENDS_OF_LINES: &[(&[u8], u64)] = &[
+    (b"start 0\nstart 0", 2),
+    (b"start 0\r\n", 1),
+    (b"start 0\n\n", 2),
+];
 
 #[test]
 fn each_line_ends_with_lf(rt: HostRuntime) -> Result<(), Fail> {
-    let alloc = rt.alloc();
-    assert!(rt; is_wrong(alloc, b"start 0\nstart 0", 2)?);
-    assert!(rt; is_wrong(alloc, b"start 0\r\n", 1)?);
-    assert!(rt; is_wrong(alloc, b"start 0\n\n", 2)?);
+    for (place, (text, number)) in ENDS_OF_LINES.iter().enumerate() {
+        assert!(rt; is_wrong(rt.alloc(), text, *number)?, "at {place}");
+    }
     Ok(())
 }
 
+const DIGITS: &[(&[u8], u64)] = &[
+    (
+        b"start 0\nentry 0 0 02000000000000000A0200000000000000\n",
+        2,
+    ),
+    (b"start 00\n", 1),
+    (b"start 0\nentry 01 0 080201000000000000\n", 2),
+    (b"start 18446744073709551616\n", 1),
+];
+
 #[test]
 fn digits_are_lower_case_and_numbers_have_no_zeros_in_front(rt: HostRuntime) -> Result<(), Fail> {
-    let alloc = rt.alloc();
-    let upper = b"start 0\nentry 0 0 02000000000000000A0200000000000000\n";
-    assert!(rt; is_wrong(alloc, upper, 2)?);
-    assert!(rt; is_wrong(alloc, b"start 00\n", 1)?);
-    assert!(rt; is_wrong(alloc, b"start 0\nentry 01 0 080201000000000000\n", 2)?);
-    assert!(rt; is_wrong(alloc, b"start 18446744073709551616\n", 1)?);
+    for (place, (text, number)) in DIGITS.iter().enumerate() {
+        assert!(rt; is_wrong(rt.alloc(), text, *number)?, "at {place}");
+    }
     Ok(())
 }
 
 #[test]
 fn other_lines_are_wrong(rt: HostRuntime) -> Result<(), Fail> {
-    let alloc = rt.alloc();
-    assert!(rt; is_wrong(alloc, b"# a comment\n", 1)?);
-    assert!(rt; is_wrong(alloc, b"start 0\nentry 0 0 08020100000000000000\n", 2)?);
+    assert!(rt; is_wrong(rt.alloc(), b"# a comment\n", 1)?);
+    assert!(rt; is_wrong(rt.alloc(), b"start 0\nentry 0 0 08020100000000000000\n", 2)?);
     Ok(())
 }

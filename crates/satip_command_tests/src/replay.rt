@@ -36,12 +36,28 @@ fn run(alloc: Global, config: &[u8], script: &[u8], failing_puts: &[u64]) -> Res
     Ok(Report { end, output })
 }
 
-// Whether a replay by a configuration of so many line feeds is refused with this fault, and writes
-// nothing.
+// Whether a replay by this configuration ends so, and writes nothing.
+fn writes_nothing(
+    alloc: Global,
+    config: &[u8],
+    script: &[u8],
+    failing_puts: &[u64],
+    end: ReplayEnd,
+) -> Result<bool, Fail> {
+    let report = run(alloc, config, script, failing_puts)?;
+    Ok(report.end == end && report.output.sent().is_empty())
+}
+
+// Whether a replay by a configuration of so many line feeds is refused with this fault.
 fn is_refused(alloc: Global, length: usize, fault: ConfigFault) -> Result<bool, Fail> {
     let config = vec![in alloc; b'\n'; length]?;
-    let report = run(alloc, &config, b"stop\n", &[])?;
-    Ok(report.end == ReplayEnd::Configuration(fault) && report.output.sent().is_empty())
+    writes_nothing(
+        alloc,
+        &config,
+        b"stop\n",
+        &[],
+        ReplayEnd::Configuration(fault),
+    )
 }
 
 #[test]
@@ -54,23 +70,37 @@ fn a_configuration_has_at_most_1048576_bytes(rt: HostRuntime) -> Result<(), Fail
 
 #[test]
 fn nothing_is_written_before_the_whole_script_is_checked(rt: HostRuntime) -> Result<(), Fail> {
-    let report = run(rt.alloc(), CONFIGURATION.as_bytes(), b"tick 1\ntik 5", &[])?;
-    assert!(rt; report.end == ReplayEnd::Script(2));
-    assert_eq!(rt; report.output.sent(), b"".as_slice());
-    let report = run(rt.alloc(), CONFIGURATION.as_bytes(), b"", &[1])?;
-    assert!(rt; report.end == ReplayEnd::Done);
+    let alloc = rt.alloc();
+    let config = CONFIGURATION.as_bytes();
+    let wrong = ReplayEnd::Script(2);
+    assert!(rt; writes_nothing(alloc, config, b"tick 1\ntik 5", &[], wrong)?);
+    assert!(rt; writes_nothing(alloc, config, b"", &[1], ReplayEnd::Done)?);
+    Ok(())
+}
+
+// A replay of 10000 asks; a put that fails passes five bytes.
+fn ask_often(alloc: Global, failing_puts: &[u64]) -> Result<Report, Fail> {
+    let script = repeated(alloc, &[(b"ask 1\n", 10000)])?;
+    run(alloc, CONFIGURATION.as_bytes(), &script, failing_puts)
+}
+
+// What is printed of 10000 asks.
+fn printed_often(alloc: Global) -> Result<Vec<u8>, Fail> {
+    repeated(alloc, &[(b"nothing\n", 10000)])
+}
+
+#[test]
+fn each_event_is_printed(rt: HostRuntime) -> Result<(), Fail> {
+    let printed = printed_often(rt.alloc())?;
+    let whole = ask_often(rt.alloc(), &[])?;
+    assert!(rt; whole.end == ReplayEnd::Done && whole.output.sent() == printed.as_slice());
     Ok(())
 }
 
 #[test]
 fn a_fault_of_the_output_leaves_a_beginning(rt: HostRuntime) -> Result<(), Fail> {
-    let alloc = rt.alloc();
-    let script = repeated(alloc, &[(b"ask 1\n", 10000)])?;
-    let printed = repeated(alloc, &[(b"nothing\n", 10000)])?;
-    let whole = run(alloc, CONFIGURATION.as_bytes(), &script, &[])?;
-    assert!(rt; whole.end == ReplayEnd::Done);
-    assert!(rt; whole.output.sent() == printed.as_slice());
-    let cut = run(alloc, CONFIGURATION.as_bytes(), &script, &[2])?;
+    let printed = printed_often(rt.alloc())?;
+    let cut = ask_often(rt.alloc(), &[2])?;
     assert!(rt; cut.end == ReplayEnd::OutputFault);
     assert_eq!(rt; cut.output.sent().len(), 65541);
     assert!(rt; printed.starts_with(cut.output.sent()));

@@ -86,6 +86,8 @@ fn answers_are_printed()
 const GET: &[u8] =
     b"GET /?src=1&freq=12402&pol=v&msys=dvbs&sr=27500&fec=34&pids=all HTTP/1.1\r\n\r\n";
 
+const SESSION: SessionId = SessionId { count: 1, word: 10 };
+
 // A line of a kind, from the client of the worked rows, with a text in digits.
 fn line_with(alloc: Global, front: &[u8], text: &[u8]) -> Result<Vec<u8>, Fail> {
     let mut line = Vec::from_slice(alloc, front)?;
@@ -267,6 +269,11 @@ fn packets_are_checked_and_decoded(rt: HostRuntime) -> Result<(), Fail> {
     line.extend_from_slice(b"aFB9")?;
     assert_eq!(rt; check_script(&line, &mut framer), None);
     assert!(rt; is_packet_line(&line, b"\x47\x00\x10", b"\x00\xaf\xb9"));
+    Ok(())
+}
+
+#[test]
+fn a_packet_without_its_sync_byte_or_a_digit_is_refused(rt: HostRuntime) -> Result<(), Fail> {
     assert!(rt; is_refused(rt.alloc(), b"\x74\x00\x10", 188, b"")?);
     assert!(rt; is_refused(rt.alloc(), b"\x47\x00\x10", 187, b"0g")?);
     Ok(())
@@ -289,18 +296,28 @@ fn is_play(request: &Request, stream: u16, session: SessionId) -> bool {
 }
 
 #[test]
-fn requests_of_the_worked_rows_are_read(rt: HostRuntime) -> Result<(), Fail> {
+fn the_setup_of_the_worked_rows_is_read(rt: HostRuntime) -> Result<(), Fail> {
     let setup = request_in(rt.alloc(), SETUP)?.ok_or("setup")?;
     let ports = Ports {
         rtp: 1400,
         rtcp: 1401,
     };
     assert!(rt; is_setup(&setup, 1, ports, 11361750));
+    Ok(())
+}
+
+#[test]
+fn the_play_of_the_worked_rows_is_read(rt: HostRuntime) -> Result<(), Fail> {
     let play = b"PLAY rtsp://192.168.1.10/stream=1 RTSP/1.0\r\n\
         CSeq: 2\r\n\
         Session: 000000010000000a\r\n\r\n";
     let play = request_in(rt.alloc(), play)?.ok_or("play")?;
-    assert!(rt; is_play(&play, 1, SessionId { count: 1, word: 10 }));
+    assert!(rt; is_play(&play, 1, SESSION));
+    Ok(())
+}
+
+#[test]
+fn the_get_of_the_worked_rows_is_read(rt: HostRuntime) -> Result<(), Fail> {
     let get = get_in(rt.alloc(), GET)?.ok_or("get")?;
     assert!(rt; get.refusal.is_none() && get.query.change.freq == Some(12402000));
     Ok(())
@@ -358,12 +375,21 @@ fn read_of(alloc: Global, kind: &[u8], text: &[u8]) -> Result<Read, Fail> {
     Ok(kind_of_line(&read_line(&line, &mut framer)))
 }
 
+// What a text of these parts, each so often, comes to over RTSP and over HTTP.
+fn read_of_each(alloc: Global, parts: &[(&[u8], usize)]) -> Result<(Read, Read), Fail> {
+    let text = repeated(alloc, parts)?;
+    Ok((
+        read_of(alloc, b"rtsp", &text)?,
+        read_of(alloc, b"http", &text)?,
+    ))
+}
+
 const HEAD: &[u8] = b"OPTIONS * RTSP/1.0\r\nCSeq: 1\r\n";
 
 const LONGEST: &[u8] = b"Content-Length: 4096\r\n\r\n";
 
-// Texts of these parts, each so often, and what they come to over RTSP: one message and nothing
-// else, or what is broken or too long at its first message.
+// Texts of these parts, each so often, and what they come to over RTSP and over HTTP: one message
+// and nothing else, or what is broken or too long at its first message.
 type Texts = (&'static str, &'static [(&'static [u8], usize)], Read);
 
 const TEXTS: &[Texts] = &[
@@ -427,9 +453,11 @@ const TEXTS: &[Texts] = &[
 #[test]
 fn texts_say_one_thing(rt: HostRuntime) -> Result<(), Fail> {
     for (name, parts, wanted) in TEXTS {
-        let text = repeated(rt.alloc(), parts)?;
-        assert_eq!(rt; read_of(rt.alloc(), b"rtsp", &text)?, *wanted, "{name}");
-        assert_eq!(rt; read_of(rt.alloc(), b"http", &text)?, *wanted, "{name}");
+        assert_eq!(rt;
+            read_of_each(rt.alloc(), parts)?,
+            (*wanted, *wanted),
+            "{name}"
+        );
     }
     Ok(())
 }
@@ -474,13 +502,37 @@ fn events_come_in_their_order(rt: HostRuntime) -> Result<(), Fail> {
     Ok(())
 }
 
+// What a packet's parts say, which are wrong where their digits are no packet's.
+fn said_by_packet(front: u16, tune: u64, digits: &[u8]) -> Said {
+    match read_packet(digits) {
+        Some(_) => Said::Packet(front, tune),
+        None => Said::Wrong,
+    }
+}
+
+// What parts say; of a message, that they are more.
+fn said_by_parts(parts: &EventParts) -> Said {
+    match parts {
+        EventParts::Tick { now } => Said::Tick(*now),
+        EventParts::Ask { front } => Said::Ask(*front),
+        EventParts::Ended { front, tune } => Said::Ended(*front, *tune),
+        EventParts::Stop => Said::Stop,
+        EventParts::Pull { session } => Said::Pull(*session),
+        EventParts::Close { session } => Said::Close(*session),
+        EventParts::Packet {
+            front,
+            tune,
+            digits,
+        } => said_by_packet(*front, *tune, digits),
+        EventParts::Wrong => Said::Wrong,
+        _ => Said::More,
+    }
+}
+
 // What the next parts of a script say.
 fn next_parts_said(script: &mut Script) -> Option<Said> {
     match script.next_parts() {
-        Some(EventParts::Tick { now }) => Some(Said::Tick(now)),
-        Some(EventParts::Ask { front }) => Some(Said::Ask(front)),
-        Some(EventParts::Wrong) => Some(Said::Wrong),
-        Some(_) => Some(Said::More),
+        Some(parts) => Some(said_by_parts(&parts)),
         None => None,
     }
 }
@@ -551,60 +603,15 @@ fn same_get(peer: Peer, draw: Draw, digits: &[u8], line: &[u8], kept: &mut Kept)
     agree(&line, reads, equal)
 }
 
-// Whether a packet's line says the same in parts and as a whole, but for the packet's bytes.
-fn same_packet(front: u16, tune: u64, digits: &[u8], line: &Line) -> bool {
-    let equal = match line {
-        Line::Event(
-            Event::Packet {
-                front: at,
-                tune: by,
-                ..
-            },
-        ) => front == *at && tune == *by,
-        _ => false,
-    };
-    agree(line, read_packet(digits).is_some(), equal)
-}
-
-// Whether a line says the same in parts and as a whole.
+// Whether a line says the same in parts and as a whole, of a packet all but its bytes.
 fn is_same(line: &[u8], kept: &mut Kept) -> bool {
     match Script::of(line).next_parts() {
         Some(EventParts::Rtsp { peer, draw, digits }) => {
             same_request(peer, draw, digits, line, kept)
         }
         Some(EventParts::Http { peer, draw, digits }) => same_get(peer, draw, digits, line, kept),
-        Some(
-            EventParts::Packet {
-                front,
-                tune,
-                digits,
-            },
-        ) => same_packet(front, tune, digits, &read_line(line, &mut kept.framer)),
-        Some(parts) => is_same_short(&parts, read_line(line, &mut kept.framer)),
-        None => matches!(read_line(line, &mut kept.framer), Line::Skip),
-    }
-}
-
-fn is_same_short(parts: &EventParts, line: Line) -> bool {
-    match (parts, line) {
-        (EventParts::Tick { now }, Line::Event(Event::Tick { now: same })) => *now == same,
-        (
-            EventParts::Ended { front, tune },
-            Line::Event(
-                Event::Ended {
-                    front: at,
-                    tune: by,
-                },
-            ),
-        ) => { *front == at && *tune == by }
-        (EventParts::Ask { front }, Line::Event(Event::Ask { front: at })) => *front == at,
-        (EventParts::Pull { session }, Line::Event(Event::Pull { session: of })) => *session == of,
-        (EventParts::Close { session }, Line::Event(Event::Close { session: of })) => {
-            *session == of
-        }
-        (EventParts::Stop, Line::Event(Event::Stop)) => true,
-        (EventParts::Wrong, Line::Wrong) => true,
-        _ => false,
+        Some(parts) => said_by_parts(&parts) == line_says(line, &mut kept.framer),
+        None => line_says(line, &mut kept.framer) == Said::Skip,
     }
 }
 
@@ -633,22 +640,44 @@ const SAME: &[&[u8]] = &[
 
 const SAME_TEXTS: &[&[u8]] = &[SETUP, ADDING, GET, OPTIONS, b"hello\r\n\r\n", b"\r\n"];
 
-#[test]
-fn lines_say_the_same_in_parts_and_whole(rt: HostRuntime) -> Result<(), Fail> {
-    let alloc = rt.alloc();
-    let mut kept = Kept {
+fn keep(alloc: Global) -> Result<Kept, Fail> {
+    Ok(Kept {
         framer: Framer::make(alloc)?,
         request: Request::broken(Break::Bad),
         get: HttpRequest::broken(Break::Bad),
-    };
-    for line in SAME {
-        assert!(rt; is_same(line, &mut kept));
+    })
+}
+
+#[test]
+fn lines_say_the_same_in_parts_and_whole(rt: HostRuntime) -> Result<(), Fail> {
+    let mut kept = keep(rt.alloc())?;
+    for (place, line) in SAME.iter().enumerate() {
+        assert!(rt; is_same(line, &mut kept), "at {place}");
     }
-    let packet = packet_line(alloc, b"\x47\x00\x10", 188)?;
+    Ok(())
+}
+
+#[test]
+fn a_packet_says_the_same_in_parts_and_whole(rt: HostRuntime) -> Result<(), Fail> {
+    let mut kept = keep(rt.alloc())?;
+    let packet = packet_line(rt.alloc(), b"\x47\x00\x10", 188)?;
     assert!(rt; is_same(&packet, &mut kept));
-    for text in SAME_TEXTS {
-        assert!(rt; is_same(&line_with(alloc, b"rtsp", text)?, &mut kept));
-        assert!(rt; is_same(&line_with(alloc, b"http", text)?, &mut kept));
+    Ok(())
+}
+
+// Whether a line of this kind with this text says the same in parts and as a whole.
+fn is_same_with(alloc: Global, kind: &[u8], text: &[u8], kept: &mut Kept) -> Result<bool, Fail> {
+    let line = line_with(alloc, kind, text)?;
+    Ok(is_same(&line, kept))
+}
+
+#[test]
+fn texts_say_the_same_in_parts_and_whole(rt: HostRuntime) -> Result<(), Fail> {
+    let mut kept = keep(rt.alloc())?;
+    for (place, text) in SAME_TEXTS.iter().enumerate() {
+        let over_rtsp = is_same_with(rt.alloc(), b"rtsp", text, &mut kept)?;
+        let over_http = is_same_with(rt.alloc(), b"http", text, &mut kept)?;
+        assert!(rt; over_rtsp && over_http, "at {place}");
     }
     Ok(())
 }
@@ -659,8 +688,6 @@ fn printed(alloc: Global, answer: Answer, out: &Out) -> Result<Vec<u8>, Fail> {
     print_entry(&answer, out, &mut text)?;
     Ok(text)
 }
-
-const SESSION: SessionId = SessionId { count: 1, word: 10 };
 
 // Answers without a reply, and the lines of their entries.
 const SHORT: &[(Answer, &[u8])] = &[
@@ -723,10 +750,16 @@ fn are_printed(alloc: Global, out: &Out, rows: &[(Answer, &[u8])]) -> Result<boo
 }
 
 #[test]
-fn entries_are_printed(rt: HostRuntime) -> Result<(), Fail> {
-    let alloc = rt.alloc();
-    assert!(rt; are_printed(alloc, &Out::make(alloc)?, SHORT)?);
-    assert!(rt; are_printed(alloc, &out_with(alloc, b"RTSP")?, WITH_REPLY)?);
+fn entries_without_a_reply_are_printed(rt: HostRuntime) -> Result<(), Fail> {
+    let out = Out::make(rt.alloc())?;
+    assert!(rt; are_printed(rt.alloc(), &out, SHORT)?);
+    Ok(())
+}
+
+#[test]
+fn entries_with_a_reply_are_printed(rt: HostRuntime) -> Result<(), Fail> {
+    let out = out_with(rt.alloc(), b"RTSP")?;
+    assert!(rt; are_printed(rt.alloc(), &out, WITH_REPLY)?);
     Ok(())
 }
 

@@ -30,8 +30,23 @@ fn sent(ran: &Ran) -> Option<&[u8]> {
     }
 }
 
-// A recording over a connection on which these pieces come in, and an inlet with these datagrams,
-// whose call with the number `failing` fails.
+// A desk with a connection on which these pieces come in, and an inlet with these datagrams, whose
+// call with the number `failing` fails.
+fn desk_with(
+    alloc: Global,
+    pieces: &[&[u8]],
+    datagrams: &[&[u8]],
+    failing: u64,
+) -> Result<MemoryDesk, Fail> {
+    let wire = MemoryConn::make(alloc, pieces, &[], &[], 0)?;
+    let inlet = MemoryInlet::make(alloc, 5000, datagrams, &[], &[failing])?;
+    let clock = MemoryClock::make(alloc, &[5, 6, 7, 8])?;
+    let mut desk = MemoryDesk::make(alloc, 0);
+    desk.lend(Some(wire), Some(inlet), Some(clock));
+    Ok(desk)
+}
+
+// A recording over such a desk, whose put with the number `failing_put` fails.
 fn play(
     alloc: Global,
     pieces: &[&[u8]],
@@ -39,11 +54,7 @@ fn play(
     failing: u64,
     failing_put: u64,
 ) -> Result<Ran, Fail> {
-    let mut desk = MemoryDesk::make(alloc, 0);
-    let wire = MemoryConn::make(alloc, pieces, &[], &[], 0)?;
-    let inlet = MemoryInlet::make(alloc, 5000, datagrams, &[], &[failing])?;
-    let clock = MemoryClock::make(alloc, &[5, 6, 7, 8])?;
-    desk.lend(Some(wire), Some(inlet), Some(clock));
+    let mut desk = desk_with(alloc, pieces, datagrams, failing)?;
     record(alloc, &WORDS, failing_put, &mut desk)
 }
 
@@ -125,8 +136,7 @@ fn a_server_that_is_not_there_is_a_fault_of_the_peer(rt: HostRuntime) -> Result<
     let mut desk = MemoryDesk::make(rt.alloc(), 0);
     let played = record(rt.alloc(), &WORDS, 0, &mut desk)?;
     assert!(rt; played.is(13, b"", b"peer fault\n"));
-    assert!(rt; played.wire.is_none() && !played.inlet);
-    assert!(rt; played.moment);
+    assert!(rt; played.wire.is_none() && !played.inlet && played.moment);
     Ok(())
 }
 

@@ -1,5 +1,6 @@
 //! The bytes of packets, of datagrams and of reports.
 
+use satip_fixtures::texts::joined;
 use std::alloc::Global;
 use std::test::Fail;
 
@@ -24,10 +25,10 @@ pub fn datagram(
     pid: u16,
     fillings: &[u8],
 ) -> Result<Vec<u8>, Fail> {
-    let mut bytes = Vec::from_slice(alloc, &[0x80, 0x21])?;
-    bytes.extend_from_slice(&number.to_be_bytes())?;
-    bytes.extend_from_slice(&moment.wrapping_mul(90).to_be_bytes())?;
-    bytes.extend_from_slice(&ssrc.to_be_bytes())?;
+    let number = number.to_be_bytes();
+    let stamp = rtp_time(moment).to_be_bytes();
+    let ssrc = ssrc.to_be_bytes();
+    let mut bytes = joined(alloc, &[&[0x80, 0x21], &number, &stamp, &ssrc])?;
     for filling in fillings {
         bytes.extend_from_slice(&packet(pid, *filling))?;
     }
@@ -44,17 +45,39 @@ pub fn report(
     packets: u32,
     text: &[u8],
 ) -> Result<Vec<u8>, Fail> {
-    let mut bytes = Vec::from_slice(alloc, &[0x80, 200, 0, 6])?;
-    bytes.extend_from_slice(&ssrc.to_be_bytes())?;
-    bytes.extend_from_slice(&ntp_time(moment).to_be_bytes())?;
-    bytes.extend_from_slice(&moment.wrapping_mul(90).to_be_bytes())?;
-    bytes.extend_from_slice(&datagrams.to_be_bytes())?;
-    bytes.extend_from_slice(&packets.wrapping_mul(188).to_be_bytes())?;
-    bytes.extend_from_slice(&[0x81, 202, 0, 5])?;
-    bytes.extend_from_slice(&ssrc.to_be_bytes())?;
-    bytes.extend_from_slice(b"\x01\x0c192.168.1.10\0\0")?;
-    push_application(&mut bytes, ssrc, text)?;
-    Ok(bytes)
+    let ssrc = ssrc.to_be_bytes();
+    let sender = sender_report(alloc, moment, ssrc, datagrams, packets)?;
+    let application = application(alloc, ssrc, text)?;
+    let address = b"\x01\x0c192.168.1.10\0\0".as_slice();
+    joined(
+        alloc,
+        &[&sender, &[0x81, 202, 0, 5], &ssrc, address, &application],
+    )
+}
+
+// RFC 3550, 6.4.1.
+fn sender_report(
+    alloc: Global,
+    moment: u32,
+    ssrc: [u8; 4],
+    datagrams: u32,
+    packets: u32,
+) -> Result<Vec<u8>, Fail> {
+    let time = ntp_time(moment).to_be_bytes();
+    let stamp = rtp_time(moment).to_be_bytes();
+    let datagrams = datagrams.to_be_bytes();
+    let payload = packets.wrapping_mul(188).to_be_bytes();
+    joined(
+        alloc,
+        &[
+            &[0x80, 200, 0, 6],
+            &ssrc,
+            &time,
+            &stamp,
+            &datagrams,
+            &payload,
+        ],
+    )
 }
 
 // The seconds since 1900, with 32 bits behind the point (RFC 3550, 4).
@@ -63,21 +86,28 @@ fn ntp_time(moment: u32) -> u64 {
     seconds_1970.wrapping_add((u64::from(moment) << 32) / 1000)
 }
 
-fn push_application(bytes: &mut Vec<u8>, ssrc: u32, text: &[u8]) -> Result<(), Fail> {
-    let padding = match text.len() % 4 {
-        0 => b"".as_slice(),
-        1 => b"\0\0\0".as_slice(),
-        2 => b"\0\0".as_slice(),
-        _ => b"\0".as_slice(),
-    };
+// The moment at 90 kHz (RFC 2250, 2).
+fn rtp_time(moment: u32) -> u32 {
+    moment.wrapping_mul(90)
+}
+
+// The packet of a SES1 text (RFC 3550, 6.7).
+fn application(alloc: Global, ssrc: [u8; 4], text: &[u8]) -> Result<Vec<u8>, Fail> {
     let length = u16::try_from(text.len())?;
-    let words = length.div_ceil(4).saturating_add(3);
-    bytes.extend_from_slice(&[0x80, 204])?;
-    bytes.extend_from_slice(&words.to_be_bytes())?;
-    bytes.extend_from_slice(&ssrc.to_be_bytes())?;
-    bytes.extend_from_slice(b"SES1\0\0")?;
-    bytes.extend_from_slice(&length.to_be_bytes())?;
+    let words = length.div_ceil(4).saturating_add(3).to_be_bytes();
+    let length = length.to_be_bytes();
+    let mut bytes = joined(alloc, &[&[0x80, 204], &words, &ssrc, b"SES1\0\0", &length])?;
     bytes.extend_from_slice(text)?;
-    bytes.extend_from_slice(padding)?;
-    Ok(())
+    bytes.extend_from_slice(padding(text.len()))?;
+    Ok(bytes)
+}
+
+// The zeros behind a text up to the next four bytes.
+fn padding(length: usize) -> &'static [u8] {
+    match length % 4 {
+        0 => b"",
+        1 => b"\0\0\0",
+        2 => b"\0\0",
+        _ => b"\0",
+    }
 }

@@ -30,6 +30,14 @@ impl Client {
         }
     }
 
+    /// The word of a session id that is drawn, in hexadecimal.
+    pub fn word(self) -> &'static str {
+        match self {
+            Client::First => "0000000a",
+            Client::Second => "0000000b",
+        }
+    }
+
     /// The SSRC of its first session.
     pub fn ssrc(self) -> u32 {
         match self {
@@ -54,11 +62,11 @@ impl Client {
         }
     }
 
-    /// The parameters of its transport.
+    /// The header of its transport.
     pub fn transport(self) -> &'static str {
         match self {
-            Client::First => "RTP/AVP;unicast;client_port=1400-1401",
-            Client::Second => "RTP/AVP;unicast;client_port=1500-1501",
+            Client::First => "Transport: RTP/AVP;unicast;client_port=1400-1401",
+            Client::Second => "Transport: RTP/AVP;unicast;client_port=1500-1501",
         }
     }
 }
@@ -72,30 +80,31 @@ pub struct Session {
     pub count: u32,
 }
 
+/// The session that the first client founds first.
+pub const FIRST_SESSION: Session = Session {
+    client: Client::First,
+    count: 1,
+};
+
+/// The session that the second client founds behind it.
+pub const SECOND_SESSION: Session = Session {
+    client: Client::Second,
+    count: 2,
+};
+
 impl Session {
-    /// A session of the first client.
-    pub fn first(count: u32) -> Session {
-        Session {
-            client: Client::First,
-            count,
-        }
+    /// The header of the session id: the count and the drawn word, in 16 digits.
+    pub fn header(self, alloc: Global) -> Result<String, Fail> {
+        let (count, word) = (self.count, self.client.word());
+        Ok(format!(in alloc; "Session: {count:08x}{word}")?)
     }
 
-    /// A session of the second client.
-    pub fn second(count: u32) -> Session {
-        Session {
-            client: Client::Second,
-            count,
-        }
-    }
-
-    /// The session id: the count and the drawn word, in 16 digits.
-    pub fn id(self, alloc: Global) -> Result<String, Fail> {
-        let word = match self.client {
-            Client::First => "0000000a",
-            Client::Second => "0000000b",
-        };
-        let count = self.count;
-        Ok(format!(in alloc; "{count:08x}{word}")?)
+    /// The headers of a reply that founds it, of this stream.
+    pub fn founding(self, alloc: Global, stream: u16) -> Result<String, Fail> {
+        let (count, word) = (self.count, self.client.word());
+        let transport = self.client.transport();
+        Ok(format!(in alloc;
+            "Session: {count:08x}{word};timeout=60\r\n{transport}\r\ncom.ses.streamID: {stream}"
+        )?)
     }
 }

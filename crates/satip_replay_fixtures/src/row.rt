@@ -2,10 +2,8 @@
 
 use crate::bytes::{datagram, packet, report};
 use crate::clients::{Client, Session};
-use crate::runs::run;
+use crate::runs::replay;
 use satip_fixtures::texts::CONFIGURATION;
-use satip_memory::MemorySource;
-use satip_memory_desk::MemoryDesk;
 use std::alloc::Global;
 use std::test::Fail;
 
@@ -61,7 +59,7 @@ impl Row {
 
     /// A message of a client over RTSP, with these lines.
     pub fn asks(&mut self, client: Client, lines: &[&str]) -> Result<(), Fail> {
-        let message = hex::encode(self.alloc, message(self.alloc, lines)?.as_bytes())?;
+        let message = digits(self.alloc, lines, "")?;
         let (address, draw) = (client.address(), client.draw());
         writeln!(self.script, "rtsp {address} {draw} {message}")?;
         Ok(())
@@ -69,16 +67,14 @@ impl Row {
 
     /// The reply with these lines and this body, after which the connection goes on.
     pub fn replies(&mut self, status: u16, lines: &[&str], body: &str) -> Result<(), Fail> {
-        let mut reply = message(self.alloc, lines)?;
-        reply.push_str(body)?;
-        let reply = hex::encode(self.alloc, reply.as_bytes())?;
+        let reply = digits(self.alloc, lines, body)?;
         writeln!(self.printed, "reply {status} 0 {reply}")?;
         Ok(())
     }
 
     /// The reply with these lines, after which the connection closes.
     pub fn closes(&mut self, status: u16, lines: &[&str]) -> Result<(), Fail> {
-        let reply = hex::encode(self.alloc, message(self.alloc, lines)?.as_bytes())?;
+        let reply = digits(self.alloc, lines, "")?;
         writeln!(self.printed, "reply {status} 1 {reply}")?;
         Ok(())
     }
@@ -110,30 +106,21 @@ impl Row {
     /// SETUP of a target without session.
     pub fn asks_setup(&mut self, client: Client, target: &str) -> Result<(), Fail> {
         let line = format!(in self.alloc; "SETUP rtsp://192.168.1.10/{target} RTSP/1.0")?;
-        let transport = format!(in self.alloc; "Transport: {}", client.transport())?;
-        self.asks(client, &[&line, "CSeq: 1", &transport])
+        self.asks(client, &[&line, "CSeq: 1", client.transport()])
     }
 
     /// SETUP of a target, which founds this session of this stream.
     pub fn founds(&mut self, session: Session, target: &str, stream: u16) -> Result<(), Fail> {
         self.asks_setup(session.client, target)?;
-        let id = session.id(self.alloc)?;
-        let id = format!(in self.alloc; "Session: {id};timeout=60")?;
-        let transport = format!(in self.alloc; "Transport: {}", session.client.transport())?;
-        let stream = format!(in self.alloc; "com.ses.streamID: {stream}")?;
-        self.replies(
-            200,
-            &["RTSP/1.0 200 OK", "CSeq: 1", &id, &transport, &stream],
-            "",
-        )
+        let headers = session.founding(self.alloc, stream)?;
+        self.replies(200, &["RTSP/1.0 200 OK", "CSeq: 1", &headers], "")
     }
 
     /// A method other than SETUP on a target in a session.
     pub fn asks_in(&mut self, session: Session, method: &str, target: &str) -> Result<(), Fail> {
         let line = format!(in self.alloc; "{method} rtsp://192.168.1.10/{target} RTSP/1.0")?;
-        let id = session.id(self.alloc)?;
-        let id = format!(in self.alloc; "Session: {id}")?;
-        self.asks(session.client, &[&line, "CSeq: 1", &id])
+        let header = session.header(self.alloc)?;
+        self.asks(session.client, &[&line, "CSeq: 1", &header])
     }
 
     /// PLAY of a target in a session of a stream, whose next datagram has this number.
@@ -145,12 +132,11 @@ impl Row {
         number: u16,
     ) -> Result<(), Fail> {
         self.asks_in(session, "PLAY", target)?;
-        let id = session.id(self.alloc)?;
-        let id = format!(in self.alloc; "Session: {id}")?;
+        let header = session.header(self.alloc)?;
         let info = format!(in self.alloc;
             "RTP-Info: url=rtsp://192.168.1.10/stream={stream};seq={number}"
         )?;
-        self.replies(200, &["RTSP/1.0 200 OK", "CSeq: 1", &id, &info], "")
+        self.replies(200, &["RTSP/1.0 200 OK", "CSeq: 1", &header, &info], "")
     }
 
     /// TEARDOWN of a target in a session that lives.
@@ -194,10 +180,7 @@ impl Row {
         fillings: &[u8],
     ) -> Result<(), Fail> {
         let bytes = datagram(self.alloc, number, moment, client.ssrc(), pid, fillings)?;
-        let bytes = hex::encode(self.alloc, bytes)?;
-        let (address, port) = (client.address(), client.rtp_port());
-        writeln!(self.printed, "datagram {address}:{port} {bytes}")?;
-        Ok(())
+        self.prints_datagram(client.address(), client.rtp_port(), &bytes)
     }
 
     /// The report that leaves for a client, at a moment in milliseconds, after so many packets in
@@ -217,29 +200,29 @@ impl Row {
             packets,
             text.as_bytes(),
         )?;
+        self.prints_datagram(client.address(), client.rtcp_port(), &bytes)
+    }
+
+    fn prints_datagram(&mut self, address: &str, port: u16, bytes: &[u8]) -> Result<(), Fail> {
         let bytes = hex::encode(self.alloc, bytes)?;
-        let (address, port) = (client.address(), client.rtcp_port());
         writeln!(self.printed, "datagram {address}:{port} {bytes}")?;
         Ok(())
     }
 
     /// Whether a replay of the script ends well, and prints what it is to print.
     pub fn is_replayed(&self) -> Result<bool, Fail> {
-        let mut desk = MemoryDesk::make(self.alloc, 0);
-        desk.add("c1.toml", CONFIGURATION.as_bytes(), &[])?;
-        let input = MemorySource::make(self.alloc, self.script.as_bytes(), &[], &[])?;
-        let ran = run(self.alloc, &["replay", "c1.toml"], input, &[], 0, &mut desk)?;
+        let ran = replay(self.alloc, CONFIGURATION, self.script.as_bytes())?;
         Ok(ran.is(0, self.printed.as_bytes(), b""))
     }
 }
 
-/// A head of these lines: each ends with CR LF, and an empty one follows (RFC 2326, 4).
-pub fn message(alloc: Global, lines: &[&str]) -> Result<String, Fail> {
+/// A message of these lines and this body, in hexadecimal: each line ends with CR LF, and an empty
+/// one stands before the body (RFC 2326, 4).
+pub fn digits(alloc: Global, lines: &[&str], body: &str) -> Result<String, Fail> {
     let mut text = String::new(alloc);
     for line in lines {
-        text.push_str(line)?;
-        text.push_str("\r\n")?;
+        write!(text, "{line}\r\n")?;
     }
-    text.push_str("\r\n")?;
-    Ok(text)
+    write!(text, "\r\n{body}")?;
+    Ok(hex::encode(alloc, text.as_bytes())?)
 }

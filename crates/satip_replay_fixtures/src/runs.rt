@@ -1,7 +1,7 @@
 //! Runs of the program over memory.
 
 use satip_base::{Source, Text};
-use satip_memory::{MemoryConn, MemorySink};
+use satip_memory::{MemoryConn, MemorySink, MemorySource};
 use satip_memory_desk::MemoryDesk;
 use satip_program::offline;
 use std::alloc::Global;
@@ -33,6 +33,21 @@ impl Ran {
     }
 }
 
+/// A desk with the text of one configuration, c1.toml, whose takes with a number, from 1, in
+/// `failing` fail.
+pub fn desk_with(alloc: Global, configuration: &[u8], failing: &[u64]) -> Result<MemoryDesk, Fail> {
+    let mut desk = MemoryDesk::make(alloc, 0);
+    desk.add("c1.toml", configuration, failing)?;
+    Ok(desk)
+}
+
+/// A replay of a script by the text of a configuration.
+pub fn replay(alloc: Global, configuration: &str, script: &[u8]) -> Result<Ran, Fail> {
+    let mut desk = desk_with(alloc, configuration.as_bytes(), &[])?;
+    let input = MemorySource::make(alloc, script, &[], &[])?;
+    run(alloc, &["replay", "c1.toml"], input, &[], 0, &mut desk)
+}
+
 /// Runs the program with these words over an input, and a desk that has given a client nothing yet.
 /// The puts with a number, from 1, in `failing` fail, and pass `passed` bytes at most.
 pub fn run<I: Source + Drop>(
@@ -43,10 +58,7 @@ pub fn run<I: Source + Drop>(
     passed: usize,
     desk: &mut MemoryDesk,
 ) -> Result<Ran, Fail> {
-    let mut texts = Vec::new(alloc);
-    for word in words {
-        texts.push(Text::of(alloc, word)?)?;
-    }
+    let texts = texts_of(alloc, words)?;
     let mut output = MemorySink::make(alloc, failing, passed)?;
     let mut errors = MemorySink::make(alloc, &[], 0)?;
     desk.renew();
@@ -60,4 +72,12 @@ pub fn run<I: Source + Drop>(
         output,
         errors,
     })
+}
+
+fn texts_of(alloc: Global, words: &[&str]) -> Result<Vec<Text>, Fail> {
+    let mut texts = Vec::new(alloc);
+    for word in words {
+        texts.push(Text::of(alloc, word)?)?;
+    }
+    Ok(texts)
 }

@@ -1,7 +1,7 @@
 //! Faults of the words, the configuration, the script, the input and the output, with their exit
 //! statuses.
 
-use crate::runs::{Ran, run};
+use crate::runs::{Ran, desk_with, run};
 use satip_base::{ReadSource, Source};
 use satip_fixtures::texts::CONFIGURATION;
 use satip_memory::MemorySource;
@@ -9,6 +9,8 @@ use satip_memory_desk::MemoryDesk;
 use std::alloc::Global;
 use std::io::{Read, repeat};
 use std::test::Fail;
+
+const WORDS: [&str; 2] = ["replay", "c1.toml"];
 
 const STOP: &[u8] = b"stop\n";
 
@@ -19,9 +21,8 @@ fn replay<I: Source + Drop>(
     input: I,
     failing: &[u64],
 ) -> Result<Ran, Fail> {
-    let mut desk = MemoryDesk::make(alloc, 0);
-    desk.add("c1.toml", configuration.as_bytes(), &[])?;
-    run(alloc, &["replay", "c1.toml"], input, failing, 9, &mut desk)
+    let mut desk = desk_with(alloc, configuration.as_bytes(), &[])?;
+    run(alloc, &WORDS, input, failing, 9, &mut desk)
 }
 
 // A replay of a stop with these words.
@@ -54,8 +55,7 @@ fn the_first_fault_of_a_configuration_is_told(rt: HostRuntime) -> Result<(), Fai
     for (configuration, told) in wrong {
         let input = MemorySource::make(alloc, STOP, &[], &[])?;
         let ran = replay(alloc, configuration, input, &[])?;
-        assert!(rt; ran.is(3, b"", told));
-        assert!(rt; ran.config);
+        assert!(rt; ran.is(3, b"", told) && ran.config, "{configuration}");
     }
     Ok(())
 }
@@ -74,29 +74,42 @@ fn a_configuration_that_cannot_be_opened_is_an_input_fault(rt: HostRuntime) -> R
     let alloc = rt.alloc();
     let mut desk = MemoryDesk::make(alloc, 1);
     desk.add("c1.toml", CONFIGURATION.as_bytes(), &[])?;
-    let unopened = stopped(alloc, &["replay", "c1.toml"], &mut desk)?;
-    assert!(rt; unopened.is(5, b"", b"input fault\n"));
-    assert!(rt; !unopened.config);
-    let opened = stopped(alloc, &["replay", "c1.toml"], &mut desk)?;
-    assert_eq!(rt; opened.status, 0);
-    let unnamed = stopped(alloc, &["replay", "c2.toml"], &mut desk)?;
+    let unopened = stopped(alloc, &WORDS, &mut desk)?;
+    assert!(rt; unopened.is(5, b"", b"input fault\n") && !unopened.config);
+    assert_eq!(rt; stopped(alloc, &WORDS, &mut desk)?.status, 0);
+    Ok(())
+}
+
+#[test]
+fn a_configuration_that_is_not_there_is_an_input_fault(rt: HostRuntime) -> Result<(), Fail> {
+    let mut desk = desk_with(rt.alloc(), CONFIGURATION.as_bytes(), &[])?;
+    let unnamed = stopped(rt.alloc(), &["replay", "c2.toml"], &mut desk)?;
     assert!(rt; unnamed.is(5, b"", b"input fault\n"));
     Ok(())
 }
 
 #[test]
-fn a_take_that_fails_is_an_input_fault(rt: HostRuntime) -> Result<(), Fail> {
-    let alloc = rt.alloc();
+fn a_take_of_a_configuration_that_fails_is_an_input_fault(rt: HostRuntime) -> Result<(), Fail> {
     for failing in [1, 2] {
-        let mut desk = MemoryDesk::make(alloc, 0);
-        desk.add("c1.toml", CONFIGURATION.as_bytes(), &[failing])?;
-        let unread = stopped(alloc, &["replay", "c1.toml"], &mut desk)?;
-        assert!(rt; unread.is(5, b"", b"input fault\n"));
-        assert!(rt; unread.config);
-        let input = MemorySource::make(alloc, STOP, &[3], &[failing])?;
-        let unread = replay(alloc, CONFIGURATION, input, &[])?;
-        assert!(rt; unread.is(5, b"", b"input fault\n"));
-        assert!(rt; unread.config);
+        let mut desk = desk_with(rt.alloc(), CONFIGURATION.as_bytes(), &[failing])?;
+        let unread = stopped(rt.alloc(), &WORDS, &mut desk)?;
+        assert!(rt;
+            unread.is(5, b"", b"input fault\n") && unread.config,
+            "{failing}"
+        );
+    }
+    Ok(())
+}
+
+#[test]
+fn a_take_of_a_script_that_fails_is_an_input_fault(rt: HostRuntime) -> Result<(), Fail> {
+    for failing in [1, 2] {
+        let input = MemorySource::make(rt.alloc(), STOP, &[3], &[failing])?;
+        let unread = replay(rt.alloc(), CONFIGURATION, input, &[])?;
+        assert!(rt;
+            unread.is(5, b"", b"input fault\n") && unread.config,
+            "{failing}"
+        );
     }
     Ok(())
 }

@@ -2,23 +2,34 @@
 
 use crate::bytes::packet;
 use crate::clients::Client;
-use crate::row::{Row, message};
+use crate::row::{Row, digits};
 use std::alloc::Global;
 use std::test::Fail;
 
-// The start of a session of the second multiplex, with all PIDs.
-fn begin(alloc: Global, row: &mut Row) -> Result<(), Fail> {
-    let line = "GET /?src=1&freq=12402&pol=v&msys=dvbs&sr=27500&fec=34&pids=all HTTP/1.1";
-    let request = hex::encode(alloc, message(alloc, &[line])?.as_bytes())?;
-    let lines = [
-        "HTTP/1.1 200 OK",
-        "Content-Type: video/mp2t",
-        "Connection: close",
-    ];
-    let head = hex::encode(alloc, message(alloc, &lines)?.as_bytes())?;
+// The request of the second multiplex, with all PIDs, and the head of its reply.
+const REQUEST: &str = "GET /?src=1&freq=12402&pol=v&msys=dvbs&sr=27500&fec=34&pids=all HTTP/1.1";
+
+const HEAD: &[&str] = &[
+    "HTTP/1.1 200 OK",
+    "Content-Type: video/mp2t",
+    "Connection: close",
+];
+
+const PULL: &str = "pull 000000010000000a";
+
+// The event of the request.
+fn request(alloc: Global) -> Result<String, Fail> {
+    let request = digits(alloc, &[REQUEST], "")?;
     let (address, draw) = (Client::First.address(), Client::First.draw());
+    Ok(format!(in alloc; "http {address} {draw} {request}")?)
+}
+
+// The start of the session.
+fn begin(alloc: Global, row: &mut Row) -> Result<(), Fail> {
+    let request = request(alloc)?;
+    let head = digits(alloc, HEAD, "")?;
     row.event(
-        &format!(in alloc; "http {address} {draw} {request}")?,
+        &request,
         &format!(in alloc; "started 000000010000000a {head}")?,
     )
 }
@@ -43,23 +54,30 @@ fn body(alloc: Global, count: u16) -> Result<String, Fail> {
     Ok(hex::encode(alloc, bytes)?)
 }
 
+// A pull that takes the first packets.
+fn pull(alloc: Global, row: &mut Row, count: u16) -> Result<(), Fail> {
+    let taken = body(alloc, count)?;
+    row.event(PULL, &format!(in alloc; "bytes {taken}")?)
+}
+
+// A session whose queue gets 4096 packets, and as many again as a pull takes.
+fn fill(alloc: Global, row: &mut Row) -> Result<(), Fail> {
+    begin(alloc, row)?;
+    row.event(PULL, "empty")?;
+    receive(row, 0, 4096, "tune 2 1")?;
+    pull(alloc, row, 64)?;
+    receive(row, 4096, 64, "tune 2 1")
+}
+
 #[test]
 fn a_queue_of_4096_packets_is_full_and_one_more_ends_the_session(
     rt: HostRuntime,
 ) -> Result<(), Fail> {
     let alloc = rt.alloc();
     let mut row = Row::new(alloc);
-    begin(alloc, &mut row)?;
-    row.event("pull 000000010000000a", "empty")?;
-    receive(&mut row, 0, 4096, "tune 2 1")?;
-    let taken = body(alloc, 64)?;
-    row.event(
-        "pull 000000010000000a",
-        &format!(in alloc; "bytes {taken}")?,
-    )?;
-    receive(&mut row, 4096, 64, "tune 2 1")?;
+    fill(alloc, &mut row)?;
     receive(&mut row, 4160, 1, "nothing")?;
-    row.event("pull 000000010000000a", "gone")?;
+    row.event(PULL, "gone")?;
     assert!(rt; row.is_replayed()?);
     Ok(())
 }

@@ -60,7 +60,7 @@ fn ask(rt: &impl Abort, server: &mut Server, out: &mut Out, request: &Request, s
 
 /// Makes a request, which is answered with this reply of status 200.
 fn ask_well(rt: &impl Abort, server: &mut Server, out: &mut Out, request: &Request, reply: &[u8]) {
-    assert_eq!(rt; server.request(CLIENT, DRAW, request, out).status, 200);
+    ask(rt, server, out, request, 200);
     assert_eq!(rt; out.reply(), reply);
 }
 
@@ -137,22 +137,32 @@ fn seven_packets_are_a_datagram(rt: HostRuntime) -> Result<(), Fail> {
     played
 }
 
+/// Makes a DESCRIBE of no session behind a tick at this moment, which is answered with this status.
+fn describe_at(rt: &impl Abort, server: &mut Server, out: &mut Out, now: u64, status: u16) {
+    let describe = Request {
+        session: SessionName::Absent,
+        ..request(Method::Describe)
+    };
+    let _beat = server.tick(now, out);
+    ask(rt, server, out, &describe, status);
+}
+
+/// Stops, after which a front end's pump is told to stop.
+fn stop(rt: &impl Abort, server: &mut Server, out: &mut Out) {
+    assert_eq!(rt; server.stop(out), Beat::Stopping);
+    assert_eq!(rt; server.ask(1, out), Work::Stopping);
+}
+
+const NOT_FOUND: &[u8] = b"RTSP/1.0 404 Not Found\r\nCSeq: 2\r\n\r\n";
+
 #[test]
 fn a_session_that_is_not_heard_of_ends(rt: HostRuntime) -> Result<(), Fail> {
     let mut out = Out::make(rt.alloc())?;
     let mut server = server(rt.alloc())?;
     ask(&rt, &mut server, &mut out, &setup(Query::new()), 200);
-    let describe = Request {
-        session: SessionName::Absent,
-        ..request(Method::Describe)
-    };
-    let _beat = server.tick(60999, &mut out);
-    ask(&rt, &mut server, &mut out, &describe, 200);
-    let _beat = server.tick(61000, &mut out);
-    ask(&rt, &mut server, &mut out, &describe, 404);
-    let text = b"RTSP/1.0 404 Not Found\r\nCSeq: 2\r\n\r\n";
-    assert_eq!(rt; out.reply(), text.as_slice());
-    assert_eq!(rt; server.stop(&mut out), Beat::Stopping);
-    assert_eq!(rt; server.ask(1, &mut out), Work::Stopping);
+    describe_at(&rt, &mut server, &mut out, 60999, 200);
+    describe_at(&rt, &mut server, &mut out, 61000, 404);
+    assert_eq!(rt; out.reply(), NOT_FOUND);
+    stop(&rt, &mut server, &mut out);
     Ok(())
 }

@@ -1,8 +1,8 @@
 //! Packets, ticks and pulls that can be followed by hand.
 
-use crate::requests::query;
-use satip_base::{Out, Peer, SessionId};
-use satip_fixtures::{DRAW, PORTS, SECOND_MUX, config_with, packet};
+use crate::requests::{change, founded, query};
+use satip_base::{Out, SessionId};
+use satip_fixtures::{SECOND_MUX, config_with, packet};
 use satip_plain::{Closed, Pulled, Work};
 use satip_query::{PidsGiven, Query};
 use satip_state::Parts;
@@ -19,15 +19,12 @@ fn parts(alloc: Global) -> Result<Parts, Fail> {
 
 /// A session whose stream is tuned and selects all PIDs.
 fn tuned(rt: &impl Abort, parts: &mut Parts, out: &mut Out, http: bool) -> SessionId {
-    let (id, number) = parts
-        .found(http, Peer { ip: 7 }, DRAW, PORTS)
-        .expect(rt, "room");
+    let (id, number) = founded(parts, http, 10).expect(rt, "room");
     let query = Query {
         pids: PidsGiven::All,
         ..query(SECOND_MUX)
     };
-    out.clear();
-    parts.change_by(number, &query, out);
+    change(parts, out, number, &query);
     id
 }
 
@@ -88,6 +85,36 @@ fn close_each(rt: &impl Abort, parts: &mut Parts, out: &mut Out, id: SessionId, 
     }
 }
 
+/// Whether the first stream is locked and plays.
+fn is_locked_and_playing(parts: &Parts) -> bool {
+    match parts.view(1) {
+        Some(view) => view.locked && view.playing,
+        None => false,
+    }
+}
+
+/// Reports follow until the session's timeout, at which its stream ends.
+fn reports_follow(rt: &impl Abort, parts: &mut Parts, out: &mut Out) {
+    tick_each(rt, parts, out, &[(1200, 2), (1399, 0), (1400, 1)]);
+    assert!(rt; is_locked_and_playing(parts));
+    tick_each(rt, parts, out, &[(60999, 1), (61000, 0)]);
+    assert!(rt; parts.view(1).is_none());
+    assert_eq!(rt; parts.work(1), Work::Nothing);
+}
+
+/// A datagram leaves behind the seventh packet of the tune number.
+const SEVEN: &[(u64, usize)] = &[
+    (1, 0),
+    (1, 0),
+    (1, 0),
+    (1, 0),
+    (1, 0),
+    (1, 0),
+    (2, 0),
+    (1, 1),
+    (1, 0),
+];
+
 #[test]
 fn seven_packets_leave_and_reports_follow(rt: HostRuntime) -> Result<(), Fail> {
     let packet = packet(0)?;
@@ -96,29 +123,23 @@ fn seven_packets_leave_and_reports_follow(rt: HostRuntime) -> Result<(), Fail> {
     let id = tuned(&rt, &mut parts, &mut out, false);
     parts.play(id);
     assert_eq!(rt; parts.work(1), Work::Tune { mux: 1, tune: 1 });
-    give_each(&rt, &mut parts, &mut out, &packet, &[(1, 0); 6]);
-    give_each(
-        &rt,
-        &mut parts,
-        &mut out,
-        &packet,
-        &[(2, 0), (1, 1), (1, 0)],
-    );
-    tick_each(
-        &rt,
-        &mut parts,
-        &mut out,
-        &[(1200, 2), (1399, 0), (1400, 1)],
-    );
-    assert!(rt;
-        parts
-            .view(1)
-            .is_some_and(|view| view.locked && view.playing)
-    );
-    tick_each(&rt, &mut parts, &mut out, &[(60999, 1), (61000, 0)]);
-    assert!(rt; parts.view(1).is_none());
-    assert_eq!(rt; parts.work(1), Work::Nothing);
+    give_each(&rt, &mut parts, &mut out, &packet, SEVEN);
+    reports_follow(&rt, &mut parts, &mut out);
     Ok(())
+}
+
+/// The recording ends, after which there is nothing to do, and the session is closed once.
+fn end_and_close(rt: &impl Abort, parts: &mut Parts, out: &mut Out, id: SessionId) {
+    parts.ended(1, 1);
+    assert_eq!(rt; parts.work(1), Work::Nothing);
+    close_each(rt, parts, out, id, &[Closed::Yes, Closed::Gone]);
+    pull_each(rt, parts, out, id, &[(Pulled::Gone, 0)]);
+}
+
+/// After the stop each pump is told to stop.
+fn stop(rt: &impl Abort, parts: &mut Parts) {
+    parts.stop();
+    assert_eq!(rt; parts.work(1), Work::Stopping);
 }
 
 #[test]
@@ -130,12 +151,7 @@ fn a_queue_is_pulled_and_closed(rt: HostRuntime) -> Result<(), Fail> {
     give_each(&rt, &mut parts, &mut out, &packet, &[(1, 0); 3]);
     let pulls = [(Pulled::Bytes(564), 564), (Pulled::Empty, 0)];
     pull_each(&rt, &mut parts, &mut out, id, &pulls);
-    parts.ended(1, 1);
-    assert_eq!(rt; parts.work(1), Work::Nothing);
-    let closes = [Closed::Yes, Closed::Gone];
-    close_each(&rt, &mut parts, &mut out, id, &closes);
-    pull_each(&rt, &mut parts, &mut out, id, &[(Pulled::Gone, 0)]);
-    parts.stop();
-    assert_eq!(rt; parts.work(1), Work::Stopping);
+    end_and_close(&rt, &mut parts, &mut out, id);
+    stop(&rt, &mut parts);
     Ok(())
 }

@@ -22,10 +22,14 @@ fn draw(word: u32) -> Draw {
     Draw { word, ..DRAW }
 }
 
+/// A session that founds a stream with this word, and the stream's number.
+pub(crate) fn founded(parts: &mut Parts, http: bool, word: u32) -> Option<(SessionId, u16)> {
+    parts.found(http, Peer { ip: 7 }, draw(word), PORTS)
+}
+
+/// An RTSP session that founds a stream, for which there is room.
 fn found(rt: &impl Abort, parts: &mut Parts, word: u32) -> (SessionId, u16) {
-    parts
-        .found(false, Peer { ip: 7 }, draw(word), PORTS)
-        .expect(rt, "room")
+    founded(parts, false, word).expect(rt, "room")
 }
 
 /// A query for this multiplex, at the front end that is to be had.
@@ -40,6 +44,12 @@ pub(crate) fn query(mux: Mux) -> Query {
         },
         ..Query::new()
     }
+}
+
+/// Changes a stream by a query; `out` has what is sent.
+pub(crate) fn change(parts: &mut Parts, out: &mut Out, number: u16, query: &Query) {
+    out.clear();
+    parts.change_by(number, query, out);
 }
 
 /// The front end and the frequency of a stream.
@@ -57,8 +67,7 @@ fn add_sixteen(parts: &mut Parts, out: &mut Out) {
         addpids: Some(pids),
         ..query(FIRST_MUX)
     };
-    out.clear();
-    parts.change_by(1, &asked, out);
+    change(parts, out, 1, &asked);
 }
 
 /// A query for all PIDs without PID 16, which is refused.
@@ -70,8 +79,7 @@ fn refuse_all(parts: &mut Parts, out: &mut Out) {
         delpids: Some(pids),
         ..Query::new()
     };
-    out.clear();
-    parts.change_by(1, &refused, out);
+    change(parts, out, 1, &refused);
 }
 
 /// Whether the first stream selects a PID.
@@ -85,32 +93,61 @@ fn has_pid(parts: &Parts, pid: u16) -> bool
 }
 
 #[test]
-fn a_query_tunes_a_founded_stream(rt: HostRuntime) -> Result<(), Fail> {
-    let mut out = Out::make(rt.alloc())?;
+fn the_first_session_founds_the_first_stream(rt: HostRuntime) -> Result<(), Fail> {
     let mut parts = parts(rt.alloc())?;
     let found = found(&rt, &mut parts, 10);
     assert_eq!(rt; found, (SessionId { count: 1, word: 10 }, 1));
     assert_eq!(rt; tuned(&parts, 1), None);
+    Ok(())
+}
+
+#[test]
+fn a_query_tunes_a_founded_stream(rt: HostRuntime) -> Result<(), Fail> {
+    let mut out = Out::make(rt.alloc())?;
+    let mut parts = parts(rt.alloc())?;
+    found(&rt, &mut parts, 10);
     add_sixteen(&mut parts, &mut out);
     assert_eq!(rt; out.count(), 0);
     assert_eq!(rt; tuned(&parts, 1), Some((1, 11361750)));
     assert!(rt; has_pid(&parts, 16) && !has_pid(&parts, 17));
+    Ok(())
+}
+
+#[test]
+fn a_refused_query_selects_no_more_pids(rt: HostRuntime) -> Result<(), Fail> {
+    let mut out = Out::make(rt.alloc())?;
+    let mut parts = parts(rt.alloc())?;
+    found(&rt, &mut parts, 10);
+    add_sixteen(&mut parts, &mut out);
     refuse_all(&mut parts, &mut out);
     assert!(rt; !has_pid(&parts, 17));
     Ok(())
+}
+
+/// A session plays, moves to this peer and these ports, and is heard of.
+fn play_and_move(parts: &mut Parts, id: SessionId, peer: Peer, ports: Ports) {
+    parts.play(id);
+    parts.move_to(id, peer, ports);
+    parts.hear(id);
 }
 
 #[test]
 fn a_session_plays_to_where_it_moved(rt: HostRuntime) -> Result<(), Fail> {
     let mut parts = parts(rt.alloc())?;
     let (id, _) = found(&rt, &mut parts, 10);
+    let peer = Peer { ip: 8 };
     let ports = Ports { rtp: 5, rtcp: 6 };
-    parts.play(id);
-    parts.move_to(id, Peer { ip: 8 }, ports);
-    parts.hear(id);
+    play_and_move(&mut parts, id, peer, ports);
     let session = parts.rtsp_session(id).expect(&rt, "lives");
-    assert!(rt; session.playing && session.peer == (Peer { ip: 8 }) && session.ports == ports);
+    assert!(rt; session.playing && session.peer == peer && session.ports == ports);
     assert_eq!(rt; session.heard, 1000);
+    Ok(())
+}
+
+#[test]
+fn a_session_that_was_not_made_does_not_play(rt: HostRuntime) -> Result<(), Fail> {
+    let mut parts = parts(rt.alloc())?;
+    found(&rt, &mut parts, 10);
     let other = SessionId { count: 1, word: 11 };
     parts.play(other);
     assert!(rt; parts.rtsp_session(other).is_none());
@@ -122,25 +159,25 @@ fn joins(rt: &impl Abort, parts: &mut Parts, word: u32, wanted: Option<SessionId
     assert_eq!(rt; parts.join(Peer { ip: 7 }, draw(word), PORTS, 1), wanted);
 }
 
+/// Whether the first stream plays.
+fn is_playing(parts: &Parts) -> bool {
+    match parts.view(1) {
+        Some(view) => view.playing,
+        None => false,
+    }
+}
+
 /// An HTTP session founds the first stream, and plays.
 fn founds_first(rt: &impl Abort, parts: &mut Parts) {
-    let (id, number) = parts
-        .found(true, Peer { ip: 7 }, draw(10), PORTS)
-        .expect(rt, "room");
-    assert_eq!(rt; number, 1);
-    assert_eq!(rt; parts.owner(1), Some(id));
-    assert!(rt; parts.rtsp_session(id).is_none());
-    assert!(rt; parts.view(1).is_some_and(|view| view.playing));
+    let (id, number) = founded(parts, true, 10).expect(rt, "room");
+    assert_eq!(rt; (number, parts.owner(1)), (1, Some(id)));
+    assert!(rt; parts.rtsp_session(id).is_none() && is_playing(parts));
 }
 
 /// Compares that there is room for no session.
 fn takes_no_more(rt: &impl Abort, parts: &mut Parts) {
     assert!(rt; parts.is_full());
-    assert!(rt;
-        parts
-            .found(false, Peer { ip: 7 }, draw(13), PORTS)
-            .is_none()
-    );
+    assert!(rt; founded(parts, false, 13).is_none());
     joins(rt, parts, 13, None);
 }
 

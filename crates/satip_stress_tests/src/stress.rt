@@ -6,7 +6,7 @@ use rand_core::SeedableRng;
 use rand_core::utils::NextWord;
 use satip_memory::MemorySource;
 use satip_memory_desk::MemoryDesk;
-use satip_replay_fixtures::runs::{Ran, run};
+use satip_replay_fixtures::runs::{Ran, replay, run};
 use std::alloc::Global;
 use std::test::Fail;
 
@@ -54,11 +54,7 @@ impl Script {
 
     fn asks(&mut self, peer: &str, draw: &str, line: &str, header: &str) -> Result<(), Fail> {
         self.cseq = self.cseq.saturating_add(1);
-        let cseq = self.cseq;
-        let message = format!(in self.alloc;
-            "{line} RTSP/1.0\r\nCSeq: {cseq}\r\n{header}\r\n\r\n"
-        )?;
-        let digits = hex::encode(self.alloc, message.as_bytes())?;
+        let digits = message(self.alloc, line, self.cseq, header)?;
         writeln!(self.text, "rtsp {peer} {draw} {digits}")?;
         Ok(())
     }
@@ -103,6 +99,12 @@ impl Script {
     }
 }
 
+// A message in hexadecimal.
+fn message(alloc: Global, line: &str, cseq: u32, header: &str) -> Result<String, Fail> {
+    let text = format!(in alloc; "{line} RTSP/1.0\r\nCSeq: {cseq}\r\n{header}\r\n\r\n")?;
+    Ok(hex::encode(alloc, text.as_bytes())?)
+}
+
 // The script of a seed below 256.
 fn script_of(alloc: Global, seed: u8, count: u32) -> Result<Script, Fail> {
     let mut script = Script {
@@ -122,7 +124,7 @@ fn script_of(alloc: Global, seed: u8, count: u32) -> Result<Script, Fail> {
 }
 
 // What a printed run counts up to.
-#[derive(Drop)]
+#[derive(Clone, Copy)]
 struct Counts {
     events: u64,
     replies: u64,
@@ -176,19 +178,28 @@ impl Counts {
     }
 }
 
-// The six lines of a printed run.
-fn counted(alloc: Global, printed: &[u8]) -> Result<String, Fail> {
+fn count(printed: &[u8]) -> Result<Counts, Fail> {
     let mut counts = Counts::new();
     for line in std::str::from_utf8(printed)?.lines() {
         counts.add(line)?;
     }
+    Ok(counts)
+}
+
+// The six lines of a printed run.
+fn counted(alloc: Global, printed: &[u8]) -> Result<String, Fail> {
+    let counts = count(printed)?;
     let mut text = String::new(alloc);
-    writeln!(text, "events {}", counts.events)?;
-    writeln!(text, "replies {}", counts.replies)?;
-    writeln!(text, "refused {}", counts.refused)?;
-    writeln!(text, "datagrams {}", counts.datagrams)?;
-    writeln!(text, "payload {}", counts.payload)?;
-    writeln!(text, "reports {}", counts.reports)?;
+    for (name, count) in [
+        ("events", counts.events),
+        ("replies", counts.replies),
+        ("refused", counts.refused),
+        ("datagrams", counts.datagrams),
+        ("payload", counts.payload),
+        ("reports", counts.reports),
+    ] {
+        writeln!(text, "{name} {count}")?;
+    }
     Ok(text)
 }
 
@@ -232,22 +243,29 @@ fn the_same_words_have_the_same_counts(rt: HostRuntime) -> Result<(), Fail> {
     let ran = stressed(rt.alloc(), "7", "1000", &[])?;
     let again = stressed(rt.alloc(), "007", "01000", &[])?;
     assert_eq!(rt; again.output.sent(), ran.output.sent());
+    Ok(())
+}
+
+#[test]
+fn another_seed_has_other_counts(rt: HostRuntime) -> Result<(), Fail> {
+    let ran = stressed(rt.alloc(), "7", "1000", &[])?;
     let other = stressed(rt.alloc(), "8", "1000", &[])?;
     assert!(rt; other.output.sent() != ran.output.sent());
     Ok(())
 }
 
+// The replay of the script of a seed.
+fn replayed(alloc: Global, seed: u8, count: u32) -> Result<Ran, Fail> {
+    let script = script_of(alloc, seed, count)?;
+    replay(alloc, CONFIGURATION, script.text.as_bytes())
+}
+
 #[test]
 fn a_replay_of_the_texts_has_the_same_counts(rt: HostRuntime) -> Result<(), Fail> {
-    let alloc = rt.alloc();
-    let script = script_of(alloc, 200, 600)?;
-    let input = MemorySource::make(alloc, script.text.as_bytes(), &[], &[])?;
-    let mut desk = MemoryDesk::make(alloc, 0);
-    desk.add("c1.toml", CONFIGURATION.as_bytes(), &[])?;
-    let replayed = run(alloc, &["replay", "c1.toml"], input, &[], 0, &mut desk)?;
+    let replayed = replayed(rt.alloc(), 200, 600)?;
+    let counts = counted(rt.alloc(), replayed.output.sent())?;
+    let ran = stressed(rt.alloc(), "200", "600", &[])?;
     assert_eq!(rt; replayed.status, 0);
-    let counts = counted(alloc, replayed.output.sent())?;
-    let ran = stressed(alloc, "200", "600", &[])?;
     assert_eq!(rt; ran.output.sent(), counts.as_bytes());
     Ok(())
 }
