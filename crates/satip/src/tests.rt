@@ -18,15 +18,66 @@ const CONFIGURATION: &[u8] =
     b"address = \"127.0.0.1\"\nrtsp_port = 18554\nhttp_port = 18875\nworkers = 1\n\
 [[frontend]]\nsources = [1]\nsystems = [\"dvbs\"]\n";
 
-// What a run came to, and what it wrote.
+// What a run reads and writes.
 #[derive(Drop)]
-struct Ran {
+struct Streams {
+    input: MemorySource,
+    output: MemorySink,
+    errors: MemorySink,
+}
+
+fn empty_streams(alloc: Global) -> Result<Streams, Fail> {
+    Ok(Streams {
+        input: MemorySource::make(alloc, b"", &[], &[])?,
+        output: MemorySink::make(alloc, &[], 0)?,
+        errors: MemorySink::make(alloc, &[], 0)?,
+    })
+}
+
+// What a run came to.
+#[derive(Clone, Copy, Debug, PartialEq, Eq)]
+struct Ending {
     status: u8,
     configured: bool,
     left: bool,
     unused: bool,
-    output: MemorySink,
-    errors: MemorySink,
+}
+
+// Whether nothing was written.
+fn is_silent(streams: &Streams) -> bool {
+    streams.output.sent().is_empty() && streams.errors.sent().is_empty()
+}
+
+// A run of these words by the real desk.
+fn run<R: Threads + Wait + Sync + Copy + Drop + Send>(
+    host: HostRuntime,
+    rt: R,
+    words: &[Text],
+    streams: &mut Streams,
+) -> Ending {
+    let mut desk = RealDesk::new(host, rt);
+    let ended = satip(
+        &rt,
+        host.alloc(),
+        words,
+        &mut streams.input,
+        &mut streams.output,
+        &mut streams.errors,
+        &mut desk,
+    );
+    Ending {
+        status: ended.status,
+        configured: ended.config.is_some(),
+        left: ended.last.is_some(),
+        unused: ended.unused.is_some(),
+    }
+}
+
+// What a run came to, and what it wrote.
+#[derive(Drop)]
+struct Ran {
+    ending: Ending,
+    streams: Streams,
 }
 
 // A serve by the real desk of one connection a worker, whose configuration is this text.
@@ -36,31 +87,12 @@ fn serve<R: Threads + Wait + Sync + Copy + Drop + Send>(
     name: &str,
     text: &[u8],
 ) -> Result<Ran, Fail> {
-    let alloc = host.alloc();
+    let words = words(host.alloc(), name)?;
+    let mut streams = empty_streams(host.alloc())?;
     fs::write(&host, name, text)?;
-    let words = words(alloc, name)?;
-    let mut input = MemorySource::make(alloc, b"", &[], &[])?;
-    let mut output = MemorySink::make(alloc, &[], 0)?;
-    let mut errors = MemorySink::make(alloc, &[], 0)?;
-    let mut desk = RealDesk::new(host, rt);
-    let ended = satip(
-        &rt,
-        alloc,
-        &words,
-        &mut input,
-        &mut output,
-        &mut errors,
-        &mut desk,
-    );
+    let ending = run(host, rt, &words, &mut streams);
     fs::remove_file(&host, name)?;
-    Ok(Ran {
-        status: ended.status,
-        configured: ended.config.is_some(),
-        left: ended.last.is_some(),
-        unused: ended.unused.is_some(),
-        output,
-        errors,
-    })
+    Ok(Ran { ending, streams })
 }
 
 fn words(alloc: Global, name: &str) -> Result<Vec<Text>, Fail> {
@@ -99,10 +131,14 @@ fn a_request_is_answered_over_loopback(rt: HostRuntime) -> Result<(), Fail> {
     let client = thread::spawn(&rt, move || is_answered(rt))?;
     let ran = serve(rt, rt, "loopback.toml", CONFIGURATION)?;
     assert!(rt; client.join(&rt));
-    assert_eq!(rt; ran.status, 0);
-    assert!(rt; ran.configured && ran.left && !ran.unused);
-    assert_eq!(rt; ran.output.sent(), b"".as_slice());
-    assert_eq!(rt; ran.errors.sent(), b"".as_slice());
+    let well = Ending {
+        status: 0,
+        configured: true,
+        left: true,
+        unused: false,
+    };
+    assert_eq!(rt; ran.ending, well);
+    assert!(rt; is_silent(&ran.streams));
     Ok(())
 }
 
@@ -114,9 +150,14 @@ fn has_no_kits<R: Threads + Wait + Sync + Copy + Drop + Send>(
     text: &[u8],
 ) -> Result<bool, Fail> {
     let ran = serve(host, rt, name, text)?;
-    let told = ran.errors.sent() == b"doors fault\n".as_slice();
-    let silent = ran.output.sent() == b"".as_slice();
-    Ok(ran.status == 7 && ran.configured && !ran.left && !ran.unused && told && silent)
+    let none = Ending {
+        status: 7,
+        configured: true,
+        left: false,
+        unused: false,
+    };
+    let told = ran.streams.errors.sent() == b"doors fault\n".as_slice();
+    Ok(ran.ending == none && told && ran.streams.output.sent().is_empty())
 }
 
 #[test]

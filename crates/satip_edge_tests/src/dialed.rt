@@ -1,12 +1,12 @@
 //! The adapters of a client over loopback: a connection that it dials, and its inlet.
 
-use crate::network::{LOCALHOST, client, local, receive};
+use crate::network::{LOCALHOST, client, hears, local, receive};
 use satip_base::Put;
 use satip_inlet::Inlet;
 use satip_real::{RealClock, RealConn, RealInlet};
 use satip_world::{Clock, Conn, ConnEnd, Received};
 use std::io::{ErrorKind, Read, Write};
-use std::net::{Ipv4Addr, SocketAddr, TcpListener, UdpSocket};
+use std::net::{Ipv4Addr, SocketAddr, TcpListener, TcpStream, UdpSocket};
 use std::test::Fail;
 
 // A listener of a server, and its port.
@@ -16,23 +16,34 @@ fn listen(rt: &HostRuntime) -> Result<(TcpListener, u16), Fail> {
     Ok((listener, port))
 }
 
-#[test]
-fn a_dialed_server_is_asked_and_heard(rt: HostRuntime) -> Result<(), Fail> {
+// A connection that was dialed, and the one that its server has.
+fn dial(rt: HostRuntime) -> Result<(RealConn, TcpStream), Fail> {
     let (listener, port) = listen(&rt)?;
-    let mut conn = RealConn::dial(rt, local(port))?;
-    let (mut server, _) = listener.accept()?;
-    let mut buf = [0; 16];
-    assert_eq!(rt; conn.receive(&mut buf), Received::Idle);
-    assert_eq!(rt; conn.send(b"SETUP"), Put::Whole);
+    let conn = RealConn::dial(rt, local(port))?;
+    let (server, _) = listener.accept()?;
+    Ok((conn, server))
+}
+
+// Asks a server that is silent so far: what a receive before gives, what the send answers, and what
+// the server reads.
+fn ask(conn: &mut RealConn, server: &mut TcpStream) -> Result<(Received, Put, [u8; 5]), Fail> {
+    let received = conn.receive(&mut [0; 16]);
+    let put = conn.send(b"SETUP");
     let mut request = [0; 5];
     server.read_exact(&mut request)?;
-    assert_eq!(rt; request, *b"SETUP");
+    Ok((received, put, request))
+}
+
+#[test]
+fn a_dialed_server_is_asked_and_heard(rt: HostRuntime) -> Result<(), Fail> {
+    let (mut conn, mut server) = dial(rt)?;
+    let asked = ask(&mut conn, &mut server)?;
+    assert_eq!(rt; asked, (Received::Idle, Put::Whole, *b"SETUP"));
     server.write_all(b"200")?;
-    assert_eq!(rt; receive(&mut conn, &mut buf), Received::Got(3));
-    assert!(rt; buf.starts_with(b"200"));
+    assert!(rt; hears(&mut conn, b"200"));
     drop(server);
     for _ in 0..2 {
-        assert_eq!(rt; receive(&mut conn, &mut buf), Received::End);
+        assert_eq!(rt; receive(&mut conn, &mut [0; 16]), Received::End);
     }
     conn.close(rt, ConnEnd::Done);
     Ok(())
@@ -51,6 +62,14 @@ fn nobody_is_dialed_at_a_closed_port(rt: HostRuntime) -> Result<(), Fail> {
     }
 }
 
+// Sends a short datagram, one that is longer than a buffer of 2048 bytes, and an empty one.
+fn send_three(sender: &UdpSocket, to: SocketAddr) -> Result<(), Fail> {
+    sender.send_to(b"abc", to)?;
+    sender.send_to(&[7; 3000], to)?;
+    sender.send_to(b"", to)?;
+    Ok(())
+}
+
 #[test]
 fn an_inlet_gives_each_datagram_and_is_idle_else(rt: HostRuntime) -> Result<(), Fail> {
     let mut inlet = RealInlet::bind(rt, LOCALHOST)?;
@@ -58,14 +77,12 @@ fn an_inlet_gives_each_datagram_and_is_idle_else(rt: HostRuntime) -> Result<(), 
     let (sender, _) = client(&rt)?;
     let mut buf = [0; 2048];
     assert_eq!(rt; inlet.receive(&mut buf), Received::Idle);
-    sender.send_to(b"abc", to)?;
-    sender.send_to(&[7; 3000], to)?;
-    sender.send_to(b"", to)?;
-    assert_eq!(rt; inlet.receive(&mut buf), Received::Got(3));
-    assert!(rt; buf.starts_with(b"abc"));
-    assert_eq!(rt; inlet.receive(&mut buf), Received::Got(2048));
-    assert_eq!(rt; inlet.receive(&mut buf), Received::Got(0));
-    assert_eq!(rt; inlet.receive(&mut buf), Received::Idle);
+    send_three(&sender, to)?;
+    let first = inlet.receive(&mut buf);
+    assert!(rt; first == Received::Got(3) && buf.starts_with(b"abc"));
+    for received in [Received::Got(2048), Received::Got(0), Received::Idle] {
+        assert_eq!(rt; inlet.receive(&mut buf), received);
+    }
     Ok(())
 }
 

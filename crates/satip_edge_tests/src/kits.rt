@@ -31,39 +31,53 @@ fn fault<R: Wait + Copy + Drop>(host: HostRuntime, rt: R, config: &Config) -> Op
     real_kits(host, rt, config, 1).err()
 }
 
+// What is told where the one recording has this name, and can't be played.
+fn told_of_recording<R: Wait + Copy + Drop>(
+    host: HostRuntime,
+    rt: R,
+    name: &str,
+) -> Result<String, Fail> {
+    let alloc = host.alloc();
+    let mut config = config(alloc)?;
+    config.files.push(Text::of(alloc, name)?)?;
+    match fault(host, rt, &config) {
+        Some(fault) => Ok(format!(in alloc; "{fault}")?),
+        None => Err(Fail::from("kits")),
+    }
+}
+
+#[test]
+fn no_recording_is_wanted_where_none_is_named(rt: HostRuntime) -> Result<(), Fail> {
+    assert!(rt; fault(rt, rt, &config(rt.alloc())?).is_none());
+    Ok(())
+}
+
 #[test]
 fn a_missing_recording_is_named(rt: HostRuntime) -> Result<(), Fail> {
-    let alloc = rt.alloc();
-    let mut config = config(alloc)?;
-    assert!(rt; fault(rt, rt, &config).is_none());
-    config.files.push(Text::of(alloc, "no/such/recording.ts")?)?;
-    let Some(fault) = fault(rt, rt, &config) else {
-        return Err(Fail::from("kits"));
-    };
-    let text = format!(in alloc; "{fault}")?;
-    assert!(rt;
-        text.as_str().starts_with("recording of mux.1, no/such/recording.ts, can't be played: ")
-    );
+    let told = told_of_recording(rt, rt, "no/such/recording.ts")?;
+    let wanted = "recording of mux.1, no/such/recording.ts, can't be played: ";
+    assert!(rt; told.as_str().starts_with(wanted));
     Ok(())
 }
 
 #[test]
 fn a_directory_and_a_device_are_no_recordings(rt: HostRuntime) -> Result<(), Fail> {
-    let alloc = rt.alloc();
-    for name in ["/", "/dev/null"] {
-        let mut config = config(alloc)?;
-        config.files.push(Text::of(alloc, name)?)?;
-        let Some(fault) = fault(rt, rt, &config) else {
-            return Err(Fail::from("kits"));
-        };
-        let text = format!(in alloc; "{fault}")?;
-        let wanted = format!(in alloc;
-            "recording of mux.1, {name}, can't be played: it is not a regular file "
-        )?;
-        assert!(rt; text.as_str().starts_with(wanted.as_str()), "at {name}");
+    for (name, start) in [
+        (
+            "/",
+            "recording of mux.1, /, can't be played: it is not a regular file ",
+        ),
+        (
+            "/dev/null",
+            "recording of mux.1, /dev/null, can't be played: it is not a regular file ",
+        ),
+    ] {
+        let told = told_of_recording(rt, rt, name)?;
+        let text = told.as_str();
+        assert!(rt; text.starts_with(start), "at {name}");
         assert!(rt;
-            text.as_str()
-                .ends_with("counts from the folder of the start)")
+            text.ends_with("counts from the folder of the start)"),
+            "at {name}"
         );
     }
     Ok(())
@@ -107,14 +121,19 @@ fn settings(name: &str, value: &str) -> Option<(bool, bool)> {
 
 #[test]
 fn settings_have_one_value_each(rt: HostRuntime) {
-    assert_eq!(rt; settings("SATIP_PACE", "recording"), Some((true, false)));
-    assert_eq!(rt; settings("SATIP_PACE", ""), Some((false, false)));
-    assert_eq!(rt; settings("SATIP_PACE", "Recording"), None);
-    assert_eq!(rt; settings("SATIP_PACE", "recording and more"), None);
-    assert_eq!(rt; settings("SATIP_REPEAT", "1"), Some((false, true)));
-    assert_eq!(rt; settings("SATIP_REPEAT", ""), Some((false, false)));
-    assert_eq!(rt; settings("SATIP_REPEAT", "0"), None);
-    assert_eq!(rt; settings("PATH", "1"), Some((false, false)));
+    // Whether the server follows a recording's clock, and whether it repeats recordings.
+    for (name, value, wanted) in [
+        ("SATIP_PACE", "recording", Some((true, false))),
+        ("SATIP_PACE", "", Some((false, false))),
+        ("SATIP_PACE", "Recording", None),
+        ("SATIP_PACE", "recording and more", None),
+        ("SATIP_REPEAT", "1", Some((false, true))),
+        ("SATIP_REPEAT", "", Some((false, false))),
+        ("SATIP_REPEAT", "0", None),
+        ("PATH", "1", Some((false, false))),
+    ] {
+        assert_eq!(rt; settings(name, value), wanted, "{name}={value}");
+    }
 }
 
 #[test]
@@ -148,16 +167,21 @@ fn turn_all<R: Wait + Drop>(workers: Vec<WorkerKit<RealDoors, RealOutlet<R>, Rea
     idle
 }
 
+// The kits of a server without front ends.
+fn kits<R: Wait + Copy + Drop>(host: HostRuntime, rt: R) -> Result<RealKits<R>, Fail> {
+    match real_kits(host, rt, &config(host.alloc())?, 1) {
+        Ok(kits) => Ok(kits),
+        Err(_) => Err(Fail::from("no kits")),
+    }
+}
+
 #[test]
 fn kits_go_to_other_threads(rt: HostRuntime) -> Result<(), Fail> {
-    let Ok(kits) = real_kits(rt, rt, &config(rt.alloc())?, 1) else {
-        return Err(Fail::from("no kits"));
-    };
     let RealKits {
         workers,
         pumps,
         tick,
-    } = kits;
+    } = kits(rt, rt)?;
     let doors = thread::spawn(&rt, move || turn_all(workers))?;
     let others = thread::spawn(&rt, move || {
         drop(tick);

@@ -6,7 +6,6 @@ use satip_report::{Start, Starts};
 use satip_world::{Clock, Conn, ConnEnd, Door, DoorKind, Doors, Outlet, Received};
 use std::io::{ErrorKind, Read, Write};
 use std::net::{Ipv4Addr, Shutdown, SocketAddr, TcpStream, UdpSocket};
-use std::process::Abort;
 use std::sync::atomic::{AtomicU64, Ordering};
 use std::sync::{Arc, Wait};
 use std::test::Fail;
@@ -16,7 +15,7 @@ use std::{io, thread, time};
 pub(crate) const LOCALHOST: u32 = 0x7f00_0001;
 
 // Turns of the doors until one is another than Idle.
-fn next_come<D: Doors>(doors: &mut D) -> Door<D::Conn> {
+fn next_come(doors: &mut RealDoors) -> Door<RealConn> {
     for _ in 0..100 {
         match doors.next() {
             Door::Idle => (),
@@ -26,7 +25,7 @@ fn next_come<D: Doors>(doors: &mut D) -> Door<D::Conn> {
     Door::Idle
 }
 
-pub(crate) fn receive<C: Conn>(conn: &mut C, buf: &mut [u8; 16]) -> Received {
+pub(crate) fn receive(conn: &mut RealConn, buf: &mut [u8; 16]) -> Received {
     for _ in 0..100 {
         match conn.receive(buf) {
             Received::Idle => (),
@@ -36,8 +35,14 @@ pub(crate) fn receive<C: Conn>(conn: &mut C, buf: &mut [u8; 16]) -> Received {
     Received::Idle
 }
 
+// Whether just this text is the next that comes.
+pub(crate) fn hears(conn: &mut RealConn, text: &[u8]) -> bool {
+    let mut buf = [0; 16];
+    receive(conn, &mut buf) == Received::Got(text.len()) && buf.starts_with(text)
+}
+
 // Sends a datagram as an event of its own. The first call does nothing, since nothing was begun.
-fn post<O: Outlet>(outlet: &mut O, port: u16, bytes: &[u8]) -> Put {
+fn post<R: Wait + Drop>(outlet: &mut RealOutlet<R>, port: u16, bytes: &[u8]) -> Put {
     outlet.unlock();
     outlet.lock();
     let put = outlet.send(local(port), bytes);
@@ -52,8 +57,11 @@ pub(crate) fn local(port: u16) -> Address {
     }
 }
 
+// What doors tell of a client, and its connection.
+type Came = (DoorKind, Peer, RealConn);
+
 // The next client at the doors.
-fn next_client(doors: &mut RealDoors) -> Result<(DoorKind, Peer, RealConn), Fail> {
+fn next_client(doors: &mut RealDoors) -> Result<Came, Fail> {
     match next_come(doors) {
         Door::Came { kind, peer, conn } => Ok((kind, peer, conn)),
         _ => Err(Fail::from("no connection")),
@@ -70,6 +78,19 @@ fn end(doors: &mut RealDoors) -> bool {
     matches!(next_come(doors), Door::End)
 }
 
+// The start of a server's one job.
+pub(crate) fn start(rt: HostRuntime) -> Result<Start, Fail> {
+    let starts = Arc::new(rt.alloc(), Starts::expect(1))?;
+    Ok(Start::counting(&starts)?)
+}
+
+// Where listeners for RTSP and for HTTP are.
+fn addresses(listeners: &Listeners) -> Result<(SocketAddr, SocketAddr), Fail> {
+    let rtsp = SocketAddr::from((Ipv4Addr::LOCALHOST, listeners.rtsp_port()?));
+    let http = SocketAddr::from((Ipv4Addr::LOCALHOST, listeners.http_port()?));
+    Ok((rtsp, http))
+}
+
 // Doors of a new server, and where its listeners for RTSP and for HTTP are.
 fn open_doors(
     rt: HostRuntime,
@@ -77,27 +98,53 @@ fn open_doors(
     limit: u32,
 ) -> Result<(RealDoors, SocketAddr, SocketAddr), Fail> {
     let listeners = listen(&rt, 0, 0)?;
-    let rtsp = SocketAddr::from((Ipv4Addr::LOCALHOST, listeners.rtsp_port()?));
-    let http = SocketAddr::from((Ipv4Addr::LOCALHOST, listeners.http_port()?));
+    let (rtsp, http) = addresses(&listeners)?;
     let listeners = Arc::new(rt.alloc(), listeners)?;
-    let start = Start::counting(&Arc::new(rt.alloc(), Starts::expect(1))?)?;
-    let doors = RealDoors::new(rt, start, listeners, timeout_s, limit);
+    let doors = RealDoors::new(rt, start(rt)?, listeners, timeout_s, limit);
     Ok((doors, rtsp, http))
 }
 
-// Asks and is answered, and leaves.
-fn ask_and_leave(rt: &impl Abort, client: TcpStream, conn: &mut RealConn) -> Result<(), Fail> {
+// Doors of a new server, and a client for RTSP that came by them.
+fn meet(rt: HostRuntime, timeout_s: u32) -> Result<(RealDoors, TcpStream, Came), Fail> {
+    let (mut doors, rtsp, _) = open_doors(rt, timeout_s, 0)?;
+    let client = TcpStream::connect(&rt, rtsp)?;
+    let came = next_client(&mut doors)?;
+    Ok((doors, client, came))
+}
+
+// Asks and is answered, and leaves. Whether nothing was heard before, and all of it after.
+fn ask_and_leave(client: TcpStream, conn: &mut RealConn) -> Result<bool, Fail> {
     let mut client = client;
-    let mut buf = [0; 16];
-    assert_eq!(*rt; conn.receive(&mut buf), Received::Idle);
+    let silent = conn.receive(&mut [0; 16]) == Received::Idle;
     client.write_all(b"GET")?;
-    assert_eq!(*rt; receive(conn, &mut buf), Received::Got(3));
-    assert!(*rt; buf.starts_with(b"GET"));
-    assert_eq!(*rt; conn.send(b"200"), Put::Whole);
+    let answered = hears(conn, b"GET") && conn.send(b"200") == Put::Whole;
     let mut reply = [0; 3];
     client.read_exact(&mut reply)?;
-    assert_eq!(*rt; reply, *b"200");
-    Ok(())
+    Ok(silent && answered && reply == *b"200")
+}
+
+// How a connection came, whether its client was answered, and what two receives behind that gave.
+#[derive(Clone, Copy, Debug, PartialEq)]
+struct Visit {
+    kind: DoorKind,
+    peer: Peer,
+    answered: bool,
+    ends: [Received; 2],
+}
+
+// Serves the next client, which asks, is answered and leaves.
+fn serve_next(doors: &mut RealDoors, client: TcpStream) -> Result<Visit, Fail> {
+    let (kind, peer, mut conn) = next_client(doors)?;
+    let answered = ask_and_leave(client, &mut conn)?;
+    let mut buf = [0; 16];
+    let ends = [receive(&mut conn, &mut buf), receive(&mut conn, &mut buf)];
+    doors.back(conn, kind, peer, ConnEnd::Done);
+    Ok(Visit {
+        kind,
+        peer,
+        answered,
+        ends,
+    })
 }
 
 #[test]
@@ -105,13 +152,13 @@ fn a_connection_is_heard_and_answered(rt: HostRuntime) -> Result<(), Fail> {
     let (mut doors, _, http) = open_doors(rt, 60, 1)?;
     assert!(rt; are_idle(&mut doors));
     let client = TcpStream::connect(&rt, http)?;
-    let (kind, peer, mut conn) = next_client(&mut doors)?;
-    assert!(rt; kind == DoorKind::Http && peer == Peer { ip: LOCALHOST });
-    ask_and_leave(&rt, client, &mut conn)?;
-    for _ in 0..2 {
-        assert_eq!(rt; receive(&mut conn, &mut [0; 16]), Received::End);
-    }
-    doors.back(conn, kind, peer, ConnEnd::Done);
+    let wanted = Visit {
+        kind: DoorKind::Http,
+        peer: Peer { ip: LOCALHOST },
+        answered: true,
+        ends: [Received::End; 2],
+    };
+    assert_eq!(rt; serve_next(&mut doors, client)?, wanted);
     assert!(rt; end(&mut doors) && end(&mut doors));
     Ok(())
 }
@@ -135,21 +182,21 @@ fn read_in_pieces(stream: TcpStream, wanted: usize) -> usize {
 
 #[test]
 fn a_long_reply_waits_for_its_client(rt: HostRuntime) -> Result<(), Fail> {
-    let (mut doors, rtsp, _) = open_doors(rt, 60, 0)?;
-    let client = TcpStream::connect(&rt, rtsp)?;
-    let (kind, peer, mut conn) = next_client(&mut doors)?;
-    assert!(rt; kind == DoorKind::Rtsp);
+    let (mut doors, client, came) = meet(rt, 60)?;
+    let (kind, peer, mut conn) = came;
+    assert_eq!(rt; kind, DoorKind::Rtsp);
     let text = vec![in rt.alloc(); 7; 16777216]?;
     let reader = thread::spawn(&rt, move || read_in_pieces(client, 16777216))?;
-    assert_eq!(rt; conn.send(&text), Put::Whole);
-    assert_eq!(rt; reader.join(&rt), 16777216);
+    let put = conn.send(&text);
+    let count = reader.join(&rt);
+    assert_eq!(rt; (put, count), (Put::Whole, 16777216));
     assert_eq!(rt; sends_until_a_failure(&mut conn), Put::Failed);
     doors.back(conn, kind, peer, ConnEnd::WriteFault);
     assert!(rt; are_idle(&mut doors));
     Ok(())
 }
 
-fn sends_until_a_failure<C: Conn>(conn: &mut C) -> Put {
+fn sends_until_a_failure(conn: &mut RealConn) -> Put {
     for _ in 0..1000 {
         if conn.send(b"more") == Put::Failed {
             return Put::Failed;
@@ -176,28 +223,32 @@ fn doors_give_exactly_as_many_as_their_limit(rt: HostRuntime) -> Result<(), Fail
 
 #[test]
 fn a_silent_client_is_given_up(rt: HostRuntime) -> Result<(), Fail> {
-    let (mut doors, rtsp, _) = open_doors(rt, 1, 0)?;
-    let mut client = TcpStream::connect(&rt, rtsp)?;
-    let (_, _, mut conn) = next_client(&mut doors)?;
-    let mut buf = [0; 16];
+    let (_doors, mut client, came) = meet(rt, 1)?;
+    let (_, _, mut conn) = came;
     client.write_all(b"ask")?;
-    assert_eq!(rt; receive(&mut conn, &mut buf), Received::Got(3));
+    assert!(rt; hears(&mut conn, b"ask"));
+    let mut buf = [0; 16];
     assert_eq!(rt; conn.receive(&mut buf), Received::Idle);
     assert_eq!(rt; receive(&mut conn, &mut buf), Received::Failed);
     Ok(())
+}
+
+// A client that asks, and then sends nothing more.
+fn ask_once(rt: &HostRuntime, server: SocketAddr) -> Result<TcpStream, Fail> {
+    let mut client = TcpStream::connect(rt, server)?;
+    client.write_all(b"ask")?;
+    client.shutdown(Shutdown::Write)?;
+    Ok(client)
 }
 
 #[test]
 fn a_client_that_left_is_dropped(rt: HostRuntime) -> Result<(), Fail> {
     let (mut doors, rtsp, _) = open_doors(rt, 60, 0)?;
     drop(TcpStream::connect(&rt, rtsp)?);
-    let mut client = TcpStream::connect(&rt, rtsp)?;
-    client.write_all(b"ask")?;
-    client.shutdown(Shutdown::Write)?;
+    let _client = ask_once(&rt, rtsp)?;
     let (_, _, mut conn) = next_client(&mut doors)?;
-    let mut buf = [0; 16];
-    assert_eq!(rt; receive(&mut conn, &mut buf), Received::Got(3));
-    assert_eq!(rt; receive(&mut conn, &mut buf), Received::End);
+    assert!(rt; hears(&mut conn, b"ask"));
+    assert_eq!(rt; receive(&mut conn, &mut [0; 16]), Received::End);
     assert!(rt; are_idle(&mut doors));
     Ok(())
 }
@@ -216,9 +267,8 @@ fn reply_after_a_megabyte(client: TcpStream) -> bool {
 
 #[test]
 fn a_client_that_still_sends_gets_its_last_reply(rt: HostRuntime) -> Result<(), Fail> {
-    let (mut doors, rtsp, _) = open_doors(rt, 60, 0)?;
-    let client = TcpStream::connect(&rt, rtsp)?;
-    let (kind, peer, mut conn) = next_client(&mut doors)?;
+    let (mut doors, client, came) = meet(rt, 60)?;
+    let (kind, peer, mut conn) = came;
     let asker = thread::spawn(&rt, move || reply_after_a_megabyte(client))?;
     assert_eq!(rt; receive(&mut conn, &mut [0; 16]), Received::Got(16));
     assert_eq!(rt; conn.send(b"413"), Put::Whole);
@@ -248,18 +298,35 @@ pub(crate) fn listen(rt: &HostRuntime, rtsp_port: u16, http_port: u16) -> Result
     }
 }
 
-// A socket of a client, at any port.
-pub(crate) fn client(rt: &HostRuntime) -> Result<(UdpSocket, u16), Fail> {
-    let socket = UdpSocket::bind(rt, SocketAddr::from((Ipv4Addr::LOCALHOST, 0)))?;
+// A socket of a client at this port, or at any where it is 0.
+fn client_at(rt: &HostRuntime, port: u16) -> Result<UdpSocket, Fail> {
+    let socket = UdpSocket::bind(rt, SocketAddr::from((Ipv4Addr::LOCALHOST, port)))?;
     socket.set_read_timeout(Some(Duration::from_secs(5)))?;
+    Ok(socket)
+}
+
+// A socket of a client, and its port.
+pub(crate) fn client(rt: &HostRuntime) -> Result<(UdpSocket, u16), Fail> {
+    let socket = client_at(rt, 0)?;
     let port = socket.local_addr()?.port();
     Ok((socket, port))
 }
 
+// Whether just this text is the next datagram that comes.
+fn comes(socket: &UdpSocket, text: &[u8]) -> Result<bool, Fail> {
+    let mut buf = [0; 16];
+    let (count, _) = socket.recv_from(&mut buf)?;
+    Ok(count == text.len() && buf.starts_with(text))
+}
+
+// The socket of a server, which its outlets share.
+fn bind(rt: HostRuntime) -> Result<Arc<SharedSocket>, Fail> {
+    Ok(Arc::new(rt.alloc(), SharedSocket::bind(rt, LOCALHOST)?)?)
+}
+
 // The only outlet of a server.
 fn open_outlet<R: Wait + Drop>(host: HostRuntime, rt: R) -> Result<RealOutlet<R>, Fail> {
-    let shared = Arc::new(host.alloc(), SharedSocket::bind(host, LOCALHOST)?)?;
-    Ok(RealOutlet::new(rt, shared))
+    Ok(RealOutlet::new(rt, bind(host)?))
 }
 
 #[test]
@@ -268,9 +335,7 @@ fn a_datagram_arrives(rt: HostRuntime) -> Result<(), Fail> {
     let (socket, port) = client(&rt)?;
     assert_eq!(rt; post(&mut outlet, port, b"abc"), Put::Whole);
     assert_eq!(rt; post(&mut outlet, port, &[0; 65536]), Put::Failed);
-    let mut buf = [0; 16];
-    assert_eq!(rt; socket.recv_from(&mut buf)?.0, 3);
-    assert!(rt; buf.starts_with(b"abc"));
+    assert!(rt; comes(&socket, b"abc")?);
     Ok(())
 }
 
@@ -280,32 +345,32 @@ fn a_datagram_after_a_refused_one_arrives(rt: HostRuntime) -> Result<(), Fail> {
     let (socket, port) = client(&rt)?;
     drop(socket);
     assert_eq!(rt; post(&mut outlet, port, b"lost"), Put::Whole);
-    let socket = UdpSocket::bind(&rt, SocketAddr::from((Ipv4Addr::LOCALHOST, port)))?;
-    socket.set_read_timeout(Some(Duration::from_secs(5)))?;
+    let socket = client_at(&rt, port)?;
     assert_eq!(rt; post(&mut outlet, port, b"abc"), Put::Whole);
-    let mut buf = [0; 16];
-    assert_eq!(rt; socket.recv_from(&mut buf)?.0, 3);
+    assert!(rt; comes(&socket, b"abc")?);
     Ok(())
+}
+
+// So many clients, with their ports.
+fn clients(rt: &HostRuntime, count: u32) -> Result<Vec<(UdpSocket, u16)>, Fail> {
+    let mut clients = Vec::new(rt.alloc());
+    for _ in 0..count {
+        clients.push(client(rt)?)?;
+    }
+    Ok(clients)
 }
 
 #[test]
 fn more_destinations_than_sockets_are_sent_to(rt: HostRuntime) -> Result<(), Fail> {
     let mut outlet = open_outlet(rt, rt)?;
-    let mut clients = Vec::new(rt.alloc());
-    for _ in 0..130 {
-        clients.push(client(&rt)?)?;
-    }
+    let clients = clients(&rt, 130)?;
     for text in [b"a", b"b"] {
         for (_, port) in &clients {
             assert_eq!(rt; post(&mut outlet, *port, text), Put::Whole);
         }
     }
-    let mut buf = [0; 16];
     for (socket, _) in &clients {
-        for text in [b"a", b"b"] {
-            assert_eq!(rt; socket.recv_from(&mut buf)?.0, 1);
-            assert!(rt; buf.starts_with(text));
-        }
+        assert!(rt; comes(socket, b"a")? && comes(socket, b"b")?);
     }
     Ok(())
 }
@@ -322,10 +387,17 @@ fn send_counts<R: Wait + Drop>(rt: R, shared: Arc<SharedSocket>, begun: Arc<Atom
     }
 }
 
+// The next count that comes, with its length.
+fn next_count(socket: &UdpSocket) -> Result<(usize, u64), Fail> {
+    let mut buf = [0; 8];
+    let (length, _) = socket.recv_from(&mut buf)?;
+    Ok((length, u64::from_be_bytes(buf)))
+}
+
 #[test]
 fn datagrams_of_three_threads_leave_in_order(rt: HostRuntime) -> Result<(), Fail> {
     let alloc = rt.alloc();
-    let shared = Arc::new(alloc, SharedSocket::bind(rt, LOCALHOST)?)?;
+    let shared = bind(rt)?;
     let begun = Arc::new(alloc, AtomicU64::new(0))?;
     let (socket, port) = client(&rt)?;
     let mut senders = Vec::new(alloc);
@@ -333,10 +405,8 @@ fn datagrams_of_three_threads_leave_in_order(rt: HostRuntime) -> Result<(), Fail
         let (shared, begun) = (Arc::try_clone(&shared)?, Arc::try_clone(&begun)?);
         senders.push(thread::spawn(&rt, move || send_counts(rt, shared, begun, port))?)?;
     }
-    let mut buf = [0; 8];
     for place in 0..120u64 {
-        assert_eq!(rt; socket.recv_from(&mut buf)?.0, 8);
-        assert_eq!(rt; u64::from_be_bytes(buf), place);
+        assert_eq!(rt; next_count(&socket)?, (8, place));
     }
     for sender in senders {
         sender.join(&rt);
@@ -404,7 +474,7 @@ fn no_step_of_the_wall_clock_moves_the_session_clock(rt: HostRuntime) {
 }
 
 // What a clock shows before and behind a pause of 20 ms.
-fn read_around_a_pause<C: Clock>(rt: HostRuntime, clock: &mut C) -> (u64, u64) {
+fn read_around_a_pause(rt: HostRuntime, clock: &mut RealClock) -> (u64, u64) {
     let before = clock.now();
     thread::sleep(&rt, Duration::from_millis(20));
     (before, clock.now())
@@ -477,8 +547,10 @@ fn a_send_goes_on_while_its_client_takes_bytes(rt: HostRuntime) {
             taken: 0,
         };
         let sent = send_all(&mut reader, &[0, 1, 2, 3, 4]);
-        assert_eq!(rt; sent.is_ok(), whole, "each behind {every} waits");
-        assert_eq!(rt; reader.taken, taken, "each behind {every} waits");
-        assert_eq!(rt; reader.rests, rests, "each behind {every} waits");
+        assert_eq!(rt;
+            (sent.is_ok(), reader.taken, reader.rests),
+            (whole, taken, rests),
+            "each behind {every} waits"
+        );
     }
 }

@@ -1,12 +1,11 @@
 //! Recordings, their clocks and the pauses that follow them.
 
+use crate::network::start;
 use satip_base::{Source, Taken, Text};
 use satip_recordings::*;
-use satip_report::{Start, Starts};
 use satip_ts::Packet;
 use satip_world::{MuxStore, Pacer};
 use std::io::Write;
-use std::process::Abort;
 use std::sync::Arc;
 use std::test::Fail;
 use std::time::Instant;
@@ -33,21 +32,44 @@ fn packet_at(ticks: u64) -> Option<Packet> {
     packet_with([0x10, base[3], base[4], base[5], base[6], base[7] | 0x7e, 0])
 }
 
+// A packet with this reference, or without one.
+fn packet_of(ticks: Option<u64>) -> Option<Packet> {
+    match ticks {
+        Some(ticks) => packet_at(ticks),
+        None => plain_packet(),
+    }
+}
+
 #[test]
-fn references_are_read(rt: HostRuntime) -> Result<(), Fail> {
-    // FFmpeg's first reference of a new recording is at 0.7 s.
-    let first = packet_with([0x50, 0x00, 0x00, 0x7b, 0x0c, 0x7e, 0x00]).ok_or("packet")?;
-    assert_eq!(rt; reference_of(&first), Some(18_900_000));
-    assert!(rt; !breaks(&first));
-    // All 33 bits of the base, and an extension of 299.
-    let last = packet_with([0x90, 0xff, 0xff, 0xff, 0xff, 0xff, 0x2b]).ok_or("packet")?;
-    assert_eq!(rt; reference_of(&last), Some(2_576_980_377_599));
-    assert!(rt; breaks(&last));
-    let unflagged = packet_with([0x40, 0x00, 0x00, 0x7b, 0x0c, 0x7e, 0x00]).ok_or("packet")?;
-    assert_eq!(rt; reference_of(&unflagged), None);
-    let plain = plain_packet().ok_or("packet")?;
-    assert_eq!(rt; reference_of(&plain), None);
-    assert!(rt; !breaks(&plain));
+fn references_and_breaks_are_read(rt: HostRuntime) -> Result<(), Fail> {
+    for (field, reference, broken) in [
+        // FFmpeg's first reference of a new recording is at 0.7 s.
+        (
+            [0x50, 0x00, 0x00, 0x7b, 0x0c, 0x7e, 0x00],
+            Some(18_900_000),
+            false,
+        ),
+        // All 33 bits of the base, and an extension of 299.
+        (
+            [0x90, 0xff, 0xff, 0xff, 0xff, 0xff, 0x2b],
+            Some(2_576_980_377_599),
+            true,
+        ),
+        // The flag of a reference isn't set.
+        ([0x40, 0x00, 0x00, 0x7b, 0x0c, 0x7e, 0x00], None, false),
+    ] {
+        let packet = packet_with(field).ok_or("packet")?;
+        assert_eq!(rt; reference_of(&packet), reference, "{field:?}");
+        assert_eq!(rt; breaks(&packet), broken, "{field:?}");
+    }
+    Ok(())
+}
+
+#[test]
+fn a_packet_without_a_field_has_no_reference(rt: HostRuntime) -> Result<(), Fail> {
+    let packet = plain_packet().ok_or("packet")?;
+    assert_eq!(rt; reference_of(&packet), None);
+    assert!(rt; !breaks(&packet));
     Ok(())
 }
 
@@ -76,45 +98,43 @@ fn the_clock_begins_anew_after_33_bits(rt: HostRuntime) {
     assert_eq!(rt; ticks_between(27_000_000, 0), 2_576_953_377_600);
 }
 
-// Reads a packet. Whether the clock has a break there.
-fn read(clock: &mut RecordingClock, packet: Option<Packet>) -> Result<bool, Fail> {
-    match packet {
-        Some(packet) => Ok(clock.read(&packet)),
-        None => Err(Fail::from("packet")),
-    }
-}
-
 #[test]
 fn a_recordings_clock_goes_on_between_references(rt: HostRuntime) -> Result<(), Fail> {
     let mut clock = RecordingClock::new();
-    assert!(rt; !read(&mut clock, plain_packet())?);
-    assert!(rt; !read(&mut clock, packet_at(300))?);
-    assert_eq!(rt; clock.micros(), None);
-    for _ in 0..3 {
-        assert!(rt; !read(&mut clock, plain_packet())?);
+    // Each packet's reference, whether the clock has a break there, and what it shows behind it.
+    for (ticks, broken, micros) in [
+        (None, false, None),
+        (Some(300), false, None),
+        (None, false, None),
+        (None, false, None),
+        (None, false, None),
+        // 40 ms behind the first, four packets later.
+        (Some(1_080_300), false, Some(40_000)),
+        (None, false, Some(50_000)),
+        // A jump of more than a second, and one back.
+        (Some(28_080_600), true, Some(0)),
+        (Some(300), true, Some(0)),
+        (Some(27_000_300), false, Some(1_000_000)),
+    ] {
+        let packet = packet_of(ticks).ok_or("packet")?;
+        assert_eq!(rt; clock.read(&packet), broken, "at {ticks:?}");
+        assert_eq!(rt; clock.micros(), micros, "at {ticks:?}");
     }
-    // 40 ms behind the first, four packets later.
-    assert!(rt; !read(&mut clock, packet_at(1_080_300))?);
-    assert_eq!(rt; clock.micros(), Some(40_000));
-    assert!(rt; !read(&mut clock, plain_packet())?);
-    assert_eq!(rt; clock.micros(), Some(50_000));
-    // A jump of more than a second, and one back.
-    assert!(rt; read(&mut clock, packet_at(28_080_600))?);
-    assert_eq!(rt; clock.micros(), Some(0));
-    assert!(rt; read(&mut clock, packet_at(300))?);
-    assert!(rt; !read(&mut clock, packet_at(27_000_300))?);
-    assert_eq!(rt; clock.micros(), Some(1_000_000));
     Ok(())
 }
 
 #[test]
 fn a_pause_ends_when_it_is_due(rt: HostRuntime) {
-    assert_eq!(rt; pause_until(5_000, 2_000), Some(3_000));
-    assert_eq!(rt; pause_until(5_000, 4_500), Some(1_000));
-    assert_eq!(rt; pause_until(5_000, 900_000), Some(1_000));
-    assert_eq!(rt; pause_until(1_005_000, 5_000), Some(1_000_000));
-    assert_eq!(rt; pause_until(1_005_001, 5_000), None);
-    assert_eq!(rt; pause_until(0, 1_000_001), None);
+    for (due, now, micros) in [
+        (5_000, 2_000, Some(3_000)),
+        (5_000, 4_500, Some(1_000)),
+        (5_000, 900_000, Some(1_000)),
+        (1_005_000, 5_000, Some(1_000_000)),
+        (1_005_001, 5_000, None),
+        (0, 1_000_001, None),
+    ] {
+        assert_eq!(rt; pause_until(due, now), micros, "{due} at {now}");
+    }
 }
 
 // A file for this test, which goes when it is dropped.
@@ -141,12 +161,20 @@ fn scratch_file(rt: HostRuntime, word: &str, bytes: &[u8]) -> Result<Scratch, Fa
     Ok(Scratch { rt, name })
 }
 
-// A store of one recording, in the file of this name.
-fn store(rt: HostRuntime, file: &Scratch, playing: Playing) -> Result<RealStore, Fail> {
+// A store of the recordings in files of these names.
+fn store_of(rt: HostRuntime, names: &[&str], playing: Playing) -> Result<RealStore, Fail> {
     let alloc = rt.alloc();
     let mut files = Vec::new(alloc);
-    files.push(Text::of(alloc, str::from_utf8(file.name.bytes()).unwrap_or(""))?)?;
+    for name in names {
+        files.push(Text::of(alloc, name)?)?;
+    }
     Ok(RealStore::new(rt, Arc::new(alloc, files)?, playing))
+}
+
+// A store of one recording, in this file.
+fn store(rt: HostRuntime, file: &Scratch, playing: Playing) -> Result<RealStore, Fail> {
+    let name = str::from_utf8(file.name.bytes()).unwrap_or("");
+    store_of(rt, &[name], playing)
 }
 
 // One that ends, or begins anew at its end.
@@ -158,7 +186,7 @@ fn playing(repeats: bool) -> Playing {
 }
 
 // Begins the recording of the first multiplex.
-fn begin<M: MuxStore>(store: &mut M) -> Result<M::From, Fail> {
+fn begin(store: &mut RealStore) -> Result<RealRecording, Fail> {
     match store.start(1) {
         Ok(from) => Ok(from),
         Err(_) => Err(Fail::from("no recording")),
@@ -166,7 +194,7 @@ fn begin<M: MuxStore>(store: &mut M) -> Result<M::From, Fail> {
 }
 
 // Whether a multiplex has no recording.
-fn has_none<M: MuxStore>(store: &mut M, mux: u16) -> bool {
+fn has_none(store: &mut RealStore, mux: u16) -> bool {
     store.start(mux).is_err()
 }
 
@@ -188,15 +216,19 @@ fn packets_file(rt: HostRuntime, word: &str, count: u8) -> Result<Scratch, Fail>
     scratch_file(rt, word, &bytes)
 }
 
-// Takes the bytes of two packets whose marks are 0 and 1, and the end twice.
-fn take_two_packets<F: Source>(rt: &impl Abort, from: &mut F) {
+// What four takes of at most 200 bytes bring; and the bytes at 0, 187 and 188 of the first, and at
+// 175 of the second.
+fn take_four(from: &mut RealRecording) -> ([Taken; 4], [u8; 4]) {
     let mut buf = [9; 200];
-    assert_eq!(*rt; from.take(&mut buf), Taken::Got(200));
-    assert!(*rt; buf[0] == 0x47 && buf[187] == 0 && buf[188] == 0x47);
-    assert_eq!(*rt; from.take(&mut buf), Taken::Got(176));
-    assert_eq!(*rt; buf[175], 1);
-    assert_eq!(*rt; from.take(&mut buf), Taken::End);
-    assert_eq!(*rt; from.take(&mut buf), Taken::End);
+    let first = from.take(&mut buf);
+    let (head, mark, next_head) = (buf[0], buf[187], buf[188]);
+    let second = from.take(&mut buf);
+    let next_mark = buf[175];
+    let (third, fourth) = (from.take(&mut buf), from.take(&mut buf));
+    (
+        [first, second, third, fourth],
+        [head, mark, next_head, next_mark],
+    )
 }
 
 #[test]
@@ -204,39 +236,54 @@ fn a_recording_is_read_from_its_file(rt: HostRuntime) -> Result<(), Fail> {
     let file = packets_file(rt, "plain", 2)?;
     let mut store = store(rt, &file, playing(false))?;
     assert_eq!(rt; store.length(1).ok(), Some(479));
-    take_two_packets(&rt, &mut begin(&mut store)?);
+    let (taken, bytes) = take_four(&mut begin(&mut store)?);
+    let wanted = [Taken::Got(200), Taken::Got(176), Taken::End, Taken::End];
+    assert_eq!(rt; taken, wanted);
+    assert_eq!(rt; bytes, [0x47, 0, 0x47, 1]);
     Ok(())
+}
+
+// How many sources a store lends while one is out, and when it is back.
+fn lend_one(store: &mut RealStore) -> Result<[u64; 2], Fail> {
+    let from = begin(store)?;
+    let out = store.lent();
+    store.back(from);
+    Ok([out, store.lent()])
 }
 
 #[test]
 fn a_store_counts_what_it_lends(rt: HostRuntime) -> Result<(), Fail> {
     let file = packets_file(rt, "lent", 1)?;
     let mut store = store(rt, &file, playing(false))?;
-    let from = begin(&mut store)?;
-    assert_eq!(rt; store.lent(), 1);
-    store.back(from);
-    assert_eq!(rt; store.lent(), 0);
+    assert_eq!(rt; lend_one(&mut store)?, [1, 0]);
     for mux in [0, 2] {
-        assert!(rt; has_none(&mut store, mux), "at {mux}");
-        assert_eq!(rt; store.lent(), 0, "at {mux}");
+        assert!(rt; has_none(&mut store, mux) && store.lent() == 0, "at {mux}");
     }
     assert_eq!(rt; store.peak(), 1);
     Ok(())
 }
 
+// Why the length of a recording can't be told.
+fn length_fault(store: &RealStore, mux: u16) -> &'static str {
+    match store.length(mux) {
+        Ok(_) => "none",
+        Err(RecordingFault::Unnamed) => "unnamed",
+        Err(RecordingFault::Irregular) => "irregular",
+        Err(RecordingFault::Open(_)) => "open",
+    }
+}
+
 #[test]
 fn only_regular_files_are_recordings(rt: HostRuntime) -> Result<(), Fail> {
-    let alloc = rt.alloc();
-    let mut files = Vec::new(alloc);
-    for name in ["/", "/dev/zero", "no/such/recording.ts"] {
-        files.push(Text::of(alloc, name)?)?;
-    }
-    let mut store = RealStore::new(rt, Arc::new(alloc, files)?, playing(false));
-    assert!(rt; matches!(store.length(1), Err(RecordingFault::Irregular)));
-    assert!(rt; matches!(store.length(2), Err(RecordingFault::Irregular)));
-    assert!(rt; matches!(store.length(3), Err(RecordingFault::Open(_))));
-    assert!(rt; matches!(store.length(4), Err(RecordingFault::Unnamed)));
-    for mux in 1..5 {
+    let names = ["/", "/dev/zero", "no/such/recording.ts"];
+    let mut store = store_of(rt, &names, playing(false))?;
+    for (mux, fault) in [
+        (1, "irregular"),
+        (2, "irregular"),
+        (3, "open"),
+        (4, "unnamed"),
+    ] {
+        assert_eq!(rt; length_fault(&store, mux), fault, "at {mux}");
         assert!(rt; has_none(&mut store, mux), "at {mux}");
     }
     Ok(())
@@ -265,7 +312,7 @@ fn a_recording_without_packets_ends(rt: HostRuntime) -> Result<(), Fail> {
 }
 
 // Pauses so often; the milliseconds that this takes.
-fn time_pauses<P: Pacer>(rt: HostRuntime, pacer: &mut P, count: u32) -> Result<u64, Fail> {
+fn time_pauses(rt: HostRuntime, pacer: &mut RealPacer, count: u32) -> Result<u64, Fail> {
     let begin = Instant::now(&rt)?;
     for _ in 0..count {
         pacer.pause();
@@ -273,21 +320,27 @@ fn time_pauses<P: Pacer>(rt: HostRuntime, pacer: &mut P, count: u32) -> Result<u
     Ok(u64::try_from(begin.elapsed(&rt)?.as_millis()).unwrap_or(0))
 }
 
+// Takes 64 packets.
+fn take_burst(from: &mut RealRecording, buf: &mut [u8; 3760]) -> Result<(), Fail> {
+    for _ in 0..4 {
+        if from.take(buf) != Taken::Got(3008) {
+            return Err(Fail::from("no piece"));
+        }
+    }
+    Ok(())
+}
+
 // Takes 64 packets and pauses, as a pump does, so often; the milliseconds that this takes.
-fn time_bursts<F: Source, P: Pacer>(
+fn time_bursts(
     rt: HostRuntime,
-    from: &mut F,
-    pacer: &mut P,
+    from: &mut RealRecording,
+    pacer: &mut RealPacer,
     bursts: u32,
 ) -> Result<u64, Fail> {
     let mut buf = [0; 3760];
     let begin = Instant::now(&rt)?;
     for _ in 0..bursts {
-        for _ in 0..4 {
-            if from.take(&mut buf) != Taken::Got(3008) {
-                return Err(Fail::from("no piece"));
-            }
-        }
+        take_burst(from, &mut buf)?;
         pacer.pause();
     }
     Ok(u64::try_from(begin.elapsed(&rt)?.as_millis()).unwrap_or(0))
@@ -308,23 +361,23 @@ fn clocked(rt: HostRuntime, count: u64, step: u64) -> Result<Vec<u8>, Fail> {
     Ok(bytes)
 }
 
-// The start of a server's one job.
-fn start(rt: HostRuntime) -> Result<Start, Fail> {
-    let starts = Arc::new(rt.alloc(), Starts::expect(1))?;
-    Ok(Start::counting(&starts)?)
+// A recording, and a pacer that follows it.
+fn followed(rt: HostRuntime, file: &Scratch) -> Result<(RealRecording, RealPacer), Fail> {
+    let progress = Arc::new(rt.alloc(), Progress::new())?;
+    let pacer = RealPacer::following(rt, start(rt)?, Arc::try_clone(&progress)?);
+    let playing = Playing {
+        repeats: false,
+        progress: Some(progress),
+    };
+    let from = begin(&mut store(rt, file, playing)?)?;
+    Ok((from, pacer))
 }
 
 // The milliseconds that ten bursts of a recording take, with a reference each `step` ticks, and
 // those of a pause behind them, in which nothing is read.
 fn time_recording(rt: HostRuntime, word: &str, step: u64) -> Result<(u64, u64), Fail> {
     let file = scratch_file(rt, word, &clocked(rt, 640, step)?)?;
-    let progress = Arc::new(rt.alloc(), Progress::new())?;
-    let mut pacer = RealPacer::following(rt, start(rt)?, Arc::try_clone(&progress)?);
-    let playing = Playing {
-        repeats: false,
-        progress: Some(progress),
-    };
-    let mut from = begin(&mut store(rt, &file, playing)?)?;
+    let (mut from, mut pacer) = followed(rt, &file)?;
     let bursts_ms = time_bursts(rt, &mut from, &mut pacer, 10)?;
     Ok((bursts_ms, time_pauses(rt, &mut pacer, 1)?))
 }

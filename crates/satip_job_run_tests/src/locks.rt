@@ -12,7 +12,6 @@ use satip_solo::Solo;
 use satip_worker::{Draws, Room, WorkerEnd, WorkerKit, run_worker, serve_connection};
 use satip_world::{Conn, ConnEnd, DoorKind, Outlet, Received};
 use std::alloc::Global;
-use std::process::Abort;
 use std::sync::Wait;
 use std::sync::atomic::{AtomicU64, Ordering};
 use std::test::Fail;
@@ -56,6 +55,11 @@ impl Tally {
     fn astray(&self) -> u64 {
         self.astray.load(Ordering::SeqCst)
     }
+
+    // The locks, the unlocks, the datagrams, and those that were sent without one lock.
+    fn counts(&self) -> [u64; 4] {
+        [self.locks(), self.unlocks(), self.sent(), self.astray()]
+    }
 }
 
 #[derive(Drop)]
@@ -97,44 +101,62 @@ fn outlet<'a>(alloc: Global, tally: &'a Tally) -> Result<CountedOutlet<'a>, Fail
     })
 }
 
-// A worker with one connection, which sets up and plays.
+// Doors by which one connection comes, which sets up and plays.
+fn doors(alloc: Global) -> Result<MemoryDoors, Fail> {
+    let text = joined(alloc, &[SETUP, PLAY])?;
+    let conn = MemoryConn::make(alloc, &[&text], &[], &[], 0)?;
+    let mut doors = MemoryDoors::make(alloc, 1, &[], &[])?;
+    doors.add(DoorKind::Rtsp, CLIENT, conn)?;
+    Ok(doors)
+}
+
+// A worker with one connection.
 fn work<R: Wait + Sync>(
     rt: &R,
     alloc: Global,
     solo: &mut Solo,
     tally: &Tally,
 ) -> Result<WorkerEnd, Fail> {
-    let text = joined(alloc, &[SETUP, PLAY])?;
-    let mut doors = MemoryDoors::make(alloc, 1, &[], &[])?;
-    let conn = MemoryConn::make(alloc, &[&text], &[], &[], 0)?;
-    doors.add(DoorKind::Rtsp, CLIENT, conn)?;
+    let mut room = Room::make(alloc)?;
     let mut kit = WorkerKit {
-        doors,
+        doors: doors(alloc)?,
         outlet: outlet(alloc, tally)?,
         pacer: MemoryPacer::new(),
         key: KEY,
     };
-    let mut room = Room::make(alloc)?;
     Ok(run_worker(rt, solo, &mut kit, 0, &mut room))
 }
 
-// A pump with a recording of seven packets.
+// A store with a recording of seven packets.
+fn store(alloc: Global) -> Result<MemoryStore, Fail> {
+    let text = repeated(alloc, &[(packet_bytes(16).as_slice(), 7)])?;
+    let mut store = MemoryStore::make(alloc, &[])?;
+    store.add(1, &text, &[], &[])?;
+    Ok(store)
+}
+
+type CountedPump<'a> = PumpKit<MemoryStore, CountedOutlet<'a>, MemoryPacer>;
+
+fn pump_kit<'a>(alloc: Global, tally: &'a Tally) -> Result<CountedPump<'a>, Fail>
+    ensures free { IfOk result (λ kit. kit.outlet.outlet.held ≡ false) }
+{
+    Ok(PumpKit {
+        store: store(alloc)?,
+        outlet: outlet(alloc, tally)?,
+        pacer: MemoryPacer::new(),
+    })
+}
+
+// A pump with the recording.
 fn pump<R: Wait + Sync>(
     rt: &R,
     alloc: Global,
     solo: &mut Solo,
     tally: &Tally,
 ) -> Result<JobEnd, Fail> {
-    let text = repeated(alloc, &[(packet_bytes(16).as_slice(), 7)])?;
-    let mut store = MemoryStore::make(alloc, &[])?;
-    store.add(1, &text, &[], &[])?;
-    let mut kit = PumpKit {
-        store,
-        outlet: outlet(alloc, tally)?,
-        pacer: MemoryPacer::new(),
-    };
     let mut out = Out::make(alloc)?;
     let mut batch = Batch::make(alloc)?;
+    let mut kit = pump_kit(alloc, tally)?;
     Ok(run_pump(rt, solo, 1, &mut kit, &mut out, &mut batch))
 }
 
@@ -145,21 +167,26 @@ fn tick<R: Wait + Sync>(
     solo: &mut Solo,
     tally: &Tally,
 ) -> Result<JobEnd, Fail> {
+    let mut out = Out::make(alloc)?;
     let mut kit = TickKit {
         clock: MemoryClock::make(alloc, &[1000])?,
         outlet: outlet(alloc, tally)?,
         pacer: MemoryPacer::new(),
     };
-    let mut out = Out::make(alloc)?;
     Ok(run_ticker(rt, solo, &mut kit, &mut out))
 }
 
-// Compares the counts of seven locks and two datagrams.
-fn is_tallied(rt: &impl Abort, tally: &Tally) {
-    assert_eq!(rt; tally.locks(), 7);
-    assert_eq!(rt; tally.unlocks(), 7);
-    assert_eq!(rt; tally.sent(), 2);
-    assert_eq!(rt; tally.astray(), 0);
+// The worker, the pump and the ticker, one after another: how they ended.
+fn run_jobs<R: Wait + Sync>(
+    rt: &R,
+    alloc: Global,
+    solo: &mut Solo,
+    tally: &Tally,
+) -> Result<(WorkerEnd, JobEnd, JobEnd), Fail> {
+    let worked = work(rt, alloc, solo, tally)?;
+    let pumped = pump(rt, alloc, solo, tally)?;
+    let ticked = tick(rt, alloc, solo, tally)?;
+    Ok((worked, pumped, ticked))
 }
 
 // Two requests, four calls of the pump and a tick, each under a lock of its own; the seven packets
@@ -169,12 +196,11 @@ fn three_jobs_lock_for_each_event(rt: HostRuntime) -> Result<(), Fail> {
     let alloc = rt.alloc();
     let tally = Tally::new();
     let mut solo = solo(alloc, Some(11))?;
-    assert!(rt; work(&rt, alloc, &mut solo, &tally)? == WorkerEnd::Closed);
-    assert_eq!(rt; pump(&rt, alloc, &mut solo, &tally)?, JobEnd::Stopped);
-    assert_eq!(rt; tick(&rt, alloc, &mut solo, &tally)?, JobEnd::Stopped);
+    let ends = run_jobs(&rt, alloc, &mut solo, &tally)?;
     let kinds = letters(alloc, &solo)?;
+    assert!(rt; ends == (WorkerEnd::Closed, JobEnd::Stopped, JobEnd::Stopped));
     assert_eq!(rt; kinds.as_slice(), b"RRAPPPPPPPESAT".as_slice());
-    is_tallied(&rt, &tally);
+    assert_eq!(rt; tally.counts(), [7, 7, 2, 0]);
     Ok(())
 }
 
@@ -201,15 +227,14 @@ impl<'a> Conn for NotingConn<'a> {
     }
 }
 
-// Sets up and plays, and gives three packets, which are held.
-fn play_three(rt: &impl Abort, alloc: Global, solo: &mut Solo) -> Result<(), Fail> {
+// Sets up and plays, and gives three packets, which are held: the statuses of both replies.
+fn play_three(alloc: Global, solo: &mut Solo) -> Result<[u16; 2], Fail> {
     let mut out = Out::make(alloc)?;
-    assert_eq!(rt; set_up(solo, &mut out)?, 200);
-    assert_eq!(rt; play(solo, &mut out)?, 200);
+    let statuses = [set_up(solo, &mut out)?, play(solo, &mut out)?];
     for _ in 0..3u8 {
         give(solo, &mut out)?;
     }
-    Ok(())
+    Ok(statuses)
 }
 
 // Serves a connection, and tallies what leaves.
@@ -220,11 +245,11 @@ fn serve<R: Wait + Sync>(
     conn: &mut NotingConn,
     tally: &Tally,
 ) -> Result<ConnEnd, Fail> {
-    let mut outlet = outlet(alloc, tally)?;
     let mut room = Room::make(alloc)?;
+    let mut outlet = outlet(alloc, tally)?;
     let mut draws = Draws::make(&KEY, 0);
     let mut pacer = MemoryPacer::new();
-    let end = serve_connection(
+    Ok(serve_connection(
         rt,
         solo,
         DoorKind::Rtsp,
@@ -234,8 +259,23 @@ fn serve<R: Wait + Sync>(
         &mut pacer,
         &mut draws,
         &mut room,
-    );
-    Ok(end)
+    ))
+}
+
+// Serves a connection with a TEARDOWN: how it ended, and how many datagrams had left at its reply.
+fn tear_down<R: Wait + Sync>(
+    rt: &R,
+    alloc: Global,
+    solo: &mut Solo,
+    tally: &Tally,
+) -> Result<(ConnEnd, u64), Fail> {
+    let mut conn = NotingConn {
+        conn: MemoryConn::make(alloc, &[TEARDOWN], &[], &[], 0)?,
+        tally,
+        before: 0,
+    };
+    let end = serve(rt, alloc, solo, &mut conn, tally)?;
+    Ok((end, conn.before))
 }
 
 // The packets that a session holds leave before the reply to its TEARDOWN.
@@ -243,16 +283,10 @@ fn serve<R: Wait + Sync>(
 fn a_reply_follows_the_datagrams_of_its_request(rt: HostRuntime) -> Result<(), Fail> {
     let alloc = rt.alloc();
     let tally = Tally::new();
-    let mut conn = NotingConn {
-        conn: MemoryConn::make(alloc, &[TEARDOWN], &[], &[], 0)?,
-        tally: &tally,
-        before: 0,
-    };
     let mut solo = solo(alloc, None)?;
-    play_three(&rt, alloc, &mut solo)?;
-    let end = serve(&rt, alloc, &mut solo, &mut conn, &tally)?;
-    assert!(rt; end == ConnEnd::Done);
+    assert_eq!(rt; play_three(alloc, &mut solo)?, [200, 200]);
+    let seen = tear_down(&rt, alloc, &mut solo, &tally)?;
+    assert!(rt; seen == (ConnEnd::Done, 1));
     assert_eq!(rt; tally.sent(), 1);
-    assert_eq!(rt; conn.before, 1);
     Ok(())
 }

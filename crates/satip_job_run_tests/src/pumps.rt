@@ -11,7 +11,6 @@ use satip_pump::{Batch, JobEnd, PumpKit, run_pump};
 use satip_run_fixtures::setting::{ask, end, give, letters, set_up, solo};
 use satip_solo::Solo;
 use std::alloc::Global;
-use std::process::Abort;
 use std::sync::Wait;
 use std::test::Fail;
 
@@ -90,16 +89,8 @@ fn answer_at(solo: &Solo, place: usize) -> Option<Answer> {
     solo.entries().get(place).map(|entry| entry.answer)
 }
 
-// Runs a pump over a service.
-fn pump<R: Wait + Sync>(
-    rt: &R,
-    alloc: Global,
-    solo: &mut Solo,
-    mut kit: Kit,
-) -> Result<Pumped, Fail>
-    requires free { kit.outlet.held ≡ false }
-{
-    let end = run(rt, alloc, solo, &mut kit)?;
+// What a pump that ended came to.
+fn outcome(alloc: Global, solo: &Solo, kit: &Kit, end: JobEnd) -> Result<Pumped, Fail> {
     let kinds = letters(alloc, solo)?;
     let last = answer_at(solo, kinds.len().saturating_sub(1));
     Ok(Pumped {
@@ -111,13 +102,17 @@ fn pump<R: Wait + Sync>(
     })
 }
 
-// Runs a pump over a service whose call 0 was the SETUP, with a Stop before the call of this
-// number.
-fn pump_tuned<R: Wait + Sync>(rt: &R, alloc: Global, stop: u64, kit: Kit) -> Result<Pumped, Fail>
-    requires free { kit.outlet.held ≡ false }
+// Runs a pump over a service.
+fn pump<R: Wait + Sync>(
+    rt: &R,
+    alloc: Global,
+    solo: &mut Solo,
+    kit: &mut Kit,
+) -> Result<Pumped, Fail>
+    requires free { kit.old.outlet.held ≡ false }
 {
-    let mut solo = tuned(alloc, stop)?;
-    pump(rt, alloc, &mut solo, kit)
+    let end = run(rt, alloc, solo, kit)?;
+    outcome(alloc, solo, kit, end)
 }
 
 // A recording of the first multiplex with bytes before and behind its packets, whose starts and
@@ -171,11 +166,19 @@ const ROWS: [Row; 3] = [
     },
 ];
 
+// The kit of a row.
+fn kit_of(alloc: Global, row: &Row) -> Result<Kit, Fail>
+    ensures free { IfOk result (λ kit. kit.outlet.held ≡ false) }
+{
+    let text = recording(alloc, row.before, row.count, row.behind)?;
+    kit(alloc, row.starts, &text, row.takes, row.failing)
+}
+
 // Runs a pump over the recording of a row.
 fn pump_row<R: Wait + Sync>(rt: &R, alloc: Global, row: &Row) -> Result<Pumped, Fail> {
-    let text = recording(alloc, row.before, row.count, row.behind)?;
-    let kit = kit(alloc, row.starts, &text, row.takes, row.failing)?;
-    pump_tuned(rt, alloc, row.stop, kit)
+    let mut solo = tuned(alloc, row.stop)?;
+    let mut kit = kit_of(alloc, row)?;
+    pump(rt, alloc, &mut solo, &mut kit)
 }
 
 // Whether a pump was stopped, with no source out and entries of these kinds.
@@ -253,23 +256,30 @@ fn have_like_entries(first: &Solo, second: &Solo) -> bool {
     first.entries().len() == second.entries().len()
 }
 
-// Compares the entries with those of single calls.
-fn is_told_singly(rt: &impl Abort, alloc: Global, solo: &Solo) -> Result<(), Fail> {
-    let other = singly(alloc, 130, 133)?;
-    assert!(rt; answer_at(solo, 1) == Some(TOLD));
-    assert!(rt; have_like_entries(solo, &other));
+// Runs a pump over a recording of 130 packets.
+fn pump_130<R: Wait + Sync>(rt: &R, alloc: Global, solo: &mut Solo) -> Result<Pumped, Fail> {
+    let text = recording(alloc, &[], 130, &[])?;
+    let mut kit = kit(alloc, &[], &text, &[], &[])?;
+    pump(rt, alloc, solo, &mut kit)
+}
+
+#[test]
+fn a_pump_pauses_between_bursts(rt: HostRuntime) -> Result<(), Fail> {
+    let mut solo = tuned(rt.alloc(), 133)?;
+    let pumped = pump_130(&rt, rt.alloc(), &mut solo)?;
+    // behind 64 and 128 packets, and where the end of the recording was told to do nothing
+    assert_eq!(rt; pumped.pauses, 3);
+    assert_eq!(rt; pumped.end, JobEnd::Stopped);
     Ok(())
 }
 
 #[test]
 fn bursts_make_the_entries_of_single_calls(rt: HostRuntime) -> Result<(), Fail> {
     let alloc = rt.alloc();
-    let text = recording(alloc, &[], 130, &[])?;
-    let kit = kit(alloc, &[], &text, &[], &[])?;
     let mut solo = tuned(alloc, 133)?;
-    let pumped = pump(&rt, alloc, &mut solo, kit)?;
-    // behind 64 and 128 packets, and where the end of the recording was told to do nothing
-    assert_eq!(rt; pumped.pauses, 3);
-    assert_eq!(rt; pumped.end, JobEnd::Stopped);
-    is_told_singly(&rt, alloc, &solo)
+    pump_130(&rt, alloc, &mut solo)?;
+    let other = singly(alloc, 130, 133)?;
+    assert!(rt; answer_at(&solo, 1) == Some(TOLD));
+    assert!(rt; have_like_entries(&solo, &other));
+    Ok(())
 }

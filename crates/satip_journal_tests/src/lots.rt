@@ -12,6 +12,7 @@ use satip_plain::{Answer, Event};
 use satip_records::LineRoom;
 use satip_service::{Lot, Service};
 use satip_shared::{Caller, SharedPass, SharedServer};
+use std::alloc::Global;
 use std::sync::Wait;
 use std::test::Fail;
 
@@ -70,11 +71,20 @@ fn ask_often<R: Wait + Sync>(
     Some((journal.sink, lot.left))
 }
 
+// The same on a new server: what the journal has, and how many questions are left.
+fn asked_often<R: Wait + Sync>(
+    rt: &R,
+    alloc: Global,
+    count: u32,
+) -> Result<(MemorySink, u32), Fail> {
+    let (mut out, sink, line) = devices(alloc)?;
+    let (server, pass) = shared(alloc)?;
+    Ok(ask_often(rt, &server, pass, sink, line, &mut out, count).ok_or("spent")?)
+}
+
 #[test]
 fn each_event_of_a_burst_has_a_line(rt: HostRuntime) -> Result<(), Fail> {
-    let (mut out, sink, line) = devices(rt.alloc())?;
-    let (server, pass) = shared(rt.alloc())?;
-    let (sink, left) = ask_often(&rt, &server, pass, sink, line, &mut out, 2).ok_or("spent")?;
+    let (sink, left) = asked_often(&rt, rt.alloc(), 2)?;
     assert_eq!(rt; left, 0);
     let lines = b"entry 0 3 0500010301000000000000\nentry 1 3 0500010301000000000000\n";
     assert_eq!(rt; sink.sent(), lines.as_slice());
@@ -83,9 +93,7 @@ fn each_event_of_a_burst_has_a_line(rt: HostRuntime) -> Result<(), Fail> {
 
 #[test]
 fn a_burst_has_64_events_at_most(rt: HostRuntime) -> Result<(), Fail> {
-    let (mut out, sink, line) = devices(rt.alloc())?;
-    let (server, pass) = shared(rt.alloc())?;
-    let (sink, left) = ask_often(&rt, &server, pass, sink, line, &mut out, 70).ok_or("spent")?;
+    let (sink, left) = asked_often(&rt, rt.alloc(), 70)?;
     assert_eq!(rt; left, 6);
     assert_eq!(rt; sink.sent().len(), 10 * 33 + 54 * 34);
     Ok(())

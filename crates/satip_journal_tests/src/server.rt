@@ -62,15 +62,23 @@ fn ask_stop_ask<R: Wait + Sync>(
     Some((journal.sink, before, after))
 }
 
+// The same on a new server: what the journal has, and both answers.
+fn asked_around_a_stop<R: Wait + Sync>(
+    rt: &R,
+    alloc: Global,
+) -> Result<(MemorySink, [Answer; 2]), Fail> {
+    let (mut out, sink, line) = devices(alloc)?;
+    let (server, first) = shared(alloc)?;
+    let asked = ask_stop_ask(rt, &server, first, sink, line, &mut out);
+    let (sink, before, after) = asked.ok_or("spent")?;
+    Ok((sink, [before, after]))
+}
+
 #[test]
 fn a_journal_has_the_places_of_its_own_entries(rt: HostRuntime) -> Result<(), Fail> {
-    let (mut out, sink, line) = devices(rt.alloc())?;
-    let (server, first) = shared(rt.alloc())?;
-    let (sink, before, after) = ask_stop_ask(&rt, &server, first, sink, line, &mut out).ok_or(
-        "spent",
-    )?;
-    assert_eq!(rt; before, Answer::Work(Work::Nothing));
-    assert_eq!(rt; after, Answer::Work(Work::Stopping));
+    let (sink, answers) = asked_around_a_stop(&rt, rt.alloc())?;
+    let wanted = [Answer::Work(Work::Nothing), Answer::Work(Work::Stopping)];
+    assert_eq!(rt; answers, wanted);
     let lines = b"entry 0 7 0500010301000000000000\nentry 2 7 0500010302000000000000\n";
     assert_eq!(rt; sink.sent(), lines.as_slice());
     Ok(())
@@ -93,11 +101,16 @@ fn stop_first<R: Wait + Sync>(
     Some((journal.sink, answer))
 }
 
+// The same on a new server.
+fn stopped<R: Wait + Sync>(rt: &R, alloc: Global) -> Result<(MemorySink, Answer), Fail> {
+    let (mut out, sink, line) = devices(alloc)?;
+    let (server, pass) = shared(alloc)?;
+    Ok(stop_first(rt, &server, pass, sink, line, &mut out).ok_or("spent")?)
+}
+
 #[test]
 fn a_stop_is_one_line(rt: HostRuntime) -> Result<(), Fail> {
-    let (mut out, sink, line) = devices(rt.alloc())?;
-    let (server, pass) = shared(rt.alloc())?;
-    let (sink, answer) = stop_first(&rt, &server, pass, sink, line, &mut out).ok_or("spent")?;
+    let (sink, answer) = stopped(&rt, rt.alloc())?;
     assert_eq!(rt; answer, Answer::Beat(Beat::Stopping));
     assert_eq!(rt; sink.sent(), b"entry 0 0 080201000000000000\n".as_slice());
     Ok(())

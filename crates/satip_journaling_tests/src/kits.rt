@@ -29,29 +29,38 @@ pub(crate) fn config(alloc: Global) -> Result<Config, AllocError>
     })
 }
 
-// A worker by whose doors one connection comes, which asks for options, and a ticker.
-pub(crate) fn one_worker(alloc: Global) -> Result<MemoryJobs, Fail>
-    ensures workers { IfOk result (λ jobs. length jobs.workers.items ≡ 1) }
-    ensures pumps { IfOk result (λ jobs. jobs.pumps.items ≡ []) }
-{
+// A worker by whose doors one connection comes, which asks for options.
+fn worker(alloc: Global) -> Result<WorkerKit<MemoryDoors, MemoryOutlet, MemoryPacer>, Fail> {
     let mut doors = MemoryDoors::make(alloc, 1, &[], &[])?;
     let conn = MemoryConn::make(alloc, &[OPTIONS], &[], &[], 0)?;
     doors.add(DoorKind::Rtsp, CLIENT, conn)?;
-    let mut workers = Vec::new(alloc);
-    workers.push(WorkerKit {
+    Ok(WorkerKit {
         doors,
         outlet: MemoryOutlet::make(alloc, &[])?,
         pacer: MemoryPacer::new(),
         key: [7; 32],
-    })?;
+    })
+}
+
+fn ticker(alloc: Global) -> Result<TickKit<MemoryClock, MemoryOutlet, MemoryPacer>, Fail> {
+    Ok(TickKit {
+        clock: MemoryClock::make(alloc, &[1000, 1020, 1040])?,
+        outlet: MemoryOutlet::make(alloc, &[])?,
+        pacer: MemoryPacer::new(),
+    })
+}
+
+// This worker, and a ticker.
+pub(crate) fn one_worker(alloc: Global) -> Result<MemoryJobs, Fail>
+    ensures workers { IfOk result (λ jobs. length jobs.workers.items ≡ 1) }
+    ensures pumps { IfOk result (λ jobs. jobs.pumps.items ≡ []) }
+{
+    let mut workers = Vec::new(alloc);
+    workers.push(worker(alloc)?)?;
     Ok(Jobs {
         workers,
         pumps: Vec::new(alloc),
-        tick: TickKit {
-            clock: MemoryClock::make(alloc, &[1000, 1020, 1040])?,
-            outlet: MemoryOutlet::make(alloc, &[])?,
-            pacer: MemoryPacer::new(),
-        },
+        tick: ticker(alloc)?,
     })
 }
 

@@ -1,7 +1,10 @@
 //! The journals of a program, a worker and a ticker.
 
-use crate::kits::{config, one_worker, three_sinks};
+ghost use Rattle.std.specs.Prelude.{◌≡◌, [], length};
+
+use crate::kits::{MemoryJobs, config, one_worker, three_sinks};
 use satip_audit::Verdict;
+use satip_config::Config;
 use satip_crew::ServeEnd;
 use satip_journaling::{Written, serve_journaled};
 use satip_memory::MemorySink;
@@ -11,7 +14,28 @@ use std::sync::Wait;
 use std::test::Fail;
 use std::thread::Threads;
 
-// Serves to the end, and gives the journals, where the program's sink fails at these puts.
+// Serves to the end, and gives the journals, unless memory is refused.
+fn serve<R: Threads + Wait + Sync>(
+    rt: &R,
+    alloc: Global,
+    config: Config,
+    jobs: MemoryJobs,
+    sinks: Vec<MemorySink>,
+) -> Option<(Written<MemorySink>, ServeEnd)>
+    requires fronts { config.fronts ≡ [] }
+    requires muxes { config.muxes ≡ [] }
+    requires alone { config.workers ≡ 1 }
+    requires workers { length jobs.workers.items ≡ 1 }
+    requires pumps { jobs.pumps.items ≡ [] }
+    requires sinks { length sinks.items ≡ 3 }
+{
+    match serve_journaled(rt, alloc, config, jobs, sinks) {
+        Ok((_last, written, end)) => Some((written, end)),
+        Err(_unused) => None,
+    }
+}
+
+// The same over memory, where the program's sink fails at these puts.
 fn served<R: Threads + Wait + Sync>(
     rt: &R,
     alloc: Global,
@@ -19,10 +43,8 @@ fn served<R: Threads + Wait + Sync>(
 ) -> Result<(Written<MemorySink>, ServeEnd), Fail> {
     let sinks = three_sinks(alloc, failing)?;
     let jobs = one_worker(alloc)?;
-    match serve_journaled(rt, alloc, config(alloc)?, jobs, sinks) {
-        Ok((_last, written, end)) => Ok((written, end)),
-        Err(_unused) => Err("memory".into()),
-    }
+    let served = serve(rt, alloc, config(alloc)?, jobs, sinks);
+    Ok(served.ok_or("memory")?)
 }
 
 // What the journal of a job has.
@@ -55,12 +77,17 @@ fn judged(alloc: Global, text: &[u8]) -> Result<(Verdict, usize), Fail> {
 }
 
 #[test]
+fn the_programs_journal_begins_with_the_start(rt: HostRuntime) -> Result<(), Fail> {
+    let (written, end) = served(&rt, rt.alloc(), &[])?;
+    assert!(rt; end == ServeEnd::Served && !written.failed);
+    assert!(rt; journal_of(&written.sinks, 0).starts_with(b"start 1000\nentry "));
+    Ok(())
+}
+
+#[test]
 fn the_journals_of_all_jobs_are_one_history(rt: HostRuntime) -> Result<(), Fail> {
     let alloc = rt.alloc();
-    let (written, end) = served(&rt, alloc, &[])?;
-    assert!(rt; end == ServeEnd::Served);
-    assert!(rt; !written.failed);
-    assert!(rt; journal_of(&written.sinks, 0).starts_with(b"start 1000\nentry "));
+    let (written, _) = served(&rt, alloc, &[])?;
     let (said, lines) = judged(alloc, &backwards(alloc, &written.sinks)?)?;
     assert!(rt; lines >= 4);
     assert_eq!(rt; said, Verdict::Yes(lines.saturating_sub(1) as u64));
@@ -69,12 +96,14 @@ fn the_journals_of_all_jobs_are_one_history(rt: HostRuntime) -> Result<(), Fail>
 
 #[test]
 fn a_journal_that_fails_ends_there_and_the_jobs_go_on(rt: HostRuntime) -> Result<(), Fail> {
-    let alloc = rt.alloc();
-    let (written, end) = served(&rt, alloc, &[1])?;
-    assert!(rt; end == ServeEnd::Served);
-    assert!(rt; written.failed);
+    let (written, end) = served(&rt, rt.alloc(), &[1])?;
+    assert!(rt; end == ServeEnd::Served && written.failed);
     assert_eq!(rt; journal_of(&written.sinks, 0), b"start ".as_slice());
-    assert!(rt; journal_of(&written.sinks, 1).starts_with(b"entry "));
-    assert!(rt; journal_of(&written.sinks, 2).starts_with(b"entry "));
+    for job in [1, 2] {
+        assert!(rt;
+            journal_of(&written.sinks, job).starts_with(b"entry "),
+            "job {job}"
+        );
+    }
     Ok(())
 }

@@ -13,12 +13,12 @@ mod sides;
 
 use satip_base::{Out, Want};
 use satip_fixtures::packet_bytes;
-use satip_fixtures::texts::repeated;
+use satip_fixtures::texts::{is_joined, repeated};
 use satip_memory::{MemoryClock, MemoryOutlet, MemoryPacer, MemoryStore};
 use satip_plain::{Answer, Beat, Event, Work};
 use satip_pump::{Batch, JobEnd, PumpKit, TickKit, run_pump, run_ticker};
 use satip_ts::Packet;
-use script::{ASK, ENDED, Note, Scripted};
+use script::{ASK, ENDED, Note, Scripted, TICK};
 use std::alloc::Global;
 use std::sync::Wait;
 use std::test::Fail;
@@ -167,13 +167,24 @@ struct Pumped {
     peak: u64,
 }
 
+// Adds a multiplex's recording of so many packets of a PID.
+fn add(
+    alloc: Global,
+    store: &mut MemoryStore,
+    mux: u16,
+    pid: u8,
+    count: usize,
+) -> Result<(), Fail> {
+    let text = repeated(alloc, &[(packet_bytes(pid).as_slice(), count)])?;
+    store.add(mux, &text, &[], &[])?;
+    Ok(())
+}
+
 // The recordings of both multiplexes.
 fn store_of(alloc: Global, case: &Case) -> Result<MemoryStore, Fail> {
     let mut store = MemoryStore::make(alloc, &[])?;
-    let first = repeated(alloc, &[(packet_bytes(1).as_slice(), case.first)])?;
-    store.add(1, &first, &[], &[])?;
-    let second = repeated(alloc, &[(packet_bytes(2).as_slice(), case.second)])?;
-    store.add(2, &second, &[], &[])?;
+    add(alloc, &mut store, 1, 1, case.first)?;
+    add(alloc, &mut store, 2, 2, case.second)?;
     Ok(store)
 }
 
@@ -181,19 +192,24 @@ fn last_answer(notes: &[Note]) -> Option<Answer> {
     notes.last().map(|note| note.answer)
 }
 
-fn run_case<R: Wait + Sync>(rt: &R, alloc: Global, case: &Case) -> Result<Pumped, Fail> {
-    let mut service = Scripted::new(alloc, FIRST, case.later, case.stop).with_room(case.room);
-    let mut kit = kit(alloc, store_of(alloc, case)?, case.sends)?;
-    let end = pump(rt, alloc, &mut service, &mut kit)?;
+// What a pump that ended came to.
+fn outcome(alloc: Global, notes: &[Note], kit: &Kit, end: JobEnd) -> Result<Pumped, Fail> {
     Ok(Pumped {
         end,
-        entries: letters(alloc, &service.notes)?,
-        last: last_answer(&service.notes),
+        entries: letters(alloc, notes)?,
+        last: last_answer(notes),
         datagrams: kit.outlet.count(),
         pauses: kit.pacer.pauses(),
         lent: kit.store.lent(),
         peak: kit.store.peak(),
     })
+}
+
+fn run_case<R: Wait + Sync>(rt: &R, alloc: Global, case: &Case) -> Result<Pumped, Fail> {
+    let mut kit = kit(alloc, store_of(alloc, case)?, case.sends)?;
+    let mut service = Scripted::new(alloc, FIRST, case.later, case.stop).with_room(case.room);
+    let end = pump(rt, alloc, &mut service, &mut kit)?;
+    outcome(alloc, &service.notes, &kit, end)
 }
 
 // A case, and what a pump is to come to over it; a number is looked at where it is given.
@@ -266,23 +282,30 @@ const ROWS: &[Row] = &[
     },
 ];
 
+// Whether a pump came to the numbers that a row gives.
+fn has_numbers(row: &Row, seen: &Pumped) -> bool {
+    seen.datagrams == row.datagrams.unwrap_or(seen.datagrams)
+        && seen.pauses == row.pauses.unwrap_or(seen.pauses)
+        && seen.peak == row.peak.unwrap_or(seen.peak)
+}
+
+// Whether a pump came to what its row says, with no source out, and its last answer told it to stop
+// just where it ended so.
+fn is_met(row: &Row, seen: &Pumped) -> bool {
+    let is_stopped = seen.last == Some(Answer::Work(Work::Stopping));
+    seen.end == row.end
+        && is_stopped == (row.end == JobEnd::Stopped)
+        && seen.entries.as_slice() == row.entries
+        && seen.lent == 0
+        && has_numbers(row, seen)
+}
+
 #[test]
 fn pumps_come_to_what_their_rows_say(rt: HostRuntime) -> Result<(), Fail> {
     for row in ROWS {
         let seen = run_case(&rt, rt.alloc(), &row.case)?;
         let name = row.name;
-        assert_eq!(rt; seen.end, row.end, "{name}");
-        assert_eq!(rt; seen.entries.as_slice(), row.entries, "{name}");
-        assert_eq!(rt;
-            seen.datagrams,
-            row.datagrams.unwrap_or(seen.datagrams),
-            "{name}"
-        );
-        assert_eq!(rt; seen.pauses, row.pauses.unwrap_or(seen.pauses), "{name}");
-        assert_eq!(rt; seen.peak, row.peak.unwrap_or(seen.peak), "{name}");
-        assert_eq!(rt; seen.lent, 0, "{name}");
-        let is_stopped = seen.last == Some(Answer::Work(Work::Stopping));
-        assert_eq!(rt; is_stopped, row.end == JobEnd::Stopped, "{name}");
+        assert!(rt; is_met(row, &seen), "{name}");
     }
     Ok(())
 }
@@ -295,19 +318,12 @@ fn a_pump_gives_130_packets_in_bursts(rt: HostRuntime) -> Result<(), Fail> {
         stop: 132,
         ..WHOLE
     };
+    let packets = [b'P'; 130];
+    let texts = [b"A".as_slice(), packets.as_slice(), b"EA".as_slice()];
     let seen = run_case(&rt, rt.alloc(), &case)?;
-    let entries = seen.entries.as_slice();
-    assert_eq!(rt; seen.end, JobEnd::Stopped);
-    assert_eq!(rt; entries.len(), 133);
-    assert!(rt; entries.first() == Some(&b'A') && entries.last() == Some(&b'A'));
-    assert_eq!(rt;
-        entries.iter().filter(|letter| **letter == b'P').count(),
-        130
-    );
-    assert!(rt; entries.get(131) == Some(&b'E'));
+    assert!(rt; is_joined(&seen.entries, &texts));
     // the third datagram couldn't be sent
-    assert_eq!(rt; seen.datagrams, 129);
-    assert_eq!(rt; seen.pauses, 3);
+    assert!(rt; (seen.end, seen.datagrams, seen.pauses) == (JobEnd::Stopped, 129, 3));
     Ok(())
 }
 
@@ -326,12 +342,12 @@ fn run_ticks<R: Wait + Sync>(
     moments: &[u64],
     stop: usize,
 ) -> Result<Ticked, Fail> {
+    let mut out = Out::make(alloc)?;
     let mut kit = TickKit {
         clock: MemoryClock::make(alloc, moments)?,
         outlet: MemoryOutlet::make(alloc, &[])?,
         pacer: MemoryPacer::new(),
     };
-    let mut out = Out::make(alloc)?;
     let mut service = Scripted::new(alloc, Work::Nothing, None, stop);
     let end = run_ticker(rt, &mut service, &mut kit, &mut out);
     Ok(Ticked {
@@ -341,22 +357,21 @@ fn run_ticks<R: Wait + Sync>(
     })
 }
 
-// Whether the entry at a place is a tick at this moment.
-fn is_tick_at(notes: &[Note], place: usize, moment: u64) -> bool {
-    match notes.get(place) {
-        Some(note) => note.number == moment,
-        None => false,
+// Whether the entries are ticks at these moments.
+fn are_ticks_at(notes: &[Note], moments: &[u64]) -> bool {
+    for (note, moment) in notes.iter().zip(moments) {
+        if note.kind != TICK || note.number != *moment {
+            return false;
+        }
     }
+    notes.len() == moments.len()
 }
 
 #[test]
 fn a_ticker_ticks_until_it_is_stopped(rt: HostRuntime) -> Result<(), Fail> {
     let seen = run_ticks(&rt, rt.alloc(), &[5, 7, 6], 2)?;
-    assert_eq!(rt; seen.end, JobEnd::Stopped);
-    let entries = letters(rt.alloc(), &seen.notes)?;
-    assert_eq!(rt; entries.as_slice(), b"TTT".as_slice());
-    assert!(rt; is_tick_at(&seen.notes, 1, 7) && is_tick_at(&seen.notes, 2, 6));
+    assert!(rt; (seen.end, seen.pauses) == (JobEnd::Stopped, 3));
+    assert!(rt; are_ticks_at(&seen.notes, &[5, 7, 6]));
     assert!(rt; last_answer(&seen.notes) == Some(Answer::Beat(Beat::Stopping)));
-    assert_eq!(rt; seen.pauses, 3);
     Ok(())
 }

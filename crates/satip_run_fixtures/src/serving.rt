@@ -65,6 +65,22 @@ fn serve_with<R: Wait + Sync>(
     )
 }
 
+// Serves a connection: how it ended, and how many datagrams left by an outlet whose sends of these
+// numbers fail.
+fn serve_and_count<R: Wait + Sync>(
+    rt: &R,
+    alloc: Global,
+    solo: &mut Solo,
+    kind: DoorKind,
+    conn: &mut MemoryConn,
+    failing_posts: &[u64],
+) -> Result<(ConnEnd, usize), Fail> {
+    let mut room = Room::make(alloc)?;
+    let mut outlet = MemoryOutlet::make(alloc, failing_posts)?;
+    let end = serve_with(rt, solo, kind, conn, &mut outlet, &mut room);
+    Ok((end, outlet.count()))
+}
+
 /// Serves a connection; the sends of these numbers fail at the outlet.
 pub fn serve<R: Wait + Sync>(
     rt: &R,
@@ -74,14 +90,12 @@ pub fn serve<R: Wait + Sync>(
     mut conn: MemoryConn,
     failing_posts: &[u64],
 ) -> Result<Seen, Fail> {
-    let mut outlet = MemoryOutlet::make(alloc, failing_posts)?;
-    let mut room = Room::make(alloc)?;
-    let end = serve_with(rt, solo, kind, &mut conn, &mut outlet, &mut room);
+    let (end, datagrams) = serve_and_count(rt, alloc, solo, kind, &mut conn, failing_posts)?;
     Ok(Seen {
         end,
         kinds: letters(alloc, solo)?,
         sent: Vec::from_slice(alloc, conn.sent())?,
-        datagrams: outlet.count(),
+        datagrams,
     })
 }
 
@@ -107,6 +121,14 @@ fn begin(solo: &mut Solo, out: &mut Out) -> Result<(), Fail> {
     Ok(())
 }
 
+// A server that plays the first stream, which holds one packet.
+fn playing(alloc: Global) -> Result<Solo, Fail> {
+    let mut out = Out::make(alloc)?;
+    let mut solo = solo(alloc, None)?;
+    begin(&mut solo, &mut out)?;
+    Ok(solo)
+}
+
 /// Serves an RTSP connection over a server that plays the first stream, which holds one packet; the
 /// sends of these numbers fail at the outlet.
 pub fn serve_playing<R: Wait + Sync>(
@@ -115,9 +137,7 @@ pub fn serve_playing<R: Wait + Sync>(
     conn: MemoryConn,
     failing_posts: &[u64],
 ) -> Result<Seen, Fail> {
-    let mut solo = solo(alloc, None)?;
-    let mut out = Out::make(alloc)?;
-    begin(&mut solo, &mut out)?;
+    let mut solo = playing(alloc)?;
     serve(rt, alloc, &mut solo, DoorKind::Rtsp, conn, failing_posts)
 }
 
@@ -126,6 +146,13 @@ fn status_at(alloc: Global, solo: &mut Solo, moment: u64) -> Result<u16, Fail> {
     let mut out = Out::make(alloc)?;
     tick(solo, moment, &mut out)?;
     ask_of_stream(solo, &mut out)
+}
+
+// The statuses at each of two moments.
+fn statuses_at(alloc: Global, solo: &mut Solo, moments: [u64; 2]) -> Result<[u16; 2], Fail> {
+    let first = status_at(alloc, solo, moments[0])?;
+    let second = status_at(alloc, solo, moments[1])?;
+    Ok([first, second])
 }
 
 /// Serves an RTSP connection over a new server, and then makes a DESCRIBE of the first stream
@@ -138,7 +165,6 @@ pub fn serve_and_ask<R: Wait + Sync>(
 ) -> Result<(Seen, [u16; 2]), Fail> {
     let mut solo = solo(alloc, None)?;
     let seen = serve(rt, alloc, &mut solo, DoorKind::Rtsp, conn, &[])?;
-    let first = status_at(alloc, &mut solo, moments[0])?;
-    let second = status_at(alloc, &mut solo, moments[1])?;
-    Ok((seen, [first, second]))
+    let statuses = statuses_at(alloc, &mut solo, moments)?;
+    Ok((seen, statuses))
 }

@@ -179,14 +179,17 @@ fn serve_row<R: Wait + Sync>(rt: &R, alloc: Global, row: &Row) -> Result<Seen, F
     serve_alone(rt, alloc, row.kind, conn)
 }
 
+// Whether a connection came to what its row says.
+fn is_met(row: &Row, seen: &Seen) -> bool {
+    seen.end == row.end && seen.kinds.as_slice() == row.kinds && is_joined(&seen.sent, row.sent)
+}
+
 #[test]
 fn connections_come_to_what_their_rows_say(rt: HostRuntime) -> Result<(), Fail> {
     for row in ROWS {
         let seen = serve_row(&rt, rt.alloc(), row)?;
         let name = row.name;
-        assert!(rt; seen.end == row.end, "{name}");
-        assert_eq!(rt; seen.kinds.as_slice(), row.kinds, "{name}");
-        assert!(rt; is_joined(&seen.sent, row.sent), "{name}");
+        assert!(rt; is_met(row, &seen), "{name}");
     }
     Ok(())
 }

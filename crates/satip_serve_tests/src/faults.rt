@@ -1,30 +1,43 @@
 //! The command `serve` whose doors fail, or whose desk gives no kits.
 
-use crate::shared::{ONE_WORKER, SERVE, bare_desk, desk, kits, run, worker_at};
+ghost use Rattle.std.specs.Prelude.{◌≡◌, None, IfOk};
+ghost use Rattle.satip_serving.specs.Handed.{nothing_handed};
+
+use crate::shared::{MemoryWorker, ONE_WORKER, SERVE, bare_desk, desk, kits, run, worker_at};
 use satip_memory::MemoryDoors;
+use satip_memory_desk::MemoryDesk;
+use std::alloc::Global;
 use std::test::Fail;
 
-// The doors fail at the first look.
-#[test]
-fn doors_that_fail_are_told(rt: HostRuntime) -> Result<(), Fail> {
-    let alloc = rt.alloc();
+// A desk with kits for one worker, whose doors fail at the first look.
+fn desk_with_failing_doors(alloc: Global) -> Result<MemoryDesk, Fail>
+    ensures new { IfOk result (λ desk. desk.given ≡ None) }
+    ensures client { IfOk result (λ desk. desk.handed ≡ nothing_handed) }
+{
     let doors = MemoryDoors::make(alloc, 1, &[], &[1])?;
     let mut workers = Vec::new(alloc);
     workers.push(worker_at(alloc, doors)?)?;
-    let mut desk = desk(alloc, ONE_WORKER, kits(alloc, workers)?)?;
-    let ran = run(&rt, alloc, SERVE, b"", &mut desk)?;
+    desk(alloc, ONE_WORKER, kits(alloc, workers)?)
+}
+
+// Whether these are the kit of one worker, to which no connection came.
+fn are_unvisited(workers: &[MemoryWorker]) -> bool {
+    match workers {
+        [kit] => kit.doors.returned().is_empty(),
+        _ => false,
+    }
+}
+
+#[test]
+fn doors_that_fail_are_told(rt: HostRuntime) -> Result<(), Fail> {
+    let mut desk = desk_with_failing_doors(rt.alloc())?;
+    let ran = run(&rt, rt.alloc(), SERVE, b"", &mut desk)?;
     ran.ends(&rt, 7, b"doors fault\n");
     assert!(rt; ran.ended.config.is_some() && ran.ended.unused.is_none());
     let Some(last) = &ran.ended.last else {
         return Err(Fail::from("no job began"));
     };
-    assert_eq!(rt; last.jobs.workers.len(), 1);
-    assert!(rt;
-        last.jobs
-            .workers
-            .iter()
-            .all(|kit| kit.doors.returned().is_empty())
-    );
+    assert!(rt; are_unvisited(&last.jobs.workers));
     Ok(())
 }
 

@@ -3,10 +3,12 @@
 
 ghost use Rattle.std.specs.Prelude.{◌≡◌, map, true, None, IfOk};
 ghost use Rattle.satip_history.specs.Lists.{Each};
+ghost use Rattle.satip_memory.specs.Shelves.{empty_shelf};
 ghost use Rattle.satip_memory_desk.specs.Drawers.{AreNewKits};
 ghost use Rattle.satip_serve.specs.Fresh.{FreshWorker};
 ghost use Rattle.satip_serve.specs.Views.{worker_view};
 ghost use Rattle.satip_serving.specs.Handed.{nothing_handed};
+ghost use Rattle.satip_world.specs.Dials.{fresh_dial};
 ghost use Rattle.satip_world.specs.Halls.{Hall, fresh_hall};
 ghost use Rattle.satip_world.specs.Outboxes.{Outbox, fresh_outbox};
 
@@ -65,9 +67,10 @@ impl<K: Desk> Drop for Ran<K> {
 impl<K: Desk> Ran<K> {
     /// It ended with this status, with this told of errors and nothing written.
     pub fn ends(&self, rt: &impl Abort, status: u8, errors: &[u8]) {
-        assert_eq!(rt; self.ended.status, status);
-        assert_eq!(rt; self.errors.sent(), errors);
-        assert_eq!(rt; self.output.sent(), b"".as_slice());
+        assert_eq!(rt;
+            (self.ended.status, self.errors.sent(), self.output.sent()),
+            (status, errors, b"".as_slice())
+        );
     }
 
     /// What is told of it, given what is told of the workers' kits if jobs began.
@@ -90,6 +93,50 @@ fn texts(alloc: Global, words: &[&str]) -> Result<Vec<Text>, Fail> {
     Ok(texts)
 }
 
+// The words of a run, what it reads and where it writes.
+#[derive(Drop)]
+struct Streams {
+    words: Vec<Text>,
+    input: MemorySource,
+    output: MemorySink,
+    errors: MemorySink,
+}
+
+fn streams_of(alloc: Global, words: &[&str], input: &[u8]) -> Result<Streams, Fail> {
+    Ok(Streams {
+        words: texts(alloc, words)?,
+        input: MemorySource::make(alloc, input, &[], &[])?,
+        output: MemorySink::make(alloc, &[], 0)?,
+        errors: MemorySink::make(alloc, &[], 0)?,
+    })
+}
+
+// Runs the program over these streams.
+fn run_over<R: Threads + Wait + Sync, K: Desk>(
+    rt: &R,
+    alloc: Global,
+    mut streams: Streams,
+    desk: &mut K,
+) -> Ran<K>
+    requires new { K.given desk.old ≡ None }
+    requires client { K.handed desk.old ≡ nothing_handed }
+{
+    let ended = satip(
+        rt,
+        alloc,
+        &streams.words,
+        &mut streams.input,
+        &mut streams.output,
+        &mut streams.errors,
+        desk,
+    );
+    Ran {
+        ended,
+        output: streams.output,
+        errors: streams.errors,
+    }
+}
+
 /// Runs the program with these words over an input.
 pub fn run<R: Threads + Wait + Sync, K: Desk>(
     rt: &R,
@@ -101,24 +148,8 @@ pub fn run<R: Threads + Wait + Sync, K: Desk>(
     requires new { K.given desk.old ≡ None }
     requires client { K.handed desk.old ≡ nothing_handed }
 {
-    let words = texts(alloc, words)?;
-    let mut input = MemorySource::make(alloc, input, &[], &[])?;
-    let mut output = MemorySink::make(alloc, &[], 0)?;
-    let mut errors = MemorySink::make(alloc, &[], 0)?;
-    let ended = satip(
-        rt,
-        alloc,
-        &words,
-        &mut input,
-        &mut output,
-        &mut errors,
-        desk,
-    );
-    Ok(Ran {
-        ended,
-        output,
-        errors,
-    })
+    let streams = streams_of(alloc, words, input)?;
+    Ok(run_over(rt, alloc, streams, desk))
 }
 
 /// The kit of a worker over memory.
@@ -149,6 +180,30 @@ pub fn worker(alloc: Global, pieces: &[&[u8]]) -> Result<MemoryWorker, Want>
     worker_at(alloc, doors)
 }
 
+// The kit of a pump without recordings.
+fn pump(alloc: Global) -> Result<PumpKit<MemoryStore, MemoryOutlet, MemoryPacer>, Want>
+    ensures store { IfOk result (λ kit. kit.store ≡ empty_shelf) }
+    ensures outbox { IfOk result (λ kit. kit.outlet ≡ fresh_outbox) }
+{
+    Ok(PumpKit {
+        store: MemoryStore::make(alloc, &[])?,
+        outlet: MemoryOutlet::make(alloc, &[])?,
+        pacer: MemoryPacer::new(),
+    })
+}
+
+// The kit of a ticker whose clock shows a second.
+fn ticker(alloc: Global) -> Result<TickKit<MemoryClock, MemoryOutlet, MemoryPacer>, Want>
+    ensures dial { IfOk result (λ kit. kit.clock ≡ fresh_dial true) }
+    ensures outbox { IfOk result (λ kit. kit.outlet ≡ fresh_outbox) }
+{
+    Ok(TickKit {
+        clock: MemoryClock::make(alloc, &[1000])?,
+        outlet: MemoryOutlet::make(alloc, &[])?,
+        pacer: MemoryPacer::new(),
+    })
+}
+
 /// Kits of these workers, of one pump and of the ticker.
 pub fn kits(alloc: Global, workers: Vec<MemoryWorker>) -> Result<MemoryJobs, Fail>
     requires fresh { Each (FreshWorker 1)
@@ -156,19 +211,11 @@ pub fn kits(alloc: Global, workers: Vec<MemoryWorker>) -> Result<MemoryJobs, Fai
     ensures new { IfOk result (AreNewKits 1) }
 {
     let mut pumps = Vec::new(alloc);
-    pumps.push(PumpKit {
-        store: MemoryStore::make(alloc, &[])?,
-        outlet: MemoryOutlet::make(alloc, &[])?,
-        pacer: MemoryPacer::new(),
-    })?;
+    pumps.push(pump(alloc)?)?;
     Ok(Jobs {
         workers,
         pumps,
-        tick: TickKit {
-            clock: MemoryClock::make(alloc, &[1000])?,
-            outlet: MemoryOutlet::make(alloc, &[])?,
-            pacer: MemoryPacer::new(),
-        },
+        tick: ticker(alloc)?,
     })
 }
 
@@ -203,10 +250,13 @@ pub fn desk_for_one(alloc: Global, pieces: &[&[u8]]) -> Result<MemoryDesk, Fail>
     desk(alloc, ONE_WORKER, kits(alloc, workers)?)
 }
 
-/// Whether the one connection of each worker was served to its end.
+/// Whether these are the kit of one worker, whose one connection was served to its end.
 pub fn have_served(workers: &[MemoryWorker]) -> bool {
-    workers.iter().all(|kit| match kit.doors.returned() {
+    let [kit] = workers else {
+        return false;
+    };
+    match kit.doors.returned() {
         [handed] => handed.end == ConnEnd::Done && handed.conn.sent() == OPTIONS_REPLY,
         _ => false,
-    })
+    }
 }

@@ -10,7 +10,9 @@ use crate::waiting::Piece;
 use crate::waiting_desk::{Plan, WaitingDesk, WaitingWorker, run_plan};
 use satip_fixtures::texts::{OPTIONS, OPTIONS_REPLY, SETUP};
 use std::alloc::Global;
+use std::sync::Wait;
 use std::test::Fail;
+use std::thread::Threads;
 
 /// A PLAY of stream 1.
 pub const PLAY: &[u8] =
@@ -139,17 +141,46 @@ fn joined(alloc: Global, ran: &Ran<WaitingDesk>) -> Result<Vec<u8>, Fail> {
     Ok(text)
 }
 
+// What comes of a run with journals: how its workers were served, how many journals there are, and
+// all of them put together.
+#[derive(Drop)]
+struct Journaled {
+    told: Outcome,
+    count: usize,
+    text: Vec<u8>,
+}
+
+fn run_journaled<R: Threads + Wait + Sync>(
+    rt: &R,
+    alloc: Global,
+    deeds: &Deeds,
+) -> Result<Journaled, Fail> {
+    let ran = run_plan(rt, alloc, JOURNAL, PLAN, deeds)?;
+    Ok(Journaled {
+        told: told(&ran, REPLIES),
+        count: ran.ended.journals.len(),
+        text: joined(alloc, &ran)?,
+    })
+}
+
+// Audits journals by the same configuration.
+fn audit<'a, R: Threads + Wait + Sync>(
+    rt: &R,
+    alloc: Global,
+    journals: &[u8],
+    deeds: &'a Deeds,
+) -> Result<Ran<WaitingDesk<'a>>, Fail> {
+    let mut desk = WaitingDesk::new(alloc, deeds, PLAN);
+    run(rt, alloc, &["audit", "c1.toml"], journals, &mut desk)
+}
+
 #[test]
 fn their_journals_are_one_history(rt: HostRuntime) -> Result<(), Fail> {
-    let alloc = rt.alloc();
     let deeds = Deeds::new();
-    let ran = run_plan(&rt, alloc, JOURNAL, PLAN, &deeds)?;
-    assert!(rt; !deeds.gave_up());
-    assert_eq!(rt; told(&ran, REPLIES), Outcome::Served);
-    assert_eq!(rt; ran.ended.journals.len(), 6);
-    let journals = joined(alloc, &ran)?;
-    let mut desk = WaitingDesk::new(alloc, &deeds, PLAN);
-    let audited = run(&rt, alloc, &["audit", "c1.toml"], &journals, &mut desk)?;
+    let journaled = run_journaled(&rt, rt.alloc(), &deeds)?;
+    let got = (deeds.gave_up(), journaled.told, journaled.count);
+    assert_eq!(rt; got, (false, Outcome::Served, 6));
+    let audited = audit(&rt, rt.alloc(), &journaled.text, &deeds)?;
     assert_eq!(rt; audited.ended.status, 0);
     assert!(rt; audited.output.sent().starts_with(b"yes "));
     Ok(())

@@ -102,17 +102,16 @@ fn kits<'a>(
         worker(alloc, deeds, plan, Place::First, accepts)?,
         worker(alloc, deeds, plan, Place::Second, accepts)?,
     ];
-    let pumps = [pump(deeds, plan), pump(deeds, plan)];
+    let Ok(workers) = Vec::from_array(alloc, workers) else {
+        return Err(Want);
+    };
+    let Ok(pumps) = Vec::from_array(alloc, [pump(deeds, plan), pump(deeds, plan)]) else {
+        return Err(Want);
+    };
     let tick = TickKit {
         clock: StillClock::new(deeds),
         outlet: CountingOutlet::new(deeds, plan.port),
         pacer: LookingPacer::new(deeds, LOOKS, OPEN),
-    };
-    let (Ok(workers), Ok(pumps)) = (
-        Vec::from_array(alloc, workers),
-        Vec::from_array(alloc, pumps),
-    ) else {
-        return Err(Want);
     };
     Ok(Jobs {
         workers,

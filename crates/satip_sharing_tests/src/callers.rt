@@ -68,14 +68,26 @@ fn ask_stop_ask<R: Wait + Sync>(
     Some((one.pass, before, stop, after))
 }
 
+// These answers on a new server, and the place of the first caller's pass behind them.
+fn answers_around_a_stop<R: Wait + Sync>(
+    rt: &R,
+    alloc: Global,
+) -> Result<([Answer; 3], u64), Fail> {
+    let mut out = Out::make(alloc)?;
+    let (server, first) = shared(alloc)?;
+    let (pass, before, stop, after) = ask_stop_ask(rt, &server, first, &mut out).ok_or("spent")?;
+    Ok(([before, stop, after], pass.place()))
+}
+
 #[test]
 fn a_caller_sees_anothers_entry_between_its_own(rt: HostRuntime) -> Result<(), Fail> {
-    let mut out = Out::make(rt.alloc())?;
-    let (server, first) = shared(rt.alloc())?;
-    let (pass, before, stop, after) = ask_stop_ask(&rt, &server, first, &mut out).ok_or("spent")?;
-    assert_eq!(rt; before, Answer::Work(Work::Nothing));
-    assert_eq!(rt; stop, Answer::Beat(Beat::Stopping));
-    assert_eq!(rt; after, Answer::Work(Work::Stopping));
-    assert_eq!(rt; pass.place(), 3);
+    let (answers, place) = answers_around_a_stop(&rt, rt.alloc())?;
+    let wanted = [
+        Answer::Work(Work::Nothing),
+        Answer::Beat(Beat::Stopping),
+        Answer::Work(Work::Stopping),
+    ];
+    assert_eq!(rt; answers, wanted);
+    assert_eq!(rt; place, 3);
     Ok(())
 }

@@ -102,14 +102,26 @@ const ROWS: &[Row<'static>] = &[
     },
 ];
 
-// Serves a connection; a send that fails passes ten bytes.
-fn serve<R: Wait + Sync + Abort>(
-    rt: &R,
+// Serves a connection: how it ended, and how many entries it made.
+fn serve<R: Wait + Sync>(
+    caller: &mut TunnelCaller<R>,
+    conn: &mut MemoryConn,
+    room: &mut TunnelRoom,
+) -> (TunnelEnd, u64) {
+    let mut pacer = MemoryPacer::new();
+    let mut draws = Draws::make(&KEY, 0);
+    let before = caller.pass.place();
+    let end = serve_tunnel(caller, conn, &mut pacer, &mut draws, room);
+    (end, caller.pass.place().saturating_sub(before))
+}
+
+// Whether a connection comes to what its row says; a send that fails passes ten bytes.
+fn is_met<R: Wait + Sync>(
     alloc: Global,
     caller: &mut TunnelCaller<R>,
     room: &mut TunnelRoom,
     row: &Row<'_>,
-) -> Result<(), Fail> {
+) -> Result<bool, Fail> {
     let mut conn = MemoryConn::make(
         alloc,
         row.pieces,
@@ -117,14 +129,8 @@ fn serve<R: Wait + Sync + Abort>(
         row.failing_sends,
         10,
     )?;
-    let mut pacer = MemoryPacer::new();
-    let mut draws = Draws::make(&KEY, 0);
-    let before = caller.pass.place();
-    let end = serve_tunnel(caller, &mut conn, &mut pacer, &mut draws, room);
-    assert_eq!(rt; end, row.end);
-    assert_eq!(rt; conn.sent(), row.sent);
-    assert_eq!(rt; caller.pass.place().saturating_sub(before), row.entries);
-    Ok(())
+    let seen = serve(caller, &mut conn, room);
+    Ok(seen == (row.end, row.entries) && conn.sent() == row.sent)
 }
 
 // The text of the report and the OPTIONS, cut at every byte.
@@ -143,7 +149,7 @@ fn serve_cut<R: Wait + Sync + Abort>(
             entries: 4,
             ..DONE
         };
-        serve(rt, alloc, caller, room, &row)?;
+        assert!(rt; is_met(alloc, caller, room, &row)?, "cut at {cut}");
     }
     Ok(())
 }
@@ -154,8 +160,8 @@ fn serve_rows<R: Wait + Sync + Abort>(
     caller: &mut TunnelCaller<R>,
     room: &mut TunnelRoom,
 ) -> Result<(), Fail> {
-    for row in ROWS {
-        serve(rt, alloc, caller, room, row)?;
+    for (place, row) in ROWS.iter().enumerate() {
+        assert!(rt; is_met(alloc, caller, room, row)?, "row {place}");
     }
     Ok(())
 }
@@ -178,10 +184,23 @@ fn serve_full<R: Wait + Sync + Abort>(
         entries: 1,
         ..DONE
     };
-    serve(rt, alloc, caller, room, &full)
+    assert!(rt; is_met(alloc, caller, room, &full)?);
+    Ok(())
 }
 
 // All of them, one after another.
+fn serve_each<R: Wait + Sync + Abort>(
+    rt: &R,
+    alloc: Global,
+    caller: &mut TunnelCaller<R>,
+    room: &mut TunnelRoom,
+) -> Result<(), Fail> {
+    serve_cut(rt, alloc, caller, room)?;
+    serve_rows(rt, alloc, caller, room)?;
+    serve_full(rt, alloc, caller, room)
+}
+
+// All of them, by one caller.
 fn serve_all<R: Wait + Sync + Abort>(
     rt: &R,
     alloc: Global,
@@ -193,9 +212,7 @@ fn serve_all<R: Wait + Sync + Abort>(
 {
     let mut room = TunnelRoom::make(alloc)?;
     let mut caller = TunnelCaller { rt, server, pass };
-    serve_cut(rt, alloc, &mut caller, &mut room)?;
-    serve_rows(rt, alloc, &mut caller, &mut room)?;
-    serve_full(rt, alloc, &mut caller, &mut room)
+    serve_each(rt, alloc, &mut caller, &mut room)
 }
 
 #[test]

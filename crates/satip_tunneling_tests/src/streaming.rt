@@ -6,8 +6,8 @@ ghost use Rattle.satip_turn.specs.Shown.{IsOf, Knows};
 use crate::connections::{KEY, SETUP_REPLY};
 use crate::setting::shared;
 use satip_base::{Out, Put};
-use satip_fixtures::packet;
-use satip_fixtures::texts::SETUP_INTERLEAVED;
+use satip_fixtures::texts::{SETUP_INTERLEAVED, repeated};
+use satip_fixtures::{packet, packet_bytes};
 use satip_interleave::{SharedTunnel, TunnelCaller, TunnelPass, TunnelRoom};
 use satip_memory::{MemoryConn, MemoryPacer};
 use satip_plain::Event;
@@ -17,7 +17,6 @@ use satip_tunneling::{TunnelEnd, serve_tunnel};
 use satip_worker::Draws;
 use satip_world::{Conn, Received};
 use std::alloc::Global;
-use std::process::Abort;
 use std::sync::Wait;
 use std::test::Fail;
 
@@ -92,60 +91,96 @@ impl<S: Service + Drop> Conn for Fed<S> {
     }
 }
 
-// The replies and the frames, one behind the other.
-fn wanted(alloc: Global, packet: &Packet) -> Result<Vec<u8>, Fail> {
-    let mut bytes = Vec::new(alloc);
-    bytes.extend_from_slice(SETUP_REPLY)?;
-    bytes.extend_from_slice(PLAY_REPLY)?;
-    bytes.extend_from_slice(MEDIA_HEAD)?;
-    for _packet in 0..6 {
-        bytes.extend_from_slice(packet.bytes())?;
-    }
-    bytes.extend_from_slice(REPORT)?;
-    Ok(bytes)
+// A connection that sets up and plays, which is fed by this service.
+fn fed_by<S: Service + Drop>(alloc: Global, feeder: S) -> Result<Fed<S>, Fail> {
+    Ok(Fed {
+        conn: MemoryConn::make(alloc, &[SETUP_INTERLEAVED, PLAY, b""], &[], &[], 0)?,
+        feeder,
+        packet: packet(16)?,
+        out: Out::make(alloc)?,
+        receives: 0,
+    })
 }
 
-// Serves the connection: what it was sent, how it ended, and how many entries of its caller there
-// were with those of the other.
+// The replies and the frames, one behind the other.
+fn wanted(alloc: Global) -> Result<Vec<u8>, Fail> {
+    repeated(
+        alloc,
+        &[
+            (SETUP_REPLY, 1),
+            (PLAY_REPLY, 1),
+            (MEDIA_HEAD, 1),
+            (packet_bytes(16).as_slice(), 6),
+            (REPORT, 1),
+        ],
+    )
+}
+
+// What a connection came to: how it ended, what it was sent, and how many entries of its caller
+// there were with those of the other.
+#[derive(Drop)]
+struct Streamed {
+    end: TunnelEnd,
+    sent: Vec<u8>,
+    entries: u64,
+}
+
+fn outcome(
+    alloc: Global,
+    conn: &MemoryConn,
+    end: TunnelEnd,
+    entries: u64,
+) -> Result<Streamed, Fail> {
+    Ok(Streamed {
+        end,
+        sent: Vec::from_slice(alloc, conn.sent())?,
+        entries,
+    })
+}
+
+// Serves the connection: how it ended.
+fn serve<R: Wait + Sync, S: Service + Drop>(
+    caller: &mut TunnelCaller<R>,
+    conn: &mut Fed<S>,
+    room: &mut TunnelRoom,
+) -> TunnelEnd {
+    let mut pacer = MemoryPacer::new();
+    let mut draws = Draws::make(&KEY, 0);
+    serve_tunnel(caller, conn, &mut pacer, &mut draws, room)
+}
+
+// Serves the connection of one caller, which another caller feeds.
 fn stream<R: Wait + Sync>(
     rt: &R,
     alloc: Global,
     server: &SharedTunnel,
     pass: TunnelPass,
-) -> Result<(Vec<u8>, TunnelEnd, u64), Fail>
+) -> Result<Streamed, Fail>
     requires of { IsOf pass server.now }
     requires knows { Knows (TunnelLegal server.now.setting) pass }
 {
+    let mut room = TunnelRoom::make(alloc)?;
     let mut pass = pass;
     let other = server.split(&mut pass);
-    let mut caller = TunnelCaller { rt, server, pass };
-    let mut conn = Fed {
-        conn: MemoryConn::make(alloc, &[SETUP_INTERLEAVED, PLAY, b""], &[], &[], 0)?,
-        feeder: TunnelCaller {
-            rt,
-            server,
-            pass: other,
-        },
-        packet: packet(16)?,
-        out: Out::make(alloc)?,
-        receives: 0,
+    let feeder = TunnelCaller {
+        rt,
+        server,
+        pass: other,
     };
-    let mut pacer = MemoryPacer::new();
-    let mut draws = Draws::make(&KEY, 0);
-    let mut room = TunnelRoom::make(alloc)?;
-    let end = serve_tunnel(&mut caller, &mut conn, &mut pacer, &mut draws, &mut room);
-    let sent = Vec::from_slice(alloc, conn.conn.sent())?;
-    Ok((sent, end, caller.pass.place()))
+    let mut conn = fed_by(alloc, feeder)?;
+    let mut caller = TunnelCaller { rt, server, pass };
+    let end = serve(&mut caller, &mut conn, &mut room);
+    outcome(alloc, &conn.conn, end, caller.pass.place())
 }
 
 #[test]
 fn frames_are_sent_where_nothing_comes_in(rt: HostRuntime) -> Result<(), Fail> {
     let alloc = rt.alloc();
+    let bytes = wanted(alloc)?;
     let (server, pass) = shared(alloc)?;
-    let (sent, end, entries) = stream(&rt, alloc, &server, pass)?;
-    let bytes = wanted(alloc, &packet(16)?)?;
-    assert_eq!(rt; end, TunnelEnd::Done);
-    assert_eq!(rt; sent.as_slice(), bytes.as_slice());
-    assert_eq!(rt; entries, 16);
+    let seen = stream(&rt, alloc, &server, pass)?;
+    assert_eq!(rt; seen.end, TunnelEnd::Done);
+    assert_eq!(rt; seen.sent.as_slice(), bytes.as_slice());
+    assert_eq!(rt; seen.entries, 16);
     Ok(())
 }

@@ -12,7 +12,6 @@ use satip_tunnel_worker::{WorkerRoom, run_tunnel_worker};
 use satip_worker::{WorkerEnd, WorkerKit};
 use satip_world::{ConnEnd, DoorKind};
 use std::alloc::Global;
-use std::process::Abort;
 use std::sync::Wait;
 use std::test::Fail;
 
@@ -23,13 +22,18 @@ const NOT_FOUND: &[u8] = b"HTTP/1.1 404 Not Found\r\nConnection: close\r\n\r\n";
 
 type Kit = WorkerKit<MemoryDoors, (), MemoryPacer>;
 
+// Adds a connection that receives this text.
+fn add(doors: &mut MemoryDoors, alloc: Global, kind: DoorKind, text: &[u8]) -> Result<(), Fail> {
+    let conn = MemoryConn::make(alloc, &[text], &[], &[], 0)?;
+    doors.add(kind, CLIENT, conn)?;
+    Ok(())
+}
+
 // Doors by which an RTSP and an HTTP connection come.
 fn kit(alloc: Global) -> Result<Kit, Fail> {
     let mut doors = MemoryDoors::make(alloc, 2, &[], &[])?;
-    let rtsp = MemoryConn::make(alloc, &[OPTIONS], &[], &[], 0)?;
-    doors.add(DoorKind::Rtsp, CLIENT, rtsp)?;
-    let http = MemoryConn::make(alloc, &[GET], &[], &[], 0)?;
-    doors.add(DoorKind::Http, CLIENT, http)?;
+    add(&mut doors, alloc, DoorKind::Rtsp, OPTIONS)?;
+    add(&mut doors, alloc, DoorKind::Http, GET)?;
     Ok(WorkerKit {
         doors,
         outlet: (),
@@ -54,25 +58,26 @@ fn work<R: Wait + Sync>(
     (end, caller.pass.place())
 }
 
-// Each connection was handed back as done, and was sent its reply.
-fn sees(rt: &impl Abort, kit: &Kit) {
-    let replies = [OPTIONS_REPLY, NOT_FOUND];
-    assert_eq!(rt; kit.doors.returned().len(), 2);
-    for (handed, reply) in kit.doors.returned().iter().zip(&replies) {
-        assert_eq!(rt; handed.end, ConnEnd::Done);
-        assert_eq!(rt; handed.conn.sent(), *reply);
+const REPLIES: [&[u8]; 2] = [OPTIONS_REPLY, NOT_FOUND];
+
+// Whether both connections were handed back as done, and each was sent its reply.
+fn are_served(kit: &Kit) -> bool {
+    for (handed, reply) in kit.doors.returned().iter().zip(&REPLIES) {
+        if handed.end != ConnEnd::Done || handed.conn.sent() != *reply {
+            return false;
+        }
     }
+    kit.doors.returned().len() == 2
 }
 
 #[test]
 fn a_worker_serves_both_kinds(rt: HostRuntime) -> Result<(), Fail> {
     let alloc = rt.alloc();
     let (server, pass) = shared(alloc)?;
-    let mut kit = kit(alloc)?;
     let mut room = WorkerRoom::make(alloc)?;
-    let (end, entries) = work(&rt, &server, pass, &mut kit, &mut room);
-    assert_eq!(rt; end, WorkerEnd::Closed);
-    assert_eq!(rt; entries, 5);
-    sees(&rt, &kit);
+    let mut kit = kit(alloc)?;
+    let seen = work(&rt, &server, pass, &mut kit, &mut room);
+    assert!(rt; seen == (WorkerEnd::Closed, 5));
+    assert!(rt; are_served(&kit));
     Ok(())
 }

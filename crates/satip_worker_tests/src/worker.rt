@@ -1,8 +1,9 @@
 //! Connections and workers over memory and a scripted service.
+ghost use Rattle.std.specs.Prelude.{◌≡◌, false};
 
 mod script;
 
-use satip_base::Peer;
+use satip_base::{Draw, Peer};
 use satip_fixtures::texts::{is_joined, joined};
 use satip_memory::{MemoryConn, MemoryDoors, MemoryOutlet, MemoryPacer};
 use satip_plain::Pulled;
@@ -189,22 +190,36 @@ fn conn_of(alloc: Global, row: &Row) -> Result<MemoryConn, Fail> {
     Ok(MemoryConn::make(alloc, &[&whole], &[], row.sends, row.passed)?)
 }
 
-fn serve<R: Wait + Sync>(rt: &R, alloc: Global, row: &Row) -> Result<Report, Fail> {
-    let mut service = Scripted::new(row.starts, row.pulls, row.posting, row.room);
-    let mut conn = conn_of(alloc, row)?;
-    let mut outlet = MemoryOutlet::make(alloc, row.posts)?;
+// Serves a connection with the draws of the key: how it ended, and the pauses.
+fn serve_with<R: Wait + Sync>(
+    rt: &R,
+    kind: DoorKind,
+    service: &mut Scripted,
+    conn: &mut MemoryConn,
+    outlet: &mut MemoryOutlet,
+    room: &mut Room,
+) -> (ConnEnd, u64)
+    requires free { outlet.old.held ≡ false }
+{
     let mut pacer = MemoryPacer::new();
     let mut draws = Draws::make(&KEY, 1);
-    let mut room = Room::make(alloc)?;
     let end = serve_connection(
+        rt, service, kind, CLIENT, conn, outlet, &mut pacer, &mut draws, room,
+    );
+    (end, pacer.pauses())
+}
+
+fn serve<R: Wait + Sync>(rt: &R, alloc: Global, row: &Row) -> Result<Report, Fail> {
+    let mut room = Room::make(alloc)?;
+    let mut outlet = MemoryOutlet::make(alloc, row.posts)?;
+    let mut conn = conn_of(alloc, row)?;
+    let mut service = Scripted::new(row.starts, row.pulls, row.posting, row.room);
+    let (end, pauses) = serve_with(
         rt,
-        &mut service,
         row.kind,
-        CLIENT,
+        &mut service,
         &mut conn,
         &mut outlet,
-        &mut pacer,
-        &mut draws,
         &mut room,
     );
     Ok(Report {
@@ -212,7 +227,7 @@ fn serve<R: Wait + Sync>(rt: &R, alloc: Global, row: &Row) -> Result<Report, Fai
         service,
         sent: Vec::from_slice(alloc, conn.sent())?,
         datagrams: outlet.count(),
-        pauses: pacer.pauses(),
+        pauses,
     })
 }
 
@@ -226,26 +241,28 @@ fn has_draws(service: &Scripted, draws: &mut Draws, count: usize) -> bool {
     true
 }
 
+// Whether serving a connection came to the numbers and the draws that its row gives.
+fn has_numbers(row: &Row, report: &Report) -> bool {
+    let mut draws = Draws::make(&KEY, 1);
+    report.pauses == row.pauses.unwrap_or(report.pauses)
+        && report.datagrams == row.datagrams.unwrap_or(report.datagrams)
+        && has_draws(&report.service, &mut draws, row.draws)
+}
+
+// Whether serving a connection came to what its row says.
+fn is_met(row: &Row, report: &Report) -> bool {
+    report.end == row.end
+        && report.service.kinds() == row.kinds
+        && is_joined(&report.sent, row.sent)
+        && has_numbers(row, report)
+}
+
 #[test]
 fn connections_come_to_what_their_rows_say(rt: HostRuntime) -> Result<(), Fail> {
     for row in ROWS {
         let report = serve(&rt, rt.alloc(), row)?;
         let name = row.name;
-        assert!(rt; report.end == row.end, "{name}");
-        assert!(rt; report.service.kinds() == row.kinds, "{name}");
-        assert!(rt; is_joined(&report.sent, row.sent), "{name}");
-        assert_eq!(rt;
-            report.pauses,
-            row.pauses.unwrap_or(report.pauses),
-            "{name}"
-        );
-        assert_eq!(rt;
-            report.datagrams,
-            row.datagrams.unwrap_or(report.datagrams),
-            "{name}"
-        );
-        let mut draws = Draws::make(&KEY, 1);
-        assert!(rt; has_draws(&report.service, &mut draws, row.draws), "{name}");
+        assert!(rt; is_met(row, &report), "{name}");
     }
     Ok(())
 }
@@ -279,6 +296,20 @@ fn sent(alloc: Global, doors: &MemoryDoors) -> Result<Vec<u8>, Fail> {
     Ok(all)
 }
 
+type Kit = WorkerKit<MemoryDoors, MemoryOutlet, MemoryPacer>;
+
+fn outcome(alloc: Global, kit: &Kit, service: Scripted, end: WorkerEnd) -> Result<Shift, Fail> {
+    let handed = handed(alloc, &kit.doors)?;
+    let sent = sent(alloc, &kit.doors)?;
+    Ok(Shift {
+        end,
+        service,
+        pauses: kit.pacer.pauses(),
+        handed,
+        sent,
+    })
+}
+
 fn work<R: Wait + Sync>(
     rt: &R,
     alloc: Global,
@@ -286,21 +317,15 @@ fn work<R: Wait + Sync>(
     mut service: Scripted,
     number: u64,
 ) -> Result<Shift, Fail> {
+    let mut room = Room::make(alloc)?;
     let mut kit = WorkerKit {
         doors,
         outlet: MemoryOutlet::make(alloc, &[])?,
         pacer: MemoryPacer::new(),
         key: KEY,
     };
-    let mut room = Room::make(alloc)?;
     let end = run_worker(rt, &mut service, &mut kit, number, &mut room);
-    Ok(Shift {
-        end,
-        service,
-        pauses: kit.pacer.pauses(),
-        handed: handed(alloc, &kit.doors)?,
-        sent: sent(alloc, &kit.doors)?,
-    })
+    outcome(alloc, &kit, service, end)
 }
 
 fn add(
@@ -315,23 +340,38 @@ fn add(
     Ok(())
 }
 
-#[test]
-fn a_worker_serves_its_connections_until_its_doors_fail(rt: HostRuntime) -> Result<(), Fail> {
-    let alloc = rt.alloc();
+// Doors by which an RTSP and an HTTP connection come, whose fourth call fails.
+fn failing_doors(alloc: Global) -> Result<MemoryDoors, Fail> {
     let mut doors = MemoryDoors::make(alloc, 0, &[2], &[4])?;
     add(&mut doors, alloc, DoorKind::Rtsp, OPTIONS, &[])?;
     add(&mut doors, alloc, DoorKind::Http, GET, &[1])?;
+    Ok(doors)
+}
+
+fn work_at_failing_doors<R: Wait + Sync>(rt: &R, alloc: Global) -> Result<Shift, Fail> {
+    let doors = failing_doors(alloc)?;
     let service = Scripted::new(true, [Pulled::Empty; 4], false, 4);
-    let shift = work(&rt, alloc, doors, service, 3)?;
-    assert!(rt; shift.end == WorkerEnd::DoorsFault && shift.pauses == 1);
-    assert!(rt; shift.service.kinds() == *b"RGC-");
-    assert!(rt; has_draws(&shift.service, &mut Draws::make(&KEY, 3), 2));
+    work(rt, alloc, doors, service, 3)
+}
+
+#[test]
+fn a_worker_serves_its_connections_until_its_doors_fail(rt: HostRuntime) -> Result<(), Fail> {
+    let shift = work_at_failing_doors(&rt, rt.alloc())?;
     let wanted = [
         (DoorKind::Rtsp, ConnEnd::Done),
         (DoorKind::Http, ConnEnd::WriteFault),
     ];
+    assert!(rt; shift.end == WorkerEnd::DoorsFault && shift.pauses == 1);
     assert!(rt; shift.handed.as_slice() == wanted.as_slice());
     assert_eq!(rt; shift.sent.as_slice(), OK);
+    Ok(())
+}
+
+#[test]
+fn a_worker_draws_for_each_message(rt: HostRuntime) -> Result<(), Fail> {
+    let shift = work_at_failing_doors(&rt, rt.alloc())?;
+    assert!(rt; shift.service.kinds() == *b"RGC-");
+    assert!(rt; has_draws(&shift.service, &mut Draws::make(&KEY, 3), 2));
     Ok(())
 }
 
@@ -359,15 +399,24 @@ fn a_worker_ends_with_its_doors_or_its_service(rt: HostRuntime) -> Result<(), Fa
     Ok(())
 }
 
+// The first words of the stream of the key 0, three a draw.
+const FIRST_DRAWS: [Draw; 2] = [
+    Draw {
+        word: 0xade0_b876,
+        ssrc: 0x903d_f1a0,
+        first: 0x5d40,
+    },
+    Draw {
+        word: 0x28bd_8653,
+        ssrc: 0xb819_d2bd,
+        first: 0x8da0,
+    },
+];
+
 #[test]
 fn draws_are_the_words_of_the_stream(rt: HostRuntime) {
     let mut draws = Draws::make(&[0; 32], 0);
-    let draw = draws.next();
-    assert_eq!(rt; draw.word, 0xade0_b876);
-    assert_eq!(rt; draw.ssrc, 0x903d_f1a0);
-    assert_eq!(rt; draw.first, 0x5d40);
-    let draw = draws.next();
-    assert_eq!(rt; draw.word, 0x28bd_8653);
-    assert_eq!(rt; draw.ssrc, 0xb819_d2bd);
-    assert_eq!(rt; draw.first, 0x8da0);
+    for draw in FIRST_DRAWS {
+        assert_eq!(rt; draws.next(), draw);
+    }
 }

@@ -10,7 +10,6 @@ use satip_fixtures::draws::next_word;
 use satip_memory::MemoryStore;
 use satip_pump::JobEnd;
 use std::alloc::Global;
-use std::process::Abort;
 use std::sync::Wait;
 use std::test::Fail;
 
@@ -149,26 +148,41 @@ fn plainly_pumped(
     })
 }
 
-// A pump beside the plain one over the same recordings: how many entries both made.
-fn beside<R: Abort + Wait + Sync>(
+// Two stores with the same recordings.
+fn two_stores(
+    alloc: Global,
+    words: &mut Words,
+    broken: bool,
+) -> Result<(MemoryStore, MemoryStore), Fail> {
+    let mut own = MemoryStore::make(alloc, &[])?;
+    let mut plain = MemoryStore::make(alloc, &[])?;
+    add_recordings(alloc, &mut own, &mut plain, words, broken)?;
+    Ok((own, plain))
+}
+
+// What a pump and the plain one come to over the same recordings.
+fn beside<R: Wait + Sync>(
     rt: &R,
     alloc: Global,
     words: &mut Words,
     broken: bool,
-) -> Result<usize, Fail> {
-    let mut store = MemoryStore::make(alloc, &[])?;
-    let mut plain = MemoryStore::make(alloc, &[])?;
-    add_recordings(alloc, &mut store, &mut plain, words, broken)?;
+) -> Result<(Run, Run), Fail> {
+    let (store, mut plain) = two_stores(alloc, words, broken)?;
     let later = words.up_to(140) as usize;
     let stop = later.saturating_add(words.up_to(200) as usize);
     let own = pumped(rt, alloc, store, later, stop)?;
     let other = plainly_pumped(alloc, &mut plain, later, stop)?;
-    assert_eq!(rt; own.end, Some(JobEnd::Stopped));
-    assert!(rt; are_same(&own.notes, &other.notes));
-    assert_eq!(rt; own.pauses, other.pauses);
-    assert_eq!(rt; own.lent, 0);
-    assert_eq!(rt; other.lent, 0);
-    Ok(own.notes.len())
+    Ok((own, other))
+}
+
+// Whether a pump was stopped, made the same entries and pauses as the plain one, and no source of
+// either is out.
+fn are_alike(own: &Run, plain: &Run) -> bool {
+    own.end == Some(JobEnd::Stopped)
+        && own.pauses == plain.pauses
+        && own.lent == 0
+        && plain.lent == 0
+        && are_same(&own.notes, &plain.notes)
 }
 
 #[test]
@@ -176,8 +190,9 @@ fn a_pump_does_what_the_plain_one_does(rt: HostRuntime) -> Result<(), Fail> {
     let mut words = Words { last: 25 };
     let mut calls = 0usize;
     for round in 0..ROUNDS {
-        let made = beside(&rt, rt.alloc(), &mut words, round % 2 == 0)?;
-        calls = calls.saturating_add(made);
+        let (own, plain) = beside(&rt, rt.alloc(), &mut words, round % 2 == 0)?;
+        assert!(rt; are_alike(&own, &plain), "round {round}");
+        calls = calls.saturating_add(own.notes.len());
     }
     assert!(rt; calls >= 10_000);
     Ok(())
