@@ -1,19 +1,16 @@
-//! The program: `satip_program::satip` over the words, the standard streams, the files and the exit
-//! status.
+//! Starts the program: hands words, standard streams and a desk over the system to the top call.
+//! Contract: none; `main` exits with the status that the top call returns.
 #![tactic(auto)]
 
-mod desk;
-#[cfg(test)]
-mod tests;
-
-use desk::RealDesk;
 use satip_base::{ReadSource, Sink, Text, Want, WriteSink};
+use satip_real_desk::RealDesk;
 use satip_world::ConnEnd;
 use std::alloc::Global;
 use std::env::{Env, FillError};
 use std::process::ExitCode;
 
-// No form has as many words, and a longer word is none of a form.
+// No form has as many words. A word over `WORD` bytes is read as an empty one, which no form takes:
+// so a QUERY may not be longer, though the form sets no limit.
 const WORDS: usize = 8;
 
 const WORD: usize = 4096;
@@ -39,13 +36,13 @@ fn main(rt: HostRuntime) -> ExitCode {
         &mut desk,
     );
     if let Some(wire) = ended.wire.take() {
-        // A server takes the last request before the connection goes.
+        // Closes gracefully, so that the server receives the last request.
         wire.close(rt, ConnEnd::Done);
     }
     ExitCode::from(ended.status)
 }
 
-// The words behind the program's name.
+// Reads the words after the program's name, at most `WORDS`.
 fn read_words(env: &impl Env, alloc: Global) -> Result<Vec<Text>, Want> {
     let mut words = Vec::new(alloc);
     for place in 1..=WORDS {
@@ -60,7 +57,8 @@ fn read_words(env: &impl Env, alloc: Global) -> Result<Vec<Text>, Want> {
     Ok(words)
 }
 
-// The word at a place, if there is one; an empty text for one that isn't UTF-8 or is too long.
+// Reads the word at a place, if there is one. One that isn't UTF-8 or is too long is read as an
+// empty text.
 fn read_word(env: &impl Env, alloc: Global, place: usize) -> Result<Option<Text>, Want> {
     let mut buf = [0u8; WORD];
     match env.arg(place, &mut buf) {

@@ -9,10 +9,10 @@ use Rattle.satip_base.specs.Output.{IsWithinRoom, Output}
 use Rattle.satip_plain.specs.declared.answers.Answer.{Answer}
 use Rattle.satip_plain.specs.declared.events.Event.{Event}
 use Rattle.satip_plain.specs.Values.{AreBytes}
-use Rattle.satip_records.specs.Lines.{entry_line}
-use Rattle.satip_records.specs.Records.{record_text}
-use Rattle.satip_records.proofs.Bounds.{record_bound}
-use Rattle.satip_record_reader.specs.ReadingEntries.{Entry, IsEntry, entry_text}
+use Rattle.satip_entry_writer.specs.Lines.{entry_line}
+use Rattle.satip_entry_writer.specs.Records.{record_text}
+use Rattle.satip_entry_writer.proofs.Bounds.{record_bound}
+use Rattle.satip_entry_reader.specs.ReadingEntries.{Entry, IsEntry, entry_text}
 use Rattle.satip_audit.specs.Cuts.{words_line}
 use Rattle.satip_audit.specs.Journals.{IsPlaced, Placed, placed, placed_line}
 use Rattle.satip_audit.specs.Verdicts.{output_of}

@@ -3,3 +3,11 @@ pub mod EachLemmas
 pub mod EntryLemmas
 pub mod LineLemmas
 pub mod PlaceLemmas
+pub mod CheckLemmas
+pub mod IndexLemmas
+pub mod LineAgain
+pub mod ReplayLemmas
+pub mod HistoryLemmas
+pub mod VerdictLemmas
+pub mod OneReading
+pub mod EndLemmas

@@ -10,7 +10,7 @@ is_byte at byte = byte == at
 abbrev pub IsCut : Option (Bor (List ℕ) × Bor (List ℕ)) → List ℕ → List ℕ → Type 0
 IsCut result piece rest = IsSomeAnd result (λ r. (r.0.now ≡ piece) × (r.1.now ≡ rest))
 
--- a line of two numbers and some digits behind a word
+-- a line of two numbers and some digits after a word
 abbrev pub words_line : ℕ → ℕ → List ℕ → List ℕ
 words_line place caller digits =
     codes "entry " ++ (decimal place ++ (codes " " ++ (decimal caller ++ (codes " " ++ (digits ++ codes "\n")))))

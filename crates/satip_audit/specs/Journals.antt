@@ -1,12 +1,12 @@
--- The text of journals: what its lines say, or the number of its first wrong line.
+-- The text of journals: the notes of its lines, or the number of its first wrong line.
 use Rattle.std.specs.Prelude.{◌≡◌, ◌≢◌, ℕ, ◌+◌, ◌<◌, ◌^◌, List, [], ◌∷◌, ◌++◌, length, flat_map, Result, Ok, Err}
 use Rattle.satip_base.specs.Output.{Output}
-use Rattle.satip_history.specs.Lists.{Each}
+use Rattle.satip_base.specs.Lists.{Each}
 use Rattle.satip_plain.specs.Values.{AreBytes}
 use Rattle.satip_plain.specs.declared.events.Event.{Event}
 use Rattle.satip_plain.specs.declared.answers.Answer.{Answer}
-use Rattle.satip_records.specs.Lines.{entry_line, start_line}
-use Rattle.satip_record_reader.specs.ReadingEntries.{Entry, IsEntry, entry_text}
+use Rattle.satip_entry_writer.specs.Lines.{entry_line, start_line}
+use Rattle.satip_entry_reader.specs.ReadingEntries.{Entry, IsEntry, entry_text}
 
 -- an entry, its place in a history, and the number of its caller
 pub record Placed : Type 0 where
@@ -14,11 +14,12 @@ pub record Placed : Type 0 where
   pub caller : ℕ
   pub entry : Entry
 
--- what a line says: the moment of the start, or an entry
+-- the content of a line: the moment of the start, or an entry
 pub data Note : Type 0 where
   Start : ℕ → Note
   Entered : Placed → Note
 
+-- the line of an entry
 abbrev pub placed_line : Placed → List ℕ
 placed_line p = entry_line p.place p.caller p.entry.event p.entry.answer p.entry.reply p.entry.datagrams
 
@@ -34,11 +35,12 @@ pub record IsPlaced (p : Placed) : Type 0 where
   pub entry : IsEntry p.entry
   pub bytes : AreBytes (entry_text p.entry)
 
+-- the values of a line are within their types
 abbrev pub IsNote : Note → Type 0
 IsNote (Start now) = now < 2 ^ 64
 IsNote (Entered p) = IsPlaced p
 
--- no line stands at the front of a text
+-- no line begins a text
 abbrev pub BeginsWithNone : List ℕ → Type 0
 BeginsWithNone text = (note : Note) (more : List ℕ) → IsNote note → text ≡ note_text note ++ more → ⊥
 
@@ -57,12 +59,12 @@ pub record IsText (text : List ℕ) (notes : List Note) : Type 0 where
   pub right : Each IsNote notes
   pub whole : text ≡ flat_map note_text notes
 
--- a text is journals whose lines say this, or its first wrong line has this number
+-- a text is journals with these notes, or its first wrong line has this number
 abbrev pub IsJournal : List ℕ → Result (List Note) ℕ → Type 0
 IsJournal text (Ok notes) = IsText text notes
 IsJournal text (Err number) = HasWrongLine text number
 
--- what was found on a line, with what an output then holds
+-- the entry of a line's values and of the output after reading it
 abbrev pub placed : ℕ → ℕ → Event → Answer → Output → Placed
 placed place caller event answer out = record {
   place = place;

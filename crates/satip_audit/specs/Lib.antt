@@ -4,3 +4,12 @@ pub mod Spots
 pub mod Journals
 pub mod Verdicts
 pub mod Rows
+pub mod Checks
+pub mod Indexes
+pub mod Replaying
+pub mod OneThing
+pub mod Printed
+pub mod Audits
+pub mod Ends
+pub mod CommandEnds
+pub use Rattle.satip_entry_reader.specs.ReadingEntries

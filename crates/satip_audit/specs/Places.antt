@@ -1,15 +1,16 @@
--- Places in a history: how often each is named, and which are named twice or missing.
+-- Places in a history: the number of times each is named, and which are named twice or missing.
 use Rattle.std.specs.Prelude.{◌≡◌, ℕ, suc, ◌<◌, ◌≤◌, ◌==◌, List, [], ◌∷◌}
 use Rattle.std.specs.List.{count_by}
 
--- how often a place is named
+-- the number of times a place is named
 abbrev pub times : List ℕ → ℕ → ℕ
 times places place = count_by (λ p. p == place) places
 
+-- a place is named twice or more
 abbrev pub HasTwice : List ℕ → ℕ → Type 0
 HasTwice places place = 2 ≤ times places place
 
--- a place that is named stands behind it
+-- the place isn't named, but a later one is
 pub record IsMissing (places : List ℕ) (place : ℕ) : Type 0 where
   pub none : times places place ≡ 0
   pub later : ℕ
@@ -21,12 +22,12 @@ pub record IsLeast (P : ℕ → Type 0) (place : ℕ) : Type 0 where
   pub holds : P place
   pub least : (q : ℕ) → q < place → P q → ⊥
 
--- none is less than the one before it, nor the first less than a bound
+-- the places don't fall, and the first isn't less than a bound
 abbrev pub Climbs : ℕ → List ℕ → Type 0
 Climbs low [] = Unit {0}
 Climbs low (place ∷ places) = (low ≤ place) × Climbs place places
 
--- each is more than the one before it, and the first no less than a bound
+-- each is more than the one before it, and the first isn't less than a bound
 abbrev pub Rises : ℕ → List ℕ → Type 0
 Rises low [] = Unit {0}
 Rises low (place ∷ places) = (low ≤ place) × Rises (suc place) places

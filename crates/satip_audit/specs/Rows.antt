@@ -6,7 +6,7 @@ use Rattle.satip_plain.specs.declared.answers.Beat.TheVariants.{Going, Stopping}
 use Rattle.satip_plain.specs.declared.events.Event.{Event}
 use Rattle.satip_plain.specs.declared.events.Event.TheVariants.{Stop, Tick}
 use Rattle.satip_plain.specs.Types.{Config}
-use Rattle.satip_audit.specs.declared.verdict.Verdict.TheVariants.{NoStart, Repeated, Missing, Differs, Yes}
+use Rattle.satip_audit.specs.declared.verdicts.Verdict.TheVariants.{NoStart, Repeated, Missing, Differs, Yes}
 use Rattle.satip_audit.specs.Journals.{Note, Start, Entered, Placed, note_text}
 use Rattle.satip_audit.specs.Verdicts.{IsVerdict}
 

@@ -1,4 +1,4 @@
-//! Lines and words, cut off a text, and digits decoded.
+//! Cuts lines and words off a text, and decodes digits.
 
 ghost use Rattle.std.specs.Prelude.{◌≡◌, ◌≢◌, ◌≤◌, ◌<◌, ◌∷◌, ◌++◌, [], List, ℕ, length, take, false, Some, IfSome};
 ghost use Rattle.std.specs.Bool.{MatchBool};
@@ -8,14 +8,14 @@ ghost use Rattle.satip_audit.specs.Cuts.{IsCut, is_byte};
 
 use memchr::memchr;
 
-/// Whether two texts are the same, byte for byte.
+/// Tells whether two texts are the same, byte for byte.
 pub fn same_bytes(a: &[u8], b: &[u8]) -> bool
     ensures same { MatchBool result (a.now ≡ b.now) (a.now ≢ b.now) }
 {
     a == b
 }
 
-// Where the first byte `at` stands.
+// Returns the place of the first byte `at`.
 fn place_of(text: &[u8], at: u8) -> Option<usize>
     ensures within { IfSome result (λ place. place < length text.now) }
     ensures finds { (piece rest : List ℕ) → list_any (is_byte at) piece ≡ false
@@ -24,7 +24,8 @@ fn place_of(text: &[u8], at: u8) -> Option<usize>
     memchr(at, text)
 }
 
-/// The text before the first byte `at`, and the text behind it; None where it has no such byte.
+/// Returns the text before the first byte `at`, and the text after it, or None if it has no such
+/// byte.
 pub(crate) fn cut(text: &[u8], at: u8) -> Option<(&[u8], &[u8])>
     ensures finds { (piece rest : List ℕ) → list_any (is_byte at) piece ≡ false
         → text.now ≡ piece ++ at ∷ rest → IsCut result piece rest }
@@ -36,7 +37,8 @@ pub(crate) fn cut(text: &[u8], at: u8) -> Option<(&[u8], &[u8])>
     Some((piece, rest.split_at(1).1))
 }
 
-/// The first line with the LF that ends it, and the text behind it; None where there is no LF.
+/// Returns the first line with the LF that ends it, and the text after it, or None if there is no
+/// LF.
 pub fn cut_line(text: &[u8]) -> Option<(&[u8], &[u8])>
     ensures whole { IfSome result (λ r. text.now ≡ r.0.now ++ r.1.now) }
     ensures shorter { IfSome result (λ r. length r.1.now < length text.now) }
@@ -50,8 +52,8 @@ pub fn cut_line(text: &[u8]) -> Option<(&[u8], &[u8])>
     Some((line, rest))
 }
 
-/// Decodes digits into the front of some room, and says how many bytes they are. None where they
-/// are no digits, or stand for more bytes than there is room for.
+/// Decodes digits into the front of `room`, and returns the count of their bytes. Returns None if
+/// they are no digits, or have more bytes than there is room for.
 pub(crate) fn decode(digits: &[u8], room: &mut [u8]) -> Option<usize>
     ensures within { IfSome result (λ count. count ≤ length room.new) }
     ensures finds { (bytes : List ℕ) → IsBytes bytes → length bytes ≤ length room.old

@@ -1,19 +1,23 @@
-//! The index of a journal: where each entry's line stands, by the place that it names.
+//! The index of a journal: the position of each entry's line in the text, by the place that it
+//! names.
 
 ghost use Rattle.std.specs.Prelude.{◌≡◌, ℕ, IfSome, IsNone, length};
 ghost use Rattle.std.specs.List.Sorted.{IsPermutation};
 ghost use Rattle.satip_audit.specs.Places.{Climbs, Counts, HasTwice, IsLeast, IsMissing, Rises, times};
 ghost use Rattle.satip_audit.specs.Spots.{places_of};
 
-/// An entry's line: the place that it names, and where it stands in the text.
+/// An entry's line: the place that it names, and its position and length in the text.
 #[derive(Clone, Copy, Debug, PartialEq, Eq, Drop)]
 pub struct Spot {
+    /// The place that the line names.
     pub place: u64,
+    /// The position of its first byte in the text.
     pub at: u32,
+    /// Its length in bytes.
     pub len: u32,
 }
 
-/// Puts spots into the order of their places.
+/// Sorts spots by their places.
 pub fn sort_spots(spots: &mut Vec<Spot>)
     ensures permutation { IsPermutation spots.old.items spots.new.items }
     ensures climbs { Climbs 0 (places_of spots.new.items) }
@@ -21,7 +25,7 @@ pub fn sort_spots(spots: &mut Vec<Spot>)
     spots.sort_unstable_by_key(|spot| spot.place);
 }
 
-/// The least place that two spots have, of spots in the order of their places.
+/// Returns the least place that two spots have, of spots in the order of their places.
 pub fn first_repeated(spots: &[Spot]) -> Option<u64>
     requires climbs { Climbs 0 (places_of spots.now) }
     ensures repeated { IfSome result (IsLeast (λ q. HasTwice (places_of spots.now) q)) }
@@ -35,7 +39,8 @@ pub fn first_repeated(spots: &[Spot]) -> Option<u64>
     None
 }
 
-/// The least place that no spot has below one that has, of spots whose places rise.
+/// Returns the least place that no spot has and that is below one that a spot has. The places of
+/// the spots must rise.
 pub fn first_missing(spots: &[Spot]) -> Option<u64>
     requires rises { Rises 0 (places_of spots.now) }
     ensures missing { IfSome result (IsLeast (λ q. IsMissing (places_of spots.now) q)) }

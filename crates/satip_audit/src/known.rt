@@ -1,16 +1,16 @@
-//! That the values of an entry are of their types.
+//! The values of an entry are of their types.
 
 ghost use Rattle.std.specs.Prelude.{IfSome};
 ghost use Rattle.satip_base.specs.Output.{IsWithinRoom, shown};
-ghost use Rattle.satip_history.specs.Lists.{Each};
-ghost use Rattle.satip_record_values.specs.ReadingAnswers.{IsAnswer};
-ghost use Rattle.satip_record_reader.specs.ReadingEntries.{IsEntry, IsTarget};
+ghost use Rattle.satip_base.specs.Lists.{Each};
+ghost use Rattle.satip_entry_reader.specs.ReadingAnswers.{IsAnswer};
+ghost use Rattle.satip_entry_reader.specs.ReadingEntries.{IsEntry, IsTarget};
 
 use satip_base::{Address, Out, SessionId};
 use satip_plain::{Answer, Event, GetAnswer, Pulled, Replied, Work, known_event};
 
-/// Hands to a caller's proof that an entry's numbers are within their types, and that its reply and
-/// its datagrams fit the room of one event.
+/// Gives a caller's proof the fact that an entry's numbers are within their types, and that its
+/// reply and its datagrams fit the room of one event. It does nothing.
 pub fn known_entry(event: &Event, answer: &Answer, out: &Out)
     ensures entry { IsEntry (record {
       event = event.now;

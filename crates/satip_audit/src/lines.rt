@@ -1,29 +1,33 @@
-//! What a line of journals says. A line is read as it may be meant, written again, and compared: so
-//! zeros in front, upper case and CR are wrong.
+//! Reads the lines of journals. A line is read leniently, written again, and compared. So leading
+//! zeros, upper case and CR are wrong.
 
 ghost use Rattle.std.specs.Prelude.{◌≡◌, ◌<◌, ◌^◌, ◌++◌, ◌∷◌, ℕ, List, length, decimal, false, Some, IfSome, IsNone, IsSomeAnd};
 ghost use Rattle.std.specs.List.{list_any};
-ghost use Rattle.satip_records.specs.Lines.{start_line};
+ghost use Rattle.satip_entry_writer.specs.Lines.{start_line};
 ghost use Rattle.satip_audit.specs.Cuts.{is_byte, words_line};
 ghost use Rattle.satip_audit.specs.Journals.{IsPlaced, Placed as PlacedEntry, placed, placed_line};
 
 use crate::cutting::{cut, decode, same_bytes};
 use crate::known::known_entry;
 use satip_base::{Out, read_number};
+use satip_entry_reader::read_record;
+use satip_entry_writer::{LineRoom, write_entry, write_start};
 use satip_plain::{Answer, Event, known_bytes};
-use satip_record_reader::read_record;
-use satip_records::{LineRoom, write_entry, write_start};
 
-/// What an entry's line names, but for the reply and the datagrams.
+/// The content of an entry's line, without the reply and the datagrams.
 #[derive(Drop)]
 pub struct Found {
+    /// The entry's place in the history.
     pub place: u64,
+    /// The number of the caller.
     pub caller: u64,
+    /// The event.
     pub event: Event,
+    /// The answer.
     pub answer: Answer,
 }
 
-// A number with a space behind it, and what stands behind that.
+// Reads a number with a space after it. Returns the rest of the text with it.
 fn number_word(text: &[u8]) -> Option<(u64, &[u8])>
     ensures finds { (number : ℕ) (rest : List ℕ) → number < 2 ^ 64
         → text.now ≡ decimal number ++ 32 ∷ rest
@@ -38,7 +42,7 @@ fn number_word(text: &[u8]) -> Option<(u64, &[u8])>
     Some((number, rest))
 }
 
-// The number that stands between a space and the end of a line.
+// Reads the number between a space and the end of a line.
 fn start_word(line: &[u8]) -> Option<u64>
     ensures finds { (now : ℕ) → now < 2 ^ 64 → line.now ≡ start_line now → result ≡ Some now }
 {
@@ -51,7 +55,8 @@ fn start_word(line: &[u8]) -> Option<u64>
     read_number(digits, u64::MAX)
 }
 
-// Two numbers behind a word, and what stands between them and the end of a line.
+// Reads the two numbers after a word. Returns with them the text between them and the end of the
+// line.
 fn entry_words(line: &[u8]) -> Option<(u64, u64, &[u8])>
     ensures finds { (place caller : ℕ) (digits : List ℕ) → place < 2 ^ 64 → caller < 2 ^ 64
         → list_any (is_byte 10) digits ≡ false → line.now ≡ words_line place caller digits
@@ -72,7 +77,7 @@ fn entry_words(line: &[u8]) -> Option<(u64, u64, &[u8])>
     Some((place, caller, digits))
 }
 
-/// The moment that a start line names; None where it is none.
+/// Returns the moment of a start line, or None if the line is no start line.
 pub fn read_start(line: &[u8], room: &mut LineRoom) -> Option<u64>
     ensures right { IfSome result (λ now. line.now ≡ start_line now) }
     ensures within { IfSome result (λ now. now < 2 ^ 64) }
@@ -88,8 +93,8 @@ pub fn read_start(line: &[u8], room: &mut LineRoom) -> Option<u64>
     Some(now)
 }
 
-/// What an entry's line names, and into `out` its reply and its datagrams; None where it is none.
-/// The record is decoded into some room.
+/// Returns the content of an entry's line, and writes its reply and its datagrams into `out`.
+/// Returns None if the line is no entry's. The record is decoded into `record_room`.
 pub fn read_entry(
     line: &[u8],
     out: &mut Out,

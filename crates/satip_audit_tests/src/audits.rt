@@ -1,6 +1,6 @@
 //! Audits over memory: what is written of journals, and their wrong lines.
 
-use satip_auditing::{AuditEnd, audit};
+use satip_audit::{AuditEnd, audit};
 use satip_fixtures::texts::CONFIGURATION;
 use satip_memory::{MemorySink, MemorySource};
 use std::alloc::Global;

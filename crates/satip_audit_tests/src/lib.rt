@@ -1,4 +1,4 @@
-//! Audits over memory by example: verdicts and wrong lines. It has nothing but tests.
+//! Tests `audit` over memory: each status, each verdict, wrong lines, one changed byte.
 #![tactic(auto)]
 
 #[cfg(test)]

@@ -1,20 +1,20 @@
--- How datagrams are kept: one behind the other in one list of bytes.
+-- The fields of a list of datagrams: all bytes are in one list, one datagram after another.
 use Rattle.std.specs.Prelude.{◌≡◌, ℕ, ◌-◌, ◌≤◌, List, [], ◌∷◌, map, slice_range, vec_len, vec_capacity}
 use Rattle.satip_base.specs.declared.datagrams.Head.{Head}
 use Rattle.satip_base.specs.declared.datagrams.Datagrams.TheInside.{Inside}
 use Rattle.satip_base.specs.Output.{Datagram}
 use Rattle.satip_base.specs.Bundles.{Bundle}
 
--- the datagram of a head: its part of the bytes
+-- the datagram of a head: its range of the bytes
 abbrev pub cut_of : List ℕ → Head → Datagram
 cut_of bytes head = record { to = head.to; bytes = slice_range bytes head.start head.end }
 
--- the heads' parts lie one behind the other, from one place to another
+-- the ranges of the heads follow one another without a gap, from one place to another
 abbrev pub Tiles : ℕ → ℕ → List Head → Type 0
 Tiles from to [] = from ≡ to
 Tiles from to (head ∷ heads) = (head.start ≡ from) × (from ≤ head.end) × Tiles head.end to heads
 
--- what a list of datagrams shows
+-- the value of a list of datagrams in contracts
 abbrev pub bundle_of : Inside → Bundle
 bundle_of d = record {
   datagrams = map (cut_of d.bytes.items) d.heads.items;
@@ -24,7 +24,7 @@ bundle_of d = record {
   count_spare = d.count_room - vec_len d.heads;
 }
 
--- all its memory is there, and the heads' parts make up the bytes
+-- the memory for the whole room is allocated, and the heads' ranges make up the bytes
 pub record IsSound (d : Inside) : Type 0 where
   pub bytes : vec_len d.bytes ≤ d.byte_room
   pub bytes_reserved : d.byte_room ≤ vec_capacity d.bytes

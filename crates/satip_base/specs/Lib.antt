@@ -6,3 +6,5 @@ pub mod DatagramFields
 pub mod OutFields
 pub mod Printed
 pub mod Streams
+pub mod Lists
+pub mod History

@@ -1,10 +1,10 @@
--- How an `Out` keeps what it holds.
+-- The fields of an `Out`.
 use Rattle.std.specs.Prelude.{◌≡◌, ◌-◌, ◌≤◌, vec_len, vec_capacity}
 use Rattle.satip_base.specs.declared.limits.TheConstants.{REPLY_BYTES, EVENT_BYTES, EVENT_DATAGRAMS}
 use Rattle.satip_base.specs.declared.out.Out.TheInside.{Inside}
 use Rattle.satip_base.specs.Output.{Output}
 
--- what an `Out` shows
+-- the value of an `Out` in contracts
 abbrev pub output_of : Inside → Output
 output_of o = record {
   reply = o.reply.items;
@@ -14,7 +14,7 @@ output_of o = record {
   count_spare = o.datagrams.count_spare;
 }
 
--- all its memory is there
+-- the memory for the whole room is allocated
 pub record IsSound (o : Inside) : Type 0 where
   pub reply : vec_len o.reply ≤ REPLY_BYTES
   pub reply_reserved : REPLY_BYTES ≤ vec_capacity o.reply

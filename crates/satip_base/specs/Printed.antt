@@ -1,7 +1,7 @@
--- What is printed onto a strip.
+-- Writes to a strip.
 use Rattle.std.specs.Prelude.{◌≡◌, ℕ, ◌+◌, List, ◌++◌, length}
 
--- bytes were appended to a strip
+-- the strip after bytes were appended
 pub record Printed (o : List ℕ) (bs : List ℕ) (n : List ℕ) : Type 0 where
   pub bytes : n ≡ o ++ bs
   pub count : length n ≡ length o + length bs

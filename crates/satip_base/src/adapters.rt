@@ -1,4 +1,5 @@
-//! Sources and sinks over the standard streams and files. They tell nothing of content.
+//! Sources and sinks over the standard streams and files. Their contracts don't say which bytes are
+//! read or written.
 
 ghost use Rattle.std.specs.Prelude.{◌≡◌, ◌≤◌, length, IfSome};
 
@@ -7,10 +8,10 @@ use crate::tally::Tally;
 use std::io::{ErrorKind, Read, Write};
 use std::marker::Model;
 
-// How often a call that a signal interrupts is tried again.
+// A call that a signal interrupts is tried at most this many times.
 const TRIES: u32 = 1000;
 
-/// What a reader gives: standard input, or a file.
+/// A source over a reader: standard input, or a file.
 #[derive(Drop)]
 pub struct ReadSource<R: Read + Drop> {
     reader: R,
@@ -37,7 +38,7 @@ impl<R: Read + Drop> ReadSource<R> {
     ghost use Rattle.std.specs.Prelude.{[]};
     ghost use Rattle.satip_base.specs.Streams.{fresh_feed};
 
-    /// A source of what the reader has left.
+    /// Returns a source of the bytes that the reader has left.
     pub fn new(reader: R) -> ReadSource<R>
         ensures fresh { result ≡ fresh_feed [] }
     {
@@ -78,7 +79,7 @@ impl<R: Read + Drop> Source for ReadSource<R> {
     }
 }
 
-// How many bytes a read gave, or `None` where it failed.
+// Returns how many bytes were read, or `None` if the read failed.
 fn read_some<R: Read>(reader: &mut R, buf: &mut [u8]) -> Option<usize>
     ensures within { IfSome result (λ count. count ≤ length buf.new) }
 {
@@ -95,7 +96,7 @@ fn read_some<R: Read>(reader: &mut R, buf: &mut [u8]) -> Option<usize>
     None
 }
 
-/// What a writer is given: standard output, or standard error.
+/// A sink over a writer: standard output, or standard error.
 #[derive(Drop)]
 pub struct WriteSink<W: Write + Drop> {
     writer: W,
@@ -114,7 +115,7 @@ impl<W: Write + Drop> Model for WriteSink<W> {
 impl<W: Write + Drop> WriteSink<W> {
     ghost use Rattle.satip_base.specs.Streams.{fresh_drain};
 
-    /// A sink that hands on to the writer.
+    /// Returns a sink that passes all bytes on to the writer and flushes it.
     pub fn new(writer: W) -> WriteSink<W>
         ensures fresh { result ≡ fresh_drain }
     {

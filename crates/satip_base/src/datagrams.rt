@@ -10,8 +10,8 @@ use crate::outcomes::Want;
 use std::alloc::Global;
 use std::marker::Model;
 
-/// A list of datagrams, with room for so many of them and so many bytes together. All memory is
-/// taken when it is made.
+/// A list of datagrams with fixed limits for their count and for their bytes together. `make`
+/// allocates all its memory.
 #[derive(Drop)]
 pub struct Datagrams {
     bytes: Vec<u8>,
@@ -20,7 +20,7 @@ pub struct Datagrams {
     count_room: usize,
 }
 
-// Where a datagram goes, and which of the bytes it has.
+// The address of a datagram, and the range of its bytes.
 #[derive(Clone, Copy, Debug, PartialEq, Eq)]
 struct Head {
     to: Address,
@@ -41,7 +41,7 @@ impl Model for Datagrams {
 }
 
 impl Datagrams {
-    /// Takes memory for so many bytes and so many datagrams. `Want` where it was refused.
+    /// Allocates memory for `byte_room` bytes and `count_room` datagrams. `Want` is out of memory.
     pub fn make(alloc: Global, byte_room: usize, count_room: usize) -> Result<Datagrams, Want>
         ensures ok { IfOk result (λ datagrams. datagrams ≡ no_datagrams byte_room count_room) }
     {
@@ -53,7 +53,7 @@ impl Datagrams {
         })
     }
 
-    /// Lets go of all datagrams.
+    /// Removes all datagrams and keeps the memory.
     pub fn clear(&mut self)
         ensures empty { self.new ≡ no_datagrams self.old.byte_room self.old.count_room }
     {
@@ -61,7 +61,7 @@ impl Datagrams {
         self.heads.clear();
     }
 
-    /// How many datagrams there are.
+    /// Returns the number of datagrams.
     pub fn count(&self) -> usize
         ensures count { result ≡ length self.now.datagrams }
         ensures room { FillsRoom self.now }
@@ -69,21 +69,21 @@ impl Datagrams {
         self.heads.len()
     }
 
-    /// How many more bytes there is room for.
+    /// Returns how many more bytes there is room for.
     pub fn byte_spare(&self) -> usize
         ensures spare { result ≡ self.now.byte_spare }
     {
         self.byte_room - self.bytes.len()
     }
 
-    /// How many more datagrams there is room for.
+    /// Returns how many more datagrams there is room for.
     pub fn count_spare(&self) -> usize
         ensures spare { result ≡ self.now.count_spare }
     {
         self.count_room - self.heads.len()
     }
 
-    /// The datagram at a place, from 0, and where it goes; `None` where `place` isn't below the
+    /// Returns the datagram at `place`, from 0, and its address; `None` if `place` isn't below the
     /// count.
     pub fn datagram(&self, place: usize) -> Option<(Address, &[u8])>
         ensures datagram { shown result ≡ slice_get self.now.datagrams place }
@@ -95,7 +95,7 @@ impl Datagrams {
         Some((head.to, part(&self.bytes, head)))
     }
 
-    /// Appends a datagram.
+    /// Appends a datagram. The caller checks first that there is room.
     pub fn append(&mut self, to: Address, bytes: &[u8])
         requires count { self.old.count_spare ≢ 0 }
         requires bytes { length bytes.now ≤ self.old.byte_spare }
@@ -107,7 +107,8 @@ impl Datagrams {
         self.heads.push_reserved(Head { to, start, end });
     }
 
-    /// Appends to the last datagram.
+    /// Appends bytes to the last datagram. The caller checks first that there is one and that there
+    /// is room.
     pub fn extend(&mut self, bytes: &[u8])
         requires some { 0 < length self.old.datagrams }
         requires bytes { length bytes.now ≤ self.old.byte_spare }

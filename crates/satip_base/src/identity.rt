@@ -1,11 +1,12 @@
-//! What a session is known by.
+//! Session ids, and the numbers that are drawn for a session.
 
 ghost use Rattle.std.specs.Prelude.{◌≡◌, ◌≤◌, if◌then◌else◌, length};
 ghost use Rattle.std.specs.Char.{digit_value};
 ghost use Rattle.satip_base.specs.Texts.{id_text, id_of, half_of, is_id_digit};
 
-/// What is drawn for each message, for the session that it may found: the second half of the
-/// session's id, the SSRC of its RTP stream (RFC 3550, 5.1) and its first sequence number.
+/// The numbers drawn for each message, for the session that it may create. `word` is the second
+/// half of the session's id. `ssrc` is the SSRC of its RTP stream (RFC 3550, 5.1), and `first` its
+/// first sequence number.
 #[derive(Clone, Copy, Debug, PartialEq, Eq)]
 pub struct Draw {
     pub word: u32,
@@ -13,7 +14,7 @@ pub struct Draw {
     pub first: u16,
 }
 
-/// A session's id: how many sessions had been made with it, and its drawn word.
+/// A session's id: the number of sessions created up to it, itself included, and its drawn word.
 #[derive(Clone, Copy, Debug, PartialEq, Eq)]
 pub struct SessionId {
     pub count: u32,
@@ -21,7 +22,8 @@ pub struct SessionId {
 }
 
 impl SessionId {
-    /// Reads an id as `text` writes it (RFC 2326, 3.4): 16 lower-case hexadecimal digits.
+    /// Reads an id as `text` prints it (RFC 2326, 3.4): 16 lower-case hexadecimal digits. `None` if
+    /// it has another form.
     #[tactic(auto, unfolding(crate::specs::Texts::id_of))]
     pub fn read(bytes: &[u8]) -> Option<SessionId>
         ensures value { result ≡ id_of bytes.now }
@@ -36,7 +38,8 @@ impl SessionId {
         }
     }
 
-    /// The id as it is printed: 8 and 8 lower-case hexadecimal digits.
+    /// Returns the id as it is printed: 8 digits of the count, then 8 of the word, lower-case
+    /// hexadecimal.
     #[tactic(auto, using(crate::proofs::TextLemmas::printed_ids), unfolding(crate::specs::Texts::id_text))]
     pub fn text(self) -> [u8; 16]
         ensures printed { result ≡ id_text self }

@@ -1,4 +1,4 @@
-//! Who is spoken to: IPv4 addresses and UDP ports, as numbers in host order.
+//! IPv4 addresses and UDP ports, as numbers in host order.
 
 /// The host at the other end of a connection.
 #[derive(Clone, Copy, Debug, PartialEq, Eq)]
@@ -6,7 +6,7 @@ pub struct Peer {
     pub ip: u32,
 }
 
-/// Where a datagram goes.
+/// The destination of a datagram.
 #[derive(Clone, Copy, Debug, PartialEq, Eq)]
 pub struct Address {
     pub ip: u32,

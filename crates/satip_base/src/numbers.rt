@@ -5,8 +5,8 @@ ghost use Rattle.std.specs.List.{slice_split};
 ghost use Rattle.std.specs.Option.{option_copied};
 ghost use Rattle.satip_base.specs.Numbers.{number_of, number_within, octet_of, is_dot, ip_from, ip_of, parts_after};
 
-/// Reads a number of 1 to 20 decimal digits that is at most `max`. Zeros may stand in front; there
-/// is no sign and no blank.
+/// Reads a number of 1 to 20 decimal digits that is at most `max`. It may begin with zeros; a sign
+/// or a blank makes it `None`.
 #[tactic(auto, unfolding(crate::specs::Numbers::number_of))]
 pub fn read_number(bytes: &[u8], max: u64) -> Option<u64>
     ensures value { result ≡ number_of max bytes.now }
@@ -15,7 +15,7 @@ pub fn read_number(bytes: &[u8], max: u64) -> Option<u64>
 }
 
 /// Reads an IPv4 address in dotted decimal: four numbers of 1 to 3 digits, each at most 255, with a
-/// dot between them. The address is in host order.
+/// dot between them. The result is in host order.
 #[tactic(auto, using(crate::proofs::NumberLemmas::ip_of_five_parts), unfolding(crate::specs::Numbers::ip_of))]
 pub fn read_ip(bytes: &[u8]) -> Option<u32>
     ensures value { result ≡ ip_of bytes.now }
@@ -40,7 +40,7 @@ pub fn read_ip(bytes: &[u8]) -> Option<u32>
     )
 }
 
-// The bytes before the first dot, and those after it where there is one.
+// Returns the bytes before the first dot, and those after it if there is one.
 #[tactic(auto, using(crate::proofs::NumberLemmas::slice_split_at_dot, crate::proofs::NumberLemmas::slice_split_no_dot))]
 fn cut_at_dot(bytes: &[u8]) -> (&[u8], Option<&[u8]>)
     ensures parts { slice_split is_dot bytes.now

@@ -1,4 +1,4 @@
-//! What one event writes: a reply and datagrams.
+//! The output of one event: a reply and datagrams.
 
 ghost use Rattle.std.specs.Prelude.{◌≡◌, ◌≢◌, ◌<◌, ◌≤◌, [], length, decimal, IfOk, slice_get};
 ghost use Rattle.satip_base.specs.Output.{empty, shown, IsWithinRoom, Wrote, Sends, Extended};
@@ -14,8 +14,8 @@ use itoa::Buffer;
 use std::alloc::Global;
 use std::marker::Model;
 
-/// A reply and a list of datagrams, with room for 131072 bytes of reply and for 256 datagrams of
-/// 262144 bytes together. All memory is taken when it is made.
+/// A reply of at most 131072 bytes, and at most 256 datagrams of 262144 bytes together. `make`
+/// allocates all its memory.
 #[derive(Drop)]
 pub struct Out {
     reply: Vec<u8>,
@@ -35,7 +35,7 @@ impl Model for Out {
 }
 
 impl Out {
-    /// Takes all the memory that an `Out` ever uses.
+    /// Allocates all the memory that an `Out` ever uses. `Want` is out of memory.
     pub fn make(alloc: Global) -> Result<Out, Want>
         ensures ok { IfOk result (λ out. out ≡ empty) }
     {
@@ -45,7 +45,7 @@ impl Out {
         })
     }
 
-    /// Lets go of what is written.
+    /// Removes the reply and all datagrams, and keeps the memory.
     pub fn clear(&mut self)
         ensures empty { self.new ≡ empty }
     {
@@ -53,14 +53,14 @@ impl Out {
         self.datagrams.clear();
     }
 
-    /// The bytes of the reply; none where there is no reply.
+    /// Returns the bytes of the reply; they are empty if there is no reply.
     pub fn reply(&self) -> &[u8]
         ensures reply { result.now ≡ self.now.reply }
     {
         &self.reply
     }
 
-    /// How many datagrams there are.
+    /// Returns the number of datagrams.
     pub fn count(&self) -> usize
         ensures count { result ≡ length self.now.datagrams }
         ensures room { IsWithinRoom self.now }
@@ -68,14 +68,14 @@ impl Out {
         self.datagrams.count()
     }
 
-    /// How many more bytes of datagrams there is room for.
+    /// Returns how many more bytes of datagrams there is room for.
     pub fn room(&self) -> usize
         ensures room { result ≡ self.now.datagram_spare }
     {
         self.datagrams.byte_spare()
     }
 
-    /// The datagram at a place, from 0, and where it goes; `None` where `place` isn't below the
+    /// Returns the datagram at `place`, from 0, and its address; `None` if `place` isn't below the
     /// count.
     pub fn datagram(&self, place: usize) -> Option<(Address, &[u8])>
         ensures datagram { shown result ≡ slice_get self.now.datagrams place }
@@ -83,7 +83,7 @@ impl Out {
         self.datagrams.datagram(place)
     }
 
-    /// Appends to the reply.
+    /// Appends bytes to the reply.
     pub fn write(&mut self, bytes: &[u8])
         requires room { length bytes.now ≤ self.old.reply_spare }
         ensures wrote { Wrote self.old bytes.now self.new }
@@ -131,7 +131,7 @@ impl Out {
         self.datagrams.append(to, bytes);
     }
 
-    /// Begins an empty datagram.
+    /// Appends an empty datagram, which `extend` fills.
     pub fn begin(&mut self, to: Address)
         requires room { self.old.count_spare ≢ 0 }
         ensures begun { Sends self.old to [] self.new }
@@ -139,7 +139,7 @@ impl Out {
         self.datagrams.append(to, b"");
     }
 
-    /// Appends to the last datagram.
+    /// Appends bytes to the last datagram.
     pub fn extend(&mut self, bytes: &[u8])
         requires begun { 0 < length self.old.datagrams }
         requires room { length bytes.now ≤ self.old.datagram_spare }

@@ -1,13 +1,13 @@
-//! What a call answers that could not do its work.
+//! Errors of calls that couldn't do their work.
 
-/// Memory was refused; everything is as before the call.
+/// Out of memory: an allocation was refused. The call's contract says what is unchanged then.
 #[derive(Clone, Copy, Debug, PartialEq, Eq)]
 pub struct Want;
 
-/// A device failed: its count of faults rose.
+/// A device failed. Its count of faults rose, or has its greatest value.
 #[derive(Clone, Copy, Debug, PartialEq, Eq)]
 pub struct Failed;
 
-/// The history has 18446744073709551615 entries, and takes no further one.
+/// The history has 18446744073709551615 entries, so no further one is appended.
 #[derive(Clone, Copy, Debug, PartialEq, Eq)]
 pub struct Spent;

@@ -1,55 +1,58 @@
-//! Where bytes come from and go to.
+//! Sources and sinks of bytes.
 
 ghost use Rattle.std.specs.Prelude.{◌≤◌, length};
 
-/// What a call of `take` answers.
+/// The answer of a call of `take`.
 #[derive(Clone, Copy, Debug, PartialEq, Eq)]
 pub enum Taken {
-    /// So many bytes stand at the front of the buffer; at least one.
+    /// This many bytes were written to the start of the buffer; at least one.
     Got(usize),
-    /// There is nothing left, now and at each later call.
+    /// The source is at its end: nothing is left, at this call and at each later one.
     End,
-    /// The source failed, and its count of faults rose. Nothing was taken.
+    /// The source failed and nothing was taken. Its count of faults rose, or has its greatest
+    /// value.
     Failed,
 }
 
-/// What a call of `put` answers.
+/// The answer of a call of `put`.
 #[derive(Clone, Copy, Debug, PartialEq, Eq)]
 pub enum Put {
-    /// All of it was appended to what was sent.
+    /// All bytes were sent.
     Whole,
-    /// The sink failed, and its count of faults rose. A beginning was appended to what was sent.
+    /// The sink failed, and a prefix of the bytes was sent. Its count of faults rose, or has its
+    /// greatest value.
     Failed,
 }
 
-/// Bytes that are taken piece by piece.
+/// A source of bytes, which are taken piece by piece.
 pub trait Source {
     ghost use Rattle.satip_base.specs.Streams.{Feed, Takes};
 
-    // What is told of the content where this fact holds: always, or never.
+    // The condition under which contracts say which bytes are left: always true, or never.
     ghost tells: { Type 0 };
 
-    // The bytes that are left, whether the end was met, how often it failed, and how many bytes
-    // were taken.
+    // The bytes that are left, whether the end was met, the count of faults, and the count of bytes
+    // taken.
     ghost feed: { Self → Feed };
 
-    /// Takes some of the bytes that are left into the front of the buffer, which isn't empty.
+    /// Takes at least one of the bytes that are left, into the start of the buffer, which isn't
+    /// empty. Otherwise it returns the end or a failure.
     fn take(&mut self, buf: &mut [u8]) -> Taken
         requires room { 1 ≤ length buf.old }
         ensures takes { Takes tells (feed self.old) (feed self.new) buf.new result };
 }
 
-/// What bytes are sent to.
+/// A sink, which bytes are sent to.
 pub trait Sink {
     ghost use Rattle.satip_base.specs.Streams.{Drain, Puts};
 
-    // What is told of the content where this fact holds: always, or never.
+    // The condition under which contracts say which bytes were sent: always true, or never.
     ghost tells: { Type 0 };
 
-    // The bytes that were sent, and how often it failed.
+    // The bytes that were sent, and the count of faults.
     ghost drain: { Self → Drain };
 
-    /// Sends bytes behind those that were sent before.
+    /// Sends bytes after those that were sent before.
     fn put(&mut self, bytes: &[u8]) -> Put
         ensures puts { Puts tells (drain self.old) (drain self.new) bytes.now result };
 }

@@ -8,7 +8,7 @@ use crate::limits::REPORT;
 use itoa::Buffer;
 use std::marker::Model;
 
-/// A list of at most 1600 bytes. It takes no memory beside its own.
+/// A list of at most 1600 bytes. It allocates no memory.
 #[derive(Drop)]
 pub struct Strip {
     room: [u8; REPORT],
@@ -26,7 +26,7 @@ impl Model for Strip {
 }
 
 impl Strip {
-    /// An empty strip.
+    /// Returns an empty strip.
     pub fn new() -> Strip
         ensures empty { result ≡ [] }
     {
@@ -36,7 +36,7 @@ impl Strip {
         }
     }
 
-    /// What is printed onto it.
+    /// Returns the bytes that were written.
     pub fn bytes(&self) -> &[u8]
         ensures bytes { result.now ≡ self.now }
         ensures limit { length self.now ≤ REPORT }

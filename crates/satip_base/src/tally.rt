@@ -5,7 +5,7 @@ ghost use Rattle.std.specs.Borrow.{ftrue};
 
 use std::marker::Model;
 
-// How many bytes were taken. It takes no memory and has no greatest value.
+// The number of bytes taken. It uses no memory and has no greatest value.
 #[derive(Drop)]
 pub(crate) struct Tally {
     pub ghost bytes: { ℕ },

@@ -1,4 +1,4 @@
-//! Text that is kept.
+//! Texts that are kept.
 
 ghost use Rattle.std.specs.Prelude.{◌≡◌, IfOk};
 ghost use Rattle.std.specs.Str.{IsUtf8};
@@ -22,7 +22,7 @@ impl Model for Text {
 }
 
 impl Text {
-    /// Keeps a copy of a text.
+    /// Returns a copy of a text. `Want` is out of memory.
     pub fn of(alloc: Global, text: &str) -> Result<Text, Want>
         ensures ok { IfOk result (λ kept. kept ≡ text.now) }
     {
@@ -32,7 +32,7 @@ impl Text {
         }
     }
 
-    /// The bytes of the text.
+    /// Returns the bytes of the text, which are UTF-8.
     pub fn bytes(&self) -> &[u8]
         ensures bytes { result.now ≡ self.now }
         ensures utf8 { IsUtf8 self.now }

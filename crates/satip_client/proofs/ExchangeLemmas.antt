@@ -2,8 +2,8 @@
 use Rattle.std.proofs.Common.{◌≡◌, ℕ, Bool, true, false, IfOk, List, [], refl, sym, ◌∙◌, subst, append-nil, Result, Ok, Err}
 use Rattle.std.specs.Result.{is_err}
 use Rattle.satip_world.specs.Lines.{Line}
-use Rattle.satip_reply.specs.declared.reply.ReplyView.{ReplyView}
-use Rattle.satip_requests.specs.Grants.{IsNoGrant}
+use Rattle.satip_client.specs.declared.reply.ReplyView.{ReplyView}
+use Rattle.satip_client.specs.Grants.{IsNoGrant}
 use Rattle.satip_client.specs.Waits.{Asked, Asks}
 use Rattle.satip_client.specs.Exchanges.{HasAnswer, HasRefusal, HasOtherNumber, IsBadReply, EndsReading, Answered, AskWanted, EndsAsking, Starts, ReadsAccepted}
 use Rattle.satip_client.specs.declared.ending.RecordEnd.{RecordEnd}

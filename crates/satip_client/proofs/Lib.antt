@@ -2,3 +2,10 @@ pub mod PulseLemmas
 pub mod WaitLemmas
 pub mod ExchangeLemmas
 pub mod LineLemmas
+pub mod Bounds
+pub mod Cuts
+pub mod Values
+pub mod Sections
+pub mod Endings
+pub mod Lines
+pub mod HeadLemmas

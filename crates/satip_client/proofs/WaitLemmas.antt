@@ -3,9 +3,9 @@ use Rattle.std.proofs.Common.{◌≡◌, ◌⊎◌, inl, inr, ℕ, ◌<◌, ◌�
 use Rattle.std.proofs.lemmas.Bool.{cases_lt}
 use Rattle.satip_world.specs.Counts.{Rises}
 use Rattle.satip_world.specs.Lines.{Line, Grew, SentAll}
-use Rattle.satip_reply.specs.Heads.{Head, HasReply, print_head}
-use Rattle.satip_reply.specs.Replies.{NeverHasReply}
-use Rattle.satip_reply.proofs.Cuts.{cut, inside-shorter}
+use Rattle.satip_client.specs.Heads.{Head, HasReply, print_head}
+use Rattle.satip_client.specs.Replies.{NeverHasReply}
+use Rattle.satip_client.proofs.Cuts.{cut, inside-shorter}
 use Rattle.satip_client.specs.Waits.{IsOpen, IsSettled, WasIdleFor, Asked, Asks, Unanswered, AskFailed, idle_limit}
 use Rattle.satip_client.specs.declared.ending.RecordEnd.{RecordEnd}
 use Rattle.satip_client.specs.declared.ending.RecordEnd.TheVariants.{Done, OutputFault, Refused, BadReply, Silent, PeerFault, Closed, OutOfMemory}

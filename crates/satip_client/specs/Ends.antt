@@ -1,4 +1,4 @@
--- How a recording ends: its status and its line.
+-- The ends of a recording: their statuses and lines.
 use Rattle.std.specs.Prelude.{ℕ, List, [], ◌++◌, ◌∷◌, decimal, codes}
 use Rattle.satip_client.specs.declared.ending.RecordEnd.{RecordEnd}
 use Rattle.satip_client.specs.declared.ending.RecordEnd.TheVariants.{Done, OutputFault, Refused, BadReply, Silent, PeerFault, Closed, OutOfMemory}

@@ -3,3 +3,11 @@ pub mod Waits
 pub mod Leases
 pub mod Exchanges
 pub mod Pulses
+pub mod Heads
+pub mod Fields
+pub mod Places
+pub mod Replies
+pub mod ReplyRows
+pub mod Requests
+pub mod Grants
+pub mod RequestRows

@@ -1,42 +1,42 @@
--- How a client keeps its session alive: by a request once half of its time has gone by since the last mark.
+-- The keeping alive of a session: a client sends a request when half of its time is over since the last mark.
 use Rattle.std.specs.Prelude.{◌≡◌, ℕ, ◌+◌, ◌*◌, nat_le, Bool, if◌then◌else◌, List, [], ◌++◌, Result, Ok, Err}
 use Rattle.satip_world.specs.Counts.{Rises}
 use Rattle.satip_world.specs.Dials.{Dial, Reads}
 use Rattle.satip_world.specs.Lines.{Line, Grew}
-use Rattle.satip_requests.specs.Requests.{options_request}
+use Rattle.satip_client.specs.Requests.{options_request}
 use Rattle.satip_client.specs.Leases.{Terms}
 use Rattle.satip_client.specs.Waits.{SameFaults}
 use Rattle.satip_client.specs.declared.pulse.Pulse.{Pulse}
 use Rattle.satip_client.specs.declared.ending.RecordEnd.{RecordEnd}
 use Rattle.satip_client.specs.declared.ending.RecordEnd.TheVariants.{Done, OutputFault, Refused, BadReply, Silent, PeerFault, Closed, OutOfMemory}
 
--- whether half of the time has gone by: so many seconds are twice as many half seconds
+-- whether half of the time is over: `timeout` seconds are twice 500 * `timeout` milliseconds
 abbrev pub is_due_at : (timeout mark now : ℕ) → Bool
 is_due_at timeout mark now = nat_le (mark + timeout * 500) now
 
--- a reading of the clock after which a request is sent is the next mark
+-- the mark and the next number after a reading of the clock; a reading after which a request is sent is the next mark
 abbrev pub after_reading : ℕ → Pulse → ℕ → Pulse
 after_reading timeout pulse now =
     if is_due_at timeout pulse.mark now then record { mark = now; cseq = pulse.cseq + 1 } else pulse
 
--- what is sent after a reading
+-- the bytes sent after a reading
 abbrev pub sent_at : (address : List ℕ) → Terms → Pulse → ℕ → List ℕ
 sent_at address terms pulse now =
     if is_due_at terms.timeout pulse.mark now then options_request address pulse.cseq terms.session else []
 
--- after this reading what was due was sent
+-- after this reading the request was sent if it was due
 pub record Beat (tells : Type 0) (o n : Line) (address : List ℕ) (terms : Terms) (before now : Pulse) (moment : ℕ) : Type 0 where
   pub pulse : now ≡ after_reading terms.timeout before moment
   pub content : Grew tells o n [] (sent_at address terms before moment)
   pub faults : SameFaults o n
   pub idles : n.idles ≡ o.idles
 
--- it wasn't sent, for want of memory
+-- nothing was sent, since memory was refused
 pub record NotBeat (tells : Type 0) (o n : Line) : Type 0 where
   pub content : Grew tells o n [] []
   pub faults : SameFaults o n
 
--- a beginning of it was sent
+-- a prefix of the request was sent, and a fault was counted
 pub record BeatFailed (tells : Type 0) (o n : Line) (text : List ℕ) : Type 0 where
   pub part : List ℕ
   pub rest : List ℕ
@@ -44,7 +44,7 @@ pub record BeatFailed (tells : Type 0) (o n : Line) (text : List ℕ) : Type 0 w
   pub content : Grew tells o n [] part
   pub rose : Rises o.send_faults n.send_faults
 
--- one reading, and what was sent after it
+-- one reading, and the bytes sent after it
 abbrev pub BeatsAs : (tells : Type 0) (o n : Line) (address : List ℕ) (terms : Terms) (before now : Pulse) (moment : ℕ)
     → Result (Unit {0}) RecordEnd → Type 0
 BeatsAs tells o n address terms before now moment (Ok done) = Beat tells o n address terms before now moment
@@ -57,6 +57,7 @@ BeatsAs tells o n address terms before now moment (Err PeerFault) = BeatFailed t
 BeatsAs tells o n address terms before now moment (Err Closed) = ⊥
 BeatsAs tells o n address terms before now moment (Err OutOfMemory) = NotBeat tells o n
 
+-- the outcome of one call: a reading of the clock, and the bytes sent after it
 pub record Beats (tells : Type 0) (o n : Line) (d e : Dial) (address : List ℕ) (terms : Terms) (before now : Pulse)
     (result : Result (Unit {0}) RecordEnd) : Type 0 where
   pub moment : ℕ

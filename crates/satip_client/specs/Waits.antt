@@ -4,16 +4,16 @@ use Rattle.satip_world.specs.Counts.{Rises}
 use Rattle.satip_world.specs.Lines.{Line, Grew}
 use Rattle.satip_world.specs.declared.connections.Received.{Received}
 use Rattle.satip_world.specs.declared.connections.Received.TheVariants as got
-use Rattle.satip_reply.specs.Replies.{HasNoReply, CanBecomeReply}
+use Rattle.satip_client.specs.Replies.{HasNoReply, CanBecomeReply}
 use Rattle.satip_client.specs.declared.ending.RecordEnd.{RecordEnd}
 use Rattle.satip_client.specs.declared.ending.RecordEnd.TheVariants.{Done, OutputFault, Refused, BadReply, Silent, PeerFault, Closed, OutOfMemory}
 
--- the text begins with no whole reply, and more bytes can make one of it
+-- the text begins with no whole reply, and more bytes can make it begin with one
 pub record IsOpen (text : List ℕ) : Type 0 where
   pub no_reply : HasNoReply text
   pub can_become : CanBecomeReply text
 
--- the text begins with a whole reply, or no bytes make one of it
+-- the text begins with a whole reply, or no more bytes make it begin with one
 abbrev pub IsSettled : List ℕ → Type 0
 IsSettled text = IsOpen text → ⊥
 
@@ -22,11 +22,11 @@ pub record SameFaults (o n : Line) : Type 0 where
   pub receive_faults : n.receive_faults ≡ o.receive_faults
   pub send_faults : n.send_faults ≡ o.send_faults
 
--- nothing came in so often at least, or the count stands at its last value
+-- nothing came in at least `times` times, or the count is at its largest value
 abbrev pub WasIdleFor : (times : ℕ) → (o n : Line) → Type 0
 WasIdleFor times o n = (o.idles + times ≤ n.idles) ⊎ (18446744073709551615 ≤ n.idles)
 
--- what was received was put behind what was held
+-- the bytes received were appended to those held
 pub record TookIn (tells : Type 0) (o n : Line) (before now : List ℕ) : Type 0 where
   pub got : List ℕ
   pub held : now ≡ before ++ got
@@ -34,14 +34,14 @@ pub record TookIn (tells : Type 0) (o n : Line) (before now : List ℕ) : Type 0
   pub faults : SameFaults o n
   pub idles : o.idles ≤ n.idles
 
--- one receive
+-- the outcome of one receive
 abbrev pub TakesIn : (tells : Type 0) (o n : Line) (before now : List ℕ) → Received → Type 0
 TakesIn tells o n before now (got.Got count) = TookIn tells o n before now × (length before < length now) × (n.idles ≡ o.idles)
 TakesIn tells o n before now got.Idle = TookIn tells o n before now × (now ≡ before) × Rises o.idles n.idles
 TakesIn tells o n before now got.End = TookIn tells o n before now × (now ≡ before) × (n.ended ≡ true)
 TakesIn tells o n before now got.Failed = (now ≡ before) × Grew tells o n [] [] × Rises o.receive_faults n.receive_faults
 
--- a request was sent and bytes were received; what is held now is settled
+-- a request was sent and bytes were received; the bytes held then are settled
 pub record Asked (tells : Type 0) (o n : Line) (request before now : List ℕ) : Type 0 where
   pub got : List ℕ
   pub held : now ≡ before ++ got
@@ -50,7 +50,7 @@ pub record Asked (tells : Type 0) (o n : Line) (request before now : List ℕ) :
   pub idles : o.idles ≤ n.idles
   pub settled : IsSettled now
 
--- a request was sent, its reply isn't whole, and this is why none is awaited any more
+-- a request was sent, its reply isn't whole, and for this cause it isn't awaited any more
 pub record Unanswered (tells : Type 0) (o n : Line) (request before : List ℕ) (cause : Type 0) : Type 0 where
   pub got : List ℕ
   pub content : Grew tells o n got request
@@ -58,7 +58,7 @@ pub record Unanswered (tells : Type 0) (o n : Line) (request before : List ℕ) 
   pub still_open : IsOpen (before ++ got)
   pub cause_is : cause
 
--- a beginning of a request was sent, and a fault was counted
+-- a prefix of a request was sent, and a fault was counted
 pub record AskFailed (tells : Type 0) (o n : Line) (request : List ℕ) : Type 0 where
   pub got : List ℕ
   pub part : List ℕ
@@ -67,11 +67,11 @@ pub record AskFailed (tells : Type 0) (o n : Line) (request : List ℕ) : Type 0
   pub content : Grew tells o n got part
   pub rose : Rises o.receive_faults n.receive_faults ⊎ Rises o.send_faults n.send_faults
 
--- how often nothing may come in while one reply is awaited
+-- the number of idle receives after which a reply isn't awaited any more
 abbrev pub idle_limit : ℕ
 idle_limit = 10000
 
--- a request that is sent, and its reply
+-- the outcome of a request and its reply
 abbrev pub Asks : (tells : Type 0) (o n : Line) (request before now : List ℕ) → Result (Unit {0}) RecordEnd → Type 0
 Asks tells o n request before now (Ok done) = Asked tells o n request before now
 Asks tells o n request before now (Err Done) = ⊥

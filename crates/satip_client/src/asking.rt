@@ -5,11 +5,11 @@ ghost use Rattle.satip_client.specs.Waits.{Asks, IsOpen, IsSettled};
 
 use crate::ending::RecordEnd;
 use crate::heard::Heard;
+use crate::reply::{ReplyRead, read_reply};
 use satip_base::Put;
-use satip_reply::{ReplyRead, read_reply};
 use satip_world::{Conn, Received};
 
-/// How often nothing may come in while one reply is awaited.
+/// The number of idle receives after which a reply isn't awaited any more.
 const IDLES: u32 = 10000;
 
 /// Sends a request, and receives until its reply is whole or can't become whole.

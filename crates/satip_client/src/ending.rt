@@ -1,4 +1,4 @@
-//! How a recording ends.
+//! The ends of a recording.
 
 ghost use Rattle.std.specs.Prelude.{◌≡◌, []};
 ghost use Rattle.satip_client.specs.Ends.{line_for, status_of};
@@ -14,20 +14,20 @@ pub enum RecordEnd {
     OutputFault,
     /// A reply to SETUP or PLAY has this status, other than 200.
     Refused(u16),
-    /// What came isn't the reply that was awaited, or it gives no session or no stream.
+    /// The bytes received aren't the awaited reply, or it gives no session or no stream.
     BadReply,
-    /// A reply or the packets didn't come for too long.
+    /// A reply or the packets didn't arrive in time.
     Silent,
     /// The connection or the inlet failed.
     PeerFault,
     /// The connection ended before the reply.
     Closed,
-    /// There was no memory.
+    /// Memory was refused.
     OutOfMemory,
 }
 
 impl RecordEnd {
-    /// The program's exit status.
+    /// Returns the program's exit status.
     pub fn status(self) -> u8
         ensures status { result ≡ status_of self }
     {
@@ -43,7 +43,7 @@ impl RecordEnd {
         }
     }
 
-    /// Prints the line on standard error; nothing where all went well.
+    /// Prints the line on standard error; prints nothing for `Done`.
     #[tactic(auto, using(crate::proofs::LineLemmas::line_room))]
     pub fn print(self, line: &mut Strip)
         requires empty { line.old ≡ [] }

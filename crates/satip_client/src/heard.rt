@@ -1,4 +1,4 @@
-//! What came in on a connection and wasn't used yet.
+//! The bytes that came in on a connection and weren't used yet.
 
 ghost use Rattle.std.specs.Prelude.{◌≡◌, ◌+◌, ◌<◌, ◌≤◌, [], ◌++◌, drop, length};
 ghost use Rattle.satip_client.specs.Waits.{TakesIn};
@@ -28,7 +28,7 @@ impl Model for Heard {
 }
 
 impl Heard {
-    /// No bytes.
+    /// Creates an empty list.
     pub fn new() -> Heard
         ensures empty { result ≡ [] }
     {
@@ -38,7 +38,7 @@ impl Heard {
         }
     }
 
-    /// The bytes that came and weren't used yet, in their order.
+    /// Returns the bytes that came in and weren't used yet, in their order.
     pub fn bytes(&self) -> &[u8]
         ensures bytes { result.now ≡ self.now }
         ensures limit { length self.now ≤ 12288 }
@@ -55,7 +55,7 @@ impl Heard {
         self.count = end;
     }
 
-    /// Lets go of the first bytes.
+    /// Drops the first `count` bytes.
     pub(crate) fn pass(&mut self, count: usize)
         requires within { count ≤ length self.old }
         ensures left { self.new ≡ drop count self.old }
@@ -65,7 +65,7 @@ impl Heard {
         *self = rest;
     }
 
-    /// Receives once.
+    /// Receives once, and appends the bytes.
     pub(crate) fn take_in<W: Conn>(&mut self, wire: &mut W) -> Received
         requires room { length self.old < 12288 }
         ensures takes { TakesIn W.tells (W.line wire.old) (W.line wire.new) self.old self.new

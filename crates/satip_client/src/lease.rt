@@ -2,12 +2,12 @@
 
 ghost use Rattle.std.specs.Prelude.{◌≡◌, IfOk};
 
+use crate::grants::Grant;
 use satip_base::Want;
-use satip_requests::Grant;
 use std::alloc::Global;
 use std::marker::Model;
 
-/// The session's name, how many seconds it lives without a request, and its stream.
+/// The session's name, the seconds that it lives without a request, and its stream.
 #[derive(Drop)]
 pub struct Lease {
     session: Vec<u8>,
@@ -30,7 +30,7 @@ impl Model for Lease {
 impl Lease {
     ghost use Rattle.satip_client.specs.Leases.{terms_of};
 
-    /// Keeps what a reply gives.
+    /// Copies the grant of a reply.
     pub(crate) fn of(alloc: Global, grant: &Grant) -> Result<Lease, Want>
         ensures ok { IfOk result (λ lease. lease ≡ terms_of grant.now) }
     {
@@ -44,21 +44,22 @@ impl Lease {
         }
     }
 
-    /// The session's name, as the Session header of the SETUP's reply has it (RFC 2326, 12.37).
+    /// Returns the session's name, as the Session header of SETUP's reply has it (RFC 2326, 12.37).
     pub fn session(&self) -> &[u8]
         ensures session { result.now ≡ self.now.session }
     {
         &self.session
     }
 
-    /// After how many seconds without a request the server ends the session (RFC 2326, 12.37).
+    /// Returns the seconds without a request after which the server ends the session (RFC 2326,
+    /// 12.37).
     pub fn timeout(&self) -> u32
         ensures timeout { result ≡ self.now.timeout }
     {
         self.timeout
     }
 
-    /// The number of the stream, from the header `com.ses.streamID` (SAT>IP 1.2.2, 3.5.3).
+    /// Returns the number of the stream, from the header `com.ses.streamID` (SAT>IP 1.2.2, 3.5.3).
     pub fn stream(&self) -> u16
         ensures stream { result ≡ self.now.stream }
     {

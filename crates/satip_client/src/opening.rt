@@ -1,16 +1,17 @@
-//! The first two requests: the stream is set up, and is to play.
+//! The first two requests: they set the stream up and let it play.
 
 ghost use Rattle.std.specs.Prelude.{◌≡◌, ◌≤◌};
-ghost use Rattle.satip_requests.specs.Requests.{play_request, setup_request};
+ghost use Rattle.satip_client.specs.Requests.{play_request, setup_request};
 ghost use Rattle.satip_client.specs.Exchanges.{ReadsAccepted, ReadsGrant, SetsUp, Starts, end_of_fault};
 ghost use Rattle.satip_client.specs.Waits.{IsSettled};
 
 use crate::asking::ask;
 use crate::ending::RecordEnd;
+use crate::grants::{ReplyFault, accept, grant_of};
 use crate::heard::Heard;
 use crate::lease::Lease;
-use satip_reply::{ReplyRead, read_reply};
-use satip_requests::{Page, ReplyFault, accept, grant_of};
+use crate::page::Page;
+use crate::reply::{ReplyRead, read_reply};
 use satip_world::Conn;
 use std::alloc::Global;
 
@@ -23,7 +24,7 @@ fn end_of(fault: ReplyFault) -> RecordEnd
     }
 }
 
-/// Asks for a stream by a query, whose datagrams are to come to this port.
+/// Sets up a stream by a query. Its RTP datagrams go to `port`, and RTCP to the next one.
 pub fn set_up<W: Conn>(
     alloc: Global,
     wire: &mut W,
@@ -50,7 +51,7 @@ pub fn set_up<W: Conn>(
     }
 }
 
-// What the text grants, and how many bytes the reply has.
+// Returns the grant in the text, and the number of bytes of the reply.
 fn grant(alloc: Global, text: &[u8]) -> Result<(Lease, usize), RecordEnd>
     requires settled { IsSettled text.now }
     ensures grants { ReadsGrant text.now result }
@@ -68,7 +69,7 @@ fn grant(alloc: Global, text: &[u8]) -> Result<(Lease, usize), RecordEnd>
     }
 }
 
-/// Asks that the stream play.
+/// Lets the stream play.
 pub fn start<W: Conn>(
     wire: &mut W,
     address: &[u8],
@@ -89,7 +90,7 @@ pub fn start<W: Conn>(
     accepted(heard.bytes())
 }
 
-// Whether the text accepts PLAY.
+// Checks that the text accepts PLAY.
 fn accepted(text: &[u8]) -> Result<(), RecordEnd>
     requires settled { IsSettled text.now }
     ensures accepts { ReadsAccepted text.now result }

@@ -5,19 +5,19 @@ ghost use Rattle.satip_client.specs.Pulses.{Beats, is_due_at};
 
 use crate::ending::RecordEnd;
 use crate::lease::Lease;
+use crate::page::Page;
 use satip_base::Put;
-use satip_requests::Page;
 use satip_world::{Clock, Conn};
 
-/// The moment of the last mark, and the number of the next request.
+/// The moment of the last mark, in milliseconds, and the number of the next request.
 #[derive(Clone, Copy, Debug, PartialEq, Eq)]
 pub struct Pulse {
     pub mark: u64,
     pub cseq: u32,
 }
 
-/// Reads the clock, and sends a request where half of the session's time has gone by since the
-/// mark; then this reading is the mark.
+/// Reads the clock, and sends OPTIONS if half of the session's time is over since the mark; then
+/// this reading is the mark.
 pub fn keep_alive<W: Conn, M: Clock>(
     wire: &mut W,
     moment: &mut M,

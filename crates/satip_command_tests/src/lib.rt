@@ -1,5 +1,4 @@
-//! The commands' parts by example: scripts, the lines of entries and replays. It has nothing but
-//! tests.
+//! Tests scripts, lines of entries, ends of replays and definitions of stress runs.
 #![tactic(auto)]
 
 #[cfg(test)]

@@ -3,13 +3,13 @@
 ghost use Rattle.std.specs.Prelude.{◌<◌};
 
 use satip_base::{Address, Draw, Out, Peer, Ports, SessionId};
+use satip_entry_reader::Reading;
+use satip_entry_writer::{LineRoom, write_entry, write_start};
 use satip_fixtures::texts::is_joined;
 use satip_http::{HttpRefusal, HttpRequest};
 use satip_pids::PidList;
 use satip_plain::{Answer, Beat, Event, GetAnswer, Pulled, Replied, Work};
 use satip_query::{PidsGiven, Query, QueryFault};
-use satip_record_values::Reading;
-use satip_records::{LineRoom, write_entry, write_start};
 use satip_rtsp::{Method, Request, SessionName};
 use satip_tune::{Fec, Key, Modulation, Pol, RollOff, System};
 use std::alloc::Global;

@@ -13,7 +13,6 @@ ghost use Rattle.satip_script.specs.Forms.{Other, Rtsp, form_of};
 ghost use Rattle.satip_script.specs.Printed.{entry_text, datagram_line};
 
 use satip_base::{Address, Draw, Out, Peer, Ports, SessionId};
-use satip_digits::read_packet;
 use satip_fixtures::texts::{OPTIONS, SETUP, repeated};
 use satip_fixtures::{CLIENT, DRAW};
 use satip_frame::{Break, Framer};
@@ -23,6 +22,7 @@ use satip_rtsp::{Method, Refusal, Request, SessionName};
 use satip_script::{
     EventParts, Line, Script, check_script, print_entry, read_get, read_line, read_request,
 };
+use satip_ts::read_packet;
 use std::alloc::Global;
 use std::test::Fail;
 

@@ -4,7 +4,7 @@ ghost use Rattle.std.specs.Prelude.{◌≡◌, false, [], ◌∷◌, None, Some,
 ghost use Rattle.satip_query.specs.Queries.{new_query};
 ghost use Rattle.satip_rtsp.specs.declared.requests.Method.TheVariants.{Options, Play};
 ghost use Rattle.satip_rtsp.specs.declared.requests.SessionName.TheVariants.{Named};
-ghost use Rattle.satip_history.specs.History.{entry};
+ghost use Rattle.satip_base.specs.History.{entry};
 ghost use Rattle.satip_plain.specs.declared.events.Event.TheVariants.{Request as Asked, Tick, Packet, Stop};
 ghost use Rattle.satip_plain.specs.declared.answers.Answer.TheVariants.{Replied, Beat};
 ghost use Rattle.satip_plain.specs.declared.answers.Beat.TheVariants.{Going};

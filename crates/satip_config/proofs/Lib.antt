@@ -8,3 +8,6 @@ pub mod Inverses
 pub mod TextRanges
 pub mod LimitLemmas
 pub mod KeyFaults
+pub mod LineLemmas
+mod ConfigLemmas
+mod ReadLemmas

@@ -27,7 +27,7 @@ fronts_of table = array_at (top_key names.Frontend) table >>= fronts_in
 unfoldable pub recordings_in : List Data → Reading (List Mux × List (List ℕ))
 recordings_in values = tables_in 0 256 (top_key names.Mux) values >>= recordings
 
--- the same; none where the key is missing
+-- the same for an optional value; none if the key is missing
 abbrev pub recordings_unless_missing : Option Data → Reading (List Mux × List (List ℕ))
 recordings_unless_missing None = Ok ([], [])
 recordings_unless_missing (Some value) = array (top_key names.Mux) value >>= recordings_in
@@ -57,14 +57,14 @@ configuration_of table = do
     files = found.1;
   })
 
--- the TOML document that bytes are, if they are one
+-- the TOML document of bytes, if they are one
 abbrev pub document : List ℕ → Option Members
 document bytes = if is_utf8 bytes then parse_document bytes else None
 
--- the document of at most 1048576 bytes
+-- the document of bytes, which are at most 1048576
 abbrev pub document_of : List ℕ → Reading Members
 document_of bytes = if nat_lt 1048576 (length bytes) then Err faults.Long else ok_or (document bytes) faults.NotToml
 
--- the configuration that bytes write, or their first fault
+-- the configuration of bytes, or their first fault
 unfoldable pub config : List ℕ → Reading Configuration
 config bytes = document_of bytes >>= configuration_of

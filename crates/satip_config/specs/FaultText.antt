@@ -1,10 +1,10 @@
--- How a fault of a configuration is printed.
+-- Texts of faults of a configuration.
 use Rattle.std.specs.Prelude.{ℕ, List, ◌++◌, codes}
 use Rattle.satip_config.specs.declared.fault.ConfigFault.{ConfigFault}
 use Rattle.satip_config.specs.declared.fault.ConfigFault.TheVariants as faults
 use Rattle.satip_config.specs.Keys.{key_text}
 
--- what stands after `configuration: ` in a message
+-- the text of a fault after `configuration: ` in a message
 abbrev pub fault_text : ConfigFault → List ℕ
 fault_text faults.Long = codes "too long"
 fault_text faults.NotToml = codes "not toml"

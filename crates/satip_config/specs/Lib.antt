@@ -6,3 +6,6 @@ pub mod Steps
 pub mod Values
 pub mod Entries
 pub mod Config
+pub mod Lines
+pub mod Reading
+pub mod Configurations

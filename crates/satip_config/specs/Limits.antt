@@ -1,10 +1,10 @@
--- What holds of every configuration that is read.
+-- The ranges of the values of every configuration that is read.
 use Rattle.std.specs.Prelude.{◌≡◌, ℕ, ◌≤◌, ◌<◌, ◌^◌, List, length, All}
 use Rattle.satip_tune.specs.declared.frontends.Front.{Front}
 use Rattle.satip_tune.specs.declared.frontends.Mux.{Mux}
 use Rattle.satip_config.specs.Configuration.{Configuration}
 
--- the number is one of these
+-- a number from `least` to `most`
 abbrev pub IsWithin : ℕ → ℕ → ℕ → Type 0
 IsWithin least most n = (least ≤ n) × (n ≤ most)
 
@@ -23,7 +23,7 @@ pub record IsReceivable (mux : Mux) : Type 0 where
 abbrev pub IsFileName : List ℕ → Type 0
 IsFileName name = IsWithin 1 255 (length name)
 
--- each number of the configuration is within its range
+-- each value of the configuration is within its range
 pub record IsWithinRanges (c : Configuration) : Type 0 where
   pub address : c.address < 2 ^ 32
   pub rtsp_port : IsWithin 1 65535 c.rtsp_port

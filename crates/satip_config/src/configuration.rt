@@ -1,24 +1,24 @@
-//! What a configuration is.
+//! Configurations.
 use satip_base::Text;
 use satip_tune::{Front, Mux};
 use std::marker::Model;
 
-/// The server's configuration. Contracts see its eight values, each vector as a list.
+/// The server's configuration. In contracts each of its vectors is a list.
 #[derive(Drop)]
 pub struct Config {
-    /// The IPv4 address that the server gives as its own, in host order.
+    /// The server's IPv4 address, in host order.
     pub address: u32,
     /// The TCP port for RTSP.
     pub rtsp_port: u16,
     /// The TCP port for HTTP.
     pub http_port: u16,
-    /// After how many seconds a session that wasn't heard of ends.
+    /// The timeout of a session, in seconds.
     pub timeout: u32,
-    /// How many connections are served at a time.
+    /// The number of connections that are served at a time.
     pub workers: u16,
     /// The front ends, numbered from 1 in order.
     pub fronts: Vec<Front>,
-    /// The multiplexes that can be received, numbered from 1 by their places.
+    /// The multiplexes that can be received, numbered from 1 in order.
     pub muxes: Vec<Mux>,
     /// The name of each multiplex's recording.
     pub files: Vec<Text>,

@@ -1,21 +1,21 @@
-//! Why a configuration isn't read.
+//! Faults of configurations.
 use crate::key::ConfigKey;
 use satip_base::Strip;
 use std::alloc::AllocFailed;
 use std::fmt;
 
-/// Why a text gives no configuration. But for `Want`, it is the text's first fault.
+/// The fault of a text that gives no configuration. Each but `Want` is the text's first fault.
 #[derive(Clone, Copy, Debug, PartialEq, Eq)]
 pub enum ConfigFault {
     /// The text has more than 1048576 bytes.
     Long,
     /// The bytes aren't a TOML document.
     NotToml,
-    /// The key is required and missing, or its value has another kind.
+    /// The key is required and missing, or its value is of a wrong kind.
     Shape(ConfigKey),
-    /// The key's value has the right kind and isn't allowed.
+    /// The key's value is of the right kind and isn't allowed.
     Value(ConfigKey),
-    /// Memory was refused, which says nothing of the text.
+    /// Out of memory, which says nothing about the text.
     Want,
 }
 
@@ -24,7 +24,7 @@ impl ConfigFault {
     ghost use Rattle.satip_base.specs.Printed.{Printed};
     ghost use Rattle.satip_config.specs.FaultText.{fault_text};
 
-    /// Appends the fault as it stands in a message, as `value of mux.1.freq`.
+    /// Appends the fault as messages print it: `value of mux.1.freq`.
     pub fn print(self, strip: &mut Strip)
         requires room { length strip.old + 33 ≤ 1600 }
         ensures printed { Printed strip.old (fault_text self) strip.new }
@@ -45,7 +45,7 @@ impl ConfigFault {
     }
 }
 
-/// Prints the fault as it stands in a message, as `value of mux.1.freq`.
+/// Prints the fault as messages print it: `value of mux.1.freq`.
 impl fmt::Display for ConfigFault {
     ghost use Rattle.std.specs.Prelude.{Some};
     ghost use Rattle.satip_config.specs.FaultText.{fault_text};

@@ -18,7 +18,7 @@ use satip_tune::{Front, System};
 use std::alloc::Global;
 use toml::{Table, Value};
 
-/// The source that an item names.
+/// Returns the source of an item: an integer from 1 to 255.
 fn source_of(item: &Value) -> Option<u32>
     ensures value { result ≡ option_and_then (within 1 255) (as_integer (view item.now)) }
     ensures range { IfSome result (λ n. n ≤ 255) }
@@ -26,14 +26,14 @@ fn source_of(item: &Value) -> Option<u32>
     within(item.as_integer()?, 1, 255)
 }
 
-/// The system that an item names.
+/// Returns the system with the name of an item.
 fn system_of(item: &Value) -> Option<System>
     ensures value { result ≡ option_and_then system_named (as_str (view item.now)) }
 {
     System::named(item.as_str()?.as_bytes())
 }
 
-/// The places of the sources that the items name.
+/// Returns the places of the sources of the items: place n is true if n is one of them.
 fn source_places(items: &[Value]) -> [bool; 256]
     ensures value { result ≡ source_places
         (filter_map (λ v. option_and_then (within 1 255) (as_integer (view v))) items.now) }
@@ -47,7 +47,7 @@ fn source_places(items: &[Value]) -> [bool; 256]
     places
 }
 
-/// Whether an item names the system.
+/// Returns whether an item has the name of the system.
 fn names_system(item: &Value, system: System) -> bool
     ensures value { result
         ≡ option_map_or (system_eq system) (option_and_then system_named (as_str (view item.now)))
@@ -66,7 +66,7 @@ fn names_system(item: &Value, system: System) -> bool
     }
 }
 
-/// Whether some item names the system.
+/// Returns whether some item has the name of the system.
 fn name_system(items: &[Value], system: System) -> bool
     ensures value { result ≡ list_any
         (λ v. option_map_or (system_eq system) (option_and_then system_named (as_str (view v)))
@@ -76,7 +76,7 @@ fn name_system(items: &[Value], system: System) -> bool
     items.iter().any(|item| names_system(item, system))
 }
 
-/// The places of the systems that the items name.
+/// Returns the places of the systems of the items: place 0 for DVB-S, place 1 for DVB-S2.
 #[tactic(auto, using(crate::proofs::Wholes::wholes), unfolding(crate::specs::Entries::system_places))]
 fn system_places(items: &[Value]) -> [bool; 2]
     ensures value { result ≡ system_places
@@ -87,21 +87,21 @@ fn system_places(items: &[Value]) -> [bool; 2]
     [dvbs, dvbs2]
 }
 
-/// Whether all items are integers.
+/// Returns whether all items are integers.
 fn are_integers(items: &[Value]) -> bool
     ensures value { result ≡ list_all (λ v. is_some (as_integer (view v))) items.now }
 {
     items.iter().all(|item| item.is_integer())
 }
 
-/// Whether all items are strings.
+/// Returns whether all items are strings.
 fn are_strings(items: &[Value]) -> bool
     ensures value { result ≡ list_all (λ v. is_some (as_str (view v))) items.now }
 {
     items.iter().all(|item| item.is_str())
 }
 
-/// Whether each item names a source.
+/// Returns whether each item is a source.
 fn name_sources(items: &[Value]) -> bool
     ensures value { result ≡ list_all
         (λ v. is_some (option_and_then (within 1 255) (as_integer (view v)))) items.now }
@@ -109,7 +109,7 @@ fn name_sources(items: &[Value]) -> bool
     items.iter().all(|item| source_of(item).is_some())
 }
 
-/// Whether each item names a system.
+/// Returns whether each item is a system.
 fn name_systems(items: &[Value]) -> bool
     ensures value { result ≡ list_all
         (λ v. is_some (option_and_then system_named (as_str (view v)))) items.now }
@@ -117,7 +117,7 @@ fn name_systems(items: &[Value]) -> bool
     items.iter().all(|item| system_of(item).is_some())
 }
 
-/// Whether the items are 1 to 255 sources.
+/// Returns whether the items are 1 to 255 sources.
 fn are_sources(items: &[Value]) -> bool
     ensures value { result ≡ (is_within 1 255 (length items.now) && list_all
         (λ v. is_some (option_and_then (within 1 255) (as_integer (view v)))) items.now) }
@@ -125,7 +125,7 @@ fn are_sources(items: &[Value]) -> bool
     is_counted(items, 1, 255) && name_sources(items)
 }
 
-/// Whether the items are one or two systems.
+/// Returns whether the items are one or two systems.
 fn are_systems(items: &[Value]) -> bool
     ensures value { result ≡ (is_within 1 2 (length items.now) && list_all
         (λ v. is_some (option_and_then system_named (as_str (view v)))) items.now) }
@@ -133,7 +133,7 @@ fn are_systems(items: &[Value]) -> bool
     is_counted(items, 1, 2) && name_systems(items)
 }
 
-/// The sources of an array.
+/// Returns the sources of an array.
 #[tactic(auto, unfolding(crate::specs::Entries::sources_in), using(crate::proofs::Lists::lists))]
 fn sources_in(items: &[Value], key: ConfigKey) -> Result<[bool; 256], ConfigFault>
     ensures value { result ≡ sources_in key (map view items.now) }
@@ -147,7 +147,7 @@ fn sources_in(items: &[Value], key: ConfigKey) -> Result<[bool; 256], ConfigFaul
     Ok(source_places(items))
 }
 
-/// The systems of an array.
+/// Returns the systems of an array.
 #[tactic(auto, unfolding(crate::specs::Entries::systems_in), using(crate::proofs::Lists::lists))]
 fn systems_in(items: &[Value], key: ConfigKey) -> Result<[bool; 2], ConfigFault>
     ensures value { result ≡ systems_in key (map view items.now) }
@@ -161,7 +161,7 @@ fn systems_in(items: &[Value], key: ConfigKey) -> Result<[bool; 2], ConfigFault>
     Ok(system_places(items))
 }
 
-/// The front end of a number.
+/// Returns the front end of the table with this number.
 #[tactic(auto, unfolding(crate::specs::Entries::front_at))]
 pub(crate) fn front_at(table: &Table, number: u16) -> Result<Front, ConfigFault>
     ensures value { result ≡ front_at number (table_view table.now) }
@@ -177,7 +177,7 @@ pub(crate) fn front_at(table: &Table, number: u16) -> Result<Front, ConfigFault>
     })
 }
 
-/// The front ends of an array of at most 16 tables.
+/// Returns the front ends of an array of at most 16 tables.
 fn read_fronts(alloc: Global, items: &[Value]) -> Result<Vec<Front>, ConfigFault>
     requires { length items.now ≤ 16 }
     ensures ok { IfOk result (λ fronts.
@@ -198,7 +198,7 @@ fn read_fronts(alloc: Global, items: &[Value]) -> Result<Vec<Front>, ConfigFault
     Ok(fronts)
 }
 
-/// The front ends of an array.
+/// Returns the front ends of an array.
 #[tactic(auto, unfolding(crate::specs::Config::fronts_in))]
 pub(crate) fn fronts_in(alloc: Global, items: &[Value]) -> Result<Vec<Front>, ConfigFault>
     ensures ok { IfOk result (λ fronts. fronts_in (map view items.now) ≡ Ok fronts.items) }

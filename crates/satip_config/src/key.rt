@@ -1,10 +1,10 @@
-//! The keys of a configuration, each with the table that it stands in.
+//! The keys of a configuration, each with its table.
 ghost use Rattle.std.specs.Prelude.{◌≡◌};
 
 use satip_base::Strip;
 use std::fmt;
 
-/// The kind of table that a key stands in.
+/// The kind of table that has a key.
 #[derive(Clone, Copy, Debug, PartialEq, Eq)]
 pub enum ConfigTable {
     /// The document itself.
@@ -15,7 +15,7 @@ pub enum ConfigTable {
     Mux,
 }
 
-/// The name of a key, as it stands before the `=`.
+/// The name of a key, which the text has before the `=`.
 #[derive(Clone, Copy, Debug, PartialEq, Eq)]
 pub enum ConfigName {
     Address,
@@ -35,7 +35,7 @@ pub enum ConfigName {
     File,
 }
 
-/// A key of a configuration: its table, the number of the entry that it stands in, and its name.
+/// A key of a configuration: its table, the number of the table among the entries, and its name.
 /// Entries are numbered from 1; at the top the number is 0.
 #[derive(Clone, Copy, Debug, PartialEq, Eq)]
 pub struct ConfigKey {
@@ -48,7 +48,7 @@ impl ConfigName {
     ghost use Rattle.std.specs.Prelude.{◌≤◌, length};
     ghost use Rattle.satip_config.specs.Keys.{name_text};
 
-    /// The name as it is written in a configuration.
+    /// Returns the name as configurations write it.
     pub fn text(self) -> &'static str
         ensures text { result.now ≡ name_text self }
         ensures short { length result.now ≤ 9 }
@@ -76,7 +76,7 @@ impl ConfigName {
 impl ConfigKey {
     ghost use Rattle.satip_config.specs.Keys.{top_key, front_key, mux_key};
 
-    /// A key of the document itself.
+    /// Returns a key of the document itself.
     pub fn top(name: ConfigName) -> ConfigKey
         ensures key { result ≡ top_key name }
     {
@@ -87,7 +87,7 @@ impl ConfigKey {
         }
     }
 
-    /// A key of the front end of this number.
+    /// Returns a key of the front end of this number.
     pub fn front(number: u16, name: ConfigName) -> ConfigKey
         ensures key { result ≡ front_key number name }
     {
@@ -98,7 +98,7 @@ impl ConfigKey {
         }
     }
 
-    /// A key of the multiplex of this number.
+    /// Returns a key of the multiplex of this number.
     pub fn mux(number: u16, name: ConfigName) -> ConfigKey
         ensures key { result ≡ mux_key number name }
     {
@@ -115,7 +115,7 @@ impl ConfigKey {
     ghost use Rattle.satip_base.specs.Printed.{Printed};
     ghost use Rattle.satip_config.specs.Keys.{key_text};
 
-    /// Appends the key as a message names it: `timeout`, `frontend.2.sources`, `mux.1.freq`.
+    /// Appends the key as messages print it: `timeout`, `frontend.2.sources`, `mux.1.freq`.
     #[tactic(auto, using(crate::proofs::Printing::number_room))]
     pub fn print(self, strip: &mut Strip)
         requires room { length strip.old + 24 ≤ 1600 }
@@ -140,7 +140,7 @@ impl ConfigKey {
     }
 }
 
-/// Prints the key as a message names it: `timeout`, `frontend.2.sources`, `mux.1.freq`.
+/// Prints the key as messages print it: `timeout`, `frontend.2.sources`, `mux.1.freq`.
 impl fmt::Display for ConfigKey {
     ghost use Rattle.std.specs.Prelude.{Some};
     ghost use Rattle.satip_config.specs.Keys.{key_text};

@@ -1,16 +1,25 @@
-//! The configuration file: a TOML text, read into the server's configuration or its first fault.
+//! Reads the configuration file, a TOML text, and prints the line of its first fault.
+//! Contract: the result is the configuration of the source's whole text, with which a server can be
+//! made, or why there is none: the text's first fault, a source that failed, or out of memory.
+//! Trusted: that the grammar of `toml` is the standard's.
 #![tactic(auto)]
 
 mod configuration;
 mod fault;
 mod fronts;
 mod key;
+mod lines;
 mod muxes;
 mod read;
+mod reading;
 mod values;
+mod whole;
 mod words;
 
 pub use configuration::Config;
 pub use fault::ConfigFault;
 pub use key::{ConfigKey, ConfigName, ConfigTable};
+pub use lines::{print_fault, say};
 pub use read::read_config;
+pub use reading::{ConfigurationEnd, read_configuration};
+pub use whole::{ReadFault, read_whole, take_some};

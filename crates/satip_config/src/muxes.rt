@@ -16,7 +16,7 @@ use satip_tune::Mux;
 use std::alloc::Global;
 use toml::{Table, Value};
 
-/// The multiplex of a number, and the name of its recording.
+/// Returns the multiplex of the table with this number, and the name of its recording.
 #[tactic(auto, unfolding(crate::specs::Entries::mux_at))]
 pub(crate) fn mux_at(alloc: Global, table: &Table, number: u16) -> Result<(Mux, Text), ConfigFault>
     ensures value { Reads result (mux_at number (table_view table.now)) }
@@ -37,7 +37,7 @@ pub(crate) fn mux_at(alloc: Global, table: &Table, number: u16) -> Result<(Mux, 
     Ok((mux, file))
 }
 
-/// The multiplexes of an array of at most 256 tables, and the names of their recordings.
+/// Returns the multiplexes of an array of at most 256 tables, and the names of their recordings.
 #[tactic(auto, unfolding(crate::specs::Entries::recordings))]
 fn read_muxes(alloc: Global, items: &[Value]) -> Result<(Vec<Mux>, Vec<Text>), ConfigFault>
     requires { length items.now ≤ 256 }
@@ -64,7 +64,7 @@ fn read_muxes(alloc: Global, items: &[Value]) -> Result<(Vec<Mux>, Vec<Text>), C
     Ok((muxes, files))
 }
 
-/// The multiplexes of an array, and the names of their recordings.
+/// Returns the multiplexes of an array, and the names of their recordings.
 #[tactic(auto, unfolding(crate::specs::Config::recordings_in))]
 pub(crate) fn recordings_in(
     alloc: Global,

@@ -20,8 +20,7 @@ use satip_tune::{Front, Mux};
 use std::alloc::Global;
 use toml::Table;
 
-/// How many bytes a configuration may have.
-/// The front ends of a document.
+/// Returns the front ends of a document.
 #[tactic(auto, unfolding(crate::specs::Config::fronts_of))]
 fn fronts_of(alloc: Global, table: &Table) -> Result<Vec<Front>, ConfigFault>
     ensures ok { IfOk result (λ fronts. fronts_of (table_view table.now) ≡ Ok fronts.items) }
@@ -32,7 +31,7 @@ fn fronts_of(alloc: Global, table: &Table) -> Result<Vec<Front>, ConfigFault>
     fronts_in(alloc, items)
 }
 
-/// The multiplexes of a document, and the names of their recordings.
+/// Returns the multiplexes of a document, and the names of their recordings.
 #[tactic(auto, unfolding(crate::specs::Config::recordings_of))]
 fn recordings_of(alloc: Global, table: &Table) -> Result<(Vec<Mux>, Vec<Text>), ConfigFault>
     ensures ok { IfOk result (λ found.
@@ -47,7 +46,7 @@ fn recordings_of(alloc: Global, table: &Table) -> Result<(Vec<Mux>, Vec<Text>), 
     }
 }
 
-/// The configuration of a document.
+/// Returns the configuration of a document.
 #[tactic(auto, unfolding(crate::specs::Config::configuration_of))]
 fn configuration_of(alloc: Global, table: &Table) -> Result<Config, ConfigFault>
     ensures value { Reads result (configuration_of (table_view table.now)) }
@@ -71,7 +70,7 @@ fn configuration_of(alloc: Global, table: &Table) -> Result<Config, ConfigFault>
     })
 }
 
-/// The bytes as a text, where they are UTF-8.
+/// Returns the bytes as a text, if they are UTF-8.
 #[tactic(auto, using(crate::proofs::Texts::texts))]
 fn text_of(bytes: &[u8]) -> Option<&str>
     ensures value { MatchOption result
@@ -84,7 +83,7 @@ fn text_of(bytes: &[u8]) -> Option<&str>
     }
 }
 
-/// The document of a text.
+/// Returns the document of a text.
 fn document_of(alloc: Global, bytes: &[u8]) -> Result<Table, ConfigFault>
     ensures ok { IfOk result (λ table. document_of bytes.now ≡ Ok (table_view table)) }
     ensures fault { IfErr result (λ e. e ≢ ConfigFault.Want → document_of bytes.now ≡ Err e) }
@@ -103,19 +102,19 @@ fn document_of(alloc: Global, bytes: &[u8]) -> Result<Table, ConfigFault>
 }
 
 /// Reads a configuration: TOML with the keys of the table in docs/PROTOCOL.md; other keys are
-/// ignored. The fault is the first one, in the order of that table: of one key a wrong kind comes
-/// before a value that isn't allowed, and `Long` and `NotToml` come before both. Only `Want` says
-/// nothing of the text.
+/// ignored. The error is the first fault, in the order of that table. For one key a wrong kind
+/// precedes a value that isn't allowed; `Long` and `NotToml` precede both. `Want` is out of memory,
+/// and says nothing about the text.
 #[tactic(auto, unfolding(crate::specs::Config::config))]
 pub fn read_config(alloc: Global, bytes: &[u8]) -> Result<Config, ConfigFault>
     ensures ok { IfOk result (λ c. config bytes.now ≡ Ok c) }
     ensures fault { IfErr result (λ e. e ≢ ConfigFault.Want → config bytes.now ≡ Err e) }
 
-    // When the faults come that aren't those of a key.
+    // The faults that aren't those of a key.
     ensures long { (result ≡ Err ConfigFault.Long) ↔ (CONFIGURATION < length bytes.now) }
     ensures not_toml { result ≡ Err ConfigFault.NotToml → document bytes.now ≡ None }
 
-    // What a configuration that is read always keeps.
+    // The properties of every configuration that is read.
     ensures front_count { IfOk result (λ c. IsWithin 1 16 (length c.fronts)) }
     ensures front_numbers { IfOk result
         (λ c. map (λ f. f.number) c.fronts ≡ range_with_len 1 (length c.fronts)) }

@@ -1,4 +1,4 @@
-//! What stands at the keys of a table: first whether it has the right kind, then whether it is
+//! The values of a table's keys: first whether a value has the right kind, then whether it is
 //! allowed.
 ghost use Rattle.std.specs.Prelude.{◌≡◌, ◌≤◌, Ok, Err, map, length, IfOk, IfSome, is_some, MatchResult, option_map};
 ghost use Rattle.std.specs.List.{list_all, filter_map};
@@ -11,14 +11,14 @@ use crate::fault::ConfigFault;
 use crate::key::ConfigKey;
 use toml::{Table, Value};
 
-/// The value at a key, if there is one.
+/// Returns the value of a key, if there is one.
 pub(crate) fn value_at(table: &Table, key: ConfigKey) -> Option<&Value>
     ensures value { option_map (λ v. view v.now) result ≡ value_at key (table_view table.now) }
 {
     table.get(key.name.text())
 }
 
-/// The value at a key that the table has to have.
+/// Returns the value of a required key.
 pub(crate) fn required(table: &Table, key: ConfigKey) -> Result<&Value, ConfigFault>
     ensures value { MatchResult result
         (λ v. required key (table_view table.now) ≡ Ok (view v.now))
@@ -27,7 +27,7 @@ pub(crate) fn required(table: &Table, key: ConfigKey) -> Result<&Value, ConfigFa
     value_at(table, key).ok_or(ConfigFault::Shape(key))
 }
 
-/// The number, where it is from `least` to `most`.
+/// Returns the number, if it is from `least` to `most`.
 pub(crate) fn within(number: i64, least: u32, most: u32) -> Option<u32>
     ensures value { result ≡ within least most number }
     ensures range { IfSome result (λ n. n ≤ most) }
@@ -44,7 +44,7 @@ pub(crate) fn within(number: i64, least: u32, most: u32) -> Option<u32>
     }
 }
 
-/// The integer that a value is, from `least` to `most`.
+/// Returns the integer of a value, from `least` to `most`.
 #[tactic(auto, unfolding(crate::specs::Values::number))]
 fn number(value: &Value, key: ConfigKey, least: u32, most: u32) -> Result<u32, ConfigFault>
     ensures value { result ≡ number least most key (view value.now) }
@@ -54,7 +54,7 @@ fn number(value: &Value, key: ConfigKey, least: u32, most: u32) -> Result<u32, C
     within(found, least, most).ok_or(ConfigFault::Value(key))
 }
 
-/// The integer at a required key.
+/// Returns the integer of a required key.
 #[tactic(auto, unfolding(crate::specs::Values::number_at))]
 pub(crate) fn number_at(
     table: &Table,
@@ -68,7 +68,7 @@ pub(crate) fn number_at(
     number(required(table, key)?, key, least, most)
 }
 
-/// The integer at a key, or the default where the key is missing.
+/// Returns the integer of a key, or the default if the key is missing.
 #[tactic(auto, unfolding(crate::specs::Values::number_or))]
 pub(crate) fn number_or(
     table: &Table,
@@ -87,7 +87,7 @@ pub(crate) fn number_or(
     }
 }
 
-/// The string at a required key.
+/// Returns the string of a required key.
 #[tactic(auto, unfolding(crate::specs::Values::text_at))]
 pub(crate) fn text_at(table: &Table, key: ConfigKey) -> Result<&str, ConfigFault>
     ensures value { MatchResult result
@@ -98,7 +98,7 @@ pub(crate) fn text_at(table: &Table, key: ConfigKey) -> Result<&str, ConfigFault
     value.as_str().ok_or(ConfigFault::Shape(key))
 }
 
-/// The items of the array that a value is.
+/// Returns the items of a value that is an array.
 #[tactic(auto, unfolding(crate::specs::Values::array))]
 pub(crate) fn array(value: &Value, key: ConfigKey) -> Result<&[Value], ConfigFault>
     ensures value { MatchResult result
@@ -111,7 +111,7 @@ pub(crate) fn array(value: &Value, key: ConfigKey) -> Result<&[Value], ConfigFau
     }
 }
 
-/// The items of the array at a required key.
+/// Returns the items of the array of a required key.
 #[tactic(auto, unfolding(crate::specs::Values::array_at))]
 pub(crate) fn array_at(table: &Table, key: ConfigKey) -> Result<&[Value], ConfigFault>
     ensures value { MatchResult result
@@ -121,21 +121,21 @@ pub(crate) fn array_at(table: &Table, key: ConfigKey) -> Result<&[Value], Config
     array(required(table, key)?, key)
 }
 
-/// Whether there are from `least` to `most` items.
+/// Returns whether there are from `least` to `most` items.
 pub(crate) fn is_counted(items: &[Value], least: usize, most: usize) -> bool
     ensures value { result ≡ is_within least most (length items.now) }
 {
     least <= items.len() && items.len() <= most
 }
 
-/// Whether all items are tables.
+/// Returns whether all items are tables.
 fn are_tables(items: &[Value]) -> bool
     ensures value { result ≡ list_all (λ v. is_some (as_table (view v))) items.now }
 {
     items.iter().all(|item| item.is_table())
 }
 
-/// Whether the items are from `least` to `most` tables.
+/// Checks that the items are from `least` to `most` tables.
 #[tactic(auto, unfolding(crate::specs::Values::tables_in), using(crate::proofs::Lists::tables))]
 pub(crate) fn check_tables(
     items: &[Value],

@@ -1,4 +1,4 @@
-//! The strings of a configuration that are read further.
+//! Strings of a configuration that are parsed further.
 ghost use Rattle.std.specs.Prelude.{◌≡◌};
 ghost use Rattle.toml.specs.View.{table_view};
 ghost use Rattle.satip_base.specs.Numbers.{ip_of};
@@ -14,7 +14,7 @@ use satip_tune::{Pol, System, read_frequency};
 use std::alloc::Global;
 use toml::Table;
 
-/// The IPv4 address at a key, in host order.
+/// Returns the IPv4 address of a key, in host order.
 #[tactic(auto, unfolding(crate::specs::Values::word_at))]
 pub(crate) fn address_at(table: &Table, key: ConfigKey) -> Result<u32, ConfigFault>
     ensures value { result ≡ word_at ip_of key (table_view table.now) }
@@ -23,7 +23,7 @@ pub(crate) fn address_at(table: &Table, key: ConfigKey) -> Result<u32, ConfigFau
     read_ip(text.as_bytes()).ok_or(ConfigFault::Value(key))
 }
 
-/// The frequency at a key, in kHz.
+/// Returns the frequency of a key, in kHz.
 #[tactic(auto, unfolding(crate::specs::Values::word_at))]
 pub(crate) fn frequency_at(table: &Table, key: ConfigKey) -> Result<u32, ConfigFault>
     ensures value { result ≡ word_at khz_of key (table_view table.now) }
@@ -32,7 +32,7 @@ pub(crate) fn frequency_at(table: &Table, key: ConfigKey) -> Result<u32, ConfigF
     read_frequency(text.as_bytes()).map_err(|_| ConfigFault::Value(key))
 }
 
-/// The polarisation at a key.
+/// Returns the polarisation of a key.
 #[tactic(auto, unfolding(crate::specs::Values::word_at))]
 pub(crate) fn pol_at(table: &Table, key: ConfigKey) -> Result<Pol, ConfigFault>
     ensures value { result ≡ word_at pol_named key (table_view table.now) }
@@ -41,7 +41,7 @@ pub(crate) fn pol_at(table: &Table, key: ConfigKey) -> Result<Pol, ConfigFault>
     Pol::named(text.as_bytes()).ok_or(ConfigFault::Value(key))
 }
 
-/// The delivery system at a key.
+/// Returns the delivery system of a key.
 #[tactic(auto, unfolding(crate::specs::Values::word_at))]
 pub(crate) fn system_at(table: &Table, key: ConfigKey) -> Result<System, ConfigFault>
     ensures value { result ≡ word_at system_named key (table_view table.now) }
@@ -50,7 +50,7 @@ pub(crate) fn system_at(table: &Table, key: ConfigKey) -> Result<System, ConfigF
     System::named(text.as_bytes()).ok_or(ConfigFault::Value(key))
 }
 
-/// The name of a file at a key, of 1 to 255 bytes.
+/// Returns the file name of a key, of 1 to 255 bytes.
 #[tactic(auto, unfolding(crate::specs::Values::word_at))]
 pub(crate) fn file_at(alloc: Global, table: &Table, key: ConfigKey) -> Result<Text, ConfigFault>
     ensures value { Reads result (word_at (counted 1 255) key (table_view table.now)) }

@@ -2,8 +2,8 @@
 use Rattle.std.proofs.Common.{◌≡◌, ℕ, ◌+◌, ◌≤◌, List, [], ◌∷◌, ◌++◌, map, length, refl, sym, subst}
 use Rattle.std.specs.List.{range_with_len}
 use Rattle.satip_base.specs.Output.{Output}
-use Rattle.satip_history.specs.History.{entry}
-use Rattle.satip_history.proofs.Elements.{Each-append}
+use Rattle.satip_base.specs.History.{entry}
+use Rattle.satip_base.proofs.Elements.{Each-append}
 use Rattle.satip_fronts.specs.FrontEnds.{IsNumbered}
 use Rattle.satip_plain.specs.declared.answers.Answer.{Answer}
 use Rattle.satip_plain.specs.declared.events.Event.{Event}

@@ -6,3 +6,4 @@ pub mod SetupLemmas
 pub mod PlayLemmas
 pub mod ServingLemmas
 pub mod HistoryLemmas
+pub mod PlaceLemmas

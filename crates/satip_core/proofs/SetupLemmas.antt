@@ -17,13 +17,14 @@ use Rattle.satip_plain.specs.State.{Session, Stream, State, change_where, same_i
 use Rattle.satip_fronts.specs.Choice.{Outlook}
 use Rattle.satip_query.specs.declared.bodies.RefusalBody.TheVariants.{NotOwner, NoMoreSessions, NoMoreFrontends}
 use Rattle.satip_plain.specs.Streams.{asked_pids, change_by, changed_tuning, outlook_of}
-use Rattle.satip_plain.specs.Refusals.{Refused, first_given, where_true, plainly, telling, front_missing, key_missing, new_outlook, not_owner, of_change, of_pids, of_tuning, stream_of_another, of_message, of_http_message, decide, decide_get, session_missing, stream_missing, is_setup, names_none, needs_session, changes, looks_at_stream, is_describe, is_full, makes_session, of_query, session_named, stream_meant}
+use Rattle.satip_plain.specs.Refusals.{Refused, first_given, where_true, plainly, telling, front_missing, key_missing, new_outlook, not_owner, of_change, of_pids, of_tuning, stream_of_another, of_message, of_http_message, decide, decide_get, session_missing, stream_missing, is_full, makes_session, of_query, session_named, stream_meant}
+use Rattle.satip_rtsp.specs.Methods.{is_setup, names_none, needs_session, changes, looks_at_stream, is_describe}
 use Rattle.satip_plain.specs.Steps.{accepted, change_session, found, hear, heard_by, is_session, join, least_free, next_id, no_ports, put_stream, set_up, setup, setup_number, setup_session}
 use Rattle.satip_state.specs.Kept.{Kept}
 use Rattle.satip_state.specs.Standing.{StandsFor}
 use Rattle.satip_state.proofs.Picking.{map_nothing}
 use Rattle.satip_core.specs.Doing.{Accepted, MaySetUp, SetUpAs}
-use Rattle.satip_refusals.specs.Places.{of_asked, of_names, of_setup}
+use Rattle.satip_core.specs.Places.{of_asked, of_names, of_setup}
 
 -- each cause that comes first isn't there, where none is
 given_none : (o : Option Refused) (more : List (Option Refused)) → first_given (o ∷ more) ≡ None → (o ≡ None) × (first_given more ≡ None)

@@ -3,3 +3,7 @@ pub mod Describing
 pub mod Doing
 pub mod Held
 pub mod Serving
+pub mod Told
+pub mod Places
+pub mod RefusalRows
+pub use Rattle.satip_state.specs.Standing

@@ -1,4 +1,4 @@
--- What is told of a session by its row of the table.
+-- Fields of a session, read from its row of the table.
 use Rattle.std.specs.Prelude.{Option, option_map}
 use Rattle.satip_base.specs.declared.identity.SessionId.{SessionId}
 use Rattle.satip_table.specs.declared.session.Session.{Session}

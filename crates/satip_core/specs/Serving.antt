@@ -1,4 +1,4 @@
--- What the server does at an event, against the plain server.
+-- The server's step at an event, compared with the plain server's.
 use Rattle.std.specs.Prelude.{◌≡◌, [], List}
 use Rattle.satip_base.specs.Output.{Output}
 use Rattle.satip_plain.specs.declared.answers.Answer.{Answer}
@@ -10,20 +10,20 @@ use Rattle.satip_state.specs.Standing.{StandsFor}
 use Rattle.satip_core.specs.Held.{Held}
 use Rattle.satip_core.specs.Doing.{Did}
 
--- a server that stands for a state of the plain server
+-- the server represents this state of the plain server
 abbrev pub Stands : Held → State → Type 0
 Stands s st = StandsFor s.setting.config s.kept st
 
--- whatever state the server stood for, it did the plain server's step
+-- from any state that the server represented, it did the plain server's step
 abbrev pub Steps : Held → Event → Held → Answer → Output → Type 0
 Steps old event new answer out = (st : State) → Stands old st → Did old.setting.config new.kept answer out (step old.setting.config st event)
 
--- the server stands for this state now, and sent nothing
+-- the server represents this state, and sent nothing
 pub record Rests (new : Held) (out : Output) (st : State) : Type 0 where
   pub stands : Stands new st
   pub sent : out.datagrams ≡ []
 
--- the history is legal in the server's setting, and the server stands for the state after it
+-- the history is legal in the server's setting, and the server represents the state after it
 pub record StandsAfter (s : Held) (h : List Item) : Type 0 where
   pub lawful : Legal s.setting h
   pub stands : Stands s (after s.setting h)

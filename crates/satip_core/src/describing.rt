@@ -44,7 +44,7 @@ pub fn write_description(
     write_sdp(config.address, fronts, shown, out);
 }
 
-// What stands where no stream is.
+// Returns the view that fills the unused places.
 fn no_view() -> StreamView {
     StreamView {
         number: 0,
@@ -56,7 +56,7 @@ fn no_view() -> StreamView {
     }
 }
 
-// Puts the wanted streams into the list, from its beginning, and answers how many they are.
+// Writes the views of the wanted streams to the start of the list; returns their count.
 fn view_all(parts: &Parts, named: Option<u16>, views: &mut [StreamView]) -> usize
     requires room { length views.old ≡ SESSIONS }
     ensures few { result ≤ SESSIONS }
@@ -72,7 +72,7 @@ fn view_all(parts: &Parts, named: Option<u16>, views: &mut [StreamView]) -> usiz
     count
 }
 
-// Puts a stream into the list, where it is wanted.
+// Writes the view of a stream to the list, if the stream is wanted; returns the new count.
 fn put_view(
     views: &mut [StreamView],
     count: usize,

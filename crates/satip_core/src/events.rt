@@ -1,4 +1,4 @@
-//! What ticks, packets, pumps, pulls and the stop do.
+//! Ticks, packets, pumps, pulls and closes.
 
 ghost use Rattle.std.specs.Prelude.{◌≡◌, if◌then◌else◌};
 ghost use Rattle.satip_base.specs.Output.{empty};
@@ -16,14 +16,14 @@ use satip_plain::{Beat, Closed, Pulled, Work};
 use satip_state::Parts;
 use satip_ts::Packet;
 
-// Whether the server goes on.
+// Returns whether the server goes on.
 fn beat_of(stopped: bool) -> Beat
     ensures beat { result ≡ (if stopped then Stopping else Going) }
 {
     if stopped { Beat::Stopping } else { Beat::Going }
 }
 
-/// The clock goes on: held packets leave, sessions end that weren't heard of, and reports leave.
+/// Advances the clock: held packets leave, sessions without activity end, and reports leave.
 pub fn tick(config: &Config, parts: &mut Parts, now: u64, out: &mut Out) -> Beat
     requires cleared { out.old ≡ empty }
     ensures did { (st : State) → StandsFor config.now parts.old st
@@ -34,7 +34,7 @@ pub fn tick(config: &Config, parts: &mut Parts, now: u64, out: &mut Out) -> Beat
     beat_of(stopped)
 }
 
-/// A front end's packet, for one of its tuning numbers.
+/// Delivers a packet of a front end's tune number; returns the next work of the pump.
 pub fn packet(parts: &mut Parts, front: u16, tune: u64, packet: &Packet, out: &mut Out) -> Work
     requires cleared { out.old ≡ empty }
     ensures did { (c : Configured) (st : State) → StandsFor c parts.old st
@@ -44,7 +44,7 @@ pub fn packet(parts: &mut Parts, front: u16, tune: u64, packet: &Packet, out: &m
     parts.work(front)
 }
 
-/// A front end's recording is exhausted, for one of its tuning numbers.
+/// Marks a front end's recording as ended, for a tune number; returns the next work of the pump.
 pub fn ended(parts: &mut Parts, front: u16, tune: u64) -> Work
     ensures stands { (c : Configured) (st : State) → StandsFor c parts.old st
         → StandsFor c parts.new (on_ended front tune st).state }
@@ -55,7 +55,7 @@ pub fn ended(parts: &mut Parts, front: u16, tune: u64) -> Work
     parts.work(front)
 }
 
-/// An HTTP session takes the first packets of its queue.
+/// Moves the first packets of an HTTP session's queue to the reply.
 pub fn pull(parts: &mut Parts, session: SessionId, out: &mut Out) -> Pulled
     requires cleared { out.old ≡ empty }
     ensures did { (c : Configured) (st : State) → StandsFor c parts.old st
@@ -64,7 +64,7 @@ pub fn pull(parts: &mut Parts, session: SessionId, out: &mut Out) -> Pulled
     parts.pull(session, out)
 }
 
-/// An HTTP session ends.
+/// Ends an HTTP session.
 pub fn close(parts: &mut Parts, session: SessionId, out: &mut Out) -> Closed
     requires cleared { out.old ≡ empty }
     ensures did { (c : Configured) (st : State) → StandsFor c parts.old st

@@ -1,8 +1,8 @@
-//! What an HTTP request does.
+//! The answers to HTTP requests.
 
 ghost use Rattle.std.specs.Prelude.{◌≡◌, false};
 ghost use Rattle.satip_base.specs.Output.{Wrote, empty};
-ghost use Rattle.satip_rtsp.specs.Replies.{IsStatus};
+ghost use Rattle.satip_query.specs.Statuses.{IsStatus};
 ghost use Rattle.satip_http.specs.Heads.{http_refusal};
 ghost use Rattle.satip_plain.specs.declared.answers.GetAnswer.TheVariants.{Refused as GetRefused};
 ghost use Rattle.satip_plain.specs.declared.answers.Answer.TheVariants.{Get};
@@ -12,19 +12,20 @@ ghost use Rattle.satip_plain.specs.Steps.{on_get, start as started};
 ghost use Rattle.satip_state.specs.Standing.{StandsFor};
 ghost use Rattle.satip_core.specs.Doing.{Did};
 
+use crate::deciding::decide_get;
+use crate::refusals::{Refused, telling};
 use crate::replies::{write_http_refusal, write_http_start};
 use satip_base::{Draw, Out, Peer, Ports};
 use satip_config::Config;
 use satip_http::HttpRequest;
 use satip_plain::GetAnswer;
 use satip_query::RefusalBody;
-use satip_refusals::{Refused, decide_get, telling};
 use satip_state::Parts;
 
-// An HTTP session has no ports.
+// The ports of an HTTP session, which has none.
 const NO_PORTS: Ports = Ports { rtp: 0, rtcp: 0 };
 
-// A request is refused.
+// Writes the refusal of a request.
 fn refuse(refused: Refused, out: &mut Out) -> GetAnswer
     requires cleared { out.old ≡ empty }
     requires status { IsStatus refused.status }
@@ -35,7 +36,7 @@ fn refuse(refused: Refused, out: &mut Out) -> GetAnswer
     GetAnswer::Refused(refused.status)
 }
 
-// A session begins, with a stream of its own.
+// Starts a session with a new stream.
 fn start(
     config: &Config,
     parts: &mut Parts,
@@ -59,7 +60,7 @@ fn start(
     }
 }
 
-/// An HTTP request is answered.
+/// Answers an HTTP request.
 pub fn answer_get(
     config: &Config,
     parts: &mut Parts,

@@ -1,14 +1,24 @@
-//! The server of one thread: each event is a step of the plain server.
+//! Serves one event at a time, in one thread.
+//! Contract: each event is a step of the plain server: its state, answer, reply and datagrams. A
+//! refusal and its cause are the plain server's decision.
 #![tactic(auto)]
 
+mod changes;
+mod deciding;
 mod describing;
 mod events;
 mod gets;
+mod places;
+mod refusals;
 mod replies;
 mod requests;
 mod served;
 mod server;
-mod values;
 
-pub use satip_plain::{Answer, Beat, Closed, Event, GetAnswer, Pulled, Replied, Setting, Work};
+pub use deciding::{decide, decide_get};
+pub use places::session_named;
+pub use refusals::{Refused, telling};
+pub use satip_plain::{
+    Answer, Beat, Closed, Event, GetAnswer, Pulled, Replied, Service, Setting, Work,
+};
 pub use server::Server;

@@ -1,24 +1,25 @@
-//! The replies to requests that are refused.
+//! The replies to RTSP and HTTP requests.
 
 ghost use Rattle.std.specs.Prelude.{◌≡◌, ◌≤◌};
 ghost use Rattle.satip_base.specs.Output.{Wrote};
-ghost use Rattle.satip_rtsp.specs.Replies.{IsStatus, play_reply, setup_reply, text_reply};
+ghost use Rattle.satip_query.specs.Statuses.{IsStatus};
+ghost use Rattle.satip_rtsp.specs.Replies.{play_reply, setup_reply, text_reply};
 ghost use Rattle.satip_query.specs.declared.bodies.RefusalBody.TheVariants.{NoMoreSessions};
 ghost use Rattle.satip_http.specs.Heads.{http_refusal, start_head};
 ghost use Rattle.satip_plain.specs.Steps.{closes as closes_connection, is_closing as is_closing_request, message_reply, refused_reply, reply_to_refused};
-ghost use Rattle.satip_refusals.specs.Told.{told};
+ghost use Rattle.satip_core.specs.Told.{told};
 
+use crate::refusals::Refused;
 use satip_base::{Out, Ports, SessionId};
 use satip_frame::Break;
 use satip_http::{write_refusal as write_head_of_refusal, write_start};
 use satip_query::RefusalBody;
-use satip_refusals::Refused;
 use satip_rtsp::{
     Refusal, Request, write_closing, write_plain, write_play, write_setup, write_text,
     write_unsupported,
 };
 
-/// Whether the connection ends behind the reply.
+/// Returns whether the connection is closed after the reply.
 pub fn is_closing(request: &Request) -> bool
     ensures closing { result ≡ is_closing_request request.now }
 {
@@ -38,8 +39,8 @@ fn closes(refusal: &Refusal) -> bool
     }
 }
 
-/// Appends the reply to a request that is refused: a message that can't be read has no CSeq, and an
-/// option that is required is named (RFC 2326, section 12.32).
+/// Appends the reply to a refused request. A message that can't be parsed gets no CSeq, and an
+/// unsupported required option is named (RFC 2326, section 12.32).
 pub fn write_refusal(request: &Request, refused: &Refused, out: &mut Out)
     requires status { IsStatus refused.now.status }
     requires room { 256 ≤ out.old.reply_spare }
@@ -51,7 +52,7 @@ pub fn write_refusal(request: &Request, refused: &Refused, out: &mut Out)
     }
 }
 
-// The reply to what a message is refused for.
+// Appends the reply for a fault of the message itself.
 #[tactic(auto, using(satip_rtsp::proofs::ReplyLemmas::reply_bounds))]
 fn write_cause(cseq: Option<u32>, refused: &Refused, refusal: Refusal, out: &mut Out)
     requires status { IsStatus refused.now.status }
@@ -70,7 +71,7 @@ fn write_cause(cseq: Option<u32>, refused: &Refused, refusal: Refusal, out: &mut
     }
 }
 
-// The reply to a refused request that is a whole message.
+// Appends the reply to a refused request that is a whole message.
 #[tactic(auto, using(satip_rtsp::proofs::ReplyLemmas::reply_bounds))]
 fn write_refused(cseq: Option<u32>, refused: &Refused, out: &mut Out)
     requires status { IsStatus refused.now.status }
@@ -115,7 +116,7 @@ pub fn write_playing(
     write_play(cseq, id, address, number, seq, out);
 }
 
-/// Appends that no session can be made.
+/// Appends the refusal of a SETUP because no session can be created.
 #[tactic(auto, using(satip_rtsp::proofs::ReplyLemmas::reply_bounds))]
 pub fn write_full(cseq: Option<u32>, out: &mut Out)
     requires room { 256 ≤ out.old.reply_spare }
@@ -134,7 +135,7 @@ pub fn write_http_refusal(refused: Refused, out: &mut Out)
     write_head_of_refusal(refused.status, refused.body, out);
 }
 
-/// Appends the head that an HTTP session's packets follow.
+/// Appends the head that precedes an HTTP session's packets.
 #[tactic(auto, using(satip_http::proofs::HeadLemmas::head_bounds))]
 pub fn write_http_start(out: &mut Out)
     requires room { 256 ≤ out.old.reply_spare }

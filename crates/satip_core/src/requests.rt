@@ -1,9 +1,10 @@
-//! What an RTSP request does.
+//! The answers to RTSP requests.
 
 ghost use Rattle.std.specs.Prelude.{◌≡◌, [], Some, None, IfSome, is_none, option_map, unwrap_or, false, if◌then◌else◌};
 ghost use Rattle.std.specs.Option.{option_map_or};
 ghost use Rattle.satip_base.specs.Output.{Wrote, empty};
-ghost use Rattle.satip_rtsp.specs.Replies.{IsStatus, options_reply};
+ghost use Rattle.satip_query.specs.Statuses.{IsStatus};
+ghost use Rattle.satip_rtsp.specs.Replies.{options_reply};
 ghost use Rattle.satip_plain.specs.declared.answers.Answer.TheVariants.{Replied as AnswerReplied};
 ghost use Rattle.satip_plain.specs.Types.{Config as Configured};
 ghost use Rattle.satip_plain.specs.State.{State, stream_of};
@@ -14,14 +15,16 @@ ghost use Rattle.satip_state.specs.Seated.{row_of};
 ghost use Rattle.satip_state.specs.Standing.{StandsFor};
 ghost use Rattle.satip_core.specs.Doing.{Accepted, Did, MaySetUp, SetUpAs, Standing, torn_down};
 ghost use Rattle.satip_core.specs.Rows.{id_in};
-ghost use Rattle.satip_refusals.specs.Told.{told};
+ghost use Rattle.satip_core.specs.Told.{told};
 
+use crate::deciding::decide;
 use crate::describing::write_description;
+use crate::places::session_named;
+use crate::refusals::Refused;
 use crate::replies::{is_closing, write_full, write_playing, write_refusal, write_set_up};
 use satip_base::{Draw, Out, Peer, Ports, SessionId};
 use satip_config::Config;
 use satip_plain::Replied;
-use satip_refusals::{Refused, decide, session_named};
 use satip_rtsp::{Method, Request, SessionName, write_options, write_plain};
 use satip_state::Parts;
 use satip_table::Session;
@@ -29,7 +32,7 @@ use satip_table::Session;
 // The ports of a session that asks for none.
 const NO_PORTS: Ports = Ports { rtp: 0, rtcp: 0 };
 
-// The answer to a request that is accepted.
+// Returns the answer to an accepted request.
 fn accepted() -> Replied
     ensures accepted { result ≡ record { status = 200; closing = false } }
 {
@@ -39,7 +42,7 @@ fn accepted() -> Replied
     }
 }
 
-// The id of a session.
+// Returns the id of a session.
 fn id_of(session: Option<Session>) -> Option<SessionId>
     ensures id { result ≡ id_in session }
 {
@@ -49,7 +52,7 @@ fn id_of(session: Option<Session>) -> Option<SessionId>
     }
 }
 
-// The session that is heard of: the named one, where the message itself is right.
+// Returns the named session, if the message itself is well-formed.
 fn heard_id(parts: &Parts, request: &Request) -> Option<SessionId>
     ensures heard { (c : Configured) (st : State) → StandsFor c parts.now st
         → result ≡ (if is_none request.now.refusal then option_map (λ s. s.id)
@@ -62,7 +65,7 @@ fn heard_id(parts: &Parts, request: &Request) -> Option<SessionId>
     }
 }
 
-// A session that is named was heard of, where the message itself is right.
+// Sets the last activity of the named session, if the message itself is well-formed.
 fn hear(parts: &mut Parts, request: &Request)
     ensures heard { (c : Configured) (st : State) → StandsFor c parts.old st
         → StandsFor c parts.new (heard_by request.now st) }
@@ -73,7 +76,7 @@ fn hear(parts: &mut Parts, request: &Request)
     }
 }
 
-// A request is refused.
+// Writes the reply to a refused request.
 fn refuse(request: &Request, refused: &Refused, out: &mut Out) -> Replied
     requires cleared { out.old ≡ empty }
     requires status { IsStatus refused.now.status }
@@ -91,7 +94,7 @@ fn refuse(request: &Request, refused: &Refused, out: &mut Out) -> Replied
     }
 }
 
-// The reply to OPTIONS.
+// Writes the reply to OPTIONS.
 #[tactic(auto, using(satip_rtsp::proofs::ReplyLemmas::reply_bounds))]
 fn options(parts: &Parts, cseq: Option<u32>, name: SessionName, out: &mut Out) -> Replied
     requires cleared { out.old ≡ empty }
@@ -104,7 +107,7 @@ fn options(parts: &Parts, cseq: Option<u32>, name: SessionName, out: &mut Out) -
     accepted()
 }
 
-// TEARDOWN ends the session, behind its reply.
+// Writes the reply to TEARDOWN, then ends the session.
 #[tactic(auto, using(satip_rtsp::proofs::ReplyLemmas::reply_bounds))]
 fn teardown(parts: &mut Parts, cseq: Option<u32>, name: SessionName, out: &mut Out) -> Replied
     requires cleared { out.old ≡ empty }
@@ -122,7 +125,7 @@ fn teardown(parts: &mut Parts, cseq: Option<u32>, name: SessionName, out: &mut O
     }
 }
 
-// The ports of a SETUP.
+// Returns the ports of a SETUP.
 fn ports_of(ports: Option<Ports>) -> Ports
     ensures ports { result ≡ unwrap_or ports no_ports }
 {
@@ -132,7 +135,7 @@ fn ports_of(ports: Option<Ports>) -> Ports
     }
 }
 
-// The session's datagrams go to these ports of this peer from now on.
+// Sets the client and the ports that the session's datagrams go to.
 fn move_session(
     parts: &mut Parts,
     id: SessionId,
@@ -152,7 +155,7 @@ fn move_session(
     }
 }
 
-// A session is made that joins the stream, or founds one where none is named.
+// Creates a session that joins the stream, or one with a new stream if none is named.
 fn make_session(
     parts: &mut Parts,
     peer: Peer,
@@ -177,8 +180,8 @@ fn make_session(
     }
 }
 
-// The session of a SETUP comes to its place: its id, and the number of its stream. None where none
-// can be made.
+// Creates the session of a SETUP, or moves an existing one; returns its id and the number of its
+// stream. Returns None if no session can be created, or an existing one is named without a stream.
 fn place_session(
     parts: &mut Parts,
     peer: Peer,
@@ -196,7 +199,7 @@ fn place_session(
     }
 }
 
-// SETUP (RFC 2326, section 10.4).
+// Executes SETUP (RFC 2326, section 10.4).
 fn set_up(
     config: &Config,
     parts: &mut Parts,
@@ -227,7 +230,7 @@ fn set_up(
     }
 }
 
-// PLAY (RFC 2326, section 10.5): its reply tells the number of the next datagram.
+// Executes PLAY (RFC 2326, section 10.5). Its reply has the sequence number of the next datagram.
 fn play(config: &Config, parts: &mut Parts, request: &Request, out: &mut Out) -> Replied
     requires cleared { out.old ≡ empty }
     requires standing { Standing config.now parts.old }
@@ -256,7 +259,7 @@ fn play(config: &Config, parts: &mut Parts, request: &Request, out: &mut Out) ->
     }
 }
 
-// A request that is accepted.
+// Executes an accepted request.
 fn accept(
     config: &Config,
     parts: &mut Parts,
@@ -284,8 +287,8 @@ fn accept(
     }
 }
 
-/// An RTSP request is answered. A session that it names was heard of, where the message itself is
-/// right.
+/// Answers an RTSP request. Sets the last activity of a session that it names, if the message
+/// itself is well-formed.
 pub fn answer_request(
     config: &Config,
     parts: &mut Parts,

@@ -1,8 +1,7 @@
-//! The server as a served value: the histories that it stands for are the plain server's.
+//! The server as a served value, whose histories are the plain server's.
 
 use crate::Server;
-use satip_base::Out;
-use satip_history::Served;
+use satip_base::{Out, Served};
 use satip_plain::{Answer, Event, Setting, known_event};
 
 impl Served for Server {

@@ -14,13 +14,12 @@ ghost use Rattle.satip_core.specs.Serving.{Rests, Stands, StandsAfter, Steps};
 use crate::events;
 use crate::gets::answer_get;
 use crate::requests::answer_request;
-use crate::values::known_setting;
 use satip_base::{Draw, Out, Peer, SessionId, Want};
 use satip_config::Config;
 use satip_http::HttpRequest;
 use satip_plain::{
     Answer, Beat, Closed, Event, GetAnswer, Pulled, Replied, Setting, Work, empty_only_hears,
-    gone_changes_nothing, refused_changes_nothing, refused_get_changes_nothing,
+    gone_changes_nothing, known_setting, refused_changes_nothing, refused_get_changes_nothing,
     stale_changes_nothing,
 };
 use satip_rtsp::Request;
@@ -29,8 +28,8 @@ use satip_ts::Packet;
 use std::alloc::Global;
 use std::marker::Model;
 
-/// The server of one thread. A contract sees what it was made with, and what its parts keep; each
-/// event is a step of the plain server for which they stand.
+/// The server of one thread. A contract sees its setting and the contents of its parts; each event
+/// is a step of the plain server.
 #[derive(Drop)]
 pub struct Server {
     setting: Setting,
@@ -49,8 +48,8 @@ impl Model for Server {
 }
 
 impl Server {
-    /// The server before its first event, with its clock at this moment in milliseconds of Unix
-    /// time. Takes all memory; `Want` where it was refused.
+    /// Creates the server before its first event. `start` is its clock's time, in milliseconds of
+    /// Unix time. Allocates all memory; returns `Want` if out of memory.
     pub fn make(alloc: Global, config: Config, start: u64) -> Result<Server, Want>
         requires few { length config.fronts ≤ 16 }
         requires numbered { IsNumbered 1 config.fronts }
@@ -73,9 +72,9 @@ impl Server {
         Ok(Server { setting, parts })
     }
 
-    /// Answers an RTSP request. `out` is cleared first, and has the reply and the datagrams then. A
-    /// refused request changes nothing but, where the message itself is right, when its session was
-    /// last heard of.
+    /// Answers an RTSP request. Clears `out` first, and then writes the reply and the datagrams to
+    /// it. A refused request changes nothing but its session's last activity, and that only if the
+    /// message itself is well-formed.
     pub fn request(&mut self, peer: Peer, draw: Draw, request: &Request, out: &mut Out) -> Replied
         ensures setting { self.new.setting ≡ self.old.setting }
         ensures steps { Steps self.old (Asked peer draw request.now) self.new (AnswerReplied result)
@@ -96,8 +95,8 @@ impl Server {
         )
     }
 
-    /// Answers an HTTP request. `out` is cleared first, and has the head of the reply and the
-    /// datagrams then. A refused request changes nothing.
+    /// Answers an HTTP request. Clears `out` first, and then writes the head of the reply and the
+    /// datagrams to it. A refused request changes nothing.
     pub fn get(&mut self, peer: Peer, draw: Draw, request: &HttpRequest, out: &mut Out) -> GetAnswer
         ensures setting { self.new.setting ≡ self.old.setting }
         ensures steps { Steps self.old (Got peer draw request.now) self.new (AnswerGet result)
@@ -118,8 +117,8 @@ impl Server {
         )
     }
 
-    /// The clock goes on to this moment, in milliseconds of Unix time. `out` is cleared first, and
-    /// has the datagrams then: what was held, and reports.
+    /// Advances the clock to `now`, in milliseconds of Unix time. Clears `out` first, and then
+    /// writes the datagrams to it: held packets and reports.
     pub fn tick(&mut self, now: u64, out: &mut Out) -> Beat
         ensures setting { self.new.setting ≡ self.old.setting }
         ensures steps { Steps self.old (Tick now) self.new (AnswerBeat result) out.new }
@@ -128,8 +127,8 @@ impl Server {
         events::tick(&self.setting.config, &mut self.parts, now, out)
     }
 
-    /// A packet of a front end's tuning number, and what its pump is to do next. `out` is cleared
-    /// first, and has the datagrams then. A stale packet changes nothing.
+    /// Delivers a packet of a front end's tune number; returns the next work of its pump. Clears
+    /// `out` first, and then writes the datagrams to it. A stale packet changes nothing.
     pub fn packet(&mut self, front: u16, tune: u64, packet: &Packet, out: &mut Out) -> Work
         ensures setting { self.new.setting ≡ self.old.setting }
         ensures steps { Steps self.old (PacketCame front tune packet.now) self.new
@@ -142,7 +141,7 @@ impl Server {
         events::packet(&mut self.parts, front, tune, packet, out)
     }
 
-    /// The recording of a front end's tuning number is exhausted. `out` is cleared.
+    /// Marks a tune number's recording as ended; returns the pump's next work. Clears `out`.
     pub fn ended(&mut self, front: u16, tune: u64, out: &mut Out) -> Work
         ensures setting { self.new.setting ≡ self.old.setting }
         ensures steps { Steps self.old (Ended front tune) self.new (AnswerWork result) out.new }
@@ -151,7 +150,7 @@ impl Server {
         events::ended(&mut self.parts, front, tune)
     }
 
-    /// What a front end's pump is to do. `out` is cleared.
+    /// Returns the next work of a front end's pump. Clears `out`.
     pub fn ask(&mut self, front: u16, out: &mut Out) -> Work
         ensures setting { self.new.setting ≡ self.old.setting }
         ensures steps { Steps self.old (Ask front) self.new (AnswerWork result) out.new }
@@ -160,9 +159,9 @@ impl Server {
         self.parts.work(front)
     }
 
-    /// Moves the first packets of an HTTP session's queue, 64 at most, to the reply. `out` is
-    /// cleared first. Where the session doesn't live nothing changes; where nothing is queued, when
-    /// it was last heard of.
+    /// Moves the first packets of an HTTP session's queue, at most 64, to the reply. Clears `out`
+    /// first. Changes nothing if there is no such HTTP session. If its queue is empty, changes only
+    /// its last activity.
     pub fn pull(&mut self, session: SessionId, out: &mut Out) -> Pulled
         ensures setting { self.new.setting ≡ self.old.setting }
         ensures steps { Steps self.old (Pull session) self.new (AnswerPulled result) out.new }
@@ -178,7 +177,7 @@ impl Server {
         events::pull(&mut self.parts, session, out)
     }
 
-    /// Ends an HTTP session. `out` is cleared. Where it doesn't live nothing changes.
+    /// Ends an HTTP session. Clears `out`. Changes nothing if there is no such HTTP session.
     pub fn close(&mut self, session: SessionId, out: &mut Out) -> Closed
         ensures setting { self.new.setting ≡ self.old.setting }
         ensures steps { Steps self.old (Close session) self.new (AnswerClosed result) out.new }
@@ -190,7 +189,7 @@ impl Server {
         events::close(&mut self.parts, session, out)
     }
 
-    /// The server stops. `out` is cleared.
+    /// Stops the server. Clears `out`.
     pub fn stop(&mut self, out: &mut Out) -> Beat
         ensures setting { self.new.setting ≡ self.old.setting }
         ensures steps { Steps self.old Stop self.new (AnswerBeat result) out.new }
@@ -200,7 +199,7 @@ impl Server {
         Beat::Stopping
     }
 
-    /// Any event, by its kind.
+    /// Executes any event, by its kind.
     pub fn event(&mut self, event: &Event, out: &mut Out) -> Answer
         ensures setting { self.new.setting ≡ self.old.setting }
         ensures steps { Steps self.old event.now self.new result out.new }

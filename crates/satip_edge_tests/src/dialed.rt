@@ -2,9 +2,9 @@
 
 use crate::network::{LOCALHOST, client, hears, local, receive};
 use satip_base::Put;
-use satip_inlet::Inlet;
-use satip_real::{RealClock, RealConn, RealInlet};
-use satip_world::{Clock, Conn, ConnEnd, Received};
+use satip_host::RealClock;
+use satip_real::{RealConn, RealInlet};
+use satip_world::{Clock, Conn, ConnEnd, Inlet, Received};
 use std::io::{ErrorKind, Read, Write};
 use std::net::{Ipv4Addr, SocketAddr, TcpListener, TcpStream, UdpSocket};
 use std::test::Fail;

@@ -3,11 +3,11 @@
 use crate::network::listen;
 use satip_base::Text;
 use satip_config::Config;
+use satip_desk::{Jobs, WorkerKit};
 use satip_fixtures::config_with;
-use satip_kits::{KitsFault, RealKits, Settings, real_kits};
+use satip_playout::RealPacer;
 use satip_real::{RealDoors, RealOutlet};
-use satip_recordings::RealPacer;
-use satip_worker::WorkerKit;
+use satip_real_desk::{KitsFault, RealJobs, Settings, real_kits};
 use satip_world::{Door, Doors};
 use std::alloc::Global;
 use std::env::{Env, FillError};
@@ -168,7 +168,7 @@ fn turn_all<R: Wait + Drop>(workers: Vec<WorkerKit<RealDoors, RealOutlet<R>, Rea
 }
 
 // The kits of a server without front ends.
-fn kits<R: Wait + Copy + Drop>(host: HostRuntime, rt: R) -> Result<RealKits<R>, Fail> {
+fn kits<R: Wait + Copy + Drop>(host: HostRuntime, rt: R) -> Result<RealJobs<R>, Fail> {
     match real_kits(host, rt, &config(host.alloc())?, 1) {
         Ok(kits) => Ok(kits),
         Err(_) => Err(Fail::from("no kits")),
@@ -177,7 +177,7 @@ fn kits<R: Wait + Copy + Drop>(host: HostRuntime, rt: R) -> Result<RealKits<R>, 
 
 #[test]
 fn kits_go_to_other_threads(rt: HostRuntime) -> Result<(), Fail> {
-    let RealKits {
+    let Jobs {
         workers,
         pumps,
         tick,

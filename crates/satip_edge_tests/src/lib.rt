@@ -1,5 +1,4 @@
-//! The adapters to the system and the kits of all jobs, over loopback, files and the system's
-//! clocks. It has nothing but tests.
+//! Tests sockets over loopback, recordings in files, the system's clocks and the kits.
 #![tactic(auto)]
 
 #[cfg(test)]

@@ -1,8 +1,8 @@
 //! The adapters over loopback and the system's clocks.
 
 use satip_base::{Address, Peer, Put};
+use satip_host::{ClockStart, RealClock, Start, Starts, SteadyTime, read_key};
 use satip_real::*;
-use satip_report::{Start, Starts};
 use satip_world::{Clock, Conn, ConnEnd, Door, DoorKind, Doors, Outlet, Received};
 use std::io::{ErrorKind, Read, Write};
 use std::net::{Ipv4Addr, Shutdown, SocketAddr, TcpStream, UdpSocket};

@@ -2,7 +2,7 @@
 
 use crate::network::start;
 use satip_base::{Source, Taken, Text};
-use satip_recordings::*;
+use satip_playout::*;
 use satip_ts::Packet;
 use satip_world::{MuxStore, Pacer};
 use std::io::Write;

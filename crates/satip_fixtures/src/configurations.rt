@@ -7,7 +7,7 @@ use satip_config::Config;
 use satip_tune::{Fec, Front, Modulation, Mux, Pol, RollOff, System, Tuning};
 use std::alloc::{AllocError, Global};
 
-/// 11361.75 MHz, horizontal, DVB-S2.
+/// The multiplex 11361.75 MHz, horizontal, DVB-S2.
 pub const FIRST_MUX: Mux = Mux {
     src: 1,
     freq: 11361750,
@@ -16,7 +16,7 @@ pub const FIRST_MUX: Mux = Mux {
     sr: 22000,
 };
 
-/// The tuning of the first multiplex that a client asks for, with every key but `fe`.
+/// The tuning of the first multiplex as a client gives it, with every key but `fe`.
 pub const FIRST_TUNING: Tuning = Tuning {
     fe: None,
     src: 1,
@@ -30,7 +30,7 @@ pub const FIRST_TUNING: Tuning = Tuning {
     fec: Some(Fec::F23),
 };
 
-/// 12402 MHz, vertical, DVB-S.
+/// The multiplex 12402 MHz, vertical, DVB-S.
 pub const SECOND_MUX: Mux = Mux {
     src: 1,
     freq: 12402000,
@@ -39,7 +39,7 @@ pub const SECOND_MUX: Mux = Mux {
     sr: 27500,
 };
 
-/// A front end that reaches position 1 and receives both systems.
+/// Returns a front end that reaches position 1 and receives both systems.
 pub fn front_end(number: u16) -> Front
     ensures number { result.number ≡ number }
 {
@@ -52,7 +52,7 @@ pub fn front_end(number: u16) -> Front
     }
 }
 
-// Front ends with the numbers from 1 to this one.
+// Returns front ends with the numbers from 1 to `last`.
 #[tactic(auto, using(crate::proofs::Numbered::numbered_more))]
 fn front_ends(alloc: Global, last: u16) -> Result<Vec<Front>, AllocError>
     ensures count { IfOk result (λ fronts. length fronts.items ≡ last) }
@@ -65,8 +65,9 @@ fn front_ends(alloc: Global, last: u16) -> Result<Vec<Front>, AllocError>
     Ok(fronts)
 }
 
-/// The configuration of a server at 192.168.1.10, with this many front ends, each of which receives
-/// all of these multiplexes; it names no recordings. The rest is what a file leaves out.
+/// Returns the configuration of a server at 192.168.1.10 with this many front ends, each of which
+/// receives all of these multiplexes. It names no recordings. All other values are the defaults of
+/// a file.
 pub fn config_with(alloc: Global, fronts: u16, muxes: &[Mux]) -> Result<Config, AllocError>
     ensures fronts { IfOk result (λ config. length config.fronts ≡ fronts) }
     ensures numbered { IfOk result (λ config. IsNumbered 1 config.fronts) }

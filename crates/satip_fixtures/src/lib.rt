@@ -1,5 +1,6 @@
-//! What tests of several crates use: a small configuration, a client, packets, draws, a recording
-//! client, and texts.
+//! Gives tests a small configuration, a client, packets, draws, a recording client and texts.
+//! Contract: a configuration has the number of front ends asked for, numbered from 1, and the
+//! multiplexes given.
 #![tactic(auto)]
 
 mod clients;

@@ -3,7 +3,7 @@
 use satip_ts::Packet;
 use std::test::Fail;
 
-/// The bytes of a packet of this PID: all behind its PID are 0.
+/// Returns the bytes of a packet of this PID: all bytes after its PID are 0.
 pub fn packet_bytes(pid: u8) -> [u8; 188] {
     let mut bytes = [0; 188];
     bytes[0] = 0x47;
@@ -11,7 +11,7 @@ pub fn packet_bytes(pid: u8) -> [u8; 188] {
     bytes
 }
 
-/// The packet of these bytes.
+/// Returns a packet of this PID.
 pub fn packet(pid: u8) -> Result<Packet, Fail> {
     Ok(Packet::of(&packet_bytes(pid)).ok_or("packet")?)
 }

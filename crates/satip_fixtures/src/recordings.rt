@@ -1,9 +1,9 @@
-//! What a recording client of a server at 127.0.0.1 sends and gets.
+//! Texts and datagrams between a recording client and a server at 127.0.0.1.
 
 /// The server's address.
 pub const ADDRESS: &str = "127.0.0.1:18554";
 
-/// The query of what is recorded.
+/// The query of the recorded stream.
 pub const QUERY: &str = "freq=12402&pol=v&msys=dvbs&sr=27500&pids=all";
 
 /// The reply that grants a session and a stream.
@@ -22,16 +22,17 @@ pub const OPENED: &[u8] =
     CSeq: 2\r\n\
     Session: 1a\r\n\r\n";
 
-/// The TEARDOWN behind the PLAY.
+/// The TEARDOWN after the PLAY.
 pub const LEFT: &[u8] =
     b"TEARDOWN rtsp://127.0.0.1:18554/stream=7 RTSP/1.0\r\nCSeq: 3\r\nSession: 1a\r\n\r\n";
 
-/// How many bytes of a datagram stand before its packets.
+/// The bytes of a datagram before its packets.
 pub const HEAD: usize = 12;
 
 const PACKET: usize = 188;
 
-/// The datagram with this number, of three packets, whose bytes behind the first tell the number.
+/// Returns the datagram with this sequence number, of three packets. Each byte of a packet but its
+/// first is the number's low byte.
 pub fn datagram(number: u16) -> [u8; 576] {
     let [high, low] = number.to_be_bytes();
     let mut bytes = [low; 576];

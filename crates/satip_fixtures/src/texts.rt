@@ -1,11 +1,10 @@
-//! Texts that a client sends, the replies to them, the text of a configuration, and texts put
-//! together.
+//! Texts of a client, the replies to them, the text of a configuration, and texts put together.
 
 use satip_tune::cut;
 use std::alloc::Global;
 use std::test::Fail;
 
-/// OPTIONS in no session.
+/// An OPTIONS in no session.
 pub const OPTIONS: &[u8] = b"OPTIONS * RTSP/1.0\r\nCSeq: 1\r\n\r\n";
 
 /// The reply to OPTIONS.
@@ -13,10 +12,10 @@ pub const OPTIONS_REPLY: &[u8] = b"RTSP/1.0 200 OK\r\n\
     CSeq: 1\r\n\
     Public: OPTIONS, DESCRIBE, SETUP, PLAY, TEARDOWN\r\n\r\n";
 
-/// What closes an RTSP connection on which no message came.
+/// The reply that closes an RTSP connection on which no message came.
 pub const CLOSING: &[u8] = b"RTSP/1.0 400 Bad Request\r\nConnection: close\r\n\r\n";
 
-/// A SETUP over UDP, to the client's ports, which founds the first stream at the first multiplex.
+/// A SETUP over UDP, to the client's ports, which creates the first stream at the first multiplex.
 /// It gives a key that the server doesn't know.
 pub const SETUP: &[u8] = b"SETUP rtsp://192.168.1.10/\
     ?src=1&freq=11361.75&pol=h&ro=0.35&msys=dvbs2&mtype=8psk&plts=on&sr=22000&fec=23\
@@ -31,7 +30,7 @@ pub const SETUP_INTERLEAVED: &[u8] = b"SETUP rtsp://192.168.1.10/\
     CSeq: 1\r\n\
     Transport: RTP/AVP/TCP;interleaved=0-1\r\n\r\n";
 
-/// The query of both SETUPs.
+/// Returns the query of both SETUPs.
 pub fn first_query() -> &'static [u8] {
     let (_, behind) = cut(SETUP, b'?');
     let (query, _) = cut(behind.unwrap_or(b""), b' ');
@@ -62,7 +61,7 @@ sr = 27500
 file = \"b.ts\"
 ";
 
-/// The texts one after another.
+/// Returns the texts one after another.
 pub fn joined(alloc: Global, texts: &[&[u8]]) -> Result<Vec<u8>, Fail> {
     let mut all = Vec::new(alloc);
     for text in texts {
@@ -71,7 +70,7 @@ pub fn joined(alloc: Global, texts: &[&[u8]]) -> Result<Vec<u8>, Fail> {
     Ok(all)
 }
 
-/// The texts one after another, each so often.
+/// Returns the texts one after another, each repeated this number of times.
 pub fn repeated(alloc: Global, parts: &[(&[u8], usize)]) -> Result<Vec<u8>, Fail> {
     let mut all = Vec::new(alloc);
     for (part, times) in parts {
@@ -82,7 +81,7 @@ pub fn repeated(alloc: Global, parts: &[(&[u8], usize)]) -> Result<Vec<u8>, Fail
     Ok(all)
 }
 
-/// Whether bytes are these texts one after another.
+/// Tells whether bytes are these texts one after another.
 pub fn is_joined(bytes: &[u8], texts: &[&[u8]]) -> bool {
     let mut rest = bytes;
     for text in texts {

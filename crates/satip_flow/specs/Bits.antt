@@ -2,7 +2,7 @@
 use Rattle.std.specs.Prelude.{◌≡◌, ℕ, ◌<◌, ◌≤◌}
 use Rattle.std.specs.Int.{bit_at}
 
--- the least bit from a place on that is set, or 64
+-- the least bit from `from` on that is set, or 64
 pub record IsNextBit (word from next : ℕ) : Type 0 where
   pub behind : from ≤ next
   pub within : next ≤ 64

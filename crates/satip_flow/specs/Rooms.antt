@@ -1,4 +1,4 @@
--- How a flow keeps its subscribers, the queues that none of them has, and what finds them.
+-- The fields of a flow: its subscribers, the spare queues, and the words and places that find subscribers.
 use Rattle.std.specs.Prelude.{◌≡◌, ◌+◌, ◌≤◌, [], length, vec_len, vec_capacity, count_by, All}
 use Rattle.circular_buffer.specs.Buffer.{buffer}
 use Rattle.satip_flow.specs.declared.flow.Flow.TheInside.{Inside}
@@ -6,8 +6,8 @@ use Rattle.satip_flow.specs.Queues.{has_queue}
 use Rattle.satip_flow.specs.Rows.{AllShown, IsPlaced}
 use Rattle.satip_flow.specs.Subscriptions.{SlotsApart}
 
--- the memory for 64 subscribers is there, and 64 queues, of which the others are empty; each
--- subscriber is marked wherever it selects, and is found by its slot
+-- the memory for 64 subscribers is allocated; there are 64 queues, and the spare ones are empty; each subscriber is marked wherever it selects, and its place
+-- is at its slot
 pub record IsSound (f : Inside) : Type 0 where
   pub apart : SlotsApart f.subscribers.items
   pub room : 64 ≤ vec_capacity f.subscribers

@@ -1,9 +1,10 @@
--- What a subscriber's sink stands for.
+-- The sinks of subscribers.
 use Rattle.std.specs.Prelude.{◌≡◌, ◌≤◌, length}
 use Rattle.satip_flow.specs.declared.sink.Sink.{Sink}
 use Rattle.satip_flow.specs.declared.sink.Sink.TheVariants.{Packed, Queued}
 use Rattle.satip_flow.specs.Subscription.{Feed, ToAddress, ToQueue}
 
+-- the feed of a sink, as contracts see it
 abbrev pub feed_of : Sink → Feed
 feed_of (Packed to packer) = ToAddress to packer
 feed_of (Queued queue) = ToQueue queue.items

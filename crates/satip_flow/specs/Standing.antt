@@ -1,17 +1,17 @@
--- Where the subscriber of a slot stands.
+-- The place of a slot's subscriber in the list.
 use Rattle.std.specs.Prelude.{ℕ, ◌≡◌, ◌<◌, true, false, List, length, slice_index_or, slice_set, remove, Some, None}
 use Rattle.std.specs.List.{list_any}
 use Rattle.satip_flow.specs.Subscription.{Subscription, has_slot}
 use Rattle.satip_flow.specs.Subscriptions.{of_slot, change_slot, without}
 
--- nobody has the slot
+-- no subscriber has the slot
 pub record IsNowhere (slot : ℕ) (subscribers : List Subscription) : Type 0 where
   pub absent : list_any (has_slot slot) subscribers ≡ false
   pub found : of_slot slot subscribers ≡ None
   pub changed : (change : Subscription → Subscription) → change_slot slot change subscribers ≡ subscribers
   pub others : without slot subscribers ≡ subscribers
 
--- the one at a place has it, and no other
+-- the subscriber at a place has the slot, and no other
 pub record StandsAt (slot : ℕ) (subscribers : List Subscription) (at : ℕ) : Type 0 where
   pub within : at < length subscribers
   pub present : list_any (has_slot slot) subscribers ≡ true

@@ -7,11 +7,11 @@ use Rattle.satip_rtp.specs.Packing.{Packing}
 use Rattle.satip_flow.specs.declared.place.Place.{Place}
 use Rattle.satip_flow.specs.Subscription.{Subscription, Feed, has_slot, packing_of, queue_of, holds, flush_datagrams, meets_full}
 
--- streams come in rising number, and the subscribers of a stream in order of count
+-- whether a is before b: by rising stream number, those of one stream by count
 abbrev pub comes_before : Place → Place → Bool
 comes_before a b = nat_lt a.stream b.stream || (a.stream == b.stream && nat_lt a.count b.count)
 
--- one more subscriber, in its place
+-- the subscribers with one more, inserted in order
 abbrev pub put : Subscription → List Subscription → List Subscription
 put s [] = s ∷ []
 put s (x ∷ xs) = if comes_before s.place x.place then s ∷ x ∷ xs else x ∷ put s xs
@@ -20,7 +20,7 @@ put s (x ∷ xs) = if comes_before s.place x.place then s ∷ x ∷ xs else x �
 abbrev pub of_slot : ℕ → List Subscription → Option Subscription
 of_slot slot subscribers = find (has_slot slot) subscribers
 
--- the subscriber of a slot is changed
+-- the subscribers after that of a slot was changed
 abbrev pub change_slot : ℕ → (Subscription → Subscription) → List Subscription → List Subscription
 change_slot slot change subscribers = map (λ s. if has_slot slot s then change s else s) subscribers
 
@@ -28,31 +28,33 @@ change_slot slot change subscribers = map (λ s. if has_slot slot s then change 
 abbrev pub without : ℕ → List Subscription → List Subscription
 without slot subscribers = filter (λ s. not (has_slot slot s)) subscribers
 
--- the feed of a slot
+-- the feed of a slot's subscriber
 abbrev pub feed_of_slot : ℕ → List Subscription → Option Feed
 feed_of_slot slot subscribers = option_map (λ s. s.feed) (of_slot slot subscribers)
 
--- the packer and the queue of a slot
+-- the packer of a slot's subscriber
 abbrev pub packing_of_slot : ℕ → List Subscription → Option Packing
 packing_of_slot slot subscribers = option_and_then packing_of (feed_of_slot slot subscribers)
 
+-- the queue of a slot's subscriber
 abbrev pub queue_of_slot : ℕ → List Subscription → Option (List (List ℕ))
 queue_of_slot slot subscribers = option_and_then queue_of (feed_of_slot slot subscribers)
 
--- whether the packer of a slot holds something, and the datagrams that a flush of it sends
+-- whether the packer of a slot's subscriber holds packets
 abbrev pub holds_any : Option Feed → Bool
 holds_any None = false
 holds_any (Some feed) = holds feed
 
+-- the datagrams that a flush of it sends
 abbrev pub flushed_datagrams : ℕ → Option Feed → List Datagram
 flushed_datagrams clock None = []
 flushed_datagrams clock (Some feed) = flush_datagrams clock feed
 
--- whether a packet of a front meets the full queue of a slot
+-- whether a packet of a front end meets the full queue of a slot
 abbrev pub is_overrun : ℕ → List ℕ → List Subscription → ℕ → Bool
 is_overrun front packet subscribers slot = list_any (meets_full front packet slot) subscribers
 
--- a front is given by its number
+-- none, or the number of a front end
 abbrev pub IsFrontOrNone : Option ℕ → Type 0
 IsFrontOrNone None = Unit {0}
 IsFrontOrNone (Some front) = (1 ≤ front) × (front ≤ 16)

@@ -3,10 +3,10 @@ ghost use Rattle.std.specs.Prelude.{◌≡◌, ◌≢◌, ◌<◌, ◌≤◌, �
 ghost use Rattle.std.specs.Int.{bit_at};
 ghost use Rattle.satip_flow.specs.Bits.{IsNextBit};
 
-/// So many bits has a word.
+/// The number of bits of a word.
 pub(crate) const BITS: usize = 64;
 
-/// The least bit from a place on that is set; 64 where there is none.
+/// Returns the least bit from `from` on that is set; 64 if there is none.
 pub(crate) fn next_bit(word: u64, from: usize) -> usize
     requires from { from ≤ 64 }
     ensures next { IsNextBit word from result }
@@ -21,7 +21,7 @@ pub(crate) fn next_bit(word: u64, from: usize) -> usize
     from + rest.trailing_zeros() as usize
 }
 
-/// The word with one bit set or cleared.
+/// Returns the word with one bit set or cleared.
 pub(crate) fn with_bit(word: u64, place: u16, is_set: bool) -> u64
     requires place { place < 64 }
     ensures bit { bit_at result place ≡ (if is_set then 1 else 0) }

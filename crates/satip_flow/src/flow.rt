@@ -1,4 +1,4 @@
-//! `Flow`, which a clause sees as the list of its subscribers.
+//! `Flow`; in contracts it is the list of its subscribers.
 ghost use Rattle.std.specs.Prelude.{◌≡◌, ◌≢◌, ℕ, ◌+◌, ◌<◌, ◌≤◌, ◌==◌, ◌&&◌, true, false, [], length, map, insert, All, vec_len, vec_capacity, is_some, IfOk, IfNone, IfSome, if◌then◌else◌};
 ghost use Rattle.std.specs.List.{list_any, flat_map};
 ghost use Rattle.std.specs.Int.{bit_at};
@@ -14,8 +14,8 @@ ghost use Rattle.satip_flow.specs.Subscriptions.{put, comes_before, change_slot,
 use crate::bits::next_bit;
 use crate::place::{Place, SenderState};
 use crate::places::{note_places, places_of};
-use crate::rows::{are_unmarked, make_rows, mark, remark, slots_of, unmark};
 use crate::sink::Queue;
+use crate::slot_masks::{are_unmarked, make_rows, mark, remark, slots_of, unmark};
 use crate::subscriber::Subscriber;
 use satip_base::limits::{DATAGRAM, DATAGRAMS, PULLED_BYTES, QUEUED, SESSIONS};
 use satip_base::{Address, Out, Want};
@@ -26,8 +26,8 @@ use std::alloc::Global;
 use std::marker::Model;
 
 /// The sessions that get packets, in order of their stream's number and then of their id's count.
-/// All memory is taken when it is made: room for 64 subscribers, 64 queues of 4096 packets, and
-/// the words that tell who may select a packet.
+/// `make` allocates all its memory: for 64 subscribers, 64 queues of 4096 packets, and the words
+/// that mark the slots of subscribers by front end and PID.
 #[derive(Drop)]
 pub struct Flow {
     subscribers: Vec<Subscriber>,
@@ -50,7 +50,7 @@ impl Model for Flow {
 }
 
 impl Flow {
-    /// Takes all memory. There are no subscribers.
+    /// Allocates all memory; `Want` is out of memory. There are no subscribers.
     pub fn make(alloc: Global) -> Result<Flow, Want>
         ensures ok { IfOk result (λ flow. flow ≡ []) }
     {
@@ -69,7 +69,7 @@ impl Flow {
         })
     }
 
-    /// A session begins to play, with a new packer.
+    /// Adds a playing session, with a new packer.
     pub fn add_rtp(
         &mut self,
         place: Place,
@@ -91,7 +91,7 @@ impl Flow {
         note_places(&mut self.places, &self.subscribers);
     }
 
-    /// A session over HTTP begins, with an empty queue.
+    /// Adds a session over HTTP, with an empty queue.
     pub fn add_http(&mut self, place: Place, front: Option<u16>, pids: &PidSet)
         requires slot { place.slot < 64 }
         requires free { list_any (has_slot place.slot) self.old ≡ false }
@@ -107,8 +107,8 @@ impl Flow {
         note_places(&mut self.places, &self.subscribers);
     }
 
-    /// Each subscriber of this stream has this front and these PIDs from now on. What is held or
-    /// queued stays.
+    /// Sets the front end and the PIDs of each subscriber of this stream. Held and queued packets
+    /// stay.
     pub fn change(&mut self, stream: u16, front: Option<u16>, pids: &PidSet)
         requires front { IsFrontOrNone front }
         ensures changed { self.new ≡ map (changed stream front pids.now) self.old }
@@ -116,8 +116,8 @@ impl Flow {
         change_all(&mut self.subscribers, &mut self.rows, stream, front, pids);
     }
 
-    /// The slot's subscriber sends its datagrams to this address from now on. False exactly where
-    /// the slot has no subscriber that gets datagrams.
+    /// Sets the address of the datagrams of the slot's subscriber. Returns `false` if the slot has
+    /// no subscriber that gets datagrams.
     pub fn address(&mut self, slot: u16, to: Address) -> bool
         ensures found { result ≡ is_some (packing_of_slot slot self.old) }
         ensures readdressed { self.new ≡ change_slot slot (readdressed to) self.old }
@@ -128,8 +128,8 @@ impl Flow {
         readdress_at(&mut self.subscribers, at, to)
     }
 
-    /// Gives a packet of a front to each subscriber that stands there and selects it. Bit k of the
-    /// answer is set exactly where the packet met the full queue of the subscriber in slot k.
+    /// Gives a packet of a front end to each of its subscribers that selects the packet. Bit k of
+    /// the result is set exactly if the packet met the full queue of the subscriber in slot k.
     pub fn packet(&mut self, front: u16, packet: &Packet, clock: u64, out: &mut Out) -> u64
         requires bytes { DATAGRAMS ≤ out.old.datagram_spare }
         requires count { 64 ≤ out.old.count_spare }
@@ -146,8 +146,8 @@ impl Flow {
         give_all(&mut self.subscribers, places, front, packet, clock, out)
     }
 
-    /// What the packer of the slot's subscriber holds leaves. False exactly where the slot has no
-    /// subscriber that gets datagrams, or its packer holds nothing.
+    /// Sends the packets that the packer of the slot's subscriber holds. Returns `false` if there
+    /// are none, or if the slot has no subscriber that gets datagrams.
     pub fn flush(&mut self, slot: u16, clock: u64, out: &mut Out) -> bool
         requires bytes { DATAGRAM ≤ out.old.datagram_spare }
         requires count { out.old.count_spare ≢ 0 }
@@ -164,8 +164,8 @@ impl Flow {
         flush_at(&mut self.subscribers, at, clock, out)
     }
 
-    /// Moves the first packets of the slot's queue, at most 64, to the reply, and answers the
-    /// number of their bytes. None exactly where the slot has no subscriber with a queue.
+    /// Moves the first packets of the slot's queue, at most 64, to the reply, and returns the
+    /// number of their bytes. `None` if the slot has no subscriber with a queue.
     pub fn pull(&mut self, slot: u16, out: &mut Out) -> Option<usize>
         requires room { PULLED_BYTES ≤ out.old.reply_spare }
         ensures bytes { result ≡ pulled_bytes (queue_of_slot slot self.old) }
@@ -178,8 +178,8 @@ impl Flow {
         pull_at(&mut self.subscribers, at, out)
     }
 
-    /// What the packer of the slot's subscriber tells. None exactly where the slot has no
-    /// subscriber that gets datagrams.
+    /// Returns the sender state of the slot's subscriber. `None` if the slot has no subscriber that
+    /// gets datagrams.
     pub fn state(&self, slot: u16) -> Option<SenderState>
         ensures state { result ≡ sender_state (packing_of_slot slot self.now) }
     {
@@ -189,8 +189,8 @@ impl Flow {
         self.subscribers[at].state()
     }
 
-    /// The slot's subscriber is gone, with what it held or queued. False exactly where the slot has
-    /// none.
+    /// Removes the slot's subscriber and the packets that it held or queued. Returns `false` if the
+    /// slot has none.
     pub fn end(&mut self, slot: u16) -> bool
         ensures found { result ≡ list_any (has_slot slot) self.old }
         ensures gone { self.new ≡ without slot self.old }
@@ -204,8 +204,8 @@ impl Flow {
         true
     }
 
-    /// Whether no slot is marked as one whose subscriber may select a packet. Then no subscriber
-    /// selects any; once all have ended it's true, but no clause says so.
+    /// Returns whether no slot is marked for any front end and PID. If so, no subscriber selects
+    /// any packet. After all subscribers have ended it is true, but no clause says so.
     pub fn is_unmarked(&self) -> bool
         ensures unselected { result ≡ true → (front pid : ℕ) → pid < 8192
             → list_any (takes front pid) self.now ≡ false }
@@ -214,7 +214,7 @@ impl Flow {
     }
 }
 
-// As many empty queues as there may be subscribers.
+// Returns empty queues, one for each of the 64 possible subscribers.
 fn make_queues(alloc: Global) -> Result<Vec<Queue>, Want>
     ensures queues { IfOk result (λ queues. All (λ queue. queue ≡ buffer [] 4096) queues.items) }
     ensures count { IfOk result (λ queues. vec_len queues ≡ 64) }
@@ -232,7 +232,7 @@ fn make_queues(alloc: Global) -> Result<Vec<Queue>, Want>
     Ok(queues)
 }
 
-// Puts a subscriber in order, within the memory that the list has.
+// Inserts a subscriber in order, within the memory that the list has.
 fn insert_ordered(subscribers: &mut Vec<Subscriber>, subscriber: Subscriber)
     requires slot { subscriber.place.slot < 64 }
     requires free { list_any (has_slot subscriber.place.slot) subscribers.old.items ≡ false }
@@ -245,7 +245,7 @@ fn insert_ordered(subscribers: &mut Vec<Subscriber>, subscriber: Subscriber)
     subscribers.insert(at, subscriber).unwrap();
 }
 
-/// Where a subscriber of this place goes.
+/// Returns the place at which a subscriber with this place in the order is inserted.
 pub(crate) fn place_for(subscribers: &[Subscriber], place: Place) -> usize
     ensures within { result ≤ length subscribers.now }
     ensures ordered { (s : Subscription) → s.place ≡ place
@@ -259,14 +259,15 @@ pub(crate) fn place_for(subscribers: &[Subscriber], place: Place) -> usize
     subscribers.len()
 }
 
-// Streams come in rising number, and the subscribers of a stream in order of count.
+// Returns whether a is before b: subscribers are ordered by their stream's number, those of one
+// stream by count.
 fn comes_before(a: Place, b: Place) -> bool
     ensures before { result ≡ comes_before a b }
 {
     a.stream < b.stream || (a.stream == b.stream && a.count < b.count)
 }
 
-// Where the subscriber of a slot stands.
+// Returns the place of the subscriber of a slot in the list.
 fn place_of(subscribers: &[Subscriber], places: &[u8], slot: u16) -> Option<usize>
     requires apart { SlotsApart subscribers.now }
     requires count { length places.now ≡ 64 }
@@ -372,8 +373,8 @@ fn pull_at(subscribers: &mut Vec<Subscriber>, at: usize, out: &mut Out) -> Optio
     subscribers[at].pull(out)
 }
 
-// Gives a packet to each subscriber that selects it, all of which are among these places, and marks
-// the slots of those whose full queue it met.
+// Gives a packet to each subscriber that selects it; all of these are at `places`. Returns a bit
+// for each slot whose full queue the packet met.
 fn give_all(
     subscribers: &mut Vec<Subscriber>,
     places: u64,
@@ -407,7 +408,7 @@ fn give_all(
     overrun
 }
 
-// Gives a packet to one subscriber, and marks its slot where the packet met its full queue.
+// Gives a packet to one subscriber. Returns the bit of its slot if the packet met its full queue.
 fn give_at(
     subscribers: &mut Vec<Subscriber>,
     at: usize,
@@ -435,7 +436,7 @@ fn give_at(
     slot_bit(slot, is_overrun)
 }
 
-// The bit of a slot, or none.
+// Returns the bit of a slot if `is_set`, else 0.
 fn slot_bit(slot: u16, is_set: bool) -> u64
     requires slot { slot < 64 }
     ensures bits { (other : ℕ) → bit_at result other ≡ (if is_set && slot == other then 1 else 0) }
@@ -443,7 +444,7 @@ fn slot_bit(slot: u16, is_set: bool) -> u64
     if is_set { 1 << slot } else { 0 }
 }
 
-// Takes the queue of a subscriber that is gone, if it has one.
+// Takes back the queue of a removed subscriber, if it has one.
 fn give_back(spare_queues: &mut Vec<Queue>, subscriber: Subscriber)
     requires room { has_queue subscriber ≡ true
         → vec_len spare_queues.old < vec_capacity spare_queues.old }

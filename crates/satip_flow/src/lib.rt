@@ -1,16 +1,17 @@
-//! The path of packets: which session gets which packet, and what its packer holds or its queue
-//! has.
+//! Finds the sessions that get a packet, and keeps the packets that wait for each of them.
+//! Contract: a packet reaches exactly the playing sessions of its front end that select it; for
+//! each session the crate keeps the packets that it was given and not yet sent.
 #![tactic(auto)]
 
 mod bits;
 mod flow;
-mod laws;
+mod other_subscribers;
 mod place;
 mod places;
-mod rows;
 mod sink;
+mod slot_masks;
 mod subscriber;
 
 pub use flow::Flow;
-pub use laws::each_call_keeps_rest;
+pub use other_subscribers::each_call_keeps_rest;
 pub use place::{Place, SenderState};

@@ -1,4 +1,4 @@
-//! Where a session stands among others, and what its packer tells.
+//! The order of sessions, and the sender state of a packer.
 
 /// A session's slot, its stream, and the count of its id.
 #[derive(Clone, Copy, Debug, PartialEq, Eq)]
@@ -8,8 +8,8 @@ pub struct Place {
     pub count: u32,
 }
 
-/// A packer's next sequence number, and how many datagrams and bytes of payload it sent, modulo
-/// 2^32: what a sender report tells (RFC 3550, 6.4.1).
+/// A packer's next sequence number, and the counts of datagrams and payload bytes that it sent,
+/// modulo 2^32. A sender report has them (RFC 3550, 6.4.1).
 #[derive(Clone, Copy, Debug, PartialEq, Eq)]
 pub struct SenderState {
     pub next: u16,

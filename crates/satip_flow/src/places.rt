@@ -1,4 +1,4 @@
-//! Where the subscriber of each slot stands among the others.
+//! The place of each slot's subscriber in the list.
 ghost use Rattle.std.specs.Prelude.{◌≡◌, ◌%◌, ◌<◌, ◌≤◌, ℕ, length, slice_index_or};
 ghost use Rattle.std.specs.Int.{bit_at};
 ghost use Rattle.satip_flow.specs.Subscriptions.{SlotsApart};
@@ -7,7 +7,7 @@ ghost use Rattle.satip_flow.specs.Rows.{IsPlaced};
 use crate::bits::{BITS, next_bit};
 use crate::subscriber::Subscriber;
 
-/// Notes where each subscriber stands.
+/// Writes the place of each subscriber at its slot.
 pub(crate) fn note_places(places: &mut [u8], subscribers: &[Subscriber])
     requires count { length places.old ≡ 64 }
     requires apart { SlotsApart subscribers.now }
@@ -19,7 +19,7 @@ pub(crate) fn note_places(places: &mut [u8], subscribers: &[Subscriber])
     }
 }
 
-/// The places of these slots, a bit each.
+/// Returns the places of these slots; each slot and each place is a bit.
 pub(crate) fn places_of(slots: u64, places: &[u8]) -> u64
     requires count { length places.now ≡ 64 }
     ensures places { (slot : ℕ) → slot < 64 → bit_at slots slot ≡ 1

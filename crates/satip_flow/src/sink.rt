@@ -1,4 +1,4 @@
-//! Where a subscriber's packets go.
+//! The destinations of a subscriber's packets.
 ghost use Rattle.std.specs.Prelude.{◌≡◌, ◌≢◌, ◌+◌, ◌*◌, ◌≤◌, length, take, drop, MatchOption, option_map};
 ghost use Rattle.std.specs.List.{concat};
 ghost use Rattle.circular_buffer.specs.Buffer.{buffer};
@@ -23,7 +23,8 @@ pub(crate) enum Sink {
     Queued(Queue),
 }
 
-/// Gives a packet to a packer or a queue. True where the queue is full.
+/// Gives a packet to a packer or a queue. Returns `true`, and drops the packet, if the queue is
+/// full.
 pub(crate) fn feed(sink: &mut Sink, packet: &Packet, clock: u64, out: &mut Out) -> bool
     requires sound { IsSink sink.old }
     requires bytes { DATAGRAM ≤ out.old.datagram_spare }
@@ -44,7 +45,7 @@ pub(crate) fn feed(sink: &mut Sink, packet: &Packet, clock: u64, out: &mut Out) 
     }
 }
 
-/// Sends what a packer holds. False where that is nothing.
+/// Sends the packets that a packer holds. Returns `false` if it holds none, or if this is a queue.
 pub(crate) fn flush_sink(sink: &mut Sink, clock: u64, out: &mut Out) -> bool
     requires sound { IsSink sink.old }
     requires bytes { DATAGRAM ≤ out.old.datagram_spare }
@@ -62,7 +63,8 @@ pub(crate) fn flush_sink(sink: &mut Sink, clock: u64, out: &mut Out) -> bool
     }
 }
 
-/// Moves the first 64 packets of a queue to the reply, and answers the number of their bytes.
+/// Moves the first packets of a queue, at most 64, to the reply, and returns the number of their
+/// bytes. `None` if this is a packer.
 pub(crate) fn pull_sink(sink: &mut Sink, out: &mut Out) -> Option<usize>
     requires sound { IsSink sink.old }
     requires room { PULLED_BYTES ≤ out.old.reply_spare }
@@ -77,7 +79,7 @@ pub(crate) fn pull_sink(sink: &mut Sink, out: &mut Out) -> Option<usize>
     }
 }
 
-// Moves the first 64 packets to the reply, and answers the number of their bytes.
+// Moves the first packets, at most 64, to the reply, and returns the number of their bytes.
 fn pull_queue(queue: &mut Queue, out: &mut Out) -> usize
     requires room { PULLED_BYTES ≤ out.old.reply_spare }
     ensures left { queue.new ≡ buffer (drop 64 queue.old.items) queue.old.capacity }
@@ -91,7 +93,7 @@ fn pull_queue(queue: &mut Queue, out: &mut Out) -> usize
     bytes
 }
 
-// Moves the first packet to the reply, if there is one, and answers the number of its bytes.
+// Moves the first packet to the reply, if there is one, and returns the number of its bytes.
 fn pull_packet(queue: &mut Queue, out: &mut Out) -> usize
     requires room { PACKET ≤ out.old.reply_spare }
     ensures left { queue.new ≡ buffer (drop 1 queue.old.items) queue.old.capacity }

@@ -1,4 +1,4 @@
-//! One subscriber, which a clause sees as a `Subscription`.
+//! One subscriber; in contracts it is a `Subscription`.
 ghost use Rattle.std.specs.Prelude.{◌≡◌, ◌≢◌, ◌+◌, ◌≤◌, [], is_some, option_map};
 ghost use Rattle.circular_buffer.specs.Buffer.{buffer};
 ghost use Rattle.satip_rtp.specs.Sending.{SendsAll};
@@ -36,7 +36,7 @@ impl Model for Subscriber {
 }
 
 impl Subscriber {
-    /// A session that gets datagrams, with a new packer.
+    /// Returns a session that gets datagrams, with a new packer.
     pub(crate) fn packed(
         place: Place,
         front: Option<u16>,
@@ -54,7 +54,7 @@ impl Subscriber {
         }
     }
 
-    /// A session that pulls, with an empty queue.
+    /// Returns a session that pulls, with an empty queue.
     pub(crate) fn queued(
         place: Place,
         front: Option<u16>,
@@ -90,7 +90,7 @@ impl Subscriber {
         &self.pids
     }
 
-    /// Whether a packet of a front is for this subscriber.
+    /// Returns whether this subscriber selects a packet of a front end.
     pub(crate) fn selects(&self, front: u16, packet: &Packet) -> bool
         ensures selected { result ≡ selects front packet.now self.now }
     {
@@ -100,8 +100,8 @@ impl Subscriber {
         }
     }
 
-    /// Gives it a packet of a front, if it selects the packet. True where the packet met a full
-    /// queue.
+    /// Gives a packet of a front end to the subscriber, if it selects the packet. Returns `true` if
+    /// the packet met a full queue.
     pub(crate) fn give(&mut self, front: u16, packet: &Packet, clock: u64, out: &mut Out) -> bool
         requires bytes { DATAGRAM ≤ out.old.datagram_spare }
         requires count { out.old.count_spare ≢ 0 }
@@ -117,7 +117,8 @@ impl Subscriber {
         feed(&mut self.sink, packet, clock, out)
     }
 
-    /// Sends what its packer holds. False where that is nothing, and where it has a queue.
+    /// Sends the packets that its packer holds. Returns `false` if it holds none, or if it has a
+    /// queue.
     pub(crate) fn flush(&mut self, clock: u64, out: &mut Out) -> bool
         requires bytes { DATAGRAM ≤ out.old.datagram_spare }
         requires count { out.old.count_spare ≢ 0 }
@@ -130,7 +131,7 @@ impl Subscriber {
         flush_sink(&mut self.sink, clock, out)
     }
 
-    /// If it is of this stream, the stream has this front and these PIDs from now on.
+    /// Sets the front end and the PIDs, if the subscriber is of this stream.
     pub(crate) fn change(&mut self, stream: u16, front: Option<u16>, pids: &PidSet)
         ensures changed { self.new ≡ changed stream front pids.now self.old }
     {
@@ -140,7 +141,7 @@ impl Subscriber {
         }
     }
 
-    /// Its datagrams go to this address from now on. False where it has a queue.
+    /// Sets the address of its datagrams. Returns `false` if it has a queue.
     pub(crate) fn readdress(&mut self, to: Address) -> bool
         ensures readdressed { self.new ≡ readdressed to self.old }
         ensures is_packed { result ≡ is_some (packing_of self.old.feed) }
@@ -154,7 +155,8 @@ impl Subscriber {
         }
     }
 
-    /// Moves at most 64 packets of its queue to the reply, and answers the number of their bytes.
+    /// Moves at most 64 packets of its queue to the reply, and returns the number of their bytes.
+    /// `None` if it has no queue.
     pub(crate) fn pull(&mut self, out: &mut Out) -> Option<usize>
         requires room { PULLED_BYTES ≤ out.old.reply_spare }
         ensures pulled { self.new ≡ pulled self.old }
@@ -164,7 +166,7 @@ impl Subscriber {
         pull_sink(&mut self.sink, out)
     }
 
-    /// What its packer tells.
+    /// Returns the sender state of its packer, if it has one.
     pub(crate) fn state(&self) -> Option<SenderState>
         ensures state { result ≡ sender_state (packing_of self.now.feed) }
     {
@@ -178,7 +180,7 @@ impl Subscriber {
         }
     }
 
-    /// Ends it. Its queue, if it has one, is given back empty.
+    /// Ends the subscriber, and returns its queue, emptied, if it has one.
     pub(crate) fn into_queue(self) -> Option<Queue>
         ensures emptied { result ≡ option_map (λ packets. buffer [] 4096) (queue_of self.feed) }
     {

@@ -5,3 +5,5 @@ pub mod StreamLemmas
 pub mod FramerLemmas
 pub mod ReadingLemmas
 pub mod CallLemmas
+pub mod AskingLemmas
+pub mod TextLemmas

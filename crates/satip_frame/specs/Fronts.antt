@@ -1,4 +1,4 @@
--- What the code says of the front of a text.
+-- The start of a text, as the code finds it.
 use Rattle.std.specs.Prelude.{ℕ, ◌≤◌, List, length, take, drop, All}
 use Rattle.httparse.specs.Spans.{IsHeaderWithin}
 use Rattle.httparse.specs.declared.spans.HeaderSpan.{HeaderSpan}
@@ -9,7 +9,7 @@ use Rattle.satip_frame.specs.declared.looking.Front.TheVariants.{Whole, More, Ba
 use Rattle.satip_frame.specs.Places.{IsLineWithin, said_at}
 use Rattle.satip_frame.specs.Stream.{Unfinished, Broken, Begins, Ends}
 
--- the text begins with a message whose parts stand at these places
+-- the text begins with a message whose parts are at these places
 pub record IsFoundAt (text : List ℕ) (headers : List HeaderSpan) (found : Found) : Type 0 where
   pub line : IsLineWithin found.head found.line
   pub counted : found.headers ≤ 64
@@ -18,7 +18,7 @@ pub record IsFoundAt (text : List ℕ) (headers : List HeaderSpan) (found : Foun
   pub within : found.len ≤ length text
   pub begins : Begins text (said_at (take found.head text) found.line (take found.headers headers)) (drop found.len text)
 
--- the text begins so
+-- the text begins as this answer says
 abbrev pub IsFront : List ℕ → List HeaderSpan → Front → Type 0
 IsFront text headers (Whole found) = IsFoundAt text headers found
 IsFront text headers More = Ends text Unfinished

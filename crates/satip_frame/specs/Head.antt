@@ -7,12 +7,12 @@ use Rattle.httparse.specs.Grammar.{AllPass, IsToken, LineEnd, print_end, Field, 
 use Rattle.httparse.specs.Spans.{name_and_value}
 use Rattle.satip_frame.specs.Said.{Said, body_length}
 
--- whether an empty line, with LF or CR LF as its end, ends the text
+-- whether the text ends in an empty line, whose end is LF or CR LF
 abbrev pub ends_in_empty_line : List ℕ → Bool
 ends_in_empty_line text =
     ends_with nat_eq text (line_feed ∷ line_feed ∷ []) || ends_with nat_eq text (line_feed ∷ carriage_return ∷ line_feed ∷ [])
 
--- no empty line ends in the first n bytes of the text
+-- none of the first n bytes of the text ends an empty line
 abbrev pub HasNoEmptyLine : ℕ → List ℕ → Type 0
 HasNoEmptyLine n text = (k : ℕ) → k ≤ n → IsTrue (ends_in_empty_line (take k text)) → ⊥
 
@@ -20,7 +20,7 @@ HasNoEmptyLine n text = (k : ℕ) → k ≤ n → IsTrue (ends_in_empty_line (ta
 abbrev pub head_limit : ℕ
 head_limit = 8192
 
--- the head at the front of the text has n bytes: its first empty line ends there
+-- the text begins with a head of n bytes: its first empty line ends there
 pub record IsHeadEnd (text : List ℕ) (n : ℕ) : Type 0 where
   pub in_range : n ≤ length text
   pub within : n ≤ head_limit
@@ -35,7 +35,7 @@ IsVisible word = (0 < length word) × AllPass is_ascii_graphic word
 abbrev pub print_first_line : Said → List ℕ
 print_first_line m = m.method ++ space ∷ m.target ++ space ∷ m.version
 
--- the whole head reads as this: its first line, and a header block of at most 64 headers
+-- the whole head is read as this message: its first line, and a header block of at most 64 headers
 pub record ReadsHead (head : List ℕ) (m : Said) : Type 0 where
   pub method : IsToken m.method
   pub target : IsVisible m.target
@@ -50,7 +50,7 @@ pub record ReadsHead (head : List ℕ) (m : Said) : Type 0 where
   pub few : length fields ≤ 64
   pub headers : m.headers ≡ map name_and_value fields
 
--- the head reads as this, and a body of n bytes follows it
+-- the head is read as this message, and a body of n bytes follows it
 pub record IsGoodHead (head : List ℕ) (m : Said) (n : ℕ) : Type 0 where
   pub reads : ReadsHead head m
   pub body : body_length m.headers ≡ Some n

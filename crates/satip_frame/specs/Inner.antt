@@ -1,4 +1,4 @@
--- A framer's fields: where the last message stands in the buffer, and what is always true of them.
+-- A framer's fields: the place of the last message in the buffer, and the invariant of the fields.
 use Rattle.std.specs.Prelude.{ℕ, ◌+◌, ◌≤◌, List, length, take, drop, All, Option, Some, None, slice_range, vec_len, vec_capacity}
 use Rattle.std.specs.Global.{Vec}
 use Rattle.httparse.specs.Spans.{IsHeaderWithin}
@@ -23,7 +23,7 @@ found_in items headers Reading = None
 found_in items headers (Holding place) = Some (said_in items headers place)
 found_in items headers (Ended cause) = None
 
--- how the text ended
+-- the break of the text, if it is broken
 abbrev pub ended_in : State → Option Break
 ended_in Reading = None
 ended_in (Holding place) = None
@@ -36,13 +36,13 @@ pub record IsPlace (items : List ℕ) (headers : List HeaderSpan) (place : Place
   pub counted : place.found.headers ≤ 64
   pub headers_within : All (IsHeaderWithin place.found.head) (take place.found.headers headers)
 
--- the last message lies in the buffer, and a text that ended is broken where the framer stands
+-- the last message lies in the buffer, and a broken text is broken at the framer's place
 abbrev pub IsState : List ℕ → ℕ → List HeaderSpan → State → Type 0
 IsState items start headers Reading = Unit {0}
 IsState items start headers (Holding place) = IsPlace items headers place
 IsState items start headers (Ended cause) = Ends (skip_newlines (drop start items)) (Broken cause)
 
--- what is true of each framer
+-- the invariant of each framer
 pub record IsFramer (buffer : Vec ℕ) (start : ℕ) (headers : List HeaderSpan) (state : State) : Type 0 where
   pub start_within : start ≤ vec_len buffer
   pub held : vec_len buffer ≤ capacity

@@ -1,4 +1,4 @@
--- What is true of all texts.
+-- Laws of all texts.
 use Rattle.std.specs.Prelude.{◌≡◌, ℕ, ◌≤◌, List, ◌++◌, length}
 use Rattle.satip_frame.specs.declared.framing.Break.{Break}
 use Rattle.satip_frame.specs.Said.{Said}
@@ -9,13 +9,13 @@ abbrev pub OneReading : Type 0
 OneReading =
     (text : List ℕ) (ms ns : List Said) (s t : Tail) → Messages text ms s → Messages text ns t → (ms ≡ ns) × (s ≡ t)
 
--- what was read before stays when more bytes come, and a broken text stays broken
+-- the messages read before stay when more bytes follow, and a broken text stays broken
 pub record KeptByMoreBytes : Type 0 where
   pub messages : (text more : List ℕ) (ms ns : List Said) (s t : Tail) → Messages text ms s → Messages (text ++ more) ns t
       → (others : List Said) × (ns ≡ ms ++ others)
   pub broken : (text more : List ℕ) (ms : List Said) (cause : Break) → Messages text ms (Broken cause) → Messages (text ++ more) ms (Broken cause)
 
--- messages that a text begins with are the first of its messages
+-- if a text begins with some messages, they are the first of its messages
 abbrev pub FirstIsFirst : Type 0
 FirstIsFirst =
     (text : List ℕ) (ms ns : List Said) (t : Tail) → AreFirst ms text → Messages text ns t → (others : List Said) × (ns ≡ ms ++ others)
@@ -24,7 +24,7 @@ FirstIsFirst =
 abbrev pub AllAreFirst : Type 0
 AllAreFirst = (text : List ℕ) (ms : List Said) (t : Tail) → Messages text ms t → AreFirst ms text
 
--- the first messages of a text stay its first ones when more bytes come
+-- the first messages of a text stay its first ones when more bytes follow
 abbrev pub FirstByMoreBytes : Type 0
 FirstByMoreBytes = (text more : List ℕ) (ms : List Said) → AreFirst ms text → AreFirst ms (text ++ more)
 

@@ -7,3 +7,5 @@ pub mod Laws
 pub mod Fronts
 pub mod Inner
 pub mod Calls
+pub mod Asking
+pub mod Origins

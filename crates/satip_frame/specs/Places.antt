@@ -1,4 +1,4 @@
--- Where the parts of a head stand in it.
+-- The places of the parts of a head.
 use Rattle.std.specs.Prelude.{◌≡◌, ℕ, ◌<◌, ◌≤◌, List, ◌++◌, length, drop, map}
 use Rattle.std.specs.Char.{is_ascii_graphic}
 use Rattle.httparse.specs.Ascii.{space}
@@ -9,7 +9,7 @@ use Rattle.httparse.specs.declared.spans.HeaderSpan.{HeaderSpan}
 use Rattle.satip_frame.specs.declared.heads.FirstLine.{FirstLine}
 use Rattle.satip_frame.specs.Said.{Said}
 
--- the version and the end of its line
+-- the version, followed by the end of its line
 abbrev pub LastWord : Piece (List ℕ × LineEnd)
 LastWord word text rest =
     (0 < length word.0) × (length word.0 ≤ 16) × AllPass is_ascii_graphic word.0 × (text ≡ word.0 ++ (print_end word.1 ++ rest))
@@ -31,7 +31,7 @@ pub record IsLineAt (head : List ℕ) (line : FirstLine) : Type 0 where
   pub line_end : LineEnd
   pub reads : Line (span_bytes head line.method, (span_bytes head line.target, (span_bytes head line.version, line_end))) head (drop line.end head)
 
--- what stands at these places of a head
+-- the message at these places of a head
 abbrev pub said_at : List ℕ → FirstLine → List HeaderSpan → Said
 said_at head line headers = record {
   method = span_bytes head line.method;

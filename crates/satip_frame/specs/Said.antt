@@ -1,4 +1,4 @@
--- What the head of a message says.
+-- The content of a message's head.
 use Rattle.std.specs.Prelude.{ℕ, Bool, List, [], ◌∷◌, Option, Some, None, map, filter, find, option_map}
 use Rattle.std.specs.Str.{str_eq_ignore_ascii_case}
 use Rattle.std.specs.Prelude.{codes}
@@ -23,11 +23,11 @@ values_of name headers = map (λ header. header.1) (filter (is_named name) heade
 abbrev pub first_value : List ℕ → List (List ℕ × List ℕ) → Option (List ℕ)
 first_value name headers = option_map (λ header. header.1) (find (is_named name) headers)
 
--- the largest length that a header can give
+-- the largest length that `Content-Length` can have
 abbrev pub most : ℕ
 most = 18446744073709551615
 
--- the length that the values of Content-Length give: 0 without one, and none where there are several
+-- the length by the values of Content-Length: 0 without one, and none if there are several
 abbrev pub length_from : List (List ℕ) → Option ℕ
 length_from [] = Some 0
 length_from (value ∷ []) = number_of most value

@@ -1,4 +1,4 @@
--- The messages of a whole text of received bytes, and what is left behind them.
+-- The messages of a whole text of received bytes, and the rest after them.
 use Rattle.std.specs.Prelude.{◌≡◌, ℕ, ◌+◌, ◌<◌, ◌≤◌, ◌⊎◌, List, [], ◌∷◌, length, take, drop, if◌then◌else◌}
 use Rattle.httparse.specs.Pieces.{is_newline}
 use Rattle.satip_frame.specs.declared.framing.Break.{Break}
@@ -10,7 +10,7 @@ use Rattle.satip_frame.specs.Head.{HasNoEmptyLine, head_limit, IsHeadEnd, IsGood
 abbrev pub body_limit : ℕ
 body_limit = 4096
 
--- what stands behind the messages of a text: the beginning of one more, or what is none
+-- the rest after the messages of a text: a prefix of one more, or a break
 pub data Tail : Type 0 where
   Unfinished : Tail
   Broken : Break → Tail
@@ -20,12 +20,12 @@ abbrev pub skip_newlines : List ℕ → List ℕ
 skip_newlines [] = []
 skip_newlines (b ∷ text) = if is_newline b then skip_newlines text else (b ∷ text)
 
--- the text begins with a head of so many bytes, which says m and announces a body of so many
+-- the text begins with a head of `head` bytes, which is that of m and announces a body of `body` bytes
 pub record HasHead (text : List ℕ) (head : ℕ) (m : Said) (body : ℕ) : Type 0 where
   pub end : IsHeadEnd text head
   pub good : IsGoodHead (take head text) m body
 
--- the text begins with the message m, whose body is ignored, and then rest
+-- the text begins with the message m, whose body is ignored, and rest follows
 pub record Begins (text : List ℕ) (m : Said) (rest : List ℕ) : Type 0 where
   pub head : ℕ
   pub body : ℕ
@@ -34,40 +34,40 @@ pub record Begins (text : List ℕ) (m : Said) (rest : List ℕ) : Type 0 where
   pub whole : head + body ≤ length text
   pub rest_is : rest ≡ drop (head + body) text
 
--- the first empty line may still come in time
+-- the head isn't complete yet: no empty line ends so far, and the text is shorter than the limit
 abbrev pub IsHeadOpen : List ℕ → Type 0
 IsHeadOpen text = (length text < head_limit) × HasNoEmptyLine (length text) text
 
--- the first empty line doesn't come in time
+-- the head is too long: no empty line ends within the limit
 abbrev pub IsHeadEndless : List ℕ → Type 0
 IsHeadEndless text = (head_limit ≤ length text) × HasNoEmptyLine head_limit text
 
--- the head is there, and some of the body isn't
+-- the head is complete, and part of the body is missing
 abbrev pub IsBodyOpen : List ℕ → Type 0
 IsBodyOpen text =
     (head : ℕ) × (m : Said) × (body : ℕ) × HasHead text head m body × (body ≤ body_limit) × (length text < head + body)
 
--- the head is there and is none of a message
+-- the head is complete, and it isn't that of a message
 abbrev pub IsHeadBad : List ℕ → Type 0
 IsHeadBad text =
     (head : ℕ) × IsHeadEnd text head × ((m : Said) (body : ℕ) → IsGoodHead (take head text) m body → ⊥)
 
--- the head is there and announces a body that is too long
+-- the head is complete, and it announces a body that is too long
 abbrev pub IsBodyTooLong : List ℕ → Type 0
 IsBodyTooLong text = (head : ℕ) × (m : Said) × (body : ℕ) × HasHead text head m body × (body_limit < body)
 
--- the text begins with no message, for this reason
+-- the text begins with no whole message, for this reason
 abbrev pub Ends : List ℕ → Tail → Type 0
 Ends text Unfinished = IsHeadOpen text ⊎ IsBodyOpen text
 Ends text (Broken Bad) = IsHeadEndless text ⊎ IsHeadBad text
 Ends text (Broken TooLong) = IsBodyTooLong text
 
--- the text has these messages and this tail; CR and LF before a message count nowhere
+-- the text has these messages and this tail; CR and LF before a message are skipped
 abbrev pub Messages : List ℕ → List Said → Tail → Type 0
 Messages text [] tail = Ends (skip_newlines text) tail
 Messages text (m ∷ ms) tail = (rest : List ℕ) × Begins (skip_newlines text) m rest × Messages rest ms tail
 
--- the text begins with these messages and then, but for CR and LF, rest
+-- the text begins with these messages, and rest follows, but for CR and LF
 abbrev pub Leads : List ℕ → List Said → List ℕ → Type 0
 Leads text [] rest = skip_newlines text ≡ skip_newlines rest
 Leads text (m ∷ ms) rest = (after : List ℕ) × Begins (skip_newlines text) m after × Leads after ms rest

@@ -1,4 +1,5 @@
-//! The framer: it holds the bytes that no message took yet, and finds the next message in them.
+//! The framer: it holds the bytes that belong to no message yet, and finds the next message in
+//! them.
 ghost use Rattle.std.specs.Prelude.{◌≡◌, ◌↔◌, ◌⊎◌, ◌<◌, ◌≤◌, ◌++◌, ℕ, List, [], length, take, drop, vec_len, vec_capacity, Option, IfOk, IsSome, IsNone};
 ghost use Rattle.satip_frame.specs.Said.{Said};
 ghost use Rattle.satip_frame.specs.Stream.{Tail, Broken, skip_newlines, Messages, Leads};
@@ -16,29 +17,29 @@ use std::marker::Model;
 
 const CAPACITY: usize = 12288;
 
-/// Why no further message can be read.
+/// The reason that no further message can be read.
 #[derive(Clone, Copy, Debug, PartialEq, Eq)]
 pub enum Break {
-    /// What stands there is no message.
+    /// The next bytes aren't a message.
     Bad,
     /// The message announces a body of more than 4096 bytes.
     TooLong,
 }
 
-/// What a framer found.
+/// The answer of `Framer::next`.
 #[derive(Clone, Copy, Debug, PartialEq, Eq)]
 pub enum Step {
     /// A whole message.
     Message,
-    /// The bytes so far hold no further whole message.
+    /// No further whole message is held yet.
     More,
-    /// What stands there is no message, and no further one is read.
+    /// The next bytes aren't a message, and no further one is read.
     Bad,
     /// A message announces a body of more than 4096 bytes, and no further one is read.
     TooLong,
 }
 
-/// Where the message that was found last stands in the buffer.
+/// The place in the buffer of the message found last.
 #[derive(Clone, Copy)]
 struct Place {
     at: usize,
@@ -52,8 +53,8 @@ enum State {
     Ended(Break),
 }
 
-/// Finds the messages of a stream of bytes that comes in pieces, whatever the pieces are. It holds
-/// at most 12288 bytes: a head of at most 8192 and a body of at most 4096.
+/// Finds the messages of a stream of bytes that is fed in pieces of any size. It holds at most
+/// 12288 bytes: a head of at most 8192 and a body of at most 4096.
 #[derive(Drop)]
 pub struct Framer {
     buffer: Vec<u8>,
@@ -80,7 +81,8 @@ impl Model for Framer {
 }
 
 impl Framer {
-    /// A framer to which nothing was fed. It takes all its memory here.
+    /// Returns a framer to which nothing was fed. It allocates all its memory here; `Want` is out
+    /// of memory.
     pub fn make(alloc: Global) -> Result<Framer, Want>
         ensures made { IfOk result (λ framer. framer ≡ new_framer) }
     {
@@ -95,7 +97,7 @@ impl Framer {
         }
     }
 
-    /// Forgets all bytes, as for a new connection.
+    /// Removes all bytes, as for a new connection.
     pub fn reset(&mut self)
         ensures made { self.new ≡ new_framer }
     {
@@ -104,16 +106,16 @@ impl Framer {
         self.state = State::Reading;
     }
 
-    /// Takes bytes from the front of a piece, as many as there is room for, and answers how many.
-    /// The message that was found last is gone then.
+    /// Takes bytes from the start of a piece, as many as there is room for, and returns their
+    /// number. The message that was found last is gone then.
     pub fn feed(&mut self, piece: &[u8]) -> usize
         ensures count { result ≡ bytes_taken self.old (length piece.now) }
         ensures none { (result ≡ 0)
             ↔ ((piece.now ≡ []) ⊎ ((length self.old.bytes ≡ capacity) ⊎ IsSome self.old.ended)) }
         ensures bytes { self.new.bytes ≡ self.old.bytes ++ take result piece.now }
 
-        // A text that was read up to the bytes that are held goes on with the bytes that were
-        // taken.
+        // If a text was read up to the held bytes, then the text with the taken bytes is read up to
+        // the new held bytes.
         ensures follows { (text : List ℕ) (ms : List Said) → Leads text ms self.old.bytes
             → Leads (text ++ take result piece.now) ms self.new.bytes }
 
@@ -131,10 +133,10 @@ impl Framer {
         count
     }
 
-    /// Looks for the next message in the bytes that were fed. `Bad` and `TooLong` come again until
-    /// `reset`.
+    /// Looks for the next message in the bytes that were fed. After `Bad` or `TooLong` each call
+    /// returns the same until `reset`.
     pub fn next(&mut self) -> Step
-        // Right of each text that was read up to the bytes that are held.
+        // Holds for each text that was read up to the held bytes.
         ensures told { (text : List ℕ) (ms : List Said) → Leads text ms self.old.bytes
             → Tells text ms self.new result }
         ensures exact { (text : List ℕ) (ms : List Said) (tail : Tail)
@@ -143,7 +145,7 @@ impl Framer {
         ensures found { IsSome self.new.found ↔ (result ≡ Step.Message) }
         ensures ended { self.new.ended ≡ cause_of result }
 
-        // Nothing is held that wasn't fed, and after `More` there is room for the next byte.
+        // No bytes are added, and after `More` there is room for the next byte.
         ensures shorter { length self.new.bytes ≤ length self.old.bytes }
         ensures room { result ≡ Step.More → length self.new.bytes < capacity }
     {
@@ -176,15 +178,15 @@ impl Framer {
         }
     }
 
-    /// The bytes that wait: they were fed, and no message took them yet.
+    /// Returns the bytes that were fed and belong to no message yet.
     pub fn held(&self) -> &[u8]
         ensures bytes { result.now ≡ self.now.bytes }
     {
         self.buffer.split_at(self.start).1
     }
 
-    /// Passes over the first bytes that wait, so many, which then belong to no message. The
-    /// message that was found last is gone then.
+    /// Drops the first `count` of these bytes, which then belong to no message. The message that
+    /// was found last is gone then.
     pub fn skip(&mut self, count: usize)
         requires within { count ≤ length self.old.bytes }
         requires goes_on { IsNone self.old.ended }
@@ -196,8 +198,8 @@ impl Framer {
         self.state = State::Reading;
     }
 
-    /// The message that the last `next` found: None where that found none, and after a `feed`
-    /// or a `skip`.
+    /// Returns the message that the last `next` found; `None` if that found none, and after a
+    /// `feed` or a `skip`.
     pub fn message(&self) -> Option<Message<'_>>
         ensures found { result ≡ self.now.found }
     {
@@ -218,7 +220,7 @@ fn step_of(cause: Break) -> Step
     }
 }
 
-// Steps over the line ends at `start`, and tells where the text goes on and what it begins with.
+// Steps over the line ends at `start`. Returns the place after them and what begins there.
 fn find_front(
     buffer: &[u8],
     start: usize,
@@ -253,7 +255,7 @@ fn message_at<'a>(
     )
 }
 
-// Drops the first bytes of the buffer, and moves the others to its front.
+// Drops the first bytes of the buffer, and moves the others to its start.
 fn forget(buffer: &mut Vec<u8>, count: usize)
     requires { count ≤ vec_len buffer.old }
     ensures items { buffer.new.items ≡ drop count buffer.old.items }

@@ -1,4 +1,4 @@
-//! The head of a message: where it ends, and where its first line and its headers stand in it.
+//! The head of a message: its end, and the places of its first line and its headers.
 ghost use Rattle.std.specs.Prelude.{◌≡◌, ℕ, ◌+◌, ◌<◌, ◌≤◌, List, ◌++◌, length, take, drop, map, min, All, IfSome, IfNone, IsSomeAnd, IsTrue, []};
 ghost use Rattle.std.specs.Char.{is_ascii_graphic};
 ghost use Rattle.httparse.specs.Ascii.{space};
@@ -21,7 +21,7 @@ pub(crate) const HEADER_LIMIT: usize = 64;
 
 const VERSION_LIMIT: usize = 16;
 
-/// Where the words of a first line stand in its head, and where its line ends.
+/// The places of the words of a first line in its head, and the end of that line.
 #[derive(Clone, Copy)]
 pub(crate) struct FirstLine {
     pub method: Span,
@@ -30,7 +30,8 @@ pub(crate) struct FirstLine {
     pub end: usize,
 }
 
-/// A head that was read: its first line, how many headers it has, and the bytes of its body.
+/// A head that was read: its first line, the number of its headers, and the number of bytes of its
+/// body.
 #[derive(Clone, Copy)]
 pub(crate) struct HeadRead {
     pub line: FirstLine,
@@ -38,7 +39,7 @@ pub(crate) struct HeadRead {
     pub body: u64,
 }
 
-/// The length of the head at the front of the text.
+/// Returns the length of the head that the text begins with, if it is complete.
 pub(crate) fn head_end(text: &[u8]) -> Option<usize>
     ensures found { IfSome result (IsHeadEnd text.now) }
     ensures none { IfNone result (HasNoEmptyLine (min HEAD_LIMIT (length text.now)) text.now) }
@@ -58,7 +59,7 @@ fn ends_in_empty_line(text: &[u8]) -> bool
     text.ends_with(b"\n\n") || text.ends_with(b"\n\r\n")
 }
 
-/// Reads the head that the bytes are, all of them.
+/// Reads the bytes as one whole head. `None` if they aren't one.
 pub(crate) fn read_head(head: &[u8], headers: &mut [HeaderSpan]) -> Option<HeadRead>
     requires { length headers.old ≡ HEADER_LIMIT }
     ensures within { IfSome result (λ read. IsLineWithin (length head.now) read.line) }
@@ -85,7 +86,8 @@ pub(crate) fn read_head(head: &[u8], headers: &mut [HeaderSpan]) -> Option<HeadR
     })
 }
 
-// Reads the header block from `start` to the end of the head, and counts its headers.
+// Reads the header block from `start` to the end of the head, and returns the number of its
+// headers.
 fn read_block(head: &[u8], start: usize, headers: &mut [HeaderSpan]) -> Option<usize>
     requires { start ≤ length head.now }
     ensures counted { IfSome result (λ count. count ≤ length headers.old) }
@@ -179,7 +181,8 @@ fn read_version(head: &[u8], start: usize) -> Option<(Span, usize)>
     Some((Span { start, end }, next))
 }
 
-/// Where the line end that stands at `at` ends, LF or CR LF; None where none stands there.
+/// Returns the place after the line end at `at`, which is LF or CR LF; `None` if there is none at
+/// `at`.
 pub fn read_line_end(head: &[u8], at: usize) -> Option<usize>
     requires { at ≤ length head.now }
     ensures within { IfSome result (λ next. next ≤ length head.now) }

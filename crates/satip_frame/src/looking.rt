@@ -1,4 +1,4 @@
-//! What stands at the front of a text: a whole message, the beginning of one, or none.
+//! The start of a text: a whole message, a prefix of one, or none.
 ghost use Rattle.std.specs.Prelude.{◌≡◌, ◌≤◌, length, drop};
 ghost use Rattle.satip_frame.specs.Stream.{skip_newlines};
 ghost use Rattle.satip_frame.specs.Fronts.{IsFront};
@@ -9,17 +9,17 @@ use httparse::spans::HeaderSpan;
 /// The most bytes of a body.
 pub(crate) const BODY_LIMIT: u64 = 4096;
 
-/// Where the parts of a message stand in the text that begins with it.
+/// The places of the parts of a message in the text that begins with it.
 #[derive(Clone, Copy)]
 pub(crate) struct Found {
     pub head: usize,
     pub line: FirstLine,
     pub headers: usize,
-    /// The bytes of the head and of the body.
+    /// The number of bytes of the head and the body.
     pub len: usize,
 }
 
-/// What a text begins with.
+/// The start of a text.
 #[derive(Clone, Copy)]
 pub(crate) enum Front {
     Whole(Found),
@@ -28,7 +28,8 @@ pub(crate) enum Front {
     TooLong,
 }
 
-/// What the text begins with. The headers of a whole message are written to the front of `headers`.
+/// Returns what the text begins with. The headers of a whole message are written to the start of
+/// `headers`.
 pub(crate) fn look(text: &[u8], headers: &mut [HeaderSpan; HEADER_LIMIT]) -> Front
     ensures front { IsFront text.now headers.new result }
 {
@@ -56,7 +57,7 @@ pub(crate) fn look(text: &[u8], headers: &mut [HeaderSpan; HEADER_LIMIT]) -> Fro
     })
 }
 
-/// How many CR and LF the text begins with.
+/// Returns the number of CR and LF that the text begins with.
 pub(crate) fn count_newlines(text: &[u8]) -> usize
     ensures within { result ≤ length text.now }
     ensures skipped { drop result text.now ≡ skip_newlines text.now }

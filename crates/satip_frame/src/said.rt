@@ -1,4 +1,4 @@
-//! A message as its reader sees it: the words of its first line, and its headers.
+//! A message: the words of its first line, and its headers.
 ghost use Rattle.std.specs.Prelude.{◌≡◌, ℕ, ◌≤◌, length, map, All, codes};
 ghost use Rattle.std.specs.Option.{option_copied};
 ghost use Rattle.std.specs.Str.{str_eq_ignore_ascii_case};
@@ -61,29 +61,29 @@ impl<'a> Message<'a> {
         }
     }
 
-    /// The method, the first word of the first line.
+    /// Returns the method, the first word of the first line.
     pub fn method(&self) -> &'a [u8]
         ensures method { result.now ≡ self.now.method }
     {
         self.method
     }
 
-    /// The target, the second word.
+    /// Returns the target, the second word.
     pub fn target(&self) -> &'a [u8]
         ensures target { result.now ≡ self.now.target }
     {
         self.target
     }
 
-    /// The version, the third word.
+    /// Returns the version, the third word.
     pub fn version(&self) -> &'a [u8]
         ensures version { result.now ≡ self.now.version }
     {
         self.version
     }
 
-    /// The value of the first header of that name, without the blanks around it; None where there
-    /// is none. The case of ASCII letters in a name doesn't matter (RFC 2326, section 4.2).
+    /// Returns the value of the first header with this name, without the blanks around it. The case
+    /// of ASCII letters in a name doesn't matter (RFC 2326, section 4.2).
     pub fn header(&self, name: &[u8]) -> Option<&'a [u8]>
         ensures first { option_copied result ≡ first_value name.now self.now.headers }
     {
@@ -91,9 +91,9 @@ impl<'a> Message<'a> {
     }
 }
 
-/// The value of the first header of that name, of headers that stand at these places of a head,
-/// without the blanks around it; None where there is none. The case of ASCII letters in a name
-/// doesn't matter (RFC 2326, section 4.2).
+/// Returns the value of the first header with this name, among the headers at these places of a
+/// head. The blanks around it are left out. The case of ASCII letters in a name is ignored
+/// (RFC 2326, section 4.2).
 pub fn first_header<'a>(head: &'a [u8], headers: &[HeaderSpan], name: &[u8]) -> Option<&'a [u8]>
     requires { All (IsHeaderWithin (length head.now)) headers.now }
     ensures first { option_copied result
@@ -107,8 +107,8 @@ pub fn first_header<'a>(head: &'a [u8], headers: &[HeaderSpan], name: &[u8]) -> 
     None
 }
 
-/// How many bytes of body follow a head whose headers stand at these places of it (RFC 2326,
-/// section 12.14): 0 without `Content-Length`, and None where it stands there twice or gives no
+/// Returns the number of bytes of body that follow a head with headers at these places (RFC 2326,
+/// section 12.14). It is 0 without `Content-Length`, and `None` if that occurs twice or isn't a
 /// number below 2^64.
 pub fn body_length(head: &[u8], headers: &[HeaderSpan]) -> Option<u64>
     requires { All (IsHeaderWithin (length head.now)) headers.now }

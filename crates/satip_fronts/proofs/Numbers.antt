@@ -8,7 +8,7 @@ use Rattle.satip_tune.specs.declared.frontends.Front.{Front}
 use Rattle.satip_tune.specs.declared.frontends.Mux.{Mux}
 use Rattle.satip_tune.specs.declared.tunings.Tuning.{Tuning}
 use Rattle.satip_tune.specs.Frontends.{mux_for, is_meant_of}
-use Rattle.satip_fronts.specs.declared.rows.FrontRow.{FrontRow}
+use Rattle.satip_fronts.specs.declared.front_table.FrontRow.{FrontRow}
 use Rattle.satip_fronts.specs.Rows.{is_row}
 use Rattle.satip_fronts.specs.FrontEnds.{IsNumbered, is_front, is_mux}
 

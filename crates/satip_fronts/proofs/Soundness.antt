@@ -5,7 +5,7 @@ use Rattle.std.specs.List.{list_any, list_all}
 use Rattle.std.proofs.lemmas.Bool.{and_parts, and_from, eqb-true}
 use Rattle.satip_tune.specs.declared.frontends.Front.{Front}
 use Rattle.satip_tune.specs.declared.frontends.Mux.{Mux}
-use Rattle.satip_fronts.specs.declared.rows.FrontRow.{FrontRow}
+use Rattle.satip_fronts.specs.declared.front_table.FrontRow.{FrontRow}
 use Rattle.satip_fronts.specs.Rows.{is_at, is_row, freed, free_row, tuned_at, tuned_row, ended_at}
 use Rattle.satip_fronts.specs.FrontEnds.{FrontEnds, Sound, IsNumbered, after_choice, all_free, blocked, choice, ended, is_mux, is_place, left, moved, new_row}
 use Rattle.satip_fronts.specs.FrontEnds.{outlook, placed_at, settled, taken, tuned_rows}

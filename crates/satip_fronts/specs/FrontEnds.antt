@@ -1,4 +1,4 @@
--- What a contract sees of all front ends.
+-- All front ends, as contracts see them.
 use Rattle.std.specs.Prelude.{◌≡◌, ℕ, ◌+◌, ◌-◌, ◌≤◌, ◌==◌, ◌&&◌, nat_le, Bool, true, false, if◌then◌else◌, List, [], ◌∷◌, Option, None, Some, length, map}
 use Rattle.std.specs.Prelude.{find, slice_get, slice_set, count_by, replicate}
 use Rattle.std.specs.List.{list_any, list_all}
@@ -8,13 +8,12 @@ use Rattle.satip_tune.specs.declared.frontends.Front.{Front}
 use Rattle.satip_tune.specs.declared.frontends.Mux.{Mux}
 use Rattle.satip_tune.specs.declared.tunings.Tuning.{Tuning}
 use Rattle.satip_fronts.specs.declared.choice.Place.{Place}
-use Rattle.satip_fronts.specs.declared.rows.FrontRow.{FrontRow}
-use Rattle.satip_fronts.specs.declared.rows.FrontState.{FrontState}
+use Rattle.satip_fronts.specs.declared.front_table.FrontRow.{FrontRow}
+use Rattle.satip_fronts.specs.declared.front_table.FrontState.{FrontState}
 use Rattle.satip_fronts.specs.Rows.{is_at, is_row, tuned_at, freed, ended_at}
 use Rattle.satip_fronts.specs.Choice.{Outlook, choose, blocked as blocked_at}
 
--- the front ends and multiplexes of the configuration, what each front end is doing, and the front end
--- of each stream: that of stream t stands at t - 1
+-- the front ends and multiplexes of the configuration, the state of each front end, and the front end of each stream: that of stream t is at t - 1
 pub record FrontEnds : Type 0 where
   pub fronts : List Front
   pub muxes : List Mux
@@ -30,7 +29,7 @@ IsNumbered from (front ∷ fronts) = (front.number ≡ from) × IsNumbered (from
 unfoldable pub new_row : Front → FrontRow
 new_row front = record { number = front.number; mux = None; tune = 0; ended = false }
 
--- front ends that serve no stream yet
+-- the front ends if none serves a stream or was tuned
 unfoldable pub all_free : List Front → List Mux → FrontEnds
 all_free fronts muxes = record { fronts = fronts; muxes = muxes; rows = map new_row fronts; places = replicate 64 None }
 
@@ -38,7 +37,7 @@ all_free fronts muxes = record { fronts = fronts; muxes = muxes; rows = map new_
 unfoldable pub front_of : List (Option ℕ) → ℕ → Option ℕ
 front_of places stream = if stream == 0 then None else option_flatten (slice_get places (stream - 1))
 
--- the places with the stream at this one
+-- the places after the stream's place became this one
 abbrev pub placed_at : List (Option ℕ) → ℕ → Option ℕ → List (Option ℕ)
 placed_at places stream place = slice_set places (stream - 1) place
 
@@ -46,17 +45,17 @@ placed_at places stream place = slice_set places (stream - 1) place
 abbrev pub row_of : FrontEnds → ℕ → Option FrontRow
 row_of v front = find (is_row front) v.rows
 
--- the multiplex of a front end, where it has one
+-- the multiplex of a front end, if it has one
 unfoldable pub mux_at : List FrontRow → ℕ → Option ℕ
 mux_at rows front = option_and_then (λ (row : FrontRow). row.mux) (find (is_row front) rows)
 
--- what a front end is doing, with the number of its streams
+-- the state of a front end, with the number of its streams
 unfoldable pub state_of : FrontEnds → ℕ → Option FrontState
 state_of v front = option_map
     (λ (row : FrontRow). record { streams = count_by (is_at front) v.places; mux = row.mux; tune = row.tune; ended = row.ended })
     (row_of v front)
 
--- what is looked at to choose a front end for this stream
+-- the data that the choice of a front end for this stream depends on
 unfoldable pub outlook : FrontEnds → ℕ → Outlook
 outlook v stream = record {
   fronts = v.fronts;
@@ -65,41 +64,41 @@ outlook v stream = record {
   shared = λ front. list_any (is_at front) (placed_at v.places stream None);
 }
 
--- where the stream comes to be with this tuning
+-- the place of the stream with this tuning
 unfoldable pub choice : FrontEnds → ℕ → Tuning → Option Place
 choice v stream tuning = choose (outlook v stream) (mux_for v.muxes tuning) tuning
 
--- whether no front end is to be had for the stream with this tuning
+-- whether no front end is available for the stream with this tuning
 unfoldable pub blocked : FrontEnds → ℕ → Tuning → Bool
 blocked v stream tuning = blocked_at (outlook v stream) (mux_for v.muxes tuning) tuning
 
--- the front ends with these places; one that serves no stream is free
+-- the front ends with these places; each that serves no stream is freed
 unfoldable pub settled : FrontEnds → List (Option ℕ) → FrontEnds
 settled v places = record v { rows = map (freed places) v.rows; places = places }
 
--- the rows, where a place is at a front end that is tuned anew
+-- the rows after the place's front end was tuned, if the place says so
 unfoldable pub tuned_rows : Place → Option ℕ → List FrontRow → List FrontRow
 tuned_rows place mux rows = if place.anew then map (tuned_at place.front mux) rows else rows
 
--- the front ends once the stream came to this place
+-- the front ends after the stream moved to this place
 unfoldable pub moved : FrontEnds → ℕ → Tuning → Place → FrontEnds
 moved v stream tuning place =
     settled (record v { rows = tuned_rows place (mux_for v.muxes tuning) v.rows }) (placed_at v.places stream (Some place.front))
 
--- the front ends once the stream came to a place, where there is one
+-- the front ends after the stream moved to a place, if there is one
 abbrev pub after_choice : FrontEnds → ℕ → Tuning → Option Place → FrontEnds
 after_choice v stream tuning None = v
 after_choice v stream tuning (Some place) = moved v stream tuning place
 
--- the front ends once the stream took one for this tuning
+-- the front ends after the stream took one for this tuning
 unfoldable pub taken : FrontEnds → ℕ → Tuning → FrontEnds
 taken v stream tuning = after_choice v stream tuning (choice v stream tuning)
 
--- the front ends once the stream left its own
+-- the front ends after the stream left its own
 unfoldable pub left : FrontEnds → ℕ → FrontEnds
 left v stream = settled v (placed_at v.places stream None)
 
--- whether the row is there and has this tune number
+-- whether there is a row, and it has this tune number
 abbrev pub has_tune : ℕ → Option FrontRow → Bool
 has_tune tune None = false
 has_tune tune (Some row) = row.tune == tune
@@ -112,7 +111,7 @@ is_current_in rows places front tune = list_any (is_at front) places && has_tune
 abbrev pub is_current : FrontEnds → ℕ → ℕ → Bool
 is_current v front tune = is_current_in v.rows v.places front tune
 
--- the front ends once the recording of this one ended
+-- the front ends after the recording of this one ended
 unfoldable pub ended : FrontEnds → ℕ → FrontEnds
 ended v front = record v { rows = map (ended_at front) v.rows }
 
@@ -125,12 +124,12 @@ abbrev pub is_place : List Front → Option ℕ → Bool
 is_place fronts None = true
 is_place fronts (Some number) = list_any (is_front number) fronts
 
--- whether a front end has no multiplex, or one of this many, numbered from 1
+-- whether a front end has no multiplex, or one of `count`, numbered from 1
 abbrev pub is_mux : ℕ → Option ℕ → Bool
 is_mux count None = true
 is_mux count (Some number) = nat_le 1 number && nat_le number count
 
--- what holds of the front ends at all times
+-- the invariant of the front ends
 pub record Sound (v : FrontEnds) : Type 0 where
   pub few : length v.fronts ≤ 16
   pub received : length v.muxes ≤ 256

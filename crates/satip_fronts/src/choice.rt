@@ -1,11 +1,11 @@
-//! The ways in which a stream comes to a front end.
+//! The cases in which a stream gets a front end.
 
 ghost use Rattle.std.specs.Prelude.{◌≡◌};
 ghost use Rattle.satip_fronts.specs.Choice.{is_tuned_to, may_take_if, placed};
 
-use crate::rows::is_at_front;
+use crate::front_table::is_at_front;
 
-/// Where a stream comes to be: the front end's number, and whether that front end is tuned anew.
+/// The front end that a stream gets, by its number, and whether it has to be tuned for it.
 #[derive(Clone, Copy, Debug, PartialEq, Eq)]
 pub struct Place {
     pub front: u16,
@@ -19,13 +19,13 @@ pub enum Case {
     Keep,
     /// The stream joins others at a front end that is tuned to its multiplex.
     Share,
-    /// The stream stays alone at its front end, which is tuned anew.
+    /// The stream stays alone at its front end, which is retuned.
     Retune,
-    /// The stream comes to a front end that served none.
+    /// The stream gets a front end that serves no stream, which is tuned.
     Start,
 }
 
-/// Whether a front end that has this multiplex is tuned to the wanted one.
+/// Returns whether a front end with the multiplex `has` is tuned to the wanted one.
 pub fn is_tuned(wanted: Option<u16>, has: Option<u16>) -> bool
     ensures tuned { result ≡ is_tuned_to wanted has }
 {
@@ -35,9 +35,9 @@ pub fn is_tuned(wanted: Option<u16>, has: Option<u16>) -> bool
     }
 }
 
-/// Whether a front end that fits may be taken in this case, where `own` says that the stream is at
-/// it, `tuned` that it is tuned to the wanted multiplex, and `shared` that it serves another
-/// stream.
+/// Returns whether a front end that fits may be taken in this case. `own` is whether the stream is
+/// at it, `tuned` whether it is tuned to the wanted multiplex, and `shared` whether it serves
+/// another stream.
 pub fn may_take(case: Case, own: bool, tuned: bool, shared: bool) -> bool
     ensures case { result ≡ may_take_if case own tuned shared }
 {
@@ -49,7 +49,7 @@ pub fn may_take(case: Case, own: bool, tuned: bool, shared: bool) -> bool
     }
 }
 
-/// The place at this front end, where there is one.
+/// Returns the place at this front end, if there is one.
 #[tactic(auto, unfolding(crate::specs::Choice::placed))]
 pub fn place_at(anew: bool, front: Option<u16>) -> Option<Place>
     ensures place { result ≡ placed anew front }

@@ -1,4 +1,4 @@
-//! All front ends, and which stream is at which.
+//! All front ends, and the front end of each stream.
 
 ghost use Rattle.std.specs.Prelude.{◌≡◌, ◌≤◌, None, find, is_some, not, map, replicate, length, vec_len, IfNone, if◌then◌else◌};
 ghost use Rattle.std.specs.List.{list_any};
@@ -9,7 +9,7 @@ ghost use Rattle.satip_fronts.specs.Openings.{IsStreamOrNone, blocked_for, is_op
 ghost use Rattle.satip_fronts.specs.FrontEnds.{IsNumbered, Sound, all_free, blocked, choice, ended, front_of, is_current, is_front, left, moved, mux_at, new_row, outlook, placed_at, state_of, taken};
 
 use crate::choice::{Case, Place, is_tuned, may_take, place_at};
-use crate::rows::{
+use crate::front_table::{
     FrontRow, FrontState, count_streams, end_front, free_unserved, front_of_stream, is_at_front,
     is_current_row, move_stream, row_at, serves_any, tune_front,
 };
@@ -17,15 +17,15 @@ use arrayvec::ArrayVec;
 use satip_tune::{Front, Mux, Tuning, fits, mux_of};
 use std::marker::Model;
 
-/// The front ends, numbered from 1. A contract sees their descriptions, the multiplexes, what each
-/// front end is doing, and the front end of each stream.
+/// The front ends, numbered from 1. In contracts they are their descriptions, the multiplexes, the
+/// state of each front end, and the front end of each stream.
 #[derive(Drop)]
 pub struct Fronts {
     fronts: Vec<Front>,
     muxes: Vec<Mux>,
     rows: ArrayVec<FrontRow, 16>,
     places: [Option<u16>; 64],
-    // How many streams are at each front end: that of front end f stands at f - 1.
+    // The number of streams at each front end: that of front end f is at f - 1.
     counts: [u16; 16],
 }
 
@@ -42,7 +42,7 @@ impl Model for Fronts {
 }
 
 impl Fronts {
-    /// Front ends that serve no stream; none was tuned yet.
+    /// Returns front ends that serve no stream and were never tuned.
     pub fn make(fronts: Vec<Front>, muxes: Vec<Mux>) -> Fronts
         requires few { vec_len fronts ≤ 16 }
         requires numbered { IsNumbered 1 fronts.items }
@@ -61,7 +61,7 @@ impl Fronts {
         }
     }
 
-    /// What this front end is doing; None where no front end has that number.
+    /// Returns the state of this front end; `None` if no front end has that number.
     #[tactic(auto, unfolding(crate::specs::FrontEnds::state_of))]
     pub fn state(&self, front: u16) -> Option<FrontState>
         ensures state { result ≡ state_of self.now front }
@@ -78,23 +78,23 @@ impl Fronts {
         }
     }
 
-    /// The front end of this number; None where there is none.
+    /// Returns the front end of this number; `None` if there is none.
     pub fn front(&self, number: u16) -> Option<&Front>
         ensures front { option_map (λ f. f.now) result ≡ find (is_front number) self.now.fronts }
     {
         self.fronts.iter().find(|front| front.number == number)
     }
 
-    /// Whether the stream is at this front end.
+    /// Returns whether the stream is at this front end.
     pub fn serves(&self, front: u16, stream: u16) -> bool
         ensures serves { result ≡ is_at front (front_of self.now.places stream) }
     {
         is_at_front(front, front_of_stream(&self.places, stream))
     }
 
-    /// Whether no front end is to be had for a stream with this tuning: none fits, or each that
-    /// fits serves another stream and isn't tuned to the multiplex that the tuning means. `None` is
-    /// a stream that is yet to be founded.
+    /// Returns whether no front end is available for a stream with this tuning. That is if none
+    /// fits, or each that fits serves another stream and isn't tuned to the tuning's multiplex.
+    /// `stream` is None for one that isn't created yet.
     pub fn is_blocked(&self, stream: Option<u16>, tuning: &Tuning) -> bool
         requires known { IsStreamOrNone stream }
         ensures blocked { result ≡ blocked_for self.now stream tuning.now }
@@ -104,11 +104,13 @@ impl Fronts {
         !self.has_open(mux, &others, tuning)
     }
 
-    /// Brings the stream to a front end for this tuning, and answers its number. The first of these
-    /// applies, where the wanted multiplex is that of the tuning: its own front end fits and is
-    /// tuned to it; the least other that does; its own fits and serves no other stream, and is
-    /// tuned anew; the least free one that fits, which is tuned. None where no front end is to be
-    /// had.
+    /// Moves the stream to a front end for this tuning, and returns the front end's number. The
+    /// first of these that is possible is done:
+    /// - the stream stays, if its front end fits and is tuned to the multiplex of the tuning;
+    /// - it joins the least other front end that does;
+    /// - its own front end is retuned, if that fits and serves no other stream;
+    /// - the least free front end that fits is tuned.
+    /// `None` if no front end is available; then nothing changes.
     pub fn take(&mut self, stream: u16, tuning: &Tuning) -> Option<u16>
         requires from_one { 1 ≤ stream }
         requires to_64 { stream ≤ 64 }
@@ -130,8 +132,8 @@ impl Fronts {
         }
     }
 
-    /// Takes the stream from its front end, where it has one; that is then free, if the stream was
-    /// its last.
+    /// Removes the stream from its front end, if it has one. The front end is free then, if the
+    /// stream was its last.
     pub fn leave(&mut self, stream: u16)
         requires from_one { 1 ≤ stream }
         requires to_64 { stream ≤ 64 }
@@ -143,8 +145,8 @@ impl Fronts {
         self.counts = count_streams(&self.places);
     }
 
-    /// Marks that the recording with this tune number ended at a front end; false where there is no
-    /// such front end, it serves no stream or has another tune number.
+    /// Marks the recording with this tune number at a front end as ended. Returns `false` if there
+    /// is no such front end, it serves no stream or it has another tune number.
     pub fn end(&mut self, front: u16, tune: u64) -> bool
         ensures current { result ≡ is_current self.old front tune }
         ensures ended { self.new ≡ (if result then ended self.old front else self.old) }
@@ -157,7 +159,7 @@ impl Fronts {
         current
     }
 
-    /// Whether the front end serves a stream other than this one.
+    /// Returns whether the front end serves a stream other than this one.
     fn is_shared(&self, front: u16, stream: u16) -> bool
         requires from_one { 1 ≤ stream }
         requires to_64 { stream ≤ 64 }
@@ -168,7 +170,7 @@ impl Fronts {
         serves_any(front, &others)
     }
 
-    /// The front ends of all other streams.
+    /// Returns the front ends of all other streams.
     fn others(&self, stream: Option<u16>) -> [Option<u16>; 64]
         requires known { IsStreamOrNone stream }
         ensures places { result ≡ other_places self.now.places stream }
@@ -183,7 +185,8 @@ impl Fronts {
         }
     }
 
-    /// Whether the front end fits, and is tuned to the wanted multiplex or at none of these places.
+    /// Returns whether the front end fits, and is tuned to the wanted multiplex or at none of these
+    /// places.
     fn is_open_at(
         &self,
         mux: Option<u16>,
@@ -197,7 +200,7 @@ impl Fronts {
         fits(front, tuning) && !(serves_any(front.number, others) && !tuned)
     }
 
-    /// Whether there is such a front end.
+    /// Returns whether any front end is open in this sense.
     fn has_open(&self, mux: Option<u16>, others: &[Option<u16>], tuning: &Tuning) -> bool
         ensures found { result ≡ is_some (find (is_open self.now.rows mux others.now tuning.now)
             self.now.fronts) }
@@ -210,7 +213,7 @@ impl Fronts {
         false
     }
 
-    /// The multiplex of a front end, where it has one.
+    /// Returns the multiplex of a front end, if it has one.
     #[tactic(auto, unfolding(crate::specs::FrontEnds::mux_at))]
     fn mux_of_front(&self, front: u16) -> Option<u16>
         ensures mux { result ≡ mux_at self.now.rows front }
@@ -221,7 +224,7 @@ impl Fronts {
         }
     }
 
-    /// Whether the front end fits and may be taken in this case.
+    /// Returns whether the front end fits and may be taken in this case.
     #[tactic(auto, unfolding(crate::specs::FrontEnds::outlook, crate::specs::Choice::may_take))]
     fn is_suited(
         &self,
@@ -241,7 +244,7 @@ impl Fronts {
         fits(front, tuning) && may_take(case, own, tuned, shared)
     }
 
-    /// The least front end that fits and may be taken in this case.
+    /// Returns the least front end that fits and may be taken in this case.
     #[tactic(auto, unfolding(crate::specs::Choice::least))]
     fn least_of(&self, case: Case, stream: u16, mux: Option<u16>, tuning: &Tuning) -> Option<u16>
         requires from_one { 1 ≤ stream }
@@ -256,7 +259,7 @@ impl Fronts {
         None
     }
 
-    /// Where the stream comes to be that wants a multiplex by this tuning.
+    /// Returns the place of a stream that wants this multiplex with this tuning.
     #[tactic(auto, unfolding(crate::specs::Choice::choose))]
     fn place_for(&self, stream: u16, mux: Option<u16>, tuning: &Tuning) -> Option<Place>
         requires from_one { 1 ≤ stream }
@@ -271,14 +274,14 @@ impl Fronts {
     }
 }
 
-/// The places of streams that are at no front end.
+/// Returns the places of streams that are at no front end.
 fn no_places() -> [Option<u16>; 64]
     ensures places { result ≡ replicate 64 None }
 {
     [None; 64]
 }
 
-/// What front ends are doing that were never tuned.
+/// Returns the rows of front ends that were never tuned.
 #[tactic(auto, unfolding(crate::specs::FrontEnds::new_row))]
 fn new_rows(fronts: &[Front]) -> ArrayVec<FrontRow, 16>
     requires few { length fronts.now ≤ 16 }

@@ -2,7 +2,7 @@
 use Rattle.std.proofs.Common.{ℕ, ◌<◌, ◌≤◌, ◌^◌, ◌==◌, Bool, true, false, cond, List, length, Option, Some, None, arith, length-append}
 use Rattle.satip_base.proofs.NumberLemmas.{length-decimal_u16}
 use Rattle.satip_query.specs.declared.bodies.RefusalBody.{RefusalBody}
-use Rattle.satip_rtsp.proofs.ReplyLemmas.{length-body_part-le, length-phrase_of-le}
+use Rattle.satip_query.proofs.BodyLengths.{length-body_part-le, length-phrase_of-le}
 use Rattle.satip_http.specs.Heads.{body_or_end, http_phrase, http_refusal, http_status_line, start_head}
 
 either : {n : ℕ} (b : Bool) (x y : List ℕ) → length x ≤ n → length y ≤ n → length (cond b x y) ≤ n

@@ -1,14 +1,13 @@
-//! The heads of what is answered: of a stream, and of a refusal.
+//! The heads of responses: of a stream, and of a refusal.
 ghost use Rattle.std.specs.Prelude.{◌≡◌, ◌≤◌, length};
 ghost use Rattle.satip_base.specs.Output.{Wrote};
-ghost use Rattle.satip_rtsp.specs.Replies.{IsStatus};
+ghost use Rattle.satip_query.specs.Statuses.{IsStatus};
 ghost use Rattle.satip_http.specs.Heads.{body_or_end, closing_line, http_phrase, http_refusal, http_status_line, start_head};
 
 use satip_base::Out;
-use satip_query::RefusalBody;
-use satip_rtsp::{phrase, write_body};
+use satip_query::{RefusalBody, phrase, write_body};
 
-/// Appends the head that the transport packets of a stream follow.
+/// Appends the head of a response whose body is the transport packets of a stream.
 #[tactic(auto, unfolding(crate::specs::Heads::start_head))]
 pub fn write_start(out: &mut Out)
     requires room { length start_head ≤ out.old.reply_spare }
@@ -18,8 +17,7 @@ pub fn write_start(out: &mut Out)
     out.write(b"Content-Type: video/mp2t\r\nConnection: close\r\n\r\n");
 }
 
-/// Appends a refusal, after which the connection is closed. The status is one of those that have a
-/// phrase.
+/// Appends a refusal, after which the connection is closed. The status has a phrase.
 #[tactic(auto, unfolding(crate::specs::Heads::http_refusal))]
 pub fn write_refusal(status: u16, body: Option<RefusalBody>, out: &mut Out)
     requires status { IsStatus status }

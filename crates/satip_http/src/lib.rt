@@ -1,4 +1,6 @@
-//! HTTP requests out of messages, and the heads of what is answered (RFC 9110, RFC 9112).
+//! Reads HTTP requests out of messages and writes the heads of responses (RFC 9110, RFC 9112).
+//! Contract: each message gives exactly one request or one refusal; each writer appends exactly one
+//! head.
 #![tactic(auto)]
 
 mod heads;

@@ -1,19 +1,18 @@
-//! What a message asks for over HTTP.
+//! Requests of HTTP messages.
 ghost use Rattle.std.specs.Prelude.{◌≡◌, ◌≢◌, ◌↔◌, Some, None, true, false, codes};
 ghost use Rattle.std.specs.Str.{bytes_eq};
 ghost use Rattle.satip_query.specs.Queries.{new_query};
 ghost use Rattle.satip_query.specs.Reading.{query_of};
 ghost use Rattle.satip_http.specs.Gets.{AsksAtFault, IsGet, asked_get, broken_get, is_path, is_served_text, query_in, rest_text, get_of_path, get_of_query, get_of_rest};
 
-use satip_frame::{Break, Message};
-use satip_query::{Query, QueryFault, read};
-use satip_rtsp::behind_front;
-use satip_tune::same_bytes;
+use satip_frame::{Asks, Break, Message, after_origin};
+use satip_query::{Query, QueryFault, read, same_bytes};
 
-/// Why a request is refused for its text alone, in the order in which the causes are looked at.
+/// The reason that the text of a request alone is refused. The variants are in the order of the
+/// checks.
 #[derive(Clone, Copy, Debug, PartialEq, Eq)]
 pub enum HttpRefusal {
-    /// What came is no message.
+    /// The text is no message.
     Broken,
     /// The message announces a body that is too long.
     TooLong,
@@ -21,15 +20,15 @@ pub enum HttpRefusal {
     Version,
     /// The method isn't `GET`.
     Method,
-    /// The target has no path and no query.
+    /// After its optional origin, the target begins with neither `/` nor `?`.
     Target,
-    /// The path isn't `/` or empty, or no query follows it.
+    /// After its optional origin, the target begins with `/`, and `?` doesn't follow.
     NotFound,
     /// The query is at fault.
     Query(QueryFault),
 }
 
-/// A request for a stream. Under a refusal the query is the empty one.
+/// A request for a stream. If it is refused, the query is the empty one.
 #[derive(Clone, Copy, Debug, PartialEq, Eq)]
 pub struct HttpRequest {
     pub refusal: Option<HttpRefusal>,
@@ -37,7 +36,7 @@ pub struct HttpRequest {
 }
 
 impl HttpRequest {
-    /// The request of a message. The first refusal counts, in the order of `HttpRefusal`.
+    /// Returns the request of a message, or its first refusal in the order of `HttpRefusal`.
     pub fn of(message: &Message<'_>) -> HttpRequest
         ensures asked { result ≡ asked_get message.now }
         ensures version { (result.refusal ≡ Some HttpRefusal.Version)
@@ -61,8 +60,8 @@ impl HttpRequest {
         request
     }
 
-    /// Puts the request of a message in the place of an older one, whatever that was: a request is
-    /// large, and moves cost time.
+    /// Replaces this request by that of a message. It writes in place, since a request is large and
+    /// moving it costs time.
     pub fn read(&mut self, message: &Message<'_>)
         ensures asked { self.new ≡ asked_get message.now }
     {
@@ -70,7 +69,7 @@ impl HttpRequest {
         self.refusal = fill(message, &mut self.query);
     }
 
-    /// The request of what is no message.
+    /// Returns the request of a text that is no message.
     pub fn broken(cause: Break) -> HttpRequest
         ensures broken { result ≡ broken_get cause }
     {
@@ -83,7 +82,7 @@ impl HttpRequest {
     }
 }
 
-// A request for a stream by the query that gives nothing.
+// Returns the request with the query that gives nothing.
 fn blank() -> HttpRequest
     ensures blank { result ≡ record { refusal = None; query = new_query } }
 {
@@ -93,7 +92,7 @@ fn blank() -> HttpRequest
     }
 }
 
-// Puts what a message asks for in the place of a query that gives nothing; the first refusal, where
+// Reads the request of a message into a query that gives nothing. Returns the first refusal, if
 // there is one.
 #[tactic(auto, unfolding(crate::specs::Gets::asked_get))]
 fn fill(message: &Message<'_>, into: &mut Query) -> Option<HttpRefusal>
@@ -120,7 +119,7 @@ fn is_served(version: &[u8]) -> bool
 fn rest_of(target: &[u8]) -> &[u8]
     ensures rest { result.now ≡ rest_text target.now }
 {
-    match behind_front(b"http://", target) {
+    match after_origin(b"http://", target) {
         None => target,
         Some(rest) => rest,
     }
@@ -158,5 +157,21 @@ fn fill_query(text: &[u8], into: &mut Query) -> Option<HttpRefusal>
     match read(text, into) {
         Err(fault) => Some(HttpRefusal::Query(fault)),
         Ok(()) => None,
+    }
+}
+
+impl Asks for HttpRequest {
+    ghost use Rattle.satip_http.specs.Gets.{asked_get, broken_get};
+
+    ghost asked = { λ message. asked_get message };
+
+    ghost broken = { λ cause. broken_get cause };
+
+    fn found(&mut self, message: &Message<'_>) {
+        self.read(message);
+    }
+
+    fn ended(&mut self, cause: Break) {
+        *self = HttpRequest::broken(cause);
     }
 }

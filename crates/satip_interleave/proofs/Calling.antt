@@ -3,23 +3,23 @@ use Rattle.std.proofs.Common.{◌≡◌, ◌∙◌, ℕ, ◌<◌, ◌≤◌, Boo
 use Rattle.std.specs.Prelude.{◌⊎◌, ◌↔◌, IsSome, option_map}
 use Rattle.std.proofs.Math.Nat.{eq-or-lt_of_le}
 use Rattle.satip_base.specs.Output.{Output}
-use Rattle.satip_history.specs.declared.entry.Taken.{Taken}
-use Rattle.satip_history.specs.History.{entry, entries}
-use Rattle.satip_history.specs.Lists.{Each}
+use Rattle.satip_base.specs.declared.entry.Taken.{Taken}
+use Rattle.satip_base.specs.History.{entry, entries}
+use Rattle.satip_base.specs.Lists.{Each}
 use Rattle.satip_plain.specs.declared.answers.Answer.{Answer}
 use Rattle.satip_plain.specs.declared.events.Event.{Event}
 use Rattle.satip_plain.specs.declared.setting.Setting.{Setting}
 use Rattle.satip_plain.specs.Histories.{Item, Legal}
-use Rattle.satip_service.specs.declared.fault.ServiceFault.{ServiceFault}
-use Rattle.satip_service.specs.declared.fault.ServiceFault.TheVariants.{Spent}
-use Rattle.satip_service.specs.Calls.{Made, Unmade, Bursts, BurstEnds}
-use Rattle.satip_service.proofs.Growing.{all_among, among_behind}
-use Rattle.satip_service.proofs.Suiting.{last_suits, lasts_suit}
-use Rattle.satip_tunnel.specs.declared.events.TunnelEvent.TheVariants.{Inner}
-use Rattle.satip_tunnel.specs.declared.events.TunnelAnswer.{TunnelAnswer}
-use Rattle.satip_tunnel.specs.declared.events.TunnelAnswer.TheVariants.{Inner as InnerAnswer}
-use Rattle.satip_tunnel.specs.Answers.{IsInner}
-use Rattle.satip_tunnel.specs.Histories.{TunnelItem, TunnelLegal, inners}
+use Rattle.satip_plain.specs.declared.fault.ServiceFault.{ServiceFault}
+use Rattle.satip_plain.specs.declared.fault.ServiceFault.TheVariants.{Spent}
+use Rattle.satip_plain.specs.Calls.{Made, Unmade, Bursts, BurstEnds}
+use Rattle.satip_plain.proofs.Growing.{all_among, among_behind}
+use Rattle.satip_plain.proofs.Suiting.{last_suits, lasts_suit}
+use Rattle.satip_interleave.specs.declared.events.TunnelEvent.TheVariants.{Inner}
+use Rattle.satip_interleave.specs.declared.events.TunnelAnswer.{TunnelAnswer}
+use Rattle.satip_interleave.specs.declared.events.TunnelAnswer.TheVariants.{Inner as InnerAnswer}
+use Rattle.satip_interleave.specs.Answers.{IsInner}
+use Rattle.satip_interleave.specs.Histories.{TunnelItem, TunnelLegal, inners}
 use Rattle.satip_turn.specs.Shown.{Cell, Keeps, Turned, Looked, Bursts as CellBursts}
 use Rattle.satip_interleave.specs.Calling.{SameCaller, ShownPass, known_by, outers}
 use Rattle.satip_interleave.specs.Taking.{AreAnswered, IsInnerEvent, TunnelTaken, inners_taken}

@@ -3,7 +3,7 @@ use denote.RattleType.{RattleType}
 use denote.Ref.{NamedLft}
 use denote.Param.Send.{IsSend, IsSync, sendable}
 use Rattle.satip_base.proofs.out.Out.TheSendSync.{the_send as out_send}
-use Rattle.satip_tunnel.proofs.tunnel.Tunnel.TheSendSync.{the_send as tunnel_send}
+use Rattle.satip_interleave.proofs.one_tunnel.Tunnel.TheSendSync.{the_send as tunnel_send}
 use Rattle.satip_turn.proofs.Crossing.{cell_sync, pass_send}
 use Rattle.satip_interleave.specs.contracts.caller.TunnelCaller as Caller
 

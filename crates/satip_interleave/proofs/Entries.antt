@@ -1,18 +1,18 @@
 -- The entries of the server and of the lanes among those of a tunnel.
 use Rattle.std.proofs.Common.{◌≡◌, ◌∙◌, ℕ, ◌+◌, List, [], ◌∷◌, ◌++◌, length, append_assoc, arith, refl, sym, ap}
 use Rattle.satip_base.specs.Output.{Output}
-use Rattle.satip_history.specs.History.{entry, entries}
-use Rattle.satip_history.specs.Lists.{Each}
-use Rattle.satip_history.proofs.Owned.{entries-append}
-use Rattle.satip_lanes.specs.Lanes.{PlainLanes, no_lanes}
+use Rattle.satip_base.specs.History.{entry, entries}
+use Rattle.satip_base.specs.Lists.{Each}
+use Rattle.satip_base.proofs.Owned.{entries-append}
+use Rattle.satip_interleave.specs.Lanes.{PlainLanes, no_lanes}
 use Rattle.satip_plain.specs.declared.events.Event.{Event}
 use Rattle.satip_plain.specs.declared.setting.Setting.{Setting}
-use Rattle.satip_tunnel.specs.declared.events.TunnelEvent.{TunnelEvent}
-use Rattle.satip_tunnel.specs.declared.events.TunnelEvent.TheVariants.{Inner, Enter, Drain, Leave}
-use Rattle.satip_tunnel.specs.declared.events.TunnelAnswer.{TunnelAnswer}
-use Rattle.satip_tunnel.specs.declared.events.TunnelAnswer.TheVariants.{Inner as InnerAnswer, Lane, Full, Frames, Empty, Broken, Gone, Left}
-use Rattle.satip_tunnel.specs.Answers.{IsAnswered, IsInner}
-use Rattle.satip_tunnel.specs.Histories.{LanesFrom, TunnelItem, TunnelLegal, inner_by, inners, lanes_from, moved}
+use Rattle.satip_interleave.specs.declared.events.TunnelEvent.{TunnelEvent}
+use Rattle.satip_interleave.specs.declared.events.TunnelEvent.TheVariants.{Inner, Enter, Drain, Leave}
+use Rattle.satip_interleave.specs.declared.events.TunnelAnswer.{TunnelAnswer}
+use Rattle.satip_interleave.specs.declared.events.TunnelAnswer.TheVariants.{Inner as InnerAnswer, Lane, Full, Frames, Empty, Broken, Gone, Left}
+use Rattle.satip_interleave.specs.Answers.{IsAnswered, IsInner}
+use Rattle.satip_interleave.specs.Histories.{LanesFrom, TunnelItem, TunnelLegal, inner_by, inners, lanes_from, moved}
 use Rattle.satip_interleave.specs.Calling.{outer_by, outers}
 use Rattle.satip_interleave.specs.Taking.{AreAnswered, IsInnerEvent, TunnelTaken, inner_taken, inners_taken}
 

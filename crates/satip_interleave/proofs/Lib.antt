@@ -2,3 +2,11 @@ pub mod Entries
 pub mod Calling
 pub mod Takings
 pub mod Crossing
+pub mod RingLemmas
+pub mod FrameLemmas
+pub mod LaneLemmas
+pub mod LaneLawLemmas
+pub mod WritingLemmas
+pub mod SendingLemmas
+pub mod HistoryLemmas
+pub mod LawLemmas

@@ -2,17 +2,17 @@
 use Rattle.std.proofs.Common.{◌≡◌, ◌∙◌, List, [], ◌∷◌, ◌++◌, Option, Some, None, refl, sym, ap, subst, append_assoc}
 use Rattle.std.specs.Prelude.{option_map}
 use Rattle.satip_base.specs.Output.{Output}
-use Rattle.satip_history.specs.declared.entry.Taken.{Taken}
-use Rattle.satip_history.specs.History.{taken}
-use Rattle.satip_history.specs.Lists.{Each}
-use Rattle.satip_history.proofs.Elements.{Each-append, Each-append_left, Each-append_right}
+use Rattle.satip_base.specs.declared.entry.Taken.{Taken}
+use Rattle.satip_base.specs.History.{taken}
+use Rattle.satip_base.specs.Lists.{Each}
+use Rattle.satip_base.proofs.Elements.{Each-append, Each-append_left, Each-append_right}
 use Rattle.satip_plain.specs.declared.answers.Answer.{Answer}
 use Rattle.satip_plain.specs.declared.events.Event.{Event}
-use Rattle.satip_tunnel.specs.declared.events.TunnelEvent.{TunnelEvent}
-use Rattle.satip_tunnel.specs.declared.events.TunnelEvent.TheVariants.{Inner}
-use Rattle.satip_tunnel.specs.declared.events.TunnelAnswer.{TunnelAnswer}
-use Rattle.satip_tunnel.specs.declared.events.TunnelAnswer.TheVariants.{Inner as InnerAnswer}
-use Rattle.satip_tunnel.specs.Answers.{IsInner}
+use Rattle.satip_interleave.specs.declared.events.TunnelEvent.{TunnelEvent}
+use Rattle.satip_interleave.specs.declared.events.TunnelEvent.TheVariants.{Inner}
+use Rattle.satip_interleave.specs.declared.events.TunnelAnswer.{TunnelAnswer}
+use Rattle.satip_interleave.specs.declared.events.TunnelAnswer.TheVariants.{Inner as InnerAnswer}
+use Rattle.satip_interleave.specs.Answers.{IsInner}
 use Rattle.satip_interleave.specs.Taking.{IsInnerEvent, TunnelTaken, inner_taken, inners_taken}
 use Rattle.satip_interleave.proofs.Calling.{FedFrom}
 

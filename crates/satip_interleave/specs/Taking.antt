@@ -1,18 +1,18 @@
--- What a burst takes from a lot of the server's events.
+-- The events that a burst takes from a lot of the server's events.
 use Rattle.std.specs.Prelude.{List, [], ◌∷◌, ◌++◌}
 use Rattle.satip_base.specs.Output.{Output}
-use Rattle.satip_history.specs.declared.entry.Taken.{Taken}
-use Rattle.satip_history.specs.History.{taken}
-use Rattle.satip_history.specs.Lists.{Each}
+use Rattle.satip_base.specs.declared.entry.Taken.{Taken}
+use Rattle.satip_base.specs.History.{taken}
+use Rattle.satip_base.specs.Lists.{Each}
 use Rattle.satip_plain.specs.declared.answers.Answer.{Answer}
 use Rattle.satip_plain.specs.declared.events.Event.{Event}
-use Rattle.satip_tunnel.specs.declared.events.TunnelEvent.{TunnelEvent}
-use Rattle.satip_tunnel.specs.declared.events.TunnelEvent.TheVariants.{Inner}
-use Rattle.satip_tunnel.specs.declared.events.TunnelAnswer.{TunnelAnswer}
-use Rattle.satip_tunnel.specs.declared.events.TunnelAnswer.TheVariants.{Inner as InnerAnswer}
-use Rattle.satip_tunnel.specs.Answers.{IsInner}
+use Rattle.satip_interleave.specs.declared.events.TunnelEvent.{TunnelEvent}
+use Rattle.satip_interleave.specs.declared.events.TunnelEvent.TheVariants.{Inner}
+use Rattle.satip_interleave.specs.declared.events.TunnelAnswer.{TunnelAnswer}
+use Rattle.satip_interleave.specs.declared.events.TunnelAnswer.TheVariants.{Inner as InnerAnswer}
+use Rattle.satip_interleave.specs.Answers.{IsInner}
 
--- what was taken, as a burst of the tunnel has it
+-- an event that was taken, with its answer and output
 abbrev pub TunnelTaken : Type 0
 TunnelTaken = Taken TunnelEvent TunnelAnswer Output
 
@@ -21,11 +21,11 @@ abbrev pub IsInnerEvent : TunnelEvent → Type 0
 IsInnerEvent (Inner event) = Unit {0}
 IsInnerEvent _ = ⊥
 
--- the server answered each
+-- the server answered each of these
 abbrev pub AreAnswered : List TunnelTaken → Type 0
 AreAnswered ts = Each (λ t. IsInner t.answer) ts
 
--- what was taken of the server, where it answered its event
+-- the server's event, answer and output of one taken, if the server answered it
 abbrev pub inner_taken : TunnelEvent → TunnelAnswer → Output → List (Taken Event Answer Output)
 inner_taken (Inner event) (InnerAnswer answer) out = taken event answer out ∷ []
 inner_taken event answer out = []

@@ -1,12 +1,12 @@
-//! Answers of a tunnel, as those of the server.
+//! The server's answers among those of a tunnel.
 ghost use Rattle.std.specs.Prelude.{◌≡◌};
-ghost use Rattle.satip_tunnel.specs.Answers.{IsInner};
+ghost use Rattle.satip_interleave.specs.Answers.{IsInner};
 
+use crate::events::TunnelAnswer;
 use satip_plain::{Answer, Beat};
-use satip_tunnel::TunnelAnswer;
 
-/// The server's answer in one of a tunnel. The lanes answer no event of the server, so that what
-/// stands for their answers is told to nobody.
+/// Returns the server's answer in one of a tunnel. The lanes answer no event of the server, so no
+/// client sees the value returned for their answers.
 pub(crate) fn server_answer(answer: TunnelAnswer) -> Answer
     ensures told { IsInner answer → answer ≡ TunnelAnswer.Inner result }
 {

@@ -2,22 +2,21 @@
 ghost use Rattle.std.specs.Prelude.{◌≡◌, ◌<◌, ◌^◌, length};
 ghost use Rattle.satip_plain.specs.Histories.{Legal};
 ghost use Rattle.satip_turn.specs.Shown.{IsOf};
-ghost use Rattle.satip_tunnel.specs.Histories.{inners};
+ghost use Rattle.satip_interleave.specs.Histories.{inners};
 ghost use Rattle.satip_plain.specs.Single.{legal_prop};
 ghost use Rattle.satip_interleave.specs.Single.{of_prop};
 
 use crate::answers::server_answer;
+use crate::events::TunnelEvent;
 use crate::feeding::Feeding;
 use crate::tunnel::{SharedTunnel, TunnelPass};
 use satip_base::{Out, Spent};
-use satip_plain::{Answer, Event};
-use satip_service::{Lot, Service, ServiceFault, copy_of};
-use satip_tunnel::TunnelEvent;
+use satip_plain::{Answer, Event, Lot, Service, ServiceFault, copy_of};
 use std::sync::Wait;
 
 /// One caller of the shared tunnel: its pass is of its tunnel's cell. As a service it is one of the
-/// server, whose entries alone it shows; it counts all entries of the history. Each call waits for
-/// the turn. It never answers `Want`.
+/// server and shows the server's entries alone, but it counts all entries of the history. Each call
+/// waits for the turn. It never returns `Want`.
 #[derive(Drop)]
 pub struct TunnelCaller<'a, R: Wait + Sync> {
     pub rt: &'a R,

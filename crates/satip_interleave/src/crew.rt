@@ -1,15 +1,15 @@
 //! Callers of the shared tunnel that are split off from one and joined into it again.
 ghost use Rattle.std.specs.Prelude.{◌≡◌};
 ghost use Rattle.satip_plain.specs.declared.events.Event.TheVariants.{Stop};
-ghost use Rattle.satip_tunnel.specs.declared.events.TunnelEvent.TheVariants.{Inner};
-ghost use Rattle.satip_tunnel.specs.Histories.{TunnelLegal};
+ghost use Rattle.satip_interleave.specs.declared.events.TunnelEvent.TheVariants.{Inner};
+ghost use Rattle.satip_interleave.specs.Histories.{TunnelLegal};
 ghost use Rattle.satip_turn.specs.Shown.{Keeps};
 
 use crate::caller::TunnelCaller;
+use crate::events::{TunnelAnswer, TunnelEvent};
 use satip_base::{Out, Spent};
-use satip_crew::{Crew, ServeEnd};
+use satip_jobs::{Crew, ServeEnd};
 use satip_plain::Event;
-use satip_tunnel::{TunnelAnswer, TunnelEvent};
 use std::sync::Wait;
 
 impl<'a, R: Wait + Sync> Crew for TunnelCaller<'a, R> {
@@ -50,7 +50,7 @@ impl<'a, R: Wait + Sync> Crew for TunnelCaller<'a, R> {
         self.server.join(&mut self.pass, pass);
     }
 
-    /// Makes the server's event `Stop`. It waits.
+    /// Submits the server's event `Stop`. Blocks.
     fn stop(&mut self, out: &mut Out) -> ServeEnd {
         let event = TunnelEvent::Inner(Event::Stop);
         match self.server.call(self.rt, &mut self.pass, &event, out) {

@@ -1,13 +1,14 @@
-//! The events of a lot, as a burst of the shared tunnel is fed with them.
+//! The events of a lot, given to a burst of the shared tunnel.
 ghost use Rattle.std.specs.Prelude.{◌≡◌, option_map, refl};
-ghost use Rattle.satip_history.specs.Lists.{Each};
-ghost use Rattle.satip_tunnel.specs.declared.events.TunnelEvent.TheVariants.{Inner};
+ghost use Rattle.satip_base.specs.Lists.{Each};
+ghost use Rattle.satip_interleave.specs.declared.events.TunnelEvent.TheVariants.{Inner};
 ghost use Rattle.satip_interleave.specs.Taking.{IsInnerEvent, AreAnswered, inners_taken};
 
 use crate::answers::server_answer;
+use crate::events::{TunnelAnswer, TunnelEvent};
+use crate::one_tunnel::Tunnel;
 use satip_base::Out;
-use satip_service::Lot;
-use satip_tunnel::{Tunnel, TunnelAnswer, TunnelEvent};
+use satip_plain::Lot;
 use satip_turn::Feed;
 
 /// A lot that feeds a burst.
@@ -21,7 +22,7 @@ impl<'a, L: Lot> Feed<Tunnel> for Feeding<'a, L> {
 
     ghost ended = { λ f. L.ended f.lot.now };
 
-    // it still has the same lot, all events are of the server, and the lot has taken them where the
+    // it still has the same lot, all events are of the server, and the lot has taken them if the
     // server answered each
     ghost has_taken = { λ f g ts. (g.lot.ghost_name ≡ f.lot.ghost_name)
         × Each (λ t. IsInnerEvent t.event) ts

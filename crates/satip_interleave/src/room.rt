@@ -1,18 +1,17 @@
-//! What the connections of a tunnel are served in, and what their messages ask for.
+//! The memory in which a tunnel's connections are served, and the requests of their messages.
 ghost use Rattle.std.specs.Prelude.{◌≡◌, [], IfOk};
 ghost use Rattle.satip_base.specs.Output.{empty};
-ghost use Rattle.satip_channels.specs.Requests.{asked_by_tunnel};
-ghost use Rattle.satip_parts.specs.Held.{new_parter};
+ghost use Rattle.satip_rtsp_interleaved.specs.Requests.{asked_by_tunnel};
+ghost use Rattle.satip_rtsp_interleaved.specs.Held.{new_parter};
 
 use satip_base::{Out, Want};
-use satip_channels::ChannelReply;
 use satip_frame::Message;
-use satip_parts::Parter;
 use satip_rtsp::Request;
+use satip_rtsp_interleaved::{ChannelReply, Parter};
 use std::alloc::Global;
 
-/// A parter for what comes in, an `Out` for what each event writes, and the reply that is told in
-/// channels.
+/// A parter for the bytes that come in, an `Out` for the output of each event, and the reply
+/// rewritten to channels.
 #[derive(Drop)]
 pub struct TunnelRoom {
     pub parter: Parter,
@@ -21,7 +20,7 @@ pub struct TunnelRoom {
 }
 
 impl TunnelRoom {
-    /// Takes all the memory that serving connections one after another needs. `Want` where it was
+    /// Takes all the memory for serving connections one after another. Returns `Want` if it was
     /// refused.
     pub fn make(alloc: Global) -> Result<TunnelRoom, Want>
         ensures parter { IfOk result (λ room. room.parter ≡ new_parter) }
@@ -36,13 +35,13 @@ impl TunnelRoom {
     }
 }
 
-/// What a message asks for: the request of `satip_rtsp`, but the ports of a SETUP are the channels
-/// of its first acceptable transport, each with 1 added. A transport is acceptable where its first
-/// parameter is `RTP/AVP/TCP` and its first parameter that begins with `interleaved=` goes on as
-/// `a-b`, two different numbers up to 255, or as `a` up to 254, which stands for `a` and a + 1
-/// (RFC 2326, sections 10.12 and 12.39).
+/// Returns the request of a message: that of `satip_rtsp`, but a SETUP has the channels of its
+/// first acceptable transport for ports, each with 1 added. A transport is acceptable if its first
+/// parameter is `RTP/AVP/TCP` and its first `interleaved=` parameter has an acceptable value. That
+/// value is `a-b`, two different numbers up to 255, or `a` up to 254, which means a and a + 1 (RFC
+/// 2326, sections 10.12 and 12.39).
 pub fn request(message: &Message<'_>) -> Request
     ensures asked { result ≡ asked_by_tunnel message.now }
 {
-    satip_channels::request(message)
+    satip_rtsp_interleaved::request(message)
 }

@@ -1,24 +1,24 @@
 //! The shared tunnel.
 ghost use Rattle.std.specs.Prelude.{◌≡◌, ◌≤◌, length, IfOk};
 ghost use Rattle.satip_fronts.specs.FrontEnds.{IsNumbered};
-ghost use Rattle.satip_tunnel.specs.Histories.{TunnelLegal};
+ghost use Rattle.satip_interleave.specs.Histories.{TunnelLegal};
 ghost use Rattle.satip_turn.specs.Shown.{IsOf, Knows, first_pass};
 
+use crate::one_tunnel::Tunnel;
 use satip_base::Want;
 use satip_config::Config;
-use satip_tunnel::Tunnel;
 use satip_turn::{Pass, TurnCell};
 use std::alloc::Global;
 
-/// The tunnel behind a turn cell. Many threads call it through a `&`, one at a time, and all their
-/// calls stand in one history, which is legal in the setting of the tunnel's server.
+/// The tunnel in a turn cell. Many threads call it through a `&`, one at a time. All their calls
+/// are in one history, which is legal in the setting of the tunnel's server.
 pub type SharedTunnel = TurnCell<Tunnel>;
 
-/// The right to call the shared tunnel as one caller, and what that caller knows of the history.
+/// The right to call the shared tunnel as one caller, and that caller's knowledge of the history.
 pub type TunnelPass = Pass<Tunnel>;
 
-/// The shared tunnel before its first event, and the pass of caller 0. The clock stands at this
-/// moment, in milliseconds of Unix time. `Want` where memory was refused.
+/// Creates the shared tunnel before its first event, and the pass of caller 0. The clock is at
+/// `start`, in milliseconds of Unix time. Returns `Want` if memory was refused.
 pub fn make(alloc: Global, config: Config, start: u64) -> Result<(SharedTunnel, TunnelPass), Want>
     requires few { length config.fronts ≤ 16 }
     requires numbered { IsNumbered 1 config.fronts }

@@ -1,1 +1,6 @@
+pub mod Seating
+pub mod Beside
+pub mod WholeRuns
+pub mod Following
+pub mod Ended
 pub mod Halves

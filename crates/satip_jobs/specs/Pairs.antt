@@ -1,7 +1,7 @@
--- Two lists side by side.
+-- Two lists in parallel.
 use Rattle.std.specs.Prelude.{List, [], ◌∷◌}
 
--- each of the first is so to the one at its place in the second, and they are as many
+-- P holds of the elements at each place of two lists, which have the same length
 abbrev pub Both : {S T : Type 0} → (S → T → Type 0) → List S → List T → Type 0
 Both P [] [] = Unit {0}
 Both P [] (y ∷ ys) = ⊥

@@ -1,8 +1,8 @@
-//! Lists from which jobs are taken in order, and behind which they are put.
+//! Lists from which jobs are taken in order, and to whose end they are added.
 
 ghost use Rattle.std.specs.Prelude.{◌≡◌, ◌+◌, ◌<◌, ◌++◌, [], ◌∷◌, vec_len, vec_capacity};
 
-/// Takes out the first of a list.
+/// Removes the first item of a list; returns it.
 pub fn take_first<T>(items: &mut Vec<T>) -> T
     requires some { 0 < vec_len items.old }
     ensures first { items.old.items ≡ result ∷ items.new.items }
@@ -12,7 +12,7 @@ pub fn take_first<T>(items: &mut Vec<T>) -> T
     items.remove(0)
 }
 
-/// Puts one behind a list that has the memory for it.
+/// Appends an item to a list that has the memory for it.
 pub fn put_last<T>(items: &mut Vec<T>, item: T)
     requires space { vec_len items.old < vec_capacity items.old }
     ensures last { items.new.items ≡ items.old.items ++ item ∷ [] }

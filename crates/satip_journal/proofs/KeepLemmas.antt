@@ -1,17 +1,17 @@
 -- A journal keeps to what it says, call by call.
 use Rattle.std.proofs.Common.{◌≡◌, ◌∙◌, ℕ, ◌+◌, ◌-◌, List, [], ◌∷◌, ◌++◌, length, refl, sym, ap, subst, append_assoc, append-nil, length-append, arith}
 use Rattle.satip_base.specs.Output.{Output}
-use Rattle.satip_history.specs.declared.entry.Taken.{Taken}
-use Rattle.satip_history.specs.History.{entry, entries, own_of}
-use Rattle.satip_history.specs.Lists.{Each}
-use Rattle.satip_history.proofs.Owned.{own_of-append, own_of-cons_same}
+use Rattle.satip_base.specs.declared.entry.Taken.{Taken}
+use Rattle.satip_base.specs.History.{entry, entries, own_of}
+use Rattle.satip_base.specs.Lists.{Each}
+use Rattle.satip_base.proofs.Owned.{own_of-append, own_of-cons_same}
 use Rattle.satip_plain.specs.declared.answers.Answer.{Answer}
 use Rattle.satip_plain.specs.declared.events.Event.{Event}
 use Rattle.satip_plain.specs.Histories.{Item}
-use Rattle.satip_records.specs.Lines.{entry_line}
-use Rattle.satip_service.specs.Known.{Known, Adds, AddsNone, AddsAll}
-use Rattle.satip_service.proofs.Bursting.{UnderWay}
-use Rattle.satip_service.proofs.Growing.{adds_then, adds_no_more}
+use Rattle.satip_entry_writer.specs.Lines.{entry_line}
+use Rattle.satip_plain.specs.Known.{Known, Adds, AddsNone, AddsAll}
+use Rattle.satip_plain.proofs.Bursting.{UnderWay}
+use Rattle.satip_plain.proofs.Growing.{adds_then, adds_no_more}
 use Rattle.satip_turn.specs.Shown.{Turned, Looked}
 use Rattle.satip_shared.specs.Calling.{ServerPass, SameCaller, known_by}
 use Rattle.satip_journal.specs.Places.{placed, own_at, line_of, lines_of}

@@ -3,8 +3,8 @@ use Rattle.std.proofs.Common.{◌≡◌, ◌∙◌, ℕ, ◌+◌, Bool, true, fa
 use Rattle.std.proofs.lemmas.List.{nil_from_length}
 use Rattle.std.proofs.lemmas.Bool.Decides.{eqb_tells}
 use Rattle.std.proofs.Common.{⊎_elim}
-use Rattle.satip_history.specs.History.{kept_if, own_of}
-use Rattle.satip_history.proofs.Owned.{own_of-append}
+use Rattle.satip_base.specs.History.{kept_if, own_of}
+use Rattle.satip_base.proofs.Owned.{own_of-append}
 use Rattle.satip_plain.specs.Histories.{Item}
 use Rattle.satip_journal.specs.Places.{Placed, placed, own_at, line_of, lines_of}
 use Rattle.satip_journal.specs.Continuing.{own_at-append}

@@ -1,11 +1,11 @@
--- A journal goes on: what holds from one moment to a second, and from there to a third, holds from the first to the third.
+-- A journal goes on: a claim from one moment to a second, and from there to a third, holds from the first to the third.
 use Rattle.std.proofs.Common.{◌≡◌, ◌∙◌, ℕ, ◌+◌, Bool, true, false, ◌==◌, List, [], ◌∷◌, ◌++◌, length, refl, sym, ap, subst, arith, append_assoc, append-nil, length-append}
 use Rattle.std.proofs.lemmas.Grind.{flat_map-append}
 use Rattle.satip_base.specs.Streams.{Drain, Rose, FailedToPut}
-use Rattle.satip_history.specs.History.{kept_if, own_of}
-use Rattle.satip_history.specs.Lists.{Each}
-use Rattle.satip_history.proofs.Elements.{Each-append}
-use Rattle.satip_history.proofs.Owned.{own_of-append}
+use Rattle.satip_base.specs.History.{kept_if, own_of}
+use Rattle.satip_base.specs.Lists.{Each}
+use Rattle.satip_base.proofs.Elements.{Each-append}
+use Rattle.satip_base.proofs.Owned.{own_of-append}
 use Rattle.satip_plain.specs.Histories.{Item}
 use Rattle.satip_shared.specs.Calling.{same_caller, same_caller_then}
 use Rattle.satip_journal.specs.Places.{Placed, placed, own_at, line_of, lines_of}
@@ -25,7 +25,7 @@ own_at-append place n (e ∷ es) k =
     ∙ kept_if-append (e.caller == n) (placed place e) (own_at (place + 1) n es) (own_at ((place + 1) + length es) n k)
     ∙ ap (λ p. own_at place n (e ∷ es) ++ own_at p n k) later
 
--- the lines of entries and of those behind them
+-- the lines of entries and of those after them
 pub lines_then : (job later_job place later_place n later_n : ℕ) (h k : List Item) → later_job ≡ job → later_place ≡ place + length h → later_n ≡ n
     → lines_of job (own_at place n h) ++ lines_of later_job (own_at later_place later_n k) ≡ lines_of job (own_at place n (h ++ k))
 lines_then job later_job place later_place n later_n h k same_job behind same_n =
@@ -33,12 +33,12 @@ lines_then job later_job place later_place n later_n h k same_job behind same_n 
     ap (λ (t : List ℕ). lines_of job (own_at place n h) ++ t) moved
     ∙ sym (ap (λ (ps : List Placed). lines_of job ps) (own_at-append place n h k) ∙ flat_map-append (line_of job) (own_at place n h) (own_at (place + length h) n k))
 
--- nothing was to be sent
+-- no text was to be sent
 pub logs_none : (tells : Type 0) (o : Drain) (failed : Bool) → Logs tells o o failed failed []
 logs_none tells o false = record { faults = refl; content = λ told. sym (append-nil o.sent) }
 logs_none tells o true = refl
 
--- a text and one behind it
+-- a text and one after it
 pub logs_then : (tells : Type 0) (o m n : Drain) (a b c : Bool) (s t : List ℕ) → Logs tells o m a b s → Logs tells m n b c t → Logs tells o n a c (s ++ t)
 logs_then tells o m n false false false s t x y = record {
   faults = y.faults ∙ x.faults;

@@ -1,8 +1,8 @@
--- What a journal keeps to, call by call.
+-- A journal's contract, call by call.
 use Rattle.std.specs.Prelude.{◌≡◌, ℕ, Bool, List, ◌++◌, length}
 use Rattle.satip_base.specs.Streams.{Drain}
-use Rattle.satip_history.specs.Lists.{Each}
-use Rattle.satip_history.specs.History.{own_of}
+use Rattle.satip_base.specs.Lists.{Each}
+use Rattle.satip_base.specs.History.{own_of}
 use Rattle.satip_plain.specs.declared.setting.Setting.{Setting}
 use Rattle.satip_plain.specs.Histories.{Item}
 use Rattle.satip_turn.specs.Shown.{Cell}
@@ -11,7 +11,7 @@ use Rattle.satip_journal.specs.Places.{own_at, lines_of}
 use Rattle.satip_journal.specs.Typed.{IsTyped}
 use Rattle.satip_journal.specs.Logs.{Logs}
 
--- a journal at one moment: its server, its caller's pass, its job's number, what its sink was sent, and whether a put failed
+-- a journal at one moment: its server, its caller's pass, its job's number, its sink's drain, and whether a put failed
 pub record Kept : Type 0 where
   pub server : Cell Setting
   pub pass : ServerPass
@@ -19,11 +19,12 @@ pub record Kept : Type 0 where
   pub drain : Drain
   pub failed : Bool
 
+-- a journal of these parts
 abbrev pub kept : Cell Setting → ServerPass → ℕ → Drain → Bool → Kept
 kept server pass number drain failed = record { server = server; pass = pass; number = number; drain = drain; failed = failed }
 
--- it is the same caller's journal of the same job, and of what was seen meanwhile the lines of its own entries were put, with
--- their places and the job's number, until a put failed; the values of these entries are of their types
+-- it is the same caller's journal of the same job. Of the entries seen meanwhile the lines of its own were put, with their places and the job's number, until a
+-- put failed. The values of these entries are of their types
 pub record SameJournal (tells : Type 0) (k l : Kept) : Type 0 where
   pub caller : SameCaller k.server k.pass l.server l.pass
   pub number : l.number ≡ k.number

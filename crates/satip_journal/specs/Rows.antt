@@ -1,8 +1,8 @@
--- Lines of a journal, and what a sink was sent, worked out by hand.
+-- Lines of a journal, and the bytes of a sink, worked out by hand.
 use Rattle.std.specs.Prelude.{◌≡◌, ℕ, true, false, List, [], ◌∷◌, codes}
 use Rattle.satip_base.specs.Output.{empty}
 use Rattle.satip_base.specs.Streams.{Drain}
-use Rattle.satip_history.specs.History.{entry}
+use Rattle.satip_base.specs.History.{entry}
 use Rattle.satip_plain.specs.declared.answers.Answer.TheVariants.{Beat}
 use Rattle.satip_plain.specs.declared.answers.Beat.TheVariants.{Going, Stopping}
 use Rattle.satip_plain.specs.declared.events.Event.TheVariants.{Stop, Tick}

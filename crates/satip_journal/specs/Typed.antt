@@ -1,14 +1,15 @@
 -- Entries whose values are of their types.
 use Rattle.satip_base.specs.Output.{Datagram}
-use Rattle.satip_history.specs.Lists.{Each}
+use Rattle.satip_base.specs.Lists.{Each}
 use Rattle.satip_plain.specs.Histories.{Item}
 use Rattle.satip_plain.specs.Values.{AreBytes}
-use Rattle.satip_record_reader.specs.ReadingEntries.{Entry, IsEntry}
+use Rattle.satip_audit.specs.ReadingEntries.{Entry, IsEntry}
 
--- what the record of an entry tells
+-- the content of an entry's record
 abbrev pub told : Item → Entry
 told e = record { event = e.event; answer = e.answer; reply = e.out.reply; datagrams = e.out.datagrams }
 
+-- a datagram's bytes are below 256
 abbrev pub IsOfBytes : Datagram → Type 0
 IsOfBytes datagram = AreBytes datagram.bytes
 

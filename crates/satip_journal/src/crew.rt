@@ -2,32 +2,35 @@
 ghost use Rattle.std.specs.Prelude.{◌≡◌, false};
 ghost use Rattle.satip_plain.specs.declared.events.Event.TheVariants.{Stop};
 ghost use Rattle.satip_plain.specs.Histories.{Legal};
-ghost use Rattle.satip_records.specs.Lines.{start_line};
+ghost use Rattle.satip_entry_writer.specs.Lines.{start_line};
 ghost use Rattle.satip_journal.specs.Gears.{gear_of};
 ghost use Rattle.satip_journal.specs.Keeping.{kept, SameJournal};
 ghost use Rattle.satip_journal.specs.Logs.{Logs};
 
 use crate::journal::{Journal, fails_to_put};
 use satip_base::{Out, Sink};
-use satip_crew::{Crew, ServeEnd};
-use satip_plain::{Answer, Event};
-use satip_records::{LineRoom, write_start};
-use satip_service::Service;
+use satip_entry_writer::{LineRoom, write_start};
+use satip_jobs::{Crew, ServeEnd};
+use satip_plain::{Answer, Event, Service};
 use satip_shared::Caller;
 use std::sync::Wait;
 
-/// What a job's journal has beside its caller: the job's number, the sink and the room of its
+/// The parts of a job's journal without its caller: the job's number, the sink, the room of its
 /// lines, and whether a put failed.
 #[derive(Drop)]
 pub struct JournalGear<K> {
+    /// The job's number.
     pub number: u64,
+    /// The sink of its lines.
     pub sink: K,
+    /// The room for one line.
     pub line: LineRoom,
+    /// Whether a put failed.
     pub failed: bool,
 }
 
 impl<K: Sink> JournalGear<K> {
-    /// The journal of the job of this number, of whose lines none was put yet.
+    /// Creates the journal of the job of this number, before any line.
     pub fn new(number: u64, sink: K, line: LineRoom) -> JournalGear<K>
         ensures number { result.number ≡ number }
         ensures sink { result.sink ≡ sink }
@@ -119,7 +122,7 @@ impl<'a, R: Wait + Sync, K: Sink + Send + Drop> Crew for Journal<'a, R, K> {
         }
     }
 
-    /// Makes the event `Stop`, and puts its line. It waits.
+    /// Executes the event `Stop`, and puts its line. It waits.
     fn stop(&mut self, out: &mut Out) -> ServeEnd {
         match self.call(&Event::Stop, out) {
             Ok(_answer) => ServeEnd::Served,

@@ -1,31 +1,35 @@
-//! `Journal`, a caller whose entries are written down.
+//! `Journal`, a caller that writes down its entries.
 ghost use Rattle.std.specs.Prelude.{◌≡◌, false};
 ghost use Rattle.satip_journal.specs.Owning.{KnowsOwn, knows_own_prop};
 ghost use Rattle.satip_journal.specs.Logs.{Logs};
 
 use crate::typed::known_item;
 use satip_base::{Out, Put, Sink, Spent};
-use satip_plain::{Answer, Event};
-use satip_records::{LineRoom, write_entry};
-use satip_service::{Lot, Service, ServiceFault};
+use satip_entry_writer::{LineRoom, write_entry};
+use satip_plain::{Answer, Event, Lot, Service, ServiceFault};
 use satip_shared::Caller;
 use std::sync::Wait;
 
-/// A caller of the shared server, and a sink that gets a line of each of its entries: the entry's
-/// place in the history, the number of the caller's job, and the entry's record. After a put that
-/// failed the sink gets nothing more.
+/// A caller of the shared server, and a sink that gets a line of each of its entries. A line has
+/// the entry's place in the history, the number of the caller's job, and the entry's record. After
+/// a put that failed the sink gets nothing more.
 #[derive(Drop)]
 pub struct Journal<'a, R: Wait + Sync, K: Sink> {
+    /// The caller.
     pub caller: Caller<'a, R>,
+    /// The number of the caller's job, which may differ from the caller's number.
     pub number: u64,
+    /// The sink of its lines.
     pub sink: K,
+    /// The room for one line.
     pub line: LineRoom,
+    /// Whether a put failed.
     pub failed: bool,
     pub ghost own: { KnowsOwn caller.pass } by { knows_own_prop caller.pass },
 }
 
 impl<'a, R: Wait + Sync, K: Sink> Journal<'a, R, K> {
-    /// The journal of the job of this number, of whose lines none was put yet.
+    /// Creates the journal of the job of this number, before any line.
     pub fn new(caller: Caller<'a, R>, number: u64, sink: K, line: LineRoom) -> Journal<'a, R, K>
         requires own { KnowsOwn caller.pass }
         ensures server { result.caller.server.now ≡ caller.entry.server.now }
@@ -44,7 +48,7 @@ impl<'a, R: Wait + Sync, K: Sink> Journal<'a, R, K> {
     }
 }
 
-// Puts a line, and says whether that failed.
+// Puts a line. Returns whether that failed.
 pub(crate) fn fails_to_put<K: Sink>(sink: &mut K, line: &[u8]) -> bool
     ensures logs { Logs K.tells (K.drain sink.old) (K.drain sink.new) false result line.now }
 {
@@ -56,9 +60,9 @@ pub(crate) fn fails_to_put<K: Sink>(sink: &mut K, line: &[u8]) -> bool
 
 impl<'a, R: Wait + Sync, K: Sink> Service for Journal<'a, R, K> {
     ghost use Rattle.std.specs.Prelude.{[], ◌∷◌, MatchResult, refl};
-    ghost use Rattle.satip_history.specs.History.{entry};
+    ghost use Rattle.satip_base.specs.History.{entry};
     ghost use Rattle.satip_plain.specs.Histories.{Legal};
-    ghost use Rattle.satip_service.specs.Calls.{Called, Bursts};
+    ghost use Rattle.satip_plain.specs.Calls.{Called, Bursts};
     ghost use Rattle.satip_shared.specs.Calling.{known_by, same_caller_setting};
     ghost use Rattle.satip_turn.specs.Shown.{Knows, Turned, Looked};
     ghost use Rattle.satip_journal.specs.Keeping.{kept, SameJournal};
@@ -93,8 +97,8 @@ impl<'a, R: Wait + Sync, K: Sink> Service for Journal<'a, R, K> {
 
     ghost same_want = { λ _ _ _. refl };
 
-    /// Makes the event, and then puts the line of its entry, unless a put failed before. A put that
-    /// fails changes nothing of the answer.
+    /// Executes the event, and then puts the line of its entry, unless a put failed before. A put
+    /// that fails doesn't change the answer.
     fn call(&mut self, event: &Event, out: &mut Out) -> Result<Answer, ServiceFault>
         ensures same { SameJournal K.tells
             (kept self.old.caller.server.now self.old.caller.pass self.old.number
@@ -111,7 +115,7 @@ impl<'a, R: Wait + Sync, K: Sink> Service for Journal<'a, R, K> {
             (λ _. Looked self.old.caller.pass self.new.caller.pass) }
         ensures knows { Knows (Legal self.old.caller.server.now.setting) self.new.caller.pass }
     {
-        // lent whole, since the caller's facts hold of it as a whole
+        // lent whole, since the contracts speak of the caller as a whole
         let caller = &mut self.caller;
         match caller.server.call(caller.rt, &mut caller.pass, event, out) {
             Ok(answer) => {
@@ -128,7 +132,7 @@ impl<'a, R: Wait + Sync, K: Sink> Service for Journal<'a, R, K> {
         }
     }
 
-    /// Makes the events of the lot as calls one after another, each with its line.
+    /// Executes the events of the lot as calls one after another, each with its line.
     fn burst<L: Lot>(&mut self, lot: &mut L, out: &mut Out) -> Result<(), ServiceFault> {
         for made in 0..64u32 {
             let Some(event) = lot.next() else {

@@ -1,16 +1,17 @@
-//! That the values of an entry are of their types.
+//! The values of an entry are of their types.
 
 ghost use Rattle.std.specs.Prelude.{ℕ, IfSome};
 ghost use Rattle.satip_base.specs.Output.{shown};
-ghost use Rattle.satip_history.specs.History.{entry};
-ghost use Rattle.satip_history.specs.Lists.{Each};
+ghost use Rattle.satip_base.specs.History.{entry};
+ghost use Rattle.satip_base.specs.Lists.{Each};
 ghost use Rattle.satip_journal.specs.Typed.{IsOfBytes, IsTyped};
 
 use satip_audit::known_entry;
 use satip_base::{Address, Out};
 use satip_plain::{Answer, Event, known_bytes};
 
-// Hands to a caller's proof that the values of an entry are of their types, whoever made it.
+// Gives a caller's proof the fact that the values of an entry are of their types, for any caller.
+// It does nothing.
 pub(crate) fn known_item(event: &Event, answer: &Answer, out: &Out)
     ensures typed { (n : ℕ) → IsTyped (entry n event.now answer.now out.now) }
 {

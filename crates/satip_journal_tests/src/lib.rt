@@ -1,6 +1,10 @@
-//! Journals of callers of the shared server, over memory. It has nothing but tests.
+//! Tests journals over memory: bursts, sinks that fail, and the verdict on a run's journals.
 #![tactic(auto)]
 
+#[cfg(test)]
+mod journals_of_jobs;
+#[cfg(test)]
+mod kits;
 #[cfg(test)]
 mod lots;
 #[cfg(test)]

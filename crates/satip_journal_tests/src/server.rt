@@ -4,12 +4,11 @@ ghost use Rattle.satip_plain.specs.Histories.{Legal};
 ghost use Rattle.satip_turn.specs.Shown.{IsOf, Knows};
 
 use satip_base::Out;
+use satip_entry_writer::LineRoom;
 use satip_fixtures::config_with;
 use satip_journal::Journal;
 use satip_memory::MemorySink;
-use satip_plain::{Answer, Beat, Event, Work};
-use satip_records::LineRoom;
-use satip_service::Service;
+use satip_plain::{Answer, Beat, Event, Service, Work};
 use satip_shared::{Caller, SharedPass, SharedServer, make};
 use std::alloc::Global;
 use std::sync::Wait;

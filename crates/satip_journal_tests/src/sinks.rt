@@ -4,11 +4,10 @@ ghost use Rattle.satip_turn.specs.Shown.{IsOf, Knows};
 
 use crate::server::shared;
 use satip_base::Out;
+use satip_entry_writer::LineRoom;
 use satip_journal::Journal;
 use satip_memory::MemorySink;
-use satip_plain::{Answer, Beat, Event, Work};
-use satip_records::LineRoom;
-use satip_service::Service;
+use satip_plain::{Answer, Beat, Event, Service, Work};
 use satip_shared::{Caller, SharedPass, SharedServer};
 use std::alloc::Global;
 use std::sync::Wait;

@@ -1,7 +1,7 @@
 -- The stream that an entry asks about, as it stands and as it is read.
 use Rattle.std.proofs.Common.{arith, ◌≡◌, ℕ, ◌+◌, ◌<◌, ◌≤◌, ◌==◌, ◌&&◌, ◌||◌, not, Bool, true, false, length, Option, Some, None, is_none, option_map, refl, ap, sym, subst, ◌∙◌, if◌then◌else◌, unwrap_or, option_and_then}
 use Rattle.std.specs.Option.{option_map_or}
-use Rattle.satip_history.specs.Lists.{Has}
+use Rattle.satip_base.specs.Lists.{Has}
 use Rattle.satip_http.specs.Heads.{http_refusal}
 use Rattle.satip_base.specs.Output.{Output}
 use Rattle.satip_rtsp.specs.declared.requests.Method.{Method}
@@ -14,18 +14,19 @@ use Rattle.satip_plain.specs.declared.events.Event.TheVariants.{Request as Asked
 use Rattle.satip_plain.specs.Types.{SessionId, Config, Peer, Draw, Request, HttpRequest}
 use Rattle.satip_plain.specs.State.{Session, State, same_id, stream_of}
 use Rattle.satip_plain.specs.Sending.{settle}
-use Rattle.satip_plain.specs.Refusals.{Refused, decide, decide_get, changes, is_setup, is_describe, looks_at_stream, names_none, needs_session, session_named}
+use Rattle.satip_plain.specs.Refusals.{Refused, decide, decide_get, session_named}
+use Rattle.satip_rtsp.specs.Methods.{changes, is_setup, is_describe, looks_at_stream, names_none, needs_session}
 use Rattle.satip_plain.specs.Steps
 use Rattle.satip_plain.specs.Steps.{step, least_free, setup_number, heard_by, done_by}
 use Rattle.satip_plain.specs.Histories.{Item}
 use Rattle.satip_plain.specs.Readings
 use Rattle.satip_plain.specs.Readings.{Made, Readings, living, is_accepted, makes, session_in, query_in, asking, named_in, home_of_number, next_made, numbered, number_free, put, read_one}
-use Rattle.satip_readings.specs.Agreement.{stream_told}
-use Rattle.satip_readings.proofs.SameTests.{id_itself, id_other}
-use Rattle.satip_readings.proofs.Agree.{Same, Agrees, Matched, stream_here, home_has}
-use Rattle.satip_readings.proofs.Numbering.{number_is_free}
-use Rattle.satip_readings.proofs.Reading.{item}
-use Rattle.satip_readings.proofs.Deciding.{Passes, passes, decided_refuses, named_match, named_facts, own_stream}
+use Rattle.satip_laws.specs.Agreement.{stream_told}
+use Rattle.satip_laws.proofs.SameTests.{id_itself, id_other}
+use Rattle.satip_laws.proofs.Agree.{Same, Agrees, Matched, stream_here, home_has}
+use Rattle.satip_laws.proofs.Numbering.{number_is_free}
+use Rattle.satip_laws.proofs.Reading.{item}
+use Rattle.satip_laws.proofs.Deciding.{Passes, passes, decided_refuses, named_match, named_facts, own_stream}
 use Rattle.satip_laws.proofs.Retuning.{number_asked, asked_in, tuning_of}
 use Rattle.satip_laws.proofs.Retuning
 use Rattle.satip_laws.proofs.Flushing.{none_of}

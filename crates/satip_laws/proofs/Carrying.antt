@@ -4,9 +4,9 @@ use Rattle.std.specs.List.{concat}
 use Rattle.std.specs.Int.{to_be_bytes, from_be_bytes, w16, w32}
 use Rattle.std.specs.Prelude.{slice_range}
 use Rattle.std.proofs.lemmas.Nat.{from_be_bytes-to_be_bytes_2, from_be_bytes-to_be_bytes_4}
-use Rattle.satip_history.specs.Lists.{Each}
+use Rattle.satip_base.specs.Lists.{Each}
 use Rattle.satip_rtp.specs.Bytes.{rtp_header, rtp_datagram}
-use Rattle.satip_readings.proofs.Pulling.{packets_back}
+use Rattle.satip_laws.proofs.Pulling.{packets_back}
 use Rattle.satip_laws.specs.Carried.{packets_inside, DatagramsCarry}
 
 number_at : (number clock ssrc : ℕ) (packets : List (List ℕ)) → slice_range (rtp_datagram number clock ssrc packets) 2 4 ≡ to_be_bytes w16 number

@@ -20,11 +20,12 @@ use Rattle.satip_plain.specs.Types.{SessionId, Config, Peer, Draw, Ports, Reques
 use Rattle.satip_plain.specs.State.{Session, State, Stream, same_id, held, http_session, served_by}
 use Rattle.satip_plain.specs.Sending.{Move, settle}
 use Rattle.satip_plain.specs.Streams.{change_by}
-use Rattle.satip_plain.specs.Refusals.{Refused, session_named, names_none, needs_session, is_setup, session_missing, first_given, where_true, of_message, decide, decide_get, makes_session}
+use Rattle.satip_plain.specs.Refusals.{Refused, session_named, session_missing, first_given, where_true, of_message, decide, decide_get, makes_session}
+use Rattle.satip_rtsp.specs.Methods.{names_none, needs_session, is_setup}
 use Rattle.satip_plain.specs.Steps
 use Rattle.satip_plain.specs.Steps.{Outcome, step, is_session, change_session, hear, heard_by, set_up, join, found, no_ports, least_free, setup_number, new_session, done_by, play_of, teardown_of, end_where, pull_some, is_current, picks, deliver, most_pulled, put_stream}
 use Rattle.satip_laws.specs.Makings.{made_by}
-use Rattle.satip_readings.specs.Given.{given_in}
+use Rattle.satip_laws.specs.Given.{given_in}
 use Rattle.satip_laws.specs.Pulls.{taken_in}
 use Rattle.satip_laws.proofs.Ids.{look, or_else, or_else_none, look_append, Apart, apart_append, below_append, found_id, id_same, look_where, any_of_id}
 use Rattle.satip_laws.proofs.Told.{told}

@@ -16,7 +16,8 @@ use Rattle.satip_plain.specs.Types.{SessionId, Config, Peer, Draw, Ports, Query,
 use Rattle.satip_plain.specs.State.{Session, State, Stream, held}
 use Rattle.satip_plain.specs.Sending.{Turn, Move, settle, each_of, let_go}
 use Rattle.satip_plain.specs.Streams.{retune, put_at, to_set, change_by, outlook_of}
-use Rattle.satip_plain.specs.Refusals.{Refused, names_none, session_missing, session_named, decide, decide_get, changes}
+use Rattle.satip_plain.specs.Refusals.{Refused, session_missing, session_named, decide, decide_get}
+use Rattle.satip_rtsp.specs.Methods.{names_none, changes}
 use Rattle.satip_plain.specs.Steps
 use Rattle.satip_plain.specs.Steps.{Outcome, step, is_session, change_session, hear, heard_by, set_up, join, found, no_ports, least_free, setup_number, done_by, play_of, end_where, tick, put_stream}
 use Rattle.satip_plain.specs.Histories.{Item, opening, after_from, after}

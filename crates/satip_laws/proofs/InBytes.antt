@@ -2,8 +2,8 @@
 use Rattle.std.proofs.Common.{◌≡◌, ℕ, Bool, true, false, List, [], ◌∷◌, ◌++◌, map, length, refl, ap, sym, subst, ◌∙◌, if◌then◌else◌, append-nil}
 use Rattle.std.specs.List.{flat_map}
 use Rattle.std.proofs.lemmas.Grind.{flat_map-append}
-use Rattle.satip_history.specs.Lists.{Each}
-use Rattle.satip_history.proofs.Elements.{Each-append_left, Each-append_right}
+use Rattle.satip_base.specs.Lists.{Each}
+use Rattle.satip_base.proofs.Elements.{Each-append_left, Each-append_right}
 use Rattle.satip_plain.specs.declared.setting.Setting.{Setting}
 use Rattle.satip_plain.specs.Types.{SessionId, Config}
 use Rattle.satip_plain.specs.State.{State, same_id}
@@ -12,7 +12,7 @@ use Rattle.satip_plain.specs.Steps.{step}
 use Rattle.satip_plain.specs.Histories.{Item, Legal, LegalFrom, datagram, opening}
 use Rattle.satip_plain.specs.Packets.{packets_for, sent_from, payload}
 use Rattle.satip_plain.specs.Readings.{readings}
-use Rattle.satip_readings.proofs.Law.{agrees_after}
+use Rattle.satip_laws.proofs.Law.{agrees_after}
 use Rattle.satip_laws.specs.Numbers.{is_rtp_of}
 use Rattle.satip_laws.specs.Carried.{packets_inside}
 use Rattle.satip_laws.specs.InBytes.{bytes_marked, bytes_from, payload_in_bytes}

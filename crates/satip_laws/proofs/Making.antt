@@ -3,7 +3,7 @@ use Rattle.std.proofs.Common.{arith, ◌≡◌, inl, inr, ℕ, ◌+◌, ◌≤�
 use Rattle.std.specs.Option.{option_map_or}
 use Rattle.std.proofs.lemmas.Bool.{and_parts}
 use Rattle.satip_plain.proofs.SameIds.{same_id_is}
-use Rattle.satip_history.specs.Lists.{Each, Has}
+use Rattle.satip_base.specs.Lists.{Each, Has}
 use Rattle.satip_http.specs.Heads.{http_refusal}
 use Rattle.satip_rtsp.specs.declared.requests.Method.{Method}
 use Rattle.satip_rtsp.specs.declared.requests.Method.TheVariants.{Options, Describe, Setup, Play, Teardown}
@@ -16,17 +16,18 @@ use Rattle.satip_plain.specs.declared.setting.Setting.{Setting}
 use Rattle.satip_plain.specs.Types.{SessionId, Config, Peer, Draw, Request, HttpRequest}
 use Rattle.satip_plain.specs.State.{Session, State, same_id}
 use Rattle.satip_plain.specs.Sending.{settle}
-use Rattle.satip_plain.specs.Refusals.{Refused, decide, decide_get, is_setup, makes_session, names_none}
+use Rattle.satip_plain.specs.Refusals.{Refused, decide, decide_get, makes_session}
+use Rattle.satip_rtsp.specs.Methods.{is_setup, names_none}
 use Rattle.satip_plain.specs.Steps
 use Rattle.satip_plain.specs.Steps.{step, new_session, no_ports, setup_number, least_free, done_by, heard_by}
 use Rattle.satip_plain.specs.Values.{IsEvent}
 use Rattle.satip_plain.specs.Histories.{Item, Legal, LegalFrom, opening}
 use Rattle.satip_plain.specs.Readings.{Made, Readings, is_accepted, makes, next_made, home_of_number, nothing_read, read_one, read_from, readings}
 use Rattle.satip_plain.specs.Readings
-use Rattle.satip_readings.proofs.Agree.{Agrees}
-use Rattle.satip_readings.proofs.Deciding.{decided_refuses}
-use Rattle.satip_readings.proofs.Law.{agrees_opening}
-use Rattle.satip_readings.proofs.Steps.{agrees_step}
+use Rattle.satip_laws.proofs.Agree.{Agrees}
+use Rattle.satip_laws.proofs.Deciding.{decided_refuses}
+use Rattle.satip_laws.proofs.Law.{agrees_opening}
+use Rattle.satip_laws.proofs.Steps.{agrees_step}
 use Rattle.satip_laws.specs.Makings.{made_by, made_from, made, made_as}
 use Rattle.satip_laws.proofs.Ids.{look, id_same, Apart, above_absent}
 use Rattle.satip_laws.proofs.Moves.{IsSound}

@@ -11,7 +11,7 @@ use Rattle.satip_plain.specs.Steps.{step, new_session, no_ports, setup_number, l
 use Rattle.satip_plain.specs.Histories.{Item, opening, after_from}
 use Rattle.satip_plain.specs.Packets.{sent_from}
 use Rattle.satip_laws.specs.Makings.{made_by, made_from, SessionsAreCounted}
-use Rattle.satip_readings.specs.Given.{given_in, given_from}
+use Rattle.satip_laws.specs.Given.{given_in, given_from}
 use Rattle.satip_laws.specs.Pulls.{taken_in, taken_from}
 use Rattle.satip_laws.proofs.Ids.{look, or_else, or_else_none, or_else_assoc, look_append, Above, above_less, above_absent, below_found, found_id}
 use Rattle.satip_laws.proofs.Told.{Told, told, told-append}

@@ -4,7 +4,7 @@ use Rattle.std.specs.List.{list_any}
 use Rattle.std.proofs.lemmas.List.{append_cancel_right}
 use Rattle.std.proofs.lemmas.Bool.{eq-eqb}
 use Rattle.satip_plain.proofs.SameIds.{same_id_is}
-use Rattle.satip_history.specs.Lists.{Each}
+use Rattle.satip_base.specs.Lists.{Each}
 use Rattle.satip_plain.specs.declared.setting.Setting.{Setting}
 use Rattle.satip_plain.specs.Types.{SessionId}
 use Rattle.satip_plain.specs.State.{Session, same_id, held}
@@ -12,7 +12,7 @@ use Rattle.satip_plain.specs.Sending.{Sent, Rtp, Report}
 use Rattle.satip_plain.specs.Steps.{is_session}
 use Rattle.satip_plain.specs.Histories.{Item, opening, after}
 use Rattle.satip_plain.specs.Packets.{payload}
-use Rattle.satip_readings.specs.Given.{given}
+use Rattle.satip_laws.specs.Given.{given}
 use Rattle.satip_laws.specs.Makings.{made, made_as, living, LivingAreMade}
 use Rattle.satip_laws.specs.Pulls.{taken}
 use Rattle.satip_laws.specs.Payload.{PayloadAndHeld, PayloadIsGiven, LivingPicked, TakenAndQueued, TakenIsGiven}

@@ -4,7 +4,7 @@ use Rattle.std.specs.List.{list_any}
 use Rattle.std.specs.Option.{option_map_or}
 use Rattle.std.proofs.lemmas.Bool.{and_parts, and_from, eq-eqb, not-true}
 use Rattle.satip_plain.proofs.SameIds.{same_id_is}
-use Rattle.satip_history.specs.Lists.{Has}
+use Rattle.satip_base.specs.Lists.{Has}
 use Rattle.satip_plain.specs.declared.setting.Setting.{Setting}
 use Rattle.satip_plain.specs.Types.{SessionId, Config}
 use Rattle.satip_plain.specs.State.{Session, State, same_id, held}
@@ -15,9 +15,9 @@ use Rattle.satip_plain.specs.Packets.{payload}
 use Rattle.satip_plain.specs.Numbering.{numbers_for}
 use Rattle.satip_plain.specs.Readings
 use Rattle.satip_plain.specs.Readings.{Made, Readings, asking, readings, read_from, read_one, nothing_read, pulled_by, packets_of}
-use Rattle.satip_readings.proofs.Agree.{Same, Agrees, alike_has}
-use Rattle.satip_readings.proofs.Finding.{find_has}
-use Rattle.satip_readings.proofs.Law.{agrees_after, selected_is_given}
+use Rattle.satip_laws.proofs.Agree.{Same, Agrees, alike_has}
+use Rattle.satip_laws.proofs.Finding.{find_has}
+use Rattle.satip_laws.proofs.Law.{agrees_after, selected_is_given}
 use Rattle.satip_laws.specs.Makings.{made, made_as, living}
 use Rattle.satip_laws.specs.Payload.{held_of, PayloadAndHeld}
 use Rattle.satip_laws.specs.Flushes.{RetuningFlushes}

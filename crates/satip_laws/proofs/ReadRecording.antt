@@ -2,7 +2,7 @@
 use Rattle.std.proofs.Common.{◌≡◌, ◌⊎◌, inl, inr, ℕ, ◌==◌, ◌&&◌, Bool, true, false, cond, List, [], ◌∷◌, ◌++◌, filter, Option, Some, None, is_some, option_map, refl, ap, sym, subst, ◌∙◌, if◌then◌else◌, option_and_then}
 use Rattle.std.specs.Option.{option_map_or}
 use Rattle.std.proofs.lemmas.Bool.{eqb-true}
-use Rattle.satip_history.specs.Lists.{Each, Has}
+use Rattle.satip_base.specs.Lists.{Each, Has}
 use Rattle.satip_tune.specs.Frontends.{mux_for}
 use Rattle.satip_ts.specs.Recording.{cut_packets}
 use Rattle.satip_plain.specs.declared.events.Event.{Event}
@@ -14,11 +14,11 @@ use Rattle.satip_plain.specs.Steps.{step, is_current}
 use Rattle.satip_plain.specs.Values.{IsEvent}
 use Rattle.satip_plain.specs.Histories.{Item, Legal, LegalFrom, opening, after}
 use Rattle.satip_plain.specs.Readings.{Made, Readings, living, nothing_read, read_one, readings}
-use Rattle.satip_readings.specs.Agreement.{stream_told}
-use Rattle.satip_readings.proofs.Agree.{Agrees, serves_same, stream_here}
-use Rattle.satip_readings.proofs.Finding.{find_has, any_has}
-use Rattle.satip_readings.proofs.Law.{agrees_after, agrees_opening}
-use Rattle.satip_readings.proofs.Steps.{agrees_step}
+use Rattle.satip_laws.specs.Agreement.{stream_told}
+use Rattle.satip_laws.proofs.Agree.{Agrees, serves_same, stream_here}
+use Rattle.satip_laws.proofs.Finding.{find_has, any_has}
+use Rattle.satip_laws.proofs.Law.{agrees_after, agrees_opening}
+use Rattle.satip_laws.proofs.Steps.{agrees_step}
 use Rattle.satip_laws.specs.Recorded.{current_in, current_from, AreTunedTo, BeginsTold, IsRecorded}
 use Rattle.satip_laws.specs.ReadRecording.{is_taken, is_fresh, fresh_in, fresh_from, PacketsAreOfRecordings}
 use Rattle.satip_laws.proofs.Fronts.{serves, any_served}

@@ -2,8 +2,8 @@
 use Rattle.std.proofs.Common.{arith, ◌≡◌, ◌⊎◌, inl, inr, ℕ, suc, ◌+◌, ◌%◌, ◌^◌, ◌<◌, ◌≤◌, ◌==◌, ◌&&◌, Bool, true, false, cond, List, [], ◌∷◌, ◌++◌, map, length, filter, find, Option, Some, None, option_map, refl, ap, sym, subst, ◌∙◌, if◌then◌else◌, unwrap_or, option_and_then}
 use Rattle.std.specs.Option.{option_map_or}
 use Rattle.std.proofs.lemmas.Bool.{and_parts, eqb-true, eqb-false, eq-eqb, ne_eqb}
-use Rattle.satip_history.specs.History.{own_of, kept_if}
-use Rattle.satip_history.specs.Lists.{Each}
+use Rattle.satip_base.specs.History.{own_of, kept_if}
+use Rattle.satip_base.specs.Lists.{Each}
 use Rattle.satip_tune.specs.declared.frontends.Front.{Front}
 use Rattle.satip_ts.specs.Recording.{cut_packets}
 use Rattle.satip_plain.specs.declared.answers.Answer.TheVariants.{Work as WorkIs}

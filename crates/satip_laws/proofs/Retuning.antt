@@ -9,7 +9,8 @@ use Rattle.satip_plain.specs.declared.setting.Setting.{Setting}
 use Rattle.satip_plain.specs.Types.{SessionId, Config, Tuning, Query, Request}
 use Rattle.satip_plain.specs.State.{Session, State, stream_of, held}
 use Rattle.satip_plain.specs.Streams.{to_set}
-use Rattle.satip_plain.specs.Refusals.{changes, session_named, decide, decide_get}
+use Rattle.satip_rtsp.specs.Methods.{changes}
+use Rattle.satip_plain.specs.Refusals.{session_named, decide, decide_get}
 use Rattle.satip_plain.specs.Steps.{setup_number, least_free}
 use Rattle.satip_plain.specs.Histories.{Item, after}
 use Rattle.satip_laws.specs.Makings.{living}

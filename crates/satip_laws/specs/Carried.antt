@@ -1,7 +1,7 @@
--- What the bytes of an RTP datagram carry (RFC 3550, 5.1; RFC 2250, 2).
+-- The contents of the bytes of an RTP datagram (RFC 3550, 5.1; RFC 2250, 2).
 use Rattle.std.specs.Prelude.{ℕ, ◌≡◌, ◌<◌, ◌^◌, List, length, drop, slice_range}
 use Rattle.std.specs.Int.{from_be_bytes, w16, w32}
-use Rattle.satip_history.specs.Lists.{Each}
+use Rattle.satip_base.specs.Lists.{Each}
 use Rattle.satip_rtp.specs.Bytes.{rtp_datagram}
 use Rattle.satip_plain.specs.Readings.{packets_of}
 
@@ -23,7 +23,7 @@ pub record Carries (number ssrc : ℕ) (packets : List (List ℕ)) (bytes : List
   pub marked : ssrc_inside bytes ≡ ssrc
   pub filled : packets_inside bytes ≡ packets
 
--- the bytes of each datagram carry its number, its SSRC and its packets, where each packet has 188 bytes
+-- the bytes of a datagram carry its number, its SSRC and its packets, if each packet has 188 bytes
 abbrev pub DatagramsCarry : Type 0
 DatagramsCarry =
     (number clock ssrc : ℕ) (packets : List (List ℕ)) → number < 2 ^ 16 → ssrc < 2 ^ 32 → Each (λ packet. length packet ≡ 188) packets

@@ -1,4 +1,4 @@
--- Worked histories of the small server of satip_plain, told in short.
+-- Worked histories of the small server of satip_plain, in short.
 use Rattle.std.specs.Prelude.{ℕ, Bool, false, List, [], ◌∷◌, ◌++◌, map, Option, Some, None}
 use Rattle.std.specs.Option.{option_map_or}
 use Rattle.satip_ts.specs.Packet.{pid_of}
@@ -11,7 +11,7 @@ use Rattle.satip_plain.specs.Numbering.{numbers_for}
 use Rattle.satip_plain.specs.declared.answers.Answer.TheVariants.{Work as WorkIs}
 use Rattle.satip_plain.specs.declared.answers.Work.{Work}
 use Rattle.satip_plain.specs.Examples.{config, entry_of, packet_of, run}
-use Rattle.satip_readings.specs.Given.{given}
+use Rattle.satip_laws.specs.Given.{given}
 use Rattle.satip_laws.specs.Makings.{made}
 use Rattle.satip_laws.specs.Payload.{held_of}
 use Rattle.satip_laws.specs.Pulls.{taken}
@@ -33,7 +33,7 @@ history es = map entry_of (run es)
 abbrev pub pids : List (List ℕ) → List ℕ
 pids packets = map pid_of packets
 
--- the PIDs of what a session is given, of its payload, of what it holds and of what its pulls took
+-- the PIDs of what a session was given, of its payload, of its held packets and of what its pulls took
 pub record Flow : Type 0 where
   pub given : List ℕ
   pub sent : List ℕ
@@ -51,7 +51,7 @@ flow_of es s = record {
   taken = pids (taken setting (history es) s);
 }
 
--- a session as it is made, in short
+-- a created session, in short
 pub record Newcomer : Type 0 where
   pub count : ℕ
   pub http : Bool
@@ -69,7 +69,7 @@ last_item [] = None
 last_item (e ∷ []) = Some e
 last_item (e ∷ f ∷ es) = last_item (f ∷ es)
 
--- whether one more event gives the stream of this home another tuning, as read
+-- whether one more event gives the stream of this home another tuning, from the readings
 abbrev pub gives_next : List Event → Event → SessionId → Bool
 gives_next es e home = option_map_or (λ i. gives_tuning (readings setting (history es)) i home) (last_item (history (es ++ e ∷ []))) false
 
@@ -87,20 +87,20 @@ left_pids es s = pids (payload_in_bytes setting (history es) s)
 abbrev pub shared_by : List Event → SessionId → ℕ → Bool
 shared_by es s ssrc = shares_ssrc setting (history es) s ssrc
 
--- the PIDs of the packets of a front end and a tuning number that weren't stale, by the state and as read
+-- the PIDs of the packets of a front end and a tune number that weren't stale, from the state and from the readings
 abbrev pub current_pids : List Event → ℕ → ℕ → List ℕ
 current_pids es front tune = pids (current setting (history es) front tune)
 
 abbrev pub fresh_pids : List Event → ℕ → ℕ → List ℕ
 fresh_pids es front tune = pids (fresh_packets setting (history es) front tune)
 
--- a reel of packets of these PIDs, and recordings that nobody tells
+-- a reel of packets of these PIDs, and recordings whose content isn't exposed
 abbrev pub reel : ℕ → List ℕ → Reel
 reel tune left = record { tune = tune; left = Some (map packet_of left) }
 
 abbrev pub untold : ℕ → Option (List ℕ)
 untold mux = None
 
--- what is due after an entry with this event and this work in its answer
+-- the next event of a pump after an entry with this event and this work in its answer
 abbrev pub due_after : Due → Event → Work → Due
 due_after due event work = after_entry untold due (record { caller = 2; event = event; answer = WorkIs work; out = record { reply = []; datagrams = []; reply_spare = 0; datagram_spare = 0; count_spare = 0 } })

@@ -1,6 +1,6 @@
--- When nothing is held: after a tick, and after an entry that gives the session's stream another tuning.
+-- When no packet is held: after a tick, and after an entry that gives the session's stream another tuning.
 use Rattle.std.specs.Prelude.{ℕ, ◌≡◌, true, false, List, [], ◌∷◌, ◌++◌, Some}
-use Rattle.satip_history.specs.Lists.{Has}
+use Rattle.satip_base.specs.Lists.{Has}
 use Rattle.satip_plain.specs.declared.events.Event.TheVariants.{Tick}
 use Rattle.satip_plain.specs.declared.setting.Setting.{Setting}
 use Rattle.satip_plain.specs.Types.{SessionId}

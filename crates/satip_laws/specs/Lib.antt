@@ -9,3 +9,11 @@ pub mod OverReadings
 pub mod Flushes
 pub mod ReadRecording
 pub mod Examples
+pub mod Given
+pub mod Agreement
+pub mod Ownership
+pub mod Busy
+pub mod Ending
+pub mod Pulling
+pub mod Rows
+pub mod Targets

@@ -1,4 +1,4 @@
--- The sessions that are made over a history, each as it is made.
+-- The sessions that a history creates, each as it is created.
 use Rattle.std.specs.Prelude.{◌≡◌, ◌&&◌, true, false, List, [], ◌∷◌, ◌++◌, map, length, find, Option, Some, None, is_none, unwrap_or, option_to_list, if◌then◌else◌}
 use Rattle.std.specs.List.{range_with_len}
 use Rattle.satip_plain.specs.declared.events.Event.{Event}
@@ -10,7 +10,7 @@ use Rattle.satip_plain.specs.Refusals.{decide, decide_get, makes_session}
 use Rattle.satip_plain.specs.Steps.{step, is_session, new_session, no_ports, setup_number, least_free}
 use Rattle.satip_plain.specs.Histories.{Item, opening, after}
 
--- the session that an event makes here: an accepted SETUP that names no session, or an accepted GET
+-- the session that an event creates: an accepted SETUP that names no session, or an accepted GET
 abbrev pub made_by : Config → State → Event → Option Session
 made_by c st (Asked peer draw r) =
     if makes_session r && is_none (decide c st r) then Some (new_session st false peer draw (unwrap_or r.ports no_ports) (setup_number r st)) else None
@@ -18,27 +18,28 @@ made_by c st (Got peer draw r) =
     if is_none (decide_get c st r) then Some (new_session st true peer draw no_ports (least_free st.streams)) else None
 made_by c st _ = None
 
+-- the sessions that these entries create, from this state on
 abbrev pub made_from : Config → State → List Item → List Session
 made_from c st [] = []
 made_from c st (e ∷ es) = option_to_list (made_by c st e.event) ++ made_from c (step c st e.event).state es
 
--- the sessions that were made, in order of making
+-- the sessions that were created, in order of creation
 abbrev pub made : Setting → List Item → List Session
 made c h = made_from c.config (opening c) h
 
--- the session of this id, as it was made
+-- the session of this id, as it was created
 abbrev pub made_as : Setting → List Item → SessionId → Option Session
 made_as c h s = find (is_session s) (made c h)
 
--- the session of this id, where it lives
+-- the living session of this id, if there is one
 abbrev pub living : State → SessionId → Option Session
 living st s = find (is_session s) st.sessions
 
--- the n-th session made has the count n
+-- the n-th session created has the count n
 abbrev pub SessionsAreCounted : Type 0
 SessionsAreCounted = (c : Setting) (h : List Item) → map (λ x. x.id.count) (made c h) ≡ range_with_len 1 (length (made c h))
 
--- what a session keeps of its making as long as it lives
+-- the fields that a session keeps from its creation on, as long as it lives
 pub record IsKept (x y : Session) : Type 0 where
   pub id : y.id ≡ x.id
   pub http : y.http ≡ x.http
@@ -46,7 +47,7 @@ pub record IsKept (x y : Session) : Type 0 where
   pub ssrc : y.ssrc ≡ x.ssrc
   pub first : y.first ≡ x.first
 
--- a living session was made, and keeps its kind, its stream, its SSRC and its first number
+-- a living session was created, and keeps its kind, its stream, its SSRC and its first sequence number
 abbrev pub LivingAreMade : Type 0
 LivingAreMade = (c : Setting) (h : List Item) (s : SessionId) (y : Session) → living (after c h) s ≡ Some y
     → (x : Session) × (made_as c h s ≡ Some x) × IsKept x y

@@ -11,34 +11,34 @@ use Rattle.satip_plain.specs.Packets.{sent_from}
 use Rattle.satip_plain.specs.Numbering.{numbers_for, counted}
 use Rattle.satip_laws.specs.Makings.{made, made_as}
 
--- all that a history sent, in order
+-- the datagrams of a history, in order
 abbrev pub sent_in : Setting → List Item → List Sent
 sent_in c h = sent_from c.config (opening c) h
 
--- the numbers begin with this one, and count up by one, modulo 65536
+-- the numbers begin with `first` and count up by one, modulo 65536
 pub record CountFrom (first : ℕ) (numbers : List ℕ) : Type 0 where
   pub many : ℕ
   pub are : numbers ≡ counted first 0 many
 
--- the RTP datagrams of each session that was made are numbered from its first number on, that of its draw
+-- the RTP datagrams of each session are numbered one after another, from the first number of its draw on
 abbrev pub NumbersCountFromFirst : Type 0
 NumbersCountFromFirst = (c : Setting) (h : List Item) (s : SessionId) (x : Session) → made_as c h s ≡ Some x → CountFrom x.first (numbers_for s (sent_in c h))
 
--- the RTP datagrams of a session
+-- whether it is an RTP datagram of the session
 abbrev pub is_rtp_of : SessionId → Sent → Bool
 is_rtp_of s (Rtp id to number clock ssrc packets) = same_id id s
 is_rtp_of s (Report id view sender) = false
 
--- the RTP datagrams that carry an SSRC
+-- whether it is an RTP datagram that carries this SSRC
 abbrev pub carries : ℕ → Sent → Bool
 carries n (Rtp id to number clock ssrc packets) = ssrc == n
 carries n (Report id view sender) = false
 
--- another session was made with this SSRC
+-- whether another session was created with this SSRC
 abbrev pub shares_ssrc : Setting → List Item → SessionId → ℕ → Bool
 shares_ssrc c h s ssrc = list_any (λ y. not (is_session s y) && y.ssrc == ssrc) (made c h)
 
--- where no other session was made with a session's SSRC, its RTP datagrams are those that carry it
+-- the RTP datagrams of a session are those that carry its SSRC, if no other session was created with it
 abbrev pub SsrcTells : Type 0
 SsrcTells = (c : Setting) (h : List Item) (s : SessionId) (x : Session) → made_as c h s ≡ Some x → shares_ssrc c h s x.ssrc ≡ false
     → filter (is_rtp_of s) (sent_in c h) ≡ filter (carries x.ssrc) (sent_in c h)

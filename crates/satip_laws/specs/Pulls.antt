@@ -1,4 +1,4 @@
--- What HTTP sessions take from their queues.
+-- The packets that HTTP sessions take from their queues.
 use Rattle.std.specs.Prelude.{ℕ, List, [], ◌∷◌, ◌++◌, take, if◌then◌else◌}
 use Rattle.std.specs.Option.{option_map_or}
 use Rattle.satip_plain.specs.declared.events.Event.{Event}
@@ -18,6 +18,6 @@ abbrev pub taken_from : Config → State → List Item → SessionId → List (L
 taken_from c st [] s = []
 taken_from c st (e ∷ es) s = taken_in st e.event s ++ taken_from c (step c st e.event).state es s
 
--- all that the session's pulls took, in order
+-- the packets that the session's pulls took, in order
 abbrev pub taken : Setting → List Item → SessionId → List (List ℕ)
 taken c h s = taken_from c.config (opening c) h s

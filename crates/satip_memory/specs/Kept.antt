@@ -1,4 +1,4 @@
--- What the versions over memory keep.
+-- The datagrams that an outlet over memory keeps.
 use Rattle.satip_base.specs.Output.{Datagram}
 use Rattle.satip_memory.specs.declared.outlet.Mail.{Mail}
 

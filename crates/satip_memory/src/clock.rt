@@ -7,7 +7,7 @@ use satip_world::{Clock, Pacer};
 use std::alloc::Global;
 use std::marker::Model;
 
-/// A clock that shows given moments. Once they are used up it shows 0, and no longer tells its
+/// A clock that shows given moments. Once they are used up it shows 0, and no longer exposes its
 /// readings.
 #[derive(Drop)]
 pub struct MemoryClock {
@@ -30,7 +30,7 @@ impl Model for MemoryClock {
 impl MemoryClock {
     ghost use Rattle.satip_world.specs.Dials.{fresh_dial};
 
-    /// A clock that shows these moments one after another.
+    /// Creates a clock that shows these moments one after another.
     pub fn make(alloc: Global, moments: &[u64]) -> Result<MemoryClock, Want>
         ensures ok { IfOk result (λ clock. clock ≡ fresh_dial true) }
     {
@@ -77,14 +77,14 @@ impl Model for MemoryPacer {
 }
 
 impl MemoryPacer {
-    /// A pacer that made no pause yet.
+    /// Creates a pacer that made no pause.
     pub fn new() -> MemoryPacer
         ensures none { result ≡ 0 }
     {
         MemoryPacer { pauses: 0 }
     }
 
-    /// How many pauses were made.
+    /// Returns the count of pauses.
     pub fn pauses(&self) -> u64
         ensures pauses { result ≡ self.now }
     {

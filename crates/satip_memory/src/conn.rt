@@ -10,7 +10,7 @@ use satip_world::{Conn, Received};
 use std::alloc::Global;
 use std::marker::Model;
 
-// Where the pieces of a text end, and which of them is received now.
+// The ends of a text's pieces, and the piece that is being received.
 #[derive(Drop)]
 struct Pieces {
     ends: Vec<usize>,
@@ -18,12 +18,12 @@ struct Pieces {
 }
 
 impl Pieces {
-    // The end of the piece that is received now.
+    // Returns the end of the piece that is being received.
     fn end(&self) -> Option<usize> {
         self.ends.get(self.next).copied()
     }
 
-    // Goes on to the next piece where the text was received up to the end of this one.
+    // Goes on to the next piece if the text was received up to the end of this one.
     fn pass(&mut self, place: usize) {
         if self.end().is_some_and(|end| end <= place) {
             self.next = self.next.saturating_add(1);
@@ -31,7 +31,7 @@ impl Pieces {
     }
 }
 
-/// A connection on which given pieces come in, and which keeps what is sent. It is at its end once
+/// A connection that receives given pieces, and keeps the bytes sent on it. It is at its end once
 /// the pieces are used up.
 #[derive(Drop)]
 pub struct MemoryConn {
@@ -69,9 +69,9 @@ impl Model for MemoryConn {
 impl MemoryConn {
     ghost use Rattle.satip_world.specs.Lines.{fresh_line};
 
-    /// A connection on which the pieces come in one after another; at an empty one nothing came in
-    /// yet. The receives and the sends with a number, from 1, in `failing_receives` and in
-    /// `failing_sends` fail. A send that fails passes `passed` bytes at most.
+    /// Creates a connection that receives the pieces one after another; at an empty one a receive
+    /// finds nothing. The receives and the sends with a number, from 1, in `failing_receives` and
+    /// in `failing_sends` fail. A send that fails passes `passed` bytes at most.
     pub fn make(
         alloc: Global,
         pieces: &[&[u8]],
@@ -103,7 +103,7 @@ impl MemoryConn {
         })
     }
 
-    /// The bytes that were sent.
+    /// Returns the bytes that were sent.
     pub fn sent(&self) -> &[u8]
         ensures sent { result.now ≡ self.now.sent }
     {
@@ -111,7 +111,7 @@ impl MemoryConn {
     }
 }
 
-// How many bytes of a beginning of some bytes are kept; none where there is no memory for them.
+// Appends at most `passed` bytes, a prefix of `bytes`. Appends nothing if it is out of memory.
 fn keep_front(sent: &mut Vec<u8>, bytes: &[u8], passed: usize)
     ensures began { Began sent.old.items sent.new.items bytes.now }
 {

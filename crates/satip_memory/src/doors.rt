@@ -19,7 +19,7 @@ struct Coming {
     conn: MemoryConn,
 }
 
-// What came.
+// A connection that came.
 #[derive(Clone, Copy, Debug, PartialEq, Eq)]
 struct Given {
     kind: DoorKind,
@@ -29,13 +29,17 @@ struct Given {
 /// A connection that was handed back.
 #[derive(Drop)]
 pub struct Handed {
+    /// RTSP or HTTP.
     pub kind: DoorKind,
+    /// The client's address.
     pub peer: Peer,
+    /// The connection.
     pub conn: MemoryConn,
+    /// The end that it was handed back with.
     pub end: ConnEnd,
 }
 
-/// Doors by which given connections come, and which keep what is handed back.
+/// Doors by which given connections come. They keep the connections that are handed back.
 #[derive(Drop)]
 pub struct MemoryDoors {
     limit: u32,
@@ -75,7 +79,7 @@ impl Model for MemoryDoors {
 impl MemoryDoors {
     ghost use Rattle.satip_world.specs.Halls.{fresh_hall};
 
-    /// Doors that end after `limit` connections, and, where it is 0, once no further one is to
+    /// Creates doors that end after `limit` connections, or, if it is 0, once no further one is to
     /// come. Of the calls of `next`, counted from 1, those in `idle` find no connection and those
     /// in `failing` fail.
     pub fn make(
@@ -101,7 +105,7 @@ impl MemoryDoors {
         })
     }
 
-    /// Lets a connection come, after those that were added before.
+    /// Adds a connection that is to come, after those that were added before.
     pub fn add(&mut self, kind: DoorKind, peer: Peer, conn: MemoryConn) -> Result<(), Want>
         requires fresh { conn ≡ fresh_line }
         ensures same { self.new ≡ self.old }
@@ -109,7 +113,7 @@ impl MemoryDoors {
         append(&mut self.coming, Coming { kind, peer, conn })
     }
 
-    /// The connections that were handed back, in order.
+    /// Returns the connections that were handed back, in order.
     pub fn returned(&self) -> &[Handed]
         ensures returned { map return_of result.now ≡ self.now.returned }
     {
@@ -117,7 +121,7 @@ impl MemoryDoors {
     }
 }
 
-// Keeps what came; `false` where there is no memory for it.
+// Keeps a connection's kind and peer. Returns false if it is out of memory.
 fn note(given: &mut Vec<Given>, kind: DoorKind, peer: Peer) -> bool
     ensures kept { IsTrue result → map arrival_of given.new.items
         ≡ map arrival_of given.old.items ++ record { kind = kind; peer = peer } ∷ [] }
@@ -125,7 +129,7 @@ fn note(given: &mut Vec<Given>, kind: DoorKind, peer: Peer) -> bool
     given.push(Given { kind, peer }).is_ok()
 }
 
-// Keeps what was handed back; `false` where there is no memory for it.
+// Keeps a connection that was handed back. Returns false if it is out of memory.
 fn keep(returned: &mut Vec<Handed>, handed: Handed) -> bool
     ensures kept { IsTrue result → map return_of returned.new.items
         ≡ map return_of returned.old.items ++ return_of handed ∷ [] }
@@ -133,7 +137,7 @@ fn keep(returned: &mut Vec<Handed>, handed: Handed) -> bool
     returned.push(handed).is_ok()
 }
 
-// Puts a connection behind those that are to come.
+// Appends a connection to those that are to come.
 fn append(coming: &mut Vec<Coming>, next: Coming) -> Result<(), Want>
     requires unused { All IsUnused coming.old.items }
     requires next { IsUnused next }

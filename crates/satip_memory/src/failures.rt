@@ -1,9 +1,9 @@
-//! Which calls of a version over memory are to fail.
+//! Decides which calls of a device over memory fail.
 
 use satip_base::Want;
 use std::alloc::Global;
 
-/// Calls that are counted from 1, and those of them that are to fail.
+/// Calls that are counted from 1, and the numbers of those that are to fail.
 #[derive(Drop)]
 pub(crate) struct Failures {
     calls: u64,
@@ -18,7 +18,7 @@ impl Failures {
         }
     }
 
-    /// Whether the call that begins now is to fail.
+    /// Counts the call that begins, and tells whether it is to fail.
     pub(crate) fn meets_one(&mut self) -> bool {
         self.calls = self.calls.saturating_add(1);
         self.failing.contains(&self.calls)

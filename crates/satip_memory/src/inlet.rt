@@ -4,8 +4,7 @@ ghost use Rattle.std.specs.Prelude.{◌≡◌, ◌++◌, [], ◌∷◌, ◌≤�
 ghost use Rattle.satip_memory.specs.Mails.{bytes_of};
 
 use satip_base::Want;
-use satip_inlet::Inlet;
-use satip_world::Received;
+use satip_world::{Inlet, Received};
 use std::alloc::Global;
 use std::marker::Model;
 
@@ -15,7 +14,7 @@ struct Mail {
     bytes: Vec<u8>,
 }
 
-/// An inlet that gives datagrams one after another. Once they are used up none comes.
+/// An inlet that gives datagrams one after another. Once they are used up it gives none.
 #[derive(Drop)]
 pub struct MemoryInlet {
     alloc: Global,
@@ -33,7 +32,7 @@ pub struct MemoryInlet {
 
 impl Model for MemoryInlet {
     ghost use Rattle.std.specs.Prelude.{◌≤◌, map};
-    ghost use Rattle.satip_inlet.specs.Inboxes.{Inbox};
+    ghost use Rattle.satip_world.specs.Inboxes.{Inbox};
     ghost use Rattle.satip_memory.specs.Mails.{bytes_of};
 
     ghost Value = { Inbox };
@@ -50,10 +49,10 @@ impl Model for MemoryInlet {
 }
 
 impl MemoryInlet {
-    ghost use Rattle.satip_inlet.specs.Inboxes.{fresh_inbox};
+    ghost use Rattle.satip_world.specs.Inboxes.{fresh_inbox};
 
-    /// An inlet at a port from 1 to 65534 that gives these datagrams. Of the calls of `receive`,
-    /// counted from 1, those in `idle` find none and those in `failing` fail.
+    /// Creates an inlet at a port from 1 to 65534 that gives these datagrams. Of the calls of
+    /// `receive`, counted from 1, those in `idle` find none and those in `failing` fail.
     pub fn make(
         alloc: Global,
         port: u16,
@@ -93,7 +92,7 @@ impl MemoryInlet {
     }
 }
 
-// Keeps a datagram; `false` where there is no memory for it.
+// Keeps a datagram. Returns false if it is out of memory.
 fn keep(alloc: Global, mails: &mut Vec<Mail>, bytes: &[u8]) -> bool
     ensures kept { IsTrue result → map bytes_of mails.new.items
         ≡ map bytes_of mails.old.items ++ bytes.now ∷ [] }
@@ -105,8 +104,8 @@ fn keep(alloc: Global, mails: &mut Vec<Mail>, bytes: &[u8]) -> bool
     }
 }
 
-// Copies the datagram at a place to the front of the buffer, as far as it has room, and answers the
-// bytes of that; None where no datagram is left.
+// Copies the datagram at a place to the front of the buffer, as far as it has room. Returns the
+// count of bytes copied, or None if no datagram is left.
 fn copy(coming: &[Mail], place: usize, buf: &mut [u8]) -> Option<usize>
     ensures within { IfSome result (λ size. size ≤ length buf.new) }
 {

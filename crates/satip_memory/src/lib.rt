@@ -1,6 +1,6 @@
-//! Devices over memory, which keep what they are given and fail when they are told to: test doubles
-//! of the traits of sources, sinks, connections, outlets, recordings, clocks, pauses, doors and
-//! inlets.
+//! Implements all devices over memory, for tests; a device fails when the test says so.
+//! Contract: each device begins with counts of 0 and meets its trait; sources, sinks, connections,
+//! outlets and inlets expose their content.
 #![tactic(auto)]
 
 mod clock;

@@ -10,14 +10,14 @@ use satip_world::Outlet;
 use std::alloc::Global;
 use std::marker::Model;
 
-// A datagram, and where it went.
+// A datagram, and its address.
 #[derive(Drop)]
 struct Mail {
     to: Address,
     bytes: Vec<u8>,
 }
 
-/// An outlet that keeps what is sent.
+/// An outlet that keeps the datagrams sent.
 #[derive(Drop)]
 pub struct MemoryOutlet {
     alloc: Global,
@@ -44,7 +44,7 @@ impl Model for MemoryOutlet {
 impl MemoryOutlet {
     ghost use Rattle.satip_world.specs.Outboxes.{fresh_outbox};
 
-    /// An empty outlet. The sends with a number, from 1, in `failing` fail.
+    /// Creates an empty outlet. The sends with a number, from 1, in `failing` fail.
     pub fn make(alloc: Global, failing: &[u64]) -> Result<MemoryOutlet, Want>
         ensures ok { IfOk result (λ outlet. outlet ≡ fresh_outbox) }
     {
@@ -57,14 +57,14 @@ impl MemoryOutlet {
         })
     }
 
-    /// How many datagrams were sent.
+    /// Returns the count of datagrams sent.
     pub fn count(&self) -> usize
         ensures count { result ≡ length self.now.sent }
     {
         self.sent.len()
     }
 
-    /// The datagram at a place, from 0, and where it went; `None` where fewer were sent.
+    /// Returns the datagram at a place, from 0, and its address, or None if fewer were sent.
     pub fn datagram(&self, place: usize) -> Option<(Address, &[u8])>
         ensures datagram { shown result ≡ slice_get self.now.sent place }
     {
@@ -75,7 +75,7 @@ impl MemoryOutlet {
     }
 }
 
-// Keeps a datagram; `false` where there is no memory for it.
+// Keeps a datagram. Returns false if it is out of memory.
 fn keep(alloc: Global, sent: &mut Vec<Mail>, to: Address, bytes: &[u8]) -> bool
     ensures kept { IsTrue result → map datagram_of sent.new.items
         ≡ map datagram_of sent.old.items ++ record { to = to; bytes = bytes.now } ∷ [] }

@@ -14,7 +14,7 @@ use satip_world::MuxStore;
 use std::alloc::Global;
 use std::marker::Model;
 
-// The recording of a multiplex, and how it is taken.
+// The recording of a multiplex, the sizes of its takes, and which of them fail.
 #[derive(Drop)]
 struct Reel {
     mux: u16,
@@ -89,8 +89,8 @@ impl Model for MemoryStore {
 impl MemoryStore {
     ghost use Rattle.satip_memory.specs.Shelves.{empty_shelf};
 
-    /// A store without recordings. The starts with a number, from 1, in `failing` fail, and so does
-    /// each start of a multiplex without a recording.
+    /// Creates a store without recordings. The starts with a number, from 1, in `failing` fail. So
+    /// does each start of a multiplex without a recording.
     pub fn make(alloc: Global, failing: &[u64]) -> Result<MemoryStore, Want>
         ensures ok { IfOk result (λ store. store ≡ empty_shelf) }
     {
@@ -104,9 +104,9 @@ impl MemoryStore {
         })
     }
 
-    /// Puts in a recording of a multiplex, in place of one that it has. Its takes give at most as
-    /// many bytes as `pieces` has one after the other, and those with a number, from 1, in
-    /// `failing` fail.
+    /// Adds the recording of a multiplex, instead of one that it has. Its takes give at most as
+    /// many bytes as `pieces` says, one after the other. Those with a number, from 1, in `failing`
+    /// fail.
     pub fn add(
         &mut self,
         mux: u16,
@@ -139,14 +139,14 @@ impl MemoryStore {
         }
     }
 
-    /// How many recordings were started and not handed back.
+    /// Returns the count of recordings that were started and not handed back.
     pub fn lent(&self) -> u64
         ensures lent { result ≡ self.now.lent }
     {
         self.lent
     }
 
-    /// The most recordings that were started and not handed back at one time.
+    /// Returns the most recordings that were started and not handed back at one time.
     pub fn peak(&self) -> u64
         ensures peak { result ≡ self.now.peak }
     {
@@ -154,7 +154,8 @@ impl MemoryStore {
     }
 }
 
-// The recording of a multiplex from its beginning; `None` where there is none, or no memory.
+// Opens the recording of a multiplex from its beginning. Returns None if there is none, or if it is
+// out of memory.
 fn open(alloc: Global, reels: &[Reel], mux: u16) -> Option<MemoryRecording>
     ensures started { IfSome result (λ from. IsStarted (Unit {0}) from
         (recording_in (map row_of reels.now) mux)) }

@@ -1,4 +1,4 @@
-//! A source and a sink over memory, which fail when they are told to.
+//! A source and a sink over memory, which fail if the test says so.
 
 ghost use Rattle.std.specs.Prelude.{◌≡◌, ◌≤◌, ◌++◌, IfOk, IsTrue, false};
 
@@ -7,7 +7,7 @@ use satip_base::{Put, Sink, Source, Taken, Want};
 use std::alloc::Global;
 use std::marker::Model;
 
-// How many bytes the calls give at most, one after the other.
+// The most bytes that the calls give, one after the other.
 #[derive(Drop)]
 struct Pieces {
     lengths: Vec<usize>,
@@ -15,7 +15,7 @@ struct Pieces {
 }
 
 impl Pieces {
-    // How many bytes this call gives at most: at least one.
+    // Returns the most bytes of this call: at least one.
     fn next(&mut self) -> usize
         ensures some { 1 ≤ result }
     {
@@ -56,9 +56,9 @@ impl Model for MemorySource {
 impl MemorySource {
     ghost use Rattle.satip_base.specs.Streams.{fresh_feed};
 
-    /// A source of the text. The takes give at most as many bytes as `pieces` has one after the
-    /// other, and at least one, then as many as there is room for. The takes with a number, from 1,
-    /// in `failing` fail.
+    /// Creates a source of the text. The takes give at most as many bytes as `pieces` says, one
+    /// after the other, and at least one. After the last piece they give as many as there is room
+    /// for. The takes with a number, from 1, in `failing` fail.
     pub fn make(
         alloc: Global,
         text: &[u8],
@@ -107,7 +107,7 @@ impl Source for MemorySource {
     }
 }
 
-/// What is sent is kept.
+/// A sink that keeps the bytes sent.
 #[derive(Drop)]
 pub struct MemorySink {
     sent: Vec<u8>,
@@ -127,8 +127,8 @@ impl Model for MemorySink {
 impl MemorySink {
     ghost use Rattle.satip_base.specs.Streams.{fresh_drain};
 
-    /// An empty sink. The puts with a number, from 1, in `failing` fail, and pass `passed` bytes at
-    /// most.
+    /// Creates an empty sink. The puts with a number, from 1, in `failing` fail, and pass `passed`
+    /// bytes at most.
     pub fn make(alloc: Global, failing: &[u64], passed: usize) -> Result<MemorySink, Want>
         ensures ok { IfOk result (λ sink. sink ≡ fresh_drain) }
     {
@@ -140,7 +140,7 @@ impl MemorySink {
         })
     }
 
-    /// The bytes that were sent.
+    /// Returns the bytes that were sent.
     pub fn sent(&self) -> &[u8]
         ensures sent { result.now ≡ self.now.sent }
     {
@@ -148,7 +148,7 @@ impl MemorySink {
     }
 }
 
-// Appends bytes; `false` where there is no memory for them.
+// Appends bytes. Returns false if it is out of memory.
 pub(crate) fn keep(sent: &mut Vec<u8>, bytes: &[u8]) -> bool
     ensures kept { IsTrue result → sent.new.items ≡ sent.old.items ++ bytes.now }
     ensures same { result ≡ false → sent.new.items ≡ sent.old.items }

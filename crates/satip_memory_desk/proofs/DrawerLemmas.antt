@@ -8,9 +8,9 @@ use Rattle.satip_world.specs.Halls.{Hall}
 use Rattle.satip_world.specs.Outboxes.{Outbox}
 use Rattle.satip_world.specs.Recordings.{IsStarted}
 use Rattle.satip_memory.specs.Shelves.{Shelf, recording_in, store_view}
-use Rattle.satip_pump.specs.declared.kits.PumpKit.{PumpKit}
-use Rattle.satip_serve.specs.Views.{PumpView, pump_view}
-use Rattle.satip_serve.specs.declared.kits.Jobs.{Jobs}
+use Rattle.satip_desk.specs.declared.kits.PumpKit.{PumpKit}
+use Rattle.satip_desk.specs.Views.{PumpView, pump_view}
+use Rattle.satip_desk.specs.declared.kits.Jobs.{Jobs}
 use Rattle.satip_memory_desk.specs.declared.desk.Drawer.{Drawer}
 use Rattle.satip_memory_desk.specs.Cabinets.{text_in, text_if}
 use Rattle.satip_memory_desk.specs.Drawers.{row_of, shelf_kit, shelf_view, given_kits, given_view, memory_view}

@@ -1,15 +1,15 @@
--- What a desk over memory shows.
+-- The value of a desk over memory.
 use Rattle.std.specs.Prelude.{ℕ, Bool, true, false, List, [], ◌∷◌, Option, Some, None}
 use Rattle.std.specs.Str.{bytes_eq}
 use Rattle.satip_world.specs.Outboxes.{Outbox}
 use Rattle.satip_world.specs.Dials.{Dial}
 use Rattle.satip_world.specs.Lines.{Line}
-use Rattle.satip_inlet.specs.Inboxes.{Inbox}
+use Rattle.satip_world.specs.Inboxes.{Inbox}
 use Rattle.satip_memory.specs.Shelves.{Shelf}
-use Rattle.satip_serve.specs.Views.{WorkerView, TickView}
-use Rattle.satip_serving.specs.Handed.{Handed, nothing_handed}
+use Rattle.satip_desk.specs.Views.{WorkerView, TickView}
+use Rattle.satip_desk.specs.Handed.{Handed, nothing_handed}
 
--- a pump's kit over memory: its store, and what its outlet was given
+-- a pump's kit over memory: its store, and its outlet
 pub record ShelfKit : Type 0 where
   pub store : Shelf
   pub outbox : Outbox
@@ -20,9 +20,10 @@ pub record GivenKits : Type 0 where
   pub pumps : List ShelfKit
   pub ticker : TickView
 
--- names with the texts of their configurations and which takes of each fail, for how many connections kits are laid,
--- the kits if they were given, what is still to be given to a client and what was, to how many jobs journals are given
--- and to which one was, how many opens are still to fail, and how often the desk failed
+-- a desk over memory. `texts` are names with the texts of their configurations, `failing_takes` the takes of each that fail. `laid` is the number of
+-- connections for which kits are laid, and `given` are the kits once they were given. `wire`, `inlet` and `clock` are still to be given to a client, and
+-- `handed` is what was. `journals` is the number of jobs that get journals, and `journaled` are the jobs that got one. `failing` opens are still to fail, and
+-- `faults` counts the failed calls
 pub record Cabinet : Type 0 where
   pub texts : List (List ℕ × List ℕ)
   pub failing_takes : List (List ℕ)
@@ -37,7 +38,7 @@ pub record Cabinet : Type 0 where
   pub failing : ℕ
   pub faults : ℕ
 
--- no name has a text, and so many opens are to fail
+-- no name has a text, and `failing` opens are to fail
 abbrev pub empty_cabinet : ℕ → Cabinet
 empty_cabinet failing = record {
   texts = [];
@@ -54,7 +55,7 @@ empty_cabinet failing = record {
   faults = 0;
 }
 
--- this text where the test holds, and else another
+-- this text if the test holds, and else another
 abbrev pub text_if : Bool → List ℕ → Option (List ℕ) → Option (List ℕ)
 text_if true text other = Some text
 text_if false text other = other

@@ -5,7 +5,7 @@ ghost use Rattle.satip_base.specs.Streams.{fresh_drain};
 ghost use Rattle.std.specs.Option.{option_copied};
 ghost use Rattle.std.specs.List.{find};
 ghost use Rattle.std.specs.Str.{bytes_eq};
-ghost use Rattle.satip_inlet.specs.Inboxes.{fresh_inbox};
+ghost use Rattle.satip_world.specs.Inboxes.{fresh_inbox};
 ghost use Rattle.satip_world.specs.Lines.{fresh_line};
 ghost use Rattle.satip_world.specs.Recordings.{IsStarted};
 ghost use Rattle.satip_memory_desk.specs.Cabinets.{text_in};
@@ -14,17 +14,16 @@ ghost use Rattle.satip_memory_desk.specs.Drawers.{row_of, AreNewKits, given_view
 use crate::moment::MemoryMoment;
 use satip_base::{Address, Failed, Text, Want};
 use satip_config::Config;
+use satip_desk::{Desk, Jobs, JobsFault};
 use satip_memory::{
     MemoryClock, MemoryConn, MemoryDoors, MemoryInlet, MemoryOutlet, MemoryPacer, MemorySink,
     MemorySource, MemoryStore,
 };
-use satip_serve::Jobs;
-use satip_serving::{Desk, JobsFault};
 use std::alloc::Global;
 use std::marker::Model;
 use std::snapshot::Snapshot;
 
-// A name, the text of its configuration, and which takes of it are to fail.
+// A name, the text of its configuration, and which takes of it fail.
 #[derive(Drop)]
 struct Drawer {
     name: Vec<u8>,
@@ -35,14 +34,14 @@ struct Drawer {
 /// The kits of jobs over memory.
 pub type MemoryJobs = Jobs<MemoryDoors, MemoryOutlet, MemoryPacer, MemoryStore, MemoryClock>;
 
-// Kits whose doors end after so many connections.
+// Kits whose doors end after `accepts` connections.
 #[derive(Drop)]
 struct Laid {
     accepts: u32,
     jobs: MemoryJobs,
 }
 
-// What was given to a client.
+// The devices that were given to a client.
 #[derive(Clone, Copy)]
 struct Lent {
     wire: Option<Address>,
@@ -50,7 +49,7 @@ struct Lent {
     moment: bool,
 }
 
-// To how many jobs journals are given, the put that fails, and the jobs that got one.
+// The number of jobs that get journals, the put that fails, and the jobs that got one.
 #[derive(Drop)]
 struct Journals {
     jobs: u64,
@@ -59,7 +58,7 @@ struct Journals {
     given: Vec<u64>,
 }
 
-/// A desk of given texts, of given kits, of what is given to a client, and of journals.
+/// A desk of given texts, kits, client's devices and journals.
 #[derive(Drop)]
 pub struct MemoryDesk {
     alloc: Global,
@@ -80,7 +79,7 @@ impl Model for MemoryDesk {
     ghost use Rattle.std.specs.Prelude.{map, option_map};
     ghost use Rattle.satip_memory_desk.specs.Drawers.{row_of};
     ghost use Rattle.std.specs.Prelude.{◌≡◌, [], IfSome};
-    ghost use Rattle.satip_inlet.specs.Inboxes.{fresh_inbox};
+    ghost use Rattle.satip_world.specs.Inboxes.{fresh_inbox};
     ghost use Rattle.satip_world.specs.Lines.{fresh_line};
     ghost use Rattle.satip_memory_desk.specs.Drawers.{AreNewKits, given_kits};
 
@@ -109,10 +108,10 @@ impl Model for MemoryDesk {
 
 impl MemoryDesk {
     ghost use Rattle.satip_memory_desk.specs.Cabinets.{empty_cabinet};
-    ghost use Rattle.satip_serving.specs.Handed.{nothing_handed};
+    ghost use Rattle.satip_desk.specs.Handed.{nothing_handed};
 
-    /// A desk without texts. The first `failing` calls fail, and so does each call with a name that
-    /// has no text.
+    /// Creates a desk without texts. The first `failing` calls fail, and so does each call with a
+    /// name that has no text.
     pub fn make(alloc: Global, failing: u64) -> MemoryDesk
         ensures empty { result ≡ empty_cabinet failing }
     {
@@ -140,8 +139,8 @@ impl MemoryDesk {
         }
     }
 
-    /// Puts in what is given to a client. A desk without a connection or an inlet fails where it is
-    /// to give it; one without a clock gives one that shows 0.
+    /// Puts in the devices for a client. A desk without a connection or an inlet fails if it is
+    /// asked for it. One without a clock gives one that shows 0.
     pub fn lend(
         &mut self,
         wire: Option<MemoryConn>,
@@ -159,9 +158,9 @@ impl MemoryDesk {
         self.clock = clock;
     }
 
-    /// Puts in kits with which nothing was done, whose doors end after `accepts` connections. They
-    /// are given for this number alone, and for a configuration with as many workers and front
-    /// ends.
+    /// Lays kits with which nothing was done, whose doors end after `accepts` connections. The desk
+    /// gives them only for this `accepts`, and for a configuration with the same numbers of workers
+    /// and front ends.
     pub fn lay(&mut self, accepts: u32, jobs: MemoryJobs)
         requires new { AreNewKits accepts jobs }
         ensures laid { self.new ≡ record self.old { laid = Some accepts } }
@@ -169,7 +168,7 @@ impl MemoryDesk {
         self.laid = Some(Laid { accepts, jobs });
     }
 
-    /// Lets the jobs below this number have journals. In that of one of them the put with the
+    /// Gives journals to the jobs below `jobs`. In the journal of `failing_job` the put with the
     /// number `failing_put`, from 1, fails and passes five bytes at most.
     pub fn open_journals(&mut self, jobs: u64, failing_job: u64, failing_put: u64)
         ensures opened { self.new ≡ record self.old { journals = jobs } }
@@ -179,7 +178,7 @@ impl MemoryDesk {
         self.journals.failing_put = failing_put;
     }
 
-    // Makes the journal of a job; `None` where there is none, or no memory.
+    // Makes the journal of a job. Returns None if it gets none, or if it is out of memory.
     fn make_journal(&mut self, job: u64) -> Option<MemorySink>
         ensures sink { IfSome result (λ sink. sink ≡ fresh_drain) }
         ensures journaled { MatchOption result (self.new ≡ self.old) (λ _. self.new
@@ -202,7 +201,7 @@ impl MemoryDesk {
         }
     }
 
-    /// Begins anew with its client: nothing counts as given.
+    /// Begins again with its client: no device counts as given.
     pub fn renew(&mut self)
         ensures renewed { self.new ≡ record self.old { handed = nothing_handed } }
     {
@@ -213,7 +212,7 @@ impl MemoryDesk {
         };
     }
 
-    /// Puts in the text of a name, in place of one that it has. Its takes with a number, from 1, in
+    /// Adds the text of a name, instead of one that it has. Its takes with a number, from 1, in
     /// `failing` fail.
     pub fn add(&mut self, name: &str, text: &[u8], failing: &[u64]) -> Result<(), Want>
         ensures added { OnOk result (self.new.texts ≡ (name.now, text.now) ∷ self.old.texts) }
@@ -250,7 +249,8 @@ impl MemoryDesk {
     }
 }
 
-// The text of a name from its beginning; `None` where there is none, or no memory.
+// Opens the text of a name from its beginning. Returns None if there is none, or if it is out of
+// memory.
 fn open(alloc: Global, drawers: &[Drawer], name: &[u8]) -> Option<MemorySource>
     ensures started { IfSome result (λ source. IsStarted (Unit {0}) source
         (text_in (map row_of drawers.now) name.now)) }
@@ -272,7 +272,8 @@ fn find_drawer<'d>(drawers: &'d [Drawer], name: &[u8]) -> Option<&'d Drawer>
     drawers.iter().find(|drawer| drawer.name.as_slice() == name)
 }
 
-// Takes out the kits that were laid, if they are as many and for so many connections.
+// Takes out the kits that were laid. Returns None, and drops them, if they are for another
+// `accepts` or other numbers of workers and pumps.
 fn take_kits(
     laid: &mut Option<Laid>,
     accepts: u32,

@@ -6,7 +6,7 @@ use satip_memory::MemoryClock;
 use satip_world::Clock;
 use std::marker::Model;
 
-/// The clock that was put in, or one that shows 0 and tells no readings.
+/// The clock that was put in, or one that shows 0 and exposes no readings.
 #[derive(Drop)]
 pub struct MemoryMoment {
     clock: Option<MemoryClock>,
@@ -24,7 +24,7 @@ impl Model for MemoryMoment {
 impl MemoryMoment {
     ghost use Rattle.satip_memory_desk.specs.Moments.{dial_in};
 
-    /// A clock of a desk.
+    /// Creates the clock of a desk.
     pub fn new(clock: Option<MemoryClock>) -> MemoryMoment
         ensures dial { result ≡ dial_in clock }
     {

@@ -3,9 +3,9 @@
 use crate::framed::framer_at;
 use satip_base::Ports;
 use satip_base::limits::REPLY_BYTES;
-use satip_channels::{ChannelReply, interleaved, read_request, request};
 use satip_frame::Break;
 use satip_rtsp::Request;
+use satip_rtsp_interleaved::{ChannelReply, interleaved, read_request, request};
 use std::alloc::Global;
 use std::test::Fail;
 

@@ -1,6 +1,5 @@
 //! Requests as texts, and replies to them.
-use satip_reply::{ReplyRead, read_reply};
-use satip_requests::{Grant, Page, ReplyFault, accept, grant_of};
+use satip_client::{Grant, Page, ReplyFault, ReplyRead, accept, grant_of, read_reply};
 use std::alloc::Global;
 
 const ADDRESS: &[u8; 15] = b"127.0.0.1:18554";

@@ -2,8 +2,7 @@
 
 ghost use Rattle.std.specs.Prelude.{◌≡◌, None, IfOk};
 
-use satip_frame::{Break, Framer};
-use satip_hearing::{Asks, Next, Piece, next_asked};
+use satip_frame::{Asks, Break, Framer, Next, Piece, next_asked};
 use satip_http::HttpRequest;
 use satip_rtsp::{Method, Refusal, Request};
 use std::alloc::Global;

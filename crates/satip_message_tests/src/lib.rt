@@ -1,5 +1,4 @@
-//! Messages, requests, replies, reports and descriptions by example, those of a client too. It has
-//! nothing but tests.
+//! Tests messages, requests, replies, reports and descriptions by example.
 #![tactic(auto)]
 
 #[cfg(test)]

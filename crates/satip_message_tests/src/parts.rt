@@ -1,10 +1,10 @@
 //! Frames and messages in pieces.
 ghost use Rattle.std.specs.Prelude.{◌≡◌, [], ◌∷◌, ◌++◌, codes, replicate};
-ghost use Rattle.satip_parts.specs.Frames.{Between, frame, behind};
+ghost use Rattle.satip_rtsp_interleaved.specs.Frames.{Between, frame, behind};
 
 use satip_fixtures::texts::OPTIONS;
 use satip_frame::Step;
-use satip_parts::Parter;
+use satip_rtsp_interleaved::Parter;
 use std::test::Fail;
 
 const FRAME_AND_OPTIONS: &[u8] =

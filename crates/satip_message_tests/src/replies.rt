@@ -1,5 +1,5 @@
 //! Replies, and beginnings of them.
-use satip_reply::{ReplyRead, read_reply};
+use satip_client::{ReplyRead, read_reply};
 use std::test::Fail;
 
 const SETUP: &[u8; 85] =

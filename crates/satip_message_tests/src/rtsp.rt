@@ -130,7 +130,7 @@ fn other_targets_are_refused(rt: HostRuntime) -> Result<(), Fail> {
 }
 
 // No method's target is the empty text.
-#[tactic(auto, unfolding(satip_rtsp::specs::Targets::target_of, satip_rtsp::specs::Targets::stream_in, satip_rtsp::specs::Targets::after_front))]
+#[tactic(auto, unfolding(satip_rtsp::specs::Targets::target_of, satip_rtsp::specs::Targets::stream_in, satip_frame::specs::Origins::after_front))]
 fn no_target_is_empty()
     ensures of_a_stream { target_of false [] ≡ None }
     ensures of_the_server { target_of true [] ≡ None }

@@ -1,8 +1,8 @@
 //! Datagrams that come out of order.
 ghost use Rattle.std.specs.Prelude.{◌≡◌, true, false};
-ghost use Rattle.satip_catch.specs.Catching.{Rests};
+ghost use Rattle.satip_rtp_receiver.specs.Catching.{Rests};
 
-use satip_catch::{Catcher, Item, read_rtp};
+use satip_rtp_receiver::{Catcher, Item, read_rtp};
 use std::test::Fail;
 
 const SOURCE: u32 = 0x11223344;

@@ -1,12 +1,12 @@
 //! Frames that wait in lanes, worked out by hand.
 
 ghost use Rattle.std.specs.Prelude.{◌≡◌, ℕ, ◌∷◌, [], take, replicate, Some};
-ghost use Rattle.satip_lanes.specs.Calls.{Enter, Put, Drain, Leave, after, drain_after};
-ghost use Rattle.satip_lanes.specs.Frames.{frame};
-ghost use Rattle.satip_lanes.specs.Lanes.{entered_number, no_lanes};
+ghost use Rattle.satip_interleave.specs.Calls.{Enter, Put, Drain, Leave, after, drain_after};
+ghost use Rattle.satip_interleave.specs.Frames.{frame};
+ghost use Rattle.satip_interleave.specs.Lanes.{entered_number, no_lanes};
 
 use satip_base::{Address, Out};
-use satip_lanes::{Drained, Lanes};
+use satip_interleave::{Drained, Lanes};
 use std::alloc::Global;
 use std::test::Fail;
 

@@ -1,5 +1,4 @@
-//! The path of packets by example: datagrams and their catching, which session gets which packet,
-//! and the lanes of a tunnel. It has nothing but tests.
+//! Tests the path of packets: recordings in pieces, datagrams, catching, selection and lanes.
 #![tactic(auto)]
 
 #[cfg(test)]

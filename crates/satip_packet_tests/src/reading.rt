@@ -1,7 +1,7 @@
 //! Datagrams that are read, and datagrams that aren't.
 use satip_base::{Address, Out};
-use satip_catch::read_rtp;
 use satip_rtp::Packer;
+use satip_rtp_receiver::read_rtp;
 use satip_ts::Packet;
 use std::test::Fail;
 

@@ -11,12 +11,12 @@ IsRising low (x ∷ xs) = (low ≤ x) × IsRising (suc x) xs
 abbrev pub has_number : List ℕ → ℕ → Bool
 has_number xs n = list_any (λ x. x == n) xs
 
--- a rising list with one more number, unless it is there
+-- a rising list with one more number, unless it has it already
 abbrev pub put : ℕ → List ℕ → List ℕ
 put n [] = n ∷ []
 put n (x ∷ xs) = if nat_lt n x then n ∷ x ∷ xs else if nat_lt x n then x ∷ put n xs else x ∷ xs
 
--- a rising list with the numbers of another list, too
+-- a rising list with the numbers of another list added
 abbrev pub put_all : List ℕ → List ℕ → List ℕ
 put_all xs ns = fold (λ ys n. put n ys) xs ns
 
@@ -24,7 +24,7 @@ put_all xs ns = fold (λ ys n. put n ys) xs ns
 abbrev pub without : List ℕ → List ℕ → List ℕ
 without xs ns = filter (λ x. not (has_number ns x)) xs
 
--- a number that a list has, so that putting it there changes nothing
+-- a number that a list has: putting it there changes nothing
 pub record IsThere (xs : List ℕ) (n : ℕ) : Type 0 where
   pub had : has_number xs n ≡ true
   pub same : put n xs ≡ xs

@@ -1,4 +1,4 @@
--- PIDs as they are printed.
+-- The texts of PIDs.
 use Rattle.std.specs.Prelude.{ℕ, List, [], ◌∷◌, map, decimal, codes}
 use Rattle.std.specs.List.{join_with_byte}
 use Rattle.satip_pids.specs.Pids.{Pids, Every, Only}
@@ -12,7 +12,7 @@ listed_text (pid ∷ pids) = join_with_byte 44 (map decimal (pid ∷ pids))
 abbrev pub next_text : ℕ → List ℕ
 next_text pid = 44 ∷ decimal pid
 
--- a set in words or numbers
+-- the text of a set: `all`, `none` or numbers
 unfoldable pub pids_text : Pids → List ℕ
 pids_text Every = codes "all"
 pids_text (Only pids) = listed_text pids

@@ -1,17 +1,16 @@
-//! Sets of numbers below 8192 as bits: bit `n % 64` of word `n / 64` tells whether `n` is in the
-//! set.
+//! Sets of numbers below 8192 as bits: bit `n % 64` of word `n / 64` is 1 if `n` is in the set.
 
 ghost use Rattle.std.specs.Prelude.{◌≡◌, ◌+◌, ◌*◌, ◌<◌, ◌≤◌, ◌==◌, ◌||◌, ◌&&◌, not, ℕ, [], ◌∷◌, length, All, IfSome, MatchOption};
 ghost use Rattle.satip_pids.specs.Rising.{put, put_all, without};
 ghost use Rattle.satip_pids.specs.Bits.{has_bit, members, IsListed, HasNoneFrom, IsNextFrom};
 
-/// So many words hold a bit for each PID.
+/// The number of words that hold a bit for each PID.
 pub const WORDS: usize = 128;
 
-/// So many PIDs may be listed.
+/// The most PIDs that a set may list.
 const LISTED: usize = 256;
 
-/// Whether a PID's bit is set.
+/// Returns whether a PID's bit is set.
 pub fn has_bit(words: &[u64], pid: u16) -> bool
     requires size { length words.now ≡ 128 }
     requires below { pid < 8192 }
@@ -36,7 +35,7 @@ fn clear_bit(words: &mut [u64], pid: u16)
     words[pid as usize / 64] &= !(1 << (pid % 64));
 }
 
-// Adds a PID to so many, and answers how many they are then. None where 256 others are there.
+// Adds a PID to a set of `count`, and returns the new count. None if the set has 256 others.
 fn add_one(words: &mut [u64], count: usize, pid: u16) -> Option<usize>
     requires size { length words.old ≡ 128 }
     requires below { pid < 8192 }
@@ -55,8 +54,8 @@ fn add_one(words: &mut [u64], count: usize, pid: u16) -> Option<usize>
     Some(count + 1)
 }
 
-/// Adds the PIDs of a list to so many, and answers how many they are then. None where they would be
-/// more than 256, and then the words are to be dropped.
+/// Adds the PIDs of a list to a set of `count`, and returns the new count. None if the new count
+/// would be over 256; the caller then drops the words.
 pub fn add_bits(words: &mut [u64], count: usize, list: &[u16]) -> Option<usize>
     requires size { length words.old ≡ 128 }
     requires below { All (λ pid. pid < 8192) list.now }
@@ -75,7 +74,7 @@ pub fn add_bits(words: &mut [u64], count: usize, list: &[u16]) -> Option<usize>
     Some(total)
 }
 
-// Takes a PID out of so many.
+// Removes a PID from a set of `count`, and returns the new count.
 fn remove_one(words: &mut [u64], count: usize, pid: u16) -> usize
     requires size { length words.old ≡ 128 }
     requires below { pid < 8192 }
@@ -90,7 +89,7 @@ fn remove_one(words: &mut [u64], count: usize, pid: u16) -> usize
     count - 1
 }
 
-/// Takes the PIDs of a list out of so many, and answers how many are left.
+/// Removes the PIDs of a list from a set of `count`, and returns the new count.
 pub fn remove_bits(words: &mut [u64], count: usize, list: &[u16]) -> usize
     requires size { length words.old ≡ 128 }
     requires below { All (λ pid. pid < 8192) list.now }
@@ -105,7 +104,7 @@ pub fn remove_bits(words: &mut [u64], count: usize, list: &[u16]) -> usize
     total
 }
 
-/// The least PID from a number on whose bit is set.
+/// Returns the least PID at or above `from` whose bit is set.
 pub fn next_bit(words: &[u64], from: u16) -> Option<u16>
     requires size { length words.now ≡ 128 }
     requires within { from ≤ 8192 }
@@ -122,7 +121,7 @@ pub fn next_bit(words: &[u64], from: u16) -> Option<u16>
     first_bit(words, at + 1)
 }
 
-// The least PID whose bit is set in the words from a place on.
+// Returns the least PID whose bit is set in the words at or after `place`.
 fn first_bit(words: &[u64], place: usize) -> Option<u16>
     requires size { length words.now ≡ 128 }
     requires within { place ≤ 128 }

@@ -1,10 +1,10 @@
-//! Why a change of a set is refused.
+//! Faults of changes of a set.
 
-/// Why a PID set stays as it was.
+/// The fault of a change, which leaves the PID set unchanged.
 #[derive(Clone, Copy, Debug, PartialEq, Eq)]
 pub enum PidFault {
-    /// More than 256 distinct PIDs would be listed.
+    /// The set would list more than 256 distinct PIDs.
     TooMany,
-    /// PIDs were to be removed from the set of all.
+    /// PIDs can't be removed from the set of all.
     UnderAll,
 }

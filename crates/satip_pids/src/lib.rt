@@ -1,5 +1,6 @@
-//! Packet identifiers (PIDs) of transport packets: lists of them as they are asked for, and the
-//! sets of them that streams select.
+//! Reads PID lists and keeps the PID sets that streams select (ISO 13818-1).
+//! Contract: a set is all PIDs or at most 256 rising numbers; `set`, `add` and `remove` are their
+//! definitions, and each fault has its cause.
 #![tactic(auto)]
 
 mod bits;

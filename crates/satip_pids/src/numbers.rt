@@ -4,7 +4,7 @@ ghost use Rattle.std.specs.Prelude.{◌≡◌, ◌<◌, ◌↔◌, [], ◌∷◌
 
 use std::marker::Model;
 
-/// Up to `ROOM` numbers, kept at the front of an array; the places behind them hold zero.
+/// Up to `ROOM` numbers, at the start of an array; the other places hold zero.
 #[derive(Clone, Copy, Debug, PartialEq, Eq)]
 pub struct Numbers<const ROOM: usize> {
     places: [u16; ROOM],
@@ -33,7 +33,7 @@ impl<const ROOM: usize> Model for Numbers<ROOM> {
 }
 
 impl<const ROOM: usize> Numbers<ROOM> {
-    /// The empty list.
+    /// Returns the empty list.
     pub fn new() -> Self
         ensures empty { result ≡ [] }
     {
@@ -43,7 +43,7 @@ impl<const ROOM: usize> Numbers<ROOM> {
         }
     }
 
-    /// The numbers, in the order in which they were pushed.
+    /// Returns the numbers, in the order in which they were pushed.
     pub fn as_slice(&self) -> &[u16]
         ensures numbers { result.now ≡ self.now }
         ensures within { length self.now ≤ ROOM }
@@ -51,7 +51,7 @@ impl<const ROOM: usize> Numbers<ROOM> {
         &self.places[..self.count]
     }
 
-    /// Whether there are `ROOM` numbers.
+    /// Returns whether there are `ROOM` numbers.
     pub fn is_full(&self) -> bool
         ensures full { IsTrue result ↔ (length self.now ≡ ROOM) }
         ensures within { length self.now ≤ ROOM }

@@ -1,4 +1,4 @@
-//! PIDs as a request lists them.
+//! PIDs in the order of a request.
 
 ghost use Rattle.std.specs.Prelude.{◌≡◌, ◌<◌, ◌≤◌, ◌^◌, ◌↔◌, ℕ, List, [], ◌∷◌, ◌++◌, length, All, IsTrue};
 ghost use Rattle.std.specs.Bool.{MatchBool};
@@ -7,8 +7,8 @@ ghost use Rattle.satip_pids.specs.Pids.{IsPidList};
 use crate::numbers::Numbers;
 use std::marker::Model;
 
-/// A list of up to 512 PIDs, each below 8192 (a PID has 13 bits: ISO 13818-1, 2.4.3.2), in the
-/// order in which they were pushed.
+/// A list of up to 512 PIDs, each below 8192, in the order in which they were pushed. A PID has 13
+/// bits (ISO 13818-1, 2.4.3.2).
 #[derive(Clone, Copy, Debug, PartialEq, Eq)]
 pub struct PidList {
     numbers: Numbers<512>,
@@ -28,7 +28,7 @@ impl Model for PidList {
 }
 
 impl PidList {
-    /// The empty list.
+    /// Returns the empty list.
     pub fn new() -> Self
         ensures empty { result ≡ [] }
     {
@@ -37,7 +37,7 @@ impl PidList {
         }
     }
 
-    /// Appends a PID; `false` where 512 are there already, and then nothing is changed.
+    /// Appends a PID; returns `false` and changes nothing if 512 are there already.
     pub fn push(&mut self, pid: u16) -> bool
         requires below { pid < 8192 }
         ensures full { MatchBool result (length self.old < 512) (length self.old ≡ 512) }
@@ -50,7 +50,7 @@ impl PidList {
         true
     }
 
-    /// The PIDs, in the order in which they were pushed.
+    /// Returns the PIDs, in the order in which they were pushed.
     pub fn as_slice(&self) -> &[u16]
         ensures pids { result.now ≡ self.now }
         ensures limits { IsPidList result.now }

@@ -13,11 +13,11 @@ use crate::texts::print_listed;
 use satip_base::Strip;
 use std::marker::Model;
 
-/// So many PIDs are set where all are.
+/// The count of set bits if all PIDs are selected.
 const EVERY: usize = 8192;
 
-/// All PIDs, or a set of up to 256 of them, each below 8192. It takes no memory: a bit for each
-/// PID, and how many are set.
+/// All PIDs, or a set of up to 256 of them, each below 8192. It has a bit for each PID and a count,
+/// and allocates no memory.
 #[derive(Debug, Drop)]
 pub struct PidSet {
     words: [u64; WORDS],
@@ -36,7 +36,7 @@ impl Model for PidSet {
 }
 
 impl PidSet {
-    /// The empty set.
+    /// Returns the empty set.
     pub fn new() -> Self
         ensures empty { result ≡ Only [] }
     {
@@ -46,7 +46,7 @@ impl PidSet {
         }
     }
 
-    /// The same set once more.
+    /// Returns a copy of the set.
     pub fn copy(&self) -> PidSet
         ensures same { result ≡ self.now }
     {
@@ -56,7 +56,7 @@ impl PidSet {
         }
     }
 
-    /// Selects what another set does, and no other PID.
+    /// Selects the same PIDs as another set.
     pub fn copy_from(&mut self, other: &PidSet)
         ensures same { self.new ≡ other.now }
     {
@@ -72,7 +72,7 @@ impl PidSet {
         self.count = EVERY;
     }
 
-    /// Selects the listed PIDs and no other.
+    /// Selects the listed PIDs and no other. `TooMany` if they are more than 256 distinct ones.
     pub fn set(&mut self, list: &[u16]) -> Result<(), PidFault>
         requires below { All (λ pid. pid < 8192) list.now }
         ensures exact { MatchResult result (λ done. set_pids list.now ≡ Ok self.new)
@@ -92,7 +92,8 @@ impl PidSet {
         Ok(())
     }
 
-    /// Selects the listed PIDs too; the set of all stays as it is.
+    /// Adds the listed PIDs; the set of all stays as it is. `TooMany` if more than 256 distinct
+    /// ones result.
     pub fn add(&mut self, list: &[u16]) -> Result<(), PidFault>
         requires below { All (λ pid. pid < 8192) list.now }
         ensures exact { MatchResult result (λ done. add_pids self.old list.now ≡ Ok self.new)
@@ -116,7 +117,7 @@ impl PidSet {
         Ok(())
     }
 
-    /// Selects the listed PIDs no longer, which the set of all refuses.
+    /// Removes the listed PIDs. `UnderAll` if the set selects all PIDs.
     pub fn remove(&mut self, list: &[u16]) -> Result<(), PidFault>
         requires below { All (λ pid. pid < 8192) list.now }
         ensures exact { MatchResult result (λ done. remove_pids self.old list.now ≡ Ok self.new)
@@ -134,7 +135,7 @@ impl PidSet {
         Ok(())
     }
 
-    /// Whether the set selects a PID.
+    /// Returns whether the set selects a PID.
     pub fn has(&self, pid: u16) -> bool
         requires below { pid < 8192 }
         ensures selected { result ≡ has_pid self.now pid }
@@ -143,7 +144,7 @@ impl PidSet {
         has_bit(&self.words, pid)
     }
 
-    /// Bit i of a word is set where the PID `64 * place + i` is selected.
+    /// Returns 64 bits of the set: bit i is 1 if the PID `64 * place + i` is selected.
     pub fn word(&self, place: usize) -> u64
         requires within { place < 128 }
         ensures bits { (i : ℕ) → i < 64 → bit_at result i

@@ -1,4 +1,4 @@
-//! PIDs as they are printed.
+//! The texts of PIDs.
 
 ghost use Rattle.std.specs.Prelude.{◌≡◌, ◌<◌, ◌≤◌, ◌+◌, ◌*◌, length, All};
 ghost use Rattle.std.specs.List.{flat_map};
@@ -9,7 +9,7 @@ ghost use Rattle.satip_pids.specs.Texts.{listed_text, next_text};
 use crate::bits::next_bit;
 use satip_base::Strip;
 
-/// Prints the PIDs whose bits are set, with commas between them, or `none`.
+/// Prints the PIDs whose bits are set in rising order, with commas between them, or `none`.
 #[tactic(auto, using(satip_base::proofs::NumberLemmas::digit_bounds))]
 pub fn print_listed(words: &[u64], strip: &mut Strip)
     requires size { length words.now ≡ 128 }
@@ -26,7 +26,7 @@ pub fn print_listed(words: &[u64], strip: &mut Strip)
     print_more(words, first + 1, strip);
 }
 
-// Prints the PIDs from a number on with a comma before each.
+// Prints the PIDs at or above `first`, each after a comma.
 #[tactic(auto, using(crate::proofs::PidTexts::steps))]
 fn print_more(words: &[u64], first: u16, strip: &mut Strip)
     requires size { length words.now ≡ 128 }

@@ -1,6 +1,6 @@
 -- The proofs of the laws.
 use Rattle.std.proofs.Common.{List, [], ◌∷◌, ◌++◌, refl}
-use Rattle.satip_history.specs.Lists.{Each}
+use Rattle.satip_base.specs.Lists.{Each}
 use Rattle.satip_plain.specs.Laws.{RefusedChangesNothing, RefusedGetChangesNothing, StaleChangesNothing, GoneChangesNothing, EmptyOnlyHears, PrefixIsLegal}
 use Rattle.satip_plain.specs.Types.{Config}
 use Rattle.satip_plain.specs.State.{State}

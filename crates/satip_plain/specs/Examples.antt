@@ -1,4 +1,4 @@
--- A small server, its clients and their requests, for worked runs.
+-- A small server, its clients and their requests, for worked examples.
 use Rattle.std.specs.Prelude.{codes, ℕ, ◌+◌, ◌/◌, ◌%◌, ◌==◌, if◌then◌else◌, flat_map, true, false, List, [], ◌∷◌, map, length, replicate, option_and_then, Option, None, Some, Bool}
 use Rattle.satip_query.specs.declared.queries.PidsGiven.TheVariants.{All as AllPids, List as ThesePids}
 use Rattle.satip_rtsp.specs.declared.requests.Method.TheVariants.{Options, Setup, Play, Teardown}
@@ -48,7 +48,7 @@ config = record {
       ∷ record { src = 1; freq = 12402000; pol = V; msys = Dvbs; sr = 27500 } ∷ [];
 }
 
--- tunings that are asked for: the first multiplex with all its keys, the second, and one that there is no multiplex for
+-- requested tunings: the first multiplex with all keys, the second, and one without a multiplex
 abbrev pub to_first : Change
 to_first = record {
   fe = None;
@@ -92,7 +92,7 @@ first_query = record (with_change to_first) { pids = ThesePids (0 ∷ 16 ∷ 17 
 abbrev pub added_pids : List ℕ → Query
 added_pids pids = record new_query { addpids = Some pids }
 
--- the second front end is wanted
+-- a query for the second front end
 abbrev pub wanted_second : Query
 wanted_second = with_change (record to_first { fe = Some 2 })
 
@@ -104,7 +104,7 @@ without_pids = record first_query { pids = AllPids; delpids = Some (16 ∷ []) }
 abbrev pub greatest_pid : Query
 greatest_pid = record first_query { pids = ThesePids (8191 ∷ []) }
 
--- as many PIDs, from 0 on
+-- n PIDs, from 0 on
 abbrev pub listed_pids : ℕ → Query
 listed_pids n = record new_query { pids = ThesePids (range_with_len 0 n) }
 
@@ -161,7 +161,7 @@ get_second = Got one draw_one (record { refusal = None; query = record (with_cha
 abbrev pub options_in : SessionId → Event
 options_in id = Asked one draw_one (record request { session = Named id })
 
--- a SETUP whose query names a PID above it
+-- a SETUP whose query names a PID above the greatest
 abbrev pub setup_above : Event
 setup_above = Asked one draw_one (record request { method = Setup; refusal = Some (QueryAt (Range Pids)) })
 
@@ -175,14 +175,14 @@ moved_setup = Asked two draw_one (record request {
   ports = Some (ports 1600);
 })
 
--- a SETUP in the first session that names no stream, and one that asks for no ports that will do
+-- a SETUP in the first session that names no stream, and one without usable ports
 abbrev pub setup_without_stream : Event
 setup_without_stream = Asked one draw_one (record request { method = Setup; session = Named (id_of 1 10); query = added_pids (18 ∷ []); ports = Some (ports 1400) })
 
 abbrev pub setup_without_ports : Event
 setup_without_ports = Asked one draw_one (record request { method = Setup; stream = Some 1; session = Named (id_of 1 10) })
 
--- a packet of this PID
+-- a packet with this PID
 abbrev pub packet_of : ℕ → List ℕ
 packet_of pid = 71 ∷ pid / 256 ∷ pid % 256 ∷ replicate 185 0
 
@@ -197,7 +197,7 @@ packets n pid = replicate n (packet pid)
 
 -- runs
 
--- an event, the state that it met, and what it did
+-- an event, the state before it, and its outcome
 pub record Ran : Type 0 where
   pub met : State
   pub event : Event
@@ -210,7 +210,7 @@ run_from st (e ∷ es) = record { met = st; event = e; outcome = step config st 
 abbrev pub run : List Event → List Ran
 run es = run_from (opening (record { config = config; start = 0 })) es
 
--- a datagram in short: its port, and of RTP the number, the clock and how many packets it has
+-- a datagram in short: its port; of RTP also the number, the clock and the count of packets
 pub data Short : Type 0 where
   Media : ℕ → ℕ → ℕ → ℕ → Short
   Told : ℕ → Short
@@ -219,13 +219,13 @@ abbrev pub in_short : Sent → Short
 in_short (Rtp id to number clock ssrc sent) = Media to.port number clock (length sent)
 in_short (Report id view sender) = Told sender.to.port
 
--- what the last event sent
+-- the datagrams of the last event
 abbrev pub sent_last : List Ran → List Short
 sent_last [] = []
 sent_last (r ∷ []) = map in_short r.outcome.sent
 sent_last (r ∷ q ∷ rs) = sent_last (q ∷ rs)
 
--- the state in the end
+-- the final state
 abbrev pub state_last : List Ran → State
 state_last [] = opening (record { config = config; start = 0 })
 state_last (r ∷ []) = r.outcome.state
@@ -277,26 +277,26 @@ abbrev pub numbers_in : PidValue → List ℕ
 numbers_in Every = []
 numbers_in (Only pids) = pids
 
--- the PIDs of the streams in the end
+-- the PIDs of the streams in the final state
 abbrev pub kept_pids : List Ran → List ℕ
 kept_pids rs = flat_map (λ t. numbers_in t.pids) (state_last rs).streams
 
--- an HTTP session on the first front end that has so many packets in its queue
+-- a session with n packets in its queue; then the state with such an HTTP session on the first front end
 abbrev pub filled : ℕ → Session → Session
 filled n s = record s { picked = replicate n (packet_of 400) }
 
 abbrev pub queued : ℕ → State
 queued n = let st = state_last (run (get_second ∷ [])) in record st { sessions = map (filled n) st.sessions }
 
--- how many packets its sessions hold after one more
+-- the count of packets that its sessions hold after one more
 abbrev pub held_after_one_more : ℕ → List ℕ
 held_after_one_more n = map (λ s. length (held s)) (step config (queued n) (packet_on 1 1 400)).state.sessions
 
--- what a pull then gives
+-- the count of bytes that a pull then gives
 abbrev pub pulled_first : ℕ → ℕ
 pulled_first n = length (step config (queued n) (Pull (id_of 1 10))).reply
 
--- what is told of a living session, by the state or by the readings
+-- the summary of a living session, from the state or from the readings
 pub record Account : Type 0 where
   pub count : ℕ
   pub stream : ℕ
@@ -326,7 +326,7 @@ told_by_readings g m = record {
   packets = length (g.selected m.id);
 }
 
--- the entries of a run by caller 0
+-- the entry of an event of a run, by caller 0
 abbrev pub entry_of : Ran → Item
 entry_of r = record {
   caller = 0;
@@ -343,7 +343,7 @@ readings_tell rs =
     let g = readings (record { config = config; start = 0 }) (map entry_of rs) in
     map (told_by_readings g) (living g)
 
--- the description of all streams in the end
+-- the description of all streams in the final state
 abbrev pub description_last : List Ran → List ℕ
 description_last rs = description config (state_last rs) None
 

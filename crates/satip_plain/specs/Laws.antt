@@ -10,12 +10,12 @@ use Rattle.satip_plain.specs.Refusals.{Refused, decide, decide_get}
 use Rattle.satip_plain.specs.Steps.{Outcome, step, heard_by, hear, is_current}
 use Rattle.satip_plain.specs.Histories.{Item, Legal}
 
--- what an event leaves and sends, where it does nothing but leave this state
+-- the outcome leaves this state and sends nothing
 pub record Leaves (o : Outcome) (st : State) : Type 0 where
   pub state : o.state ≡ st
   pub sent : o.sent ≡ []
 
--- a refused request leaves the state as it was, but that its session was heard of where the message itself is right
+-- a refused request leaves the state as it was, except its session's last activity if the message itself is well-formed
 abbrev pub RefusedChangesNothing : Type 0
 RefusedChangesNothing =
     (c : Config) (st : State) (peer : Peer) (draw : Draw) (r : Request) (refused : Refused) → decide c st r ≡ Some refused
@@ -33,22 +33,22 @@ StaleChangesNothing =
     (c : Config) (st : State) (front tune : ℕ) (packet : List ℕ) → is_current st front tune ≡ false
     → Leaves (step c st (Packet front tune packet)) st
 
--- a pull or a close of a session that doesn't live leaves the state as it was
+-- a pull or a close leaves the state as it was if no HTTP session has that id
 abbrev pub GoneChangesNothing : Type 0
 GoneChangesNothing =
     (c : Config) (st : State) (id : SessionId) → http_session st id ≡ None
     → Leaves (step c st (Pull id)) st × Leaves (step c st (Close id)) st
 
--- a pull of an empty queue leaves the state as it was, but that its session was heard of
+-- a pull of an empty queue leaves the state as it was, except its session's last activity
 abbrev pub EmptyOnlyHears : Type 0
 EmptyOnlyHears =
     (c : Config) (st : State) (id : SessionId) (s : Session) → http_session st id ≡ Some s → held s ≡ []
     → Leaves (step c st (Pull id)) (hear s.id st)
 
--- each beginning of a legal history is legal
+-- each prefix of a legal history is legal
 abbrev pub PrefixIsLegal : Type 0
 PrefixIsLegal = (c : Setting) (h k : List Item) → Legal c (h ++ k) → Legal c h
 
--- the comparison of tunings is equality
+-- tunings compare as equal exactly if they are equal
 abbrev pub TuningEqIsEquality : Type 0
 TuningEqIsEquality = (a b : Tuning) → Decides (tuning_eq a b) (a ≡ b)

@@ -14,3 +14,6 @@ pub mod Pumping
 pub mod Single
 pub mod Examples
 pub mod Numbering
+pub mod Suits
+pub mod Known
+pub mod Calls

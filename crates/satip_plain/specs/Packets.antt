@@ -1,4 +1,4 @@
--- What a history sent to a session: the packets in its datagrams.
+-- The packets that a history sent to a session in its datagrams.
 use Rattle.std.specs.Prelude.{ℕ, List, [], ◌∷◌, ◌++◌, flat_map, if◌then◌else◌}
 use Rattle.satip_plain.specs.Types.{SessionId, Config}
 use Rattle.satip_plain.specs.declared.setting.Setting.{Setting}
@@ -7,12 +7,12 @@ use Rattle.satip_plain.specs.Sending.{Sent, Rtp, Report}
 use Rattle.satip_plain.specs.Steps.{step}
 use Rattle.satip_plain.specs.Histories.{Item, opening}
 
--- the transport packets inside a datagram that is the session's
+-- the transport packets in a datagram, if it is an RTP datagram of the session
 abbrev pub packets_for : SessionId → Sent → List (List ℕ)
 packets_for s (Rtp id to number clock ssrc packets) = if same_id id s then packets else []
 packets_for s (Report id view sender) = []
 
--- all that the entries sent, in order
+-- the datagrams of the entries, in order
 abbrev pub sent_from : Config → State → List Item → List Sent
 sent_from c st [] = []
 sent_from c st (e ∷ es) = (step c st e.event).sent ++ sent_from c (step c st e.event).state es

@@ -1,4 +1,4 @@
--- What a pump does: it asks, and feeds the packets of recordings.
+-- The events of a pump: it asks, and feeds the packets of recordings.
 use Rattle.std.specs.Prelude.{◌≡◌, ◌==◌, ℕ, ◌+◌, ◌⊎◌, if◌then◌else◌, List, [], ◌∷◌, Option, Some, None, option_map}
 use Rattle.satip_plain.specs.declared.answers.Answer.{Answer}
 use Rattle.satip_plain.specs.declared.answers.Answer.TheVariants.{Work as WorkIs}
@@ -9,13 +9,12 @@ use Rattle.satip_plain.specs.declared.events.Event.TheVariants.{Packet, Ended, A
 use Rattle.satip_plain.specs.Histories.{Item}
 use Rattle.satip_ts.specs.Recording.{cut_packets}
 
--- the recording that is read: the tuning number that it is read for, and the packets of it that are still to come, where
--- they are told
+-- the recording that is read: its tune number, and its packets that are still to come, if its content is exposed
 pub record Reel : Type 0 where
   pub tune : ℕ
   pub left : Option (List (List ℕ))
 
--- what a pump's next event is: it asks, or gives a packet of a recording or its end; or there is none
+-- the next event of a pump: it asks, or gives a packet of a recording or its end; or it has none
 pub data Due : Type 0 where
   Asking : Option Reel → Due
   Feeding : Reel → Due
@@ -25,43 +24,45 @@ pub data Due : Type 0 where
 abbrev pub fresh : (ℕ → Option (List ℕ)) → ℕ → ℕ → Reel
 fresh recording mux tune = record { tune = tune; left = option_map cut_packets (recording mux) }
 
--- what is read for a tuning: the recording as far as it was read where that has this number, else that of the multiplex
+-- the recording that is read for a tuning: the current one from where it is, if it has this tune number; else the multiplex's from its beginning
 abbrev pub tuned : (ℕ → Option (List ℕ)) → Option Reel → ℕ → ℕ → Reel
 tuned recording None mux tune = fresh recording mux tune
 tuned recording (Some reel) mux tune = if reel.tune == tune then reel else fresh recording mux tune
 
--- what is to be done next, as an answer says
+-- the next event, from the work in an answer
 abbrev pub after_work : (ℕ → Option (List ℕ)) → Option Reel → Work → Due
 after_work recording reel (Tune mux tune) = Feeding (tuned recording reel mux tune)
 after_work recording reel Nothing = Asking reel
 after_work recording reel Stopping = Finished
 
--- the work that an answer tells; an answer of another kind tells of none
+-- the work in an answer; Stopping for an answer of another kind
 abbrev pub work_told : Answer → Work
 work_told (WorkIs work) = work
 work_told _ = Stopping
 
+-- the packets without the first
 abbrev pub rest_of : List (List ℕ) → List (List ℕ)
 rest_of [] = []
 rest_of (packet ∷ packets) = packets
 
--- no packet, where they are told
+-- no packet left, if the content is exposed
 abbrev pub none_of : Option (List (List ℕ)) → Option (List (List ℕ))
 none_of None = None
 none_of (Some packets) = Some []
 
--- what is left of a recording after an event: one packet less, or none after its end
+-- the recording after an event: one packet less, or none left after its end
 abbrev pub moved : Event → Reel → Reel
 moved (Packet front tune packet) reel = record reel { left = option_map rest_of reel.left }
 moved (Ended front tune) reel = record reel { left = none_of reel.left }
 moved _ reel = reel
 
+-- the next event after an entry of the pump
 abbrev pub after_entry : (ℕ → Option (List ℕ)) → Due → Item → Due
 after_entry recording (Asking reel) e = after_work recording reel (work_told e.answer)
 after_entry recording (Feeding reel) e = after_work recording (Some (moved e.event reel)) (work_told e.answer)
 after_entry recording Finished e = Finished
 
--- the packet is the first of those that are left, where they are told
+-- the packet is the first of those left, if the content is exposed
 abbrev pub IsFirst : List ℕ → Option (List (List ℕ)) → Type 0
 IsFirst packet None = Unit {0}
 IsFirst packet (Some []) = ⊥
@@ -74,23 +75,24 @@ IsDue front (Feeding reel) event =
     ((packet : List ℕ) × (event ≡ Packet front reel.tune packet) × IsFirst packet reel.left) ⊎ (event ≡ Ended front reel.tune)
 IsDue front Finished event = ⊥
 
--- 1 where packets are left
+-- 1 if packets are left
 abbrev pub one_if_left : Option (List (List ℕ)) → ℕ
 one_if_left None = 0
 one_if_left (Some []) = 0
 one_if_left (Some (packet ∷ packets)) = 1
 
--- 1 for the end of a recording of which packets are left
+-- 1 for the end of a recording that has packets left
 abbrev pub early_by : Event → Reel → ℕ
 early_by (Ended front tune) reel = one_if_left reel.left
 early_by _ reel = 0
 
+-- 1 if the entry ends a recording that has packets left
 abbrev pub early_end : Due → Item → ℕ
 early_end (Feeding reel) e = early_by e.event reel
 early_end _ e = 0
 
--- the entries are those of the pump of a front end, from what was due before them to what is due after them; so many of
--- them are ends of recordings of which packets are left
+-- the entries are those of a front end's pump, from the event due before them to the event due after them;
+-- `early` of them end recordings that have packets left
 abbrev pub Pumps : ℕ → (ℕ → Option (List ℕ)) → Due → List Item → Due → ℕ → Type 0
 Pumps front recording due [] next early = (next ≡ due) × (early ≡ 0)
 Pumps front recording due (e ∷ es) next early =

@@ -8,6 +8,7 @@ use Rattle.satip_plain.specs.Types.{Tuning}
 abbrev pub same_by : {X : Type 0} → (X → List ℕ) → X → X → Bool
 same_by text x y = bytes_eq (text x) (text y)
 
+-- whether two tunings have the same values of all keys
 abbrev pub tuning_eq : Tuning → Tuning → Bool
 tuning_eq a b =
     option_eq nat_eq a.fe b.fe && a.src == b.src && a.freq == b.freq && same_by pol_text a.pol b.pol

@@ -1,10 +1,10 @@
--- Facts that have one proof at most: that a history is legal, that two settings are equal.
+-- Facts that have at most one proof: that a history is legal, that two settings are equal.
 use Rattle.std.specs.Prelude.{ℕ, List, [], ◌∷◌}
 use Rattle.std.specs.Coded.{×_prop, Unit-prop}
 use Rattle.std.proofs.Props.{props}
 use mathlib.Core.Sum.{⊎_set}
 use Rattle.satip_base.specs.Output.{Datagram}
-use Rattle.satip_history.specs.Lists.{Each}
+use Rattle.satip_base.specs.Lists.{Each}
 use Rattle.satip_query.specs.declared.queries.PidsGiven.{PidsGiven}
 use Rattle.satip_query.specs.declared.queries.PidsGiven.TheVariants.{List as ThesePids}
 use Rattle.satip_rtsp.specs.declared.requests.Refusal.{Refusal}
@@ -80,6 +80,7 @@ LegalFrom-prop : (c : Config) (st : State) (h : List Item) → IsProp (LegalFrom
 LegalFrom-prop c st [] = Unit-prop
 LegalFrom-prop c st (e ∷ es) = ×_prop (Fits-prop (step c st e.event) e) (LegalFrom-prop c (step c st e.event).state es)
 
+-- two proofs that a history is legal are equal
 pub legal_prop : (c : Setting) (h : List Item) → IsProp (Legal c h)
 legal_prop c h =
     let events : IsProp (Each (λ (e : Item). IsEvent e.event) h) = Each-prop (λ (e : Item). IsEvent e.event) (λ e. IsEvent-prop e.event) h in

@@ -1,4 +1,4 @@
--- The types that the plain server is told in, from the crates that declare them.
+-- The types of the plain server's definitions, from the crates that declare them.
 pub use Rattle.satip_base.specs.declared.identity.SessionId.{SessionId}
 pub use Rattle.satip_base.specs.declared.identity.Draw.{Draw}
 pub use Rattle.satip_base.specs.declared.network.Peer.{Peer}

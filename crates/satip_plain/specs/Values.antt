@@ -1,7 +1,7 @@
--- Which values are of the types that the program has: numbers within their width, packets, lists within their limits.
+-- Which values are within the types of the program: numbers within their width, packets, lists within their limits.
 use Rattle.std.specs.Prelude.{ℕ, ◌≡◌, ◌<◌, ◌≤◌, ◌^◌, List, map, length, IfSome}
 use Rattle.std.specs.List.{All, range_with_len}
-use Rattle.satip_history.specs.Lists.{Each}
+use Rattle.satip_base.specs.Lists.{Each}
 use Rattle.satip_pids.specs.Pids.{IsPidList}
 use Rattle.satip_ts.specs.Packet.{IsPacket}
 use Rattle.satip_query.specs.declared.queries.PidsGiven.{PidsGiven}
@@ -95,7 +95,7 @@ pub record IsMultiplex (mux : Mux) : Type 0 where
   pub freq : mux.freq < 2 ^ 32
   pub sr : mux.sr < 2 ^ 32
 
--- front ends are numbered from 1 in order, at most 16, and there are at most 256 multiplexes
+-- front ends are numbered from 1 in order, at most 16; there are at most 256 multiplexes
 pub record IsServable (c : Config) : Type 0 where
   pub numbered : map (λ f. f.number) c.fronts ≡ range_with_len 1 (length c.fronts)
   pub few : length c.fronts ≤ 16

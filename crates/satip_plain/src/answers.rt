@@ -1,20 +1,22 @@
-//! What the server answers to an event.
+//! The answers of the server, one kind for each kind of event.
 
 use satip_base::SessionId;
 
-/// Whether the server goes on.
+/// The answer to a tick or a stop: whether the server goes on.
 #[derive(Clone, Copy, Debug, PartialEq, Eq)]
 pub enum Beat {
     Going,
     Stopping,
 }
 
-/// What a front end's pump is to do: read the recording of multiplex `mux` (from 1) for the
-/// front end's tuning number `tune`, nothing, or end.
+/// The next work of a front end's pump.
 #[derive(Clone, Copy, Debug, PartialEq, Eq)]
 pub enum Work {
+    /// Read the recording of multiplex `mux` (from 1) for the front end's tune number `tune`.
     Tune { mux: u16, tune: u64 },
+    /// Nothing to read; the pump asks again.
     Nothing,
+    /// The server stops, and the pump ends.
     Stopping,
 }
 
@@ -25,14 +27,15 @@ pub struct Replied {
     pub closing: bool,
 }
 
-/// A GET started a session, or was refused with a status.
+/// The answer to a GET: the session that it started, or the status of its refusal.
 #[derive(Clone, Copy, Debug, PartialEq, Eq)]
 pub enum GetAnswer {
     Started(SessionId),
     Refused(u16),
 }
 
-/// How many bytes a pull moved, that none were queued, or that no such HTTP session lives.
+/// The answer to a pull: the count of bytes that it moved, that the queue was empty, or that no
+/// HTTP session has this id.
 #[derive(Clone, Copy, Debug, PartialEq, Eq)]
 pub enum Pulled {
     Bytes(usize),
@@ -40,7 +43,7 @@ pub enum Pulled {
     Gone,
 }
 
-/// Whether an HTTP session was ended, or none of that id lives.
+/// The answer to a close: the HTTP session ended, or no HTTP session has this id.
 #[derive(Clone, Copy, Debug, PartialEq, Eq)]
 pub enum Closed {
     Yes,

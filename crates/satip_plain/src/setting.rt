@@ -1,8 +1,8 @@
-//! What a server is made with.
+//! The setting that a server is created with.
 
 use satip_config::Config;
 
-/// A configuration, and the moment at which the server starts, in milliseconds of Unix time.
+/// A configuration, and the time at which the server starts, in milliseconds of Unix time.
 #[derive(Drop)]
 pub struct Setting {
     pub config: Config,

@@ -1,4 +1,4 @@
-//! Worked runs of the plain server, each computed from the definitions.
+//! Worked examples of the plain server, each computed from the definitions.
 ghost use Rattle.std.specs.Prelude.{◌≡◌, List, [], ◌∷◌, ◌++◌, Option, Some, None, true, false, map, length};
 ghost use Rattle.satip_query.specs.declared.bodies.RefusalBody.TheVariants.{OutOfRange, NotOwner, NoMorePids, NoMoreSessions, NoMoreFrontends};
 ghost use Rattle.satip_query.specs.Queries.{new_query};
@@ -16,7 +16,7 @@ fn held_packets_leave()
         (packets 8 16 ++ teardown_in (id_of 1 10) 1 ∷ []))) ≡ Media 1400 0 1000 1 ∷ [] }
 {}
 
-// Only what comes after PIDs were added is sent.
+// Only packets that follow the addition of their PIDs are sent.
 fn pids_added_count_from_then_on()
     ensures sent { sent_last (run (setup ∷ play ∷ packet 100 ∷ play_in (id_of 1 10) 1
         (added_pids (100 ∷ [])) ∷ packet 100 ∷ Tick 40 ∷ []))
@@ -42,7 +42,7 @@ fn joined_session_may_not_change_pids()
         ≡ Media 1400 65535 40 1 ∷ Media 1500 0 40 1 ∷ Told 1401 ∷ Told 1501 ∷ [] }
 {}
 
-// Two front ends serve two tunings; the third finds none until one is given back.
+// Two front ends serve two tunings; the third finds none until one is freed.
 fn third_tuning_finds_no_front_end()
     ensures answers { answers_of (run (setup ∷ setup_with (with_change to_second) ∷ setup_with
         (with_change to_unknown) ∷ teardown_in (id_of 1 10) 1 ∷ setup_with (with_change to_unknown)
@@ -56,7 +56,7 @@ fn third_tuning_finds_no_front_end()
         ≡ Ok200 ∷ Refuses 503 (Some NoMoreFrontends) ∷ [] }
 {}
 
-// A session that wasn't heard of for 60 seconds ends.
+// A session without activity for 60 seconds ends.
 fn session_expires()
     ensures ended { answers_of (run (setup ∷ Tick 59999 ∷ Tick 60000 ∷ options_in (id_of 1 10) ∷
         [])) ≡ Ok200 ∷ Beats ∷ Beats ∷ Refuses 454 None ∷ [] }
@@ -64,8 +64,8 @@ fn session_expires()
         ≡ Ok200 ∷ Beats ∷ Ok200 ∷ [] }
 {}
 
-// At most 256 PIDs are selected, and none is taken from all of them; a refused change leaves the
-// old ones.
+// At most 256 PIDs are selected, no PID can be taken from all PIDs, and a refused change leaves the
+// old PIDs.
 fn pids_have_limits()
     ensures under_all { answers_of (run (setup_with without_pids ∷ []))
         ≡ Refuses 403 (Some (OutOfRange Delpids)) ∷ [] }
@@ -109,7 +109,7 @@ fn streams_share_a_front_end()
         ≡ Media 1500 0 40 1 ∷ Told 1401 ∷ Told 1501 ∷ [] }
 {}
 
-// An HTTP session has its packets pulled, 64 at a time; a packet that meets its full queue ends it.
+// An HTTP session has its packets pulled, 64 at a time; a packet that finds its queue full ends it.
 fn queue_has_limits()
     ensures pulls { answers_of (run (get_second ∷ Pull (id_of 1 10) ∷ packet_on 1 1 400 ∷ packet_on
         1 1 401 ∷ Pull (id_of 1 10) ∷ Pull (id_of 1 10) ∷ Close (id_of 1 10) ∷ Pull (id_of 1 10) ∷
@@ -121,8 +121,8 @@ fn queue_has_limits()
     ensures pulled { pulled_first 4096 ≡ 12032 }
 {}
 
-// A SETUP that moves its session and retunes sends what is held to the new address; an equal tuning
-// sends nothing.
+// A SETUP that moves its session and retunes sends the held packets to the new address; an equal
+// tuning sends nothing.
 fn retune_sends_what_is_held()
     ensures moved { sent_last (run (setup ∷ play ∷ packet 16 ∷ moved_setup ∷ []))
         ≡ Media 1600 65535 0 1 ∷ [] }
@@ -130,23 +130,22 @@ fn retune_sends_what_is_held()
         [])) ≡ [] }
 {}
 
-// A stream moves to a front end that is tuned to its multiplex before its own is retuned, and finds
-// it as it is.
+// A stream moves to a front end that is tuned to its multiplex before its own is retuned. The
+// recording there isn't started again.
 fn stream_moves_before_its_front_end_is_retuned()
     ensures answers { answers_of (run (setup ∷ setup_with (with_change to_second) ∷ Ended 1 1 ∷
         play_in (id_of 2 10) 2 first_query ∷ Ask 1 ∷ Ask 2 ∷ []))
         ≡ Ok200 ∷ Ok200 ∷ Idles ∷ Ok200 ∷ Idles ∷ Idles ∷ [] }
 {}
 
-// A session that was named is kept alive by a request that is refused for another cause than its
-// text.
+// A request that is refused, but not for its text, keeps the named session alive.
 fn refused_request_keeps_alive()
     ensures answers { answers_of (run (setup ∷ Tick 30000 ∷ setup_without_stream ∷ Tick 60000 ∷
         setup_without_ports ∷ Tick 119999 ∷ options_in (id_of 1 10) ∷ []))
         ≡ Ok200 ∷ Beats ∷ Refuses 455 None ∷ Beats ∷ Refuses 461 None ∷ Beats ∷ Ok200 ∷ [] }
 {}
 
-// What is read of the entries alone is what the state says.
+// The readings, which are computed from the entries alone, agree with the state.
 fn readings_tell_the_state()
     ensures shared { readings_tell (run (setup ∷ two_setup ∷ play ∷ packet 16 ∷ []))
         ≡ state_tells (run (setup ∷ two_setup ∷ play ∷ packet 16 ∷ [])) }

@@ -1,4 +1,4 @@
-//! That the values of an event are of their types.
+//! Facts about each event: its values are within their types.
 ghost use Rattle.std.specs.Prelude.{◌<◌, ◌^◌, IfSome};
 ghost use Rattle.satip_pids.specs.Pids.{IsPidList};
 ghost use Rattle.satip_plain.specs.Values.{AreBytes, ArePidsGiven, ArePorts, IsChange, IsDraw, IsEvent, IsId, IsName, IsQuery, IsRefusal, IsRequest};
@@ -10,8 +10,8 @@ use satip_query::{PidsGiven, Query};
 use satip_rtsp::{Refusal, Request, SessionName};
 use satip_tune::Change;
 
-/// Hands what is true of each event to a caller's proof: its numbers and bytes are within their
-/// types, its PIDs below 8192, and its packet is one.
+/// Gives a caller's proof the facts of each event: its numbers and bytes are within their types,
+/// its PIDs are below 8192, and its packet is a transport packet.
 pub fn known_event(event: &Event)
     ensures value { IsEvent event.now }
 {
@@ -59,7 +59,7 @@ pub fn known_event(event: &Event)
     }
 }
 
-/// Hands to a caller's proof that bytes are bytes.
+/// Gives a caller's proof that each of the bytes is below 256.
 pub fn known_bytes(bytes: &[u8])
     ensures value { AreBytes bytes.now }
 {

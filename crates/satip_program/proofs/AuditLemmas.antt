@@ -1,12 +1,12 @@
 -- The statuses of an audit, and its lines.
 use Rattle.std.proofs.Common.{◌≡◌, ℕ, ◌+◌, ◌-◌, ◌<◌, ◌≤◌, ◌⊎◌, ◌↔◌, List, Option, Some, None, IsSomeAnd, refl, ap, arith}
 use Rattle.satip_base.specs.Streams.{Feed, Drain, Rose}
-use Rattle.satip_history.specs.Lists.{Has}
-use Rattle.satip_auditing.specs.declared.ends.AuditEnd.{AuditEnd}
-use Rattle.satip_auditing.specs.declared.ends.AuditEnd.TheVariants.{Done, Configuration, Journal, InputFault, OutputFault, TooLong, OutOfMemory}
-use Rattle.satip_audit_command.specs.Ends.{audit_statuses, audit_status, audit_line}
+use Rattle.satip_base.specs.Lists.{Has}
+use Rattle.satip_journal.specs.Audit.declared.ends.AuditEnd.{AuditEnd}
+use Rattle.satip_journal.specs.Audit.declared.ends.AuditEnd.TheVariants.{Done, Configuration, Journal, InputFault, OutputFault, TooLong, OutOfMemory}
+use Rattle.satip_journal.specs.Audit.CommandEnds.{audit_statuses, audit_status, audit_line}
 use Rattle.satip_replay.specs.Replays.{script_limit}
-use Rattle.satip_telling.specs.Lines.{Says}
+use Rattle.satip_config.specs.Lines.{Says}
 use Rattle.satip_program.specs.Commands.{Audit, line_of}
 use Rattle.satip_program.specs.Runs.{StatusTells}
 use Rattle.satip_program.proofs.RunLemmas.{input_tells}

@@ -2,9 +2,9 @@
 use Rattle.std.proofs.Common.{◌≡◌, ℕ, ◌⊎◌, inl, inr, List, Option, Some, None, IsSomeAnd, MatchOption, sym, ◌∙◌, subst, arith}
 use Rattle.satip_base.specs.Streams.{Feed, Rose}
 use Rattle.satip_world.specs.Counts.{Rises}
-use Rattle.satip_journal_command.specs.declared.ends.JournalEnd.{JournalEnd}
-use Rattle.satip_journal_command.specs.declared.ends.JournalEnd.TheVariants.{Served, Configuration, InputFault, JournalFault, DoorsFault, HistoryFull, OutOfMemory}
-use Rattle.satip_journal_command.specs.Statuses.{journal_status, journal_line}
+use Rattle.satip_journal.specs.declared.ends.JournalEnd.{JournalEnd}
+use Rattle.satip_journal.specs.declared.ends.JournalEnd.TheVariants.{Served, Configuration, InputFault, JournalFault, DoorsFault, HistoryFull, OutOfMemory}
+use Rattle.satip_journal.specs.Statuses.{journal_status, journal_line}
 use Rattle.satip_program.specs.Journaling.{IsOfJournal}
 use Rattle.satip_program.specs.Commands.{line_of}
 

@@ -1,9 +1,9 @@
 -- The statuses of a recording.
 use Rattle.std.proofs.Common.{◌≡◌, ℕ, ◌≤◌, inl, inr, Option, Some, None, arith}
 use Rattle.satip_base.specs.Streams.{Feed, Drain, Rose}
-use Rattle.satip_history.specs.Lists.{Has}
-use Rattle.satip_record_command.specs.Ends.{record_statuses}
-use Rattle.satip_record_command.specs.Words.{Wanted}
+use Rattle.satip_base.specs.Lists.{Has}
+use Rattle.satip_recorder.specs.Ends.{record_statuses}
+use Rattle.satip_recorder.specs.Words.{Wanted}
 use Rattle.satip_program.specs.Commands.{Record}
 use Rattle.satip_program.specs.Recording.{IsApart}
 use Rattle.satip_program.specs.Runs.{StatusTells}

@@ -1,13 +1,13 @@
 -- The statuses of a replay, and its lines.
 use Rattle.std.proofs.Common.{◌≡◌, ℕ, ◌+◌, ◌-◌, ◌<◌, ◌≤◌, ◌⊎◌, ◌↔◌, List, Option, Some, None, IsSomeAnd, refl, ap}
 use Rattle.satip_base.specs.Streams.{Feed, Drain, Rose}
-use Rattle.satip_history.specs.Lists.{Has}
+use Rattle.satip_base.specs.Lists.{Has}
 use Rattle.satip_replay.specs.Replays.{script_limit}
 use Rattle.satip_replay.specs.declared.ends.ReplayEnd.{ReplayEnd}
 use Rattle.satip_replay.specs.declared.ends.ReplayEnd.TheVariants.{Done, Configuration, Script, InputFault, OutputFault, TooLong, OutOfMemory}
-use Rattle.satip_replay_command.specs.Ends.{replay_statuses, replay_status, replay_line}
-use Rattle.satip_replay_command.proofs.EndLemmas.{ends_input, ends_output, ends_long}
-use Rattle.satip_telling.specs.Lines.{Says}
+use Rattle.satip_replay.specs.CommandEnds.{replay_statuses, replay_status, replay_line}
+use Rattle.satip_replay.proofs.CommandEndLemmas.{ends_input, ends_output, ends_long}
+use Rattle.satip_config.specs.Lines.{Says}
 use Rattle.satip_program.specs.Commands.{Replay, line_of}
 use Rattle.satip_program.specs.Runs.{StatusTells}
 use Rattle.satip_program.proofs.RunLemmas.{input_tells}

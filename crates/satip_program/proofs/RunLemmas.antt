@@ -1,9 +1,9 @@
 -- What the status of a run tells that waits for nobody.
 use Rattle.std.proofs.Common.{◌≡◌, ℕ, ◌+◌, ◌-◌, ◌<◌, ◌≤◌, ◌⊎◌, ◌↔◌, inl, inr, List, [], ◌∷◌, Option, Some, None, IsSome, IsSomeAnd, refl, arith}
 use Rattle.satip_base.specs.Streams.{Feed, Drain, Rose, PutAll, FailedToPut}
-use Rattle.satip_history.specs.Lists.{Has}
+use Rattle.satip_base.specs.Lists.{Has}
 use Rattle.satip_talk_command.specs.Runs.{input_limit}
-use Rattle.satip_telling.specs.Lines.{Says}
+use Rattle.satip_config.specs.Lines.{Says}
 use Rattle.satip_program.specs.Commands.{Form, config_named, line_of}
 use Rattle.satip_program.specs.Runs.{Shows, StatusTells}
 

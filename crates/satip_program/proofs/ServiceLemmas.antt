@@ -1,11 +1,11 @@
 -- What the status of a service tells.
 use Rattle.std.proofs.Common.{◌≡◌, ℕ, ◌⊎◌, ◌↔◌, inl, inr, false, Option, Some, None, IsSomeAnd, MatchOption, ⊎_elim, arith}
 use Rattle.satip_base.specs.Streams.{Feed, Drain, Rose}
-use Rattle.satip_history.specs.Lists.{Has}
+use Rattle.satip_base.specs.Lists.{Has}
 use Rattle.satip_world.specs.Counts.{Rises}
-use Rattle.satip_telling.specs.Lines.{Says}
+use Rattle.satip_config.specs.Lines.{Says}
 use Rattle.satip_program.specs.Commands.{Serving, is_journal, line_of}
-use Rattle.satip_serving.specs.Statuses.{serve_statuses}
+use Rattle.satip_serve.specs.Statuses.{serve_statuses}
 use Rattle.satip_program.specs.Journaling.{IsOfJournal}
 use Rattle.satip_program.specs.Runs.{StatusTells}
 use Rattle.satip_program.proofs.JournalLemmas.{input_of}

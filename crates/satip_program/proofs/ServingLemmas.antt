@@ -1,10 +1,10 @@
 -- How a serve is told.
 use Rattle.std.proofs.Common.{◌≡◌, ℕ, List, sym, subst}
 use Rattle.satip_config.specs.declared.fault.ConfigFault.{ConfigFault}
-use Rattle.satip_serving.specs.declared.serving.ServingEnd.{ServingEnd}
-use Rattle.satip_serving.specs.declared.serving.ServingEnd.TheVariants as serving
-use Rattle.satip_serving.specs.Statuses.{serving_status}
-use Rattle.satip_telling.specs.Lines.{configuration_line}
+use Rattle.satip_serve.specs.declared.command.ServingEnd.{ServingEnd}
+use Rattle.satip_serve.specs.declared.command.ServingEnd.TheVariants as serving
+use Rattle.satip_serve.specs.Statuses.{serving_status}
+use Rattle.satip_config.specs.Lines.{configuration_line}
 use Rattle.satip_program.specs.Commands.{line_of}
 use Rattle.satip_program.specs.Serving.{serving_line}
 

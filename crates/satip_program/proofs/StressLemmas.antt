@@ -1,12 +1,12 @@
 -- The statuses of a stress run, and its lines.
 use Rattle.std.proofs.Common.{◌≡◌, ℕ, List, Option, Some, None}
 use Rattle.satip_base.specs.Streams.{Feed, Drain, Rose}
-use Rattle.satip_history.specs.Lists.{Has}
+use Rattle.satip_base.specs.Lists.{Has}
 use Rattle.satip_stress.specs.declared.ends.StressEnd.{StressEnd}
 use Rattle.satip_stress.specs.declared.ends.StressEnd.TheVariants.{Done, OutputFault, OutOfMemory}
-use Rattle.satip_stress_command.specs.Ends.{stress_statuses, stress_status, stress_line}
-use Rattle.satip_stress_command.proofs.EndLemmas.{ends_output}
-use Rattle.satip_telling.specs.Lines.{Says}
+use Rattle.satip_stress.specs.CommandEnds.{stress_statuses, stress_status, stress_line}
+use Rattle.satip_stress.proofs.EndLemmas.{ends_output}
+use Rattle.satip_config.specs.Lines.{Says}
 use Rattle.satip_program.specs.Commands.{Stress, line_of}
 use Rattle.satip_program.specs.Runs.{StatusTells}
 use Rattle.satip_program.proofs.RunLemmas.{output_tells}

@@ -1,13 +1,13 @@
 -- The statuses of a talk, and its lines.
 use Rattle.std.proofs.Common.{◌≡◌, ℕ, ◌+◌, ◌-◌, ◌<◌, ◌≤◌, ◌↔◌, inl, inr, List, Option, Some, None, refl, ap, arith}
 use Rattle.satip_base.specs.Streams.{Feed, Drain, Rose}
-use Rattle.satip_history.specs.Lists.{Has}
+use Rattle.satip_base.specs.Lists.{Has}
 use Rattle.satip_talk_command.specs.Runs.{input_limit}
 use Rattle.satip_talk_command.specs.Ends.{talk_status, talk_line}
 use Rattle.satip_talk_command.specs.declared.ends.TalkEnd.{TalkEnd}
 use Rattle.satip_talk_command.specs.declared.ends.TalkEnd.TheVariants.{Done, InputFault, OutputFault, TooLong, OutOfMemory}
 use Rattle.satip_talk_command.proofs.EndLemmas.{ends_input, ends_output, ends_long}
-use Rattle.satip_telling.specs.Lines.{Says}
+use Rattle.satip_config.specs.Lines.{Says}
 use Rattle.satip_program.specs.Commands.{Talk, line_of}
 use Rattle.satip_program.specs.Runs.{StatusTells}
 use Rattle.satip_program.proofs.RunLemmas.{input_statuses, input_tells}

@@ -1,15 +1,15 @@
--- The words of the command line, and the lines that the program writes of itself.
+-- The words of the command line, and the texts that the program writes of itself.
 use Rattle.std.specs.Prelude.{ℕ, ◌≤◌, ◌==◌, Bool, true, false, List, [], ◌∷◌, ◌++◌, codes, Option, Some, None, if◌then◌else◌}
 use Rattle.std.specs.Str.{bytes_eq}
 use Rattle.satip_base.specs.Numbers.{number_of}
-use Rattle.satip_record_command.specs.Words.{Wanted, wanted, wanted_of}
+use Rattle.satip_recorder.specs.Words.{Wanted, wanted, wanted_of}
 use Rattle.satip_program.specs.declared.commands.Command.{Command}
 use Rattle.satip_program.specs.declared.commands.Command.TheVariants as commands
 use Rattle.satip_program.specs.declared.commands.Service.{Service}
 use Rattle.satip_program.specs.declared.commands.Service.TheVariants as services
 
--- what the words ask for that waits for nobody; a replay and an audit have the name of their configuration, a stress run
--- its seed and its count, a recording what it wants
+-- a command that waits for no client; a replay and an audit have the name of their configuration, a stress run its seed and its count, and a recording its
+-- request
 pub data Form : Type 0 where
   Talk : Form
   Replay : List ℕ → Form
@@ -29,7 +29,7 @@ form_of (commands.Record recording) = Record (wanted recording)
 form_of commands.Help = Help
 form_of commands.Version = Version
 
--- the form of a word that stands alone
+-- the form of a single word
 abbrev pub command_named : List ℕ → Option Form
 command_named word =
     if bytes_eq word (codes "talk") then Some Talk
@@ -44,28 +44,31 @@ pair_by word name =
     else if bytes_eq word (codes "audit") then Some (Audit name)
     else None
 
+-- the form of two words, unless the name is empty
 abbrev pub pair_named : List ℕ → List ℕ → Option Form
 pair_named word [] = None
 pair_named word (byte ∷ bytes) = pair_by word (byte ∷ bytes)
 
--- the form of three words; the numbers are read where they are allowed
+-- the form of three words; the numbers are read if they are allowed
 abbrev pub stress_by : Option ℕ → Option ℕ → Option Form
 stress_by (Some seed) (Some count) = Some (Stress seed count)
 stress_by (Some seed) None = None
 stress_by None count = None
 
+-- the form of `stress` with its two numbers
 abbrev pub stress_named : List ℕ → Option ℕ → Option ℕ → Option Form
 stress_named word seed count = if bytes_eq word (codes "stress") then stress_by seed count else None
 
--- the form of four words; what is wanted is read where it is allowed
+-- the form of four words; the recording's request is read if it is allowed
 abbrev pub recording_by : Option Wanted → Option Form
 recording_by (Some w) = Some (Record w)
 recording_by None = None
 
+-- the form of `record` with its request
 abbrev pub recording_named : List ℕ → Option Wanted → Option Form
 recording_named word w = if bytes_eq word (codes "record") then recording_by w else None
 
--- the form of the words, if they ask for a command that waits for nobody
+-- the form of the words, if they ask for a command that waits for no client
 unfoldable pub command_of : List (List ℕ) → Option Form
 command_of [] = None
 command_of (word ∷ []) = command_named word
@@ -75,14 +78,14 @@ command_of (word ∷ seed ∷ count ∷ []) =
 command_of (word ∷ address ∷ query ∷ count ∷ []) = recording_named word (wanted_of address query count)
 command_of (word ∷ address ∷ query ∷ count ∷ another ∷ others) = None
 
--- what the words ask for that waits for clients: a server, one through a tunnel, or one with journals; each has the name
--- of its configuration, and after how many connections the doors of a worker end
+-- a command that waits for clients: a server, one through a tunnel, or one with journals. Each has the name of its configuration, and the number of
+-- connections after which a worker's doors end
 pub data Serving : Type 0 where
   Serve : List ℕ → ℕ → Serving
   Tunnel : List ℕ → ℕ → Serving
   Journal : List ℕ → ℕ → Serving
 
--- what a service asks for
+-- the definition's form of a service
 abbrev pub serving_for : Service → Serving
 serving_for (services.Serve name accepts) = Serve name.now accepts
 serving_for (services.Tunnel name accepts) = Tunnel name.now accepts
@@ -102,7 +105,7 @@ serving_named word [] accepts = None
 serving_named word (byte ∷ bytes) (Some accepts) = serving_by word (byte ∷ bytes) accepts
 serving_named word (byte ∷ bytes) None = None
 
--- the service that the words ask for, if they ask for one
+-- the service that the words ask for, if any
 unfoldable pub serving_of : List (List ℕ) → Option Serving
 serving_of [] = None
 serving_of (word ∷ []) = None
@@ -110,7 +113,7 @@ serving_of (word ∷ name ∷ []) = None
 serving_of (word ∷ name ∷ accepts ∷ []) = serving_named word name (number_of 4294967295 accepts)
 serving_of (word ∷ name ∷ accepts ∷ another ∷ others) = None
 
--- the name of the configuration that a form names, if it names one
+-- the name of the configuration in a form, if it has one
 abbrev pub config_named : Option Form → Option (List ℕ)
 config_named (Some (Replay name)) = Some name
 config_named (Some (Audit name)) = Some name
@@ -121,7 +124,7 @@ config_named (Some Help) = None
 config_named (Some Version) = None
 config_named None = None
 
--- what a form wants recorded, if it wants that
+-- the request of a form's recording, if it is one
 abbrev pub recording_in : Option Form → Option Wanted
 recording_in (Some (Record w)) = Some w
 recording_in (Some Talk) = None
@@ -132,13 +135,14 @@ recording_in (Some Help) = None
 recording_in (Some Version) = None
 recording_in None = None
 
--- whether a service goes through a tunnel, and whether it keeps journals
+-- whether a service goes through a tunnel
 abbrev pub is_tunnel : Option Serving → Bool
 is_tunnel (Some (Tunnel name accepts)) = true
 is_tunnel (Some (Serve name accepts)) = false
 is_tunnel (Some (Journal name accepts)) = false
 is_tunnel None = false
 
+-- whether a service keeps journals
 abbrev pub is_journal : Option Serving → Bool
 is_journal (Some (Journal name accepts)) = true
 is_journal (Some (Serve name accepts)) = false
@@ -159,7 +163,7 @@ HasCount commands.Version = Unit {0}
 abbrev pub usage : List ℕ
 usage = codes "usage: satip talk | replay CONFIG | serve CONFIG ACCEPTS | stress SEED COUNT | tunnel CONFIG ACCEPTS | journal CONFIG ACCEPTS | audit CONFIG | record ADDRESS QUERY COUNT\n"
 
--- what --help writes: the forms, a line for each command that is built with an example of it, and where more stands
+-- the output of --help: the forms, a line for each command with an example of it, and the pages that say more
 abbrev pub help : List ℕ
 help = usage
     ++ codes "serve: clients, by the configuration in the file CONFIG; each worker ends after ACCEPTS connections, and never where it is 0\n"
@@ -181,11 +185,11 @@ help = usage
     ++ codes "    satip record 127.0.0.1:554 'src=1&freq=11494&pol=h&msys=dvbs&sr=22000&pids=all' 1000 > stream.ts\n"
     ++ codes "manual: man satip, or docs/satip.1; statuses: docs/PROTOCOL.md; configuration: examples/satip.toml\n"
 
--- what --version writes
+-- the output of --version
 abbrev pub version : List ℕ
 version = codes "satip 0.1.0\n"
 
--- the line on the errors sink for a status, but for those that tell a place
+-- the line on the errors sink for a status; a status that names a place has another line
 abbrev pub line_of : ℕ → List ℕ
 line_of status =
     if status == 2 then usage

@@ -1,16 +1,15 @@
--- What a serve comes to, by its status.
+-- The outcome of a serve, by its status.
 use Rattle.std.specs.Prelude.{ℕ, List, Option}
 use Rattle.satip_base.specs.Streams.{Feed, Drain}
-use Rattle.satip_serve.specs.declared.kits.Jobs.{Jobs}
-use Rattle.satip_serve.specs.declared.serving.Last.{Last}
-use Rattle.satip_serving.specs.Ends.{Serves}
-use Rattle.satip_serving.specs.Given.{JobsView}
-use Rattle.satip_telling.specs.Lines.{Says, configuration_line}
+use Rattle.satip_desk.specs.declared.kits.Jobs.{Jobs}
+use Rattle.satip_serve.specs.declared.all_jobs.Last.{Last}
+use Rattle.satip_serve.specs.CommandEnds.{Serves}
+use Rattle.satip_desk.specs.Views.{JobsView}
+use Rattle.satip_config.specs.Lines.{Says, configuration_line}
 
--- a serve: after how many connections doors end, the text of its configuration where the desk tells it, the desk's count
--- of faults before and behind it, the source that the desk gave, if it gave one, as it is behind it, the kits that the
--- desk gave, what the jobs left, if any began, or else the kits with which none began, its errors before and behind it,
--- and its status. With 3 the configuration's fault is told
+-- a serve. `accepts` is the number of connections after which doors end; `text` is the configuration's text if the desk exposes it; `before` and `now` are the
+-- desk's fault counts. `source` is the configuration and `given` the kits that the desk gave; `last` is what the jobs left, if any began, and `unused` the kits
+-- with which none began. `e` and `m` are the errors before and after; with 3 the line on them names the configuration's fault
 abbrev pub ServeEnds : {S D O P M C : Type 0} → (config_tells conn_tells outlet_tells error_tells : Type 0) → ℕ → Option (List ℕ) → (before now : ℕ)
     → (S → Feed) → Option S → (Jobs D O P M C → JobsView) → Option JobsView → Option (Last D O P M C) → Option (Jobs D O P M C)
     → (e m : Drain) → ℕ → Type 0

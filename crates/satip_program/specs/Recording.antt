@@ -1,7 +1,7 @@
--- The statuses of a recording beside those of the other commands.
+-- The statuses of a recording, compared with those of the other commands.
 use Rattle.std.specs.Prelude.{◌≡◌, ℕ}
 
--- the status isn't one that a recording never has
+-- the status is none that a recording never has
 pub record IsApart (status : ℕ) : Type 0 where
   pub usage : status ≡ 2 → ⊥
   pub configuration : status ≡ 3 → ⊥

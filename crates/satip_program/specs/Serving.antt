@@ -1,8 +1,8 @@
--- How the command `serve` is told.
+-- The line that logs the command `serve`.
 use Rattle.std.specs.Prelude.{ℕ, List}
-use Rattle.satip_serving.specs.declared.serving.ServingEnd.{ServingEnd}
-use Rattle.satip_serving.specs.declared.serving.ServingEnd.TheVariants.{Served, Configuration, InputFault, DoorsFault, HistoryFull, OutOfMemory}
-use Rattle.satip_telling.specs.Lines.{configuration_line}
+use Rattle.satip_serve.specs.declared.command.ServingEnd.{ServingEnd}
+use Rattle.satip_serve.specs.declared.command.ServingEnd.TheVariants.{Served, Configuration, InputFault, DoorsFault, HistoryFull, OutOfMemory}
+use Rattle.satip_config.specs.Lines.{configuration_line}
 use Rattle.satip_program.specs.Commands.{line_of}
 
 -- the line on the errors sink

@@ -3,34 +3,34 @@
 ghost use Rattle.std.specs.Prelude.{◌≡◌, None, false, codes, option_map, IfSome};
 ghost use Rattle.std.specs.Str.{bytes_eq};
 ghost use Rattle.satip_base.specs.Numbers.{number_of};
-ghost use Rattle.satip_record_command.specs.Words.{wanted_of};
+ghost use Rattle.satip_recorder.specs.Words.{wanted_of};
 ghost use Rattle.satip_program.specs.Commands.{form_of, command_of, command_named, pair_named, pair_by, stress_named, stress_by, recording_named, serving_for, serving_of, serving_named, serving_by, HasCount};
 
 use satip_base::{Text, read_number};
-use satip_record_command::Recording;
+use satip_recorder::Recording;
 use satip_stress::MOST_EVENTS;
 
-/// What the words ask for that waits for nobody.
+/// A command that waits for no client.
 #[derive(Clone, Copy)]
 pub(crate) enum Command<'w> {
-    /// One RTSP connection, from the input to the output.
+    /// Answers one RTSP connection, from the input to the output.
     Talk,
-    /// The run of a script, by the configuration of this name.
+    /// Runs a script, by the configuration of this name.
     Replay(&'w Text),
-    /// Made events that are counted: so many, by the generator of a seed.
+    /// Runs and counts generated events: `count`, by the generator of a seed.
     Stress { seed: u64, count: u32 },
-    /// The verdict on journals, by the configuration of this name.
+    /// Judges journals, by the configuration of this name.
     Audit(&'w Text),
-    /// The packets of a server's stream.
+    /// Records the packets of a server's stream.
     Record(Recording<'w>),
-    /// The forms of the words.
+    /// Prints the forms of the words.
     Help,
-    /// The program's name and version.
+    /// Prints the program's name and version.
     Version,
 }
 
-/// What the words ask for that waits for clients: each has a configuration by its name, and after
-/// how many connections the doors of a worker end.
+/// A command that waits for clients. Each has the name of its configuration, and the number of
+/// connections after which a worker's doors end.
 #[derive(Clone, Copy)]
 pub(crate) enum Service<'w> {
     /// A server.
@@ -41,8 +41,8 @@ pub(crate) enum Service<'w> {
     Journal { name: &'w Text, accepts: u32 },
 }
 
-/// The service that the words ask for; `None` where they ask for none. No command that waits for
-/// nobody has such words.
+/// Reads the words of a service. Returns None if they ask for none. Such words are no other
+/// command's.
 #[tactic(auto, unfolding(crate::specs::Commands::serving_of, crate::specs::Commands::command_of))]
 pub(crate) fn read_service(words: &[Text]) -> Option<Service<'_>>
     ensures service { option_map serving_for result ≡ serving_of words.now }
@@ -72,7 +72,7 @@ fn read_service_words<'w>(word: &[u8], name: &'w Text, accepts: &[u8]) -> Option
     }
 }
 
-// The service of this word.
+// Returns the service of this word.
 #[tactic(auto, using(crate::proofs::AcceptsLemmas::words_differ))]
 fn pick_service<'w>(word: &[u8], name: &'w Text, accepts: u32) -> Option<Service<'w>>
     ensures service { option_map serving_for result ≡ serving_by word.now name.now accepts }
@@ -89,7 +89,7 @@ fn pick_service<'w>(word: &[u8], name: &'w Text, accepts: u32) -> Option<Service
     }
 }
 
-/// The command that the words name; `None` where they name none that waits for nobody.
+/// Reads the words of a command that waits for no client. Returns None if they name none.
 #[tactic(auto, unfolding(crate::specs::Commands::command_of))]
 pub(crate) fn read_words(words: &[Text]) -> Option<Command<'_>>
     ensures command { option_map form_of result ≡ command_of words.now }
@@ -130,7 +130,7 @@ fn read_pair<'w>(word: &[u8], name: &'w Text) -> Option<Command<'w>>
     }
 }
 
-// The command of this word, with the name of a configuration.
+// Returns the command of this word, with the name of a configuration.
 fn pick_pair<'w>(word: &[u8], name: &'w Text) -> Option<Command<'w>>
     ensures command { option_map form_of result ≡ pair_by word.now name.now }
     ensures count { IfSome result HasCount }

@@ -1,10 +1,13 @@
-//! The program as a function of its words, its input, its output, its errors and its desk.
+//! Runs a command line: the top call, a function of words, input, outputs and a desk.
+//! Contract: each command ends with the status, output and line of its definition, and each status
+//! but out of memory has its cause. `serve`, `journal` and `tunnel` run their jobs over one legal
+//! history, which keeps the laws.
 #![tactic(auto)]
 
 mod commands;
-mod serving;
+mod serve_end;
 mod top;
 
-pub use satip_serve::{Jobs, Last};
-pub use satip_serving::{Desk, JobsFault};
+pub use satip_desk::{Desk, Jobs, JobsFault};
+pub use satip_serve::Last;
 pub use top::{Ended, offline, satip};

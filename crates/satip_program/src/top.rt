@@ -1,14 +1,13 @@
-//! The top call: what the program does with its words, its input, its output, its errors and its
-//! desk.
+//! The top call: runs the program with its words, its input, its output, its errors and its desk.
 
 ghost use Rattle.std.specs.Prelude.{◌≡◌, ◌⊎◌, ℕ, List, [], Option, Some, None, IsNone, IsSomeAnd, map};
 ghost use Rattle.satip_base.specs.Streams.{Feed, Rose};
-ghost use Rattle.satip_serving.specs.Given.{jobs_view};
-ghost use Rattle.satip_serving.specs.Handed.{nothing_handed};
-ghost use Rattle.satip_record_command.specs.Words.{Wanted};
-ghost use Rattle.satip_journal_command.specs.Ends.{JournalEnds};
-ghost use Rattle.satip_telling.specs.Lines.{Says};
-ghost use Rattle.satip_silent.specs.Silences.{no_outbox};
+ghost use Rattle.satip_desk.specs.Views.{jobs_view};
+ghost use Rattle.satip_desk.specs.Handed.{nothing_handed};
+ghost use Rattle.satip_recorder.specs.Words.{Wanted};
+ghost use Rattle.satip_journal.specs.Ends.{JournalEnds};
+ghost use Rattle.satip_config.specs.Lines.{Says};
+ghost use Rattle.satip_tunnel_serve.specs.Silences.{no_outbox};
 ghost use Rattle.satip_program.specs.Commands.{Form, Record, Serve, Tunnel, Journal, command_of, serving_of, config_named, line_of};
 ghost use Rattle.satip_program.specs.Ends.{ServeEnds};
 ghost use Rattle.satip_program.specs.Tunneling.{TunnelEnds};
@@ -16,19 +15,17 @@ ghost use Rattle.satip_program.specs.Runs.{GivesBack, RunEnds, Shows};
 ghost use Rattle.satip_program.specs.Journaling.{IsOfJournal};
 
 use crate::commands::{Command, Service, read_service, read_words};
-use crate::serving::{status_of_serving, tell_serving};
-use satip_audit_command::{Audited, audit_by};
+use crate::serve_end::{status_of_serving, tell_serving};
 use satip_base::{Put, Sink, Source, Text};
-use satip_journal_command::{Journaled, journal_by};
-use satip_record_command::{Recorded, record};
-use satip_replay_command::{Replayed, replay_by};
-use satip_serve::{Jobs, Last};
-use satip_serving::{Desk, Served, serve_by};
-use satip_stress_command::stress_by;
+use satip_config::say;
+use satip_desk::{Desk, Jobs};
+use satip_journal::{Audited, Journaled, audit_by, audit_status_of, journal_by};
+use satip_recorder::{RecordRan as Recorded, record};
+use satip_replay::{Replayed, replay_by};
+use satip_serve::{Last, Served, serve_by};
+use satip_stress::stress_by;
 use satip_talk_command::talk;
-use satip_telling::say;
-use satip_tunnel_command::{Tunneled, tunnel_by};
-use satip_tunnel_serve::TunnelLast;
+use satip_tunnel_serve::{TunnelLast, Tunneled, tunnel_by};
 use std::alloc::Global;
 use std::sync::Wait;
 use std::thread::Threads;
@@ -67,20 +64,30 @@ const HELP: &[u8] = b"usage: satip talk | replay CONFIG | serve CONFIG ACCEPTS |
 
 const VERSION: &[u8] = b"satip 0.1.0\n";
 
-/// How a run ended.
+/// The end of a run.
 pub struct Ended<K: Desk> {
-    /// 0 where all went well; 2 where the words are an unknown command line; 3 where the
-    /// configuration has a fault, 4 where the script or the journals have a wrong line; 5 where the
-    /// input failed, 6 where the output or a journal did; 7 where the doors of a worker or the desk
-    /// failed; 8 where the input is too long; 9 where the history is full; 10 to 14 where a
-    /// recording was refused, got a bad reply, met silence, a fault of the peer, or an end before a
-    /// reply; 70 where there was no memory.
+    /// The exit status:
+    /// - 0: all went well.
+    /// - 2: the words are an unknown command line.
+    /// - 3: the configuration has a fault.
+    /// - 4: the script or the journals have a wrong line.
+    /// - 5: the input or the configuration failed, or the desk didn't open the configuration.
+    /// - 6: the output or a journal failed, or the desk didn't give a journal.
+    /// - 7: the doors of a worker failed, or the desk didn't give the kits.
+    /// - 8: the input is too long.
+    /// - 9: the history is full.
+    /// - 10: a recording was refused.
+    /// - 11: a recording got a bad reply.
+    /// - 12: a recording's server was silent.
+    /// - 13: a recording's peer failed, or the desk didn't give a connection or an inlet.
+    /// - 14: a recording's connection ended before a reply.
+    /// - 70: out of memory.
     pub status: u8,
     /// The configuration that the desk gave, as far as it was read.
     pub config: Option<K::Config>,
-    /// What the jobs of a `serve` or a `journal` left, if any began.
+    /// The result of the jobs of a `serve` or a `journal`, if any began.
     pub last: Option<Last<K::Doors, K::Outlet, K::Pacer, K::Store, K::Clock>>,
-    /// What the jobs of a `tunnel` left, if any began.
+    /// The result of the jobs of a `tunnel`, if any began.
     pub tunnel: Option<TunnelLast<K::Doors, K::Outlet, K::Pacer, K::Store, K::Clock>>,
     /// The kits that the desk gave, if no job began.
     pub unused: Option<Jobs<K::Doors, K::Outlet, K::Pacer, K::Store, K::Clock>>,
@@ -110,7 +117,7 @@ impl<K: Desk> Drop for Ended<K> {
     }
 }
 
-/// The program. Its words are those behind its name.
+/// Runs the program. `words` are the words after its name.
 pub fn satip<R: Threads + Wait + Sync, K: Desk, I: Source, O: Sink, E: Sink>(
     rt: &R,
     alloc: Global,
@@ -123,8 +130,8 @@ pub fn satip<R: Threads + Wait + Sync, K: Desk, I: Source, O: Sink, E: Sink>(
     requires new { K.given desk.old ≡ None }
     requires client { K.handed desk.old ≡ nothing_handed }
 
-    // Of all commands: what one that waits for nobody does, what is asked of the desk, what comes
-    // back, and what the status tells.
+    // For all commands: the outcome of one that waits for no client, what is asked of the desk,
+    // what comes back, and the meaning of the status.
     ensures ends { RunEnds K.Config.tells K.Wire.tells K.Inlet.tells I.tells O.tells E.tells
         (command_of words.now) (serving_of words.now)
         K.text K.faults K.given K.handed K.journaled desk.old desk.new
@@ -134,9 +141,11 @@ pub fn satip<R: Threads + Wait + Sync, K: Desk, I: Source, O: Sink, E: Sink>(
         K.Wire.line K.Moment.dial K.Inlet.inbox result.wire result.moment result.inlet
         result.journals.items result.status }
 
-    // A server: the jobs ran by the configuration of the desk's text, over one history that keeps
-    // the laws. So do the server's entries of a tunnel's, and those of a server with journals,
-    // which are one history in any order.
+    // For a service, if its jobs ran: they ran by the configuration of the desk's text, over one
+    // history. In a server it keeps four laws: of payload, owners, busy replies and recordings. The
+    // server's entries in a tunnel's history keep the first three. A server with journals keeps all
+    // four. With status 0 and sinks that expose their bytes, its journals are judged `yes` in any
+    // order.
     ensures serve { (name : List ℕ) (accepts : ℕ)
         → serving_of words.now ≡ Some (Serve name accepts)
         → ServeEnds K.Config.tells K.Doors.Conn.tells K.Outlet.tells E.tells
@@ -180,7 +189,7 @@ pub fn satip<R: Threads + Wait + Sync, K: Desk, I: Source, O: Sink, E: Sink>(
     }
 }
 
-// Serves with journals, and tells how it ended.
+// Serves with journals, and logs the end.
 fn run_journal<R: Threads + Wait + Sync, K: Desk, E: Sink>(
     rt: &R,
     alloc: Global,
@@ -228,7 +237,7 @@ fn run_journal<R: Threads + Wait + Sync, K: Desk, E: Sink>(
     }
 }
 
-// Serves, and tells how it ended.
+// Serves, and logs the end.
 fn run_serve<R: Threads + Wait + Sync, K: Desk, E: Sink>(
     rt: &R,
     alloc: Global,
@@ -275,7 +284,7 @@ fn run_serve<R: Threads + Wait + Sync, K: Desk, E: Sink>(
     }
 }
 
-// Serves through a tunnel, and tells how it ended.
+// Serves through a tunnel, and logs the end.
 fn run_tunnel<R: Threads + Wait + Sync, K: Desk, E: Sink>(
     rt: &R,
     alloc: Global,
@@ -323,8 +332,8 @@ fn run_tunnel<R: Threads + Wait + Sync, K: Desk, E: Sink>(
     }
 }
 
-/// The commands that wait for nobody: `talk`, `replay`, `stress`, `audit`, `record`, `--help` and
-/// `--version`. It always returns. The words of a server are an unknown command line here.
+/// Runs a command that waits for no client: `talk`, `replay`, `stress`, `audit`, `record`, `--help`
+/// and `--version`. It always returns. The words of a service are an unknown command line here.
 pub fn offline<K: Desk, I: Source, O: Sink, E: Sink>(
     alloc: Global,
     words: &[Text],
@@ -335,7 +344,7 @@ pub fn offline<K: Desk, I: Source, O: Sink, E: Sink>(
 ) -> Ended<K>
     requires client { K.handed desk.old ≡ nothing_handed }
 
-    // As `satip` says of words that ask for no service.
+    // The same as for `satip` if the words ask for no service.
     ensures ends { RunEnds K.Config.tells K.Wire.tells K.Inlet.tells I.tells O.tells E.tells
         (command_of words.now) None
         K.text K.faults K.given K.handed K.journaled desk.old desk.new
@@ -356,15 +365,15 @@ pub fn offline<K: Desk, I: Source, O: Sink, E: Sink>(
         }
         Some(Command::Replay(name)) => {
             let Replayed { end, config } = replay_by(alloc, name, input, output, errors, desk);
-            without_jobs(alloc, satip_replay_command::status_of(end), config)
+            without_jobs(alloc, satip_replay::status_of(end), config)
         }
         Some(Command::Stress { seed, count }) => {
             let end = stress_by(alloc, seed, count, output, errors);
-            without_jobs(alloc, satip_stress_command::status_of(end), None)
+            without_jobs(alloc, satip_stress::status_of(end), None)
         }
         Some(Command::Audit(name)) => {
             let Audited { end, config } = audit_by(alloc, name, input, output, errors, desk);
-            without_jobs(alloc, satip_audit_command::status_of(end), config)
+            without_jobs(alloc, audit_status_of(end), config)
         }
         Some(Command::Record(recording)) => {
             let Recorded {
@@ -380,7 +389,7 @@ pub fn offline<K: Desk, I: Source, O: Sink, E: Sink>(
     }
 }
 
-// The end of a run that has no jobs and no client.
+// Returns the end of a run that has no jobs and no client.
 fn without_jobs<K: Desk>(alloc: Global, status: u8, config: Option<K::Config>) -> Ended<K>
     ensures status { result.status ≡ status }
     ensures config { result.config ≡ config }
@@ -402,7 +411,7 @@ fn without_jobs<K: Desk>(alloc: Global, status: u8, config: Option<K::Config>) -
     }
 }
 
-// The end of a recording.
+// Returns the end of a recording.
 fn with_client<K: Desk>(
     alloc: Global,
     status: u8,
@@ -429,7 +438,7 @@ fn with_client<K: Desk>(
     }
 }
 
-// Writes a text, and tells where the output failed.
+// Writes a text, and logs if the output failed.
 fn show<O: Sink, E: Sink>(text: &[u8], output: &mut O, errors: &mut E) -> u8
     ensures shows { (i : Feed) → Shows O.tells i i
         (O.drain output.old) (O.drain output.new)

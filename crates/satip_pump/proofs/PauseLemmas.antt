@@ -1,8 +1,8 @@
 -- The pauses of jobs, entry by entry.
 use Rattle.std.proofs.Common.{◌≡◌, ℕ, ◌+◌, Bool, true, List, [], ◌∷◌, ◌++◌, length, length-append, Some, Result, Ok, Err, refl, sym, ap, ◌∙◌, subst, append-nil, append_assoc, arith}
 use Rattle.satip_base.specs.Output.{Output}
-use Rattle.satip_history.specs.declared.entry.Taken.{Taken}
-use Rattle.satip_history.specs.History.{entry, entries}
+use Rattle.satip_base.specs.declared.entry.Taken.{Taken}
+use Rattle.satip_base.specs.History.{entry, entries}
 use Rattle.satip_plain.specs.declared.answers.Answer.{Answer}
 use Rattle.satip_plain.specs.declared.answers.Answer.TheVariants.{Beat, Work as WorkIs}
 use Rattle.satip_plain.specs.declared.answers.Beat.TheVariants.{Stopping as BeatStopping}
@@ -12,8 +12,8 @@ use Rattle.satip_plain.specs.declared.events.Event.{Event}
 use Rattle.satip_plain.specs.declared.events.Event.TheVariants.{Tick}
 use Rattle.satip_plain.specs.Histories.{Item}
 use Rattle.satip_plain.specs.Pumping.{work_told}
-use Rattle.satip_service.specs.declared.fault.ServiceFault.{ServiceFault}
-use Rattle.satip_service.specs.Known.{Known}
+use Rattle.satip_plain.specs.declared.fault.ServiceFault.{ServiceFault}
+use Rattle.satip_plain.specs.Known.{Known}
 use Rattle.satip_world.specs.Counts.{Rises}
 use Rattle.satip_world.specs.Outboxes.{Outbox}
 use Rattle.satip_pump.specs.declared.ends.JobEnd.{JobEnd}

@@ -3,9 +3,9 @@ use Rattle.std.proofs.Common.{◌≡◌, ◌≢◌, ℕ, ◌+◌, ◌≤◌, ◌
 use Rattle.satip_base.specs.Streams.{Feed}
 use Rattle.std.proofs.lemmas.Bool.Decides.{nat_tests}
 use Rattle.satip_base.specs.Output.{Datagram, Output}
-use Rattle.satip_history.specs.declared.entry.Taken.{Taken}
-use Rattle.satip_history.specs.History.{entry, entries}
-use Rattle.satip_history.specs.Lists.{Each}
+use Rattle.satip_base.specs.declared.entry.Taken.{Taken}
+use Rattle.satip_base.specs.History.{entry, entries}
+use Rattle.satip_base.specs.Lists.{Each}
 use Rattle.satip_plain.specs.declared.answers.Answer.{Answer}
 use Rattle.satip_plain.specs.declared.answers.Answer.TheVariants.{Replied, Get, Beat, Work as WorkIs, Pulled, Closed}
 use Rattle.satip_plain.specs.declared.answers.Work.{Work}
@@ -13,12 +13,12 @@ use Rattle.satip_plain.specs.declared.answers.Work.TheVariants.{Tune, Nothing, S
 use Rattle.satip_plain.specs.declared.events.Event.{Event}
 use Rattle.satip_plain.specs.declared.events.Event.TheVariants.{Packet, Ended, Ask}
 use Rattle.satip_plain.specs.Histories.{Item}
-use Rattle.satip_service.specs.declared.fault.ServiceFault.{ServiceFault}
-use Rattle.satip_service.specs.declared.fault.ServiceFault.TheVariants.{Spent as ServiceSpent, Want as ServiceWant}
-use Rattle.satip_service.specs.Calls.{Cause}
-use Rattle.satip_service.specs.Known.{Known, AddsAll}
-use Rattle.satip_service.specs.Suits.{Suits}
-use Rattle.satip_service.proofs.Growing.{adds_nothing, adds_then, adds_one, adds_no_more}
+use Rattle.satip_plain.specs.declared.fault.ServiceFault.{ServiceFault}
+use Rattle.satip_plain.specs.declared.fault.ServiceFault.TheVariants.{Spent as ServiceSpent, Want as ServiceWant}
+use Rattle.satip_plain.specs.Calls.{Cause}
+use Rattle.satip_plain.specs.Known.{Known, AddsAll}
+use Rattle.satip_plain.specs.Suits.{Suits}
+use Rattle.satip_plain.proofs.Growing.{adds_nothing, adds_then, adds_one, adds_no_more}
 use Rattle.satip_world.specs.Deliveries.{Delivers}
 use Rattle.satip_world.specs.Outboxes.{Outbox}
 use Rattle.satip_world.proofs.DeliveryLemmas.{delivers_none}

@@ -3,17 +3,17 @@ use Rattle.std.proofs.Common.{◌≡◌, ℕ, Bool, true, List, [], ◌∷◌, �
 use Rattle.std.proofs.lemmas.List.{map-append}
 use Rattle.std.proofs.lemmas.List.Concat.{flat_map-append}
 use Rattle.satip_base.specs.Output.{Datagram}
-use Rattle.satip_history.specs.History.{entry}
-use Rattle.satip_history.specs.Lists.{Each}
+use Rattle.satip_base.specs.History.{entry}
+use Rattle.satip_base.specs.Lists.{Each}
 use Rattle.satip_plain.specs.declared.answers.Answer.{Answer}
 use Rattle.satip_plain.specs.declared.answers.Answer.TheVariants.{Beat}
 use Rattle.satip_plain.specs.declared.answers.Beat.TheVariants.{Going, Stopping}
 use Rattle.satip_plain.specs.declared.events.Event.{Event}
 use Rattle.satip_plain.specs.declared.events.Event.TheVariants.{Tick}
 use Rattle.satip_plain.specs.Histories.{Item}
-use Rattle.satip_service.specs.declared.fault.ServiceFault.{ServiceFault}
-use Rattle.satip_service.specs.Known.{Known, AddsAll}
-use Rattle.satip_service.proofs.Growing.{adds_nothing, adds_then, adds_one, adds_no_more}
+use Rattle.satip_plain.specs.declared.fault.ServiceFault.{ServiceFault}
+use Rattle.satip_plain.specs.Known.{Known, AddsAll}
+use Rattle.satip_plain.proofs.Growing.{adds_nothing, adds_then, adds_one, adds_no_more}
 use Rattle.satip_world.specs.Deliveries.{Delivers}
 use Rattle.satip_world.specs.Dials.{Dial, Reads}
 use Rattle.satip_world.specs.Outboxes.{Outbox}

@@ -1,4 +1,4 @@
--- How what a pump has read stands to the recording.
+-- A pump's reading, and the recording that it reads.
 use Rattle.std.specs.Prelude.{◌≡◌, ◌≢◌, ℕ, ◌+◌, ◌≤◌, ◌⊎◌, List, [], ◌++◌, Option, Some, None}
 use Rattle.satip_base.specs.Streams.{Feed}
 use Rattle.satip_ts.specs.Recording.{cut_packets}
@@ -9,44 +9,45 @@ use Rattle.satip_plain.specs.Pumping.{Reel, tuned}
 use Rattle.satip_pump.specs.Buffers.{nothing_read}
 use Rattle.satip_pump.specs.PumpRuns.{RoseBy}
 
--- nothing is read
+-- nothing was read
 abbrev pub begun : {F : Type 0} → Reading F
 begun = record { tune = None; source = None; buffer = nothing_read }
 
--- how many sources are held: one or none
+-- the number of sources held: one or none
 abbrev pub held : {F : Type 0} → Option F → ℕ
 held None = 0
 held (Some source) = 1
 
--- these packets wait and the others are still to come of the source and of what was taken of it; without a source none
--- comes, or a fault is owed for those that don't
+-- `packets` are the waiting packets and those that are still in the rest and the source. Without a source the others are missing: then there are none, or one
+-- fault is owed
 abbrev pub AreLeft : {F : Type 0} → (tells : Type 0) → (F → Feed) → List (List ℕ) → List (List ℕ) → List ℕ → Option F → ℕ → Type 0
 AreLeft tells feed packets waiting held (Some source) owed = tells × (packets ≡ waiting ++ cut_packets (held ++ (feed source).left))
 AreLeft tells feed packets waiting held None owed =
     (missing : List (List ℕ)) × (packets ≡ waiting ++ missing) × ((missing ≡ []) ⊎ (owed ≡ 1)) × (cut_packets held ≡ [])
 
+-- the same if the store exposes the recording; nothing is said otherwise
 abbrev pub AreToldLeft : {F : Type 0} → (tells : Type 0) → (F → Feed) → Option (List (List ℕ)) → List (List ℕ) → List ℕ → Option F → ℕ → Type 0
 AreToldLeft tells feed None waiting held source owed = Unit {0}
 AreToldLeft tells feed (Some packets) waiting held source owed = AreLeft tells feed packets waiting held source owed
 
--- what is read is this recording, as far as it was given
+-- the reading holds the part of this recording that was not given yet
 abbrev pub IsReel : {F : Type 0} → (tells : Type 0) → (F → Feed) → Option Reel → Reading F → ℕ → Type 0
 IsReel tells feed None reading owed = reading.tune ≡ None
 IsReel tells feed (Some reel) reading owed =
     (reading.tune ≡ Some reel.tune) × AreToldLeft tells feed reel.left reading.buffer.packets reading.buffer.rest reading.source owed
 
--- so it is, where so many recordings ended early since the store had so many faults; one more fault may be owed
+-- it does so when `early` recordings ended early while the store's fault count rose from `first` to `now`; one more fault may be owed
 pub record Stands {F : Type 0} (tells : Type 0) (feed : F → Feed) (first now early : ℕ) (reel : Option Reel) (reading : Reading F) : Type 0 where
   pub owed : ℕ
   pub is_reel : IsReel tells feed reel reading owed
   pub few : RoseBy (early + owed) first now
 
--- as it stood before, so it stands after
+-- a step keeps `Stands`, for the same recording and the same number of early ends
 abbrev pub Goes : {F : Type 0} → (tells : Type 0) → (F → Feed) → ℕ → Reading F → ℕ → Reading F → Type 0
 Goes tells feed faults old faults' new =
     (first early : ℕ) (reel : Option Reel) → Stands tells feed first faults early reel old → Stands tells feed first faults' early reel new
 
--- a step of reading on: what is read stays the same recording, and the store stays as it was but for a source that is handed back
+-- a step of reading on: the recording and the tune number stay the same. The store changes only if it gets a source back
 pub record ReadsOn {F : Type 0} (tells : Type 0) (feed : F → Feed) (before : StoreView) (old : Reading F) (after : StoreView) (new : Reading F) : Type 0 where
   pub goes : Goes tells feed before.faults old after.faults new
   pub recordings : after.recording ≡ before.recording
@@ -54,7 +55,7 @@ pub record ReadsOn {F : Type 0} (tells : Type 0) (feed : F → Feed) (before : S
   pub lent : held old.source ≤ before.lent → after.lent + held old.source ≡ before.lent + held new.source
   pub peak : after.peak ≡ before.peak
 
--- as it stood before, so it stands after, but for the recording of a tuning
+-- a step keeps `Stands`, for the recording of the tuning that follows
 abbrev pub GoesTo : {F : Type 0} → (tells : Type 0) → (F → Feed) → (ℕ → Option (List ℕ)) → ℕ → Reading F → ℕ → ℕ → ℕ → Reading F → Type 0
 GoesTo tells feed recording faults old mux tune faults' new =
     (first early : ℕ) (reel : Option Reel) → Stands tells feed first faults early reel old
@@ -65,12 +66,12 @@ abbrev pub HasFailed : {F : Type 0} → (F → Feed) → Option F → Type 0
 HasFailed feed None = ⊥
 HasFailed feed (Some source) = (feed source).faults ≢ 0
 
--- a source has the whole recording left, where that is told
+-- the source has the whole recording left, if the store exposes the recording
 abbrev pub IsWhole : (tells : Type 0) → List ℕ → Option (List ℕ) → Type 0
 IsWhole tells left None = Unit {0}
 IsWhole tells left (Some recording) = tells × (left ≡ recording)
 
--- a recording was opened, or the store failed
+-- a recording was opened, or the store's fault count rose
 abbrev pub Begins : {F : Type 0} → (tells : Type 0) → (F → Feed) → Option (List ℕ) → ℕ → ℕ → Option F → Type 0
 Begins tells feed recording faults faults' (Some source) = (faults' ≡ faults) × IsWhole tells (feed source).left recording
 Begins tells feed recording faults faults' None = Rises faults faults'

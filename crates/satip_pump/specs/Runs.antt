@@ -6,9 +6,9 @@ use Rattle.satip_plain.specs.declared.answers.Answer.TheVariants.{Work as WorkIs
 use Rattle.satip_plain.specs.declared.answers.Work.{Work}
 use Rattle.satip_plain.specs.declared.answers.Work.TheVariants.{Stopping}
 use Rattle.satip_plain.specs.Histories.{Item}
-use Rattle.satip_service.specs.declared.fault.ServiceFault.{ServiceFault}
-use Rattle.satip_service.specs.Calls.{Cause}
-use Rattle.satip_service.specs.Known.{Known, AddsAll}
+use Rattle.satip_plain.specs.declared.fault.ServiceFault.{ServiceFault}
+use Rattle.satip_plain.specs.Calls.{Cause}
+use Rattle.satip_plain.specs.Known.{Known, AddsAll}
 use Rattle.satip_world.specs.Deliveries.{Delivers}
 use Rattle.satip_world.specs.Outboxes.{Outbox}
 use Rattle.satip_pump.specs.declared.reading.Reading.{Reading}
@@ -17,7 +17,7 @@ use Rattle.satip_plain.specs.Pumping.{Due, Asking, Feeding, Reel, after_work, Pu
 use Rattle.satip_pump.specs.PumpRuns.{RoseBy, last_from}
 use Rattle.satip_pump.specs.Readings.{Stands}
 
--- the entries so far, what is due after them, the last answer, and how many recordings ended early
+-- the entries so far, what is due after them, the last answer, and the number of recordings that ended early
 pub record SoFar (front : ℕ) (recording : ℕ → Option (List ℕ)) (tells : Type 0) (k l : Known) (o n : Outbox) (due : Due) (last : Option Answer) (early : ℕ) : Type 0 where
   pub entries : List Item
   pub adds : AddsAll k l entries
@@ -25,7 +25,7 @@ pub record SoFar (front : ℕ) (recording : ℕ → Option (List ℕ)) (tells : 
   pub delivers : Delivers tells o n (datagrams_of entries)
   pub answered : last_from None entries ≡ last
 
--- the last answer told this work
+-- the last answer named this work
 pub record Runs {F : Type 0} (front : ℕ) (recording : ℕ → Option (List ℕ)) (tells reads : Type 0) (feed : F → Feed) (k l : Known) (o n : Outbox)
     (first now : ℕ) (work : Work) (reading : Reading F) : Type 0 where
   pub reel : Option Reel
@@ -33,7 +33,7 @@ pub record Runs {F : Type 0} (front : ℕ) (recording : ℕ → Option (List ℕ
   pub so_far : SoFar front recording tells k l o n (after_work recording reel work) (Some (WorkIs work)) early
   pub stands : Stands reads feed first now early reel reading
 
--- and it is what is read for now
+-- the last answer named this work, and the pump reads for this tune number
 pub record Feeds {F : Type 0} (front : ℕ) (recording : ℕ → Option (List ℕ)) (tells reads : Type 0) (feed : F → Feed) (k l : Known) (o n : Outbox)
     (first now : ℕ) (work : Work) (tune : ℕ) (reading : Reading F) : Type 0 where
   pub reel : Reel
@@ -52,6 +52,7 @@ pub record Fails (may_want : Bool) (front : ℕ) (recording : ℕ → Option (Li
   pub going : last ≢ Some (WorkIs Stopping)
   pub cause : Cause may_want l fault
 
+-- the state of a pump after an answer, or after the service made no entry
 abbrev pub Answered : {F : Type 0} → Bool → ℕ → (ℕ → Option (List ℕ)) → (tells reads : Type 0) → (F → Feed) → Known → Known → Outbox → Outbox
     → ℕ → ℕ → Reading F → Result Work ServiceFault → Type 0
 Answered may_want front recording tells reads feed k l o n first now reading (Ok work) = Runs front recording tells reads feed k l o n first now work reading

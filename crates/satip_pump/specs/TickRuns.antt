@@ -1,12 +1,12 @@
--- What the ticker does.
+-- The run of the ticker.
 use Rattle.std.specs.Prelude.{◌≡◌, ℕ, Bool, true, List, [], ◌∷◌, ◌++◌, map, Option, Some, None}
-use Rattle.satip_history.specs.Lists.{Each}
+use Rattle.satip_base.specs.Lists.{Each}
 use Rattle.satip_plain.specs.declared.answers.Answer.TheVariants.{Beat}
 use Rattle.satip_plain.specs.declared.answers.Beat.TheVariants.{Going, Stopping}
 use Rattle.satip_plain.specs.declared.events.Event.TheVariants.{Tick}
 use Rattle.satip_plain.specs.Histories.{Item}
-use Rattle.satip_service.specs.declared.fault.ServiceFault.TheVariants.{Spent as ServiceSpent, Want as ServiceWant}
-use Rattle.satip_service.specs.Known.{Known, AddsAll}
+use Rattle.satip_plain.specs.declared.fault.ServiceFault.TheVariants.{Spent as ServiceSpent, Want as ServiceWant}
+use Rattle.satip_plain.specs.Known.{Known, AddsAll}
 use Rattle.satip_world.specs.Deliveries.{Delivers}
 use Rattle.satip_world.specs.Dials.{Dial}
 use Rattle.satip_world.specs.Outboxes.{Outbox}
@@ -14,11 +14,11 @@ use Rattle.satip_pump.specs.declared.ends.JobEnd.{JobEnd}
 use Rattle.satip_pump.specs.declared.ends.JobEnd.TheVariants.{Stopped, Spent, Want}
 use Rattle.satip_pump.specs.Events.{MakesOne, MakesNone, datagrams_of}
 
--- the service goes on
+-- the answer says that the service goes on
 abbrev pub IsGoing : Item → Type 0
 IsGoing e = e.answer ≡ Beat Going
 
--- the last entry was answered that the service stops, and each other that it goes on
+-- the last answer says that the service stops, and each answer before says that it goes on
 pub record StopsLast (entries : List Item) : Type 0 where
   pub before : List Item
   pub last : Item
@@ -26,12 +26,12 @@ pub record StopsLast (entries : List Item) : Type 0 where
   pub going : Each IsGoing before
   pub stopping : last.answer ≡ Beat Stopping
 
--- how a ticker's entries end, and the readings whose ticks have no entry
+-- how a ticker's entries end, and the clock readings whose ticks have no entry: none, or the last one
 abbrev pub TicksEnd : JobEnd → List Item → List ℕ → Type 0
 TicksEnd Stopped entries unmade = StopsLast entries × (unmade ≡ [])
 TicksEnd _ entries unmade = Each IsGoing entries × ((moment : ℕ) × (unmade ≡ moment ∷ []))
 
--- a ticker's entries are ticks at the moments that it read of its clock, in order; the outlet was given their datagrams
+-- a ticker's entries are ticks at the moments that it read of its clock, in order. The outlet was given their datagrams
 pub record TickRun (k l : Known) (c d : Dial) (tells : Type 0) (o n : Outbox) (end : JobEnd) : Type 0 where
   pub entries : List Item
   pub moments : List ℕ

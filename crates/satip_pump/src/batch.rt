@@ -14,8 +14,8 @@ const BYTE_ROOM: usize = 1310720;
 
 const COUNT_ROOM: usize = 1024;
 
-/// Datagrams that are sent later, with room for 1024 of them and for 1310720 bytes together. All
-/// memory is taken when it is made.
+/// Datagrams that are sent later: at most 1024 of them, with at most 1310720 bytes together. `make`
+/// takes all memory.
 #[derive(Drop)]
 pub struct Batch {
     datagrams: Datagrams,
@@ -41,7 +41,7 @@ impl Batch {
         Ok(Batch { datagrams })
     }
 
-    /// Whether there is room for the datagrams of any event.
+    /// Returns whether there is room for the datagrams of any event.
     pub fn has_room(&self) -> bool
         ensures room { result ≡ has_room self.now }
     {
@@ -73,7 +73,7 @@ impl Batch {
         }
     }
 
-    /// Sends the datagrams, in order. One that can't be sent is left out.
+    /// Sends the datagrams, in order. Leaves out one that can't be sent.
     pub fn post<O: Outlet>(&self, outlet: &mut O)
         requires held { (O.outbox outlet.old).held ≡ true }
         ensures held { (O.outbox outlet.new).held ≡ true }
@@ -101,7 +101,7 @@ impl Batch {
         }
     }
 
-    /// Lets go of what it has.
+    /// Drops all datagrams.
     pub fn clear(&mut self)
         ensures empty { self.new ≡ empty_bundle }
     {

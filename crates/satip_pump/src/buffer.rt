@@ -1,4 +1,4 @@
-//! What was read of a recording and is still to be given.
+//! The part of a recording that was read and not yet given.
 ghost use Rattle.std.specs.Prelude.{◌≡◌, ◌+◌, ◌-◌, ◌<◌, ◌≤◌, ◌==◌, [], length, take, drop, position, Some, MatchBool};
 ghost use Rattle.satip_ts.specs.Packet.{IsPacket};
 ghost use Rattle.satip_ts.specs.Recording.{from_sync};
@@ -10,26 +10,26 @@ use satip_base::{Source, Taken};
 use satip_ts::Packet;
 use std::marker::Model;
 
-/// How many packets wait at most.
+/// The largest number of waiting packets.
 pub(crate) const PLACES: usize = 64;
 
 const PACKET_BYTES: usize = 188;
 
 const SYNC_BYTE: u8 = 0x47;
 
-// The packets that wait, and less than one behind them.
+// The bytes of the waiting packets and of less than one packet after them.
 const ROOM: usize = 12220;
 
-/// The bytes that were taken of a source. The packets that were found in them wait where they
-/// stand, at most 64 of them. Behind them is the rest, in which none was looked for yet.
+/// The bytes that were taken from the source. The packets found in them wait in place, at most 64
+/// of them. The rest follows them: bytes that were not searched yet.
 #[derive(Drop)]
 pub(crate) struct Buffer {
     bytes: [u8; ROOM],
-    // Where each packet that was found starts, and how many of them were given.
+    // The place of each packet that was found, and the number of packets that were given.
     starts: [usize; PLACES],
     given: usize,
     found: usize,
-    // Where the rest is.
+    // The bounds of the rest.
     start: usize,
     end: usize,
 }
@@ -46,7 +46,7 @@ impl Model for Buffer {
 }
 
 impl Buffer {
-    /// A buffer of which nothing was read.
+    /// Creates a buffer into which nothing was read.
     pub(crate) fn new() -> Buffer
         ensures empty { result ≡ nothing_read }
     {
@@ -60,7 +60,7 @@ impl Buffer {
         }
     }
 
-    /// How many packets wait.
+    /// Returns the number of waiting packets.
     pub(crate) fn count(&self) -> usize
         ensures count { result ≡ length self.now.packets }
         ensures most { self.now.room + length self.now.packets ≤ 64 }
@@ -68,7 +68,7 @@ impl Buffer {
         self.found - self.given
     }
 
-    /// The first packet that waits.
+    /// Returns the first waiting packet.
     pub(crate) fn first(&self) -> Option<Packet>
         ensures first { IsAtFront self.now.packets result }
     {
@@ -78,7 +78,7 @@ impl Buffer {
         packet_from(&self.bytes, self.starts[self.given])
     }
 
-    /// Lets go of the first packet.
+    /// Drops the first packet.
     pub(crate) fn pass(&mut self)
         requires some { 1 ≤ length self.old.packets }
         ensures packets { self.new.packets ≡ rest_of self.old.packets }
@@ -88,7 +88,7 @@ impl Buffer {
         self.given += 1;
     }
 
-    /// Lets go of all packets and of the rest.
+    /// Drops all packets and the rest.
     pub(crate) fn clear(&mut self)
         ensures empty { self.new ≡ nothing_read }
     {
@@ -98,7 +98,7 @@ impl Buffer {
         self.end = 0;
     }
 
-    /// Where no packet waits there is room for 64 again.
+    /// Makes room for 64 packets again, when no packet waits.
     pub(crate) fn renew(&mut self)
         requires none { self.old.packets ≡ [] }
         ensures renewed { self.new ≡ record self.old { room = 64 } }
@@ -107,8 +107,8 @@ impl Buffer {
         self.found = 0;
     }
 
-    /// Drops the bytes of the rest before the next sync byte, and lets the packet wait that begins
-    /// there. False where fewer than 188 bytes are left from there on.
+    /// Drops the bytes of the rest before the next sync byte, and appends the packet that begins
+    /// there to the waiting ones. Returns false if fewer than 188 bytes are left from there on.
     pub(crate) fn cut(&mut self) -> bool
         requires room { 1 ≤ self.old.room }
         ensures cut { MatchBool result (CutsOne self.old self.new) (CutsNone self.old self.new) }
@@ -123,8 +123,8 @@ impl Buffer {
         true
     }
 
-    /// Moves the rest to the front where no packet waits. Answers how many more bytes there is room
-    /// for.
+    /// Moves the rest to the front if no packet waits. Returns the number of bytes that there is
+    /// room for.
     pub(crate) fn make_space(&mut self) -> usize
         ensures packets { self.new.packets ≡ self.old.packets }
         ensures rest { self.new.rest ≡ self.old.rest }
@@ -139,7 +139,7 @@ impl Buffer {
         ROOM - self.end
     }
 
-    /// Takes bytes of the source behind the rest, as many as so many packets have at most.
+    /// Appends bytes of the source to the rest, at most those of `packets` packets.
     pub(crate) fn take<F: Source>(&mut self, source: &mut F, packets: usize) -> Taken
         requires space { 1 ≤ self.old.space }
         requires some { 1 ≤ packets }
@@ -153,7 +153,7 @@ impl Buffer {
         self.take_bytes(source, count)
     }
 
-    // Takes at most so many bytes of the source.
+    // Appends at most `count` bytes of the source to the rest.
     fn take_bytes<F: Source>(&mut self, source: &mut F, count: usize) -> Taken
         requires some { 1 ≤ count }
         requires space { count ≤ self.old.space }
@@ -168,7 +168,7 @@ impl Buffer {
     }
 }
 
-// How many bytes were taken.
+// Returns the number of bytes taken.
 fn bytes_in(taken: Taken) -> usize
     ensures count { result ≡ bytes_in taken }
 {
@@ -179,7 +179,7 @@ fn bytes_in(taken: Taken) -> usize
     }
 }
 
-// The packet that starts at a place.
+// Returns the packet that starts at a place.
 fn packet_from(bytes: &[u8; ROOM], start: usize) -> Option<Packet>
     requires within { start + 188 ≤ 12220 }
     requires packet { IsPacket (packet_at bytes.now start) }
@@ -191,7 +191,7 @@ fn packet_from(bytes: &[u8; ROOM], start: usize) -> Option<Packet>
     }
 }
 
-// How many bytes stand before the first sync byte.
+// Returns the number of bytes before the first sync byte.
 fn bytes_before_sync(rest: &[u8]) -> usize
     ensures sync { drop result rest.now ≡ from_sync rest.now }
     ensures within { result ≤ length rest.now }
@@ -199,14 +199,14 @@ fn bytes_before_sync(rest: &[u8]) -> usize
     first_sync(rest).unwrap_or(rest.len())
 }
 
-// Where the first sync byte stands.
+// Returns the place of the first sync byte.
 fn first_sync(rest: &[u8]) -> Option<usize>
     ensures place { result ≡ position (λ b. b == 71) rest.now }
 {
     rest.iter().position(|b| *b == SYNC_BYTE)
 }
 
-// Moves the rest to the front, and answers where it then ends.
+// Moves the rest to the front, and returns where it then ends.
 fn move_to_front(bytes: &mut [u8; ROOM], start: usize, end: usize) -> usize
     requires ordered { start ≤ end }
     requires within { end ≤ 12220 }

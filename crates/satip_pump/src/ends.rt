@@ -1,9 +1,9 @@
-//! How jobs end.
+//! The ends of jobs.
 
 ghost use Rattle.std.specs.Prelude.{◌≡◌};
 ghost use Rattle.satip_pump.specs.Ends.{ended_by};
 
-use satip_service::ServiceFault;
+use satip_plain::ServiceFault;
 
 /// How the job of a pump or of the ticker ended.
 #[derive(Clone, Copy, Debug, PartialEq, Eq)]
@@ -16,7 +16,7 @@ pub enum JobEnd {
     Want,
 }
 
-/// The end of a job whose service had no room for an event.
+/// Returns the end of a job whose service had no room for an event, or no memory.
 pub(crate) fn end_of(fault: ServiceFault) -> JobEnd
     ensures end { result ≡ ended_by fault }
 {

@@ -3,11 +3,10 @@ ghost use Rattle.std.specs.Prelude.{◌≡◌, true, false};
 ghost use Rattle.satip_pump.specs.Events.{Makes};
 
 use satip_base::Out;
-use satip_plain::{Answer, Event};
-use satip_service::{Service, ServiceFault};
+use satip_plain::{Answer, Event, Service, ServiceFault};
 use satip_world::{Outlet, post_all};
 
-/// Makes an event, and sends its datagrams before those of later events.
+/// Executes an event and sends its datagrams, with the outlet's lock held.
 pub(crate) fn make_event<S: Service, O: Outlet>(
     service: &mut S,
     outlet: &mut O,
@@ -26,7 +25,7 @@ pub(crate) fn make_event<S: Service, O: Outlet>(
     made
 }
 
-// Makes an event, and sends its datagrams.
+// Executes an event and sends its datagrams.
 fn call_and_post<S: Service, O: Outlet>(
     service: &mut S,
     outlet: &mut O,

@@ -1,12 +1,13 @@
-//! Pumps and the ticker: what reads the recordings and the clock, and hands packets and ticks to a
-//! service.
+//! Runs pumps, which play recordings, and the ticker, which reads a clock, over any service.
+//! Contract: a pump's entries are the packets of its recordings, the ticker's are ticks at its
+//! clock's readings. The outlet was given their datagrams in order, but for those whose send
+//! failed. Each source that a store lent is handed back, and one is out at a time.
 #![tactic(auto)]
 
 mod batch;
 mod buffer;
 mod ends;
 mod events;
-mod kits;
 mod lot;
 mod pump;
 mod reading;
@@ -15,6 +16,5 @@ mod works;
 
 pub use batch::Batch;
 pub use ends::JobEnd;
-pub use kits::{PumpKit, TickKit};
 pub use pump::run_pump;
 pub use ticker::run_ticker;

@@ -6,17 +6,16 @@ ghost use Rattle.satip_plain.specs.Pumping.{work_told};
 use crate::batch::Batch;
 use crate::buffer::Buffer;
 use satip_base::Out;
-use satip_plain::{Answer, Event, Work};
-use satip_service::Lot;
+use satip_plain::{Answer, Event, Lot, Work};
 use satip_ts::Packet;
 
-/// The packets that wait, as events of a front end for a tuning number. It goes on as long as the
-/// answers name that number and the batch has room for what an event sends.
+/// Gives the waiting packets as events of a front end for one tune number. It goes on while the
+/// answers name that number and the batch has room for the datagrams of any event.
 #[derive(Drop)]
 pub(crate) struct Load<'a> {
     pub front: u16,
     pub tune: u64,
-    /// What the last answer said.
+    /// The work that the last answer named.
     pub work: Work,
     pub given: bool,
     pub ended: bool,
@@ -24,7 +23,7 @@ pub(crate) struct Load<'a> {
     pub batch: &'a mut Batch,
 }
 
-/// The work that an answer tells; an answer of another kind tells of none.
+/// Returns the work that an answer names; an answer of another kind names none.
 pub(crate) fn work_of(answer: &Answer) -> Work
     ensures work { result ≡ work_told answer.now }
 {
@@ -34,7 +33,7 @@ pub(crate) fn work_of(answer: &Answer) -> Work
     }
 }
 
-/// Whether the work is to read for this tuning number.
+/// Returns whether the work is to read for this tune number.
 pub(crate) fn is_for(work: Work, number: u64) -> bool
     ensures tune { result ≡ is_of number work }
 {
@@ -46,7 +45,7 @@ pub(crate) fn is_for(work: Work, number: u64) -> bool
 }
 
 impl Load<'_> {
-    // The packet that is given next.
+    // Returns the packet that is given next.
     fn next_packet(&self) -> Option<Packet>
         ensures next { option_map (Event.Packet self.now.front self.now.tune) result
             ≡ given_event true (may_give self.now.tune self.now.work self.now.batch.now)
@@ -65,7 +64,7 @@ impl Lot for Load<'_> {
 
     ghost ended = { λ l. l.ended };
 
-    // and it still has the same buffer
+    // the load still has the same buffer
     ghost has_taken = { λ f g ts. (g.buffer.ghost_name ≡ f.buffer.ghost_name) × Took
         (record {
           front = f.front;

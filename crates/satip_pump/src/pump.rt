@@ -1,7 +1,7 @@
 //! The pump of a front end.
 ghost use Rattle.std.specs.Prelude.{◌≡◌, ◌+◌, ◌-◌, ◌<◌, ◌≤◌, ℕ, max, List, true, false, length, None};
 ghost use Rattle.satip_plain.specs.Histories.{Item};
-ghost use Rattle.satip_service.specs.Known.{Known};
+ghost use Rattle.satip_plain.specs.Known.{Known};
 ghost use Rattle.satip_world.specs.Outboxes.{Outbox};
 ghost use Rattle.satip_pump.specs.Pauses.{Paced, PumpPauses, owed_by};
 ghost use Rattle.satip_pump.specs.PumpRuns.{PumpRun};
@@ -12,17 +12,17 @@ ghost use Rattle.satip_pump.specs.Works.{Works};
 use crate::batch::Batch;
 use crate::buffer::PLACES;
 use crate::ends::{JobEnd, end_of};
-use crate::kits::PumpKit;
 use crate::reading::{Reading, fill, hand_back, turn_to};
 use crate::works::{give, make_work};
 use satip_base::Out;
 use satip_base::limits::LONGEST_HISTORY;
-use satip_plain::{Event, Work};
-use satip_service::{Service, ServiceFault};
+use satip_desk::PumpKit;
+use satip_plain::{Event, Service, ServiceFault, Work};
 use satip_world::{MuxStore, Outlet, Pacer};
 use std::sync::Wait;
 
-// A pump: its front end, what it reads, and how many packets it gave since it last paused.
+// A pump: its front end, its reading, and the number of packets that it gave since it last paused
+// for packets.
 #[derive(Drop)]
 struct Pump<F> {
     front: u16,
@@ -30,7 +30,7 @@ struct Pump<F> {
     since: usize,
 }
 
-// Tells the end of the recording, of which no source is held then.
+// Submits the end of the recording. No source is held then.
 fn tell_end<S: Service, F, O: Outlet>(
     service: &mut S,
     outlet: &mut O,
@@ -53,8 +53,8 @@ fn tell_end<S: Service, F, O: Outlet>(
     make_work(service, outlet, &ended, out)
 }
 
-// Does what an answer told, which is to read for a tuning: gives the packets that wait or are read,
-// and pauses after 64, or tells the end of the recording where there are none.
+// Reads for a tuning, as the last answer named it. Gives the packets that wait or are read, and
+// pauses after 64. Submits the end of the recording if there are none.
 fn tune<R: Wait, S: Service, M: MuxStore, O: Outlet, P: Pacer>(
     rt: &R,
     service: &mut S,
@@ -115,11 +115,11 @@ fn tune<R: Wait, S: Service, M: MuxStore, O: Outlet, P: Pacer>(
     answer
 }
 
-/// Asks what to read for a front end, reads it and gives its packets and its end, until the service
-/// stops. Packets are given in bursts of at most 64; the datagrams of each event go to the outlet
-/// after its burst. It pauses after every 64 packets, and where it is told to do nothing. Each
-/// source that the store lent is handed back: before its end is told, before another start, and
-/// where the pump ends. It waits.
+/// Asks what to read for a front end, reads it, and gives its packets and its end, until the
+/// service stops. Gives packets in bursts of at most 64, and sends the datagrams of a burst after
+/// it. Pauses after every 64 packets, and after each answer that there is nothing to do. Hands each
+/// source back to the store before it submits the end of the recording, before another start, and
+/// when the pump ends. Blocks.
 pub fn run_pump<R: Wait + Sync, S: Service, M: MuxStore, O: Outlet, P: Pacer>(
     rt: &R,
     service: &mut S,

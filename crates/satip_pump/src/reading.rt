@@ -9,8 +9,8 @@ use satip_base::Taken;
 use satip_world::MuxStore;
 use std::sync::Wait;
 
-/// What a pump reads: for which tuning number, from which source, and what was read and is still to
-/// be given. There is no source where it came to its end or failed.
+/// A pump's reading: the tune number, the source, and the packets and bytes not yet given. The
+/// source is `None` after it came to its end or failed.
 #[derive(Drop)]
 pub(crate) struct Reading<F> {
     pub tune: Option<u64>,
@@ -19,7 +19,7 @@ pub(crate) struct Reading<F> {
 }
 
 impl<F> Reading<F> {
-    /// Nothing is read.
+    /// Creates a reading of nothing.
     pub(crate) fn new() -> Reading<F>
         ensures begun { result ≡ begun }
     {
@@ -31,7 +31,7 @@ impl<F> Reading<F> {
     }
 }
 
-/// Hands the source back to the store, where there is one.
+/// Hands the source back to the store, if there is one.
 pub(crate) fn hand_back<M: MuxStore>(reading: &mut Reading<M::From>, store: &mut M)
     ensures source { reading.new ≡ record reading.old { source = None } }
     ensures recordings { (M.shelf store.new).recording ≡ (M.shelf store.old).recording }
@@ -46,14 +46,14 @@ pub(crate) fn hand_back<M: MuxStore>(reading: &mut Reading<M::From>, store: &mut
     }
 }
 
-// Whether this is the number that is read for.
+// Returns whether the reading is for this tune number.
 fn is_read(tune: Option<u64>, number: u64) -> bool
     ensures read { IsTrue result ↔ (tune ≡ Some number) }
 {
     tune == Some(number)
 }
 
-// Opens the recording of a multiplex; None where that fails.
+// Opens the recording of a multiplex. Returns `None` if that fails.
 fn begin<M: MuxStore>(store: &mut M, mux: u16) -> Option<M::From>
     ensures recordings { (M.shelf store.new).recording ≡ (M.shelf store.old).recording }
     ensures begins { Begins M.From.tells M.From.feed ((M.shelf store.old).recording mux)
@@ -68,8 +68,8 @@ fn begin<M: MuxStore>(store: &mut M, mux: u16) -> Option<M::From>
     }
 }
 
-/// Reads for a tuning: goes on with the recording where the number is the one that is read for, and
-/// else begins that of the multiplex.
+/// Reads for a tuning. Continues the recording if the tune number is the same, and else begins the
+/// recording of the multiplex.
 pub(crate) fn turn_to<M: MuxStore>(
     reading: &mut Reading<M::From>,
     store: &mut M,
@@ -97,8 +97,8 @@ pub(crate) fn turn_to<M: MuxStore>(
     reading.source = begin(store, mux);
 }
 
-// Reads on in the source, for so many packets at most. It is handed back where it is at its end or
-// failed. Whether there is more to read, and room for it.
+// Reads on in the source, at most the bytes of `packets` packets. Hands the source back if it is at
+// its end or failed. Returns whether to go on: false if there is nothing to read, or no room.
 fn read_more<M: MuxStore>(reading: &mut Reading<M::From>, store: &mut M, packets: usize) -> bool
     requires few { length reading.old.buffer.rest < 188 }
     requires none { cut_packets reading.old.buffer.rest ≡ [] }
@@ -129,8 +129,8 @@ fn read_more<M: MuxStore>(reading: &mut Reading<M::From>, store: &mut M, packets
     }
 }
 
-// Lets a packet wait, or reads on, for so many packets at most. Whether there is more to read, and
-// room for it.
+// Finds one packet in the rest, or else reads on, at most the bytes of `packets` packets. Returns
+// whether to go on: false if there is nothing to read, or no room.
 fn read_one<M: MuxStore>(reading: &mut Reading<M::From>, store: &mut M, packets: usize) -> bool
     requires some { 1 ≤ packets }
     requires room { packets ≤ reading.old.buffer.room }
@@ -148,8 +148,8 @@ fn read_one<M: MuxStore>(reading: &mut Reading<M::From>, store: &mut M, packets:
     read_more(reading, store, packets)
 }
 
-/// Where no packet waits, reads until so many do, or there is no more to read, or no room for it
-/// behind those that wait. It waits for the source.
+/// If no packet waits, reads until `most` packets wait, nothing is left to read, or there is no
+/// room after the waiting packets. Blocks on the source.
 pub(crate) fn fill<R: Wait, M: MuxStore>(
     rt: &R,
     reading: &mut Reading<M::From>,

@@ -5,15 +5,14 @@ ghost use Rattle.satip_pump.specs.TickRuns.{Ticked, TickRun};
 
 use crate::ends::{JobEnd, end_of};
 use crate::events::make_event;
-use crate::kits::TickKit;
 use satip_base::Out;
 use satip_base::limits::LONGEST_HISTORY;
-use satip_plain::{Answer, Beat, Event};
-use satip_service::Service;
+use satip_desk::TickKit;
+use satip_plain::{Answer, Beat, Event, Service};
 use satip_world::{Clock, Outlet, Pacer};
 use std::sync::Wait;
 
-// Makes a tick. None where the service goes on.
+// Executes a tick. Returns `None` if the service goes on.
 fn tick<S: Service, O: Outlet>(
     service: &mut S,
     outlet: &mut O,
@@ -33,8 +32,8 @@ fn tick<S: Service, O: Outlet>(
     }
 }
 
-/// Pauses, reads the clock and ticks, until the service stops. Each tick's datagrams go to the
-/// outlet. It waits.
+/// Pauses, reads the clock and submits a tick, again and again, until the service stops. Sends each
+/// tick's datagrams. Blocks.
 pub fn run_ticker<R: Wait + Sync, S: Service, C: Clock, O: Outlet, P: Pacer>(
     rt: &R,
     service: &mut S,

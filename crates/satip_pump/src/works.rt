@@ -7,11 +7,10 @@ use crate::buffer::Buffer;
 use crate::events::make_event;
 use crate::lot::{Load, work_of};
 use satip_base::Out;
-use satip_plain::{Event, Work};
-use satip_service::{Service, ServiceFault};
+use satip_plain::{Event, Service, ServiceFault, Work};
 use satip_world::Outlet;
 
-/// Makes an event whose answer tells what to do next, and sends its datagrams.
+/// Executes an event whose answer names the next work, and sends its datagrams.
 pub(crate) fn make_work<S: Service, O: Outlet>(
     service: &mut S,
     outlet: &mut O,
@@ -31,9 +30,9 @@ pub(crate) fn make_work<S: Service, O: Outlet>(
     }
 }
 
-/// Gives the packets that wait in one burst, as long as the answers name this tuning number, and
-/// sends their datagrams after it, before those of later events. Answers the work that the last
-/// answer told, which is the given one where there was none.
+/// Gives the waiting packets in one burst, while the answers name this tune number and the batch
+/// has room. Then sends their datagrams. Holds the outlet's lock meanwhile. Returns the work of the
+/// last answer, or `work` if no packet was given.
 pub(crate) fn give<S: Service, O: Outlet>(
     service: &mut S,
     outlet: &mut O,

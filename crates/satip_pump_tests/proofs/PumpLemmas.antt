@@ -1,13 +1,13 @@
 -- The entries of the one caller of a scripted service.
 use Rattle.std.proofs.Common.{◌≡◌, List, [], ◌∷◌, ◌++◌, ap, sym, ◌∙◌, append-nil}
 use Rattle.satip_base.specs.Output.{Output}
-use Rattle.satip_history.specs.History.{entry}
+use Rattle.satip_base.specs.History.{entry}
 use Rattle.satip_plain.specs.declared.answers.Answer.{Answer}
 use Rattle.satip_plain.specs.declared.events.Event.{Event}
 use Rattle.satip_plain.specs.Histories.{Item}
-use Rattle.satip_service.specs.Known.{Adds, AddsNone}
-use Rattle.satip_service.specs.Calls.{Made}
-use Rattle.satip_service.specs.Suits.{Suits}
+use Rattle.satip_plain.specs.Known.{Adds, AddsNone}
+use Rattle.satip_plain.specs.Calls.{Made}
+use Rattle.satip_plain.specs.Suits.{Suits}
 use Rattle.satip_pump_tests.specs.PumpScripts.{known_of}
 
 pub adds_next : (h i : List Item) (e : Item) → i ≡ h ++ e ∷ [] → Adds (known_of h) (known_of i) e

@@ -1,4 +1,4 @@
-//! Pumps and the ticker over memory and a scripted service, by example. It has nothing but tests.
+//! Tests pumps and the ticker over memory and a scripted service.
 #![tactic(auto)]
 
 #[cfg(test)]

@@ -1,7 +1,7 @@
 //! Pumps and a ticker over memory and a scripted service.
 ghost use Rattle.std.specs.Prelude.{◌≡◌, ℕ, List, [], ◌∷◌, false, IfOk, None, Some};
 ghost use Rattle.satip_base.specs.Output.{empty};
-ghost use Rattle.satip_history.specs.History.{entry};
+ghost use Rattle.satip_base.specs.History.{entry};
 ghost use Rattle.satip_plain.specs.Pumping.{Asking, Feeding, Finished, after_entry, tuned, moved, early_end, Pumps};
 ghost use Rattle.satip_pump.specs.PumpRuns.{last_from};
 ghost use Rattle.satip_pump.specs.Pauses.{idle_in, one_if_unmade, packets_in};
@@ -12,11 +12,12 @@ mod script;
 mod sides;
 
 use satip_base::{Out, Want};
+use satip_desk::{PumpKit, TickKit};
 use satip_fixtures::packet_bytes;
 use satip_fixtures::texts::{is_joined, repeated};
 use satip_memory::{MemoryClock, MemoryOutlet, MemoryPacer, MemoryStore};
 use satip_plain::{Answer, Beat, Event, Work};
-use satip_pump::{Batch, JobEnd, PumpKit, TickKit, run_pump, run_ticker};
+use satip_pump::{Batch, JobEnd, run_pump, run_ticker};
 use satip_ts::Packet;
 use script::{ASK, ENDED, Note, Scripted, TICK};
 use std::alloc::Global;

@@ -7,3 +7,4 @@ pub mod ValuePrinted
 pub mod QueryPrinted
 pub mod PrintLemmas
 pub mod GivenKeys
+pub mod BodyLengths

@@ -51,22 +51,22 @@ piece_text query key = key_text key ++ (61 ∷ value_text query key)
 unfoldable pub query_text : Query → List ℕ
 query_text query = join_with_byte 38 (map (piece_text query) (filter (is_given query) all_keys))
 
--- what stands before a piece: `&` behind other pieces, and else nothing
+-- the text before a piece: `&` after other pieces, else nothing
 abbrev pub separator : Bool → List ℕ
 separator true = codes "&"
 separator false = []
 
--- what a key adds to a text that has pieces already, or has none
+-- the text that a key adds after other pieces, or at the start
 abbrev pub part_text : Query → Bool → Key → List ℕ
 part_text query started key = if is_given query key then separator started ++ piece_text query key else []
 
--- what keys add, one after another
+-- the text that keys add, one after another
 abbrev pub parts_text : Query → Bool → List Key → List ℕ
 parts_text query started [] = []
 parts_text query started (key ∷ keys) =
     part_text query started key ++ parts_text query (started || is_given query key) keys
 
--- a number is one of these
+-- a number from `low` to `high`
 pub record IsWithin (low high n : ℕ) : Type 0 where
   pub at_least : low ≤ n
   pub at_most : n ≤ high
@@ -76,14 +76,14 @@ pub record AreListed (pids : List ℕ) : Type 0 where
   pub some : 0 < length pids
   pub limits : IsPidList pids
 
--- what `pids` gives may be written
+-- the value of `pids` is one that a query may give
 abbrev pub MayBeGiven : PidsGiven → Type 0
 MayBeGiven Absent = Unit {0}
 MayBeGiven All = Unit {0}
 MayBeGiven Empty = Unit {0}
 MayBeGiven (Listed pids) = AreListed pids
 
--- each value that is given is an allowed one
+-- each value that is given is allowed
 pub record IsAllowed (query : Query) : Type 0 where
   pub fe : IfSome query.change.fe (IsWithin 1 65535)
   pub src : IfSome query.change.src (IsWithin 1 255)

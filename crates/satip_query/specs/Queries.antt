@@ -29,7 +29,7 @@ new_query = record {
   delpids = None;
 }
 
--- whether PIDs are given
+-- whether `pids` is given
 abbrev pub are_given_by : PidsGiven → Bool
 are_given_by Absent = false
 are_given_by All = true

@@ -1,4 +1,4 @@
--- The query of a text: its pieces one after another, the first at fault from the left.
+-- The query of a text: its pieces are read one after another, up to the first fault.
 use Rattle.std.specs.Prelude.{◌≡◌, ℕ, Bool, true, false, not, ◌&&◌, if◌then◌else◌, codes, List, [], ◌∷◌, Option, None, Some, Result, Ok, Err}
 use Rattle.std.specs.List.{after_first, before_first, slice_split}
 use Rattle.std.specs.Str.{bytes_eq}
@@ -30,15 +30,15 @@ pids_of text =
     else if bytes_eq text (codes "none") then Ok Empty
     else result_map Listed (pid_list_of text)
 
--- the value of a word
+-- the value of a text that has to be a word
 abbrev pub word_of : {A : Type 0} → (List ℕ → Option A) → List ℕ → Result A ValueFault
 word_of named text = named_or (named text) (is_word_text text)
 
--- a query with another change
+-- a query with its change replaced
 abbrev pub with_change : Query → Change → Query
 with_change query change = record query { change = change }
 
--- a query that gives a key's value too
+-- a query with a key's value added
 abbrev pub with_value : Query → Key → List ℕ → Result Query ValueFault
 with_value q Fe text = result_map (λ n. with_change q (record q.change { fe = Some n })) (number_in 1 65535 text)
 with_value q Src text = result_map (λ n. with_change q (record q.change { src = Some n })) (number_in 1 255 text)
@@ -54,7 +54,7 @@ with_value q Pids text = result_map (λ given. record q { pids = given }) (pids_
 with_value q Addpids text = result_map (λ list. record q { addpids = Some list }) (pid_list_of text)
 with_value q Delpids text = result_map (λ list. record q { delpids = Some list }) (pid_list_of text)
 
--- whether a key may be left open by the value `auto`
+-- whether `auto` may be the value of a key
 abbrev pub may_be_open : Key → Bool
 may_be_open Ro = true
 may_be_open Mtype = true
@@ -62,52 +62,52 @@ may_be_open Plts = true
 may_be_open Fec = true
 may_be_open key = false
 
--- whether a piece leaves its key open, and so gives nothing
+-- whether a piece has the value `auto` for such a key, and so gives nothing
 unfoldable pub is_left_open : Key → List ℕ → Bool
 is_left_open key text = may_be_open key && bytes_eq text (codes "auto")
 
--- the fault of a query at a key, by that of the key's value
+-- the fault of a query at a key, from the fault of the key's value
 abbrev pub fault_at : Key → ValueFault → QueryFault
 fault_at key Malformed = Syntax key
 fault_at key NotAllowed = Range key
 
--- a result with its fault at a key
+-- a result, with the key added to its fault
 abbrev pub at_key : Key → Result Query ValueFault → Result Query QueryFault
 at_key key (Ok query) = Ok query
 at_key key (Err fault) = Err (fault_at key fault)
 
--- a query with a known key's piece
+-- a query with the piece of a known key added
 abbrev pub with_known : Query → Key → List ℕ → Result Query QueryFault
 with_known query key text =
     if is_left_open key text then Ok query
     else if is_given query key then Err (Syntax key)
     else at_key key (with_value query key text)
 
--- a query with a piece of a known key, or of none, which is skipped
+-- a query with a piece added; the piece of an unknown key is skipped
 abbrev pub with_key : Query → Option Key → List ℕ → Result Query QueryFault
 with_key query None text = Ok query
 with_key query (Some key) text = with_known query key text
 
--- a query with a piece: its key stands before the first `=`, its value behind it
+-- a query with a piece added: its key is the text before the first `=`, its value the text after it
 abbrev pub with_piece : Query → List ℕ → Result Query QueryFault
 with_piece query piece = with_key query (key_named (before_first (is_byte 61) piece)) (after_first (is_byte 61) piece)
 
--- a step after a result, unless that is a fault
+-- the next step of a result, unless that is a fault
 abbrev pub and_then : {A B E : Type 0} → Result A E → (A → Result B E) → Result B E
 and_then (Ok value) next = next value
 and_then (Err fault) next = Err fault
 
--- a query with pieces, one after another
+-- a query with pieces added, one after another
 abbrev pub with_pieces : Query → List (List ℕ) → Result Query QueryFault
 with_pieces query [] = Ok query
 with_pieces query (piece ∷ pieces) = and_then (with_piece query piece) (λ next. with_pieces next pieces)
 
--- a call answers what was found: nothing, with the query that was found left behind, or its fault
+-- the answer of a call that leaves the query in place: success with the query, or the fault
 abbrev pub Answers : {U E : Type 0} → Result U E → Result Query E → Query → Type 0
 Answers (Ok done) found left = found ≡ Ok left
 Answers (Err fault) found left = found ≡ Err fault
 
--- the query of a text: its pieces stand between the `&`
+-- the query of a text: `&` separates its pieces
 unfoldable pub query_of : List ℕ → Result Query QueryFault
 query_of text = with_pieces new_query (slice_split (is_byte 38) text)
 
@@ -128,7 +128,7 @@ same_key Addpids Addpids = true
 same_key Delpids Delpids = true
 same_key _ _ = false
 
--- whether a piece of a known key, or of none, gives a key's value
+-- whether a piece gives this key's value, from the piece's key if that is known
 abbrev pub stands_for : Key → Option Key → List ℕ → Bool
 stands_for key None text = false
 stands_for key (Some named) text = same_key named key && not (is_left_open named text)

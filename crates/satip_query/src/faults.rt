@@ -1,11 +1,12 @@
-//! What is wrong with a query.
+//! Faults of queries.
 
 use satip_tune::Key;
 
-/// The first piece of a query, from the left, that is at fault, by its key: one that stood before
-/// or whose value doesn't have the form of one, or one whose value isn't allowed.
+/// The fault of a query, with the key of its first faulty piece from the left.
 #[derive(Clone, Copy, Debug, PartialEq, Eq)]
 pub enum QueryFault {
+    /// The key occurred before, or its value doesn't have the form of one.
     Syntax(Key),
+    /// The key's value has the form of one, and it isn't allowed.
     Range(Key),
 }

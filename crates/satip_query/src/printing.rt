@@ -1,4 +1,4 @@
-//! Queries printed.
+//! Printing of queries.
 
 ghost use Rattle.std.specs.Prelude.{◌≡◌, ◌≤◌, ◌||◌, ◌++◌, false, length};
 ghost use Rattle.std.specs.List.{flat_map};
@@ -29,7 +29,7 @@ const KEYS: [Key; 13] = [
 ];
 
 /// Appends a query to the reply: a piece for each key that is given, in the order of the keys, with
-/// `&` between them. What is printed is read again as the same query.
+/// `&` between them. `read` reads the printed text as the same query.
 pub fn print(query: &Query, out: &mut Out)
     requires allowed { IsAllowed query.now }
     requires room { 8192 ≤ out.old.reply_spare }
@@ -49,7 +49,7 @@ fn print_keys(query: &Query, keys: &[Key], out: &mut Out)
     }
 }
 
-// Appends a key's piece, if it is given; tells whether there is a piece by then.
+// Appends a key's piece, if it is given; returns whether any piece is printed by then.
 fn print_key(query: &Query, key: Key, started: bool, out: &mut Out) -> bool
     requires room { length (part_text query.now started key) ≤ out.old.reply_spare }
     ensures started { result ≡ (started || is_given query.now key) }
@@ -150,7 +150,7 @@ fn print_list(pids: &[u16], out: &mut Out)
     print_more(pids.split_at(1).1, out);
 }
 
-// Appends PIDs with a comma before each.
+// Appends PIDs, each after a comma.
 fn print_more(pids: &[u16], out: &mut Out)
     requires room { length (flat_map next_text pids.now) ≤ out.old.reply_spare }
     ensures wrote { Wrote out.old (flat_map next_text pids.now) out.new }

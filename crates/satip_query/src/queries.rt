@@ -1,4 +1,4 @@
-//! What a query gives.
+//! Queries.
 
 ghost use Rattle.std.specs.Prelude.{◌≡◌};
 ghost use Rattle.satip_query.specs.Queries.{are_given_by, gives_key, is_given, new_query};
@@ -6,8 +6,8 @@ ghost use Rattle.satip_query.specs.Queries.{are_given_by, gives_key, is_given, n
 use satip_pids::PidList;
 use satip_tune::{Change, Key};
 
-/// A query: the fields of a tuning that it gives, the PIDs that it asks for, and those that it adds
-/// and takes away.
+/// A query: the fields of a tuning that it gives, the PIDs that it selects, and those that it adds
+/// and removes.
 #[derive(Clone, Copy, Debug, PartialEq, Eq)]
 pub struct Query {
     pub change: Change,
@@ -16,7 +16,7 @@ pub struct Query {
     pub delpids: Option<PidList>,
 }
 
-/// What a query asks for by `pids`: nothing, `all`, `none`, or a list.
+/// The value of `pids` in a query: absent, `all`, `none`, or a list.
 #[derive(Clone, Copy, Debug, PartialEq, Eq)]
 pub enum PidsGiven {
     Absent,
@@ -26,7 +26,7 @@ pub enum PidsGiven {
 }
 
 impl Query {
-    /// The query that gives nothing.
+    /// Returns the query that gives nothing.
     pub fn new() -> Query
         ensures empty { result ≡ new_query }
     {
@@ -38,8 +38,8 @@ impl Query {
         }
     }
 
-    /// Gives nothing, as a new query. A list is written only where it is given: each is large, and
-    /// writes cost time.
+    /// Makes this the query that gives nothing. It overwrites a list only if that is given, since
+    /// lists are large.
     pub fn clear(&mut self)
         ensures empty { self.new ≡ new_query }
     {
@@ -55,7 +55,7 @@ impl Query {
         }
     }
 
-    /// Whether a key is given.
+    /// Returns whether a key is given.
     pub fn gives(&self, key: Key) -> bool
         ensures given { result ≡ is_given self.now key }
     {
@@ -67,7 +67,7 @@ impl Query {
         }
     }
 
-    /// Whether at least one known key is given.
+    /// Returns whether at least one known key is given.
     pub fn any(&self) -> bool
         ensures given { result ≡ gives_key self.now }
     {
@@ -78,7 +78,7 @@ impl Query {
     }
 }
 
-// The change that gives nothing.
+// Returns the change that gives nothing.
 fn no_change() -> Change
     ensures empty { result ≡ new_query.change }
 {
@@ -97,7 +97,7 @@ fn no_change() -> Change
 }
 
 impl PidsGiven {
-    /// Whether anything is asked for.
+    /// Returns whether `pids` is given.
     pub fn are_given(&self) -> bool
         ensures given { result ≡ are_given_by self.now }
     {

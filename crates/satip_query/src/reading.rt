@@ -1,4 +1,4 @@
-//! Queries read from text.
+//! Reading of queries.
 
 ghost use Rattle.std.specs.Prelude.{◌≡◌, OnErr, IfErr, OnOk, Ok, Err, Some};
 ghost use Rattle.std.specs.List.{list_any, slice_split};
@@ -17,11 +17,11 @@ use satip_tune::{
     Fec, Key, Modulation, Pol, System, ValueFault, cut, pilots_named, read_frequency, same_bytes,
 };
 
-/// Reads the query of a target. Its pieces stand between the `&`, each a key and, behind its first
-/// `=`, a value. Empty pieces, unknown keys, and `ro`, `mtype`, `plts` and `fec` with the value
-/// `auto` are skipped. The fault is that of the first piece at fault from the left: `Syntax` where
-/// its key stood before or its value doesn't have the form of one, `Range` where the value isn't
-/// allowed. After a fault `into` is the query that gives nothing.
+/// Reads the query of a target. `&` separates its pieces; a piece is a key and, after its first
+/// `=`, a value. Empty pieces and unknown keys are skipped, and so are `ro`, `mtype`, `plts` and
+/// `fec` with the value `auto`. The error is that of the first faulty piece from the left. It is
+/// `Syntax` if its key occurred before or its value doesn't have the form of one, and `Range` if
+/// the value isn't allowed. After an error `into` is the query that gives nothing.
 #[tactic(auto, using(crate::proofs::GivenKeys::given_by_pieces), unfolding(crate::specs::Reading::query_of))]
 pub fn read(bytes: &[u8], into: &mut Query) -> Result<(), QueryFault>
     ensures read { OnOk result (query_of bytes.now ≡ Ok into.new) }
@@ -143,7 +143,7 @@ fn read_pids(text: &[u8], into: &mut PidsGiven) -> Result<(), ValueFault>
     }
 }
 
-// Reads a list in the place where it stays, since lists are large.
+// Reads a list in its final place, since lists are large.
 fn read_listed(text: &[u8], into: &mut PidsGiven) -> Result<(), ValueFault>
     ensures value { OnOk result (result_map Listed (pid_list_of text.now) ≡ Ok into.new) }
     ensures fault { IfErr result (λ fault. pid_list_of text.now ≡ Err fault) }

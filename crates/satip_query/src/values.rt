@@ -12,7 +12,7 @@ use satip_base::read_number;
 use satip_pids::PidList;
 use satip_tune::{RollOff, ValueFault, cut, is_fraction};
 
-/// Reads a number from `low` to `high`.
+/// Reads a number from `low` to `high`. A number outside is `NotAllowed`.
 pub fn read_number_in(text: &[u8], low: u64, high: u64) -> Result<u64, ValueFault>
     ensures value { result ≡ number_in low high text.now }
 {
@@ -23,7 +23,7 @@ pub fn read_number_in(text: &[u8], low: u64, high: u64) -> Result<u64, ValueFaul
     }
 }
 
-/// Whether the text has the form of a word.
+/// Returns whether the text has the form of a word: 1 to 16 letters and digits.
 pub fn is_word(text: &[u8]) -> bool
     ensures word { result ≡ is_word_text text.now }
 {
@@ -36,7 +36,7 @@ fn are_letters_or_digits(text: &[u8]) -> bool
     text.iter().all(|byte| byte.is_ascii_alphanumeric())
 }
 
-/// The value that a word names, or else the fault of its text.
+/// Returns the value that a word names, or the fault of the text if it names none.
 pub fn named_word<T: Drop>(value: Option<T>, text: &[u8]) -> Result<T, ValueFault>
     ensures value { result ≡ named_or value (is_word_text text.now) }
 {
@@ -56,7 +56,7 @@ fn fault_of(formed: bool) -> ValueFault
     }
 }
 
-/// Reads a roll-off.
+/// Reads a roll-off. Another decimal number is `NotAllowed`.
 pub fn read_roll_off(text: &[u8]) -> Result<RollOff, ValueFault>
     ensures value { result ≡ roll_off_of text.now }
 {
@@ -79,8 +79,8 @@ fn is_decimal(text: &[u8]) -> bool
     }
 }
 
-/// Reads a list of 1 to 512 PIDs with commas between them into an empty list, in place since lists
-/// are large.
+/// Reads a list of 1 to 512 PIDs with commas between them into an empty list. It reads in place,
+/// since lists are large.
 #[tactic(auto, unfolding(crate::specs::Values::pid_list_of))]
 pub fn read_pid_list(text: &[u8], list: &mut PidList) -> Result<(), ValueFault>
     requires empty { list.old ≡ [] }
@@ -108,7 +108,7 @@ pub fn read_pid_list(text: &[u8], list: &mut PidList) -> Result<(), ValueFault>
     }
 }
 
-// Appends a number that is a PID.
+// Appends a number if it is a PID, and returns whether it is.
 fn keep(number: u64, list: &mut PidList) -> bool
     requires room { length list.old < 512 }
     ensures kept { result ≡ nat_le number 8191 }

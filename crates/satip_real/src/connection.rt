@@ -1,4 +1,4 @@
-//! A TCP connection to one client, or to a server that was dialed.
+//! A TCP connection to a client, or to a server that was dialed.
 
 ghost use Rattle.std.specs.Prelude.{◌≡◌, false, IfOk};
 ghost use Rattle.std.specs.Io.{ReadsAtMost};
@@ -9,28 +9,28 @@ use crate::options::prepare;
 use crate::readiness::has_input;
 use crate::sending::send_all;
 use crate::silence::{Patience, Silence};
-use crate::stopwatch::Stopwatch;
 use mio::net::TcpStream;
 use satip_base::{Address, Put};
+use satip_host::Stopwatch;
 use satip_world::{Conn, ConnEnd, Received};
 use std::io;
 use std::io::{ErrorKind, Read};
 use std::marker::Model;
 use std::net::Shutdown;
 
-// How long one wait for a client is, in milliseconds.
+// The length of one wait for a client, in milliseconds.
 const CLIENT_WAIT_MS: i32 = 50;
 
-// How long one wait for a server that was dialed is, in milliseconds.
+// The length of one wait for a dialed server, in milliseconds.
 const SERVER_WAIT_MS: i32 = 1;
 
-// How long a closing connection waits for the client's end, in milliseconds.
+// The time for which a closing connection waits for the client's end, in milliseconds.
 const LAST_WAIT_MS: u64 = 500;
 
-// How many pieces of input a closing connection drops at most.
+// The most pieces of input that a closing connection drops.
 const LAST_READS: u32 = 65536;
 
-// A stream whose calls don't wait, and how long one wait for input is, in milliseconds.
+// A non-blocking stream, and the length of one wait for input in milliseconds.
 #[derive(Drop)]
 struct Socket {
     stream: TcpStream,
@@ -48,9 +48,8 @@ impl Socket {
         self.stream.read(buf)
     }
 
-    // Ends the output, and drops what comes in until the other end ends its own, up to 500 ms:
-    // a stream that is closed while the other end sends is reset, and what was sent last may be
-    // lost.
+    // Ends the output, and drops input until the other end ends its own, for up to 500 ms. A stream
+    // that is closed while the other end sends is reset, and the last bytes sent may be lost.
     fn finish(&mut self, watch: &Stopwatch) {
         if self.stream.shutdown(Shutdown::Write).is_err() {
             return;
@@ -71,17 +70,18 @@ impl Socket {
     }
 }
 
-/// A TCP connection to one client, or to a server that was dialed.
+/// A TCP connection to a client, or to a server that was dialed.
 ///
-/// A receive from a client waits 50 ms for bytes, and is idle where none came. It fails where the
-/// client was silent for longer than it may: over RTSP for longer than the seconds that the doors
-/// were given, over HTTP so before anything was sent to it, and 2 s where nothing ever came of it
-/// and others wait at the doors.
+/// A receive from a client waits up to 50 ms for bytes, and is idle if none came. It fails if the
+/// client is silent for too long:
+/// - longer than the doors' timeout, over RTSP, or over HTTP before anything was sent to it;
+/// - longer than 2 s, if the client has sent nothing yet and others wait at the doors. An HTTP
+/// client that was sent something is exempt.
 ///
-/// A receive from a server waits 1 ms for bytes, and no silence makes it fail.
+/// A receive from a server waits up to 1 ms for bytes, and no silence makes it fail.
 ///
-/// A send waits until the other end takes all bytes, and fails after 200 waits of 50 ms in which it
-/// took nothing.
+/// A send waits until the other end takes all bytes. It fails after 200 waits of 50 ms in a row in
+/// which the other end took nothing.
 #[derive(Drop)]
 pub struct RealConn {
     socket: Socket,
@@ -111,15 +111,15 @@ impl Model for RealConn {
 impl RealConn {
     ghost use Rattle.satip_world.specs.Lines.{fresh_line};
 
-    /// A connection over a stream that was just accepted.
+    /// Creates a connection over a stream that was just accepted.
     pub(crate) fn open(stream: TcpStream, silence: Silence) -> RealConn
         ensures fresh { result ≡ fresh_line }
     {
         RealConn::over(stream, CLIENT_WAIT_MS, Patience::Limited(silence))
     }
 
-    /// Dials a server, and waits up to 10 s until it takes the connection. What refuses it or fails
-    /// is the error (connect(2)).
+    /// Connects to a server, which has up to 10 s to accept. Returns the error of a refusal or
+    /// failure (connect(2)).
     pub fn dial(rt: HostRuntime, to: Address) -> io::Result<RealConn>
         ensures fresh { IfOk result (λ conn. conn ≡ fresh_line) }
     {
@@ -141,7 +141,7 @@ impl RealConn {
         }
     }
 
-    // Reads what came, or tells that the other end was silent for too long.
+    // Reads the next bytes. Returns `TimedOut` if the other end was silent for too long.
     fn hear(&mut self, buf: &mut [u8]) -> io::Result<usize>
         ensures within { ReadsAtMost result buf.new }
         ensures same { self.new ≡ self.old }
@@ -158,8 +158,8 @@ impl RealConn {
         }
     }
 
-    /// Closes the connection. A client that was served to the end has up to 500 ms to take the last
-    /// reply and end its own side, and so has a server to answer the last request.
+    /// Closes the connection. After a service that ended as `Done`, the other end has up to 500 ms
+    /// to take the last bytes and to end its own side.
     pub fn close(self, rt: HostRuntime, end: ConnEnd) {
         let mut conn = self;
         if end == ConnEnd::Done {

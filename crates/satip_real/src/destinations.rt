@@ -6,16 +6,16 @@ use crate::options::widen;
 use lru::LruCache;
 use mio::net::UdpSocket;
 use satip_base::Address;
-use satip_report::{Throttle, report_line};
+use satip_host::{Throttle, report_line};
 use std::io;
 use std::net::{SocketAddr, SocketAddrV4};
 use std::num::NonZeroUsize;
 
-// How many destinations have a socket at a time: RTP and RTCP of 64 sessions.
+// The limit of destinations that have a socket: RTP and RTCP of 64 sessions.
 const SOCKETS: usize = 128;
 
-/// The sockets of the destinations that were lately sent to. Each has a send buffer of its own, so
-/// that datagrams that wait for one host leave the others theirs.
+/// The sockets of the most recent destinations. Each socket has a separate send buffer, so
+/// datagrams that wait for one host take no room from others.
 #[derive(Drop)]
 pub(crate) struct Destinations {
     rt: HostRuntime,
@@ -27,7 +27,8 @@ pub(crate) struct Destinations {
     reports: Throttle,
 }
 
-// A UDP socket at an address and any port, with the largest send buffer that the system gives.
+// Opens a UDP socket at an address and any port, with the largest send buffer that the system
+// gives.
 fn open(rt: &HostRuntime, ip: u32) -> io::Result<UdpSocket> {
     let socket = UdpSocket::bind(rt, socket_addr(Address { ip, port: 0 }))?;
     widen(&socket);
@@ -41,7 +42,8 @@ fn open_connected(rt: &HostRuntime, ip: u32, to: SocketAddrV4) -> io::Result<Udp
 }
 
 impl Destinations {
-    /// No destination yet, and a socket for those that can be given none of their own.
+    /// Creates the sockets: no destination has one yet, and one is common to those that can't get
+    /// one.
     pub(crate) fn bind(rt: HostRuntime, ip: u32) -> io::Result<Destinations> {
         let Some(capacity) = NonZeroUsize::new(SOCKETS) else {
             unreachable!()
@@ -57,8 +59,7 @@ impl Destinations {
         })
     }
 
-    // Sends a datagram once, from the destination's own socket where it has one or can be given
-    // one.
+    // Sends a datagram once, from the destination's socket if it has one or can get one.
     fn try_send(&mut self, to: SocketAddrV4, bytes: &[u8]) -> io::Result<usize> {
         if let Some(socket) = self.connected.get(&to) {
             return socket.send(bytes);
@@ -72,7 +73,7 @@ impl Destinations {
     }
 
     /// Sends a datagram, whole or not at all. An error may be that of the last datagram to the same
-    /// destination (udp(7), ECONNREFUSED), so that the next call sends this one after all.
+    /// destination (udp(7), ECONNREFUSED), so this one is tried once more.
     pub(crate) fn send(&mut self, to: Address, bytes: &[u8]) -> bool {
         let to = socket_addr_v4(to);
         let sent = match self.try_send(to, bytes) {
@@ -89,7 +90,7 @@ impl Destinations {
     }
 
     // Counts a datagram for which there was no room. A socket that refused one twice for another
-    // reason may be broken itself: it is closed, and the next datagram gets a new one.
+    // reason may be broken: it is closed, and the next datagram gets a new one.
     fn give_up(&mut self, to: SocketAddrV4, error: &io::Error) {
         if lacks_room(error) {
             self.refused = self.refused.saturating_add(1);
@@ -99,8 +100,8 @@ impl Destinations {
         }
     }
 
-    /// The datagrams for which there was no room, where there are new ones and a line on them is
-    /// due: once a minute at most.
+    /// Returns the count of datagrams without room, if there are new ones and a line on them is
+    /// due. A line is due at most once a minute.
     pub(crate) fn due(&mut self) -> Option<Refusals> {
         if !self.untold || !self.reports.is_due(&self.rt) {
             return None;
@@ -113,7 +114,7 @@ impl Destinations {
     }
 }
 
-/// How many datagrams had no room since the start.
+/// The count of datagrams without room since the start.
 #[derive(Drop)]
 pub(crate) struct Refusals {
     rt: HostRuntime,
@@ -121,7 +122,7 @@ pub(crate) struct Refusals {
 }
 
 impl Refusals {
-    /// Tells them in a line on standard error.
+    /// Reports the count in a line on standard error.
     pub(crate) fn report(&self) {
         let count = self.count;
         report_line(

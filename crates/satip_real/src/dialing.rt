@@ -5,23 +5,23 @@ ghost use Rattle.std.specs.Prelude.{◌≤◌, IfSome};
 use crate::addresses::socket_addr;
 use crate::errors::is_passing;
 use crate::readiness::takes_output;
-use crate::stopwatch::Stopwatch;
 use mio::net::TcpStream;
 use satip_base::Address;
+use satip_host::Stopwatch;
 use std::io::ErrorKind;
 use std::time::Duration;
 use std::{io, thread};
 
-// How long a server has to take a connection, in milliseconds.
+// The time that a server has to accept a connection, in milliseconds.
 const LIMIT_MS: u64 = 10000;
 
-// How long one wait is at most, in milliseconds.
+// The longest wait, in milliseconds.
 const WAIT_MS: u64 = 50;
 
-// How many waits there are at most; a signal may cut each of them short.
+// The most waits; a signal may cut each of them short.
 const WAITS: u32 = 65536;
 
-// How long the next wait may be, in milliseconds; `None` where the time is over.
+// Returns the length of the next wait in milliseconds; `None` if the time is over.
 fn next_wait(watch: &Stopwatch) -> Option<u64>
     ensures short { IfSome result (λ wait_ms. wait_ms ≤ 50) }
 {
@@ -32,8 +32,8 @@ fn next_wait(watch: &Stopwatch) -> Option<u64>
     Some(left_ms.min(WAIT_MS))
 }
 
-// Begins to connect. Where a signal cuts that short, or the system has no room for it now, it is
-// begun again; every other error says that this server can't be reached (connect(2)).
+// Starts to connect. Starts again if a signal cuts that short or the system has no room for it now.
+// Every other error means that this server can't be reached (connect(2)).
 fn begin(rt: HostRuntime, to: Address, watch: &Stopwatch) -> io::Result<TcpStream> {
     for _ in 0..WAITS {
         let Some(wait_ms) = next_wait(watch) else {
@@ -47,8 +47,8 @@ fn begin(rt: HostRuntime, to: Address, watch: &Stopwatch) -> io::Result<TcpStrea
     Err(io::Error::from(ErrorKind::TimedOut))
 }
 
-// Waits until a stream is connected. How that ended is told once the stream takes output, by the
-// socket's pending error (connect(2), EINPROGRESS).
+// Waits until a stream is connected. The socket's pending error says how that ended, after the
+// stream takes output (connect(2), EINPROGRESS).
 fn settle(stream: &TcpStream, watch: &Stopwatch) -> io::Result<()> {
     for _ in 0..WAITS {
         let Some(wait_ms) = next_wait(watch) else {
@@ -64,7 +64,7 @@ fn settle(stream: &TcpStream, watch: &Stopwatch) -> io::Result<()> {
     Err(io::Error::from(ErrorKind::TimedOut))
 }
 
-/// A connection to a server, which has 10 s to take it.
+/// Returns a connection to a server, which has 10 s to accept it.
 pub(crate) fn connect(rt: HostRuntime, to: Address) -> io::Result<TcpStream> {
     let watch = Stopwatch::start(rt);
     let stream = begin(rt, to, &watch)?;

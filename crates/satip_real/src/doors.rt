@@ -8,28 +8,28 @@ use crate::errors::{ends_listening, lacks_descriptors};
 use crate::listeners::{Listeners, Visitor};
 use crate::silence::Silence;
 use satip_base::Peer;
-use satip_report::{Start, report_line};
+use satip_host::{Start, report_line};
 use satip_world::{ConnEnd, Door, DoorKind, Doors};
 use std::marker::Model;
 use std::sync::Arc;
 use std::time::Duration;
 use std::{io, thread};
 
-// How long doors wait for a connection, in milliseconds. One that comes ends the wait.
+// The time for which doors wait for a connection, in milliseconds. One that comes ends the wait.
 const WAIT_MS: i32 = 500;
 
-// How long doors wait where a connection can't be taken, in milliseconds.
+// The time for which doors wait if a connection can't be accepted, in milliseconds.
 const SHORTAGE_MS: u64 = 50;
 
-// How many connections that were given up before they were accepted are dropped in one look.
+// The most connections that one look drops because their clients have left.
 const LOOKS: u32 = 64;
 
 /// The doors of one worker. They wait up to 500 ms for the next connection at the RTSP listener or
-/// at the HTTP listener, and are idle where none came, or where the system has no place for it,
-/// after 50 ms. Only the faults of a listener itself are theirs (EBADF, EINVAL and ENOTSOCK of
-/// accept(2)).
+/// at the HTTP listener, and are idle if none came. If the system has no room for one, they are
+/// idle after 50 ms. Only the faults of a listener itself count as theirs (EBADF, EINVAL and
+/// ENOTSOCK of accept(2)).
 ///
-/// A connection of which nothing can be read but its end is dropped. One that is handed back is
+/// A connection from which nothing can be read but its end is dropped. One that is handed back is
 /// closed. Each look is a step of the worker.
 #[derive(Drop)]
 pub struct RealDoors {
@@ -67,8 +67,8 @@ impl Model for RealDoors {
 impl RealDoors {
     ghost use Rattle.satip_world.specs.Halls.{fresh_hall};
 
-    /// Doors of a worker that end after `limit` connections, and never where it is 0. A client that
-    /// is silent for longer than `timeout_s` seconds is given up.
+    /// Creates the doors of a worker. They end after `limit` connections, never if it is 0. A
+    /// client that is silent for longer than `timeout_s` seconds is given up.
     pub fn new(
         rt: HostRuntime,
         start: Start,
@@ -92,7 +92,7 @@ impl RealDoors {
     }
 }
 
-// A connection that came, and is spoken on.
+// An accepted connection that is ready to be served.
 #[derive(Drop)]
 struct Guest {
     kind: DoorKind,
@@ -100,7 +100,7 @@ struct Guest {
     conn: RealConn,
 }
 
-// The next connection whose client is still there; `None` where none waits.
+// Returns the next connection whose client is still there; `None` if none waits.
 fn next_visitor(listeners: &Listeners) -> io::Result<Option<Visitor>> {
     let mut wait_ms = WAIT_MS;
     for _ in 0..LOOKS {
@@ -112,8 +112,8 @@ fn next_visitor(listeners: &Listeners) -> io::Result<Option<Visitor>> {
     Ok(None)
 }
 
-// Waits where a connection can't be taken: it is still there, so the next look would be at once. A
-// shortage of descriptors is told.
+// Waits after a connection that can't be accepted: it is still there, so the next look would follow
+// at once. Reports a shortage of descriptors.
 fn rest(rt: &HostRuntime, listeners: &Listeners, error: &io::Error) {
     if lacks_descriptors(error) && listeners.shortages.is_due(rt) {
         report_line(
@@ -124,7 +124,7 @@ fn rest(rt: &HostRuntime, listeners: &Listeners, error: &io::Error) {
     thread::sleep(rt, Duration::from_millis(SHORTAGE_MS));
 }
 
-// The next connection; `None` where none waits, or where the system has no place for it.
+// Returns the next connection; `None` if none waits, or if the system has no room for it.
 fn welcome(rt: HostRuntime, listeners: &Arc<Listeners>, timeout_s: u32) -> io::Result<Option<Guest>>
     ensures fresh { IfOk result (λ came. IfSome came (λ guest. guest.conn ≡ fresh_line)) }
 {
@@ -185,7 +185,7 @@ impl Doors for RealDoors {
     }
 
     fn back(&mut self, conn: RealConn, _kind: DoorKind, _peer: Peer, end: ConnEnd) {
-        // What doors show is known once they are read.
+        // Gives the proof the invariant of the doors.
         let _ = &self.count;
         conn.close(self.rt, end);
     }

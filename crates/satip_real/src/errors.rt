@@ -1,4 +1,4 @@
-//! Which errors of the system's calls pass.
+//! The errors of the system's calls, by what follows from them.
 
 use std::io;
 
@@ -25,8 +25,8 @@ const EHOSTDOWN: i32 = 112;
 
 const EHOSTUNREACH: i32 = 113;
 
-/// Whether a call on a connection is to be made again later: it would have waited, a signal cut it
-/// short, or the system had no memory for it (recv(2), send(2)).
+/// Returns whether a call on a connection is to be made again later. It would have waited, a signal
+/// cut it short, or the system had no memory for it (recv(2), send(2)).
 pub(crate) fn is_passing(error: &io::Error) -> bool {
     if error.kind() == io::ErrorKind::WouldBlock {
         return true;
@@ -37,9 +37,10 @@ pub(crate) fn is_passing(error: &io::Error) -> bool {
     )
 }
 
-/// Whether a receive of a datagram is to be made again later: nothing was there, a signal cut it
-/// short, the system had no memory for it, or the network told of a datagram that was sent before
-/// (recv(2), udp(7); the errors of the network are those of accept(2) and ECONNREFUSED).
+/// Returns whether a receive of a datagram is to be made again later. There was none, a signal cut
+/// it short, the system had no memory for it, or the network reported an error of a datagram sent
+/// before. See recv(2) and udp(7); the errors of the network are those of accept(2) and
+/// ECONNREFUSED.
 pub(crate) fn comes_later(error: &io::Error) -> bool {
     is_passing(error) || is_of_the_network(error)
 }
@@ -62,13 +63,13 @@ fn is_of_the_network(error: &io::Error) -> bool {
     )
 }
 
-/// Whether a port can't be bound since it is in use or allowed to others only (bind(2)).
+/// Returns whether a port can't be bound since it is in use or allowed to others only (bind(2)).
 pub(crate) fn is_taken(error: &io::Error) -> bool {
     matches!(error.raw_os_error(), Some(libc::EADDRINUSE | libc::EACCES))
 }
 
-/// Whether an error of accept(2) is the listener's own, so that no later call gives a connection.
-/// All others are of one connection, or of a shortage that may pass.
+/// Returns whether an error of accept(2) is the listener's own, so that no later call gives a
+/// connection. All others are of one connection, or of a shortage that may pass.
 pub(crate) fn ends_listening(error: &io::Error) -> bool {
     matches!(
         error.raw_os_error(),
@@ -76,12 +77,12 @@ pub(crate) fn ends_listening(error: &io::Error) -> bool {
     )
 }
 
-/// Whether the process or the system has no further descriptor.
+/// Returns whether the process or the system has no further descriptor.
 pub(crate) fn lacks_descriptors(error: &io::Error) -> bool {
     matches!(error.raw_os_error(), Some(libc::EMFILE | ENFILE))
 }
 
-/// Whether a send buffer or the system had no room for a datagram (send(2)).
+/// Returns whether a send buffer or the system had no room for a datagram (send(2)).
 pub(crate) fn lacks_room(error: &io::Error) -> bool {
     matches!(
         error.raw_os_error(),

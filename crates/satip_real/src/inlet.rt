@@ -1,7 +1,7 @@
-//! Datagrams that come in at an even port.
+//! Datagrams that are received at an even port.
 
 ghost use Rattle.std.specs.Prelude.{◌≡◌, ◌≤◌, ◌%◌, IfOk, IfSome, length};
-ghost use Rattle.satip_inlet.specs.Inboxes.{fresh_inbox};
+ghost use Rattle.satip_world.specs.Inboxes.{fresh_inbox};
 
 use crate::addresses::socket_addr;
 use crate::errors::{comes_later, is_taken};
@@ -9,25 +9,24 @@ use crate::options::widen_input;
 use crate::readiness::has_input;
 use mio::net::UdpSocket;
 use satip_base::Address;
-use satip_inlet::Inlet;
-use satip_world::Received;
+use satip_world::{Inlet, Received};
 use std::io;
 use std::io::ErrorKind;
 use std::marker::Model;
 
-// How long a receive waits for a datagram, in milliseconds.
+// The time for which a receive waits for a datagram, in milliseconds.
 const WAIT_MS: i32 = 1;
 
-// How many ports are tried; the port beside one may be in use.
+// How many ports are tried; the other port of a pair may be in use.
 const TRIES: u32 = 64;
 
 /// A UDP socket at an even port, with the largest receive buffer that the system gives.
 ///
-/// The next port is bound too and never read, so that no other program gets what the server sends
-/// there, and the server isn't told that nobody takes it.
+/// The next port is bound too and never read. So no other program gets what the server sends there,
+/// and the server gets no error that the port is closed.
 ///
-/// A receive waits 1 ms for a datagram where none is there, and is idle where none came. Errors of
-/// the network pass (udp(7)); those of the socket itself are its faults.
+/// A receive waits up to 1 ms for a datagram, and is idle if none came. Errors of the network don't
+/// count (udp(7)); those of the socket itself are its faults.
 #[derive(Drop)]
 pub struct RealInlet {
     socket: UdpSocket,
@@ -40,7 +39,7 @@ pub struct RealInlet {
 
 impl Model for RealInlet {
     ghost use Rattle.std.specs.Prelude.{◌≡◌, ◌≤◌, ◌%◌, []};
-    ghost use Rattle.satip_inlet.specs.Inboxes.{Inbox};
+    ghost use Rattle.satip_world.specs.Inboxes.{Inbox};
 
     ghost Value = { Inbox };
 
@@ -55,8 +54,7 @@ impl Model for RealInlet {
     ghost invariant = { λ i. (1 ≤ i.port) × (i.port ≤ 65534) };
 }
 
-// The even port of the two that follow one another and of which one is given; `None` where there
-// is none from 1 on.
+// Returns the even port of the pair that contains a port; `None` for ports 0 and 1.
 fn even_port(port: u16) -> Option<u16>
     ensures even { IfSome result (λ even. even % 2 ≡ 0) }
     ensures some { IfSome result (λ even. 1 ≤ even) }
@@ -73,7 +71,7 @@ fn bind_at(rt: &HostRuntime, ip: u32, port: u16) -> io::Result<UdpSocket> {
     UdpSocket::bind(rt, socket_addr(Address { ip, port }))
 }
 
-// A socket at a port; `None` where that port is another's.
+// Opens a socket at a port; `None` if that port is in use or allowed to others only.
 fn bind_if_free(rt: &HostRuntime, ip: u32, port: u16) -> io::Result<Option<UdpSocket>> {
     match bind_at(rt, ip, port) {
         Ok(socket) => Ok(Some(socket)),
@@ -82,8 +80,8 @@ fn bind_if_free(rt: &HostRuntime, ip: u32, port: u16) -> io::Result<Option<UdpSo
     }
 }
 
-// Binds a port that the system chooses, and the one that makes a pair with it; `None` where that
-// one can't be had.
+// Binds a port that the system chooses, and the other one of its pair; `None` if that one isn't
+// available.
 fn try_bind(rt: &HostRuntime, ip: u32) -> io::Result<Option<RealInlet>>
     ensures fresh { IfOk result (λ found. IfSome found (λ inlet. inlet ≡ fresh_inbox inlet.port)) }
     ensures even { IfOk result (λ found. IfSome found (λ inlet. inlet.port % 2 ≡ 0)) }
@@ -104,10 +102,10 @@ fn try_bind(rt: &HostRuntime, ip: u32) -> io::Result<Option<RealInlet>>
 }
 
 impl RealInlet {
-    ghost use Rattle.satip_inlet.specs.Inboxes.{fresh_inbox};
+    ghost use Rattle.satip_world.specs.Inboxes.{fresh_inbox};
 
-    /// Binds an even port and the next one at an IPv4 address of the host, or at all of them where
-    /// it is 0. No datagram came yet.
+    /// Binds an even port and the next one at an IPv4 address of the host, or at all its addresses
+    /// if it is 0. No datagram was received yet.
     pub fn bind(rt: HostRuntime, ip: u32) -> io::Result<RealInlet>
         ensures fresh { IfOk result (λ inlet. inlet ≡ fresh_inbox inlet.port) }
         ensures even { IfOk result (λ inlet. inlet.port % 2 ≡ 0) }
@@ -136,7 +134,7 @@ impl RealInlet {
         }
     }
 
-    // Takes the datagram that came first; `None` where none is there.
+    // Takes the oldest datagram; `None` if there is none.
     fn take(&self, buf: &mut [u8]) -> io::Result<Option<usize>>
         ensures within { IfOk result (λ came. IfSome came (λ size. size ≤ length buf.new)) }
     {
@@ -147,7 +145,7 @@ impl RealInlet {
         }
     }
 
-    // Takes a datagram, and waits for one where none is there.
+    // Takes a datagram, and waits for one if there is none.
     fn await_one(&self, buf: &mut [u8]) -> io::Result<Option<usize>>
         ensures within { IfOk result (λ came. IfSome came (λ size. size ≤ length buf.new)) }
     {

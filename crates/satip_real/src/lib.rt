@@ -1,31 +1,27 @@
-//! The network, the clock and the keys of the system: TCP connections by two listeners or dialed,
-//! UDP sockets by which datagrams leave or come in, a clock that no step of the system's time
-//! moves, and random bytes. No contract can say what they give or take, so they tell nothing of
-//! content, and keep the counts.
+//! Implements connections, doors, outlets and inlets over TCP and UDP sockets.
+//! Contract: each adapter begins with counts of 0 and meets its trait. Doors give no connection
+//! beyond their limit. An inlet has an even port.
+//! Only tested: which bytes the sockets give and take; that outlets of one socket exclude each
+//! other.
 #![tactic(auto)]
 
 mod addresses;
-mod clock;
 mod connection;
 mod destinations;
 mod dialing;
 mod doors;
 mod errors;
 mod inlet;
-mod key;
 mod listeners;
 mod options;
 mod outlet;
 mod readiness;
 mod sending;
 mod silence;
-mod stopwatch;
 
-pub use clock::{ClockStart, RealClock, SteadyTime};
 pub use connection::RealConn;
 pub use doors::RealDoors;
 pub use inlet::RealInlet;
-pub use key::read_key;
 pub use listeners::{BindFault, Listeners};
 pub use outlet::{RealOutlet, SharedSocket};
 pub use sending::{Unhurried, send_all};

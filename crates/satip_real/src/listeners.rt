@@ -6,7 +6,7 @@ use crate::readiness::have_input;
 use libc::net as c;
 use mio::net::{TcpListener, TcpStream};
 use satip_base::{Address, Peer};
-use satip_report::Throttle;
+use satip_host::Throttle;
 use satip_world::DoorKind;
 use std::io;
 use std::net::Net;
@@ -20,8 +20,8 @@ pub struct Listeners {
     pub(crate) shortages: Throttle,
 }
 
-/// Why there are no listeners: an address that isn't the host's, a port in use, or one that the
-/// system allows to others only.
+/// Why there are no listeners: an address that isn't the host's, or a port that is in use or
+/// allowed to others only.
 #[derive(Debug, Drop)]
 pub enum BindFault {
     /// The listener for RTSP can't be bound.
@@ -30,7 +30,7 @@ pub enum BindFault {
     Http(io::Error),
 }
 
-/// A connection that came.
+/// An accepted connection.
 #[derive(Drop)]
 pub(crate) struct Visitor {
     pub(crate) kind: DoorKind,
@@ -39,7 +39,7 @@ pub(crate) struct Visitor {
 }
 
 impl Visitor {
-    /// Whether nothing can be read of it but its end or a fault.
+    /// Returns whether nothing can be read from it but its end or a fault.
     pub(crate) fn has_left(&self) -> bool {
         match self.stream.peek(&mut [0u8; 1]) {
             Ok(count) => count == 0,
@@ -48,9 +48,8 @@ impl Visitor {
     }
 }
 
-// A listener at which about so many connections wait to be accepted; who comes to a full one sees
-// it by a connect that doesn't end (listen(2)). Where the system refuses that length, its own
-// stays.
+// Creates a listener at which about `backlog` connections wait to be accepted. At a full listener,
+// a client's connect doesn't end (listen(2)). If the system refuses that length, its default stays.
 fn listen(net: &impl Net, ip: u32, port: u16, backlog: u16) -> io::Result<TcpListener> {
     let listener = TcpListener::bind(net, socket_addr(Address { ip, port }))?;
     c::listen(listener.as_raw_fd(), backlog as i32);
@@ -58,8 +57,8 @@ fn listen(net: &impl Net, ip: u32, port: u16, backlog: u16) -> io::Result<TcpLis
 }
 
 impl Listeners {
-    /// Binds both listeners at an IPv4 address. At port 0 the system chooses one. At each, about
-    /// `backlog` connections wait that weren't accepted.
+    /// Binds both listeners at an IPv4 address. Port 0 lets the system choose one. At each
+    /// listener, about `backlog` connections wait that aren't accepted yet.
     pub fn bind(
         net: &impl Net,
         ip: u32,
@@ -81,24 +80,24 @@ impl Listeners {
         }
     }
 
-    /// The port of the RTSP listener.
+    /// Returns the port of the RTSP listener.
     pub fn rtsp_port(&self) -> io::Result<u16> {
         Ok(self.rtsp.local_addr()?.port())
     }
 
-    /// The port of the HTTP listener.
+    /// Returns the port of the HTTP listener.
     pub fn http_port(&self) -> io::Result<u16> {
         Ok(self.http.local_addr()?.port())
     }
 
-    /// Whether a connection waits at one of them.
+    /// Returns whether a connection waits at one of the listeners.
     pub(crate) fn somebody_waits(&self) -> bool {
         let (rtsp, http) = have_input(&self.rtsp, &self.http, 0);
         rtsp || http
     }
 
-    /// The next connection, one for RTSP first, after a wait of up to so many milliseconds; `None`
-    /// where none came.
+    /// Returns the next connection, one for RTSP first, after a wait of up to `wait_ms`
+    /// milliseconds; `None` if none came.
     pub(crate) fn accept(&self, wait_ms: i32) -> io::Result<Option<Visitor>> {
         let (rtsp, http) = have_input(&self.rtsp, &self.http, wait_ms);
         if rtsp {
@@ -113,9 +112,9 @@ impl Listeners {
     }
 }
 
-// The next connection at a listener; `None` where another worker was faster. An error of the
-// listener comes again at once; one of the new connection, which has to be made non-blocking,
-// doesn't.
+// Returns the next connection at a listener; `None` if another worker was faster. An error that may
+// be the listener's own is tried a second time: the listener returns it again. An error of one new
+// connection, which has to be made non-blocking, doesn't return.
 fn accept_at(listener: &TcpListener, kind: DoorKind) -> io::Result<Option<Visitor>> {
     match accept_once(listener, kind) {
         Err(error) if ends_listening(&error) => accept_once(listener, kind),

@@ -1,5 +1,5 @@
-//! Options of sockets. One that the system refuses stays as it was: without it a socket serves all
-//! the same.
+//! Options of sockets. An option that the system refuses stays as it was; the socket works without
+//! it.
 
 ghost use Rattle.libc.specs.Net.{SockOption};
 
@@ -7,14 +7,14 @@ use libc::net as c;
 use mio::net::{TcpStream, UdpSocket};
 use std::os::fd::{AsRawFd, RawFd};
 
-// A peer that was silent for 15 s is asked each 5 s whether it lives, three times.
+// A peer that was silent for 15 s is probed each 5 s, three times.
 const KEEPALIVE_IDLE_S: i32 = 15;
 
 const KEEPALIVE_INTERVAL_S: i32 = 5;
 
 const KEEPALIVE_PROBES: i32 = 3;
 
-// How long what was sent may stay without an acknowledgement, in milliseconds.
+// The longest time for which sent bytes may stay without an acknowledgement, in milliseconds.
 const USER_TIMEOUT_MS: i32 = 30000;
 
 fn set(fd: RawFd, level: i32, name: i32, number: i32)
@@ -35,7 +35,7 @@ pub(crate) fn widen_input(socket: &UdpSocket) {
     set(socket.as_raw_fd(), c::SOL_SOCKET, c::SO_RCVBUF, i32::MAX);
 }
 
-/// Has replies leave at once, and has the connection fail 30 s after its peer vanished (tcp(7)).
+/// Makes replies leave at once, and the connection fail 30 s after its peer vanished (tcp(7)).
 pub(crate) fn prepare(stream: &TcpStream) {
     let fd = stream.as_raw_fd();
     set(fd, c::IPPROTO_TCP, c::TCP_NODELAY, 1);

@@ -1,4 +1,4 @@
-//! Datagrams over UDP sockets, in the order of the events that they are of.
+//! Datagrams over UDP sockets, one event's after the other's.
 
 ghost use Rattle.std.specs.Prelude.{◌≡◌};
 
@@ -9,7 +9,7 @@ use std::io;
 use std::marker::Model;
 use std::sync::{Arc, Condvar, Mutex, Wait};
 
-/// The UDP sockets that all outlets of a server share. One of them at a time makes an event and
+/// The UDP sockets that all outlets of a server share. One outlet at a time executes an event and
 /// sends its datagrams.
 #[derive(Drop)]
 pub struct SharedSocket {
@@ -19,10 +19,10 @@ pub struct SharedSocket {
 }
 
 impl SharedSocket {
-    /// Binds a UDP socket at an IPv4 address and any port. Each destination is given a connected
-    /// socket of its own at that address when it is first sent to, up to 128 of them, the least
-    /// lately used being closed for a new one; where there can be none, it is sent to from the
-    /// first socket.
+    /// Binds a UDP socket at an IPv4 address and any port. Each destination gets a connected socket
+    /// at that address when a datagram is first sent to it. At most 128 destinations have one: the
+    /// least recently used is closed for a new one. A destination that can get none is sent to from
+    /// the first socket.
     pub fn bind(rt: HostRuntime, ip: u32) -> io::Result<SharedSocket> {
         Ok(SharedSocket {
             destinations: Mutex::new(Destinations::bind(rt, ip)?),
@@ -48,8 +48,8 @@ impl SharedSocket {
         self.destinations.lock(rt).send(to, bytes)
     }
 
-    // Tells of the datagrams for which there was no room, where a line is due. Nothing is locked
-    // meanwhile, as standard error may wait for who reads it.
+    // Reports the datagrams without room, if a line is due. Holds no lock while it writes, since
+    // standard error may wait for its reader.
     fn tell<R: Wait>(&self, rt: &R) {
         let due = self.destinations.lock(rt).due();
         if let Some(refusals) = due {
@@ -58,15 +58,15 @@ impl SharedSocket {
     }
 }
 
-/// An outlet at the shared UDP sockets. A datagram that its socket doesn't take at once, or refuses
-/// twice, is a failed one. Between `lock` and `unlock` no other outlet of the sockets is locked.
+/// An outlet at the shared UDP sockets. A send fails if the socket doesn't take the datagram at
+/// once, or refuses it twice. Between `lock` and `unlock` no other outlet of the sockets is locked.
 #[derive(Drop)]
 pub struct RealOutlet<R: Wait + Drop> {
     rt: R,
     shared: Arc<SharedSocket>,
     faults: u64,
     held: bool,
-    // Whether a datagram failed since the last unlock.
+    // Whether a send failed since the last unlock.
     failed: bool,
 }
 
@@ -82,7 +82,7 @@ impl<R: Wait + Drop> Model for RealOutlet<R> {
 impl<R: Wait + Drop> RealOutlet<R> {
     ghost use Rattle.satip_world.specs.Outboxes.{fresh_outbox};
 
-    /// An outlet that sent nothing yet.
+    /// Creates an outlet that has sent nothing yet.
     pub fn new(rt: R, shared: Arc<SharedSocket>) -> RealOutlet<R>
         ensures fresh { result ≡ fresh_outbox }
     {

@@ -1,4 +1,4 @@
-//! Waiting until sockets are ready.
+//! Waits until sockets are ready.
 
 use libc::net as c;
 use libc::types::pollfd;
@@ -12,30 +12,31 @@ fn asked(fd: RawFd, events: i16) -> pollfd {
     }
 }
 
-/// Waits until a socket has input or its end, or failed, up to so many milliseconds. A wait that a
-/// signal cut short found nothing.
+/// Waits up to `wait_ms` milliseconds until a socket has input, its end or a fault; returns whether
+/// it has. A wait that a signal cut short returns false.
 pub(crate) fn has_input(socket: &impl AsRawFd, wait_ms: i32) -> bool {
     c::poll(&mut [asked(socket.as_raw_fd(), c::POLLIN)], wait_ms) > 0
 }
 
-/// Waits until a socket takes output, or failed, up to so many milliseconds.
+/// Waits up to `wait_ms` milliseconds until a socket takes output or has a fault; returns whether
+/// it does.
 pub(crate) fn takes_output(socket: &impl AsRawFd, wait_ms: i32) -> bool {
     c::poll(&mut [asked(socket.as_raw_fd(), c::POLLOUT)], wait_ms) > 0
 }
 
-/// Waits until a socket takes output, or failed, up to so many milliseconds, and says whether that
-/// took less. A wait that fails ends early too.
+/// Waits up to `wait_ms` milliseconds until a socket takes output or has a fault; returns whether
+/// the wait was shorter. A wait that fails is shorter too.
 pub(crate) fn ends_early(socket: &impl AsRawFd, wait_ms: i32) -> bool {
     c::poll(&mut [asked(socket.as_raw_fd(), c::POLLOUT)], wait_ms) != 0
 }
 
-/// Waits for so many milliseconds, or until a signal cuts it short.
+/// Waits for `wait_ms` milliseconds, or until a signal cuts the wait short.
 pub(crate) fn pause(wait_ms: i32) {
     c::poll(&mut [], wait_ms);
 }
 
-/// Waits until one of two sockets has input, or failed, up to so many milliseconds, and says which
-/// of them.
+/// Waits up to `wait_ms` milliseconds until one of two sockets has input or a fault; returns which
+/// of them have.
 pub(crate) fn have_input(
     first: &impl AsRawFd,
     second: &impl AsRawFd,

@@ -1,4 +1,4 @@
-//! Sending to a client that takes bytes at its own pace.
+//! Sends to a client that takes bytes at its own pace.
 
 ghost use Rattle.std.specs.Prelude.{◌≡◌, ◌+◌, ◌<◌, ◌≤◌, min};
 
@@ -8,18 +8,18 @@ use mio::net::TcpStream;
 use std::io;
 use std::io::{ErrorKind, Write};
 
-// How many waits a send takes at most in which the client took nothing.
+// The most waits in a row in which the client took nothing.
 const IDLE_WAITS: u32 = 200;
 
-// How long one wait is at most, in milliseconds.
+// The longest wait, in milliseconds.
 const WAIT_MS: i32 = 50;
 
-/// A writer that doesn't wait by itself.
+/// A non-blocking writer.
 pub trait Unhurried: Write {
-    /// Waits until it takes bytes, or for a while. Whether it waited for less than that.
+    /// Waits until it takes bytes, or for a while; returns whether the wait was shorter.
     fn wait(&mut self) -> bool;
 
-    /// Waits for a while, whether it takes bytes or not.
+    /// Waits for a while, whether or not it takes bytes.
     fn rest(&mut self);
 }
 
@@ -33,7 +33,7 @@ impl Unhurried for TcpStream {
     }
 }
 
-// Writes what the writer takes at once, and gives the rest.
+// Writes what the writer takes at once; returns the rest.
 fn advance<'b, W: Write>(writer: &mut W, bytes: &'b [u8]) -> io::Result<&'b [u8]> {
     match writer.write(bytes) {
         Ok(count) => Ok(bytes.split_at(count).1),
@@ -42,7 +42,7 @@ fn advance<'b, W: Write>(writer: &mut W, bytes: &'b [u8]) -> io::Result<&'b [u8]
     }
 }
 
-// How many waits there were since the last progress, behind one that left `left` bytes of `before`.
+// Returns the count of waits since the last progress, after one that left `left` bytes of `before`.
 fn idle_waits(waits: u32, before: usize, left: usize) -> u32
     ensures progress { left < before → result ≡ 0 }
     ensures none { before ≤ left → result ≡ min 4294967295 (waits + 1) }
@@ -53,8 +53,8 @@ fn idle_waits(waits: u32, before: usize, left: usize) -> u32
     waits.saturating_add(1)
 }
 
-/// Writes all, and gives up after 200 waits one after another in which the client took nothing.
-/// Where the system has no memory for a ready stream a wait ends at once, and a rest follows it.
+/// Writes all bytes. Gives up after 200 waits in a row in which the client took nothing. If the
+/// system has no memory for a ready stream, a wait ends at once, and a rest follows it.
 pub fn send_all<W: Unhurried>(writer: &mut W, bytes: &[u8]) -> io::Result<()> {
     let mut rest = advance(writer, bytes)?;
     let mut waits = 0u32;

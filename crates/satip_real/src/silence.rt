@@ -1,14 +1,15 @@
 //! When a client that sends nothing is given up.
 
 use crate::listeners::Listeners;
-use crate::stopwatch::Stopwatch;
+use satip_host::Stopwatch;
 use satip_world::DoorKind;
 use std::sync::Arc;
 
-// How long a client that sent nothing yet is waited for while others wait, in milliseconds.
+// The time for which a client that sent nothing yet is waited for while others wait, in
+// milliseconds.
 const FIRST_BYTE_MS: u64 = 2000;
 
-/// How long a client has sent nothing, and how long it may.
+/// The time for which a client has sent nothing, and its limit.
 #[derive(Drop)]
 pub(crate) struct Silence {
     kind: DoorKind,
@@ -20,7 +21,7 @@ pub(crate) struct Silence {
 }
 
 impl Silence {
-    /// A client that came just now, and may be silent for so many seconds.
+    /// Starts the silence of a client that just came. Its limit is `timeout_s` seconds.
     pub(crate) fn begin(
         rt: HostRuntime,
         kind: DoorKind,
@@ -37,19 +38,20 @@ impl Silence {
         }
     }
 
-    // Bytes came in.
+    // Notes that bytes were received.
     fn hear(&mut self) {
         self.was_heard = true;
         self.watch.restart();
     }
 
-    // Bytes were sent.
+    // Notes that bytes were sent.
     fn answer(&mut self) {
         self.was_answered = true;
     }
 
-    // Whether the client is given up: it was silent for longer than it may, or it sent nothing in
-    // 2 s and others wait at the doors. Who reads a stream over HTTP has nothing to say.
+    // Returns whether the client is given up: it was silent for longer than its limit, or it sent
+    // nothing in 2 s and others wait at the doors. A client that reads a stream over HTTP has
+    // nothing to send.
     fn is_over(&self) -> bool {
         if self.kind == DoorKind::Http && self.was_answered {
             return false;
@@ -62,17 +64,17 @@ impl Silence {
     }
 }
 
-/// How long the other end of a connection may be silent.
+/// The limit of the other end's silence.
 #[derive(Drop)]
 pub(crate) enum Patience {
-    /// As long as a client may.
+    /// The limit of a client.
     Limited(Silence),
-    /// For ever: whoever dialed counts the idles itself.
+    /// No limit: the caller that dialed counts the idles itself.
     Endless,
 }
 
 impl Patience {
-    /// Bytes came in.
+    /// Notes that bytes were received.
     pub(crate) fn hear(&mut self) {
         match self {
             Patience::Limited(silence) => silence.hear(),
@@ -80,7 +82,7 @@ impl Patience {
         }
     }
 
-    /// Bytes were sent.
+    /// Notes that bytes were sent.
     pub(crate) fn answer(&mut self) {
         match self {
             Patience::Limited(silence) => silence.answer(),
@@ -88,7 +90,7 @@ impl Patience {
         }
     }
 
-    /// Whether the other end is given up.
+    /// Returns whether the other end is given up.
     pub(crate) fn is_over(&self) -> bool {
         match self {
             Patience::Limited(silence) => silence.is_over(),

@@ -2,8 +2,8 @@
 use Rattle.std.proofs.Common.{◌⊎◌, inl, inr, ℕ, ◌+◌, ◌<◌, ◌≤◌, zero, suc, List, [], ◌∷◌, ◌++◌, sym, ap, subst, arith}
 use Rattle.std.proofs.lemmas.Bool.{cases_lt}
 use Rattle.std.specs.List.{All}
-use Rattle.satip_inlet.specs.Inboxes.{Inbox, GotDatagram, GotNone}
-use Rattle.satip_catch.specs.Caught.{Datagram}
+use Rattle.satip_world.specs.Inboxes.{Inbox, GotDatagram, GotNone}
+use Rattle.satip_rtp_receiver.specs.Caught.{Datagram}
 use Rattle.satip_recorder.specs.Arrivals.{AreRead, IsLast, TookTurns}
 
 pub read-then : (xs ys : List (List ℕ)) (ds es : List Datagram) → AreRead xs ds → AreRead ys es → AreRead (xs ++ ys) (ds ++ es)

@@ -3,8 +3,8 @@ use Rattle.std.proofs.Common.{◌≡◌, inl, inr, ℕ, ◌+◌, ◌<◌, ◌≤
 use Rattle.satip_world.specs.Counts.{Rises}
 use Rattle.satip_world.specs.Dials.{Dial, Reads}
 use Rattle.satip_world.specs.Lines.{Line, Grew}
-use Rattle.satip_inlet.specs.Inboxes.{Inbox}
-use Rattle.satip_catch.specs.Catching.{Catch, catching}
+use Rattle.satip_world.specs.Inboxes.{Inbox}
+use Rattle.satip_rtp_receiver.specs.Catching.{Catch, catching}
 use Rattle.satip_client.proofs.PulseLemmas.{grew_then, grew_none, faults_then}
 use Rattle.satip_client.specs.Leases.{Terms}
 use Rattle.satip_client.specs.Pulses.{after_reading, sent_at, Beat, NotBeat, BeatFailed, Beats}

@@ -1,9 +1,9 @@
 -- Items that a catcher hands up, written and told.
 use Rattle.std.proofs.Common.{◌≡◌, ◌<◌, false, List, [], ◌∷◌, ◌++◌, None, Some, sym, ap, ◌∙◌, subst, append_assoc, append-nil}
 use Rattle.satip_base.specs.Streams.{Drain}
-use Rattle.satip_catch.specs.declared.item.Item.{Item}
-use Rattle.satip_catch.specs.Catching.{Catch, next_item, after_item}
-use Rattle.satip_catch.specs.Runs.{all_items, drained}
+use Rattle.satip_rtp_receiver.specs.declared.item.Item.{Item}
+use Rattle.satip_rtp_receiver.specs.Catching.{Catch, next_item, after_item}
+use Rattle.satip_rtp_receiver.specs.Runs.{all_items, drained}
 use Rattle.satip_recorder.specs.Tapes.{Taped, TapeFailed}
 use Rattle.satip_recorder.specs.declared.tape.Tape.{Tape}
 use Rattle.satip_recorder.proofs.ItemLemmas.{hands_one, hands_none}

@@ -1,11 +1,11 @@
 -- What a catcher hands up, call by call.
 use Rattle.std.proofs.Common.{◌≡◌, ℕ, ◌<◌, zero, suc, Bool, true, false, List, [], ◌∷◌, ◌++◌, length, drop, Option, None, Some, refl, sym, ap, ◌∙◌, arith, length-drop, if◌then◌else◌}
 use Rattle.std.specs.Option.{option_to_list}
-use Rattle.satip_catch.specs.declared.item.Item.{Item}
-use Rattle.satip_catch.specs.Caught.{Datagram}
-use Rattle.satip_catch.specs.Catching.{Catch, missing, gap, due, next_item, next_number, item_of, after_item, places, is_caught, place_of, put, taken}
-use Rattle.satip_catch.specs.Runs.{items_of, all_items, drained}
-use Rattle.satip_catch.proofs.DrainLemmas.{drain, rest-items, rest-after}
+use Rattle.satip_rtp_receiver.specs.declared.item.Item.{Item}
+use Rattle.satip_rtp_receiver.specs.Caught.{Datagram}
+use Rattle.satip_rtp_receiver.specs.Catching.{Catch, missing, gap, due, next_item, next_number, item_of, after_item, places, is_caught, place_of, put, taken}
+use Rattle.satip_rtp_receiver.specs.Runs.{items_of, all_items, drained}
+use Rattle.satip_rtp_receiver.proofs.DrainLemmas.{drain, rest-items, rest-after}
 
 none-some : (item : Item) → None ≡ Some item → ⊥
 none-some item e = cc

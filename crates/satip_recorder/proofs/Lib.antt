@@ -6,3 +6,5 @@ pub mod ArrivalLemmas
 pub mod WoundLemmas
 pub mod CourseLemmas
 pub mod RecordLemmas
+pub mod WordLemmas
+pub mod EndLemmas

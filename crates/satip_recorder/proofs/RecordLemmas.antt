@@ -4,13 +4,13 @@ use Rattle.satip_base.specs.Streams.{Drain, PutAll}
 use Rattle.satip_world.specs.Counts.{Rises}
 use Rattle.satip_world.specs.Dials.{Dial, Reads}
 use Rattle.satip_world.specs.Lines.{Line, Grew}
-use Rattle.satip_inlet.specs.Inboxes.{Inbox}
-use Rattle.satip_catch.specs.Caught.{Datagram, caught}
-use Rattle.satip_catch.specs.Catching.{Catch, catching}
-use Rattle.satip_catch.specs.Runs.{handed_up}
-use Rattle.satip_catch.specs.declared.item.Item.{Item}
-use Rattle.satip_catch.proofs.AllLemmas.{always_catches_all}
-use Rattle.satip_requests.specs.Requests.{setup_request, play_request, teardown_request}
+use Rattle.satip_world.specs.Inboxes.{Inbox}
+use Rattle.satip_rtp_receiver.specs.Caught.{Datagram, caught}
+use Rattle.satip_rtp_receiver.specs.Catching.{Catch, catching}
+use Rattle.satip_rtp_receiver.specs.Runs.{handed_up}
+use Rattle.satip_rtp_receiver.specs.declared.item.Item.{Item}
+use Rattle.satip_rtp_receiver.proofs.AllLemmas.{always_catches_all}
+use Rattle.satip_client.specs.Requests.{setup_request, play_request, teardown_request}
 use Rattle.satip_client.specs.Leases.{Terms}
 use Rattle.satip_client.specs.declared.ending.RecordEnd.{RecordEnd}
 use Rattle.satip_client.specs.declared.ending.RecordEnd.TheVariants.{Done, OutputFault, Refused, BadReply, Silent, PeerFault, Closed, OutOfMemory}

@@ -3,8 +3,8 @@ use Rattle.std.proofs.Common.{◌≡◌, ℕ, ◌-◌, ◌<◌, zero, suc, Bool,
 use Rattle.satip_base.specs.Streams.{Drain, PutAll, FailedToPut, Began, Rose}
 use Rattle.satip_base.specs.declared.streams.Put.{Put}
 use Rattle.satip_base.specs.declared.streams.Put.TheVariants.{Whole, Failed}
-use Rattle.satip_catch.specs.declared.item.Item.{Item}
-use Rattle.satip_catch.specs.declared.item.Item.TheVariants.{Data, Gap}
+use Rattle.satip_rtp_receiver.specs.declared.item.Item.{Item}
+use Rattle.satip_rtp_receiver.specs.declared.item.Item.TheVariants.{Data, Gap}
 use Rattle.satip_recorder.specs.Tapes.{packets_in, gap_line, gap_lines, Tells, PutsPackets, Taped, TapeFailed, TapesAs}
 use Rattle.satip_recorder.specs.declared.tape.Tape.{Tape}
 

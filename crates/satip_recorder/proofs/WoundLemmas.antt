@@ -3,13 +3,13 @@ use Rattle.std.proofs.Common.{◌≡◌, inl, inr, ℕ, ◌+◌, ◌<◌, zero, 
 use Rattle.satip_base.specs.Streams.{Drain, PutAll}
 use Rattle.satip_base.specs.declared.streams.Put.{Put}
 use Rattle.satip_base.specs.declared.streams.Put.TheVariants.{Whole, Failed}
-use Rattle.satip_inlet.specs.Inboxes.{Inbox, GotDatagram, GotNone, FailedToGet}
-use Rattle.satip_catch.specs.Caught.{Datagram}
-use Rattle.satip_catch.specs.Catching.{Catch, after_item, taken, datagram}
-use Rattle.satip_catch.specs.Rtp.{IsRtp, Says}
-use Rattle.satip_catch.specs.Runs.{after_items, all_items, drained, handed_up, after_all}
-use Rattle.satip_catch.specs.declared.item.Item.{Item}
-use Rattle.satip_catch.specs.declared.view.RtpView.{RtpView}
+use Rattle.satip_world.specs.Inboxes.{Inbox, GotDatagram, GotNone, FailedToGet}
+use Rattle.satip_rtp_receiver.specs.Caught.{Datagram}
+use Rattle.satip_rtp_receiver.specs.Catching.{Catch, after_item, taken, datagram}
+use Rattle.satip_rtp_receiver.specs.Rtp.{IsRtp, Says}
+use Rattle.satip_rtp_receiver.specs.Runs.{after_items, all_items, drained, handed_up, after_all}
+use Rattle.satip_rtp_receiver.specs.declared.item.Item.{Item}
+use Rattle.satip_rtp_receiver.specs.declared.view.RtpView.{RtpView}
 use Rattle.satip_client.specs.declared.ending.RecordEnd.{RecordEnd}
 use Rattle.satip_client.specs.declared.ending.RecordEnd.TheVariants.{Done, OutputFault, Refused, BadReply, Silent, PeerFault, Closed, OutOfMemory}
 use Rattle.satip_recorder.specs.Arrivals.{IsArrival}

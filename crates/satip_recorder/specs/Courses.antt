@@ -6,11 +6,11 @@ use Rattle.satip_base.specs.declared.streams.Put.TheVariants.{Whole, Failed}
 use Rattle.satip_world.specs.Counts.{Rises}
 use Rattle.satip_world.specs.Dials.{Dial}
 use Rattle.satip_world.specs.Lines.{Line, Grew}
-use Rattle.satip_inlet.specs.Inboxes.{Inbox}
-use Rattle.satip_catch.specs.Caught.{Datagram}
-use Rattle.satip_catch.specs.Catching.{Catch, Rests}
-use Rattle.satip_catch.specs.Runs.{handed_up, after_all}
-use Rattle.satip_catch.specs.declared.item.Item.{Item}
+use Rattle.satip_world.specs.Inboxes.{Inbox}
+use Rattle.satip_rtp_receiver.specs.Caught.{Datagram}
+use Rattle.satip_rtp_receiver.specs.Catching.{Catch, Rests}
+use Rattle.satip_rtp_receiver.specs.Runs.{handed_up, after_all}
+use Rattle.satip_rtp_receiver.specs.declared.item.Item.{Item}
 use Rattle.satip_client.specs.Leases.{Terms}
 use Rattle.satip_client.specs.Pulses.{after_reading, sent_at}
 use Rattle.satip_client.specs.Waits.{SameFaults}
@@ -21,13 +21,13 @@ use Rattle.satip_recorder.specs.Tapes.{Taped, Tells, gap_lines, packets_in}
 use Rattle.satip_recorder.specs.Arrivals.{AreRead, TookTurns}
 use Rattle.satip_recorder.specs.declared.tape.Tape.{Tape}
 
--- what the requests go by: the connection, the clock, the mark and the next number
+-- the state of the requests: the connection, the clock, the mark and the next number
 pub record Talk : Type 0 where
   pub wire : Line
   pub clock : Dial
   pub pulse : Pulse
 
--- what the datagrams go through: the catcher, and the sinks with what is to be written yet
+-- the state of the datagrams: the catcher, the bytes still to be written, the output and the error sink
 pub record Reel : Type 0 where
   pub catcher : Catch
   pub tape : Tape
@@ -56,14 +56,14 @@ options_sent address terms pulse [] = []
 options_sent address terms pulse (moment ∷ moments) =
     sent_at address terms pulse moment ++ options_sent address terms (after_reading terms.timeout pulse moment) moments
 
--- after each of these readings what was due was sent
+-- after each of these readings the request was sent if it was due
 pub record Beaten (tells : Type 0) (o n : Talk) (address : List ℕ) (terms : Terms) (moments : List ℕ) : Type 0 where
   pub clock : ReadsAll o.clock n.clock moments
   pub pulse : n.pulse ≡ after_readings terms.timeout o.pulse moments
   pub asked : Grew tells o.wire n.wire [] (options_sent address terms o.pulse moments)
   pub faults : SameFaults o.wire n.wire
 
--- a beginning of that was sent
+-- a prefix of those requests was sent
 pub record BeatenUntil (tells : Type 0) (o n : Talk) (address : List ℕ) (terms : Terms) : Type 0 where
   pub moments : List ℕ
   pub clock : ReadsAll o.clock n.clock moments
@@ -72,14 +72,14 @@ pub record BeatenUntil (tells : Type 0) (o n : Talk) (address : List ℕ) (terms
   pub whole : options_sent address terms o.pulse moments ≡ part ++ rest
   pub asked : Grew tells o.wire n.wire [] part
 
--- what the catcher hands up of these datagrams was written and told
+-- the items that the catcher hands up of these datagrams were written and logged
 pub record Wound (tells_output tells_errors : Type 0) (o n : Reel) (datagrams : List (List ℕ)) : Type 0 where
   pub arrivals : List Datagram
   pub read : AreRead datagrams arrivals
   pub taped : Taped tells_output tells_errors o.output n.output o.errors n.errors o.tape n.tape (handed_up o.catcher arrivals)
   pub caught : 0 < n.tape.left → n.catcher ≡ after_all o.catcher arrivals
 
--- in so many turns these datagrams came
+-- in at least `turns` turns these datagrams were received
 pub record Caught (tells tells_output tells_errors : Type 0) (i j : Inbox) (o n : Reel) (turns : ℕ) : Type 0 where
   pub port : j.port ≡ i.port
   pub datagrams : List (List ℕ)
@@ -88,7 +88,7 @@ pub record Caught (tells tells_output tells_errors : Type 0) (i j : Inbox) (o n 
   pub took : TookTurns turns i j
   pub wound : Wound tells_output tells_errors o n datagrams
 
--- the output fails with this end, and with no other
+-- the bytes were written; with the end of an output fault only a prefix of them was, and the output failed
 abbrev pub IsWritten : RecordEnd → (tells : Type 0) (o n : Drain) (bytes : List ℕ) → Type 0
 IsWritten Done tells o n bytes = PutAll tells o n bytes
 IsWritten OutputFault tells o n bytes = FailedToPut tells o n bytes
@@ -99,7 +99,7 @@ IsWritten PeerFault tells o n bytes = PutAll tells o n bytes
 IsWritten Closed tells o n bytes = PutAll tells o n bytes
 IsWritten OutOfMemory tells o n bytes = PutAll tells o n bytes
 
--- a beginning of what the catcher hands up of these datagrams was written and told
+-- a prefix of the items that the catcher hands up of these datagrams was written and logged
 pub record WoundUntil (tells_output tells_errors : Type 0) (o n : Reel) (end : RecordEnd) (datagrams : List (List ℕ)) : Type 0 where
   pub arrivals : List Datagram
   pub read : AreRead datagrams arrivals
@@ -109,19 +109,19 @@ pub record WoundUntil (tells_output tells_errors : Type 0) (o n : Reel) (end : R
   pub written : IsWritten end tells_output o.output n.output (take o.tape.left (packets_in handed))
   pub told : Tells tells_errors o.errors n.errors (gap_lines o.tape.left handed) o.tape.muted n.tape.muted
 
--- these datagrams came, and then no more
+-- these datagrams were received until this end
 pub record CaughtUntil (tells tells_output tells_errors : Type 0) (i j : Inbox) (o n : Reel) (end : RecordEnd) : Type 0 where
   pub port : j.port ≡ i.port
   pub datagrams : List (List ℕ)
   pub given : tells → j.given ≡ i.given ++ datagrams
   pub wound : WoundUntil tells_output tells_errors o n end datagrams
 
--- one datagram
+-- one datagram was taken
 abbrev pub Winds : (tells_output tells_errors : Type 0) (o n : Reel) (bytes : List ℕ) → Put → Type 0
 Winds tells_output tells_errors o n bytes Whole = Wound tells_output tells_errors o n (bytes ∷ [])
 Winds tells_output tells_errors o n bytes Failed = WoundUntil tells_output tells_errors o n OutputFault (bytes ∷ [])
 
--- why one turn of the inlet ends the recording
+-- the cause of an end by one turn of the inlet
 abbrev pub CatchCause : (i j : Inbox) → RecordEnd → Type 0
 CatchCause i j Done = ⊥
 CatchCause i j OutputFault = Unit {0}
@@ -137,7 +137,7 @@ abbrev pub Catches : (tells tells_output tells_errors : Type 0) (i j : Inbox) (o
 Catches tells tells_output tells_errors i j o n (Ok done) = Caught tells tells_output tells_errors i j o n 1
 Catches tells tells_output tells_errors i j o n (Err end) = CaughtUntil tells tells_output tells_errors i j o n end × CatchCause i j end
 
--- why receiving ends before all is written
+-- the cause of an end while receiving: no turn left for `Silent`, and a fault for `PeerFault`; nothing is said of an output fault and of out of memory
 abbrev pub Cause : (limit : ℕ) (a b : Line) (i j : Inbox) → RecordEnd → Type 0
 Cause limit a b i j Done = ⊥
 Cause limit a b i j OutputFault = Unit {0}
@@ -148,20 +148,21 @@ Cause limit a b i j PeerFault = Rises a.send_faults b.send_faults ⊎ Rises i.fa
 Cause limit a b i j Closed = ⊥
 Cause limit a b i j OutOfMemory = Unit {0}
 
--- turns of receiving
+-- a number of turns of receiving
 pub record Course (tells tells_inlet tells_output tells_errors : Type 0) (a b : Talk) (i j : Inbox) (o n : Reel)
     (address : List ℕ) (terms : Terms) : Type 0 where
   pub moments : List ℕ
   pub talks : Beaten tells a b address terms moments
   pub reels : Caught tells_inlet tells_output tells_errors i j o n (length moments)
 
--- receiving ended before all was written
+-- receiving ended with this end and its cause
 pub record Stopped (tells tells_inlet tells_output tells_errors : Type 0) (a b : Talk) (i j : Inbox) (o n : Reel)
     (address : List ℕ) (terms : Terms) (limit : ℕ) (end : RecordEnd) : Type 0 where
   pub talks : BeatenUntil tells a b address terms
   pub reels : CaughtUntil tells_inlet tells_output tells_errors i j o n end
   pub cause : Cause limit a.wire b.wire i j end
 
+-- the outcome of receiving
 abbrev pub Turns : (tells tells_inlet tells_output tells_errors : Type 0) (a b : Talk) (i j : Inbox) (o n : Reel)
     (address : List ℕ) (terms : Terms) (limit : ℕ) → Result (Unit {0}) RecordEnd → Type 0
 Turns tells tells_inlet tells_output tells_errors a b i j o n address terms limit (Ok done) =
@@ -169,7 +170,7 @@ Turns tells tells_inlet tells_output tells_errors a b i j o n address terms limi
 Turns tells tells_inlet tells_output tells_errors a b i j o n address terms limit (Err end) =
     Stopped tells tells_inlet tells_output tells_errors a b i j o n address terms limit end
 
--- one turn
+-- one turn of receiving
 abbrev pub TakesTurn : (tells tells_inlet tells_output tells_errors : Type 0) (a b : Talk) (i j : Inbox) (o n : Reel)
     (address : List ℕ) (terms : Terms) (limit : ℕ) → Result (Unit {0}) RecordEnd → Type 0
 TakesTurn tells tells_inlet tells_output tells_errors a b i j o n address terms limit (Ok done) =

@@ -3,3 +3,5 @@ pub mod Arrivals
 pub mod Courses
 pub mod Openings
 pub mod Recordings
+pub mod Words
+pub mod Ends

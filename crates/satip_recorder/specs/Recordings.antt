@@ -1,14 +1,14 @@
--- A whole recording: what is asked, received, written and told, and how it ends.
+-- A whole recording: its requests, its datagrams, its output and lines, and its end.
 use Rattle.std.specs.Prelude.{◌≡◌, ℕ, ◌+◌, ◌*◌, ◌≤◌, ◌⊎◌, Bool, false, List, [], ◌∷◌, ◌++◌, length, take, drop, Result, Ok, Err}
 use Rattle.satip_base.specs.Streams.{Drain, PutAll, FailedToPut}
 use Rattle.satip_world.specs.Counts.{Rises}
 use Rattle.satip_world.specs.Dials.{Dial}
 use Rattle.satip_world.specs.Lines.{Line, Grew}
-use Rattle.satip_inlet.specs.Inboxes.{Inbox}
-use Rattle.satip_catch.specs.Caught.{Datagram, caught}
-use Rattle.satip_catch.specs.Catching.{catching}
-use Rattle.satip_catch.specs.declared.item.Item.{Item}
-use Rattle.satip_requests.specs.Requests.{setup_request, play_request, teardown_request}
+use Rattle.satip_world.specs.Inboxes.{Inbox}
+use Rattle.satip_rtp_receiver.specs.Caught.{Datagram, caught}
+use Rattle.satip_rtp_receiver.specs.Catching.{catching}
+use Rattle.satip_rtp_receiver.specs.declared.item.Item.{Item}
+use Rattle.satip_client.specs.Requests.{setup_request, play_request, teardown_request}
 use Rattle.satip_client.specs.Exchanges.{HasGrant, HasAnswer}
 use Rattle.satip_client.specs.Ends.{line_for}
 use Rattle.satip_client.specs.Leases.{Terms}
@@ -22,19 +22,19 @@ use Rattle.satip_recorder.specs.Openings.{EndsOpening}
 use Rattle.satip_recorder.specs.declared.recorder.Recorder.{Recorder}
 use Rattle.satip_recorder.specs.declared.tape.Tape.{Tape}
 
--- bytes of so many packets
+-- the bytes of `count` packets
 abbrev pub bytes_of : ℕ → ℕ
 bytes_of count = count * 188
 
--- so often at most a datagram comes or none does
+-- the largest number of turns; in each a datagram arrives or none does
 abbrev pub turn_limit : ℕ → ℕ
 turn_limit count = count * 64 + 10000
 
--- nothing was written or told yet
+-- nothing was written or logged yet
 abbrev pub fresh_tape : ℕ → Tape
 fresh_tape count = record { left = bytes_of count; muted = false }
 
--- a recorder of so many packets that did nothing yet
+-- a recorder of `count` packets that did nothing yet
 pub record IsFresh (count : ℕ) (recorder : Recorder) : Type 0 where
   pub cseq : recorder.pulse.cseq ≡ 3
   pub catcher : recorder.catcher ≡ catching
@@ -52,11 +52,11 @@ pub record Outside : Type 0 where
 abbrev pub outside : Line → Dial → Inbox → Drain → Outside
 outside wire clock inlet output = record { wire = wire; clock = clock; inlet = inlet; output = output }
 
--- SETUP and PLAY have the numbers 1 and 2
+-- the mark and the number of the third request; SETUP and PLAY have the numbers 1 and 2
 abbrev pub first_pulse : ℕ → Pulse
 first_pulse mark = record { mark = mark; cseq = 3 }
 
--- what SETUP and PLAY gave, and what came in while they were
+-- the terms that SETUP gave, and the bytes received while SETUP and PLAY were answered
 pub record Opening (terms : Terms) (got : List ℕ) : Type 0 where
   pub first : List ℕ
   pub second : List ℕ
@@ -65,7 +65,7 @@ pub record Opening (terms : Terms) (got : List ℕ) : Type 0 where
   pub granted : HasGrant first terms size
   pub accepted : HasAnswer 2 (drop size first ++ second)
 
--- all packets were written: those requests were sent that are due, and then these bytes; the lines are those of the gaps
+-- all packets were written. The requests sent are SETUP, PLAY and each due OPTIONS, and then `last`; the lines are those of the gaps
 pub record Filled (tells tells_inlet tells_output : Type 0) (o n : Outside) (address query : List ℕ) (count : ℕ) (terms : Terms) (pulse : Pulse)
     (last lines : List ℕ) : Type 0 where
   pub mark : ℕ
@@ -86,14 +86,14 @@ pub record Filled (tells tells_inlet tells_output : Type 0) (o n : Outside) (add
   pub written : PutAll tells_output o.output n.output (take (bytes_of count) (packets_in (caught false arrivals)))
   pub lines_are : lines ≡ gap_lines (bytes_of count) (caught false arrivals)
 
--- all packets were written and the stream was given back
+-- all packets were written, and the stream was given back
 pub record Completed (tells tells_inlet tells_output : Type 0) (o n : Outside) (address query : List ℕ) (count : ℕ) (lines : List ℕ) : Type 0 where
   pub terms : Terms
   pub pulse : Pulse
   pub filled : Filled tells tells_inlet tells_output o n address query count terms pulse
       (teardown_request address terms.stream pulse.cseq terms.session) lines
 
--- why the stream isn't given back
+-- the cause of an end at TEARDOWN; out of memory has none
 abbrev pub LeaveCause : (a b : Line) → RecordEnd → Type 0
 LeaveCause a b Done = ⊥
 LeaveCause a b OutputFault = ⊥
@@ -104,7 +104,7 @@ LeaveCause a b PeerFault = Rises a.send_faults b.send_faults
 LeaveCause a b Closed = ⊥
 LeaveCause a b OutOfMemory = Unit {0}
 
--- all packets were written, and the last request wasn't sent whole
+-- all packets were written, and TEARDOWN wasn't sent whole
 pub record EndedLeaving (tells tells_inlet tells_output : Type 0) (o n : Outside) (address query : List ℕ) (count : ℕ) (lines : List ℕ)
     (end : RecordEnd) : Type 0 where
   pub terms : Terms
@@ -115,8 +115,8 @@ pub record EndedLeaving (tells tells_inlet tells_output : Type 0) (o n : Outside
   pub filled : Filled tells tells_inlet tells_output o n address query count terms pulse part lines
   pub cause : LeaveCause o.wire n.wire end
 
--- SETUP and PLAY were accepted, and receiving ended before all packets were written: a beginning of the requests that were due was
--- sent, and of the items that were caught some at the front were handed up
+-- SETUP and PLAY were accepted, and receiving ended with this end. A prefix of the due OPTIONS was sent, and a prefix of the items that were caught was handed
+-- up
 pub record EndedReceiving (tells tells_inlet tells_output : Type 0) (o n : Outside) (address query : List ℕ) (count : ℕ) (lines : List ℕ)
     (end : RecordEnd) : Type 0 where
   pub terms : Terms
@@ -142,7 +142,7 @@ pub record EndedReceiving (tells tells_inlet tells_output : Type 0) (o n : Outsi
   pub lines_are : lines ≡ gap_lines (bytes_of count) handed
   pub cause : Cause (turn_limit count) o.wire n.wire o.inlet n.inlet end
 
--- SETUP or PLAY ended it: nothing was received, written or told
+-- SETUP or PLAY ended the recording: no datagram was received, no packet written and no gap logged
 pub record EndedOpening (tells : Type 0) (o n : Outside) (address query : List ℕ) (lines : List ℕ) (end : RecordEnd) : Type 0 where
   pub ends : EndsOpening tells o.wire n.wire o.clock n.clock address query o.inlet.port end
   pub inlet : n.inlet ≡ o.inlet
@@ -154,7 +154,7 @@ pub record NotBegun (o n : Outside) (lines : List ℕ) : Type 0 where
   pub same : n ≡ o
   pub lines_are : lines ≡ []
 
--- what a recording comes to, with the lines of its gaps
+-- the outcome of a recording, with the lines of its gaps
 abbrev pub Records : (tells tells_inlet tells_output : Type 0) (o n : Outside) (address query : List ℕ) (count : ℕ) (lines : List ℕ)
     → RecordEnd → Type 0
 Records t ti to o n address query count lines Done = Completed t ti to o n address query count lines
@@ -172,22 +172,23 @@ Records t ti to o n address query count lines OutOfMemory =
     ⊎ (EndedOpening t o n address query lines OutOfMemory
     ⊎ (EndedReceiving t ti to o n address query count lines OutOfMemory ⊎ EndedLeaving t ti to o n address query count lines OutOfMemory))
 
+-- the end of a recording, by the result of its run
 abbrev pub end_for : Result (Unit {0}) RecordEnd → RecordEnd
 end_for (Ok done) = Done
 end_for (Err end) = end
 
--- what a run comes to, with what was told so far
+-- the outcome of a run, with the lines logged so far
 pub record Runs (tells tells_inlet tells_output tells_errors : Type 0) (o n : Outside) (r s : Drain) (address query : List ℕ) (count : ℕ)
     (muted : Bool) (result : Result (Unit {0}) RecordEnd) : Type 0 where
   pub lines : List ℕ
   pub records : Records tells tells_inlet tells_output o n address query count lines (end_for result)
   pub told : Tells tells_errors r s lines false muted
 
--- these lines were told, or a beginning of them, where the sink failed
+-- these lines were logged, or a prefix of them if the sink failed
 abbrev pub Said : (tells : Type 0) (o n : Drain) (lines : List ℕ) → Type 0
 Said tells o n lines = PutAll tells o n lines ⊎ FailedToPut tells o n lines
 
--- the recording comes to this, and the lines of its gaps were told, and then that of its end
+-- a recording had this outcome; the lines of its gaps were logged, and then that of its end
 pub record Ends (tells : Type 0) (r s : Drain) (end : RecordEnd) (Comes : List ℕ → Type 0) : Type 0 where
   pub lines : List ℕ
   pub comes : Comes lines

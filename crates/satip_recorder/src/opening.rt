@@ -1,17 +1,15 @@
-//! The first and the last request of a recording.
+//! The first and the last requests of a recording.
 
 ghost use Rattle.std.specs.Prelude.{◌≡◌, ◌≤◌, ◌<◌, IfOk};
 ghost use Rattle.satip_recorder.specs.Openings.{Leaves, Opens};
 
 use crate::wish::Wish;
 use satip_base::Put;
-use satip_client::{Heard, Lease, RecordEnd, set_up, start};
-use satip_requests::Page;
+use satip_client::{Heard, Lease, Page, RecordEnd, set_up, start};
 use satip_world::{Clock, Conn};
 use std::alloc::Global;
 
-/// Sets the stream up and lets it play. The clock is read between the two, and that reading is the
-/// mark.
+/// Sets the stream up and lets it play. Reads the clock between the two; this reading is the mark.
 pub(crate) fn open<W: Conn, M: Clock>(
     alloc: Global,
     wire: &mut W,

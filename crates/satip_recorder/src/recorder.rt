@@ -1,4 +1,4 @@
-//! What a recording works with.
+//! The state of a recording.
 
 ghost use Rattle.std.specs.Prelude.{◌≡◌, ◌+◌, ◌*◌, ◌≤◌, IfOk, false};
 ghost use Rattle.satip_recorder.specs.Recordings.{IsFresh};
@@ -6,16 +6,15 @@ ghost use Rattle.satip_recorder.specs.Recordings.{IsFresh};
 use crate::tape::Tape;
 use satip_base::Want;
 use satip_base::limits::PACKET;
-use satip_catch::Catcher;
-use satip_client::Pulse;
-use satip_requests::Page;
+use satip_client::{Page, Pulse};
+use satip_rtp_receiver::Catcher;
 use std::alloc::Global;
 
-/// Turns for each packet, and turns beside those.
+/// The number of turns for each packet, and the number of turns in addition.
 const TURNS: (u32, u32) = (64, 10000);
 
-/// The mark and the next number, the page for requests, the catcher, what is to be written yet,
-/// and how many turns are left.
+/// The mark and the next number, the page for requests, the catcher, the bytes still to be written,
+/// and the number of turns left.
 #[derive(Drop)]
 pub(crate) struct Recorder {
     pub(crate) pulse: Pulse,
@@ -26,7 +25,8 @@ pub(crate) struct Recorder {
 }
 
 impl Recorder {
-    /// A recorder of so many packets. SETUP and PLAY have the numbers 1 and 2.
+    /// Creates a recorder of `count` packets. Its first request has number 3: SETUP and PLAY have 1
+    /// and 2.
     pub(crate) fn make(alloc: Global, count: u32) -> Result<Recorder, Want>
         requires few { count ≤ 1000000 }
         ensures fresh { IfOk result (IsFresh count) }

@@ -1,23 +1,23 @@
-//! What is written of the items of a catcher, and what is told of its gaps.
+//! The bytes that are written of a catcher's items, and the lines of its gaps.
 
 ghost use Rattle.std.specs.Prelude.{◌≡◌, ◌+◌, ◌<◌, ◌≤◌, ◌∷◌, [], false, length};
 ghost use Rattle.satip_base.specs.Streams.{Puts};
-ghost use Rattle.satip_catch.specs.Runs.{all_items, drained};
-ghost use Rattle.satip_catch.specs.Catching.{Rests};
+ghost use Rattle.satip_rtp_receiver.specs.Runs.{all_items, drained};
+ghost use Rattle.satip_rtp_receiver.specs.Catching.{Rests};
 ghost use Rattle.satip_recorder.specs.Tapes.{PutsPackets, TapesAs, Tells, gap_line, is_muted};
 
 use satip_base::{Put, Sink, Strip};
-use satip_catch::{Catcher, Item};
+use satip_rtp_receiver::{Catcher, Item};
 
-/// How many bytes are to be written yet, and whether a line couldn't be told: then no further one
-/// is.
+/// The number of bytes still to be written, and whether a line couldn't be logged: then no further
+/// one is.
 #[derive(Clone, Copy, Debug, PartialEq, Eq)]
 pub(crate) struct Tape {
     pub(crate) left: usize,
     pub(crate) muted: bool,
 }
 
-/// Hands up all items of a catcher, as long as bytes are to be written.
+/// Hands up the items of a catcher and writes them, while bytes are still to be written.
 pub(crate) fn put_items<O: Sink, E: Sink>(
     catcher: &mut Catcher,
     tape: &mut Tape,
@@ -45,7 +45,7 @@ pub(crate) fn put_items<O: Sink, E: Sink>(
     Put::Whole
 }
 
-// Writes packets, or tells of a gap.
+// Writes packets, or logs a gap.
 fn put_item<O: Sink, E: Sink>(item: &Item, tape: &mut Tape, output: &mut O, errors: &mut E) -> Put
     requires some { 0 < tape.old.left }
     ensures tapes { TapesAs O.tells E.tells (O.drain output.old) (O.drain output.new)
@@ -61,7 +61,7 @@ fn put_item<O: Sink, E: Sink>(item: &Item, tape: &mut Tape, output: &mut O, erro
     }
 }
 
-// Writes as many bytes as are to be written yet.
+// Writes bytes, at most those still to be written.
 fn put_packets<O: Sink>(bytes: &[u8], tape: &mut Tape, output: &mut O) -> Put
     ensures puts { PutsPackets O.tells (O.drain output.old) (O.drain output.new)
         tape.old tape.new bytes.now result }
@@ -76,7 +76,7 @@ fn put_packets<O: Sink>(bytes: &[u8], tape: &mut Tape, output: &mut O) -> Put
     }
 }
 
-// Tells of a gap.
+// Logs a gap.
 #[tactic(auto, unfolding(crate::specs::Tapes::gap_line), using(crate::proofs::LineLemmas::line_room))]
 fn tell_gap<E: Sink>(from: u16, count: u32, tape: &mut Tape, errors: &mut E)
     ensures left { tape.new.left ≡ tape.old.left }
@@ -92,7 +92,7 @@ fn tell_gap<E: Sink>(from: u16, count: u32, tape: &mut Tape, errors: &mut E)
     tell(line.bytes(), tape, errors);
 }
 
-/// Tells a line, unless an earlier one couldn't be told.
+/// Logs a line, unless an earlier one couldn't be logged.
 pub(crate) fn tell<E: Sink>(line: &[u8], tape: &mut Tape, errors: &mut E)
     ensures left { tape.new.left ≡ tape.old.left }
     ensures tells { Tells E.tells (E.drain errors.old) (E.drain errors.new)

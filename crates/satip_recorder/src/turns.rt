@@ -1,21 +1,21 @@
-//! Receiving, turn by turn, until enough is written.
+//! Receiving, turn by turn, until all packets are written.
 
 ghost use Rattle.std.specs.Prelude.{◌≡◌, ◌+◌, ◌<◌, ◌≤◌, IfOk, false, length};
-ghost use Rattle.satip_catch.specs.Catching.{catching};
+ghost use Rattle.satip_rtp_receiver.specs.Catching.{catching};
 ghost use Rattle.satip_recorder.specs.Courses.{Catches, IsReady, TakesTurn, Turns, Winds, reel, talk};
 
 use crate::recorder::Recorder;
 use crate::tape::{Tape, put_items};
 use satip_base::{Put, Sink};
-use satip_catch::{Catcher, read_rtp};
 use satip_client::{Lease, RecordEnd, keep_alive};
-use satip_inlet::Inlet;
-use satip_world::{Clock, Conn, Received};
+use satip_rtp_receiver::{Catcher, read_rtp};
+use satip_world::{Clock, Conn, Inlet, Received};
 
-/// Bytes of the longest datagram that is read whole.
+/// The bytes of the longest datagram that is read whole.
 const ROOM: usize = 2048;
 
-/// Takes turns until enough is written, or as many as the recorder has left.
+/// Takes turns until all packets are written, at most as many as the recorder has left. Without all
+/// packets then, the end is `Silent`.
 pub(crate) fn receive<W: Conn, I: Inlet, M: Clock, O: Sink, E: Sink>(
     wire: &mut W,
     inlet: &mut I,
@@ -93,7 +93,7 @@ fn take_turn<W: Conn, I: Inlet, M: Clock, O: Sink, E: Sink>(
     )
 }
 
-// Receives once, and writes what can be handed up then.
+// Receives once, and writes the packets that can be handed up then.
 fn take_in<I: Inlet, O: Sink, E: Sink>(
     inlet: &mut I,
     catcher: &mut Catcher,
@@ -119,7 +119,7 @@ fn take_in<I: Inlet, O: Sink, E: Sink>(
     }
 }
 
-// Takes one datagram, and writes what can be handed up then.
+// Takes one datagram, and writes the packets that can be handed up then.
 fn wind<O: Sink, E: Sink>(
     bytes: &[u8],
     catcher: &mut Catcher,

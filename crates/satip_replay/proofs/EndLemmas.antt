@@ -12,7 +12,7 @@ use Rattle.satip_core.specs.Held.{Held}
 use Rattle.satip_core.specs.Serving.{Stands}
 use Rattle.satip_replay.specs.declared.ends.ReplayEnd.{ReplayEnd}
 use Rattle.satip_replay.specs.declared.ends.ReplayEnd.TheVariants.{Done, OutputFault, OutOfMemory}
-use Rattle.satip_reading.specs.Configurations.{Configured}
+use Rattle.satip_config.specs.Configurations.{Configured}
 use Rattle.satip_replay.specs.Replays.{setting_of, replayed, HasScript, Checked, Replayed}
 use Rattle.satip_replay.specs.Ends.{StopsWanting, RunEnds, EndsByOutput, EndsByWant}
 

@@ -1,2 +1,3 @@
 mod EndLemmas
 mod RunLemmas
+pub mod CommandEndLemmas

@@ -1,4 +1,4 @@
--- How a replay ends.
+-- The ends of a replay.
 use Rattle.std.specs.Prelude.{◌≡◌, ℕ, ◌<◌, ◌≤◌, ◌⊎◌, List, length, Ok, Err}
 use Rattle.satip_base.specs.Streams.{Feed, Drain, Rose, Began, PutAll, FailedToPut}
 use Rattle.satip_config.specs.Configuration.{Configuration}
@@ -6,15 +6,15 @@ use Rattle.satip_config.specs.Config.{config}
 use Rattle.satip_config.specs.declared.fault.ConfigFault.{ConfigFault}
 use Rattle.satip_plain.specs.declared.events.Event.{Event}
 use Rattle.satip_script.specs.Scripts.{IsScript}
-use Rattle.satip_reading.specs.declared.configuration.ConfigurationEnd.{ConfigurationEnd}
-use Rattle.satip_reading.specs.declared.configuration.ConfigurationEnd.TheVariants as reading
-use Rattle.satip_reading.specs.Reading.{EndsTooLong}
-pub use Rattle.satip_reading.specs.Configurations.{Configured, IsConfiguration, Refused}
+use Rattle.satip_config.specs.declared.reading.ConfigurationEnd.{ConfigurationEnd}
+use Rattle.satip_config.specs.declared.reading.ConfigurationEnd.TheVariants as reading
+use Rattle.satip_config.specs.Reading.{EndsTooLong}
+pub use Rattle.satip_config.specs.Configurations.{Configured, IsConfiguration, Refused}
 use Rattle.satip_replay.specs.declared.ends.ReplayEnd.{ReplayEnd}
 use Rattle.satip_replay.specs.declared.ends.ReplayEnd.TheVariants.{Done, Configuration as OfConfiguration, Script, InputFault, OutputFault, TooLong, OutOfMemory}
 use Rattle.satip_replay.specs.Replays.{script_limit, Scripted, Replayed, PartlyReplayed}
 
--- the configuration is refused; nothing else was done
+-- the configuration is refused; nothing was taken of the input or written
 pub record EndsByConfiguration (tells : Type 0) (a b i j : Feed) (o n : Drain) (fault : ConfigFault) : Type 0 where
   pub refused : Refused tells a b fault
   pub input : j ≡ i
@@ -32,13 +32,13 @@ pub record ConfigurationFails (a b i j : Feed) : Type 0 where
   pub rose : Rose a.faults b.faults
   pub input : j ≡ i
 
--- the input failed behind a right configuration
+-- the input failed after a valid configuration
 pub record InputFails (config_tells : Type 0) (a b i j : Feed) : Type 0 where
   pub configuration : Configuration
   pub configured : Configured config_tells a b configuration
   pub rose : Rose i.faults j.faults
 
--- one of both sources failed; nothing was written
+-- one of the two sources failed; nothing was written
 pub record EndsByInput (config_tells : Type 0) (a b i j : Feed) (o n : Drain) : Type 0 where
   pub cause : ConfigurationFails a b i j ⊎ InputFails config_tells a b i j
   pub output : n ≡ o
@@ -50,25 +50,25 @@ pub record EndsByLength (config_tells in_tells : Type 0) (a b i j : Feed) (o n :
   pub long : EndsTooLong in_tells i j script_limit
   pub output : n ≡ o
 
--- the output failed behind a beginning of the printed run
+-- the output failed after a prefix of the printed run
 pub record EndsByOutput (config_tells in_tells out_tells : Type 0) (a b i j : Feed) (o n : Drain) : Type 0 where
   pub part : PartlyReplayed config_tells in_tells out_tells a b i j o n
   pub rose : Rose o.faults n.faults
 
--- memory was refused: nothing was written yet, or a beginning of the printed run
+-- out of memory: nothing was written yet, or a prefix of the printed run
 pub record EndsByWant (config_tells in_tells out_tells : Type 0) (a b i j : Feed) (o n : Drain) : Type 0 where
   pub config_faults : b.faults ≡ a.faults
   pub in_faults : j.faults ≡ i.faults
   pub out_faults : n.faults ≡ o.faults
   pub written : (n ≡ o) ⊎ PartlyReplayed config_tells in_tells out_tells a b i j o n
 
--- how a replay ends whose configuration isn't read
+-- the end of a replay whose configuration isn't read
 abbrev pub end_of_reading : ConfigurationEnd → ReplayEnd
 end_of_reading (reading.Fault fault) = OfConfiguration fault
 end_of_reading reading.SourceFailed = InputFault
 end_of_reading reading.OutOfMemory = OutOfMemory
 
--- no script is read
+-- the end if no script is read
 abbrev pub ScriptEnds : (tells : Type 0) (i j : Feed) → ReplayEnd → Type 0
 ScriptEnds tells i j Done = ⊥
 ScriptEnds tells i j (OfConfiguration fault) = ⊥
@@ -78,12 +78,12 @@ ScriptEnds tells i j OutputFault = ⊥
 ScriptEnds tells i j TooLong = EndsTooLong tells i j script_limit
 ScriptEnds tells i j OutOfMemory = j.faults ≡ i.faults
 
--- memory was refused in the middle of a text
+-- out of memory in the middle of a text
 pub record StopsWanting (tells : Type 0) (o n : Drain) (text : List ℕ) : Type 0 where
   pub faults : n.faults ≡ o.faults
   pub content : tells → Began o.sent n.sent text
 
--- how the writing of a printed run ends
+-- the end of writing a printed run
 abbrev pub RunEnds : (tells : Type 0) (o n : Drain) (text : List ℕ) → ReplayEnd → Type 0
 RunEnds tells o n text Done = PutAll tells o n text
 RunEnds tells o n text (OfConfiguration fault) = ⊥
@@ -93,7 +93,7 @@ RunEnds tells o n text OutputFault = FailedToPut tells o n text
 RunEnds tells o n text TooLong = ⊥
 RunEnds tells o n text OutOfMemory = StopsWanting tells o n text
 
--- how a replay ends
+-- the contract of each end
 abbrev pub ReplayEnds : (config_tells in_tells out_tells : Type 0) (a b i j : Feed) (o n : Drain) → ReplayEnd → Type 0
 ReplayEnds ct it ot a b i j o n Done = Replayed ct it ot a b i j o n
 ReplayEnds ct it ot a b i j o n (OfConfiguration fault) = EndsByConfiguration ct a b i j o n fault
@@ -114,7 +114,7 @@ pub record HasWrongLine (text : List ℕ) (number : ℕ) : Type 0 where
   pub script : IsScript text (Err number)
   pub short : length text ≤ script_limit
 
--- what the texts of the configuration and of the script say of the end, where no source fails
+-- the ends that the texts of the configuration and of the script allow, if no source fails
 abbrev pub IsEndOf : (config_text text : List ℕ) → ReplayEnd → Type 0
 IsEndOf config_text text Done = IsConfiguration config_text × IsRightScript text
 IsEndOf config_text text (OfConfiguration fault) = config config_text ≡ Err fault

@@ -1,2 +1,2 @@
--- A source that is read to its end.
-pub use Rattle.satip_reading.specs.Reading.{Read, GetsAtMost}
+-- Reading a source to its end.
+pub use Rattle.satip_config.specs.Reading.{Read, GetsAtMost}

@@ -1,4 +1,4 @@
--- A replay: a configuration and a script that were read as a whole, and the printed run.
+-- A replay: a configuration and a script, read as a whole, and the printed run.
 use Rattle.std.specs.Prelude.{ℕ, ◌≤◌, List, length, Result, Ok}
 use Rattle.satip_base.specs.Streams.{Feed, Drain, PutAll, Began}
 use Rattle.satip_config.specs.Configuration.{Configuration}
@@ -7,8 +7,8 @@ use Rattle.satip_plain.specs.declared.setting.Setting.{Setting}
 use Rattle.satip_script.specs.Scripts.{IsScript}
 use Rattle.satip_script.specs.Runs.{run}
 use Rattle.satip_script.specs.Printed.{printed}
-use Rattle.satip_reading.specs.Reading.{ReadWhole}
-pub use Rattle.satip_reading.specs.Configurations.{configuration_limit, Configured}
+use Rattle.satip_config.specs.Reading.{ReadWhole}
+pub use Rattle.satip_config.specs.Configurations.{configuration_limit, Configured}
 
 -- the most bytes of a script
 abbrev pub script_limit : ℕ
@@ -18,7 +18,7 @@ script_limit = 67108864
 abbrev pub setting_of : Configuration → Setting
 setting_of c = record { config = c; start = 0 }
 
--- what a replay prints: the run of the events in which caller 0 makes them
+-- the text that a replay prints: the run of the events, which caller 0 submits
 abbrev pub replayed : Configuration → List Event → List ℕ
 replayed c events = printed (run (setting_of c) events)
 
@@ -36,7 +36,7 @@ pub record HasScript (tells : Type 0) (i j : Feed) (text : List ℕ) : Type 0 wh
   pub events : List Event
   pub script : IsScript text (Ok events)
 
--- both were read, and nothing is wrong with them
+-- both were read, and both are right
 pub record Checked (config_tells in_tells : Type 0) (a b i j : Feed) : Type 0 where
   pub configuration : Configuration
   pub configured : Configured config_tells a b configuration
@@ -48,7 +48,7 @@ pub record Replayed (config_tells in_tells out_tells : Type 0) (a b i j : Feed) 
   pub checked : Checked config_tells in_tells a b i j
   pub put : PutAll out_tells o n (replayed checked.configuration checked.events)
 
--- a beginning of the printed run was written
+-- a prefix of the printed run was written
 pub record PartlyReplayed (config_tells in_tells out_tells : Type 0) (a b i j : Feed) (o n : Drain) : Type 0 where
   pub checked : Checked config_tells in_tells a b i j
   pub sent : out_tells → Began o.sent n.sent (replayed checked.configuration checked.events)

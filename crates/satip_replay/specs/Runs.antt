@@ -1,4 +1,4 @@
--- A run in the middle of its script.
+-- The state in the middle of a run.
 use Rattle.std.specs.Prelude.{◌≡◌, ℕ, List, [], ◌++◌, Option, None, Some, IsSomeAnd}
 use Rattle.satip_base.specs.Output.{Output}
 use Rattle.satip_base.specs.Streams.{Drain, FailedToPut}
@@ -17,23 +17,23 @@ use Rattle.satip_script.specs.Printed.{printed}
 use Rattle.satip_core.specs.Held.{Held}
 use Rattle.satip_core.specs.Serving.{Stands, Steps}
 
--- the front of a text was sent, and this is left of it
+-- a prefix of a text was sent, and this is left of it
 pub record Moved (before now text left : List ℕ) : Type 0 where
   pub part : List ℕ
   pub whole : text ≡ part ++ left
   pub sent : now ≡ before ++ part
 
--- the front of a text was passed on, and this is left of it
+-- a prefix of a text was passed on, and this is left of it
 pub record Passed (tells : Type 0) (o n : Drain) (text left : List ℕ) : Type 0 where
   pub faults : n.faults ≡ o.faults
   pub content : tells → Moved o.sent n.sent text left
 
--- a text is passed on, or a beginning of it where the sink fails
+-- a text is passed on, or a prefix of it if the sink fails
 abbrev pub Passes : (tells : Type 0) (o n : Drain) (text left : List ℕ) → Put → Type 0
 Passes tells o n text left Whole = Passed tells o n text left
 Passes tells o n text left Failed = FailedToPut tells o n text
 
--- what is asked for is answered by a step of the server, where it is an event
+-- if the form is an event, it is answered by a step of the server
 abbrev pub AnswersForm : Option Form → Held → Held → Output → Option Answer → Type 0
 AnswersForm form old new out said = (e : Event) → IsFormed form (EventLine e) → IsSomeAnd said (λ answer. Steps old e new answer out)
 
@@ -43,7 +43,7 @@ pub record Answered (events : List Event) (left : List (List ℕ)) (old new : He
   pub given : GivenAfter events left (Some event)
   pub steps : Steps old event new answer out
 
--- the next of these events is answered, where there is one
+-- the next of these events is answered, if there is one
 abbrev pub AnswersNext : List Event → List (List ℕ) → Held → Held → Output → Option Answer → Type 0
 AnswersNext events left old new out None = events ≡ []
 AnswersNext events left old new out (Some answer) = Answered events left old new answer out

@@ -1,15 +1,14 @@
-//! How a replay ends.
+//! The ends of a replay.
 
 ghost use Rattle.std.specs.Prelude.{◌≡◌};
 ghost use Rattle.satip_replay.specs.Ends.{end_of_reading};
 
-use satip_config::ConfigFault;
-use satip_reading::ConfigurationEnd;
+use satip_config::{ConfigFault, ConfigurationEnd};
 
-/// How a replay ends.
+/// The end of a replay.
 #[derive(Clone, Copy, Debug, PartialEq, Eq)]
 pub enum ReplayEnd {
-    /// The printed run was written.
+    /// The whole printed run was written.
     Done,
     /// The configuration has this first fault.
     Configuration(ConfigFault),
@@ -21,7 +20,7 @@ pub enum ReplayEnd {
     OutputFault,
     /// The input is longer than 67108864 bytes.
     TooLong,
-    /// Memory was refused.
+    /// Out of memory.
     OutOfMemory,
 }
 

@@ -1,9 +1,9 @@
-//! `replay`: a configuration and a script, checked first, and then run and printed.
+//! `replay`: checks a configuration and a script, then runs the script and prints the run.
 
 ghost use Rattle.std.specs.Prelude.{◌≡◌, ◌↔◌, ℕ, ◌+◌, ◌-◌, ◌<◌, ◌≤◌, Err, IfOk, IfErr};
 ghost use Rattle.satip_base.specs.Streams.{Rose};
 ghost use Rattle.satip_config.specs.declared.fault.ConfigFault.{ConfigFault as Fault};
-ghost use Rattle.satip_reading.specs.Configurations.{configuration_limit};
+ghost use Rattle.satip_config.specs.Configurations.{configuration_limit};
 ghost use Rattle.satip_replay.specs.Replays.{script_limit, HasScript, Replayed};
 ghost use Rattle.satip_replay.specs.Ends.{EndsByConfiguration, EndsByScript, EndsByInput, EndsByOutput, EndsByLength, EndsByWant, ScriptEnds, IsEndOf};
 
@@ -11,15 +11,15 @@ use crate::ends::ReplayEnd;
 use crate::running::run_script;
 use satip_base::limits::INPUT;
 use satip_base::{Sink, Source};
+use satip_config::{ReadFault, read_configuration, read_whole};
 use satip_frame::Framer;
-use satip_reading::{ReadFault, read_configuration, read_whole};
 use satip_script::check_script;
 use std::alloc::Global;
 
-/// Reads a configuration and then the whole input as an event script, checks every line, and only
-/// then runs the script from the moment 0 and writes the printed run. Of the configuration at most
-/// 1048577 bytes are taken, of the input at most 67108865. It always returns. The formats stand in
-/// docs/PROTOCOL.md under Configuration and Event scripts.
+/// Reads a configuration and then the whole input as an event script, and checks every line. Only
+/// then it runs the script from the moment 0 and writes the printed run. Takes at most 1048577
+/// bytes of the configuration and 67108865 of the input. It always returns. For the formats see
+/// docs/PROTOCOL.md, Configuration and Event scripts.
 pub fn replay<C: Source, I: Source, O: Sink>(
     alloc: Global,
     config: &mut C,
@@ -32,7 +32,7 @@ pub fn replay<C: Source, I: Source, O: Sink>(
         (I.feed input.old) (I.feed input.new)
         (O.drain output.old) (O.drain output.new) }
 
-    // With these a beginning of it was written; want of memory may come before that, too.
+    // With these a prefix of it was written. Out of memory may also end it before that.
     ensures output_fault { result ≡ ReplayEnd.OutputFault → EndsByOutput C.tells I.tells O.tells
         (C.feed config.old) (C.feed config.new)
         (I.feed input.old) (I.feed input.new)
@@ -42,7 +42,7 @@ pub fn replay<C: Source, I: Source, O: Sink>(
         (I.feed input.old) (I.feed input.new)
         (O.drain output.old) (O.drain output.new) }
 
-    // With the others nothing was written; when each comes.
+    // With the others nothing was written. Each has its cause.
     ensures configuration { (fault : Fault) → result ≡ ReplayEnd.Configuration fault
         → EndsByConfiguration C.tells
         (C.feed config.old) (C.feed config.new)
@@ -63,7 +63,7 @@ pub fn replay<C: Source, I: Source, O: Sink>(
     ensures too_long { (result ≡ ReplayEnd.TooLong)
         ↔ (script_limit < (I.feed input.new).taken - (I.feed input.old).taken) }
 
-    // What is taken, and what the texts say of the end where no source fails.
+    // How much is taken, and which ends the two texts allow if no source fails.
     ensures configuration_taken { (C.feed config.new).taken
         ≤ (C.feed config.old).taken + configuration_limit + 1 }
     ensures input_taken { (I.feed input.new).taken ≤ (I.feed input.old).taken + script_limit + 1 }

@@ -1,4 +1,4 @@
-//! The run of a script: each event is answered, and its entry is printed.
+//! Runs a script: answers each event, and prints its entry.
 
 ghost use Rattle.std.specs.Prelude.{◌≡◌, ◌<◌, ◌≤◌, [], List, Ok, length, option_map, IsSome};
 ghost use Rattle.satip_fronts.specs.FrontEnds.{IsNumbered};
@@ -18,22 +18,22 @@ use crate::ends::ReplayEnd;
 use satip_base::{Draw, Out, Peer, Put, Sink};
 use satip_config::Config;
 use satip_core::Server;
-use satip_digits::read_packet;
 use satip_frame::{Break, Framer};
 use satip_http::HttpRequest;
 use satip_plain::Answer;
 use satip_rtsp::Request;
 use satip_script::{EventParts, Script, print_entry, read_get, read_request};
+use satip_ts::read_packet;
 use std::alloc::Global;
 
-// What requests are read into, one after another, since they are large.
+// Requests of a run. One after another is read into them, since they are large.
 #[derive(Drop)]
 struct Kept {
     request: Request,
     get: HttpRequest,
 }
 
-// So many bytes of printed text are gathered before they are written.
+// The bytes of printed text that are gathered before they are written.
 const GATHERED: usize = 65536;
 
 /// Runs a script without a wrong line from the moment 0, and writes the printed run.
@@ -61,7 +61,7 @@ pub(crate) fn run_script<O: Sink>(
     run_events(&mut server, script, framer, &mut out, &mut text, output)
 }
 
-// Answers each event of a script, and writes what is printed of it.
+// Answers each event of a script, and writes its printed entry.
 fn run_events<O: Sink>(
     server: &mut Server,
     script: &[u8],
@@ -97,7 +97,7 @@ fn run_events<O: Sink>(
     }
 }
 
-// The answer to the next event of a script; None at the end, and at a wrong line.
+// Answers the next event of a script. Returns None at the end, and at a wrong line.
 fn answer_next(
     server: &mut Server,
     lines: &mut Script,
@@ -116,7 +116,7 @@ fn answer_next(
     }
 }
 
-// The answer to the event of these parts; None where its line is wrong.
+// Answers the event of these parts. Returns None if its line is wrong.
 fn answer_parts(
     server: &mut Server,
     parts: &EventParts,
@@ -149,7 +149,7 @@ fn answer_parts(
     }
 }
 
-// The answer to the RTSP request of these digits; None where they say nothing.
+// Answers the RTSP request of these digits. Returns None if they give none.
 fn answer_rtsp(
     server: &mut Server,
     peer: Peer,
@@ -169,7 +169,7 @@ fn answer_rtsp(
     Some(Answer::Replied(server.request(peer, draw, request, out)))
 }
 
-// The answer to the HTTP request of these digits; None where they say nothing.
+// Answers the HTTP request of these digits. Returns None if they give none.
 fn answer_http(
     server: &mut Server,
     peer: Peer,
@@ -189,7 +189,7 @@ fn answer_http(
     Some(Answer::Get(server.get(peer, draw, request, out)))
 }
 
-// The answer to the packet of these digits; None where they are none of a packet.
+// Answers the packet of these digits. Returns None if they give none.
 fn answer_packet(
     server: &mut Server,
     front: u16,
@@ -207,7 +207,7 @@ fn answer_packet(
     }
 }
 
-// Writes the text once it has so many bytes, and empties it then.
+// Writes and empties the text once it has `least` bytes.
 fn pass_on<O: Sink>(least: usize, text: &mut Vec<u8>, output: &mut O) -> Put
     ensures passes { Passes O.tells
         (O.drain output.old) (O.drain output.new)

@@ -1,11 +1,11 @@
 //! Faults of the words, the configuration, the script, the input and the output, with their exit
 //! statuses.
 
-use crate::runs::{Ran, desk_with, run};
+use crate::runs::run;
 use satip_base::{ReadSource, Source};
 use satip_fixtures::texts::CONFIGURATION;
 use satip_memory::MemorySource;
-use satip_memory_desk::MemoryDesk;
+use satip_memory_desk::{MemoryDesk, Ran, desk_with};
 use std::alloc::Global;
 use std::io::{Read, repeat};
 use std::test::Fail;

@@ -1,6 +1,10 @@
-//! Whole replays over memory, one test for each thing that they show. It has nothing but tests.
+//! Tests `replay` by the top call: each status, and output byte for byte.
 #![tactic(auto)]
 
+#[cfg(test)]
+mod bytes;
+#[cfg(test)]
+mod clients;
 #[cfg(test)]
 mod describing;
 #[cfg(test)]
@@ -24,7 +28,10 @@ mod reports;
 #[cfg(test)]
 mod retuning;
 #[cfg(test)]
-mod stopping;
-
+mod row;
 #[cfg(test)]
-use satip_replay_fixtures::{bytes, clients, row, runs, steps};
+mod runs;
+#[cfg(test)]
+mod steps;
+#[cfg(test)]
+mod stopping;

@@ -1,4 +1,4 @@
--- The SES1 text: what a stream is tuned to, and which PIDs it selects.
+-- The SES1 text: the tuning of a stream, and the PIDs that it selects.
 use Rattle.std.specs.Prelude.{ℕ, Bool, true, false, List, [], ◌++◌, decimal, codes, Option, Some, None}
 use Rattle.satip_pids.specs.Texts.{pids_text}
 use Rattle.satip_tune.specs.Words.{pol_text, system_text, modulation_text, pilots_text_of, roll_off_text, fec_text}
@@ -6,12 +6,12 @@ use Rattle.satip_tune.specs.Frequency.{frequency_text}
 use Rattle.satip_tune.specs.declared.tunings.Tuning.{Tuning}
 use Rattle.satip_rtcp.specs.declared.views.StreamView.{StreamView}
 
--- the text of a value, empty where it isn't given
+-- the text of a value, empty if it isn't given
 abbrev pub optional_text : {A : Type 0} → (A → List ℕ) → Option A → List ℕ
 optional_text text None = []
 optional_text text (Some value) = text value
 
--- a further field
+-- a field after another
 abbrev pub field : List ℕ → List ℕ
 field text = codes "," ++ text
 

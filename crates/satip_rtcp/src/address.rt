@@ -1,4 +1,4 @@
-//! IPv4 addresses as texts.
+//! Texts of IPv4 addresses.
 
 ghost use Rattle.std.specs.Prelude.{◌≤◌, length};
 ghost use Rattle.satip_base.specs.Printed.{Printed};

@@ -1,5 +1,5 @@
-//! What a client is told of its stream beside the packets: the SES1 text, and RTCP reports (RFC
-//! 3550, 6).
+//! Writes the SES1 text of a stream and its RTCP reports (RFC 3550, section 6).
+//! Contract: the text and the report are their definitions, byte for byte.
 #![tactic(auto)]
 
 mod address;

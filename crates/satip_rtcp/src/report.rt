@@ -11,7 +11,8 @@ use crate::views::{Sender, StreamView};
 use satip_base::limits::REPORT;
 use satip_base::{Out, Strip};
 
-// Version 2 in the first two bits of a part (RFC 3550, 6.4.1); a count stands in the last five.
+// The first byte of a part: version 2 in its first two bits, a count in the last five (RFC 3550,
+// 6.4.1).
 const VERSION: u8 = 0x80;
 
 // The types of the parts (RFC 3550, 12.1).
@@ -21,9 +22,9 @@ const SOURCE_DESCRIPTION: u8 = 202;
 
 const APPLICATION: u8 = 204;
 
-/// Appends one datagram: a sender report, a source description whose canonical name is the server's
-/// address, and an application-defined part with the SES1 text (RFC 3550, 6.4.1, 6.5 and 6.7;
-/// SAT>IP 1.2.2, 3.5.13).
+/// Appends one report as a datagram (RFC 3550, 6.4.1, 6.5 and 6.7; SAT>IP 1.2.2, 3.5.13).
+/// It has a sender report, a source description and an application-defined part with the SES1 text.
+/// The canonical name in the description is the server's address.
 pub fn write_report(view: &StreamView, sender: &Sender, out: &mut Out)
     requires count_room { out.old.count_spare ≢ 0 }
     requires room { REPORT ≤ out.old.datagram_spare }
@@ -92,7 +93,7 @@ fn extend_application(ssrc: u32, text: &[u8], out: &mut Out)
     extend_zeros(zeros, out);
 }
 
-// The first four bytes of a part of so many bytes.
+// Appends the first four bytes of a part, whose length in bytes counts them too.
 
 fn extend_header(first: u8, kind: u8, length_of_part: usize, out: &mut Out)
     requires some { 4 ≤ length_of_part }
@@ -130,21 +131,21 @@ fn extend_zeros(count: usize, out: &mut Out)
     out.extend([0u8; 4].split_at(count).0);
 }
 
-// The seconds since 1900 (RFC 3550, 4), modulo 2^32.
+// Returns the seconds since 1900 (RFC 3550, 4), modulo 2^32.
 fn ntp_seconds(clock: u64) -> u32
     ensures seconds { result ≡ ntp_seconds_of clock }
 {
     ((clock / 1000 + 2208988800) % 0x1_0000_0000) as u32
 }
 
-// The rest of a second in units of 2^-32 seconds, rounded down.
+// Returns the rest of the second in units of 2^-32 seconds, rounded down.
 fn ntp_fraction(clock: u64) -> u32
     ensures fraction { result ≡ ntp_fraction_of clock }
 {
     (clock % 1000 * 0x1_0000_0000 / 1000) as u32
 }
 
-// The clock in units of 90 kHz (RFC 2250, 2), modulo 2^32.
+// Returns the clock in units of 90 kHz (RFC 2250, 2), modulo 2^32.
 fn rtp_time(clock: u64) -> u32
     ensures time { result ≡ rtp_time_of clock }
 {

@@ -9,8 +9,8 @@ use crate::views::StreamView;
 use satip_base::Strip;
 use satip_tune::{Fec, FrequencyText, Modulation, RollOff, Tuning, pilots_text};
 
-/// Prints what a stream is tuned to and which PIDs it selects, in the fields of the SAT>IP
-/// specification's `fmtp` line (SAT>IP 1.2.2, 3.5.7).
+/// Prints the tuning of a stream and its PIDs, in the fields of the `fmtp` line (SAT>IP 1.2.2,
+/// 3.5.7).
 #[tactic(auto, unfolding(crate::specs::Ses1::ses1))]
 pub fn ses1_text(view: &StreamView, strip: &mut Strip)
     requires room { length strip.old ≤ 120 }
@@ -23,7 +23,7 @@ pub fn ses1_text(view: &StreamView, strip: &mut Strip)
     view.pids.print(strip);
 }
 
-// The source and the tuner's fields.
+// Prints the source and the fields of the tuner.
 #[tactic(auto, using(crate::proofs::Lengths::fields), unfolding(crate::specs::Ses1::signal_text))]
 fn write_signal(view: &StreamView, strip: &mut Strip)
     requires room { length strip.old ≤ 160 }
@@ -59,7 +59,7 @@ fn write_tuner(front: u16, locked: bool, tuning: &Tuning, strip: &mut Strip)
     write_field(fec_field(tuning.fec), strip);
 }
 
-// A comma and a field.
+// Prints a comma and a field.
 fn write_field(text: &[u8], strip: &mut Strip)
     requires short { length text.now ≤ 12 }
     requires room { length strip.old ≤ 400 }

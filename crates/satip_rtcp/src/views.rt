@@ -1,12 +1,11 @@
-//! What is told of a stream and of its sender.
+//! The data of a stream and of its sender that reports and descriptions print.
 
 use satip_base::Address;
 use satip_pids::PidSet;
 use satip_tune::Tuning;
 
-/// A stream as its clients are shown it: its number, its tuning where it has one, its front end's
-/// number (0 where it has none) and whether that has a multiplex, the PIDs that it selects, and
-/// whether one of its sessions plays.
+/// A stream as clients see it. `front` is the number of its front end, 0 for none, and `locked`
+/// whether that receives a multiplex. `playing` is whether one of its sessions plays.
 #[derive(Debug, Drop)]
 pub struct StreamView {
     pub number: u16,
@@ -17,9 +16,9 @@ pub struct StreamView {
     pub playing: bool,
 }
 
-/// Who sends a report, and what it has sent: where the report goes, the SSRC of the stream, the
-/// clock in milliseconds of Unix time, the counts of datagrams and of payload bytes, both modulo
-/// 2^32, and the server's IPv4 address.
+/// The sender of a report. `to` is where the report goes, `ssrc` the source of the stream, `clock`
+/// in milliseconds of Unix time. `datagrams` and `octets` count the datagrams and the payload bytes
+/// sent, both modulo 2^32. `address` is the server's IPv4 address.
 #[derive(Clone, Copy, Debug, PartialEq, Eq)]
 pub struct Sender {
     pub to: Address,

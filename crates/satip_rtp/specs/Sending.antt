@@ -1,8 +1,8 @@
--- Datagrams that were sent one after another.
+-- Datagrams that are sent one after another.
 use Rattle.std.specs.Prelude.{◌≡◌, ◌+◌, List, ◌++◌, length}
 use Rattle.satip_base.specs.Output.{Output, Datagram, datagram_bytes}
 
--- these datagrams were appended, and nothing else
+-- the output after these datagrams were appended
 pub record SendsAll (o : Output) (ds : List Datagram) (n : Output) : Type 0 where
   pub datagrams : n.datagrams ≡ o.datagrams ++ ds
   pub datagram_spare : n.datagram_spare + datagram_bytes ds ≡ o.datagram_spare

@@ -1,4 +1,5 @@
-//! `Packer`, which a clause sees as its source, the packets held, the next number and its counts.
+//! `Packer`; in contracts it is its source, the held packets, the next sequence number and its
+//! counts.
 ghost use Rattle.std.specs.Prelude.{◌≡◌, ◌≢◌, ℕ, ◌+◌, ◌*◌, ◌%◌, ◌≤◌, ◌↔◌, IsTrue, true, false, [], ◌∷◌, ◌++◌, length, drop};
 ghost use Rattle.satip_rtp.specs.Bytes.{rtp_header, timestamp};
 ghost use Rattle.satip_rtp.specs.Held.{packets_in};
@@ -10,14 +11,15 @@ use satip_base::{Address, Out};
 use satip_ts::Packet;
 use std::marker::Model;
 
-/// Packs the packets of one session: 7 in a datagram, fewer only where it is flushed.
+/// Packs the packets of one session into RTP datagrams of 7 packets. Only a flush makes a datagram
+/// with fewer.
 #[derive(Drop)]
 pub struct Packer {
     ssrc: u32,
     next: u16,
     datagrams: u32,
     octets: u32,
-    // The datagram that leaves next: room for its header, and the packets held behind it.
+    // The next datagram: room for its header, followed by the held packets.
     bytes: [u8; DATAGRAM],
     count: usize,
 }
@@ -41,7 +43,8 @@ impl Model for Packer {
 }
 
 impl Packer {
-    /// A packer that holds nothing, with its source (RFC 3550: SSRC) and its first sequence number.
+    /// Returns a packer that holds nothing, with its source (RFC 3550: SSRC) and its first sequence
+    /// number.
     #[tactic(auto, unfolding(crate::specs::Held::packets_in))]
     pub fn new(ssrc: u32, first: u16) -> Packer
         ensures new { result ≡ packing ssrc first }
@@ -56,8 +59,8 @@ impl Packer {
         }
     }
 
-    /// Takes a packet. True exactly where it is the seventh: then the datagram of the seven is
-    /// appended.
+    /// Adds a packet, and returns whether it is the seventh. If so, it appends the datagram of the
+    /// seven to `out`. `clock` is in milliseconds.
     pub fn push(&mut self, packet: &Packet, clock: u64, to: Address, out: &mut Out) -> bool
         requires bytes { DATAGRAM ≤ out.old.datagram_spare }
         requires count { out.old.count_spare ≢ 0 }
@@ -82,7 +85,8 @@ impl Packer {
         true
     }
 
-    /// Sends what is held. False exactly where that is nothing.
+    /// Sends the held packets in a datagram. Returns `false` if none is held. `clock` is in
+    /// milliseconds.
     pub fn flush(&mut self, clock: u64, to: Address, out: &mut Out) -> bool
         requires bytes { DATAGRAM ≤ out.old.datagram_spare }
         requires count { out.old.count_spare ≢ 0 }
@@ -105,7 +109,7 @@ impl Packer {
         true
     }
 
-    /// The sequence number of the next datagram.
+    /// Returns the sequence number of the next datagram.
     pub fn next(&self) -> u16
         ensures next { result ≡ self.now.next }
         ensures few { length self.now.held ≤ 6 }
@@ -113,14 +117,14 @@ impl Packer {
         self.next
     }
 
-    /// How many datagrams have left, modulo 2^32.
+    /// Returns the number of datagrams sent, modulo 2^32.
     pub fn datagrams(&self) -> u32
         ensures datagrams { result ≡ self.now.datagrams }
     {
         self.datagrams
     }
 
-    /// How many bytes of payload have left, modulo 2^32.
+    /// Returns the number of payload bytes sent, modulo 2^32.
     pub fn octets(&self) -> u32
         ensures octets { result ≡ self.now.octets }
     {
@@ -128,7 +132,7 @@ impl Packer {
     }
 }
 
-// Puts a packet behind those before it.
+// Writes a packet after those before it.
 fn put_packet(bytes: &mut [u8; DATAGRAM], place: usize, packet: &[u8; PACKET])
     requires within { place ≤ 6 }
     ensures put { packets_in bytes.new (place + 1) ≡ packets_in bytes.old place ++ packet.now ∷ [] }
@@ -137,7 +141,7 @@ fn put_packet(bytes: &mut [u8; DATAGRAM], place: usize, packet: &[u8; PACKET])
     bytes[start..start + PACKET].copy_from_slice(packet);
 }
 
-// Writes the header in front of the packets.
+// Writes the header before the packets.
 fn write_header(bytes: &mut [u8; DATAGRAM], number: u16, clock: u64, ssrc: u32)
     ensures header { bytes.new ≡ rtp_header number clock ssrc ++ drop 12 bytes.old }
 {

@@ -3,3 +3,4 @@ pub mod CseqLemmas
 pub mod Measures
 pub mod ReplyLemmas
 pub mod ShortLemmas
+pub mod HeardLemmas

@@ -13,18 +13,10 @@ use Rattle.satip_query.specs.declared.bodies.RefusalBody.TheVariants.{CheckSynta
 use Rattle.satip_tune.specs.Words.{key_text}
 use Rattle.satip_tune.specs.declared.keys.Key.{Key}
 use Rattle.satip_tune.specs.declared.keys.Key.TheVariants.{Fe, Src, Freq, Pol, Ro, Msys, Mtype, Plts, Sr, Fec, Pids, Addpids, Delpids}
-use Rattle.satip_rtsp.specs.Replies.{phrase_of, status_line, cseq_line, session_line, options_reply, closing_reply, plain_reply, describe_head, setup_reply, play_reply, unsupported_reply, body_part, text_reply}
-
-either : {n : ℕ} (b : Bool) (x y : List ℕ) → length x ≤ n → length y ≤ n → length (cond b x y) ≤ n
-either true x y a b = a
-either false x y a b = b
-
-pub length-phrase_of-le : (status : ℕ) → length (phrase_of status) ≤ 30
-length-phrase_of-le status =
-    either (status == 200) _ _ (omega arith) (either (status == 400) _ _ (omega arith) (either (status == 403) _ _ (omega arith)
-    (either (status == 404) _ _ (omega arith) (either (status == 413) _ _ (omega arith) (either (status == 454) _ _ (omega arith)
-    (either (status == 455) _ _ (omega arith) (either (status == 461) _ _ (omega arith) (either (status == 501) _ _ (omega arith)
-    (either (status == 503) _ _ (omega arith) (either (status == 505) _ _ (omega arith) (omega arith)))))))))))
+use Rattle.satip_query.specs.Statuses.{phrase_of}
+use Rattle.satip_query.proofs.BodyLengths.{length-phrase_of-le, length-body_part-le}
+use Rattle.satip_rtsp.specs.Replies.{status_line, cseq_line, session_line, options_reply, closing_reply, plain_reply, describe_head, setup_reply, play_reply, unsupported_reply, text_reply}
+use Rattle.satip_query.specs.Bodies.{body_part}
 
 pub length-status_line-le : (status : ℕ) → status < 2 ^ 16 → length (status_line status) ≤ 47
 unfolding status_line
@@ -115,37 +107,6 @@ pub length-unsupported_reply-le : (cseq : Option ℕ) (kept : List ℕ) → IsCs
 unfolding unsupported_reply
 length-unsupported_reply-le cseq kept small few =
     simp length-append (omega (arith, length-status_line-le 551 (omega arith), length-cseq_line-le cseq small))
-
-length-key_text-le : (key : Key) → length (key_text key) ≤ 7
-unfolding key_text
-length-key_text-le Fe = omega arith
-length-key_text-le Src = omega arith
-length-key_text-le Freq = omega arith
-length-key_text-le Pol = omega arith
-length-key_text-le Ro = omega arith
-length-key_text-le Msys = omega arith
-length-key_text-le Mtype = omega arith
-length-key_text-le Plts = omega arith
-length-key_text-le Sr = omega arith
-length-key_text-le Fec = omega arith
-length-key_text-le Pids = omega arith
-length-key_text-le Addpids = omega arith
-length-key_text-le Delpids = omega arith
-
-pub length-body_text-le : (body : RefusalBody) → length (body_text body) ≤ 20
-unfolding body_text
-length-body_text-le (CheckSyntax key) = simp length-append (omega (arith, length-key_text-le key))
-length-body_text-le (OutOfRange key) = simp length-append (omega (arith, length-key_text-le key))
-length-body_text-le NotOwner = omega arith
-length-body_text-le NoMorePids = omega arith
-length-body_text-le NoMoreSessions = omega arith
-length-body_text-le NoMoreFrontends = omega arith
-
-pub length-body_part-le : (body : RefusalBody) → length (body_part body) ≤ 128
-unfolding body_part
-length-body_part-le body =
-    let few : length (body_text body) ≤ 20 = length-body_text-le body in
-    simp length-append (omega (arith, length-decimal_u16 (length (body_text body) + 2) (omega arith)))
 
 pub length-text_reply-le : (cseq : Option ℕ) (status : ℕ) (body : RefusalBody) → status < 2 ^ 16 → IsCseq cseq → length (text_reply cseq status body) ≤ 256
 unfolding text_reply

@@ -2,7 +2,7 @@
 use Rattle.std.proofs.Common.{◌≡◌, ℕ, ◌-◌, ◌≤◌, min, List, ◌++◌, length, take, drop, replicate, arith, sym, ap, ◌∙◌, length-append, length-drop}
 use Rattle.std.proofs.lemmas.List.{drop-replicate, length-replicate, length-take, take_min}
 use Rattle.std.proofs.Math.Seq.{drop-append_seam, take-append_seam}
-use Rattle.satip_pids.specs.Packed.{IsPacked}
+use Rattle.satip_query.specs.Packed.{IsPacked}
 
 -- what an array holds after its first bytes were copied from a text
 pub record Holds (text places : List ℕ) (count : ℕ) : Type 0 where

@@ -24,7 +24,7 @@ use Rattle.satip_rtsp.specs.Transports.{ports_accepted}
 unfoldable pub cseq_of : Said → Option ℕ
 cseq_of m = option_and_then (number_of 4294967295) (first_value (codes "CSeq") m.headers)
 
--- the method that a word names, in upper case
+-- the method with this name, in upper case
 unfoldable pub method_named : List ℕ → Option Method
 method_named word =
     if bytes_eq word (codes "OPTIONS") then Some Options
@@ -34,7 +34,7 @@ method_named word =
     else if bytes_eq word (codes "TEARDOWN") then Some Teardown
     else None
 
--- what a client requires, where it names something
+-- the first 128 bytes of the value of `Require`, if it isn't empty
 abbrev pub requirement : Option (List ℕ) → Option (List ℕ)
 requirement None = None
 requirement (Some []) = None
@@ -46,16 +46,17 @@ reads_query Setup = true
 reads_query Play = true
 reads_query method = false
 
+-- whether the method is OPTIONS
 abbrev pub is_options_method : Method → Bool
 is_options_method Options = true
 is_options_method method = false
 
--- the ports that a method asks for
+-- the ports that a request with this method asks for
 abbrev pub ports_asked : Method → Option (List ℕ) → Option Ports
 ports_asked Setup value = option_and_then ports_accepted value
 ports_asked method value = None
 
--- a request that asks for nothing
+-- the request that asks for nothing
 abbrev pub blank : Request
 blank = record {
   cseq = None;
@@ -79,11 +80,11 @@ refused cseq refusal = record {
   ports = None;
 }
 
--- the query of a target, where the method reads one
+-- the query of a target, if the method reads one
 abbrev pub query_read : Method → List ℕ → Result Query QueryFault
 query_read method text = if reads_query method then query_of text else Ok new_query
 
--- the request of a message with a number, a method and a target, once its query was read
+-- the request of a message with a number, a method and a target, by the result of reading its query
 abbrev pub with_query : ℕ → Said → Method → TargetParts → Result Query QueryFault → Request
 with_query n m method target (Err fault) = refused (Some n) (QueryAt fault)
 with_query n m method target (Ok query) = record {
@@ -96,24 +97,27 @@ with_query n m method target (Ok query) = record {
   ports = ports_asked method (first_value (codes "Transport") m.headers);
 }
 
+-- the request of a message with a number and a method, by its target
 abbrev pub with_target : ℕ → Said → Method → Option TargetParts → Request
 with_target n m method None = refused (Some n) BadTarget
 with_target n m method (Some target) = with_query n m method target (query_read method target.query)
 
+-- the request of a message with a number and a method, by the value of its `Require`
 abbrev pub with_required : ℕ → Said → Method → Option (List ℕ) → Request
 with_required n m method (Some kept) = refused (Some n) (Require kept)
 with_required n m method None = with_target n m method (target_of (is_options_method method) m.target)
 
+-- the request of a message with a number and the served version, by its method
 abbrev pub with_method : ℕ → Said → Option Method → Request
 with_method n m None = refused (Some n) BadMethod
 with_method n m (Some method) = with_required n m method (requirement (first_value (codes "Require") m.headers))
 
+-- the request of a message with a number, by whether its version is served
 abbrev pub with_version : ℕ → Said → Bool → Request
 with_version n m false = refused (Some n) Version
 with_version n m true = with_method n m (method_named m.method)
 
--- the request with this number of a message: the first refusal counts, in the order number, version, method, what is
--- required, target, query
+-- the request of a message, by its number: the first refusal is the result, in the order number, version, method, required option, target, query
 abbrev pub asked_with : Option ℕ → Said → Request
 asked_with None m = refused None NoCseq
 asked_with (Some n) m = with_version n m (bytes_eq m.version (codes "RTSP/1.0"))
@@ -129,11 +133,11 @@ pub record IsServed (m : Said) (method : Method) : Type 0 where
   pub version : bytes_eq m.version (codes "RTSP/1.0") ≡ true
   pub named : method_named m.method ≡ Some method
 
--- the option that a message requires, where it names one
+-- the first 128 bytes of the option that a message requires, if it names one
 abbrev pub required_in : Said → Option (List ℕ)
 required_in m = requirement (first_value (codes "Require") m.headers)
 
--- the request of what is no message
+-- the request of a text that is no message
 abbrev pub broken_request : Break → Request
 broken_request Bad = refused None Broken
 broken_request too_long = refused None TooLong

@@ -1,6 +1,7 @@
 -- Spaces and tabs at the ends of a text.
 use Rattle.std.specs.Prelude.{ℕ, ◌==◌, ◌||◌, Bool, List, [], ◌∷◌, reverse, if◌then◌else◌}
 
+-- whether a byte is a space or a tab
 abbrev pub is_space_or_tab : ℕ → Bool
 is_space_or_tab byte = byte == 32 || byte == 9
 

@@ -5,3 +5,6 @@ pub mod Sessions
 pub mod Transports
 pub mod Asked
 pub mod Replies
+pub mod HeardExamples
+pub mod Methods
+pub use Rattle.satip_frame.specs as Frame

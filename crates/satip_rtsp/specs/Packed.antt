@@ -1,22 +1,23 @@
--- The bytes at the front of an array give the array back.
+-- The array and the count follow from the bytes that they hold.
 use Rattle.std.specs.Prelude.{◌≡◌, ℕ, ◌-◌, List, ◌++◌, length, take, replicate}
 use Rattle.std.proofs.Common.{arith, ap, ◌∙◌}
 use Rattle.std.proofs.lemmas.List.{length-take-le, take-append-drop}
-use Rattle.satip_pids.specs.Packed.{IsPacked}
+use Rattle.satip_query.specs.Packed.{IsPacked}
 use Rattle.satip_rtsp.specs.declared.short.Short.TheInside.{Inside}
 
--- what stands behind the bytes is as many zeros as there is room left
+-- the places after the bytes are zeros, up to the room
 places_back : (room : ℕ) (places : List ℕ) (count : ℕ) → IsPacked room places count → take count places ++ replicate (room - length (take count places)) 0 ≡ places
 places_back room places count packed =
     let long : length (take count places) ≡ count = length-take-le count places (omega (arith, packed.within, packed.size)) in
     rw (long, ← packed.blank) (take-append-drop count places)
 
--- an array and a count make the value that has both
+-- equal arrays and equal counts make equal values
 same_inside : (a : Inside) (places : List ℕ) (count : ℕ) → places ≡ a.places → count ≡ a.count → record { places = places; count = count } ≡ a
 same_inside a places count e f =
     let with_places : List ℕ → Inside = λ ps. record { places = ps; count = count } in
     let with_count : ℕ → Inside = λ n. record { places = a.places; count = n } in
     ap with_places e ∙ ap with_count f
 
+-- the bytes and the zeros after them are the fields of the packed array
 pub unpacked : (a : Inside) → IsPacked 128 a.places a.count → (let xs = take a.count a.places in record { places = xs ++ replicate (128 - length xs) 0; count = length xs }) ≡ a
 unpacked a packed = same_inside a _ _ (places_back 128 a.places a.count packed) (length-take-le a.count a.places (omega (arith, packed.within, packed.size)))

@@ -8,12 +8,12 @@ use Rattle.satip_rtsp.specs.Blanks.{text_trimmed}
 use Rattle.satip_rtsp.specs.declared.requests.SessionName.{SessionName}
 use Rattle.satip_rtsp.specs.declared.requests.SessionName.TheVariants.{Absent, Named, Other}
 
--- a text that is no id names a session that doesn't live
+-- the session of a text: that of an id, or a text that isn't an id
 abbrev pub name_of : Option SessionId → SessionName
 name_of None = Other
 name_of (Some id) = Named id
 
--- the id stands before the first ; of the first Session header
+-- the session of the first Session header: its id is before the first ;
 abbrev pub session_in : Option (List ℕ) → SessionName
 session_in None = Absent
 session_in (Some value) = name_of (id_of (text_trimmed (before_first (is_byte 59) value)))

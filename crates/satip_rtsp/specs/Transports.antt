@@ -6,22 +6,22 @@ use Rattle.satip_base.specs.Numbers.{number_of}
 use Rattle.satip_base.specs.declared.network.Ports.{Ports}
 use Rattle.satip_tune.specs.Pieces.{is_byte}
 use Rattle.satip_rtsp.specs.Blanks.{text_trimmed}
-use Rattle.satip_rtsp.specs.Targets.{is_begun_like}
+use Rattle.satip_frame.specs.Origins.{is_begun_like}
 
--- a port that is not 0
+-- a port from 1 to `most`
 abbrev pub port_at_most : ℕ → List ℕ → Option ℕ
 port_at_most most text = option_and_then (λ n. if n == 0 then None else Some n) (number_of most text)
 
--- a and b
+-- the two ports, if both are given
 abbrev pub both_ports : Option ℕ → Option ℕ → Option Ports
 both_ports (Some rtp) (Some rtcp) = Some (record { rtp = rtp; rtcp = rtcp })
 both_ports a b = None
 
--- the port that a text writes, and the one behind it
+-- the port of a text, and the next port
 abbrev pub ports_beginning : List ℕ → Option Ports
 ports_beginning text = option_map (λ n. record { rtp = n; rtcp = n + 1 }) (port_at_most 65534 text)
 
--- the ports that a text writes: two with a dash between them, or the first alone
+-- the ports of a text: two with a dash between them, or the first alone
 unfoldable pub ports_text : List ℕ → Option Ports
 ports_text text =
     if list_any (is_byte 45) text
@@ -41,11 +41,11 @@ is_unicast_text parameter = str_eq_ignore_ascii_case (text_trimmed parameter) (c
 unfoldable pub is_port_text : List ℕ → Bool
 is_port_text parameter = is_begun_like (codes "client_port=") (text_trimmed parameter)
 
--- the ports that the first of the parameters which gives any writes
+-- the ports of the first parameter that gives any
 abbrev pub ports_first : List (List ℕ) → Option Ports
 ports_first parameters = option_and_then (λ parameter. ports_text (drop 12 (text_trimmed parameter))) (find is_port_text parameters)
 
--- the parameters of a transport
+-- the parameters of a transport, which `;` separates
 abbrev pub parameters : List ℕ → List (List ℕ)
 parameters transport = slice_split (is_byte 59) transport
 
@@ -56,7 +56,7 @@ ports_by transport =
     then ports_first (parameters transport)
     else None
 
--- the first that is given
+-- the first ports that are given
 abbrev pub first_of : List (Option Ports) → Option Ports
 first_of [] = None
 first_of (None ∷ others) = first_of others

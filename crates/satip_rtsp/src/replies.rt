@@ -2,15 +2,17 @@
 //! line.
 ghost use Rattle.std.specs.Prelude.{◌≡◌, ◌≤◌, length};
 ghost use Rattle.satip_base.specs.Output.{Wrote};
-ghost use Rattle.satip_rtsp.specs.Replies.{IsStatus, base_line, body_part, closing_reply, closing_status, cseq_line, describe_head, lasting_session_line, number_line, options_reply, phrase_of, plain_reply, play_reply, rtp_info_line, session_line, setup_reply, status_line, text_reply, transport_line, unsupported_reply};
+ghost use Rattle.satip_query.specs.Statuses.{IsStatus, phrase_of};
+ghost use Rattle.satip_rtsp.specs.Replies.{base_line, closing_reply, closing_status, cseq_line, describe_head, lasting_session_line, options_reply, plain_reply, play_reply, rtp_info_line, session_line, setup_reply, status_line, text_reply, transport_line, unsupported_reply};
+ghost use Rattle.satip_query.specs.Bodies.{body_part, number_line};
 
 use crate::short::Short;
 use satip_base::{Out, Ports, SessionId};
 use satip_frame::Break;
-use satip_query::RefusalBody;
+use satip_query::{RefusalBody, phrase, write_body, write_number_line};
 
-/// Appends the reply to OPTIONS, with the methods that are served (RFC 2326, section 10.1), and
-/// with the session that the request named.
+/// Appends the reply to OPTIONS, with the methods that are served (RFC 2326, section 10.1) and the
+/// session that the request named.
 #[tactic(auto, unfolding(crate::specs::Replies::options_reply))]
 pub fn write_options(cseq: Option<u32>, session: Option<SessionId>, out: &mut Out)
     requires room { length (options_reply cseq session) ≤ out.old.reply_spare }
@@ -23,8 +25,8 @@ pub fn write_options(cseq: Option<u32>, session: Option<SessionId>, out: &mut Ou
     out.write(b"\r\n");
 }
 
-/// Appends the reply to DESCRIBE up to its empty line, for a body of this size (RFC 2326, section
-/// 10.2).
+/// Appends the reply to DESCRIBE up to its empty line, for a body of `size` bytes (RFC 2326,
+/// section 10.2).
 #[tactic(auto, unfolding(crate::specs::Replies::describe_head))]
 pub fn write_describe(cseq: Option<u32>, address: u32, size: usize, out: &mut Out)
     requires room { length (describe_head cseq address size) ≤ out.old.reply_spare }
@@ -38,8 +40,8 @@ pub fn write_describe(cseq: Option<u32>, address: u32, size: usize, out: &mut Ou
     out.write(b"\r\n");
 }
 
-/// Appends the reply to SETUP (RFC 2326, section 10.4): the session and the seconds after which it
-/// ends unheard, the client's ports, and the number of the stream (SAT>IP 1.2.2, 3.5.3).
+/// Appends the reply to SETUP (RFC 2326, section 10.4; SAT>IP 1.2.2, 3.5.3). It has the session
+/// with its timeout in seconds, the client's ports, and the number of the stream.
 #[tactic(auto, unfolding(crate::specs::Replies::setup_reply))]
 pub fn write_setup(
     cseq: Option<u32>,
@@ -81,8 +83,8 @@ pub fn write_play(
     out.write(b"\r\n");
 }
 
-/// Appends the refusal of an option that the client requires, with the first bytes of its value
-/// (RFC 2326, section 12.32).
+/// Appends the refusal of an option that the client requires, with the first bytes of its `Require`
+/// header (RFC 2326, section 12.32).
 #[tactic(auto, unfolding(crate::specs::Replies::unsupported_reply))]
 pub fn write_unsupported(cseq: Option<u32>, kept: &Short, out: &mut Out)
     requires room { length (unsupported_reply cseq kept.now) ≤ out.old.reply_spare }
@@ -95,8 +97,7 @@ pub fn write_unsupported(cseq: Option<u32>, kept: &Short, out: &mut Out)
     out.write(b"\r\n\r\n");
 }
 
-/// Appends a refusal that says why (SAT>IP 1.2.2, 3.5.9). The status is one of those that have a
-/// phrase.
+/// Appends a refusal with its reason (SAT>IP 1.2.2, 3.5.9). The status has a phrase.
 #[tactic(auto, unfolding(crate::specs::Replies::text_reply))]
 pub fn write_text(cseq: Option<u32>, status: u16, body: RefusalBody, out: &mut Out)
     requires status { IsStatus status }
@@ -108,22 +109,8 @@ pub fn write_text(cseq: Option<u32>, status: u16, body: RefusalBody, out: &mut O
     write_body(body, out);
 }
 
-/// Appends what follows the first lines of a refusal that says why: the lines that announce its
-/// text, an empty line, and the text in a line.
-#[tactic(auto, unfolding(crate::specs::Replies::body_part))]
-pub fn write_body(body: RefusalBody, out: &mut Out)
-    requires room { length (body_part body) ≤ out.old.reply_spare }
-    ensures wrote { Wrote out.old (body_part body) out.new }
-{
-    out.write(b"Content-Type: text/parameters\r\n");
-    write_number_line(b"Content-Length: ", body.size() as u64 + 2, out);
-    out.write(b"\r\n");
-    body.write(out);
-    out.write(b"\r\n");
-}
-
-/// Appends the reply after which the connection is closed: 400 to what is no message, 413 to a
-/// message whose body is too long.
+/// Appends the last reply before the connection is closed: 400 to a broken text, 413 to a message
+/// whose body is too long.
 #[tactic(auto, unfolding(crate::specs::Replies::closing_reply))]
 pub fn write_closing(cause: Break, out: &mut Out)
     requires room { length (closing_reply cause) ≤ out.old.reply_spare }
@@ -133,8 +120,8 @@ pub fn write_closing(cause: Break, out: &mut Out)
     out.write(b"Connection: close\r\n\r\n");
 }
 
-/// Appends a reply that is its status alone: to TEARDOWN, and every refusal without a text of its
-/// own. The status is one of those that have a phrase.
+/// Appends a reply without content: to TEARDOWN, and every refusal without a reason. The status has
+/// a phrase.
 #[tactic(auto, unfolding(crate::specs::Replies::plain_reply))]
 pub fn write_plain(cseq: Option<u32>, status: u16, out: &mut Out)
     requires status { IsStatus status }
@@ -179,15 +166,6 @@ fn write_session(session: Option<SessionId>, out: &mut Out)
         out.write_id(id);
         out.write(b"\r\n");
     }
-}
-
-fn write_number_line(name: &[u8], number: u64, out: &mut Out)
-    requires room { length (number_line name.now number) ≤ out.old.reply_spare }
-    ensures wrote { Wrote out.old (number_line name.now number) out.new }
-{
-    out.write(name);
-    out.write_number(number);
-    out.write(b"\r\n");
 }
 
 fn write_base(address: u32, out: &mut Out)
@@ -238,27 +216,5 @@ fn closing_status(cause: Break) -> u16
     match cause {
         Break::Bad => 400,
         Break::TooLong => 413,
-    }
-}
-
-/// The phrase of a status that has one (RFC 2326, section 7.1.1).
-pub fn phrase(status: u16) -> &'static [u8]
-    requires status { IsStatus status }
-    ensures phrase { result.now ≡ phrase_of status }
-{
-    match status {
-        200 => b"OK",
-        400 => b"Bad Request",
-        403 => b"Forbidden",
-        404 => b"Not Found",
-        413 => b"Request Entity Too Large",
-        454 => b"Session Not Found",
-        455 => b"Method Not Valid in This State",
-        461 => b"Unsupported Transport",
-        501 => b"Not Implemented",
-        503 => b"Service Unavailable",
-        505 => b"RTSP Version Not Supported",
-        551 => b"Option not supported",
-        _ => unreachable!(),
     }
 }

@@ -1,4 +1,4 @@
-//! What a message asks for.
+//! Requests of RTSP messages.
 ghost use Rattle.std.specs.Prelude.{◌≡◌, ◌≢◌, ◌↔◌, ℕ, List, Some, None, Err, IsSome, OnErr, true, false, codes, take};
 ghost use Rattle.std.specs.Option.{option_copied, option_map};
 ghost use Rattle.std.specs.Str.{bytes_eq};
@@ -11,7 +11,7 @@ use crate::short::Short;
 use crate::targets::Target;
 use crate::transports::{acceptable_ports, session_name};
 use satip_base::{Ports, SessionId, read_number};
-use satip_frame::{Break, Message};
+use satip_frame::{Asks, Break, Message};
 use satip_query::{PidsGiven, Query, QueryFault, read};
 use satip_tune::same_bytes;
 
@@ -25,14 +25,15 @@ pub enum Method {
     Teardown,
 }
 
-/// Why a request is refused for its text alone, in the order in which the causes are looked at.
+/// The reason that the text of a request alone is refused. The variants are in the order of the
+/// checks.
 #[derive(Clone, Copy, Debug, PartialEq, Eq)]
 pub enum Refusal {
-    /// What came is no message.
+    /// The text is no message.
     Broken,
     /// The message announces a body that is too long.
     TooLong,
-    /// The message has no number in `CSeq` (RFC 2326, section 12.17).
+    /// The message has no number below 2^32 in `CSeq` (RFC 2326, section 12.17).
     NoCseq,
     /// The version isn't `RTSP/1.0`.
     Version,
@@ -46,8 +47,8 @@ pub enum Refusal {
     Query(QueryFault),
 }
 
-/// The session that a request names (RFC 2326, section 12.37): none, that of an id, or one that no
-/// id names.
+/// The session that a request names (RFC 2326, section 12.37): none, that of an id, or a text that
+/// isn't an id.
 #[derive(Clone, Copy, Debug, PartialEq, Eq)]
 pub enum SessionName {
     Absent,
@@ -55,8 +56,8 @@ pub enum SessionName {
     Other,
 }
 
-/// A request. Under a refusal the fields behind it are `Options`, None, `Absent`, the empty query
-/// and None.
+/// A request. If it is refused, the fields after `refusal` are `Options`, None, `Absent`, the empty
+/// query and None.
 #[derive(Clone, Copy, Debug, PartialEq, Eq)]
 pub struct Request {
     pub cseq: Option<u32>,
@@ -72,7 +73,7 @@ pub struct Request {
 }
 
 impl Method {
-    /// The method of a word, which is in upper case.
+    /// Returns the method with this name, in upper case.
     #[tactic(auto, unfolding(crate::specs::Asked::method_named))]
     pub fn named(word: &[u8]) -> Option<Method>
         ensures named { result ≡ method_named word.now }
@@ -94,7 +95,7 @@ impl Method {
 }
 
 impl Request {
-    /// The request of a message. The first refusal counts, in the order of `Refusal`.
+    /// Returns the request of a message, or its first refusal in the order of `Refusal`.
     pub fn of(message: &Message<'_>) -> Request
         ensures asked { result ≡ asked message.now }
         ensures no_cseq { (result.refusal ≡ Some Refusal.NoCseq) ↔ (cseq_of message.now ≡ None) }
@@ -126,8 +127,8 @@ impl Request {
         request
     }
 
-    /// Puts the request of a message in the place of an older one, whatever that was: a request is
-    /// large, and moves cost time.
+    /// Replaces this request by that of a message. It writes in place, since a request is large and
+    /// moving it costs time.
     pub fn read(&mut self, message: &Message<'_>)
         ensures asked { self.new ≡ asked message.now }
     {
@@ -135,8 +136,8 @@ impl Request {
         fill(message, self);
     }
 
-    // Asks for nothing. A refusal is written only where it stands: it is large, and writes cost
-    // time.
+    // Makes this the request that asks for nothing. It overwrites a refusal only if there is one,
+    // since it is large.
     fn clear(&mut self)
         ensures blank { self.new ≡ blank }
     {
@@ -151,7 +152,7 @@ impl Request {
         self.ports = None;
     }
 
-    /// The request of what is no message.
+    /// Returns the request of a text that is no message.
     pub fn broken(cause: Break) -> Request
         ensures broken { result ≡ broken_request cause }
     {
@@ -164,8 +165,8 @@ impl Request {
     }
 }
 
-// Puts what a message asks for in the place of a request that asks for nothing. The first refusal
-// is put there at once, since it is large.
+// Fills a request that asks for nothing from a message. It writes the first refusal in place, since
+// it is large.
 #[tactic(auto, unfolding(crate::specs::Asked::asked))]
 fn fill(message: &Message<'_>, into: &mut Request)
     requires blank { into.old ≡ blank }
@@ -186,7 +187,7 @@ fn fill(message: &Message<'_>, into: &mut Request)
     }
 }
 
-// Fills in what a message with a number, the version and a method asks for.
+// Fills in the rest for a message with a number, the version and a method.
 fn fill_served(message: &Message<'_>, method: Method, into: &mut Request)
     requires blank { into.old ≡ record blank { cseq = into.old.cseq } }
     ensures asked { (cseq : ℕ) → into.old.cseq ≡ Some cseq
@@ -198,7 +199,7 @@ fn fill_served(message: &Message<'_>, method: Method, into: &mut Request)
     }
 }
 
-// Fills in what a message that requires nothing asks for.
+// Fills in the rest for a message that requires no option.
 fn fill_aimed(message: &Message<'_>, method: Method, into: &mut Request)
     requires blank { into.old ≡ record blank { cseq = into.old.cseq } }
     ensures asked { (cseq : ℕ) → into.old.cseq ≡ Some cseq
@@ -219,7 +220,7 @@ fn fill_aimed(message: &Message<'_>, method: Method, into: &mut Request)
     into.ports = ports_of(method, message.header(b"Transport"));
 }
 
-// A request that asks for nothing.
+// Returns the request that asks for nothing.
 fn blank() -> Request
     ensures blank { result ≡ blank }
 {
@@ -247,7 +248,7 @@ fn read_cseq(message: &Message<'_>) -> Option<u32>
     }
 }
 
-// The value that names what is required.
+// Returns the value of `Require`, if it isn't empty.
 fn required(value: Option<&[u8]>) -> Option<&[u8]>
     ensures kept { option_map (take 128) (option_copied result)
         ≡ requirement (option_copied value.entry) }
@@ -268,7 +269,7 @@ fn is_options(method: Method) -> bool
     }
 }
 
-// Reads the query where the method has one.
+// Reads the query if the method has one.
 fn read_query(method: Method, text: &[u8], into: &mut Query) -> Result<(), QueryFault>
     requires blank { into.old ≡ new_query }
     ensures query { Answers result (query_read method text.now) into.new }
@@ -286,5 +287,21 @@ fn ports_of(method: Method, value: Option<&[u8]>) -> Option<Ports>
     match (method, value) {
         (Method::Setup, Some(value)) => acceptable_ports(value),
         _ => None,
+    }
+}
+
+impl Asks for Request {
+    ghost use Rattle.satip_rtsp.specs.Asked.{asked, broken_request};
+
+    ghost asked = { λ message. asked message };
+
+    ghost broken = { λ cause. broken_request cause };
+
+    fn found(&mut self, message: &Message<'_>) {
+        self.read(message);
+    }
+
+    fn ended(&mut self, cause: Break) {
+        *self = Request::broken(cause);
     }
 }

@@ -1,4 +1,4 @@
-//! The beginning of a header's value.
+//! Prefixes of header values.
 ghost use Rattle.std.specs.Prelude.{◌≡◌, ◌≤◌, length, take};
 
 use std::marker::Model;
@@ -14,7 +14,7 @@ pub struct Short {
 
 impl Model for Short {
     ghost use Rattle.std.specs.Prelude.{ℕ, List, take, ◌++◌, ◌-◌, length, replicate};
-    ghost use Rattle.satip_pids.specs.Packed.{IsPacked};
+    ghost use Rattle.satip_query.specs.Packed.{IsPacked};
 
     ghost Value = { List ℕ };
 
@@ -34,7 +34,7 @@ impl Model for Short {
 }
 
 impl Short {
-    /// The first 128 bytes of a text, all of it where it has fewer.
+    /// Returns the first 128 bytes of a text, or all if it has fewer.
     pub fn of(text: &[u8]) -> Short
         ensures first { result ≡ take 128 text.now }
     {
@@ -44,7 +44,7 @@ impl Short {
         Short { places, count }
     }
 
-    /// The bytes.
+    /// Returns the bytes.
     pub fn bytes(&self) -> &[u8]
         ensures bytes { result.now ≡ self.now }
         ensures few { length self.now ≤ 128 }

@@ -1,14 +1,16 @@
-//! Targets of requests: an optional front, a path and an optional query (RFC 2326, section 3.2).
+//! Targets of requests: an optional origin, a path and an optional query (RFC 2326, section 3.2).
 ghost use Rattle.std.specs.Prelude.{◌≡◌};
 ghost use Rattle.std.specs.Option.{option_copied};
-ghost use Rattle.satip_rtsp.specs.Targets.{after_front, after_host, host_size, parts_behind, parts_of, stream_in, target_of, path_without_slash};
+ghost use Rattle.satip_frame.specs.Origins.{after_front, after_host, host_size};
+ghost use Rattle.satip_rtsp.specs.Targets.{parts_behind, parts_of, stream_in, target_of, path_without_slash};
 
-use crate::texts::{begins_like, begins_with, behind, text_of};
+use crate::texts::{begins_with, text_of};
 use satip_base::read_number;
+use satip_frame::{after_origin, rest_from};
 use satip_tune::{cut, same_bytes};
 use std::marker::Model;
 
-/// What a target names.
+/// A target: the stream that it names, and its query.
 #[derive(Drop)]
 pub struct Target<'a> {
     stream: Option<u16>,
@@ -24,7 +26,8 @@ impl<'a> Model for Target<'a> {
 }
 
 impl<'a> Target<'a> {
-    /// The target that a text writes. `*` is one where the whole server may be meant.
+    /// Returns the target of a text. `*` is a target only if `star` is set; it names the whole
+    /// server.
     #[tactic(auto, unfolding(crate::specs::Targets::target_of))]
     pub fn of(text: &'a [u8], star: bool) -> Option<Target<'a>>
         ensures target { result ≡ target_of star text.now }
@@ -35,63 +38,25 @@ impl<'a> Target<'a> {
                 query: b"",
             });
         }
-        match behind_front(b"rtsp://", text) {
+        match after_origin(b"rtsp://", text) {
             None => read_parts(text),
             Some(rest) => read_parts_behind(rest),
         }
     }
 
-    /// The number of the stream that the target names.
+    /// Returns the number of the stream that the target names.
     pub fn stream(&self) -> Option<u16>
         ensures stream { result ≡ self.now.stream }
     {
         self.stream
     }
 
-    /// The text of the query.
+    /// Returns the text of the query, which is empty if there is none.
     pub fn query(&self) -> &'a [u8]
         ensures query { result.now ≡ self.now.query }
     {
         self.query
     }
-}
-
-/// What stands behind the front of a target: the scheme, whose letters may be of either case, and a
-/// host of one or more bytes up to the next `/`, `?` or the end. None where the target has no such
-/// front.
-#[tactic(auto, unfolding(crate::specs::Targets::after_front))]
-pub fn behind_front<'a>(scheme: &[u8], text: &'a [u8]) -> Option<&'a [u8]>
-    ensures rest { option_copied result ≡ after_front scheme.now text.now }
-{
-    if begins_like(scheme, text) {
-        behind_host(behind(text, scheme.len()))
-    } else {
-        None
-    }
-}
-
-fn behind_host(text: &[u8]) -> Option<&[u8]>
-    ensures rest { option_copied result ≡ after_host text.now }
-{
-    let host = host_length(text);
-    if host == 0 {
-        None
-    } else {
-        Some(behind(text, host))
-    }
-}
-
-fn host_length(text: &[u8]) -> usize
-    ensures length { result ≡ host_size text.now }
-{
-    let mut count = 0;
-    for byte in text {
-        if *byte == b'/' || *byte == b'?' {
-            return count;
-        }
-        count += 1;
-    }
-    count
 }
 
 fn read_parts_behind(text: &[u8]) -> Option<Target<'_>>
@@ -130,7 +95,7 @@ fn read_stream(path: &[u8]) -> Option<Option<u16>>
     if !begins_with(b"/stream=", path) {
         return None;
     }
-    match read_number(without_slash(behind(path, 8)), 65535) {
+    match read_number(without_slash(rest_from(path, 8)), 65535) {
         None => None,
         Some(number) => Some(Some(number as u16)),
     }

@@ -1,12 +1,14 @@
-//! Texts without the blanks at their ends, and how texts begin and go on.
+//! Texts without the blanks at their ends, and prefixes of texts.
 ghost use Rattle.std.specs.Prelude.{◌≡◌, ◌==◌, ◌||◌, length, take, drop};
 ghost use Rattle.satip_tune.specs.Pieces.{text_left};
 ghost use Rattle.satip_rtsp.specs.Blanks.{is_space_or_tab, text_trimmed, start_trimmed, end_trimmed};
-ghost use Rattle.satip_rtsp.specs.Targets.{is_begun_like, is_begun_with};
+ghost use Rattle.satip_frame.specs.Origins.{is_begun_like};
+ghost use Rattle.satip_rtsp.specs.Targets.{is_begun_with};
 
+use satip_frame::first_bytes;
 use satip_tune::same_bytes;
 
-/// The text without the spaces and tabs at its ends.
+/// Returns the text without the spaces and tabs at its ends.
 #[tactic(auto, unfolding(crate::specs::Blanks::text_trimmed))]
 pub fn trimmed(text: &[u8]) -> &[u8]
     ensures trimmed { result.now ≡ text_trimmed text.now }
@@ -46,42 +48,14 @@ fn is_blank(byte: u8) -> bool
     byte == b' ' || byte == b'\t'
 }
 
-fn first_bytes(text: &[u8], count: usize) -> &[u8]
-    ensures front { result.now ≡ take count text.now }
-{
-    if count < text.len() {
-        &text[..count]
-    } else {
-        text
-    }
-}
-
-/// The text behind its first bytes.
-pub fn behind(text: &[u8], count: usize) -> &[u8]
-    ensures rest { result.now ≡ drop count text.now }
-{
-    if count < text.len() {
-        &text[count..]
-    } else {
-        b""
-    }
-}
-
-/// Whether a text begins with another; the case of ASCII letters doesn't matter.
-pub fn begins_like(start: &[u8], text: &[u8]) -> bool
-    ensures test { result ≡ is_begun_like start.now text.now }
-{
-    first_bytes(text, start.len()).eq_ignore_ascii_case(start)
-}
-
-/// Whether a text begins with another, byte for byte.
+/// Returns whether a text begins with another, byte for byte.
 pub fn begins_with(start: &[u8], text: &[u8]) -> bool
     ensures test { result ≡ is_begun_with start.now text.now }
 {
     same_bytes(first_bytes(text, start.len()), start)
 }
 
-/// What is left of a text, as a text.
+/// Returns the rest of a text; the empty text for `None`.
 pub fn text_of(left: Option<&[u8]>) -> &[u8]
     ensures text { result.now ≡ text_left left.entry }
 {

@@ -1,5 +1,4 @@
-//! The session and the transport that a request's headers name (RFC 2326, sections 12.37 and
-//! 12.39).
+//! The session and the transport in the headers of a request (RFC 2326, sections 12.37 and 12.39).
 ghost use Rattle.std.specs.Prelude.{◌≡◌, ◌≤◌, IfSome};
 ghost use Rattle.std.specs.List.{list_any};
 ghost use Rattle.std.specs.Option.{option_copied};
@@ -7,11 +6,12 @@ ghost use Rattle.satip_rtsp.specs.Sessions.{session_in};
 ghost use Rattle.satip_rtsp.specs.Transports.{ports_accepted, ports_by, parameters, is_rtp_text, is_unicast_text, is_port_text, ports_first, ports_text, ports_beginning, port_at_most};
 
 use crate::requests::SessionName;
-use crate::texts::{begins_like, behind, text_of, trimmed};
+use crate::texts::{text_of, trimmed};
 use satip_base::{Ports, SessionId, read_number};
+use satip_frame::{begins_like, rest_from};
 use satip_tune::cut;
 
-/// The session that the value of a `Session` header names.
+/// Returns the session that the value of a `Session` header names.
 pub fn session_name(value: Option<&[u8]>) -> SessionName
     ensures session { result ≡ session_in (option_copied value.entry) }
 {
@@ -24,7 +24,7 @@ pub fn session_name(value: Option<&[u8]>) -> SessionName
     }
 }
 
-/// The ports of the first acceptable transport in the value of a `Transport` header.
+/// Returns the ports of the first acceptable transport in the value of a `Transport` header.
 #[tactic(auto, unfolding(crate::specs::Transports::ports_accepted))]
 pub fn acceptable_ports(value: &[u8]) -> Option<Ports>
     ensures ports { result ≡ ports_accepted value.now }
@@ -72,7 +72,7 @@ fn first_ports(transport: &[u8]) -> Option<Ports>
     while let Some(rest) = left {
         let (parameter, next) = cut(rest, b';');
         if gives_ports(parameter) {
-            return read_ports(behind(trimmed(parameter), 12));
+            return read_ports(rest_from(trimmed(parameter), 12));
         }
         left = next;
     }

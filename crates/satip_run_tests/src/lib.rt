@@ -1,8 +1,13 @@
-//! Connections over memory and the one-thread server, with input that is broken and devices that
-//! fail. It has nothing but tests.
+//! Tests connections and pumps over the one-thread server: broken input, failing devices, locks.
 #![tactic(auto)]
 
 #[cfg(test)]
-mod rows;
+mod locks;
+#[cfg(test)]
+mod pumps;
+#[cfg(test)]
+mod served_connections;
 #[cfg(test)]
 mod sessions;
+#[cfg(test)]
+mod solo;

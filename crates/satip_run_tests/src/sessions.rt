@@ -2,7 +2,7 @@
 
 use satip_fixtures::texts::{SETUP, is_joined, joined};
 use satip_memory::MemoryConn;
-use satip_run_fixtures::serving::{PLAY, SETUP_REPLY, Seen, serve_and_ask, serve_playing};
+use satip_solo::connections::{PLAY, SETUP_REPLY, Seen, serve_and_ask, serve_playing};
 use satip_world::ConnEnd;
 use std::alloc::Global;
 use std::sync::Wait;

@@ -6,7 +6,7 @@ use Rattle.satip_base.specs.Output.{Datagram}
 use Rattle.satip_base.specs.Texts.{address_text}
 use Rattle.satip_base.proofs.NumberLemmas.{length-decimal_u8}
 use Rattle.satip_script.specs.Printed.{datagram_line}
-use Rattle.satip_digits.proofs.HexDigits.{encode-append}
+use Rattle.satip_ts.proofs.HexDigits.{encode-append}
 use Rattle.satip_base.specs.declared.outcomes.Want.{Want}
 use Rattle.satip_script.specs.Inner.{Appended}
 

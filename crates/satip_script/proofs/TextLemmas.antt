@@ -21,7 +21,7 @@ use Rattle.satip_frame.proofs.FramerLemmas.{unfinished_short}
 use Rattle.satip_frame.proofs.ReadingLemmas.{reading_of}
 use Rattle.satip_script.specs.declared.messages.Look.{Look}
 use Rattle.satip_script.specs.Inner.{Sees, newline_first}
-use Rattle.satip_digits.proofs.HexDigits.{length-digits}
+use Rattle.satip_ts.proofs.HexDigits.{length-digits}
 use Rattle.satip_script.specs.Texts.{Told, Whole, NotWhole, Tells, TellsNothing}
 
 -- ---- line ends at the front

@@ -9,9 +9,9 @@ use Rattle.satip_base.specs.Numbers.{number_of, ip_of}
 use Rattle.satip_tune.specs.Pieces.{is_byte}
 use Rattle.satip_tune.proofs.Places.{slice_split-no}
 use Rattle.satip_plain.specs.Types.{Draw}
-use Rattle.satip_digits.specs.Digits.{bytes_of, packet_of}
-use Rattle.satip_digits.proofs.HexDigits.{no_digits_read}
-use Rattle.satip_digits.proofs.PacketDigits.{not_all_digits}
+use Rattle.satip_ts.specs.Digits.{bytes_of, packet_of}
+use Rattle.satip_ts.proofs.HexDigits.{no_digits_read}
+use Rattle.satip_ts.proofs.PacketDigits.{not_all_digits}
 use Rattle.satip_script.specs.Lines.{one_word_of, two_words_of, three_words_of}
 use Rattle.satip_script.specs.Forms.{call_by, call_from, packet_by, packet_event, stop_by}
 use Rattle.satip_script.specs.Parts.{greatest, draw_of}

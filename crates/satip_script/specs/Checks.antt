@@ -1,4 +1,4 @@
--- What a line is, without its event.
+-- The kind of a line, without its event.
 use Rattle.std.specs.Prelude.{ℕ, List}
 use Rattle.satip_plain.specs.declared.events.Event.{Event}
 use Rattle.satip_script.specs.declared.lines.Line.TheVariants.{Skip, Event as EventLine, Wrong}

@@ -1,4 +1,4 @@
--- What private functions say of their parts.
+-- Contracts of private functions.
 use Rattle.std.specs.Prelude.{◌≡◌, ℕ, Bool, false, List, [], ◌∷◌, ◌++◌, Option, None, Some, Result, Ok, Err, IsSomeAnd}
 use Rattle.std.specs.Borrow.{Bor}
 use Rattle.httparse.specs.Pieces.{is_newline}
@@ -20,12 +20,12 @@ abbrev pub pair_now : Option (Bor (List ℕ) × Bor (List ℕ)) → Option (List
 pair_now None = None
 pair_now (Some (a, b)) = Some (a.now, b.now)
 
--- the first two words and what stands behind them, or too few for three words
+-- the first two words and the rest after them, or None if there aren't three words
 abbrev pub AreTwoAndRest : List (List ℕ) → Option (Bor (List ℕ) × Bor (List ℕ) × Bor (List ℕ)) → Type 0
 AreTwoAndRest words None = three_words_of words ≡ None
 AreTwoAndRest words (Some (first, second, rest)) = words ≡ first.now ∷ second.now ∷ slice_split (is_byte 32) rest.now
 
--- the call of who sends, a draw and digits
+-- the call of a sender, a draw and digits
 abbrev pub call_told : Option (Peer × Draw × Bor (List ℕ)) → Option Call
 call_told None = None
 call_told (Some (peer, draw, digits)) = call_in peer draw digits.now
@@ -35,25 +35,25 @@ abbrev pub newline_first : List ℕ → Bool
 newline_first [] = false
 newline_first (b ∷ text) = is_newline b
 
--- what was seen of a text, where the framer holds its message
+-- the result of a look at a text; the framer holds a whole message
 abbrev pub Sees : List ℕ → Held → Look → Type 0
 Sees text held LookWhole = IsSomeAnd held.found (λ m. Begins text m [])
 Sees text held (LookNotWhole cause) = Messages text [] (Broken cause)
 Sees text held Nothing = TellsNothing text
 
--- the same of what digits say, if they are any
+-- the same for digits, if they are any
 abbrev pub SeesIn : Option (List ℕ) → Held → Look → Type 0
 SeesIn None held LookWhole = ⊥
 SeesIn None held (LookNotWhole cause) = ⊥
 SeesIn None held Nothing = Unit {0}
 SeesIn (Some text) held look = Sees text held look
 
--- the digits are those of a text that says something
+-- the digits are those of a text that is one message or broken
 abbrev pub Says : Option (List ℕ) → Type 0
 Says None = ⊥
 Says (Some text) = (told : Told) × Tells text told
 
--- bytes were appended, or some of them where memory was refused
+-- bytes were appended; out of memory, the text has only grown
 abbrev pub Appended : Result Unit Want → List ℕ → List ℕ → List ℕ → Type 0
 Appended (Ok done) o bs n = n ≡ o ++ bs
 Appended (Err want) o bs n = (part : List ℕ) × (n ≡ o ++ part)

@@ -3,11 +3,11 @@ use Rattle.std.specs.Prelude.{ℕ, ◌==◌, Bool, true, List, [], ◌∷◌, Op
 use Rattle.std.specs.List.{slice_split}
 use Rattle.satip_tune.specs.Pieces.{is_byte}
 
--- what stands between the LFs of a text; a text that ends with LF has one more line behind it, an empty one
+-- the pieces of a text between its LFs; a text that ends with LF has one more line after it, an empty one
 abbrev pub lines_of : List ℕ → List (List ℕ)
 lines_of text = slice_split (is_byte 10) text
 
--- what stands between the spaces of a line; a space too many makes an empty word
+-- the pieces of a line between its spaces; a space too many makes an empty word
 abbrev pub words_of : List ℕ → List (List ℕ)
 words_of line = slice_split (is_byte 32) line
 

@@ -1,8 +1,8 @@
--- The run of a script: the history in which caller 0 makes its events.
+-- The run of a script: the history in which caller 0 submits its events.
 use Rattle.std.specs.Prelude.{◌≡◌, ℕ, ◌-◌, List, [], ◌∷◌, length, map}
 use Rattle.satip_base.specs.declared.limits.TheConstants.{REPLY_BYTES, EVENT_BYTES}
-use Rattle.satip_history.specs.History.{entry}
-use Rattle.satip_history.specs.Lists.{Each}
+use Rattle.satip_base.specs.History.{entry}
+use Rattle.satip_base.specs.Lists.{Each}
 use Rattle.satip_base.specs.Output.{Output, Datagram, datagram_bytes}
 use Rattle.satip_plain.specs.declared.events.Event.{Event}
 use Rattle.satip_plain.specs.declared.setting.Setting.{Setting}
@@ -11,7 +11,7 @@ use Rattle.satip_plain.specs.State.{State}
 use Rattle.satip_plain.specs.Steps.{Outcome, step}
 use Rattle.satip_plain.specs.Histories.{Item, datagram, opening, Legal}
 
--- what an `Out` has that was empty before: this reply and these datagrams, and the room that is left
+-- the output of an `Out` that was empty before: this reply, these datagrams, and the room that is left
 abbrev pub output_with : List ℕ → List Datagram → Output
 output_with reply datagrams = record {
   reply = reply;
@@ -21,19 +21,20 @@ output_with reply datagrams = record {
   count_spare = 256 - length datagrams;
 }
 
--- the entry of an event that caller 0 makes
+-- the entry of an event that caller 0 submits
 abbrev pub item_of : Event → Outcome → Item
 item_of e o = entry 0 e o.answer (output_with o.reply (map datagram o.sent))
 
+-- the entries of events from a state on
 abbrev pub run_from : Config → State → List Event → List Item
 run_from c st [] = []
 run_from c st (e ∷ events) = item_of e (step c st e) ∷ run_from c (step c st e).state events
 
--- the one legal history in which caller 0 makes these events
+-- the one legal history in which caller 0 submits these events
 abbrev pub run : Setting → List Event → List Item
 run c events = run_from c.config (opening c) events
 
--- caller 0 makes these events in a legal history, each with an `Out` that was empty before
+-- a legal history in which caller 0 submits these events, each with an `Out` that was empty before
 pub record IsRun (c : Setting) (events : List Event) (h : List Item) : Type 0 where
   pub legal : Legal c h
   pub made : map (λ (e : Item). e.event) h ≡ events

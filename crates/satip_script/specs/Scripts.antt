@@ -5,12 +5,12 @@ use Rattle.satip_script.specs.declared.lines.Line.TheVariants.{Skip, Event as Ev
 use Rattle.satip_script.specs.Lines.{lines_of}
 use Rattle.satip_script.specs.Reading.{IsLine}
 
--- the events, with one before them
+-- the list with this event before it, or the same error
 abbrev pub with_event : Event → Result (List Event) ℕ → Result (List Event) ℕ
 with_event e (Ok events) = Ok (e ∷ events)
 with_event e (Err number) = Err number
 
--- lines, of which the first has this number, come to this
+-- lines, numbered from this number on, give these events or this first wrong line
 abbrev pub ComesTo : ℕ → List (List ℕ) → Result (List Event) ℕ → Type 0
 ComesTo number [] result = result ≡ Ok []
 ComesTo number (line ∷ lines) result =
@@ -19,7 +19,7 @@ ComesTo number (line ∷ lines) result =
     ⊎ ((e : Event) × (others : Result (List Event) ℕ) × IsLine line (EventLine e) × ComesTo (number + 1) lines others
     × (result ≡ with_event e others))
 
--- a whole text, whose lines are numbered from 1, is the script of these events, or has its first wrong line here
+-- a whole text, with lines numbered from 1, is the script of these events, or has this first wrong line
 abbrev pub IsScript : List ℕ → Result (List Event) ℕ → Type 0
 IsScript text result = ComesTo 1 (lines_of text) result
 
@@ -32,12 +32,12 @@ abbrev pub IsOver : List (List ℕ) → Type 0
 IsOver [] = Unit {0}
 IsOver (line ∷ lines) = IsLine line Wrong ⊎ (IsLine line Skip × IsOver lines)
 
--- the next event, and the lines behind its own
+-- the next event, and the lines after its line
 abbrev pub HasNext : List (List ℕ) → Event → List (List ℕ) → Type 0
 HasNext [] e left = ⊥
 HasNext (line ∷ lines) e left = (IsLine line (EventLine e) × (left ≡ lines)) ⊎ (IsLine line Skip × HasNext lines e left)
 
--- these events are given after an answer
+-- this is the first of the events, and the other lines give the others; None if there are no events
 abbrev pub GivenAfter : List Event → List (List ℕ) → Option Event → Type 0
 GivenAfter events left None = events ≡ []
 GivenAfter events left (Some e) = (others : List Event) × (events ≡ e ∷ others) × Gives left others

@@ -7,7 +7,7 @@ use arrayvec::ArrayVec;
 use itoa::Buffer;
 use std::marker::Model;
 
-/// At most 128 bytes. A `Strip` has 1600, which are too many to clear for each line of a run.
+/// Holds at most 128 bytes. A `Strip` has 1600, which are too many to clear for each line of a run.
 #[derive(Drop)]
 pub(crate) struct Front {
     text: ArrayVec<u8, 128>,
@@ -22,7 +22,7 @@ impl Model for Front {
 }
 
 impl Front {
-    /// No words yet.
+    /// Returns an empty line.
     pub(crate) fn new() -> Front
         ensures empty { result ≡ [] }
     {
@@ -31,7 +31,7 @@ impl Front {
         }
     }
 
-    /// What is printed onto it.
+    /// Returns the bytes that were written.
     pub(crate) fn bytes(&self) -> &[u8]
         ensures bytes { result.now ≡ self.now }
     {

@@ -1,4 +1,4 @@
-//! One line of a script as a whole.
+//! Reads one line of a script as a whole.
 ghost use Rattle.std.specs.Prelude.{◌≡◌, List, ℕ, option_map};
 ghost use Rattle.satip_script.specs.Forms.{Rtsp, Http, Other};
 ghost use Rattle.satip_script.specs.Reading.{IsFormed, IsLine};
@@ -7,25 +7,25 @@ ghost use Rattle.satip_script.specs.InParts.{call_in, form_in, packet_in};
 use crate::messages::{read_get, read_request};
 use crate::parts::{EventParts, read_parts};
 use satip_base::{Draw, Peer};
-use satip_digits::read_packet;
 use satip_frame::{Break, Framer};
 use satip_http::HttpRequest;
 use satip_plain::Event;
 use satip_rtsp::Request;
+use satip_ts::read_packet;
 
-/// What a line of a script is.
+/// The content of a script's line.
 #[derive(Drop)]
 pub enum Line {
     /// An empty line, or a comment, which begins with `#`.
     Skip,
     /// An event.
     Event(Event),
-    /// None of these.
+    /// Neither of them.
     Wrong,
 }
 
-/// Reads a line of a script, without the LF that ends it: words with one space between them, the
-/// first of which is the kind of the event. The framer's bytes are lost.
+/// Reads a line of a script, without the LF that ends it. A line is words with one space between
+/// them; the first is the kind of the event. The framer's bytes are lost.
 pub fn read_line(line: &[u8], framer: &mut Framer) -> Line
     ensures line { IsLine line.now result }
 {
@@ -35,7 +35,7 @@ pub fn read_line(line: &[u8], framer: &mut Framer) -> Line
     }
 }
 
-// The event of these parts.
+// Returns the event of these parts.
 fn read_whole(parts: &EventParts, framer: &mut Framer) -> Line
     ensures line { IsFormed (form_in parts.now) result }
 {

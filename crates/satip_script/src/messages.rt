@@ -1,38 +1,39 @@
-//! What the bytes of a line's last word say.
+//! Reads the text in a line's last word: one message, or none.
 ghost use Rattle.std.specs.Prelude.{◌≡◌, ℕ, ◌+◌, ◌*◌, ◌≤◌, [], ◌++◌, List, length, None, true, IsOk, IsSome, IsSomeAnd};
 ghost use Rattle.std.specs.Bool.{OnTrue, OnFalse};
 ghost use Rattle.hex.specs.Hex.{decode_of};
 ghost use Rattle.satip_frame.specs.Stream.{Unfinished, skip_newlines, Messages, Leads};
 ghost use Rattle.satip_rtsp.specs.Asked.{asked, broken_request};
 ghost use Rattle.satip_http.specs.Gets.{asked_get, broken_get};
-ghost use Rattle.satip_digits.specs.Digits.{bytes_of};
+ghost use Rattle.satip_ts.specs.Digits.{bytes_of};
 ghost use Rattle.satip_script.specs.Texts.{request_of, get_of};
 ghost use Rattle.satip_script.specs.InParts.{Asks, AsksNothing};
 ghost use Rattle.satip_script.specs.Inner.{Says, Sees, SeesIn, newline_first};
 
-use satip_digits::are_digits;
 use satip_frame::{Break, Framer, Step};
 use satip_http::HttpRequest;
 use satip_rtsp::Request;
+use satip_ts::are_digits;
 
 const ROOM: usize = 12288;
 
-// The bytes of most messages; fewer are cleared for them.
+// The room for most messages. A longer message clears `ROOM` bytes.
 const SHORT: usize = 512;
 
-// What was seen of a text.
+// The result of a look at a text.
 #[derive(Clone, Copy, Debug, PartialEq, Eq)]
 enum Look {
     // One message, which the framer holds, and nothing more.
     Whole,
-    // What begins there is no message.
+    // The text begins with something that is no message.
     NotWhole(Break),
     // Neither.
     Nothing,
 }
 
-/// Puts the RTSP request that the bytes of these digits are in the place of an older one. False
-/// where they are no digits, or neither one message nor broken. The framer's bytes are lost.
+/// Reads the RTSP request in these hexadecimal digits into `into`. A text that is broken gives a
+/// broken request. Returns false and leaves `into` as it is if the word isn't digits, or if the
+/// text is neither one message nor broken. The framer's bytes are lost.
 pub fn read_request(digits: &[u8], framer: &mut Framer, into: &mut Request) -> bool
     ensures asked { OnTrue result (Asks request_of (bytes_of digits.now) into.new) }
     ensures nothing { OnFalse result (AsksNothing (bytes_of digits.now)) }
@@ -51,8 +52,9 @@ pub fn read_request(digits: &[u8], framer: &mut Framer, into: &mut Request) -> b
     }
 }
 
-/// Puts the HTTP request that the bytes of these digits are in the place of an older one. False
-/// where they are no digits, or neither one message nor broken. The framer's bytes are lost.
+/// Reads the HTTP request in these hexadecimal digits into `into`. A text that is broken gives a
+/// broken request. Returns false and leaves `into` as it is if the word isn't digits, or if the
+/// text is neither one message nor broken. The framer's bytes are lost.
 pub fn read_get(digits: &[u8], framer: &mut Framer, into: &mut HttpRequest) -> bool
     ensures asked { OnTrue result (Asks get_of (bytes_of digits.now) into.new) }
     ensures nothing { OnFalse result (AsksNothing (bytes_of digits.now)) }
@@ -71,7 +73,7 @@ pub fn read_get(digits: &[u8], framer: &mut Framer, into: &mut HttpRequest) -> b
     }
 }
 
-/// Whether the bytes of these digits are one message or broken. No request is made of them.
+/// Tells whether the bytes of these digits are one message or broken. Builds no request.
 pub(crate) fn says(digits: &[u8], framer: &mut Framer) -> bool
     ensures yes { OnTrue result (Says (bytes_of digits.now)) }
     ensures no { OnFalse result (AsksNothing (bytes_of digits.now)) }
@@ -146,7 +148,7 @@ fn see(digits: &[u8], framer: &mut Framer) -> Look
     }
 }
 
-// The digits behind those of each CR and LF at the front.
+// Skips the digits of each CR and LF at the beginning.
 fn behind_newlines(digits: &[u8]) -> &[u8]
     requires { IsOk (decode_of digits.now) }
     ensures rest { (text : List ℕ) → decode_of digits.now ≡ Ok text
@@ -171,8 +173,8 @@ fn begins_with_newline(digits: &[u8]) -> bool
     byte[0] == b'\r' || byte[0] == b'\n'
 }
 
-// Looks at a text that begins with neither CR nor LF. All of it but its last byte is looked at
-// first, since what a framer then finds has something behind it.
+// Looks at a text that begins with neither CR nor LF. It first feeds all bytes but the last: a
+// message that the framer finds in them has something after it.
 fn look_at(digits: &[u8], framer: &mut Framer) -> Look
     requires hex { IsOk (decode_of digits.now) }
     requires some { 2 ≤ length digits.now }
@@ -191,7 +193,7 @@ fn look_at(digits: &[u8], framer: &mut Framer) -> Look
     }
 }
 
-// Looks at a text of which all but the last byte was fed and isn't a whole message.
+// Looks at a text whose last byte isn't fed yet. The bytes before it aren't a whole message.
 fn look_at_last(digits: &[u8], framer: &mut Framer) -> Look
     requires hex { IsOk (decode_of digits.now) }
     requires goes_on { framer.old.ended ≡ None }
@@ -226,7 +228,7 @@ fn feed_digits(digits: &[u8], framer: &mut Framer)
     }
 }
 
-// Not inlined, so that only a long message clears so many bytes.
+// Not inlined, so that only a long message clears `ROOM` bytes.
 #[inline(never)]
 fn feed_many(digits: &[u8], framer: &mut Framer)
     requires hex { IsOk (decode_of digits.now) }
@@ -239,7 +241,7 @@ fn feed_many(digits: &[u8], framer: &mut Framer)
     feed_through(&mut [0u8; ROOM], digits, framer);
 }
 
-// Decodes digits into room that is large enough, and feeds their bytes.
+// Decodes digits into `room`, which must be large enough, and feeds their bytes.
 fn feed_through(room: &mut [u8], digits: &[u8], framer: &mut Framer)
     requires hex { IsOk (decode_of digits.now) }
     requires enough { length digits.now ≤ 2 * length room.old }

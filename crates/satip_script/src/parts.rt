@@ -1,4 +1,4 @@
-//! Lines by their words: what each of them is, before any digits are decoded.
+//! Reads lines by their words, before any digits are decoded.
 ghost use Rattle.std.specs.Prelude.{◌≡◌, option_map};
 ghost use Rattle.satip_base.specs.Numbers.{number_of};
 ghost use Rattle.satip_tune.specs.Pieces.{pieces_left};
@@ -12,50 +12,56 @@ use crate::words::{one_word, read_draw, two_words, two_words_and_rest};
 use satip_base::{Draw, Peer, SessionId, read_ip, read_number};
 use satip_tune::same_bytes;
 
-/// An event of a script by the words of its line. It has no more room than these, where an `Event`
-/// has that of a request.
+/// An event of a script by the words of its line. It is smaller than an `Event`, which has room for
+/// a request.
 #[derive(Drop)]
 pub enum EventParts<'a> {
-    /// A text over RTSP, in digits; a wrong line where `read_request` finds none.
+    /// A text over RTSP, in digits. The line is wrong if `read_request` finds none.
     Rtsp {
         peer: Peer,
         draw: Draw,
         digits: &'a [u8],
     },
-    /// A text over HTTP, in digits; a wrong line where `read_get` finds none.
+    /// A text over HTTP, in digits. The line is wrong if `read_get` finds none.
     Http {
         peer: Peer,
         draw: Draw,
         digits: &'a [u8],
     },
+    /// A tick at a moment, in milliseconds.
     Tick {
         now: u64,
     },
-    /// A packet in digits; a wrong line where `satip_digits::read_packet` finds none.
+    /// A packet in digits. The line is wrong if `satip_ts::read_packet` finds none.
     Packet {
         front: u16,
         tune: u64,
         digits: &'a [u8],
     },
+    /// The recording of a front end's tune number ended.
     Ended {
         front: u16,
         tune: u64,
     },
+    /// A front end asks for work.
     Ask {
         front: u16,
     },
+    /// An HTTP session pulls bytes.
     Pull {
         session: SessionId,
     },
+    /// An HTTP session closes.
     Close {
         session: SessionId,
     },
+    /// The server stops.
     Stop,
     /// A wrong line.
     Wrong,
 }
 
-/// The parts of a line's event; None where the line is skipped.
+/// Returns the parts of a line's event, or None if the line is skipped.
 pub(crate) fn read_parts<'a>(line: &'a [u8]) -> Option<EventParts<'a>>
     ensures parts { HasParts line.now result }
 {
@@ -75,7 +81,7 @@ fn is_skipped(line: &[u8]) -> bool
     }
 }
 
-// The parts of a line of this kind, with what is left of the line.
+// Returns the parts of a line of this kind, given the rest of the line.
 #[tactic(auto, unfolding(crate::specs::Forms::form_named, crate::specs::Forms::event_of))]
 fn read_kind<'a>(kind: &[u8], rest: Option<&'a [u8]>) -> EventParts<'a>
     ensures form { form_in result ≡ form_named kind.now (pieces_left 32 rest.entry) }
@@ -123,8 +129,8 @@ fn read_http_words<'a>(rest: Option<&'a [u8]>) -> EventParts<'a>
     }
 }
 
-// Who sends, the draw, and the digits of what is sent. A space is no digit, so none is looked for
-// there.
+// Returns the sender, the draw, and the digits of the text. A space is no digit, so the digits
+// aren't searched for one.
 #[tactic(auto, using(crate::proofs::WordLemmas::call_of_rest))]
 fn call_words<'a>(rest: Option<&'a [u8]>) -> Option<(Peer, Draw, &'a [u8])>
     ensures call { call_told result ≡ call_by (three_words_of (pieces_left 32 rest.entry)) }
@@ -154,7 +160,7 @@ fn read_tick<'a>(rest: Option<&'a [u8]>) -> EventParts<'a>
     }
 }
 
-// The number of a front end.
+// Reads the number of a front end.
 #[tactic(auto, using(satip_rtsp::proofs::CseqLemmas::cseq_bounds))]
 fn read_front(word: &[u8]) -> Option<u16>
     ensures front { result ≡ number_of 65535 word.now }
@@ -165,7 +171,7 @@ fn read_front(word: &[u8]) -> Option<u16>
     }
 }
 
-// A space is no digit of a packet, so none is looked for there.
+// Reads the words of a packet's line. A space is no digit, so the digits aren't searched for one.
 #[tactic(auto, using(crate::proofs::WordLemmas::packet_of_rest))]
 fn read_packet_words<'a>(rest: Option<&'a [u8]>) -> EventParts<'a>
     ensures form { form_in result ≡ option_map Other

@@ -1,4 +1,4 @@
-//! The printed run.
+//! Prints the run.
 ghost use Rattle.std.specs.Prelude.{◌≡◌, ◌≤◌, ◌++◌, length, OnOk, OnErr, flat_map};
 ghost use Rattle.hex.specs.Hex.{encode_lower};
 ghost use Rattle.satip_base.specs.Printed.{Printed};
@@ -10,8 +10,8 @@ use crate::front::Front;
 use satip_base::{Address, Out, SessionId, Want};
 use satip_plain::{Answer, Beat, Closed, GetAnswer, Pulled, Replied, Work};
 
-/// Appends the lines of an entry: one for its answer, which shows the reply, and one for each
-/// datagram, in order. Where memory is refused, the text is as it was.
+/// Appends the lines of an entry: one for its answer, which shows the reply, then one for each
+/// datagram, in order. Leaves the text as it was if it is out of memory.
 pub fn print_entry(answer: &Answer, out: &Out, text: &mut Vec<u8>) -> Result<(), Want>
     ensures printed { OnOk result (text.new.items ≡ text.old.items
         ++ entry_text answer.now out.now) }
@@ -154,7 +154,7 @@ fn append_datagram(to: Address, bytes: &[u8], text: &mut Vec<u8>) -> Result<(), 
     append_hex_line(front.bytes(), bytes, text)
 }
 
-// An IPv4 address in dotted decimal.
+// Writes an IPv4 address in dotted decimal.
 #[tactic(auto, using(satip_base::proofs::NumberLemmas::digit_bounds), unfolding(satip_base::specs::Texts::address_text))]
 fn write_address(ip: u32, front: &mut Front)
     requires { length front.old ≤ 9 }
@@ -185,7 +185,7 @@ fn append_hex_line(front: &[u8], bytes: &[u8], text: &mut Vec<u8>) -> Result<(),
     append(b"\n", text)
 }
 
-// The bytes in lower-case hexadecimal digits, some hundred at a time.
+// Appends the bytes in lower-case hexadecimal digits, some hundred at a time.
 fn append_digits(bytes: &[u8], text: &mut Vec<u8>) -> Result<(), Want>
     ensures appended { Appended result text.old.items (encode_lower bytes.now) text.new.items }
 {

@@ -1,4 +1,4 @@
-//! A whole script: checked first, and then read again, event by event.
+//! Reads a whole script: checks it first, and then reads it again, event by event.
 ghost use Rattle.std.specs.Prelude.{◌≡◌, ℕ, ◌∷◌, ◌<◌, [], List, length, Ok, Err, IsNone, IsSome, IfNone, IfSome, MatchOption};
 ghost use Rattle.std.specs.Bool.{OnTrue, OnFalse};
 ghost use Rattle.satip_plain.specs.declared.events.Event.{Event as EventValue};
@@ -12,12 +12,12 @@ use crate::lines::{Line, read_line};
 use crate::messages::says;
 use crate::parts::{EventParts, read_parts};
 use crate::pieces::cut;
-use satip_digits::is_packet;
 use satip_frame::Framer;
 use satip_plain::{Event, known_event};
+use satip_ts::is_packet;
 use std::marker::Model;
 
-/// The number of the first wrong line of a script, from 1; None where each line is right.
+/// Returns the number of a script's first wrong line, from 1, or None if each line is right.
 pub fn check_script(text: &[u8], framer: &mut Framer) -> Option<u64>
     ensures right { IfNone result ((events : List EventValue) × IsScript text.now (Ok events)) }
     ensures wrong { IfSome result (λ number. IsScript text.now (Err number)) }
@@ -35,7 +35,7 @@ pub fn check_script(text: &[u8], framer: &mut Framer) -> Option<u64>
     None
 }
 
-// Whether a line is skipped, is an event, or is wrong.
+// The result of a line's check.
 #[derive(Clone, Copy, Debug, PartialEq, Eq)]
 enum Check {
     Skip,
@@ -56,7 +56,7 @@ fn check_line(line: &[u8], framer: &mut Framer) -> Check
     }
 }
 
-// Whether these are the parts of an event. None is made.
+// Tells whether these are the parts of an event. Builds no event.
 fn is_event(parts: &EventParts, framer: &mut Framer) -> bool
     ensures yes { OnTrue result (IsOfEvent parts.now) }
     ensures no { OnFalse result (AreWrong parts.now) }
@@ -91,7 +91,7 @@ impl<'a> Model for Script<'a> {
 }
 
 impl<'a> Script<'a> {
-    /// All lines of a text.
+    /// Returns all lines of a text.
     pub fn of(text: &'a [u8]) -> Script<'a>
         ensures lines { result ≡ lines_of text.now }
     {
@@ -110,13 +110,13 @@ impl<'a> Script<'a> {
         Some(line)
     }
 
-    /// The next event. None at the end, and at a wrong line, behind which nothing more is read. The
-    /// framer's bytes are lost.
+    /// Returns the next event, or None at the end and at a wrong line. Nothing is read after a
+    /// wrong line. The framer's bytes are lost.
     pub fn next(&mut self, framer: &mut Framer) -> Option<Event>
         ensures over { IfNone result (IsOver self.old) }
         ensures next { IfSome result (λ event. HasNext self.old event self.new) }
 
-        // Where no line is wrong, the events are those of the lines, in their order.
+        // If no line is wrong, returns the events of the lines, in their order.
         ensures given { (events : List EventValue) → Gives self.old events
             → GivenAfter events self.new result }
 
@@ -140,15 +140,15 @@ impl<'a> Script<'a> {
         None
     }
 
-    /// The next event in parts. None at the end. Where its line turns out to be wrong there is no
-    /// next event.
+    /// Returns the next event in parts, or None at the end. If its line turns out to be wrong,
+    /// there is no next event.
     pub fn next_parts(&mut self) -> Option<EventParts<'a>>
         ensures over { IfNone result (IsOver self.old) }
         ensures next { IfSome result (λ parts. (event : EventValue) → AreParts parts event
             → HasNext self.old event self.new) }
         ensures wrong { IfSome result (λ parts. AreWrong parts → IsOver self.old) }
 
-        // Where no line is wrong, the parts are those of the lines' events, in their order.
+        // If no line is wrong, returns the parts of the lines' events, in their order.
         ensures given { (events : List EventValue) → Gives self.old events
             → PartsGivenAfter events self.new result }
 

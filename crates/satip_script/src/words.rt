@@ -1,11 +1,11 @@
-//! The words of a line, and what single words write.
+//! Reads the words of a line, and the values of single words.
 ghost use Rattle.std.specs.Prelude.{◌≡◌, option_map};
 ghost use Rattle.std.specs.Option.{option_copied};
 ghost use Rattle.satip_tune.specs.Pieces.{pieces_left};
 ghost use Rattle.satip_script.specs.Lines.{one_word_of, two_words_of};
 ghost use Rattle.std.specs.Int.{from_be_bytes, w16, w32};
 ghost use Rattle.satip_script.specs.Parts.{draw_of};
-ghost use Rattle.satip_digits.specs.Digits.{sized_bytes};
+ghost use Rattle.satip_ts.specs.Digits.{sized_bytes};
 ghost use Rattle.satip_script.specs.Inner.{pair_now, AreTwoAndRest};
 
 use crate::pieces::cut;
@@ -13,7 +13,7 @@ use satip_base::Draw;
 
 const SPACE: u8 = b' ';
 
-/// The only word of what is left of a line.
+/// Returns the word, if the rest of a line is one word.
 #[tactic(auto, using(crate::proofs::WordLemmas::word_counts), unfolding(crate::specs::Lines::one_word_of))]
 pub(crate) fn one_word<'a>(rest: Option<&'a [u8]>) -> Option<&'a [u8]>
     ensures word { option_copied result ≡ one_word_of (pieces_left 32 rest.entry) }
@@ -27,7 +27,7 @@ pub(crate) fn one_word<'a>(rest: Option<&'a [u8]>) -> Option<&'a [u8]>
     Some(first)
 }
 
-/// The only two words of what is left of a line.
+/// Returns the two words, if the rest of a line is two words.
 #[tactic(auto, using(crate::proofs::WordLemmas::word_counts), unfolding(crate::specs::Lines::two_words_of))]
 pub(crate) fn two_words<'a>(rest: Option<&'a [u8]>) -> Option<(&'a [u8], &'a [u8])>
     ensures words { pair_now result ≡ two_words_of (pieces_left 32 rest.entry) }
@@ -44,8 +44,8 @@ pub(crate) fn two_words<'a>(rest: Option<&'a [u8]>) -> Option<(&'a [u8], &'a [u8
     Some((first, second))
 }
 
-/// The first two words of what is left of a line, and what stands behind them, with any spaces that
-/// it has; None where there is nothing behind them.
+/// Returns the first two words of the rest of a line, and all that follows them, with any spaces in
+/// it. Returns None if nothing follows them.
 #[tactic(auto, unfolding(crate::specs::Lines::three_words_of))]
 pub(crate) fn two_words_and_rest<'a>(
     rest: Option<&'a [u8]>,
@@ -64,7 +64,7 @@ pub(crate) fn two_words_and_rest<'a>(
     Some((first, second, rest))
 }
 
-/// A draw of 20 digits: 8 of its word, 8 of its SSRC, 4 of its first number.
+/// Reads a draw of 20 digits: 8 of its word, 8 of its SSRC, 4 of its first sequence number.
 #[tactic(auto, unfolding(crate::specs::Parts::draw_of))]
 pub(crate) fn read_draw(digits: &[u8]) -> Option<Draw>
     ensures draw { result ≡ draw_of digits.now }

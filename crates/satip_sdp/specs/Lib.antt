@@ -1,1 +1,2 @@
 pub mod Sdp
+pub use Rattle.satip_rtcp.specs as Rtcp

@@ -1,4 +1,4 @@
-//! The lines of a description.
+//! Lines of session descriptions.
 
 ghost use Rattle.std.specs.Prelude.{◌≡◌, ◌≤◌, length};
 ghost use Rattle.satip_sdp.specs.Sdp.{direction_line, head_lines, stream_lines};
@@ -6,7 +6,7 @@ ghost use Rattle.satip_sdp.specs.Sdp.{direction_line, head_lines, stream_lines};
 use satip_base::Strip;
 use satip_rtcp::{StreamView, ses1_text, write_address};
 
-/// The lines of the server: its address and how many front ends it has.
+/// Returns the lines of the server, with its IPv4 address and the number of its front ends.
 #[tactic(auto, using(satip_base::proofs::NumberLemmas::digit_bounds))]
 pub fn head_text(address: u32, fronts: u16) -> Strip
     ensures lines { result ≡ head_lines address fronts }
@@ -24,7 +24,7 @@ pub fn head_text(address: u32, fronts: u16) -> Strip
     strip
 }
 
-/// The lines of a stream.
+/// Returns the lines of a stream.
 #[tactic(auto, using(satip_base::proofs::NumberLemmas::digit_bounds))]
 pub fn stream_text(view: &StreamView) -> Strip
     ensures lines { result ≡ stream_lines view.now }

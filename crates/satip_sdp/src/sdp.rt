@@ -1,4 +1,4 @@
-//! The whole description.
+//! Whole session descriptions.
 
 ghost use Rattle.std.specs.Prelude.{◌≡◌, ◌≤◌, length};
 ghost use Rattle.satip_base.specs.Output.{Wrote};
@@ -8,8 +8,7 @@ use crate::lines::{head_text, stream_text};
 use satip_base::Out;
 use satip_rtcp::StreamView;
 
-/// Appends the description of a server and of its streams, in the order in which they are given, to
-/// the reply.
+/// Appends the session description of a server and its streams, in the order given, to the reply.
 pub fn write_sdp(address: u32, fronts: u16, streams: &[StreamView], out: &mut Out)
     requires few { length streams.now ≤ 64 }
     requires room { 110000 ≤ out.old.reply_spare }
@@ -24,7 +23,7 @@ pub fn write_sdp(address: u32, fronts: u16, streams: &[StreamView], out: &mut Ou
     }
 }
 
-/// How many bytes `write_sdp` appends for these arguments.
+/// Returns the number of bytes that `write_sdp` appends for these arguments.
 pub fn sdp_length(address: u32, fronts: u16, streams: &[StreamView]) -> usize
     requires few { length streams.now ≤ 64 }
     ensures length { result ≡ length (sdp address fronts streams.now) }

@@ -1,10 +1,10 @@
 -- Why serving ended so.
 use Rattle.std.proofs.Common.{◌≡◌, ◌≢◌, ℕ, inl, inr, Bool, true, false, List, [], ◌∷◌, map, sym, subst}
 use Rattle.std.proofs.lemmas.Bool.{false≢true}
-use Rattle.satip_history.specs.Lists.{Each}
+use Rattle.satip_base.specs.Lists.{Each}
 use Rattle.satip_plain.specs.declared.setting.Setting.{Setting}
 use Rattle.satip_plain.specs.Histories.{Item}
-use Rattle.satip_service.specs.Known.{Known}
+use Rattle.satip_plain.specs.Known.{Known}
 use Rattle.satip_turn.specs.Shown.{Cell, Knows}
 use Rattle.satip_world.specs.Halls.{Hall, Return, fresh_hall}
 use Rattle.satip_pump.specs.declared.ends.JobEnd.{JobEnd}
@@ -13,17 +13,17 @@ use Rattle.satip_worker.specs.declared.worker.WorkerEnd.{WorkerEnd}
 use Rattle.satip_worker.specs.declared.worker.WorkerEnd.TheVariants.{Closed, DoorsFault as WorkerDoorsFault, Spent, Want}
 use Rattle.satip_worker.specs.WorkerRun.{WorkerEnds}
 use Rattle.satip_shared.specs.Calling.{ServerPass, known_by}
-use Rattle.satip_crew.specs.declared.end.ServeEnd.{ServeEnd}
-use Rattle.satip_crew.specs.declared.posts.Posts.{Posts}
-use Rattle.satip_crew.specs.declared.seat.Seat.{Seat}
-use Rattle.satip_crew.specs.Crewed.{RunDid}
-use Rattle.satip_crew.specs.Runs.{HasOne, MatchEnd}
-use Rattle.satip_crew.proofs.Ended.{end_follows, end_over}
+use Rattle.satip_jobs.specs.declared.end.ServeEnd.{ServeEnd}
+use Rattle.satip_jobs.specs.declared.posts.Posts.{Posts}
+use Rattle.satip_jobs.specs.declared.seat.Seat.{Seat}
+use Rattle.satip_jobs.specs.Crewed.{RunDid}
+use Rattle.satip_jobs.specs.Runs.{HasOne, MatchEnd}
+use Rattle.satip_jobs.proofs.Ended.{end_follows, end_over}
 use Rattle.satip_serve.specs.Ends.{end_of_worker, end_of_job}
-use Rattle.satip_serve.specs.Views.{WorkerView, PumpView, TickView}
+use Rattle.satip_desk.specs.Views.{WorkerView, PumpView, TickView}
 use Rattle.satip_serve.specs.Deeds.{WorkerDid, PumpDid, TickerDid}
 use Rattle.satip_serve.specs.Done.{IsFull}
-use Rattle.satip_serve.specs.Fresh.{FreshWorker}
+use Rattle.satip_desk.specs.Fresh.{FreshWorker}
 use Rattle.satip_serve.specs.ServeRuns.{HasFault, EndTells}
 use Rattle.satip_serve.specs.Services.{Serves, SeatDid}
 use Rattle.satip_serve.proofs.Finishing.{not_zero}

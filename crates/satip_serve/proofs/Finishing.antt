@@ -2,12 +2,12 @@
 use Rattle.std.proofs.Common.{◌≡◌, ◌≢◌, ℕ, ◌+◌, ◌<◌, ◌≤◌, max, ◌⊎◌, inl, inr, Bool, true, false, List, [], ◌∷◌, ◌++◌, map, Option, None, arith, refl, sym, ap}
 use Rattle.std.proofs.Common.{◌∙◌, subst, ⊎_elim}
 use Rattle.std.proofs.lemmas.Bool.{false≢true}
-use Rattle.satip_history.specs.Lists.{Each}
-use Rattle.satip_history.proofs.Elements.{Each-append, each_follows}
+use Rattle.satip_base.specs.Lists.{Each}
+use Rattle.satip_base.proofs.Elements.{Each-append, each_follows}
 use Rattle.satip_plain.specs.declared.events.Event.TheVariants.{Tick}
 use Rattle.satip_plain.specs.Histories.{Item}
 use Rattle.satip_plain.specs.Pumping.{Asking, Pumps}
-use Rattle.satip_service.specs.Known.{Known, AddsAll}
+use Rattle.satip_plain.specs.Known.{Known, AddsAll}
 use Rattle.satip_turn.specs.Views.{row}
 use Rattle.satip_world.specs.declared.doors.ConnEnd.TheVariants.{Spent as ConnSpent}
 use Rattle.satip_world.specs.Counts.{Rises}
@@ -25,11 +25,11 @@ use Rattle.satip_worker.specs.declared.worker.WorkerEnd.TheVariants.{Closed, Doo
 use Rattle.satip_worker.specs.Drawing.{draw_at}
 use Rattle.satip_worker.specs.Ends.{is_unmade}
 use Rattle.satip_worker.specs.WorkerRun.{ServesAll, WorkerEnds}
-use Rattle.satip_crew.specs.declared.end.ServeEnd.{ServeEnd}
-use Rattle.satip_serve.specs.Views.{WorkerView, PumpView, TickView}
+use Rattle.satip_jobs.specs.declared.end.ServeEnd.{ServeEnd}
+use Rattle.satip_desk.specs.Views.{WorkerView, PumpView, TickView}
 use Rattle.satip_serve.specs.Deeds.{WorkerDid, PumpDid, TickerDid}
 use Rattle.satip_serve.specs.Done.{EndsInTime, WorkerDone, PumpDone, TicksStop, TickerDone}
-use Rattle.satip_serve.specs.Fresh.{FreshPump}
+use Rattle.satip_desk.specs.Fresh.{FreshPump}
 
 -- what a caller without entries has after it made some
 own_after : (k l : Known) (entries : List Item) → AddsAll k l entries → k.own ≡ [] → entries ≡ l.own

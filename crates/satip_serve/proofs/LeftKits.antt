@@ -4,11 +4,11 @@ use Rattle.satip_world.specs.Dials.{Dial}
 use Rattle.satip_world.specs.Halls.{Hall}
 use Rattle.satip_world.specs.Outboxes.{Outbox}
 use Rattle.satip_world.specs.Recordings.{StoreView}
-use Rattle.satip_pump.specs.declared.kits.PumpKit.{PumpKit}
-use Rattle.satip_worker.specs.declared.kits.WorkerKit.{WorkerKit}
-use Rattle.satip_serve.specs.declared.kits.Jobs.{Jobs}
+use Rattle.satip_desk.specs.declared.kits.PumpKit.{PumpKit}
+use Rattle.satip_desk.specs.declared.kits.WorkerKit.{WorkerKit}
+use Rattle.satip_desk.specs.declared.kits.Jobs.{Jobs}
 use Rattle.satip_serve.specs.Ran.{ComeBack}
-use Rattle.satip_serve.specs.Views.{WorkerView, PumpView, TickView, worker_view, pump_view, jobs_view}
+use Rattle.satip_desk.specs.Views.{WorkerView, PumpView, TickView, worker_view, pump_view, jobs_view}
 
 -- the keys of workers, and the recordings of pumps
 keys_seen : {D O P : Type 0} (hall : D → Hall) (outbox : O → Outbox) (kits : List (WorkerKit D O P))

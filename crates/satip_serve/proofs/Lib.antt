@@ -4,3 +4,8 @@ pub mod LeftKits
 pub mod Starting
 pub mod WholeRuns
 pub mod Ended
+pub mod EndLemmas
+pub mod StatusLemmas
+pub mod Quiet
+pub mod PumpPackets
+pub mod ServingRuns

@@ -1,15 +1,15 @@
 -- How the jobs of a server start: its first pass, and fresh kits whose clock is read once.
 use Rattle.std.proofs.Common.{◌≡◌, sym, ap, ◌∙◌, subst, ℕ, List, map}
-use Rattle.satip_history.specs.Lists.{Each}
+use Rattle.satip_base.specs.Lists.{Each}
 use Rattle.satip_plain.specs.declared.setting.Setting.{Setting}
 use Rattle.satip_turn.specs.Shown.{Cell, Shown, first_pass}
 use Rattle.satip_world.specs.Dials.{Dial, Reads}
 use Rattle.satip_shared.specs.Calling.{ServerPass}
-use Rattle.satip_crew.specs.declared.end.ServeEnd.{ServeEnd}
-use Rattle.satip_serve.specs.Fresh.{AreFresh, FreshJobs, FreshPump, FreshTicker, FreshWorker, ReadOnce}
+use Rattle.satip_jobs.specs.declared.end.ServeEnd.{ServeEnd}
+use Rattle.satip_desk.specs.Fresh.{AreFresh, FreshJobs, FreshPump, FreshTicker, FreshWorker, ReadOnce}
 use Rattle.satip_serve.specs.Ran.{JobsRan}
 use Rattle.satip_serve.specs.Services.{IsFirst}
-use Rattle.satip_serve.specs.Views.{WorkerView, PumpView, TickView, JobsView}
+use Rattle.satip_desk.specs.Views.{WorkerView, PumpView, TickView, JobsView}
 
 -- the first pass of a cell is that of caller 0
 pub is_first : {E A O C : Type 0} (p : Shown E A O C) (k : Cell C) → p ≡ first_pass k → IsFirst p

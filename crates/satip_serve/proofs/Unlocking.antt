@@ -1,13 +1,13 @@
 -- Jobs whose outlets were unlocked before they began.
 use Rattle.std.proofs.Common.{◌≡◌, ℕ, List, subst}
 use Rattle.satip_base.specs.Output.{Datagram}
-use Rattle.satip_service.specs.Known.{Known}
+use Rattle.satip_plain.specs.Known.{Known}
 use Rattle.satip_world.specs.Deliveries.{Delivers}
 use Rattle.satip_world.specs.Outboxes.{Outbox, unlocked}
 use Rattle.satip_world.proofs.DeliveryLemmas.{delivers_unlocked}
-use Rattle.satip_crew.specs.declared.end.ServeEnd.{ServeEnd}
+use Rattle.satip_jobs.specs.declared.end.ServeEnd.{ServeEnd}
 use Rattle.satip_serve.specs.Deeds.{WorkerDid, PumpDid, TickerDid}
-use Rattle.satip_serve.specs.Views.{WorkerView, PumpView, TickView}
+use Rattle.satip_desk.specs.Views.{WorkerView, PumpView, TickView}
 
 -- what was sent since
 delivers_since : (tells : Type 0) (o q n : Outbox) (all : List Datagram) → q ≡ unlocked o → Delivers tells q n all → Delivers tells o n all

@@ -1,23 +1,23 @@
 -- What all jobs did over a service of the server is a serve run.
 use Rattle.std.proofs.Common.{◌≡◌, ℕ, ◌⊎◌, inl, inr, Bool, List, [], ◌∷◌, map, refl, sym, ap, ◌∙◌, subst, length}
-use Rattle.satip_history.specs.Lists.{Each}
+use Rattle.satip_base.specs.Lists.{Each}
 use Rattle.satip_plain.specs.declared.events.Event.TheVariants.{Stop}
 use Rattle.satip_plain.specs.declared.setting.Setting.{Setting}
 use Rattle.satip_plain.specs.Histories.{Item, Legal}
-use Rattle.satip_service.specs.Known.{Known}
+use Rattle.satip_plain.specs.Known.{Known}
 use Rattle.satip_turn.specs.Shown.{Cell, Knows}
 use Rattle.satip_shared.specs.Calling.{ServerPass, known_by}
-use Rattle.satip_crew.specs.declared.end.ServeEnd.{ServeEnd}
-use Rattle.satip_crew.specs.declared.posts.Posts.{Posts}
-use Rattle.satip_crew.specs.declared.seat.Seat.{Seat}
-use Rattle.satip_crew.specs.Crewed.{RunDid}
-use Rattle.satip_crew.specs.Runs.{StopsOnce as CrewStops, HasNoStop as CrewStopsNever, Run}
-use Rattle.satip_crew.specs.Works.{IsSameSeat}
-use Rattle.satip_crew.proofs.WholeRuns.{run_over}
-use Rattle.satip_serve.specs.Views.{WorkerView, PumpView, TickView}
+use Rattle.satip_jobs.specs.declared.end.ServeEnd.{ServeEnd}
+use Rattle.satip_jobs.specs.declared.posts.Posts.{Posts}
+use Rattle.satip_jobs.specs.declared.seat.Seat.{Seat}
+use Rattle.satip_jobs.specs.Crewed.{RunDid}
+use Rattle.satip_jobs.specs.Runs.{StopsOnce as CrewStops, HasNoStop as CrewStopsNever, Run}
+use Rattle.satip_jobs.specs.Works.{IsSameSeat}
+use Rattle.satip_jobs.proofs.WholeRuns.{run_over}
+use Rattle.satip_desk.specs.Views.{WorkerView, PumpView, TickView}
 use Rattle.satip_serve.specs.Deeds.{WorkerDid, PumpDid, TickerDid}
 use Rattle.satip_serve.specs.Done.{Caller, IsFull, WorkerDone, PumpDone, TickerDone}
-use Rattle.satip_serve.specs.Fresh.{FreshWorker, FreshPump, FreshJobs, ReadOnce}
+use Rattle.satip_desk.specs.Fresh.{FreshWorker, FreshPump, FreshJobs, ReadOnce}
 use Rattle.satip_serve.specs.ServeRuns.{StopsOnce, HasNoStop, ServeRun}
 use Rattle.satip_serve.specs.Services.{Serves, SeatDid, IsFirst}
 use Rattle.satip_serve.proofs.Finishing.{worker_done, pump_done, ticker_done}

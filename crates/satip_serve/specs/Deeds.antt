@@ -1,38 +1,37 @@
--- What one job did to its kit and to what it knows of the history, over a service that always has memory.
+-- The effect of one job on its kit and on its knowledge of the history, over a service that never returns out of memory.
 use Rattle.std.specs.Prelude.{◌≡◌, ℕ, ◌+◌, ◌≤◌, max, false}
 use Rattle.satip_world.specs.Recordings.{StoreView}
 use Rattle.satip_base.specs.declared.limits.TheConstants.{LONGEST_HISTORY}
-use Rattle.satip_service.specs.Known.{Known}
+use Rattle.satip_plain.specs.Known.{Known}
 use Rattle.satip_pump.specs.declared.ends.JobEnd.{JobEnd}
 use Rattle.satip_pump.specs.declared.ends.JobEnd.TheVariants.{Spent as JobSpent, Want as JobWant}
 use Rattle.satip_pump.specs.PumpRuns.{PumpRun}
 use Rattle.satip_pump.specs.TickRuns.{TickRun}
-use Rattle.satip_pump.specs.declared.kits.PumpKit.{PumpKit}
-use Rattle.satip_pump.specs.declared.kits.TickKit.{TickKit}
+use Rattle.satip_desk.specs.declared.kits.PumpKit.{PumpKit}
+use Rattle.satip_desk.specs.declared.kits.TickKit.{TickKit}
 use Rattle.satip_world.specs.Dials.{Dial}
 use Rattle.satip_world.specs.Halls.{Hall}
 use Rattle.satip_world.specs.Outboxes.{Outbox}
-use Rattle.satip_worker.specs.declared.kits.WorkerKit.{WorkerKit}
+use Rattle.satip_desk.specs.declared.kits.WorkerKit.{WorkerKit}
 use Rattle.satip_worker.specs.declared.worker.WorkerEnd.{WorkerEnd}
 use Rattle.satip_worker.specs.Progress.{Stage}
 use Rattle.satip_worker.specs.WorkerRun.{ServesDoors}
-use Rattle.satip_crew.specs.declared.end.ServeEnd.{ServeEnd}
+use Rattle.satip_jobs.specs.declared.end.ServeEnd.{ServeEnd}
 use Rattle.satip_serve.specs.Ends.{end_of_worker, end_of_job}
-use Rattle.satip_serve.specs.Views.{WorkerView, PumpView, TickView, worker_view, pump_view, tick_view}
+use Rattle.satip_desk.specs.Views.{WorkerView, PumpView, TickView, worker_view, pump_view, tick_view}
 
--- a service that knows this and always has memory, and an outlet
+-- a service that knows this and never returns out of memory, and an outlet
 abbrev pub never_wanting : Known → Outbox → Stage
 never_wanting known outbox = record { may_want = false; known = known; outbox = outbox }
 
--- a worker served the connections that came by its doors, with this stream of its key
+-- a worker served the connections that arrived at its doors, with this stream of its key
 pub record WorkerDid (conn_tells outlet_tells : Type 0) (number : ℕ) (o : WorkerView) (k : Known) (n : WorkerView) (l : Known) (end : ServeEnd) : Type 0 where
   pub ended : WorkerEnd
   pub end_is : end ≡ end_of_worker ended
   pub key : n.key ≡ o.key
   pub serves : ServesDoors conn_tells outlet_tells o.key number (never_wanting k o.outbox) (never_wanting l n.outbox) o.hall n.hall ended
 
--- a pump asked and fed the packets of recordings for the front end of this number, and handed back each source that its
--- store lent, one at a time
+-- a pump asked, and gave the packets of recordings for the front end of this number. It handed back each source that its store lent, one at a time
 pub record PumpDid (outlet_tells : Type 0) (number : ℕ) (o : PumpView) (k : Known) (n : PumpView) (l : Known) (end : ServeEnd) : Type 0 where
   pub ended : JobEnd
   pub end_is : end ≡ end_of_job ended
@@ -51,7 +50,7 @@ pub record TickerDid (outlet_tells : Type 0) (o : TickView) (k : Known) (n : Tic
   pub spent : ended ≡ JobSpent → l.length ≡ LONGEST_HISTORY
   pub memory : ended ≡ JobWant → ⊥
 
--- these deeds as relations of kits
+-- these effects as relations of kits
 abbrev pub worker_deed : {D O P : Type 0} → (conn_tells outlet_tells : Type 0) → (D → Hall) → (O → Outbox) → ℕ → WorkerKit D O P → Known → WorkerKit D O P → Known → ServeEnd → Type 0
 worker_deed conn_tells outlet_tells hall outbox number o k n l end =
     WorkerDid conn_tells outlet_tells number (worker_view hall outbox o) k (worker_view hall outbox n) l end

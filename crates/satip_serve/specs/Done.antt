@@ -1,8 +1,8 @@
--- What each job of a serve run has done when all have ended.
+-- The work of each job of a serve run when all have ended.
 use Rattle.std.specs.Prelude.{◌≡◌, ◌≢◌, ℕ, ◌≤◌, ◌⊎◌, true, List, [], ◌∷◌, ◌++◌, map, length, Some, None}
 use Rattle.satip_base.specs.declared.limits.TheConstants.{LONGEST_HISTORY}
 use Rattle.satip_base.specs.Output.{Output}
-use Rattle.satip_history.specs.Lists.{Each}
+use Rattle.satip_base.specs.Lists.{Each}
 use Rattle.satip_plain.specs.declared.answers.Answer.{Answer}
 use Rattle.satip_plain.specs.declared.answers.Answer.TheVariants.{Work as WorkIs}
 use Rattle.satip_plain.specs.declared.answers.Work.TheVariants.{Stopping}
@@ -20,23 +20,22 @@ use Rattle.satip_pump.specs.TickRuns.{IsGoing, StopsLast}
 use Rattle.satip_pump.specs.Events.{datagrams_of}
 use Rattle.satip_worker.specs.Drawing.{draw_at}
 use Rattle.satip_worker.specs.WorkerRun.{ServesAll, arrival_of}
-use Rattle.satip_serve.specs.Views.{WorkerView, PumpView, TickView}
+use Rattle.satip_desk.specs.Views.{WorkerView, PumpView, TickView}
 
 -- a caller of the server: its number and its entries
 abbrev pub Caller : Type 0
 Caller = Row Event Answer Output
 
--- the history has as many entries as one ever has
+-- the history is full: it has the largest number of entries
 abbrev pub IsFull : List Item → Type 0
 IsFull h = length h ≡ LONGEST_HISTORY
 
--- no connection met want of memory, and one met a full history only where it is full
+-- the connection didn't end by out of memory, and by a full history only if it is full
 abbrev pub EndsInTime : (full : Type 0) → Return → Type 0
 EndsInTime full r = (r.end ≢ Want) × (r.end ≡ Spent → full)
 
--- a worker: its doors have this limit, and they ended or failed, or the history is full. What came by them was handed
--- back, in order; its entries are those of these connections, with the draws of its key and its number; its outlet was
--- given their datagrams
+-- a worker: its doors have this limit, and they ended or failed, or the history is full. Each connection that arrived was handed back, in order. The worker's
+-- entries are those of these connections, with the draws of its key and its number, and its outlet was given their datagrams
 pub record WorkerDone (conn_tells outlet_tells full : Type 0) (accepts number : ℕ) (worker : WorkerView) (caller : Caller) : Type 0 where
   pub limit : worker.hall.limit ≡ accepts
   pub ended : (worker.hall.ended ≡ true) ⊎ ((worker.hall.faults ≢ 0) ⊎ full)
@@ -48,9 +47,8 @@ pub record WorkerDone (conn_tells outlet_tells full : Type 0) (accepts number : 
   pub in_time : Each (EndsInTime full) connections
   pub sent : Delivers outlet_tells fresh_outbox worker.outbox (datagrams_of caller.own)
 
--- the pump of a front end: its entries ask and give packets of its store's recordings, and the last was answered that the
--- service stops, or the history is full. At most as many recordings ended early as its store failed; each source that the
--- store lent was handed back, and at most one was out at a time
+-- the pump of a front end: its entries ask, and give packets of its store's recordings. The last answer says that the service stops, or the history is full. At
+-- most as many recordings ended early as its store failed. Each source that the store lent was handed back, and at most one was out at a time
 pub record PumpDone (outlet_tells full : Type 0) (front : ℕ) (pump : PumpView) (caller : Caller) : Type 0 where
   pub due : Due
   pub early : ℕ
@@ -61,11 +59,11 @@ pub record PumpDone (outlet_tells full : Type 0) (front : ℕ) (pump : PumpView)
   pub one_at_a_time : pump.peak ≤ 1
   pub sent : Delivers outlet_tells fresh_outbox pump.outbox (datagrams_of caller.own)
 
--- the ticks stopped with the service, or the history is full, and the last reading has no tick
+-- the ticks stopped with the service. Or the history is full, and the last reading has no tick
 abbrev pub TicksStop : (full : Type 0) → List Item → List ℕ → Type 0
 TicksStop full entries unmade = (StopsLast entries × (unmade ≡ [])) ⊎ (full × Each IsGoing entries × ((moment : ℕ) × (unmade ≡ moment ∷ [])))
 
--- the ticker: its clock was read at the start, and then for each of its entries, which are ticks at these moments
+-- the ticker: its clock was read once at the start, and then once for each tick; its entries are ticks at these moments
 pub record TickerDone (outlet_tells full : Type 0) (start : ℕ) (ticker : TickView) (caller : Caller) : Type 0 where
   pub moments : List ℕ
   pub unmade : List ℕ

@@ -1,9 +1,13 @@
 pub mod Ends
-pub mod Views
 pub mod Deeds
 pub mod Done
 pub mod ServeRuns
 pub mod Services
-pub mod Fresh
 pub mod Spaces
 pub mod Ran
+pub mod Laws
+pub mod Servings
+pub mod Statuses
+pub mod CommandRan
+pub mod CommandEnds
+pub mod JobViews

@@ -1,17 +1,17 @@
--- What jobs need that are to run over a server, and what their run comes to.
+-- The premises of a run of jobs over a server, and the outcome of the run.
 use Rattle.std.specs.Prelude.{◌≡◌, ℕ, List, map, length}
 use Rattle.satip_plain.specs.declared.setting.Setting.{Setting}
 use Rattle.satip_plain.specs.Histories.{Legal}
 use Rattle.satip_turn.specs.Shown.{Cell, IsOf, Knows}
 use Rattle.satip_shared.specs.Calling.{ServerPass}
-use Rattle.satip_crew.specs.declared.end.ServeEnd.{ServeEnd}
-use Rattle.satip_crew.specs.Passes.{ItemOf, PassOf}
-use Rattle.satip_serve.specs.declared.kits.Jobs.{Jobs}
+use Rattle.satip_jobs.specs.declared.end.ServeEnd.{ServeEnd}
+use Rattle.satip_jobs.specs.Passes.{ItemOf, PassOf}
+use Rattle.satip_desk.specs.declared.kits.Jobs.{Jobs}
 use Rattle.satip_serve.specs.ServeRuns.{ServeRun, EndTells}
 use Rattle.satip_serve.specs.Services.{IsFirst}
-use Rattle.satip_serve.specs.Views.{WorkerView, PumpView, JobsView}
+use Rattle.satip_desk.specs.Views.{WorkerView, PumpView, JobsView}
 
--- the first pass of a server whose histories are legal so, and as many kits as its setting says
+-- the first pass of a server whose histories are legal so, and the number of kits that its setting says
 pub record CanRun {E A D O P M C : Type 0} (legal : Setting → List (ItemOf E A) → Type 0) (server : Cell Setting) (pass : PassOf E A)
     (jobs : Jobs D O P M C) : Type 0 where
   pub of : IsOf pass server
@@ -20,21 +20,20 @@ pub record CanRun {E A D O P M C : Type 0} (legal : Setting → List (ItemOf E A
   pub workers : length jobs.workers.items ≡ server.setting.config.workers
   pub pumps : length jobs.pumps.items ≡ length server.setting.config.fronts
 
--- kits that jobs left are those that were given, each at its place: the worker's has its key, the pump's its recordings
+-- the kits that jobs left have the workers' keys and the pumps' recordings of those that were given, in order
 pub record ComeBack (given left : JobsView) : Type 0 where
   pub keys : map (λ (w : WorkerView). w.key) left.workers ≡ map (λ (w : WorkerView). w.key) given.workers
   pub recordings : map (λ (p : PumpView). p.recording) left.pumps ≡ map (λ (p : PumpView). p.recording) given.pumps
 
--- jobs ran in this setting: the kits that were given and that are left, and the pass by then. The kits come back, each at
--- its place. Where they were as new as this it was a serve run, and all doors ended, or those of a worker failed, or the
--- history is full
+-- jobs ran in this setting with the given kits, up to this pass, and left these kits. If the given kits were new (`AreNew`), it was a serve run, and all doors
+-- ended, those of a worker failed, or the history is full
 pub record JobsRan (conn_tells outlet_tells : Type 0) (AreNew : ℕ → JobsView → Type 0) (c : Setting) (given : JobsView) (pass : ServerPass)
     (left : JobsView) (end : ServeEnd) : Type 0 where
   pub kits_left : ComeBack given left
   pub run : (accepts : ℕ) → AreNew accepts given → ServeRun conn_tells outlet_tells c accepts pass.seen pass.kept left.workers left.pumps left.ticker
   pub ended : (accepts : ℕ) → AreNew accepts given → EndTells end pass.seen left.workers
 
--- jobs ran so over this server, of which this is a pass
+-- jobs ran so over this server, and `pass` is a pass of it
 pub record HaveRun (conn_tells outlet_tells : Type 0) (AreNew : ℕ → JobsView → Type 0) (server : Cell Setting) (given : JobsView) (pass : ServerPass)
     (left : JobsView) (end : ServeEnd) : Type 0 where
   pub of : IsOf pass server

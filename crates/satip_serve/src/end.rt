@@ -1,13 +1,13 @@
-//! How jobs end whose service always has memory.
+//! The ends of jobs over a service that never returns out of memory.
 
 ghost use Rattle.std.specs.Prelude.{◌≡◌};
 ghost use Rattle.satip_serve.specs.Ends.{end_of_worker, end_of_job};
 
-use satip_crew::ServeEnd;
+use satip_jobs::ServeEnd;
 use satip_pump::JobEnd;
 use satip_worker::WorkerEnd;
 
-// How the job of a worker ended.
+// Returns how the job of a worker ended.
 pub(crate) fn tell_worker(end: WorkerEnd) -> ServeEnd
     ensures end { result ≡ end_of_worker end }
 {
@@ -19,7 +19,7 @@ pub(crate) fn tell_worker(end: WorkerEnd) -> ServeEnd
     }
 }
 
-// How the job of a pump or of the ticker ended.
+// Returns how the job of a pump or of the ticker ended.
 pub(crate) fn tell_job(end: JobEnd) -> ServeEnd
     ensures end { result ≡ end_of_job end }
 {

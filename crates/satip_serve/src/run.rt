@@ -5,32 +5,30 @@ ghost use Rattle.std.specs.Thread.{IsSync};
 ghost use Rattle.satip_base.specs.Output.{Output};
 ghost use Rattle.satip_turn.specs.Shown.{Knows};
 ghost use Rattle.satip_worker.specs.declared.room.Room.{Room};
-ghost use Rattle.satip_crew.specs.Crewed.{RunDid};
-ghost use Rattle.satip_crew.specs.Crews.{IsSpace};
+ghost use Rattle.satip_jobs.specs.Crewed.{RunDid};
+ghost use Rattle.satip_jobs.specs.Crews.{IsSpace};
 ghost use Rattle.satip_serve.specs.declared.seat.PumpRoom.{PumpRoom};
 ghost use Rattle.satip_serve.specs.Deeds.{worker_deed, pump_deed, ticker_deed};
-ghost use Rattle.satip_serve.specs.Fresh.{FreshJobs};
+ghost use Rattle.satip_desk.specs.Fresh.{FreshJobs};
 ghost use Rattle.satip_serve.specs.Ran.{JobsRan};
 ghost use Rattle.satip_serve.specs.Services.{Serves, NeverWants, SeatDid, IsFirst};
-ghost use Rattle.satip_serve.specs.Views.{posts_view};
+ghost use Rattle.satip_serve.specs.JobViews.{posts_view};
 
 use crate::seat::{PumpRoom, pump_seat, tick_seat, work_seat};
 use crate::space::ServeSpace;
 use satip_base::Out;
-use satip_crew::{Crew, Posts, Seat, ServeEnd, run_jobs};
-use satip_plain::{Answer, Event};
-use satip_pump::{PumpKit, TickKit};
-use satip_service::Service;
-use satip_worker::{Room, WorkerKit};
+use satip_desk::{PumpKit, TickKit, WorkerKit};
+use satip_jobs::{Crew, Posts, Seat, ServeEnd, run_jobs};
+use satip_plain::{Answer, Event, Service};
+use satip_worker::Room;
 use satip_world::{Clock, Doors, MuxStore, Outlet, Pacer};
 use std::sync::Wait;
 use std::thread::Threads;
 
-/// Serves with all jobs beside each other: workers, pumps in the order of front ends, and the
-/// ticker. Each job is a caller of its own, split off from `root`, caller 0, with its gear. When
-/// all workers have ended their callers are joined, and caller 0 makes the one stop, while pumps
-/// and ticker still run; when these have ended they are joined too. Callers are joined in the order
-/// of jobs. Kits and gears come back in that order. It waits.
+/// Runs all jobs in parallel: workers, pumps in the order of front ends, and the ticker. Splits off
+/// a caller from `root`, caller 0, for each job, with its gear. After the last worker it joins the
+/// workers' callers, and caller 0 submits the one stop while pumps and ticker still run. Then it
+/// joins theirs. Callers are joined, and kits and gears come back, in the order of jobs. Blocks.
 pub fn run_services<
     R: Threads + Wait + Sync,
     X: Service + Crew<Asks = Event, Answers = Answer> + Send + Drop,
@@ -62,7 +60,7 @@ pub fn run_services<
     ensures cell { X.cell result.0 ≡ X.cell root }
     ensures knows { Knows (X.Crew.legal (X.cell root).setting) (X.pass result.0) }
 
-    // what each job did, and what came back of callers and gears
+    // the work of each job, and the callers and gears that came back
     ensures did { RunDid X.cell X.pass X.gear X.Crew.legal X.is_stop X.goes_on
         {L = Room} {M = PumpRoom} {N = Output}
         (SeatDid X.same X.known (worker_deed D.Conn.tells O.tells D.hall O.outbox))
@@ -70,8 +68,8 @@ pub fn run_services<
         (SeatDid X.same X.known (ticker_deed O.tells C.dial O.outbox))
         root posts result.0 result.1 result.2 }
 
-    // the kits come back in their order; where they were fresh, and the clock was read once, for
-    // the start, it was a serve run
+    // the workers' keys and the pumps' recordings come back in order; it was a serve run if the
+    // kits were fresh, but for one reading of the clock for the start
     ensures ran { JobsRan D.Conn.tells O.tells (FreshJobs (X.cell root).setting.start)
         (X.cell root).setting (posts_view D.hall O.outbox M.shelf C.dial posts)
         (X.pass result.0) (posts_view D.hall O.outbox M.shelf C.dial result.1) result.2 }

@@ -1,15 +1,16 @@
 //! Jobs at their seats, over any service.
 
 ghost use Rattle.std.specs.Prelude.{◌≡◌, false};
-ghost use Rattle.satip_serve.specs.Views.{worker_view, pump_view, tick_view};
+ghost use Rattle.satip_desk.specs.Views.{worker_view, pump_view, tick_view};
 ghost use Rattle.satip_serve.specs.Deeds.{WorkerDid, PumpDid, TickerDid};
 
 use crate::work::{pump, tick, work};
 use satip_base::Out;
-use satip_crew::Seat;
-use satip_pump::{Batch, PumpKit, TickKit};
-use satip_service::Service;
-use satip_worker::{Room, WorkerKit};
+use satip_desk::{PumpKit, TickKit, WorkerKit};
+use satip_jobs::Seat;
+use satip_plain::Service;
+use satip_pump::Batch;
+use satip_worker::Room;
 use satip_world::{Clock, Doors, MuxStore, Outlet, Pacer};
 use std::sync::Wait;
 
@@ -20,7 +21,7 @@ pub struct PumpRoom {
     pub batch: Batch,
 }
 
-/// Does the work of a worker, whose number is the stream of its draws. It waits.
+/// Does the work of a worker; its number is the stream of its draws. Blocks.
 pub fn work_seat<R: Wait + Sync, X: Service, D: Doors, O: Outlet, P: Pacer>(
     rt: &R,
     seat: &mut Seat<X, WorkerKit<D, O, P>, Room>,
@@ -32,7 +33,7 @@ pub fn work_seat<R: Wait + Sync, X: Service, D: Doors, O: Outlet, P: Pacer>(
         (worker_view D.hall O.outbox seat.old.kit) (X.known seat.old.caller)
         (worker_view D.hall O.outbox seat.new.kit) (X.known seat.new.caller) seat.new.end }
 {
-    // No job begins with its lock held.
+    // The job begins with the outlet's lock free.
     seat.kit.outlet.unlock();
     let end = work(
         rt,
@@ -44,7 +45,7 @@ pub fn work_seat<R: Wait + Sync, X: Service, D: Doors, O: Outlet, P: Pacer>(
     seat.end = end;
 }
 
-/// Does the work of the pump of the front end of the seat's number. It waits.
+/// Does the work of the pump of the front end with the seat's number. Blocks.
 pub fn pump_seat<R: Wait + Sync, X: Service, M: MuxStore, O: Outlet, P: Pacer>(
     rt: &R,
     seat: &mut Seat<X, PumpKit<M, O, P>, PumpRoom>,
@@ -56,7 +57,7 @@ pub fn pump_seat<R: Wait + Sync, X: Service, M: MuxStore, O: Outlet, P: Pacer>(
         (pump_view M.shelf O.outbox seat.old.kit) (X.known seat.old.caller)
         (pump_view M.shelf O.outbox seat.new.kit) (X.known seat.new.caller) seat.new.end }
 {
-    // No job begins with its lock held.
+    // The job begins with the outlet's lock free.
     seat.kit.outlet.unlock();
     let end = pump(
         rt,
@@ -69,7 +70,7 @@ pub fn pump_seat<R: Wait + Sync, X: Service, M: MuxStore, O: Outlet, P: Pacer>(
     seat.end = end;
 }
 
-/// Does the work of the ticker. It waits.
+/// Does the work of the ticker. Blocks.
 pub fn tick_seat<R: Wait + Sync, X: Service, C: Clock, O: Outlet, P: Pacer>(
     rt: &R,
     seat: &mut Seat<X, TickKit<C, O, P>, Out>,
@@ -81,7 +82,7 @@ pub fn tick_seat<R: Wait + Sync, X: Service, C: Clock, O: Outlet, P: Pacer>(
         (tick_view C.dial O.outbox seat.old.kit) (X.known seat.old.caller)
         (tick_view C.dial O.outbox seat.new.kit) (X.known seat.new.caller) seat.new.end }
 {
-    // No job begins with its lock held.
+    // The job begins with the outlet's lock free.
     seat.kit.outlet.unlock();
     let end = tick(rt, &mut seat.caller, &mut seat.kit, &mut seat.room);
     seat.end = end;

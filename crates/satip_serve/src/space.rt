@@ -4,9 +4,10 @@ ghost use Rattle.std.specs.Prelude.{◌≡◌, ◌≤◌, [], length, vec_capaci
 
 use crate::seat::PumpRoom;
 use satip_base::{Out, Want, with_room};
-use satip_crew::Space;
-use satip_pump::{Batch, PumpKit};
-use satip_worker::{Room, WorkerKit};
+use satip_desk::{PumpKit, WorkerKit};
+use satip_jobs::Space;
+use satip_pump::Batch;
+use satip_worker::Room;
 use std::alloc::Global;
 
 /// The memory of workers, pumps and the ticker.
@@ -29,7 +30,7 @@ fn make_rooms(alloc: Global, count: usize) -> Result<Vec<Room>, Want>
     Ok(rooms)
 }
 
-/// Rooms that so many pumps work in. `Want` where memory was refused.
+/// Returns the rooms of `count` pumps, or `Want` if memory was refused.
 pub fn make_pump_rooms(alloc: Global, count: usize) -> Result<Vec<PumpRoom>, Want>
     ensures count { IfOk result (λ rooms. length rooms.items ≡ count) }
 {
@@ -42,8 +43,7 @@ pub fn make_pump_rooms(alloc: Global, count: usize) -> Result<Vec<PumpRoom>, Wan
     Ok(rooms)
 }
 
-/// What the callers of so many jobs have beside the right to call, where that is nothing. `Want`
-/// where memory was refused.
+/// Returns the gears of `count` callers, if a gear is nothing, or `Want` if memory was refused.
 pub fn make_gears(alloc: Global, count: usize) -> Result<Vec<()>, Want>
     ensures count { IfOk result (λ gears. length gears.items ≡ count) }
 {
@@ -54,8 +54,8 @@ pub fn make_gears(alloc: Global, count: usize) -> Result<Vec<()>, Want>
     Ok(gears)
 }
 
-/// All memory that so many workers and pumps take, beside their kits and what their callers have.
-/// `Want` where it was refused.
+/// Takes the memory of all workers and pumps, apart from their kits and gears. Returns `Want` if it
+/// was refused.
 pub fn take_space<X: Drop, D: Drop, O: Drop, P: Drop, M: Drop>(
     alloc: Global,
     workers: usize,
@@ -69,11 +69,11 @@ pub fn take_space<X: Drop, D: Drop, O: Drop, P: Drop, M: Drop>(
     ensures pump_space { IfOk result (λ space. pumps ≤ vec_capacity space.pumps) }
 {
     Ok(Space {
-        worker_rooms: make_rooms(alloc, workers)?,
         workers: with_room(alloc, workers)?,
-        pump_rooms: make_pump_rooms(alloc, pumps)?,
         pumps: with_room(alloc, pumps)?,
         ticker_room: Out::make(alloc)?,
         stop_out: Out::make(alloc)?,
+        pump_rooms: make_pump_rooms(alloc, pumps)?,
+        worker_rooms: make_rooms(alloc, workers)?,
     })
 }

@@ -1,19 +1,20 @@
 //! The work of each job, over a service.
 
 ghost use Rattle.std.specs.Prelude.{◌≡◌, false};
-ghost use Rattle.satip_serve.specs.Views.{worker_view, pump_view, tick_view};
+ghost use Rattle.satip_desk.specs.Views.{worker_view, pump_view, tick_view};
 ghost use Rattle.satip_serve.specs.Deeds.{WorkerDid, PumpDid, TickerDid};
 
 use crate::end::{tell_job, tell_worker};
 use satip_base::Out;
-use satip_crew::ServeEnd;
-use satip_pump::{Batch, PumpKit, TickKit, run_pump, run_ticker};
-use satip_service::Service;
-use satip_worker::{Room, WorkerKit, run_worker};
+use satip_desk::{PumpKit, TickKit, WorkerKit};
+use satip_jobs::ServeEnd;
+use satip_plain::Service;
+use satip_pump::{Batch, run_pump, run_ticker};
+use satip_worker::{Room, run_worker};
 use satip_world::{Clock, Doors, MuxStore, Outlet, Pacer};
 use std::sync::Wait;
 
-// The work of the worker of a number, which is the stream of its draws.
+// Does the work of a worker; its number is the stream of its draws.
 pub(crate) fn work<R: Wait + Sync, S: Service, D: Doors, O: Outlet, P: Pacer>(
     rt: &R,
     service: &mut S,
@@ -32,7 +33,7 @@ pub(crate) fn work<R: Wait + Sync, S: Service, D: Doors, O: Outlet, P: Pacer>(
     tell_worker(end)
 }
 
-// The work of the pump of a front end, by its number.
+// Does the work of the pump of the front end with this number.
 pub(crate) fn pump<R: Wait + Sync, S: Service, M: MuxStore, O: Outlet, P: Pacer>(
     rt: &R,
     service: &mut S,
@@ -51,7 +52,7 @@ pub(crate) fn pump<R: Wait + Sync, S: Service, M: MuxStore, O: Outlet, P: Pacer>
     tell_job(end)
 }
 
-// The work of the ticker.
+// Does the work of the ticker.
 pub(crate) fn tick<R: Wait + Sync, S: Service, C: Clock, O: Outlet, P: Pacer>(
     rt: &R,
     service: &mut S,

@@ -1,7 +1,7 @@
 //! The command `serve` whose doors fail, or whose desk gives no kits.
 
 ghost use Rattle.std.specs.Prelude.{◌≡◌, None, IfOk};
-ghost use Rattle.satip_serving.specs.Handed.{nothing_handed};
+ghost use Rattle.satip_desk.specs.Handed.{nothing_handed};
 
 use crate::shared::{MemoryWorker, ONE_WORKER, SERVE, bare_desk, desk, kits, run, worker_at};
 use satip_memory::MemoryDoors;

@@ -1,5 +1,4 @@
-//! Runs of the whole program over memory, of `serve`, `journal` and `tunnel`. It has nothing but
-//! tests.
+//! Tests `serve`, `journal` and `tunnel` by the top call, with jobs that wait for each other.
 #![tactic(auto)]
 
 #[cfg(test)]
@@ -15,7 +14,7 @@ mod reel;
 #[cfg(test)]
 mod refused;
 #[cfg(test)]
-mod serving;
+mod serve_and_journal;
 #[cfg(test)]
 mod shared;
 #[cfg(test)]

@@ -1,7 +1,7 @@
 //! The command `serve` with two workers, over memory, which may be refused.
 
 ghost use Rattle.std.specs.Prelude.{◌≡◌, None, IfOk};
-ghost use Rattle.satip_serving.specs.Handed.{nothing_handed};
+ghost use Rattle.satip_desk.specs.Handed.{nothing_handed};
 
 use crate::outcomes::Outcome;
 use crate::shared::{SERVE, desk, kits, run, worker};

@@ -2,18 +2,19 @@
 //! jobs.
 
 ghost use Rattle.std.specs.Prelude.{◌≡◌, map, true, None, IfOk};
-ghost use Rattle.satip_history.specs.Lists.{Each};
+ghost use Rattle.satip_base.specs.Lists.{Each};
 ghost use Rattle.satip_memory.specs.Shelves.{empty_shelf};
 ghost use Rattle.satip_memory_desk.specs.Drawers.{AreNewKits};
-ghost use Rattle.satip_serve.specs.Fresh.{FreshWorker};
-ghost use Rattle.satip_serve.specs.Views.{worker_view};
-ghost use Rattle.satip_serving.specs.Handed.{nothing_handed};
+ghost use Rattle.satip_desk.specs.Fresh.{FreshWorker};
+ghost use Rattle.satip_desk.specs.Views.{worker_view};
+ghost use Rattle.satip_desk.specs.Handed.{nothing_handed};
 ghost use Rattle.satip_world.specs.Dials.{fresh_dial};
 ghost use Rattle.satip_world.specs.Halls.{Hall, fresh_hall};
 ghost use Rattle.satip_world.specs.Outboxes.{Outbox, fresh_outbox};
 
 use crate::outcomes::Outcome;
 use satip_base::{Text, Want};
+use satip_desk::{Desk, Jobs, PumpKit, TickKit, WorkerKit};
 use satip_fixtures::CLIENT;
 use satip_fixtures::texts::OPTIONS_REPLY;
 use satip_memory::{
@@ -21,9 +22,7 @@ use satip_memory::{
     MemoryStore,
 };
 use satip_memory_desk::{MemoryDesk, MemoryJobs};
-use satip_program::{Desk, Ended, Jobs, satip};
-use satip_pump::{PumpKit, TickKit};
-use satip_worker::WorkerKit;
+use satip_program::{Ended, satip};
 use satip_world::{ConnEnd, DoorKind};
 use std::alloc::Global;
 use std::process::Abort;

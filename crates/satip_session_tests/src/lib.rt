@@ -1,5 +1,4 @@
-//! Sets of PIDs, deadlines, front ends, and the table of sessions and streams, by example. It has
-//! nothing but tests.
+//! Tests PID sets, deadlines, front ends and the table of sessions and streams.
 #![tactic(auto)]
 
 #[cfg(test)]

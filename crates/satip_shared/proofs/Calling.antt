@@ -3,17 +3,17 @@ use Rattle.std.proofs.Common.{◌≡◌, ◌∙◌, ℕ, ◌<◌, ◌≤◌, Boo
 use Rattle.std.specs.Prelude.{◌⊎◌, ◌↔◌, IsSome}
 use Rattle.std.proofs.Math.Nat.{eq-or-lt_of_le}
 use Rattle.satip_base.specs.Output.{Output}
-use Rattle.satip_history.specs.declared.entry.Taken.{Taken}
-use Rattle.satip_history.specs.History.{entry, entries}
+use Rattle.satip_base.specs.declared.entry.Taken.{Taken}
+use Rattle.satip_base.specs.History.{entry, entries}
 use Rattle.satip_plain.specs.declared.answers.Answer.{Answer}
 use Rattle.satip_plain.specs.declared.events.Event.{Event}
 use Rattle.satip_plain.specs.declared.setting.Setting.{Setting}
 use Rattle.satip_plain.specs.Histories.{Item, Legal}
-use Rattle.satip_service.specs.declared.fault.ServiceFault.{ServiceFault}
-use Rattle.satip_service.specs.declared.fault.ServiceFault.TheVariants.{Spent}
-use Rattle.satip_service.specs.Calls.{Made, Bursts, BurstEnds}
-use Rattle.satip_service.proofs.Growing.{all_among, among_behind}
-use Rattle.satip_service.proofs.Suiting.{last_suits, lasts_suit}
+use Rattle.satip_plain.specs.declared.fault.ServiceFault.{ServiceFault}
+use Rattle.satip_plain.specs.declared.fault.ServiceFault.TheVariants.{Spent}
+use Rattle.satip_plain.specs.Calls.{Made, Bursts, BurstEnds}
+use Rattle.satip_plain.proofs.Growing.{all_among, among_behind}
+use Rattle.satip_plain.proofs.Suiting.{last_suits, lasts_suit}
 use Rattle.satip_turn.specs.Shown.{Turned, Bursts as CellBursts}
 use Rattle.satip_shared.specs.Calling.{ServerPass, known_by}
 

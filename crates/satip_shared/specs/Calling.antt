@@ -1,4 +1,4 @@
--- What a caller of the shared server knows, and what stays the same.
+-- What a caller of the shared server knows, and what its calls leave the same.
 use Rattle.std.specs.Prelude.{◌≡◌, length, refl}
 use mathlib.Core.Path.{ap, ◌∙◌}
 use Rattle.satip_base.specs.Output.{Output}
@@ -6,13 +6,13 @@ use Rattle.satip_plain.specs.declared.answers.Answer.{Answer}
 use Rattle.satip_plain.specs.declared.events.Event.{Event}
 use Rattle.satip_plain.specs.declared.setting.Setting.{Setting}
 use Rattle.satip_turn.specs.Shown.{Cell, Shown, Keeps}
-use Rattle.satip_service.specs.Known.{Known}
+use Rattle.satip_plain.specs.Known.{Known}
 
 -- a pass of the shared server, as contracts see it
 abbrev pub ServerPass : Type 0
 ServerPass = Shown Event Answer Output Setting
 
--- what the pass has seen, its own entries, and how many entries of the history it has seen
+-- the entries that the pass has seen, its own entries, and the count of those seen
 abbrev pub known_by : ServerPass → Known
 known_by p = record { seen = p.seen; own = p.own; length = length p.seen }
 
@@ -21,6 +21,7 @@ pub record SameCaller (k : Cell Setting) (p : ServerPass) (l : Cell Setting) (q 
   pub server : l ≡ k
   pub pass : Keeps p q
 
+-- the relation is reflexive and transitive, and keeps the setting
 pub same_caller : (k : Cell Setting) (p : ServerPass) → SameCaller k p k p
 same_caller k p = record { server = refl; pass = record { number = refl; kept = refl; made = refl } }
 

@@ -1,4 +1,4 @@
--- That a pass is of a cell has one proof at most.
+-- A fact with at most one proof: that a pass belongs to a cell.
 use Rattle.std.proofs.Props.{props}
 use Rattle.satip_base.specs.Output.{Output}
 use Rattle.satip_plain.specs.declared.answers.Answer.{Answer}

@@ -8,12 +8,11 @@ ghost use Rattle.satip_shared.specs.Single.{of_prop};
 use crate::feeding::Feeding;
 use crate::server::{SharedPass, SharedServer};
 use satip_base::{Out, Spent};
-use satip_plain::{Answer, Event};
-use satip_service::{Lot, Service, ServiceFault};
+use satip_plain::{Answer, Event, Lot, Service, ServiceFault};
 use std::sync::Wait;
 
-/// One caller of the shared server: its pass is of its server's cell. Each call waits for the turn.
-/// It never answers `Want`.
+/// One caller of the shared server. Its pass is of its server's cell. Each call waits for the turn.
+/// It never returns `Want`.
 #[derive(Drop)]
 pub struct Caller<'a, R: Wait + Sync> {
     pub rt: &'a R,

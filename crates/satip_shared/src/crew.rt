@@ -6,7 +6,7 @@ ghost use Rattle.satip_shared.specs.Calling.{SameCaller};
 
 use crate::caller::Caller;
 use satip_base::{Out, Spent};
-use satip_crew::{Crew, ServeEnd};
+use satip_jobs::{Crew, ServeEnd};
 use satip_plain::{Answer, Event};
 use std::sync::Wait;
 
@@ -48,7 +48,8 @@ impl<'a, R: Wait + Sync> Crew for Caller<'a, R> {
         self.server.join(&mut self.pass, pass);
     }
 
-    /// Makes the event `Stop`. It waits.
+    /// Executes the event `Stop`. Waits for the turn. Returns `HistoryFull` if the history has no
+    /// room for it.
     fn stop(&mut self, out: &mut Out) -> ServeEnd {
         match self.server.call(self.rt, &mut self.pass, &Event::Stop, out) {
             Ok(_) => ServeEnd::Served,

@@ -1,10 +1,9 @@
-//! The events of a lot, as a burst of the cell is fed with them.
+//! Feeds a burst of the cell with the events of a lot.
 ghost use Rattle.std.specs.Prelude.{◌≡◌, refl};
 
 use satip_base::Out;
 use satip_core::Server;
-use satip_plain::{Answer, Event};
-use satip_service::Lot;
+use satip_plain::{Answer, Event, Lot};
 use satip_turn::Feed;
 
 /// A lot that feeds a burst.
@@ -18,7 +17,7 @@ impl<'a, L: Lot> Feed<Server> for Feeding<'a, L> {
 
     ghost ended = { λ f. L.ended f.lot.now };
 
-    // and it still has the same lot
+    // and the lot is still the same
     ghost has_taken = { λ f g ts. (g.lot.ghost_name ≡ f.lot.ghost_name)
         × L.has_taken f.lot.now g.lot.now ts };
 

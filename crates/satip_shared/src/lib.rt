@@ -1,4 +1,6 @@
-//! The server that threads share: all calls stand in one history of the plain server.
+//! Shares the one-thread server among threads, by the turn cell; a caller of it is a service.
+//! Contract: all calls of all callers are in one legal history of the plain server. A caller never
+//! returns out of memory.
 #![tactic(auto)]
 
 mod caller;

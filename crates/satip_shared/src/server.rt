@@ -10,15 +10,15 @@ use satip_core::Server;
 use satip_turn::{Pass, TurnCell};
 use std::alloc::Global;
 
-/// The server behind a turn cell. Many threads call it through a `&`, one at a time, and all their
-/// calls stand in one history, which is legal in the server's setting.
+/// The server in a turn cell. Many threads call it through a `&`, one at a time. All their calls
+/// are in one history, which is legal in the server's setting.
 pub type SharedServer = TurnCell<Server>;
 
 /// The right to call the shared server as one caller, and what that caller knows of the history.
 pub type SharedPass = Pass<Server>;
 
-/// The shared server before its first event, and the pass of caller 0. The clock stands at this
-/// moment, in milliseconds of Unix time. `Want` where memory was refused.
+/// Creates the shared server before its first event, and the pass of caller 0. `start` is the
+/// clock's time, in milliseconds of Unix time. Returns `Want` if out of memory.
 pub fn make(alloc: Global, config: Config, start: u64) -> Result<(SharedServer, SharedPass), Want>
     requires few { length config.fronts ≤ 16 }
     requires numbered { IsNumbered 1 config.fronts }

@@ -7,9 +7,9 @@ use Rattle.satip_world.proofs.DeliveryLemmas.{delivers_none}
 use Rattle.satip_plain.specs.Pumping.{Finished}
 use Rattle.satip_serve.specs.Done.{Caller, IsFull, WorkerDone, PumpDone, TickerDone}
 use Rattle.satip_sharing_tests.specs.Examples.{AskedRun, ask_by, asked_history, asking_pump, caller_of, front_setting, pump_with, stop_by, tick_by, ticker_at, told_ticker, worker_with}
-use Rattle.satip_serve.specs.Fresh.{FreshPump}
+use Rattle.satip_desk.specs.Fresh.{FreshPump}
 use Rattle.satip_serve.specs.ServeRuns.{Along}
-use Rattle.satip_serve.specs.Views.{PumpView}
+use Rattle.satip_desk.specs.Views.{PumpView}
 
 asked_legal : Legal front_setting asked_history
 asked_legal = record {

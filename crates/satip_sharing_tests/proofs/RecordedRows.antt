@@ -1,6 +1,6 @@
 -- What the worked rows of the recording law come to.
 use Rattle.std.proofs.Common.{◌≡◌, ℕ, ◌<◌, ◌&&◌, if◌then◌else◌, Bool, true, false, List, [], ◌∷◌, ◌++◌, length, arith, refl, ap, length-append}
-use Rattle.satip_history.specs.Lists.{Begins}
+use Rattle.satip_base.specs.Lists.{Begins}
 use Rattle.satip_plain.specs.Histories.{Item}
 
 -- a test that fails whatever the tuning number is

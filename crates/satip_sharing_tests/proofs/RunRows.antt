@@ -8,7 +8,7 @@ use Rattle.satip_world.proofs.DeliveryLemmas.{delivers_none}
 use Rattle.satip_serve.specs.Done.{Caller, IsFull, WorkerDone, TickerDone}
 use Rattle.satip_sharing_tests.specs.Examples.{SmallRun, caller_of, idle_worker, small_history, small_setting, small_ticker, stop_by, tick_by, ticker_at, worker_with}
 use Rattle.satip_serve.specs.ServeRuns.{Along}
-use Rattle.satip_serve.specs.Views.{WorkerView}
+use Rattle.satip_desk.specs.Views.{WorkerView}
 use Rattle.satip_sharing_tests.proofs.StopRows.{two_are_not_one}
 
 small_legal : Legal small_setting small_history

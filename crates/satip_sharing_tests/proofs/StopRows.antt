@@ -1,6 +1,6 @@
 -- Which small histories have one stop, and why the others don't.
 use Rattle.std.proofs.Common.{◌≡◌, ◌++◌, ℕ, List, [], ◌∷◌, refl, sym, subst}
-use Rattle.satip_history.specs.History.{own_of}
+use Rattle.satip_base.specs.History.{own_of}
 use Rattle.satip_plain.specs.declared.answers.Beat.TheVariants.{Going, Stopping}
 use Rattle.satip_plain.specs.declared.events.Event.TheVariants.{Close, Stop, Tick}
 use Rattle.satip_plain.specs.Histories.{Item}

@@ -1,7 +1,7 @@
 -- Worked runs of one worker and the ticker, without front ends or with one.
 use Rattle.std.specs.Prelude.{◌≡◌, ℕ, ◌+◌, Bool, true, List, [], ◌∷◌, None}
 use Rattle.satip_base.specs.Output.{empty}
-use Rattle.satip_history.specs.History.{entry}
+use Rattle.satip_base.specs.History.{entry}
 use Rattle.satip_plain.specs.declared.answers.Answer.TheVariants.{Beat as BeatIs, Closed, Work as WorkIs}
 use Rattle.satip_plain.specs.declared.answers.Beat.{Beat}
 use Rattle.satip_plain.specs.declared.answers.Beat.TheVariants.{Going, Stopping}
@@ -16,7 +16,7 @@ use Rattle.satip_turn.specs.Views.{row}
 use Rattle.satip_world.specs.Outboxes.{fresh_outbox}
 use Rattle.satip_serve.specs.Done.{Caller}
 use Rattle.satip_serve.specs.ServeRuns.{ServeRun}
-use Rattle.satip_serve.specs.Views.{WorkerView, PumpView, TickView}
+use Rattle.satip_desk.specs.Views.{WorkerView, PumpView, TickView}
 
 -- entries of a caller: the stop, a tick at a moment, and the end of a connection whose session is gone
 abbrev pub stop_by : ℕ → Item

@@ -2,7 +2,7 @@
 use Rattle.std.specs.Prelude.{ℕ, List, [], Option, Some}
 use Rattle.satip_plain.specs.Examples.{packet_of}
 use Rattle.satip_world.specs.Outboxes.{fresh_outbox}
-use Rattle.satip_serve.specs.Views.{PumpView}
+use Rattle.satip_desk.specs.Views.{PumpView}
 
 abbrev pub pump_with : (ℕ → Option (List ℕ)) → PumpView
 pump_with recording = record { recording = recording; faults = 0; lent = 0; peak = 0; outbox = fresh_outbox }

@@ -9,8 +9,7 @@ mod threads;
 
 use satip_base::Out;
 use satip_fixtures::{FIRST_MUX, config_with};
-use satip_plain::{Answer, Beat, Event, Work};
-use satip_service::Service;
+use satip_plain::{Answer, Beat, Event, Service, Work};
 use satip_shared::{Caller, SharedPass, SharedServer, make};
 use std::alloc::Global;
 use std::sync::Wait;

@@ -1,12 +1,15 @@
-//! Jobs beside each other, callers of the shared server, and rows of the words of a serve run. It
-//! has nothing but tests.
+//! Tests the turn cell, jobs in parallel, callers of the shared server, worked serve runs.
 #![tactic(auto)]
 
 #[cfg(test)]
 mod callers;
+#[cfg(test)]
+mod counter;
 #[cfg(test)]
 mod jobs;
 #[cfg(test)]
 mod recorded;
 #[cfg(test)]
 mod serving;
+#[cfg(test)]
+mod threads;

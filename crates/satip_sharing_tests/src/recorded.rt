@@ -3,7 +3,7 @@ ghost use Rattle.std.specs.Prelude.{◌≡◌, [], ◌∷◌};
 ghost use Rattle.satip_laws.specs.Examples.{setting, history};
 ghost use Rattle.satip_plain.specs.Examples.{packet, play, setup};
 ghost use Rattle.satip_sharing_tests.specs.Stores.{pump_with, empty_recordings, recordings_of};
-ghost use Rattle.satip_serving.specs.Laws.{EachAt, PlaysRecordings};
+ghost use Rattle.satip_serve.specs.Laws.{EachAt, PlaysRecordings};
 
 // Places are counted from the number that is given.
 fn places_are_counted()

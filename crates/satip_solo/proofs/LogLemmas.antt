@@ -1,9 +1,9 @@
 -- What a call adds to a log, and what its caller then knows.
 use Rattle.std.proofs.Common.{◌≡◌, ℕ, Bool, true, false, if◌then◌else◌, List, [], ◌∷◌, ◌++◌, length, append-nil, refl, sym, ◌∙◌, ap, subst, Option, Some, None, IfSome, Result, Ok, Err, MatchResult}
 use Rattle.satip_base.specs.Output.{Output}
-use Rattle.satip_history.specs.declared.entry.Taken.{Taken}
-use Rattle.satip_history.specs.History.{entry, own_of, taken}
-use Rattle.satip_history.proofs.Owned.{own_of-append, own_of-push_same}
+use Rattle.satip_base.specs.declared.entry.Taken.{Taken}
+use Rattle.satip_base.specs.History.{entry, own_of, taken}
+use Rattle.satip_base.proofs.Owned.{own_of-append, own_of-push_same}
 use Rattle.satip_plain.specs.declared.answers.Answer.{Answer}
 use Rattle.satip_plain.specs.declared.answers.Answer.TheVariants.{Beat as AnswerBeat}
 use Rattle.satip_plain.specs.declared.answers.Beat.{Beat}
@@ -11,12 +11,12 @@ use Rattle.satip_plain.specs.declared.answers.Beat.TheVariants.{Stopping}
 use Rattle.satip_plain.specs.declared.events.Event.{Event}
 use Rattle.satip_plain.specs.declared.events.Event.TheVariants.{Stop}
 use Rattle.satip_plain.specs.Histories.{Item, Legal, after}
-use Rattle.satip_service.specs.declared.fault.ServiceFault.{ServiceFault}
-use Rattle.satip_service.specs.declared.fault.ServiceFault.TheVariants.{Want}
-use Rattle.satip_service.specs.Known.{Adds}
-use Rattle.satip_service.specs.Calls.{Called, Cause}
-use Rattle.satip_service.specs.Suits.{Suits}
-use Rattle.satip_service.proofs.Suiting.{last_suits}
+use Rattle.satip_plain.specs.declared.fault.ServiceFault.{ServiceFault}
+use Rattle.satip_plain.specs.declared.fault.ServiceFault.TheVariants.{Want}
+use Rattle.satip_plain.specs.Known.{Adds}
+use Rattle.satip_plain.specs.Calls.{Called, Cause}
+use Rattle.satip_plain.specs.Suits.{Suits}
+use Rattle.satip_plain.proofs.Suiting.{last_suits}
 use Rattle.satip_core.specs.Held.{Held}
 use Rattle.satip_core.specs.Serving.{StandsAfter, Steps}
 use Rattle.satip_core.proofs.HistoryLemmas.{stands_more}

@@ -1,8 +1,8 @@
--- What a service of one thread keeps, and what a call adds to it.
+-- The log of a service of one thread, and the entries that a call adds to it.
 use Rattle.std.specs.Prelude.{◌≡◌, ◌==◌, if◌then◌else◌, ℕ, Bool, true, false, List, [], ◌∷◌, ◌++◌, length, Option, Some, None}
 use Rattle.satip_base.specs.Output.{Output}
-use Rattle.satip_history.specs.declared.entry.Taken.{Taken}
-use Rattle.satip_history.specs.History.{entry, own_of}
+use Rattle.satip_base.specs.declared.entry.Taken.{Taken}
+use Rattle.satip_base.specs.History.{entry, own_of}
 use Rattle.satip_plain.specs.declared.answers.Answer.{Answer}
 use Rattle.satip_plain.specs.declared.answers.Answer.TheVariants.{Beat as AnswerBeat}
 use Rattle.satip_plain.specs.declared.answers.Beat.TheVariants.{Stopping}
@@ -10,9 +10,9 @@ use Rattle.satip_plain.specs.declared.events.Event.{Event}
 use Rattle.satip_plain.specs.declared.events.Event.TheVariants.{Stop}
 use Rattle.satip_plain.specs.declared.setting.Setting.{Setting}
 use Rattle.satip_plain.specs.Histories.{Item}
-use Rattle.satip_service.specs.Known.{Known}
+use Rattle.satip_plain.specs.Known.{Known}
 
--- what the server was made with, each entry of its history, and before which call, from 0, the Stop is yet to come
+-- the server's setting, each entry of its history, and the call, from 0, before which the Stop is due
 pub record Log : Type 0 where
   pub setting : Setting
   pub entries : List Item
@@ -35,12 +35,12 @@ is_at (Some at) calls = at == calls
 abbrev pub is_due : Log → Bool
 is_due k = is_at k.stop (length (own_of 0 k.entries))
 
--- the entries that come before a call's own: where it is due, a Stop of caller 1
+-- the entries before a call's own: if it is due, a Stop of caller 1
 abbrev pub Before : Bool → List Item → Type 0
 Before false before = before ≡ []
 Before true before = (out : Output) × (before ≡ entry 1 Stop (AnswerBeat Stopping) out ∷ [])
 
--- a call was made: the Stop where it was due, and then the event, of caller 0
+-- a call was executed: the Stop if it was due, and then the event, of caller 0
 pub record Goes (k : Log) (event : Event) (answer : Answer) (out : Output) (l : Log) : Type 0 where
   pub before : List Item
   pub stops : Before (is_due k) before
@@ -48,7 +48,7 @@ pub record Goes (k : Log) (event : Event) (answer : Answer) (out : Output) (l : 
   pub then_stop : l.stop ≡ (if is_due k then None else k.stop)
   pub same_setting : l.setting ≡ k.setting
 
--- these calls were made one after another
+-- these calls were executed one after another
 abbrev pub GoesOn : Log → List (Taken Event Answer Output) → Log → Type 0
 GoesOn k [] l = k ≡ l
 GoesOn k (t ∷ ts) l = (m : Log) × Goes k t.event t.answer t.out m × GoesOn m ts l

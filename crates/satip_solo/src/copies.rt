@@ -1,10 +1,10 @@
-//! Copies of what an event writes.
+//! Copies the output of an event.
 ghost use Rattle.std.specs.Prelude.{◌≡◌, ◌≢◌, ◌<◌, ◌≤◌, length, IsSomeAnd, slice_get};
 ghost use Rattle.satip_base.specs.Output.{Sends, empty};
 
 use satip_base::Out;
 
-/// Writes the same reply and datagrams into an `Out` that has nothing.
+/// Writes the same reply and datagrams into an empty `Out`.
 pub(crate) fn copy_out(from: &Out, to: &mut Out)
     requires cleared { to.old ≡ empty }
     ensures same { to.new ≡ from.now }

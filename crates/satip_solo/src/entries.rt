@@ -1,23 +1,22 @@
-//! The entries of a history, kept as they are made.
+//! Keeps the entries of a history.
 ghost use Rattle.std.specs.Prelude.{◌≡◌, ◌+◌, ◌<◌, ◌≤◌, ◌∷◌, ◌++◌, if◌then◌else◌, [], List, length, vec_len, vec_capacity, IfSome, IsTrue, true, false, None};
 ghost use Rattle.satip_base.specs.Output.{empty};
-ghost use Rattle.satip_history.specs.History.{entry};
+ghost use Rattle.satip_base.specs.History.{entry};
 ghost use Rattle.satip_plain.specs.Histories.{Item};
 ghost use Rattle.satip_core.specs.Serving.{StandsAfter};
 ghost use Rattle.satip_solo.specs.Log.{is_at};
 ghost use Rattle.satip_solo.specs.Inside.{Stopped};
 
 use crate::copies::copy_out;
-use satip_base::Out;
+use satip_base::{Entry, Out, Served};
 use satip_core::Server;
-use satip_history::{Entry, Served};
-use satip_plain::{Answer, Beat, Event};
-use satip_service::copy_of;
+use satip_plain::{Answer, Beat, Event, copy_of};
 use std::alloc::Global;
 
 pub(crate) type Entries = Vec<Entry<Event, Answer, Out>>;
 
-/// Makes room for two entries, and for what one of them writes.
+/// Makes room for two entries, and for the output of one of them. Returns None if it is out of
+/// memory.
 pub(crate) fn reserve(alloc: Global, entries: &mut Entries) -> Option<Out>
     ensures same { entries.new.items ≡ entries.old.items }
     ensures room { IfSome result (λ room. room ≡ empty) }
@@ -33,7 +32,7 @@ pub(crate) fn reserve(alloc: Global, entries: &mut Entries) -> Option<Out>
     }
 }
 
-// Keeps an entry in the room that was made for it.
+// Keeps an entry in the room that was reserved for it.
 fn keep(entries: &mut Entries, entry: Entry<Event, Answer, Out>)
     requires places { vec_len entries.old < vec_capacity entries.old }
     ensures kept { entries.new.items ≡ entries.old.items ++ entry ∷ [] }
@@ -43,7 +42,7 @@ fn keep(entries: &mut Entries, entry: Entry<Event, Answer, Out>)
     entries.push_reserved(entry);
 }
 
-/// Makes an event of caller 0, and keeps its entry in the room.
+/// Executes an event of caller 0, and keeps its entry in the room.
 pub(crate) fn enter(
     server: &mut Server,
     entries: &mut Entries,
@@ -72,7 +71,7 @@ pub(crate) fn enter(
     answer
 }
 
-// Makes the Stop of caller 1, and keeps its entry in the room.
+// Executes the Stop of caller 1, and keeps its entry in the room.
 fn enter_stop(server: &mut Server, entries: &mut Entries, mut room: Out)
     requires places { vec_len entries.old < vec_capacity entries.old }
     ensures stopped { Stopped true server.old entries.old.items server.new entries.new.items }
@@ -91,7 +90,7 @@ fn enter_stop(server: &mut Server, entries: &mut Entries, mut room: Out)
     );
 }
 
-// Whether the Stop comes before the call with this number.
+// Tells whether the Stop comes before the call with this number.
 fn is_due(stop: Option<u64>, calls: usize) -> bool
     ensures due { result ≡ is_at stop calls }
 {
@@ -101,7 +100,7 @@ fn is_due(stop: Option<u64>, calls: usize) -> bool
     }
 }
 
-/// Makes the Stop of caller 1 where its call has come. `false` where memory was refused.
+/// Executes the Stop of caller 1 if it is due. Returns false if it is out of memory.
 pub(crate) fn stop_where_due(
     alloc: Global,
     server: &mut Server,

@@ -7,13 +7,12 @@ ghost use Rattle.satip_solo.specs.Log.{Goes, new_log};
 use crate::entries::{Entries, enter, reserve, stop_where_due};
 use satip_base::Out;
 use satip_core::Server;
-use satip_plain::{Answer, Event};
-use satip_service::ServiceFault;
+use satip_plain::{Answer, Event, ServiceFault};
 use std::alloc::Global;
 use std::marker::Model;
 
-/// A server that stands for the entries that were made, and the number of the call before which the
-/// Stop is yet to come.
+/// A server after the entries of its history, and the number of the call before which the Stop is
+/// due.
 #[derive(Drop)]
 pub(crate) struct History {
     alloc: Global,
@@ -38,7 +37,7 @@ impl Model for History {
 }
 
 impl History {
-    /// The empty history.
+    /// Creates the empty history.
     pub(crate) fn new(alloc: Global, server: Server, stop: Option<u64>) -> History
         requires fresh { StandsAfter server [] }
         ensures new { result ≡ new_log server.setting stop }
@@ -52,14 +51,14 @@ impl History {
         }
     }
 
-    /// The entries, oldest first.
+    /// Returns the entries, oldest first.
     pub(crate) fn entries(&self) -> &Entries
         ensures entries { result.now.items ≡ self.now.entries }
     {
         &self.entries
     }
 
-    /// Makes an event of caller 0, and keeps its entry. The memory for it is taken first.
+    /// Executes an event of caller 0, and keeps its entry. The memory for it is taken first.
     pub(crate) fn make(&mut self, event: &Event, out: &mut Out) -> Result<Answer, ServiceFault>
         ensures made { MatchResult result
             (λ answer. Goes self.old event.now answer out.new self.new)

@@ -4,15 +4,13 @@ ghost use Rattle.satip_plain.specs.Histories.{Legal};
 ghost use Rattle.satip_plain.specs.Single.{legal_prop};
 
 use crate::history::History;
-use satip_base::{Out, Want};
+use satip_base::{Entry, Out, Want};
 use satip_core::Server;
-use satip_history::Entry;
-use satip_plain::{Answer, Event};
-use satip_service::{Lot, Service, ServiceFault};
+use satip_plain::{Answer, Event, Lot, Service, ServiceFault};
 use std::alloc::Global;
 
-/// A server that one caller speaks to, and each entry of its history. The calls are caller 0's; one
-/// Stop may come of caller 1. Each event of a burst counts as a call.
+/// A server with one caller, and each entry of its history. The calls are those of caller 0; one
+/// Stop may be that of caller 1. Each event of a burst counts as a call.
 #[derive(Drop)]
 pub struct Solo {
     history: History,
@@ -27,8 +25,8 @@ impl Solo {
     ghost use Rattle.satip_solo.specs.Log.{new_log};
     ghost use Rattle.satip_solo.specs.Solos.{log_of};
 
-    /// A service over a server that stands for the empty history. Just before the call of this
-    /// number, from 0, caller 1 makes a Stop.
+    /// Creates a service over a server with the empty history. Just before the call of this number,
+    /// from 0, caller 1 executes a Stop.
     pub fn make(alloc: Global, server: Server, stop: Option<u64>) -> Result<Solo, Want>
         requires fresh { StandsAfter server [] }
         ensures ok { IfOk result (λ solo. log_of solo ≡ new_log server.setting stop) }
@@ -38,7 +36,7 @@ impl Solo {
         })
     }
 
-    /// The entries, oldest first.
+    /// Returns the entries, oldest first.
     pub fn entries(&self) -> &[Entry<Event, Answer, Out>]
         ensures entries { result.now ≡ (log_of self.now).entries }
     {
@@ -50,10 +48,10 @@ impl Service for Solo {
     ghost use Rattle.std.proofs.Common.{◌∙◌};
     ghost use Rattle.std.specs.Prelude.{true, false, refl, List, None, MatchResult, IfErr};
     ghost use Rattle.satip_base.specs.Output.{Output};
-    ghost use Rattle.satip_history.specs.declared.entry.Taken.{Taken};
+    ghost use Rattle.satip_base.specs.declared.entry.Taken.{Taken};
     ghost use Rattle.satip_plain.specs.declared.answers.Answer.{Answer as Answered};
     ghost use Rattle.satip_plain.specs.declared.events.Event.{Event as Happening};
-    ghost use Rattle.satip_service.specs.Calls.{Called, Bursts};
+    ghost use Rattle.satip_plain.specs.Calls.{Called, Bursts};
     ghost use Rattle.satip_solo.specs.Log.{Goes, GoesOn, known_of};
     ghost use Rattle.satip_solo.specs.Solos.{log_of};
 
@@ -79,8 +77,8 @@ impl Service for Solo {
 
     ghost same_want = { λ _ _ _. refl };
 
-    /// Makes the event as caller 0, behind the Stop of caller 1 where its call has come. Where
-    /// memory is refused, neither was made.
+    /// Executes the event as caller 0, after the Stop of caller 1 if that is due. Out of memory,
+    /// neither is executed.
     fn call(&mut self, event: &Event, out: &mut Out) -> Result<Answer, ServiceFault>
         ensures same { (log_of self.new).setting ≡ (log_of self.old).setting }
         ensures called { Called true (known_of (log_of self.old)) (known_of (log_of self.new))
@@ -92,8 +90,8 @@ impl Service for Solo {
         self.history.make(event, out)
     }
 
-    /// Makes the events of the lot as calls one after another. Where memory is refused, the event
-    /// that the lot gave last wasn't made. Memory is refused before a history is full.
+    /// Executes the events of the lot as calls one after another. The only fault is out of memory;
+    /// the last event that the lot gave isn't executed then.
     fn burst<L: Lot>(&mut self, lot: &mut L, out: &mut Out) -> Result<(), ServiceFault>
         requires open { L.ended lot.old ≡ false }
         requires none { L.given lot.old ≡ None }

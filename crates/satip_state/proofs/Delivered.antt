@@ -6,8 +6,8 @@ use Rattle.std.proofs.lemmas.Bool.{and_parts}
 use Rattle.satip_base.specs.Output.{Output}
 use Rattle.satip_base.specs.declared.identity.SessionId.{SessionId}
 use Rattle.satip_rtp.specs.Sending.{SendsAll}
-use Rattle.satip_history.specs.Lists.{Each, Has}
-use Rattle.satip_history.proofs.Elements.{each_has}
+use Rattle.satip_base.specs.Lists.{Each, Has}
+use Rattle.satip_base.proofs.Elements.{each_has}
 use Rattle.satip_table.specs.declared.session.Seat.{Seat}
 use Rattle.satip_table.specs.Living.{Sound}
 use Rattle.satip_fronts.specs.FrontEnds.{Sound as FrontsSound}

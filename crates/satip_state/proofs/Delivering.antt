@@ -9,7 +9,7 @@ use Rattle.std.proofs.lemmas.Simd.{map-map}
 use Rattle.satip_base.specs.Output.{Datagram}
 use Rattle.satip_ts.specs.Packet.{pid_of}
 use Rattle.satip_pids.specs.Pids.{has_pid}
-use Rattle.satip_history.specs.Lists.{Each, Has}
+use Rattle.satip_base.specs.Lists.{Each, Has}
 use Rattle.satip_table.specs.Living.{Sound}
 use Rattle.satip_flow.specs.Subscription.{Subscription, fed, fed_datagrams, given_datagrams}
 use Rattle.satip_flow.specs.Subscription.{given as fed_one, is_at as stands_at}

@@ -5,7 +5,7 @@ use Rattle.std.specs.List.{list_any, slice_get, filter_map, flat_map, cons_optio
 use Rattle.std.specs.Option.{option_map, option_flatten}
 use Rattle.std.proofs.lemmas.Bool.{or_parts, eqb-true, eqb-false}
 use Rattle.std.proofs.lemmas.List.{map-append}
-use Rattle.satip_history.specs.Lists.{Each, Has}
+use Rattle.satip_base.specs.Lists.{Each, Has}
 use Rattle.satip_table.specs.declared.session.Seat.{Seat}
 use Rattle.satip_table.specs.declared.stream.Stream.{Stream as StreamRow}
 use Rattle.satip_table.specs.Sessions.{has_id_of, is_in, without}

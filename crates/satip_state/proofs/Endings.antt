@@ -2,7 +2,7 @@
 use Rattle.std.proofs.Common.{◌≡◌, ◌||◌, ◌==◌, ℕ, not, Bool, true, false, cond, List, [], ◌∷◌, ◌++◌, filter, Some, refl, sym, ap, ◌∙◌, inl, inr}
 use Rattle.std.specs.List.{list_any, flat_map}
 use Rattle.std.proofs.lemmas.Bool.{true≢false}
-use Rattle.satip_history.specs.Lists.{Has}
+use Rattle.satip_base.specs.Lists.{Has}
 use Rattle.satip_plain.specs.State.{Session, Stream, Row, State, is_at, change_where}
 use Rattle.satip_plain.specs.Sending.{Sent}
 use Rattle.satip_plain.specs.Streams.{sweep, freed}

@@ -5,7 +5,7 @@ use Rattle.std.specs.List.{list_any, slice_get}
 use Rattle.std.specs.Option.{option_map}
 use Rattle.std.proofs.lemmas.Bool.{or_parts, or_cases, and_parts, eqb-true, true≢false, le-leb, lt-leb, cases_Bool, and_from}
 use Rattle.std.proofs.lemmas.Option.{same_Some}
-use Rattle.satip_history.specs.Lists.{Has}
+use Rattle.satip_base.specs.Lists.{Has}
 use Rattle.satip_table.specs.declared.session.Seat.{Seat}
 use Rattle.satip_table.specs.Sessions.{has_id_of, has_slot}
 use Rattle.satip_table.specs.Living.{Sound, SlotsApart}

@@ -7,7 +7,7 @@ use Rattle.satip_plain.proofs.SameIds.{same_id_is}
 use Rattle.satip_base.specs.Output.{Output}
 use Rattle.satip_base.specs.declared.identity.SessionId.{SessionId}
 use Rattle.satip_rtp.specs.Sending.{SendsAll}
-use Rattle.satip_history.proofs.Elements.{each_at}
+use Rattle.satip_base.proofs.Elements.{each_at}
 use Rattle.satip_table.specs.declared.session.Seat.{Seat}
 use Rattle.satip_table.specs.Sessions.{has_id_of, without}
 use Rattle.satip_table.specs.Streams.{is_live, kept_streams}

@@ -36,3 +36,4 @@ pub mod Pumping
 pub mod Marking
 pub mod Delivered
 pub mod Pulls
+pub mod Same

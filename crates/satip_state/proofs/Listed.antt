@@ -6,7 +6,7 @@ use Rattle.std.specs.Option.{option_map, option_or}
 use Rattle.std.proofs.lemmas.Bool.{or_parts}
 use Rattle.std.proofs.lemmas.List.{map-append}
 use Rattle.std.proofs.lemmas.Option.{same_Some}
-use Rattle.satip_history.specs.Lists.{Has}
+use Rattle.satip_base.specs.Lists.{Has}
 use Rattle.satip_flow.specs.Subscription.{Subscription, Feed, has_slot}
 use Rattle.satip_plain.specs.State.{Stream}
 use Rattle.satip_state.specs.Seated.{Seated, row_of, feed_of, is_seat, seated_in, subscriber, subscribers}

@@ -2,8 +2,8 @@
 use Rattle.std.proofs.Common.{◌≡◌, ℕ, ◌+◌, ◌*◌, ◌==◌, Bool, true, false, cond, List, [], ◌∷◌, map, find, Some, refl, sym, ap, subst, ◌∙◌}
 use Rattle.std.specs.List.{list_any, slice_get}
 use Rattle.std.specs.Option.{option_map}
-use Rattle.satip_history.specs.Lists.{Each, Has}
-use Rattle.satip_history.proofs.Elements.{each_at}
+use Rattle.satip_base.specs.Lists.{Each, Has}
+use Rattle.satip_base.proofs.Elements.{each_at}
 use Rattle.satip_table.specs.declared.session.Session.{Session as Row}
 use Rattle.satip_table.specs.declared.stream.Stream.{Stream as StreamRow}
 use Rattle.satip_table.specs.Streams.{is_live}

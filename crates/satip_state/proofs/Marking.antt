@@ -9,8 +9,8 @@ use Rattle.std.proofs.lemmas.Bool.{or_cases, and_parts, and_from, eqb-true, eq-e
 use Rattle.std.proofs.lemmas.Option.{same_Some}
 use Rattle.satip_plain.proofs.SameIds.{same_id_is}
 use Rattle.satip_base.specs.declared.identity.SessionId.{SessionId}
-use Rattle.satip_history.specs.Lists.{Each, Has}
-use Rattle.satip_history.proofs.Elements.{each_at, each_has}
+use Rattle.satip_base.specs.Lists.{Each, Has}
+use Rattle.satip_base.proofs.Elements.{each_at, each_has}
 use Rattle.satip_table.specs.declared.session.Seat.{Seat}
 use Rattle.satip_table.specs.Sessions.{has_id_of, has_slot, without}
 use Rattle.satip_table.specs.Living.{Sound, SlotsApart}

@@ -6,8 +6,8 @@ use Rattle.std.specs.Option.{option_map, option_map_or}
 use Rattle.std.proofs.lemmas.Bool.{lt-ltb}
 use Rattle.std.proofs.lemmas.List.Sums.{sum_by-cons}
 use Rattle.satip_table.specs.Living.{Sound}
-use Rattle.satip_fronts.specs.declared.rows.FrontRow.{FrontRow}
-use Rattle.satip_fronts.specs.declared.rows.FrontState.{FrontState}
+use Rattle.satip_fronts.specs.declared.front_table.FrontRow.{FrontRow}
+use Rattle.satip_fronts.specs.declared.front_table.FrontState.{FrontState}
 use Rattle.satip_fronts.specs.Rows.{is_row, ended_at}
 use Rattle.satip_fronts.specs.Rows.{is_at as stands_at}
 use Rattle.satip_fronts.specs.FrontEnds.{FrontEnds, state_of, ended, has_tune, front_of}

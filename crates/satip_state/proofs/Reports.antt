@@ -11,7 +11,7 @@ use Rattle.satip_base.specs.declared.network.Address.{Address}
 use Rattle.satip_base.specs.declared.identity.SessionId.{SessionId}
 use Rattle.satip_base.specs.Output.{Output, Datagram, Sends}
 use Rattle.satip_rtp.specs.Sending.{SendsAll}
-use Rattle.satip_history.specs.Lists.{Each}
+use Rattle.satip_base.specs.Lists.{Each}
 use Rattle.satip_table.specs.declared.session.Seat.{Seat}
 use Rattle.satip_table.specs.declared.session.Session.{Session as SessionRow}
 use Rattle.satip_table.specs.Sessions.{with_session, changed_where, reported_at}

@@ -11,7 +11,7 @@ use Rattle.std.proofs.lemmas.List.Concat.{flat_map-append}
 use Rattle.std.proofs.lemmas.List.Folds.{find-append}
 use Rattle.std.proofs.lemmas.List.{length-map}
 use Rattle.std.proofs.lemmas.Option.{same_Some}
-use Rattle.satip_history.specs.Lists.{Each}
+use Rattle.satip_base.specs.Lists.{Each}
 use Rattle.satip_base.specs.declared.identity.SessionId.{SessionId}
 use Rattle.satip_base.specs.declared.identity.Draw.{Draw}
 use Rattle.satip_base.specs.declared.network.Peer.{Peer}

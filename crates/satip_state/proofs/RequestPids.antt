@@ -2,7 +2,7 @@
 use Rattle.std.proofs.Common.{◌≡◌, ◌∙◌, ℕ, ◌≤◌, ◌==◌, ◌||◌, Bool, true, false, cond, List, [], ◌∷◌, Option, None, Some, map, find, refl, ap, sym, subst}
 use Rattle.std.specs.List.{list_any}
 use Rattle.std.specs.Option.{option_map, option_and_then}
-use Rattle.satip_history.specs.Lists.{Each}
+use Rattle.satip_base.specs.Lists.{Each}
 use Rattle.satip_tune.specs.declared.tunings.Tuning.{Tuning}
 use Rattle.satip_pids.specs.Pids.{Pids}
 use Rattle.satip_table.specs.declared.stream.Stream.{Stream as StreamRow}

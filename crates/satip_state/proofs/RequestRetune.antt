@@ -16,7 +16,7 @@ use Rattle.satip_table.specs.declared.stream.Stream.{Stream as StreamRow}
 use Rattle.satip_table.specs.Streams.{has_number, with_stream}
 use Rattle.satip_table.specs.Living.{Living, NumbersRise, Sound}
 use Rattle.satip_fronts.specs.declared.choice.Place.{Place}
-use Rattle.satip_fronts.specs.declared.rows.FrontRow.{FrontRow}
+use Rattle.satip_fronts.specs.declared.front_table.FrontRow.{FrontRow}
 use Rattle.satip_fronts.specs.Choice.{Outlook, choose}
 use Rattle.satip_fronts.specs.Rows.{is_at as stands_at, tuned_at, tuned_row}
 use Rattle.satip_fronts.specs.FrontEnds.{FrontEnds, Sound as FrontsSound, choice, front_of, moved, outlook, placed_at, settled, taken, tuned_rows}

@@ -5,7 +5,7 @@ use Rattle.std.specs.List.{list_any}
 use Rattle.std.specs.Option.{option_map}
 use Rattle.std.proofs.lemmas.Bool.{eqb-true, eq-eqb, ne_eqb, and_left, and_parts, or_left, or_right, true≢false}
 use Rattle.std.proofs.lemmas.Option.{same_Some}
-use Rattle.satip_history.specs.Lists.{Each}
+use Rattle.satip_base.specs.Lists.{Each}
 use Rattle.satip_base.specs.declared.identity.SessionId.{SessionId}
 use Rattle.satip_table.specs.declared.session.Seat.{Seat}
 use Rattle.satip_table.specs.declared.session.Session.{Session as TableRow}

@@ -5,7 +5,7 @@ use Rattle.std.specs.List.{list_any}
 use Rattle.std.specs.Option.{option_map}
 use Rattle.std.proofs.lemmas.Bool.{eqb-true, true≢false}
 use Rattle.std.proofs.lemmas.Option.{same_Some}
-use Rattle.satip_history.specs.Lists.{Each}
+use Rattle.satip_base.specs.Lists.{Each}
 use Rattle.satip_tune.specs.declared.tunings.Tuning.{Tuning}
 use Rattle.satip_pids.specs.Pids.{Pids}
 use Rattle.satip_table.specs.declared.stream.Stream.{Stream as StreamRow}

@@ -5,10 +5,10 @@ use Rattle.std.specs.List.{list_any, slice_get}
 use Rattle.std.specs.Option.{option_flatten}
 use Rattle.std.proofs.lemmas.Bool.{or_parts, or_from, true≢false, ne_eqb, eq-eqb}
 use Rattle.std.proofs.lemmas.Option.{same_Some}
-use Rattle.satip_history.specs.Lists.{Each, Has}
+use Rattle.satip_base.specs.Lists.{Each, Has}
 use Rattle.satip_table.specs.declared.stream.Stream.{Stream as StreamRow}
 use Rattle.satip_table.specs.Living.{NumbersRise}
-use Rattle.satip_fronts.specs.declared.rows.FrontRow.{FrontRow}
+use Rattle.satip_fronts.specs.declared.front_table.FrontRow.{FrontRow}
 use Rattle.satip_fronts.specs.Rows.{free_row}
 use Rattle.satip_fronts.specs.Rows.{is_at as stands_at, freed as freed_at}
 use Rattle.satip_fronts.specs.FrontEnds.{front_of}

@@ -4,7 +4,7 @@ use Rattle.std.specs.List.{filter_map, flat_map, cons_option}
 use Rattle.satip_base.specs.Output.{Output}
 use Rattle.satip_rtp.specs.Cut.{cut}
 use Rattle.satip_rtp.specs.Sending.{SendsAll}
-use Rattle.satip_history.specs.Lists.{Each}
+use Rattle.satip_base.specs.Lists.{Each}
 use Rattle.satip_plain.specs.Types.{Config}
 use Rattle.satip_plain.specs.State.{Session, State, held}
 use Rattle.satip_plain.specs.Sending.{Sent, Move, Turn, each_of, let_go, as_rtp}

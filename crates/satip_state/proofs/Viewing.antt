@@ -7,7 +7,7 @@ use Rattle.satip_table.specs.declared.session.Seat.{Seat}
 use Rattle.satip_table.specs.declared.session.Session.{Session as SessionRow}
 use Rattle.satip_table.specs.declared.stream.Stream.{Stream as StreamRow}
 use Rattle.satip_table.specs.Streams.{has_number}
-use Rattle.satip_fronts.specs.declared.rows.FrontRow.{FrontRow}
+use Rattle.satip_fronts.specs.declared.front_table.FrontRow.{FrontRow}
 use Rattle.satip_fronts.specs.FrontEnds.{mux_at}
 use Rattle.satip_fronts.specs.Rows.{is_row}
 use Rattle.satip_rtcp.specs.declared.views.StreamView.{StreamView}

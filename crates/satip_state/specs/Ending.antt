@@ -1,7 +1,7 @@
--- What becomes of the parts as a session goes, and as sessions go whose slots are marked.
+-- The parts after a session ended, and while sessions of marked slots end.
 use Rattle.std.specs.Prelude.{ℕ, ◌≡◌, ◌<◌, ◌≤◌, Bool, true, false, if◌then◌else◌, None, slice_set}
 use Rattle.std.specs.Int.{bit_at}
-use Rattle.satip_history.specs.Lists.{Each}
+use Rattle.satip_base.specs.Lists.{Each}
 use Rattle.satip_base.specs.declared.identity.SessionId.{SessionId}
 use Rattle.satip_table.specs.declared.session.Seat.{Seat}
 use Rattle.satip_table.specs.Sessions.{without}
@@ -14,7 +14,7 @@ use Rattle.satip_plain.specs.Steps.{end_where}
 use Rattle.satip_state.specs.Kept.{Kept}
 use Rattle.satip_state.specs.Standing.{StandsFor}
 
--- the session with this id and seat is gone, and its stream left its front end where it has no other session
+-- the session with this id and seat is gone; its stream left its front end if it has no other session
 pub record Removed (id : SessionId) (seat : Seat) (v w : Kept) : Type 0 where
   pub clock : w.clock ≡ v.clock
   pub stopped : w.stopped ≡ v.stopped
@@ -28,11 +28,11 @@ pub record Removed (id : SessionId) (seat : Seat) (v w : Kept) : Type 0 where
   pub fronts_left : is_live w.table.streams seat.session.stream ≡ false → 1 ≤ seat.session.stream → seat.session.stream ≤ 64
       → w.fronts ≡ left v.fronts seat.session.stream
 
--- the bit of a seat's slot is set exactly where its session is to end
+-- the bit of a seat's slot is set exactly if its session is to end
 abbrev pub IsMarked : ℕ → (SessionId → Bool) → Seat → Type 0
 IsMarked marks ends seat = bit_at marks seat.slot ≡ (if ends seat.session.id then 1 else 0)
 
--- of the sessions to end those in slots below this one ended, and no others
+-- only sessions that are to end have ended, and all of them in slots below this one
 pub record EndedMarked (c : Config) (w : Kept) (st : State) (ends : SessionId → Bool) (marks slot : ℕ) : Type 0 where
   pub who : Session → Bool
   pub some : (s : Session) → who s ≡ true → ends s.id ≡ true

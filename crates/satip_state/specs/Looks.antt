@@ -1,4 +1,4 @@
--- What is told of the sessions and streams that are looked up.
+-- The results of lookups of sessions and streams.
 use Rattle.std.specs.Prelude.{ℕ, nat_le, ◌&&◌, Bool, if◌then◌else◌, Option, Some, None}
 use Rattle.std.specs.Option.{option_map, option_map_or}
 use Rattle.satip_table.specs.declared.session.Seat.{Seat}
@@ -21,7 +21,7 @@ abbrev pub if_rtsp : Option Row → Option Row
 if_rtsp None = None
 if_rtsp (Some s) = if s.http then None else Some s
 
--- what is looked at for a stream that lives, or for one that is yet to be founded
+-- the state of the front ends for a stream that lives, or for one that isn't created yet
 abbrev pub outlook_for : Config → State → Option ℕ → Outlook
 outlook_for c st None = new_outlook c st
 outlook_for c st (Some number) = outlook_of c st number
@@ -31,7 +31,7 @@ abbrev pub numbered : Option ℕ → Option ℕ
 numbered None = None
 numbered (Some number) = if nat_le 1 number && nat_le number 64 then Some number else None
 
--- whether no front end is to be had for it with this tuning
+-- whether no front end is available for the stream with this tuning
 abbrev pub is_blocked : Config → State → Option ℕ → Tuning → Bool
 is_blocked c st number tuning = blocked (outlook_for c st number) (mux_for c.muxes tuning) tuning
 
@@ -40,12 +40,12 @@ abbrev pub rtsp_number : Option Session → ℕ
 rtsp_number None = 0
 rtsp_number (Some s) = if s.http then 0 else next_number s
 
--- the same by what is kept: a session whose packer is told by this, or that has none yet
+-- the same from the parts: from its packer's state, or from the session if it has no packer yet
 abbrev pub kept_number : Option SenderState → Option Seat → ℕ
 kept_number sender None = 0
 kept_number sender (Some seat) = if seat.session.http then 0 else option_map_or (λ s. s.next) sender seat.session.first
 
--- what the packer of a seat's session tells
+-- the state of the packer of a seat's session
 abbrev pub sender_in : Kept → Option Seat → Option SenderState
 sender_in v None = None
 sender_in v (Some seat) = sender_state (packing_of_slot seat.slot v.flow)

@@ -1,4 +1,4 @@
--- What a pull is for which a flow moved so much, and that wrote so many bytes.
+-- The answer to a pull for which a flow moved `moved` packets and wrote `bytes` bytes.
 use Rattle.std.specs.Prelude.{ℕ, ◌==◌, Option, None, Some, if◌then◌else◌}
 use Rattle.satip_plain.specs.declared.answers.Pulled.{Pulled}
 use Rattle.satip_plain.specs.declared.answers.Pulled.TheVariants.{Bytes, Empty, Gone}

@@ -1,4 +1,4 @@
--- The plain server's sessions with their slots, and what the parts keep of them.
+-- The plain server's sessions with their slots, as the parts keep them.
 use Rattle.std.specs.Prelude.{ℕ, ◌+◌, ◌*◌, ◌%◌, ◌==◌, Bool, if◌then◌else◌, List, filter, filter_map, flat_map, find, length, sum, Option, Some, None}
 use Rattle.std.specs.Option.{option_map}
 use Rattle.satip_base.specs.declared.network.Address.{Address}
@@ -16,7 +16,7 @@ pub record Seated : Type 0 where
 abbrev pub is_seat : ℕ → Seated → Bool
 is_seat slot x = x.slot == slot
 
--- what the table keeps of a session: all but its packets
+-- the row of a session in the table: all but its packets
 unfoldable pub row_of : Session → Row
 row_of s = record {
   id = s.id;
@@ -31,14 +31,15 @@ row_of s = record {
   first = s.first;
 }
 
+-- the seat in the table of a session with its slot
 abbrev pub seat_of : Seated → Seat
 seat_of x = record { slot = x.slot; session = row_of x.session }
 
--- where a session's datagrams go
+-- the address of a session's RTP datagrams
 abbrev pub address_of : Session → Address
 address_of s = record { ip = s.peer.ip; port = s.ports.rtp }
 
--- what the packer of a session keeps: the packets held, the next number, and what has left so far
+-- the state of a session's packer: the held packets, the next number, and the counts of what has left
 unfoldable pub packing_of : Session → Packing
 packing_of s = record {
   ssrc = s.ssrc;
@@ -48,7 +49,7 @@ packing_of s = record {
   octets = 188 * sum s.sizes % 4294967296;
 }
 
--- where a session's packets go: into the queue of an HTTP session, else by its packer to its address
+-- the feed of a session's packets: the queue of an HTTP session, else a packer with the session's address
 unfoldable pub feed_of : Session → Feed
 feed_of s = if s.http then ToQueue (held s) else ToAddress (address_of s) (packing_of s)
 
@@ -68,11 +69,11 @@ subscriber t x =
 abbrev pub seated_in : Stream → List Seated → List Seated
 seated_in t seated = filter (λ x. x.session.stream == t.number) seated
 
--- all subscribers, stream for stream in rising number, of each the owner first
+-- all subscribers, by streams in rising number, the owner of each stream first
 unfoldable pub subscribers : List Seated → List Stream → List Subscription
 subscribers seated streams = flat_map (λ t. filter_map (subscriber t) (seated_in t seated)) streams
 
--- the moment at which a session ends that isn't heard of, in milliseconds
+-- the moment at which a session without further activity ends, in milliseconds
 abbrev pub end_of : ℕ → Seated → ℕ
 end_of timeout x = x.session.heard + timeout * 1000
 

@@ -1,4 +1,4 @@
--- A session that begins to get packets.
+-- A session that starts to get packets.
 use Rattle.std.specs.Prelude.{ℕ, [], if◌then◌else◌}
 use Rattle.satip_table.specs.declared.session.Session.{Session as Row}
 use Rattle.satip_table.specs.declared.stream.Stream.{Stream as StreamRow}
@@ -9,7 +9,7 @@ use Rattle.satip_flow.specs.Subscription.{Subscription, Feed, ToAddress, ToQueue
 unfoldable pub new_feed : Row → Feed
 new_feed s = if s.http then ToQueue [] else ToAddress (record { ip = s.peer.ip; port = s.ports.rtp }) (packing s.ssrc s.first)
 
--- the subscriber that the session of a slot becomes
+-- the subscription of the session of a slot
 unfoldable pub subscription_of : ℕ → Row → StreamRow → Subscription
 subscription_of slot s t = record {
   place = record { slot = slot; stream = t.number; count = s.id.count };

@@ -1,4 +1,4 @@
--- A stream as its clients are shown it, of what the parts keep.
+-- The view of a stream, computed from the parts.
 use Rattle.std.specs.Prelude.{ℕ, ◌==◌, ◌&&◌, Bool, unwrap_or, is_some, option_and_then}
 use Rattle.std.specs.List.{list_any}
 use Rattle.satip_table.specs.declared.session.Seat.{Seat}

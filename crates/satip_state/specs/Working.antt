@@ -1,4 +1,4 @@
--- What the pump of a front end is to do, that has this multiplex, tuning number and end.
+-- The work of a front end's pump, from its multiplex, its tune number and the end of its recording.
 use Rattle.std.specs.Prelude.{ℕ, Bool, Option, None, Some, if◌then◌else◌}
 use Rattle.satip_plain.specs.declared.answers.Work.{Work}
 use Rattle.satip_plain.specs.declared.answers.Work.TheVariants.{Tune, Nothing}

@@ -1,4 +1,4 @@
-//! What a request changes of a session and of a stream.
+//! The changes that a request makes to a session and to a stream.
 
 ghost use Rattle.std.specs.Prelude.{true};
 ghost use Rattle.satip_plain.specs.Types.{Config};
@@ -13,8 +13,8 @@ use satip_base::{Address, Peer, Ports, SessionId};
 use satip_pids::PidSet;
 
 impl Parts {
-    /// The session was heard of at the clock's moment, and ends one timeout later unless it is
-    /// heard of again. Where it doesn't live nothing changes.
+    /// Sets the session's last activity to the clock's time, and its end to one timeout later.
+    /// Changes nothing if the session isn't alive.
     pub fn hear(&mut self, id: SessionId)
         ensures heard { (c : Config) (st : State) → StandsFor c self.old st
             → StandsFor c self.new (heard_in id st) }
@@ -27,8 +27,8 @@ impl Parts {
         self.timer.set(slot, end);
     }
 
-    /// The session's datagrams go to these ports of this peer. Where it doesn't live nothing
-    /// changes.
+    /// Sets the client and the ports that the session's datagrams go to. Changes nothing if the
+    /// session isn't alive.
     pub fn move_to(&mut self, id: SessionId, peer: Peer, ports: Ports)
         ensures moved { (c : Config) (st : State) → StandsFor c self.old st
             → StandsFor c self.new (change_session id (λ s. record s { peer = peer; ports = ports })
@@ -47,7 +47,7 @@ impl Parts {
         );
     }
 
-    /// The session plays from now on. Where it doesn't live nothing changes.
+    /// Marks the session as playing. Changes nothing if the session isn't alive.
     pub fn play(&mut self, id: SessionId)
         ensures plays { (c : Config) (st : State) → StandsFor c self.old st
             → StandsFor c self.new (change_session id (λ s. record s { playing = true }) st) }
@@ -69,7 +69,7 @@ impl Parts {
         self.table.play(id);
     }
 
-    /// The stream selects these PIDs from now on. Where it doesn't live nothing changes.
+    /// Sets the PIDs that the stream selects. Changes nothing if the stream isn't alive.
     pub fn change_pids(&mut self, number: u16, pids: &PidSet)
         ensures changed { (c : Config) (st : State) → StandsFor c self.old st
             → StandsFor c self.new (change_stream number (λ t. record t { pids = pids.now }) st) }

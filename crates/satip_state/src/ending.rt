@@ -1,4 +1,4 @@
-//! Sessions end.
+//! The end of sessions.
 
 ghost use Rattle.std.specs.Prelude.{◌≡◌, ◌≢◌, ◌+◌, ◌<◌, ◌≤◌, ◌==◌, Bool, false, true, length};
 ghost use Rattle.std.specs.Int.{bit_at};
@@ -20,9 +20,9 @@ use satip_table::Seat;
 const SLOTS: u16 = SESSIONS as u16;
 
 impl Parts {
-    /// Ends a session: what an RTSP session holds leaves, and what an HTTP session has queued is
-    /// dropped. A stream without sessions is gone, and its front end is free if it serves no other.
-    /// False where the session doesn't live; nothing changes then.
+    /// Ends a session. The held packets of an RTSP session leave, and the queue of an HTTP session
+    /// is dropped. A stream without sessions is gone, and its front end is free if it serves no
+    /// other. Returns false, and changes nothing, if the session isn't alive.
     pub fn end_session(&mut self, id: SessionId, out: &mut Out) -> bool
         requires bytes { DATAGRAM ≤ out.old.datagram_spare }
         requires count { out.old.count_spare ≢ 0 }
@@ -41,8 +41,7 @@ impl Parts {
         true
     }
 
-    /// Ends a session, and drops what it holds: for one that holds nothing. False where it doesn't
-    /// live.
+    /// Ends a session without sending what it holds. Returns false if the session isn't alive.
     pub(crate) fn drop_session(&mut self, id: SessionId) -> bool
         ensures ended { (c : Config) (st : State) → StandsFor c self.old st
             → StandsFor c self.new (end_where (is_session id) st).state }
@@ -57,7 +56,7 @@ impl Parts {
         true
     }
 
-    /// Ends the sessions of marked slots, and drops what they hold: bit k is that of slot k.
+    /// Ends the sessions of marked slots without sending what they hold. Bit k marks slot k.
     pub(crate) fn end_marked(&mut self, marks: u64)
         ensures ended { (c : Config) (st : State) (ends : SessionId → Bool)
             → EndedMarked c self.old st ends marks 0 → EndedMarked c self.new st ends marks 64 }
@@ -70,7 +69,7 @@ impl Parts {
         }
     }
 
-    // Ends the session of a slot, if it is marked.
+    // Ends the session of a slot, if the slot is marked.
     fn end_slot(&mut self, marks: u64, slot: u16)
         requires slot { slot < SESSIONS }
         ensures ended { (c : Config) (st : State) (ends : SessionId → Bool)
@@ -86,7 +85,7 @@ impl Parts {
         let _lived = self.drop_session(seat.session.id);
     }
 
-    // The session of a seat goes from each of the parts.
+    // Removes the session of a seat from each of the parts.
     fn remove(&mut self, id: SessionId, seat: &Seat)
         requires slot { seat.now.slot < SESSIONS }
         ensures removed { Removed id seat.now self.old self.new }
@@ -97,7 +96,7 @@ impl Parts {
         self.give_back(seat.session.stream);
     }
 
-    // A stream that doesn't live any more leaves its front end.
+    // Frees the front end of a stream, if the stream isn't alive any more.
     fn give_back(&mut self, stream: u16)
         ensures rest { self.new ≡ record self.old { fronts = self.new.fronts } }
         ensures stays { is_live self.old.table.streams stream ≡ true
@@ -115,7 +114,7 @@ impl Parts {
     }
 }
 
-// Whether the bit of a slot is set.
+// Returns whether the bit of a slot is set.
 fn is_marked(marks: u64, slot: u16) -> bool
     requires slot { slot < SESSIONS }
     ensures marked { result ≡ (bit_at marks slot == 1) }

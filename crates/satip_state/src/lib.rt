@@ -1,7 +1,9 @@
-//! The state of the server: sessions, streams, front ends and subscribers, kept by one part each
-//! and told as the plain server's state.
+//! Keeps sessions, streams, front ends and subscribers as one state of the server.
+//! Contract: each method is a move of the plain server, and appends exactly the datagrams of that
+//! move.
 #![tactic(auto)]
 
+mod asking;
 mod changing;
 mod ending;
 mod looks;
@@ -16,4 +18,5 @@ mod subscribing;
 mod ticking;
 mod views;
 
+pub use asking::{asked_pids, asks_pids, changed_tuning, pids_fault, to_set};
 pub use parts::Parts;

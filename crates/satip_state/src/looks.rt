@@ -1,4 +1,4 @@
-//! What the parts are asked: which sessions and streams live, and whether more are to be had.
+//! Queries of the parts: which sessions and streams are alive, and whether more are available.
 
 ghost use Rattle.std.specs.Prelude.{◌≡◌, ◌≤◌, ◌==◌, Some, IfSome, false, true, find, is_some, length, option_map};
 ghost use Rattle.std.specs.List.{list_all};
@@ -19,8 +19,8 @@ use satip_table::{Seat, Session, Stream};
 use satip_tune::Tuning;
 
 impl Parts {
-    /// Does nothing: tells a caller's proof that at most 64 streams live, and each session's stream
-    /// among them.
+    /// Does nothing. Gives a caller's proof that at most 64 streams are alive, and that each
+    /// session's stream is one of them.
     pub fn known(&self)
         ensures few { (c : Config) (st : State) → StandsFor c self.now st
             → length st.streams ≤ SESSIONS }
@@ -30,7 +30,7 @@ impl Parts {
         let _ = &self.table;
     }
 
-    /// The RTSP session with this id; None where none lives.
+    /// Returns the RTSP session with this id; None if there is none.
     pub fn rtsp_session(&self, id: SessionId) -> Option<Session>
         ensures session { (c : Config) (st : State) → StandsFor c self.now st
             → result ≡ option_map row_of (rtsp_session st id) }
@@ -44,7 +44,7 @@ impl Parts {
         }
     }
 
-    /// The stream of this number; None where it doesn't live.
+    /// Returns the stream of this number; None if it isn't alive.
     pub fn stream(&self, number: u16) -> Option<&Stream>
         ensures stream { (c : Config) (st : State) → StandsFor c self.now st
             → option_map (λ s. stream_in s.now) result ≡ stream_of st number }
@@ -52,7 +52,7 @@ impl Parts {
         self.table.find_stream(number)
     }
 
-    /// The owner of a stream; None where the stream doesn't live.
+    /// Returns the owner of a stream; None if the stream isn't alive.
     pub fn owner(&self, number: u16) -> Option<SessionId>
         ensures owner { (c : Config) (st : State) → StandsFor c self.now st
             → result ≡ owner_id st number }
@@ -63,8 +63,8 @@ impl Parts {
         }
     }
 
-    /// The sequence number of the next datagram of a session that isn't an HTTP session; 0 where
-    /// none of this id lives.
+    /// Returns the sequence number of the next datagram of an RTSP session; 0 if there is no RTSP
+    /// session with this id.
     pub fn next_number(&self, id: SessionId) -> u16
         ensures number { (c : Config) (st : State) → StandsFor c self.now st
             → result ≡ rtsp_number (find (is_session id) st.sessions) }
@@ -75,7 +75,7 @@ impl Parts {
         }
     }
 
-    /// Whether no stream lives.
+    /// Returns whether no stream is alive.
     pub fn has_no_streams(&self) -> bool
         ensures none { (c : Config) (st : State) → StandsFor c self.now st
             → result ≡ (length st.streams == 0) }
@@ -83,14 +83,14 @@ impl Parts {
         self.table.stream(0).is_none()
     }
 
-    /// Whether no session can be made: 64 live, or 4294967295 were made.
+    /// Returns whether no session can be created: 64 are alive, or 4294967295 were created.
     pub fn is_full(&self) -> bool
         ensures full { (c : Config) (st : State) → StandsFor c self.now st → result ≡ is_full st }
     {
         self.table.full()
     }
 
-    /// Whether the stop came.
+    /// Returns whether the server was stopped.
     pub fn is_stopped(&self) -> bool
         ensures stopped { (c : Config) (st : State) → StandsFor c self.now st
             → result ≡ st.stopped }
@@ -98,9 +98,9 @@ impl Parts {
         self.stopped
     }
 
-    /// Whether no front end is to be had for a stream with this tuning: none fits, or each that
-    /// fits serves another stream and isn't tuned to the multiplex that the tuning means. `None` is
-    /// a stream that is yet to be founded.
+    /// Returns whether no front end is available for a stream with this tuning. Then none fits, or
+    /// each that fits serves another stream and isn't tuned to the tuning's multiplex. `None` is a
+    /// stream that isn't created yet.
     pub fn is_blocked(&self, stream: Option<u16>, tuning: &Tuning) -> bool
         ensures blocked { (c : Config) (st : State) → StandsFor c self.now st
             → result ≡ is_blocked c st stream tuning.now }
@@ -109,7 +109,7 @@ impl Parts {
     }
 }
 
-// The number after those that the packer sent, or the first where there is no packer yet.
+// Returns the packer's next number, or the session's first number if there is no packer yet.
 fn number_after(sender: Option<SenderState>, seat: &Seat) -> u16
     ensures number { result ≡ kept_number sender (Some seat.now) }
 {
@@ -122,7 +122,7 @@ fn number_after(sender: Option<SenderState>, seat: &Seat) -> u16
     }
 }
 
-// The number, where a stream may have it.
+// Returns the number, if a stream may have it.
 fn number_of(stream: Option<u16>) -> Option<u16>
     ensures number { result ≡ numbered stream }
     ensures known { IsStreamOrNone result }
@@ -139,7 +139,7 @@ fn number_of(stream: Option<u16>) -> Option<u16>
     }
 }
 
-// The session, where it isn't an HTTP session.
+// Returns the session, if it isn't an HTTP session.
 fn only_rtsp(session: &Session) -> Option<Session>
     ensures rtsp { result ≡ if_rtsp (Some session.now) }
 {

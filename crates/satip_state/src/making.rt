@@ -1,4 +1,4 @@
-//! How the parts are made, and sessions of them.
+//! The creation of the parts, and of sessions.
 
 ghost use Rattle.std.specs.Prelude.{◌≡◌, ◌≤◌, ◌<◌, ◌||◌, ◌^◌, false, None, Some, is_none, if◌then◌else◌, vec_len, IfOk};
 ghost use Rattle.satip_fronts.specs.FrontEnds.{IsNumbered};
@@ -23,10 +23,10 @@ use satip_timer::Timer;
 use satip_tune::{Front, Mux};
 use std::alloc::Global;
 
-/// Later moments count as this one, in milliseconds of Unix time.
+/// The last moment, in milliseconds of Unix time; later ones count as this one.
 pub(crate) const LAST_MOMENT: u64 = 281474976710655;
 
-/// The moment, of which later ones than the last count as the last.
+/// Returns the moment, at most the last one.
 fn capped_moment(moment: u64) -> u64
     ensures capped { result ≡ capped moment }
 {
@@ -38,9 +38,10 @@ fn capped_moment(moment: u64) -> u64
 }
 
 impl Parts {
-    /// The parts before the first event: no session, the clock at this moment in milliseconds of
-    /// Unix time, and front ends that serve no stream. A session ends that isn't heard of for
-    /// `timeout` seconds. Takes all memory; `Want` where it was refused.
+    /// Creates the parts as they are before the first event: no session, and front ends that serve
+    /// no stream. `start` is the clock's first time, in milliseconds of Unix time. A session ends
+    /// after `timeout` seconds without activity. Allocates all memory; returns `Want` if out of
+    /// memory.
     pub fn make(
         alloc: Global,
         fronts: Vec<Front>,
@@ -69,8 +70,8 @@ impl Parts {
         })
     }
 
-    /// Makes a session that owns a new stream: its id, and the stream's number. None where no
-    /// session can be made, and then nothing changes.
+    /// Creates a session with a new stream that it owns; returns the session's id and the stream's
+    /// number. Returns None, and changes nothing, if no session can be created.
     pub fn found(
         &mut self,
         http: bool,
@@ -98,8 +99,8 @@ impl Parts {
         Some((id, number))
     }
 
-    /// Makes an RTSP session that joins a stream: its id. None where no session can be made, or the
-    /// stream doesn't live, and then nothing changes.
+    /// Creates an RTSP session that joins a stream; returns the session's id. Returns None, and
+    /// changes nothing, if no session can be created or the stream isn't alive.
     pub fn join(&mut self, peer: Peer, draw: Draw, ports: Ports, number: u16) -> Option<SessionId>
         ensures made { (c : Config) (st : State) → StandsFor c self.old st
             → result ≡ (if is_full st || is_none (stream_of st number) then None else Some
@@ -127,8 +128,8 @@ impl Parts {
         Some(id)
     }
 
-    /// The new session of this id ends one timeout from now, and gets packets at once if it is an
-    /// HTTP session.
+    /// Sets the end of the new session to one timeout from now. An HTTP session gets packets from
+    /// now on.
     fn begin(&mut self, id: SessionId)
         ensures begun { Begins id self.old self.new }
         ensures short { self.old.timeout < 2 ^ 32 }
@@ -148,7 +149,7 @@ impl Parts {
     }
 }
 
-/// The session of this slot begins to get the packets of its stream if it is an HTTP session.
+/// Subscribes the session of this slot to the packets of its stream, if it is an HTTP session.
 #[tactic(auto, unfolding(crate::specs::Beginning::with_queue))]
 fn subscribe_http(flow: &mut Flow, slot: u16, session: &Session, stream: &Stream)
     requires slot { slot < SESSIONS }

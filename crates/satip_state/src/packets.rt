@@ -1,4 +1,4 @@
-//! Packets of the front ends, and what their pumps are to do.
+//! Packets of the front ends, and the work of their pumps.
 
 ghost use Rattle.std.specs.Prelude.{◌≡◌, ◌+◌, ◌≤◌, ◌==◌, ◌&&◌, nat_lt, true, if◌then◌else◌};
 ghost use Rattle.satip_plain.specs.Types.{Config};
@@ -16,10 +16,10 @@ use satip_plain::Work;
 use satip_ts::Packet;
 
 impl Parts {
-    /// A packet of a front end's tuning number is given to each playing session of the front end's
-    /// streams that selects its PID. An RTSP session with seven packets sends them. An HTTP session
-    /// whose queue is full ends. Where the front end serves no stream or has another tuning number,
-    /// nothing happens.
+    /// Gives a packet of a front end's tune number to each playing session of the front end's
+    /// streams, if the stream selects the packet's PID. An RTSP session with seven packets sends
+    /// them. An HTTP session whose queue is full ends. Does nothing if the front end serves no
+    /// stream or has another tune number.
     pub fn packet(&mut self, front: u16, tune: u64, packet: &Packet, out: &mut Out)
         requires bytes { DATAGRAMS ≤ out.old.datagram_spare }
         requires count { SESSIONS ≤ out.old.count_spare }
@@ -34,12 +34,12 @@ impl Parts {
         }
         let overrun = self.flow.packet(front, packet, self.clock, out);
         self.end_marked(overrun);
-        // A proof is told here what holds of the table that is left.
+        // Gives the proof the invariant of the table that is left.
         let _ = &self.table;
     }
 
-    /// The recording that a front end plays for this tuning number is exhausted. Where the front
-    /// end serves no stream or has another tuning number, nothing happens.
+    /// Marks the recording that a front end plays for this tune number as ended. Does nothing if
+    /// the front end serves no stream or has another tune number.
     pub fn ended(&mut self, front: u16, tune: u64)
         ensures ended { (c : Config) (st : State) → StandsFor c self.old st
             → StandsFor c self.new (on_ended front tune st).state }
@@ -47,7 +47,7 @@ impl Parts {
         let _current = self.fronts.end(front, tune);
     }
 
-    /// What a front end's pump is to do.
+    /// Returns the next work of a front end's pump.
     pub fn work(&self, front: u16) -> Work
         ensures work { (c : Config) (st : State) → StandsFor c self.now st
             → result ≡ work_in st front }
@@ -61,7 +61,7 @@ impl Parts {
         }
     }
 
-    /// The server stops: its front ends' pumps are to end.
+    /// Stops the server: the pumps of its front ends are to end.
     pub fn stop(&mut self)
         ensures stopped { (c : Config) (st : State) → StandsFor c self.old st
             → StandsFor c self.new (record st { stopped = true }) }
@@ -69,7 +69,7 @@ impl Parts {
         self.stopped = true;
     }
 
-    // Whether the front end serves a stream and has this tuning number.
+    // Returns whether the front end serves a stream and has this tune number.
     fn is_current(&self, front: u16, tune: u64) -> bool
         ensures current { (c : Config) (st : State) → StandsFor c self.now st
             → result ≡ is_current_in st front tune }
@@ -81,14 +81,14 @@ impl Parts {
     }
 }
 
-// Whether a front end that serves so many streams serves one, and has this tuning number.
+// Returns whether a front end that serves `streams` streams serves one, and has this tune number.
 fn serves_tune(streams: u16, own: u64, tune: u64) -> bool
     ensures serves { result ≡ (own == tune && nat_lt 0 streams) }
 {
     own == tune && streams > 0
 }
 
-// What the pump of a front end is to do that is told so.
+// Returns the work of a front end's pump, from the front end's state.
 fn work_of(serves: bool, mux: Option<u16>, tune: u64, ended: bool) -> Work
     ensures work { result ≡ (if serves then work_of_told mux tune ended else Nothing) }
 {

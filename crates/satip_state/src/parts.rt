@@ -6,7 +6,7 @@ use satip_table::Table;
 use satip_timer::Timer;
 use std::marker::Model;
 
-/// Table, timer, front ends and flow, with the clock. A contract sees what each of them keeps.
+/// Table, timer, front ends and flow, with the clock. A contract sees the contents of each of them.
 #[derive(Drop)]
 pub struct Parts {
     pub(crate) clock: u64,

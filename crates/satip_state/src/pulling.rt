@@ -1,4 +1,4 @@
-//! What HTTP sessions pull, and how they are closed.
+//! Pulls and closes of HTTP sessions.
 
 ghost use Rattle.std.specs.Prelude.{◌≡◌, ◌≢◌, ◌+◌, ◌≤◌, [], Option};
 ghost use Rattle.satip_base.specs.Output.{Wrote};
@@ -15,9 +15,9 @@ use satip_base::{Out, SessionId};
 use satip_plain::{Closed, Pulled};
 
 impl Parts {
-    /// Moves the first packets of an HTTP session's queue, 64 at most, to the reply, and tells how
-    /// many bytes these are. The session was heard of. `Empty` where nothing is queued, and `Gone`
-    /// where no such HTTP session lives; nothing changes then.
+    /// Moves the first packets of an HTTP session's queue, at most 64, to the reply; returns the
+    /// count of their bytes. Counts as activity of the session. Returns `Empty` if nothing is
+    /// queued. Returns `Gone`, and changes nothing, if there is no such HTTP session.
     pub fn pull(&mut self, id: SessionId, out: &mut Out) -> Pulled
         requires room { PULLED_BYTES ≤ out.old.reply_spare }
         ensures answer { (c : Config) (st : State) → StandsFor c self.old st
@@ -39,8 +39,8 @@ impl Parts {
         pulled_of(moved, out.reply().len().saturating_sub(before))
     }
 
-    /// Ends an HTTP session, and drops what it has queued. `Gone` where no such HTTP session lives;
-    /// nothing changes then.
+    /// Ends an HTTP session and drops its queue. Returns `Gone`, and changes nothing, if there is
+    /// no such HTTP session.
     pub fn close(&mut self, id: SessionId, out: &mut Out) -> Closed
         requires bytes { DATAGRAM ≤ out.old.datagram_spare }
         requires count { out.old.count_spare ≢ 0 }
@@ -63,7 +63,8 @@ impl Parts {
     }
 }
 
-// What a pull is for which the flow moved so much, or had no queue, and that wrote so many bytes.
+// Returns the answer to a pull that moved `moved` packets, or found no queue, and wrote `bytes`
+// bytes.
 fn pulled_of(moved: Option<usize>, bytes: usize) -> Pulled
     ensures pulled { result ≡ pulled_is moved bytes }
 {

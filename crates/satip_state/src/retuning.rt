@@ -1,4 +1,4 @@
-//! A stream is tuned, and changed by a query.
+//! Tunings of a stream, and its changes by a query.
 
 ghost use Rattle.std.specs.Prelude.{◌≡◌, ◌+◌, ◌≤◌, is_some, option_and_then, true};
 ghost use Rattle.std.specs.Option.{option_map_or};
@@ -9,8 +9,8 @@ ghost use Rattle.satip_plain.specs.Streams.{change_by as changed_by, change_stre
 ghost use Rattle.satip_state.specs.Placing.{placed_in};
 ghost use Rattle.satip_state.specs.Standing.{Moved, StandsFor};
 
+use crate::asking::{asked_pids, asks_pids, to_set};
 use crate::parts::Parts;
-use satip_asking::{asked_pids, asks_pids, to_set};
 use satip_base::Out;
 use satip_base::limits::{DATAGRAMS, SESSIONS};
 use satip_pids::PidSet;
@@ -21,8 +21,8 @@ use satip_tune::{Change, Tuning};
 const STREAMS: u16 = SESSIONS as u16;
 
 impl Parts {
-    /// Tunes a living stream: what is held for its sessions leaves, and it comes to the front end
-    /// that is to be had for this tuning. Where none is to be had, it stays where it was.
+    /// Tunes a living stream: the held packets of its sessions leave, and it moves to the front end
+    /// that is available for this tuning. If none is available, it stays where it is.
     pub fn retune(&mut self, number: u16, tuning: &Tuning, out: &mut Out)
         requires bytes { DATAGRAMS ≤ out.old.datagram_spare }
         requires count { SESSIONS ≤ out.old.count_spare }
@@ -36,7 +36,7 @@ impl Parts {
         self.place(number, tuning);
     }
 
-    /// A living stream comes to the front end that is to be had for this tuning.
+    /// Moves a living stream to the front end that is available for this tuning.
     fn place(&mut self, number: u16, tuning: &Tuning)
         ensures placed { (c : Config) (st : State) → StandsFor c self.old st
             → is_some (stream_of st number) ≡ true
@@ -57,8 +57,8 @@ impl Parts {
         self.flow.change(number, Some(front), &pids);
     }
 
-    /// Changes a living stream by a query: its tuning first, then its PIDs. Where the query gives
-    /// no whole tuning, that of the stream or PIDs that are refused, it changes nothing of these.
+    /// Changes a living stream by a query: its tuning first, then its PIDs. The tuning stays if the
+    /// query gives no complete tuning or the stream's own. The PIDs stay if they are refused.
     pub fn change_by(&mut self, number: u16, query: &Query, out: &mut Out)
         requires bytes { DATAGRAMS ≤ out.old.datagram_spare }
         requires count { SESSIONS ≤ out.old.count_spare }
@@ -72,8 +72,7 @@ impl Parts {
         self.select_by(number, query);
     }
 
-    /// Sets the tuning of a living stream that a change asks for, unless it is the stream's
-    /// already.
+    /// Sets the tuning that a change asks for, unless the living stream has it already.
     fn tune_by(&mut self, number: u16, change: &Change, out: &mut Out)
         requires bytes { DATAGRAMS ≤ out.old.datagram_spare }
         requires count { SESSIONS ≤ out.old.count_spare }
@@ -94,7 +93,7 @@ impl Parts {
         self.retune(number, &tuning, out);
     }
 
-    /// A stream selects the PIDs that a query makes of its own. Without a list these stay, and
+    /// Sets the PIDs that a query makes of the stream's own. Without a list the PIDs stay, and
     /// nothing is copied: a set is large.
     fn select_by(&mut self, number: u16, query: &Query)
         ensures selected { (c : Config) (st : State) → StandsFor c self.old st
@@ -113,7 +112,7 @@ impl Parts {
     }
 }
 
-/// Puts the PIDs after a query in the place of the old ones: the same where it is refused.
+/// Sets `pids` to the PIDs after a query: the old ones if it is refused.
 fn put_asked(pids: &mut PidSet, old: &PidSet, query: &Query)
     requires old { pids.old ≡ old.now }
     ensures pids { pids.new ≡ pids_after old.now query.now }

@@ -11,7 +11,7 @@ use satip_base::limits::SESSIONS;
 use satip_table::Seat;
 
 impl Parts {
-    /// The session at this place, from 0, in order of making; None where there is none.
+    /// Returns the session at this place, from 0, in order of creation; None if there is none.
     pub(crate) fn seat(&self, place: usize) -> Option<Seat>
         ensures seat { result ≡ slice_get self.now.table.seats place }
         ensures within { IfSome result (λ seat. seat.slot < SESSIONS) }
@@ -19,7 +19,7 @@ impl Parts {
         self.table.seat(place).copied()
     }
 
-    /// The session with this id; None where it doesn't live.
+    /// Returns the session with this id; None if it isn't alive.
     pub(crate) fn seat_of(&self, id: SessionId) -> Option<Seat>
         ensures seat { result ≡ find (has_id_of id) self.now.table.seats }
         ensures within { IfSome result (λ seat. seat.slot < SESSIONS) }
@@ -29,7 +29,7 @@ impl Parts {
         self.table.seat_of(id).copied()
     }
 
-    /// The session of this slot; None where there is none.
+    /// Returns the session of this slot; None if there is none.
     pub(crate) fn seat_at(&self, slot: u16) -> Option<Seat>
         ensures seat { result ≡ find (has_slot slot) self.now.table.seats }
         ensures within { IfSome result (λ seat. seat.slot < SESSIONS) }

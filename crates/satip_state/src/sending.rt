@@ -1,4 +1,4 @@
-//! What packers hold leaves.
+//! The sending of held packets.
 
 ghost use Rattle.std.specs.Prelude.{◌≡◌, ◌≢◌, ◌+◌, ◌≤◌, ◌==◌, ◌&&◌, not, true};
 ghost use Rattle.satip_plain.specs.Types.{Config};
@@ -13,8 +13,8 @@ use satip_base::limits::{DATAGRAM, DATAGRAMS, SESSIONS};
 use satip_table::Session;
 
 impl Parts {
-    /// What is held for each RTSP session of this stream leaves: one datagram a session at most, in
-    /// order of making.
+    /// Sends the held packets of each RTSP session of this stream: at most one datagram a session,
+    /// in order of creation.
     pub fn flush_stream(&mut self, number: u16, out: &mut Out)
         requires bytes { DATAGRAMS ≤ out.old.datagram_spare }
         requires count { SESSIONS ≤ out.old.count_spare }
@@ -27,8 +27,8 @@ impl Parts {
         self.flush_where(Some(number), out);
     }
 
-    /// What is held for each RTSP session leaves: one datagram a session at most, in order of
-    /// making.
+    /// Sends the held packets of each RTSP session: at most one datagram a session, in order of
+    /// creation.
     pub fn flush_all(&mut self, out: &mut Out)
         requires bytes { DATAGRAMS ≤ out.old.datagram_spare }
         requires count { SESSIONS ≤ out.old.count_spare }
@@ -41,7 +41,7 @@ impl Parts {
         self.flush_where(None, out);
     }
 
-    // What is held for each RTSP session of a stream, or of all streams, leaves.
+    // Sends the held packets of each RTSP session of a stream, or of all streams.
     fn flush_where(&mut self, only: Option<u16>, out: &mut Out)
         requires bytes { DATAGRAMS ≤ out.old.datagram_spare }
         requires count { SESSIONS ≤ out.old.count_spare }
@@ -55,7 +55,7 @@ impl Parts {
         }
     }
 
-    // The session at a place has its turn in a flush.
+    // Sends the held packets of the session at a place, if it is one of those to flush.
     fn flush_place(&mut self, place: usize, only: Option<u16>, out: &mut Out)
         requires bytes { DATAGRAM ≤ out.old.datagram_spare }
         requires count { out.old.count_spare ≢ 0 }
@@ -75,7 +75,7 @@ impl Parts {
     }
 }
 
-// Whether a flush of a stream, or of all streams, is for a session.
+// Returns whether a flush of a stream, or of all streams, is for this session.
 fn is_wanted(only: Option<u16>, session: &Session) -> bool
     ensures flushed { result ≡ is_flushed only session.now.stream session.now.http }
 {

@@ -1,4 +1,4 @@
-//! How a session comes to get packets.
+//! The subscription of a session to packets.
 
 ghost use Rattle.std.specs.Prelude.{◌≡◌, ◌<◌};
 ghost use Rattle.satip_flow.specs.Subscriptions.{IsFrontOrNone, put, without};
@@ -9,7 +9,7 @@ use satip_base::limits::SESSIONS;
 use satip_flow::{Flow, Place};
 use satip_table::{Session, Stream};
 
-/// The front end of this number, where it is one from 1 to 16.
+/// Returns the number of a front end, if it is from 1 to 16.
 pub(crate) fn known_front(front: Option<u16>) -> Option<u16>
     ensures known { IsFrontOrNone result }
     ensures same { IsFrontOrNone front → result ≡ front }
@@ -26,8 +26,8 @@ pub(crate) fn known_front(front: Option<u16>) -> Option<u16>
     }
 }
 
-/// The session of this slot begins to get the packets of its stream, in place of any other of the
-/// slot: an HTTP session by a queue, an RTSP session by datagrams.
+/// Subscribes the session of this slot to the packets of its stream, instead of any earlier session
+/// of the slot. An HTTP session gets a queue, an RTSP session datagrams.
 pub(crate) fn subscribe(flow: &mut Flow, slot: u16, session: &Session, stream: &Stream)
     requires slot { slot < SESSIONS }
     ensures added { IsFrontOrNone stream.now.front

@@ -1,4 +1,4 @@
-//! The tick: the clock goes on, held packets leave, sessions end that weren't heard of, and reports
+//! The tick: the clock advances, held packets leave, sessions without activity end, and reports
 //! leave.
 
 ghost use Rattle.std.specs.Prelude.{◌≡◌, ◌≢◌, ℕ, ◌+◌, ◌≤◌, nat_le, max, true, Some, slice_get};
@@ -18,8 +18,8 @@ use satip_rtcp::{Sender, write_report};
 use satip_table::{Seat, Session};
 
 impl Parts {
-    /// The clock goes on to `now`, a moment in milliseconds of Unix time of at most 2^48 - 1. What
-    /// packers hold leaves, each session ends that wasn't heard of for the timeout, and each
+    /// Advances the clock to `now`, in milliseconds of Unix time; later times than 2^48 - 1 count
+    /// as that. Held packets leave, and each session without activity for the timeout ends. Each
     /// playing RTSP session gets a report every 200 milliseconds (SAT>IP 1.2.2, 3.5.13). `address`
     /// is the server's IPv4 address.
     pub fn tick(&mut self, now: u64, address: u32, out: &mut Out)
@@ -36,7 +36,7 @@ impl Parts {
         self.send_reports(address, out);
     }
 
-    // The clock goes on, never back.
+    // Advances the clock, never back.
     fn advance(&mut self, now: u64)
         ensures advanced { (c : Config) (st : State) → StandsFor c self.old st
             → StandsFor c self.new (record st { clock = max st.clock (capped now) }) }
@@ -44,7 +44,7 @@ impl Parts {
         self.clock = self.clock.max(now.min(LAST_MOMENT));
     }
 
-    // Each session ends that wasn't heard of for the timeout, and what it holds is dropped.
+    // Ends each session without activity for the timeout, without sending what it holds.
     fn end_expired(&mut self)
         ensures ended { (c : Config) (st : State) → StandsFor c self.old st
             → StandsFor c self.new (end_where (is_expired c st.clock) st).state }
@@ -58,7 +58,7 @@ impl Parts {
         }
     }
 
-    // Each session that is due gets a report.
+    // Sends a report to each session that is due for one.
     fn send_reports(&mut self, address: u32, out: &mut Out)
         requires bytes { REPORTS ≤ out.old.datagram_spare }
         requires count { SESSIONS ≤ out.old.count_spare }
@@ -72,7 +72,7 @@ impl Parts {
         }
     }
 
-    // The session at a place gets a report if it is due.
+    // Sends a report to the session at a place, if it is due for one.
     fn report_place(&mut self, place: usize, address: u32, out: &mut Out)
         requires bytes { REPORT ≤ out.old.datagram_spare }
         requires count { out.old.count_spare ≢ 0 }
@@ -91,8 +91,8 @@ impl Parts {
         self.report(&seat, address, out);
     }
 
-    // The session of this seat gets a report. Not inlined, so that sessions that aren't due need no
-    // room for a view.
+    // Sends a report to the session of this seat. Not inlined, so that sessions that aren't due
+    // need no room for a view.
     #[inline(never)]
     fn report(&mut self, seat: &Seat, address: u32, out: &mut Out)
         requires bytes { REPORT ≤ out.old.datagram_spare }
@@ -119,14 +119,14 @@ impl Parts {
     }
 }
 
-// Whether a session plays over RTSP, and its last report is at least 200 milliseconds old.
+// Returns whether a session plays over RTSP, and its last report is at least 200 milliseconds old.
 fn is_report_due(clock: u64, session: &Session) -> bool
     ensures due { result ≡ is_row_due clock session.now }
 {
     session.playing && !session.http && is_old(session.reported, clock)
 }
 
-// Whether there was no report, or it is at least 200 milliseconds old.
+// Returns whether there was no report, or it is at least 200 milliseconds old.
 fn is_old(reported: Option<u64>, clock: u64) -> bool
     ensures old { result ≡ option_map_or (λ at. nat_le (at + REPORT_MS) clock) reported true }
 {
@@ -136,7 +136,7 @@ fn is_old(reported: Option<u64>, clock: u64) -> bool
     }
 }
 
-// Who sends the session's report, and what was sent.
+// Returns the sender part of the session's report: addresses, clock and counts.
 fn sender_of_session(clock: u64, address: u32, session: &Session, sent: &SenderState) -> Sender
     ensures to { result.to ≡ record { ip = session.now.peer.ip; port = session.now.ports.rtcp } }
     ensures ssrc { result.ssrc ≡ session.now.ssrc }

@@ -1,4 +1,4 @@
-//! Streams as their clients are shown them.
+//! Views of streams, as clients see them.
 
 ghost use Rattle.std.specs.Prelude.{◌≡◌, is_some, option_and_then, option_map, slice_get, ◌==◌, ◌&&◌};
 ghost use Rattle.std.specs.List.{list_any};
@@ -15,7 +15,7 @@ use satip_rtcp::StreamView;
 use satip_table::{Session, Stream};
 
 impl Parts {
-    /// The stream of this number, as its clients are shown it; None where it doesn't live.
+    /// Returns the view of the stream of this number; None if the stream isn't alive.
     pub fn view(&self, number: u16) -> Option<StreamView>
         ensures view { (c : Config) (st : State) → StandsFor c self.now st
             → result ≡ option_map (view_of st) (stream_of st number) }
@@ -26,8 +26,8 @@ impl Parts {
         }
     }
 
-    /// The stream at this place, from 0, in rising number, as its clients are shown it; None where
-    /// there is none.
+    /// Returns the view of the stream at this place, from 0, in rising number; None if there is
+    /// none.
     pub fn view_at(&self, place: usize) -> Option<StreamView>
         ensures view { (c : Config) (st : State) → StandsFor c self.now st
             → result ≡ option_map (view_of st) (slice_get st.streams place) }
@@ -38,8 +38,8 @@ impl Parts {
         }
     }
 
-    /// A stream, as its clients are shown it. It is large, so a caller that has its row asks for it
-    /// here.
+    /// Returns the view of a stream. A view is large, so a caller that has the stream's row asks
+    /// for it here.
     pub(crate) fn shown(&self, stream: &Stream) -> StreamView
         ensures view { result ≡ kept_view self.now stream.now }
     {
@@ -53,7 +53,7 @@ impl Parts {
         }
     }
 
-    // Whether the front end has a multiplex.
+    // Returns whether the front end is tuned to a multiplex.
     #[tactic(auto, unfolding(satip_fronts::specs::FrontEnds::state_of, satip_fronts::specs::FrontEnds::mux_at))]
     fn is_locked(&self, front: Option<u16>) -> bool
         ensures locked { result ≡ is_some (option_and_then (mux_at self.now.fronts.rows) front) }
@@ -67,7 +67,7 @@ impl Parts {
         }
     }
 
-    // Whether one of the stream's sessions plays.
+    // Returns whether one of the stream's sessions plays.
     fn is_playing(&self, number: u16) -> bool
         ensures plays { result ≡ list_any (plays_in number) self.now.table.seats }
     {
@@ -83,7 +83,7 @@ impl Parts {
     }
 }
 
-// Whether a session plays, and is of the stream.
+// Returns whether a session plays and is of the stream.
 fn is_player(session: &Session, number: u16) -> bool
     ensures plays { result ≡ (session.now.stream == number && session.now.playing) }
 {

@@ -1,2 +1,3 @@
 mod CountLemmas
 mod RunLemmas
+pub mod EndLemmas

@@ -12,7 +12,7 @@ use Rattle.satip_plain.specs.Steps.{Outcome, step}
 use Rattle.satip_plain.specs.Types.{Config, Draw, Peer, Request}
 use Rattle.satip_plain.specs.Histories.{opening}
 use Rattle.satip_script.specs.Runs.{run, run_from}
-use Rattle.satip_state.specs.Standing.{StandsFor}
+use Rattle.satip_core.specs.Standing.{StandsFor}
 use Rattle.satip_core.specs.Serving.{Stands, Steps}
 use Rattle.satip_stress.specs.declared.counted.Counted.{Counted}
 use Rattle.satip_stress.specs.declared.counting.Counts.{Counts}

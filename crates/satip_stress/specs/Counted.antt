@@ -5,11 +5,11 @@ use Rattle.satip_plain.specs.declared.answers.Answer.{Answer}
 use Rattle.satip_stress.specs.declared.counting.Counts.{Counts}
 use Rattle.satip_stress.specs.Counting.{is_reply, is_refusal, is_media, is_report, packets_in}
 
--- before any entry
+-- the counts before any entry
 abbrev pub none_counted : Counts
 none_counted = record { events = 0; replies = 0; refused = 0; datagrams = 0; payload = 0; reports = 0 }
 
--- with these datagrams too
+-- the counts with these datagrams added
 abbrev pub with_datagrams : Counts → List Datagram → Counts
 with_datagrams c ds = record {
   events = c.events;
@@ -20,7 +20,7 @@ with_datagrams c ds = record {
   reports = c.reports + count_by is_report ds;
 }
 
--- with this answer too
+-- the counts with this answer added
 abbrev pub with_answer : Counts → Answer → Counts
 with_answer c answer = record {
   events = c.events + 1;
@@ -31,11 +31,11 @@ with_answer c answer = record {
   reports = c.reports;
 }
 
--- with an entry of this answer and these datagrams
+-- the counts with an entry of this answer and these datagrams added
 abbrev pub with_entry : Counts → Answer → List Datagram → Counts
 with_entry c answer ds = with_datagrams (with_answer c answer) ds
 
--- no count is above what its entries can give
+-- no count exceeds what its number of events can give
 pub record IsBounded (c : Counts) : Type 0 where
   pub replies : c.replies ≤ c.events
   pub refused : c.refused ≤ c.events

@@ -7,24 +7,26 @@ use Rattle.satip_plain.specs.declared.answers.Answer.TheVariants.{Replied}
 use Rattle.satip_plain.specs.Histories.{Item}
 use Rattle.satip_stress.specs.declared.counting.Counts.{Counts}
 
--- whether an answer is an RTSP reply, and whether that refuses
+-- whether an answer is an RTSP reply
 abbrev pub is_reply : Answer → Bool
 is_reply (Replied replied) = true
 is_reply answer = false
 
+-- whether an answer is an RTSP reply with another status than 200
 abbrev pub is_refusal : Answer → Bool
 is_refusal (Replied replied) = not (replied.status == 200)
 is_refusal answer = false
 
--- the second byte tells what a datagram is: payload type 33 is a transport stream over RTP
--- (RFC 3550, 5.1; RFC 2250, 2), packet type 200 a sender report (RFC 3550, 6.4.1)
+-- the kind of a datagram is its second byte: payload type 33 is a transport stream over RTP (RFC 3550, 5.1; RFC 2250, 2), packet type 200 a sender report (RFC
+-- 3550, 6.4.1)
 abbrev pub is_media : Datagram → Bool
 is_media d = slice_index d.bytes 1 == 33
 
+-- whether a datagram is a sender report
 abbrev pub is_report : Datagram → Bool
 is_report d = slice_index d.bytes 1 == 200
 
--- how many transport packets a datagram has behind its RTP header
+-- the number of transport packets after a datagram's RTP header
 abbrev pub packets_in : Datagram → ℕ
 packets_in d = cond (is_media d) ((length d.bytes - 12) / 188) 0
 

@@ -3,3 +3,4 @@ pub mod Counting
 pub mod Ends
 pub mod Making
 pub mod Running
+pub mod CommandEnds

@@ -1,4 +1,4 @@
--- The events of a stress run: five that open it, and one for each word of a generator behind them.
+-- The events of a stress run: the opening ones, and after them one for each word of a generator.
 use Rattle.std.specs.Prelude.{ℕ, ◌+◌, ◌/◌, ◌%◌, ◌^◌, ◌==◌, ◌&&◌, nat_le, true, false, if◌then◌else◌, List, [], ◌∷◌, ◌++◌, map, replicate, Option, None, Some}
 use Rattle.std.specs.List.{range_with_len}
 use Rattle.std.specs.Int.{w64, to_le_bytes}
@@ -38,6 +38,7 @@ stress_config = record {
   files = [];
 }
 
+-- the setting of a run: its clock starts at 0
 unfoldable pub stress_setting : Setting
 stress_setting = record { config = stress_config; start = 0 }
 
@@ -113,16 +114,17 @@ founding_query = record {
   delpids = None;
 }
 
--- `addpids` and `delpids` with one PID
+-- `addpids` with one PID
 abbrev pub adding : ℕ → Query
 adding pid = record new_query { addpids = Some (pid ∷ []) }
 
+-- `delpids` with one PID
 abbrev pub removing : ℕ → Query
 removing pid = record new_query { delpids = Some (pid ∷ []) }
 
 -- ---- the events
 
--- a client founds stream 1 and another joins it, and both play
+-- a client creates stream 1 and another joins it, and both play
 unfoldable pub opening_events : List Event
 opening_events =
     Tick 1000
@@ -136,14 +138,15 @@ opening_events =
 unfoldable pub packet_of : ℕ → List ℕ
 packet_of pid = 71 ∷ 0 ∷ pid ∷ 16 ∷ replicate 184 0
 
--- what a word says: its rest modulo 64 the kind of event, and 7 bits above that a PID
+-- the kind of a word's event; the 7 bits above it are a PID
 abbrev pub kind_in : ℕ → ℕ
 kind_in word = word % 64
 
+-- the PID in a word
 abbrev pub pid_in : ℕ → ℕ
 pid_in word = word / 64 % 128
 
--- the event of a word, behind a tick at a moment, where the next request has this number
+-- the event of a word, given the moment of the last tick and the number of the next request
 unfoldable pub event_of : ℕ → ℕ → ℕ → Event
 event_of word moment cseq =
     if kind_in word == 0 then Tick (moment + 40)
@@ -153,14 +156,15 @@ event_of word moment cseq =
     else if kind_in word == 4 then Asked first.peer (draw_of 0) (play cseq first (removing (pid_in word)))
     else Packet 1 1 (packet_of (pid_in word))
 
--- the moment of the last tick behind the event of a word, and the number of the next request
+-- the moment of the last tick after the event of a word
 unfoldable pub moment_after : ℕ → ℕ → ℕ
 moment_after word moment = if kind_in word == 0 then moment + 40 else moment
 
+-- the number of the next request after the event of a word
 unfoldable pub cseq_after : ℕ → ℕ → ℕ
 cseq_after word cseq = if nat_le 1 (kind_in word) && nat_le (kind_in word) 4 then cseq + 1 else cseq
 
--- the events of words, behind a tick at a moment, where the next request has this number
+-- the events of words, given the moment of the last tick and the number of the next request
 unfoldable pub events_of : List ℕ → ℕ → ℕ → List Event
 events_of [] moment cseq = []
 events_of (word ∷ words) moment cseq =
@@ -176,7 +180,7 @@ seed_bytes seed = to_le_bytes w64 seed ++ replicate 24 0
 unfoldable pub word : ℕ → ℕ → ℕ
 word seed place = word_at 4 (key_of (seed_bytes seed)) 0 (place % 2 ^ 68)
 
--- so many words, from a place on
+-- count words, from a place on
 abbrev pub words_from : ℕ → ℕ → ℕ → List ℕ
 words_from seed place count = map (word seed) (range_with_len place count)
 

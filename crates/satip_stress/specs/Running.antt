@@ -1,4 +1,4 @@
--- A run in the middle of its events.
+-- The state in the middle of a run.
 use Rattle.std.specs.Prelude.{◌≡◌, ℕ, ◌+◌, ◌%◌, ◌^◌, ◌<◌, List, ◌++◌, map}
 use Rattle.rand_chacha.specs.ChaCha.{ChaCha, key_of}
 use Rattle.satip_plain.specs.declared.events.Event.{Event}
@@ -17,26 +17,28 @@ use Rattle.satip_stress.specs.Counting.{counts}
 use Rattle.satip_stress.specs.Counted.{with_entry, IsBounded, HasRoom}
 use Rattle.satip_stress.specs.Making.{first, options, play, adding, removing, seed_bytes, opening_events, stress_setting}
 
--- the counts with the entry of an outcome
+-- the counts with the entry of an outcome added
 abbrev pub with_outcome : Counts → Outcome → Counts
 with_outcome c o = with_entry c o.answer (map datagram o.sent)
 
--- the server stands for the state that an event leaves, and the event's entry is counted
+-- the server holds the state that an event leaves, and the event's entry is counted
 pub record Did (old : Counted) (o : Outcome) (new : Counted) : Type 0 where
   pub stands : Stands new.server o.state
   pub counts : new.counts ≡ with_outcome old.counts o
 
--- whatever state the server stood for, it did the plain server's step at this event
+-- from whatever state the server held, it took the plain server's step at this event
 abbrev pub Makes : Counted → Event → Counted → Type 0
 Makes old event new = (st : State) → Stands old.server st → Did old (step old.server.setting.config st event) new
 
--- requests that are changed where they stand
+-- an OPTIONS of a client; it and the two PLAYs are changed in place
 abbrev pub IsOptions : Request → Type 0
 IsOptions r = (cseq : ℕ) × (client : Client) × (r ≡ options cseq client)
 
+-- a PLAY of the first client that adds a PID
 abbrev pub IsAdding : Request → Type 0
 IsAdding r = (cseq : ℕ) × (pid : ℕ) × (r ≡ play cseq first (adding pid))
 
+-- a PLAY of the first client that removes a PID
 abbrev pub IsRemoving : Request → Type 0
 IsRemoving r = (cseq : ℕ) × (pid : ℕ) × (r ≡ play cseq first (removing pid))
 
@@ -45,11 +47,11 @@ pub record AreKept (kept : Kept) : Type 0 where
   pub adding : IsAdding kept.adding
   pub removing : IsRemoving kept.removing
 
--- the generator stands before the word at this place
+-- the generator is before the word at this place
 abbrev pub before_word : ℕ → ℕ → ChaCha
 before_word seed place = record { key = key_of (seed_bytes seed); stream = 0; word_pos = place % 2 ^ 68 }
 
--- two counts together
+-- the sum of two counts
 abbrev pub plus : Counts → Counts → Counts
 plus a b = record {
   events = a.events + b.events;
@@ -60,17 +62,17 @@ plus a b = record {
   reports = a.reports + b.reports;
 }
 
--- with the entries of the events that are still to come the counts are these
+-- the counts are `total` if the entries of these further events are added
 pub record ComesTo (total : Counts) (now : Counted) (others : List Event) : Type 0 where
   pub state : State
   pub stands : Stands now.server state
   pub comes : plus now.counts (counts (run_from now.server.setting.config state others)) ≡ total
 
--- the counts of a run that has these events behind those that open it, where the run has come to these
+-- whatever events follow the opening ones, their counts added to the present ones are the counts of the whole run
 abbrev pub Opens : Counted → Type 0
 Opens now = (others : List Event) → ComesTo (counts (run stress_setting (opening_events ++ others))) now others
 
--- a run makes an event, and this is then the moment of the last tick and the number of the next request
+-- a run executes an event; these are then the moment of the last tick and the number of the next request
 pub record Goes (old : Run) (e : Event) (moment cseq : ℕ) (new : Run) : Type 0 where
   pub setting : new.counted.server.setting ≡ old.counted.server.setting
   pub made : Makes old.counted e new.counted
@@ -80,7 +82,7 @@ pub record Goes (old : Run) (e : Event) (moment cseq : ℕ) (new : Run) : Type 0
   pub moment_is : new.moment ≡ moment
   pub cseq_is : new.cseq ≡ cseq
 
--- a run can make its next event
+-- a run can execute its next event
 pub record IsReady (now : Run) : Type 0 where
   pub room : HasRoom now.counted.counts
   pub kept : AreKept now.kept

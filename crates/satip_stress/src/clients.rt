@@ -5,14 +5,14 @@ ghost use Rattle.satip_stress.specs.Making.{first, second, draw_of};
 
 use satip_base::{Draw, Peer, SessionId};
 
-/// A client: where it asks from, and its session.
+/// A client: its address, and its session.
 #[derive(Clone, Copy, Debug, PartialEq, Eq)]
 pub(crate) struct Client {
     pub(crate) peer: Peer,
     pub(crate) session: SessionId,
 }
 
-/// The client at 10.0.0.2.
+/// Returns the client at 10.0.0.2.
 pub(crate) fn first_client() -> Client
     ensures first { result ≡ first }
 {
@@ -22,7 +22,7 @@ pub(crate) fn first_client() -> Client
     }
 }
 
-/// The client at 10.0.0.3.
+/// Returns the client at 10.0.0.3.
 pub(crate) fn second_client() -> Client
     ensures second { result ≡ second }
 {
@@ -32,7 +32,7 @@ pub(crate) fn second_client() -> Client
     }
 }
 
-/// The draw of a request: word and SSRC of this number, and sequence numbers from 0 on.
+/// Returns the draw of a request: this number as word and SSRC, and sequence numbers from 0 on.
 pub(crate) fn draw_of_number(number: u32) -> Draw
     ensures draw { result ≡ draw_of number }
 {

@@ -1,4 +1,4 @@
-//! A server whose entries are counted.
+//! A server that counts its entries.
 
 ghost use Rattle.std.specs.Prelude.{◌≡◌, ◌+◌, IfOk};
 ghost use Rattle.satip_plain.specs.declared.events.Event.TheVariants.{Request as Asked, Tick, Packet as PacketCame};
@@ -26,7 +26,7 @@ pub(crate) struct Counted {
 }
 
 impl Counted {
-    /// The server before any event. All memory is taken here.
+    /// Creates the server before any event. Takes all memory of the run.
     #[tactic(auto, unfolding(crate::specs::Making::stress_setting))]
     pub(crate) fn make(alloc: Global) -> Result<Counted, Want>
         ensures setting { IfOk result (λ counted. counted.server.setting ≡ stress_setting) }
@@ -35,13 +35,13 @@ impl Counted {
     {
         let config = make_config(alloc)?;
         Ok(Counted {
-            server: Server::make(alloc, config, 0)?,
-            counts: Counts::none(),
             out: Out::make(alloc)?,
+            counts: Counts::none(),
+            server: Server::make(alloc, config, 0)?,
         })
     }
 
-    /// A client asks over RTSP.
+    /// Executes an RTSP request, and counts its entry.
     pub(crate) fn request(&mut self, peer: Peer, draw: Draw, request: &Request)
         requires room { HasRoom self.old.counts }
         ensures setting { self.new.server.setting ≡ self.old.server.setting }
@@ -53,7 +53,7 @@ impl Counted {
         self.counts.add(Answer::Replied(replied), &self.out);
     }
 
-    /// The clock goes on.
+    /// Executes a tick, and counts its entry.
     pub(crate) fn tick(&mut self, now: u64)
         requires room { HasRoom self.old.counts }
         ensures setting { self.new.server.setting ≡ self.old.server.setting }
@@ -65,7 +65,7 @@ impl Counted {
         self.counts.add(Answer::Beat(beat), &self.out);
     }
 
-    /// A packet of front end 1 comes, for its tuning number 1.
+    /// Executes a packet of front end 1 for its tune number 1, and counts its entry.
     pub(crate) fn packet(&mut self, packet: &Packet)
         requires room { HasRoom self.old.counts }
         ensures setting { self.new.server.setting ≡ self.old.server.setting }

@@ -10,14 +10,14 @@ use satip_base::limits::{PACKET, RTP_HEAD};
 use satip_base::{Out, Strip};
 use satip_plain::Answer;
 
-// The second byte of an RTP datagram with a transport stream (RFC 2250, 2), and of a sender report
-// (RFC 3550, 6.4.1).
+// The second byte of an RTP datagram that has a transport stream (RFC 2250, 2), and of a sender
+// report (RFC 3550, 6.4.1).
 const MEDIA: u8 = 33;
 
 const SENDER_REPORT: u8 = 200;
 
-/// What is counted: events, RTSP replies, those whose status isn't 200, RTP datagrams, transport
-/// packets in them, and RTCP datagrams.
+/// The counts of a run: events, RTSP replies, those whose status isn't 200, RTP datagrams,
+/// transport packets in them, and RTCP datagrams.
 #[derive(Clone, Copy, Debug, PartialEq, Eq)]
 pub(crate) struct Counts {
     pub(crate) events: u64,
@@ -29,7 +29,7 @@ pub(crate) struct Counts {
 }
 
 impl Counts {
-    /// The counts before any event.
+    /// Returns the counts before any event.
     pub(crate) fn none() -> Counts
         ensures none { result ≡ none_counted }
     {
@@ -43,7 +43,7 @@ impl Counts {
         }
     }
 
-    /// Counts an event by its answer and what it wrote.
+    /// Counts an event by its answer and its datagrams.
     pub(crate) fn add(&mut self, answer: Answer, out: &Out)
         requires room { HasRoom self.old }
         ensures counted { self.new ≡ with_entry self.old answer out.now.datagrams }

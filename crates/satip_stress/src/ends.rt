@@ -1,12 +1,12 @@
-//! How a stress run ends.
+//! The ends of a stress run.
 
-/// How a stress run ends.
+/// The end of a stress run.
 #[derive(Clone, Copy, Debug, PartialEq, Eq)]
 pub enum StressEnd {
     /// The six lines were written.
     Done,
-    /// The output failed behind a beginning of them.
+    /// The output failed after a prefix of them.
     OutputFault,
-    /// Memory was refused, and nothing was written.
+    /// Out of memory. Nothing was written.
     OutOfMemory,
 }

@@ -1,4 +1,4 @@
-//! Requests that are changed where they stand, since they are large.
+//! Requests that are changed in place, since they are large.
 
 ghost use Rattle.std.specs.Prelude.{◌≡◌};
 ghost use Rattle.satip_stress.specs.Making.{first, options, play, adding, removing};
@@ -18,7 +18,7 @@ pub(crate) struct Kept {
 }
 
 impl Kept {
-    /// One request of each kind.
+    /// Creates one request of each kind.
     pub(crate) fn new() -> Kept
         ensures kept { AreKept result }
     {
@@ -34,7 +34,7 @@ impl Kept {
     }
 }
 
-/// Makes the OPTIONS of a client of a kept one.
+/// Changes a kept OPTIONS to that of this client.
 pub(crate) fn renew_options(request: &mut Request, cseq: u32, client: Client)
     requires kept { IsOptions request.old }
     ensures renewed { request.new ≡ options cseq client }
@@ -43,7 +43,7 @@ pub(crate) fn renew_options(request: &mut Request, cseq: u32, client: Client)
     request.session = SessionName::Named(client.session);
 }
 
-/// Makes the PLAY that adds a PID of a kept one.
+/// Changes a kept PLAY to one that adds this PID.
 pub(crate) fn renew_adding(request: &mut Request, cseq: u32, pid: u8)
     requires kept { IsAdding request.old }
     ensures renewed { request.new ≡ play cseq first (adding pid) }
@@ -52,7 +52,7 @@ pub(crate) fn renew_adding(request: &mut Request, cseq: u32, pid: u8)
     request.query.addpids = Some(one_pid(pid));
 }
 
-/// Makes the PLAY that removes a PID of a kept one.
+/// Changes a kept PLAY to one that removes this PID.
 pub(crate) fn renew_removing(request: &mut Request, cseq: u32, pid: u8)
     requires kept { IsRemoving request.old }
     ensures renewed { request.new ≡ play cseq first (removing pid) }

@@ -1,8 +1,11 @@
-//! The command `stress` as a function of its seed, its count and its output: events that a
-//! generator makes, run on the one-thread server one at a time and counted.
+//! Runs the command `stress`: events that a generator makes of a seed, on the one-thread server.
+//! Contract: the output is the six counts of the run of the seed's events, or a prefix of them; out
+//! of memory ends it without output.
+//! Only tested: that the texts of the requests ask for what the definition says.
 #![tactic(auto)]
 
 mod clients;
+mod command;
 mod counted;
 mod counting;
 mod ends;
@@ -10,6 +13,9 @@ mod kept;
 mod making;
 mod running;
 mod stressing;
+mod telling;
 
+pub use command::stress_by;
 pub use ends::StressEnd;
 pub use stressing::{MOST_EVENTS, stress};
+pub use telling::status_of;

@@ -1,4 +1,4 @@
-//! What a run is made of: a configuration, requests and packets.
+//! Makes the parts of a run: a configuration, requests and packets.
 
 ghost use Rattle.std.specs.Prelude.{◌≡◌, ◌<◌, ◌∷◌, [], Some, None, IfOk};
 ghost use Rattle.satip_stress.specs.Making.{stress_config, front_end, multiplex, setup, play, options, founding_query, packet_of, seed_bytes};
@@ -14,7 +14,7 @@ use satip_ts::Packet;
 use satip_tune::{Change, Front, Mux, Pol, System};
 use std::alloc::Global;
 
-/// The configuration of a run: one front end and one multiplex.
+/// Makes the configuration of a run: one front end and one multiplex.
 pub(crate) fn make_config(alloc: Global) -> Result<Config, Want>
     ensures config { IfOk result (λ config. config ≡ stress_config) }
 {
@@ -59,7 +59,7 @@ fn make_multiplex() -> Mux
     }
 }
 
-/// A SETUP of a stream, or of a new one.
+/// Makes a SETUP of a stream, or of a new one if `stream` is None.
 pub(crate) fn make_setup(cseq: u32, stream: Option<u16>, query: Query, port: u16) -> Request
     requires port { port < 65535 }
     ensures request { result ≡ setup cseq stream query port }
@@ -78,7 +78,7 @@ pub(crate) fn make_setup(cseq: u32, stream: Option<u16>, query: Query, port: u16
     }
 }
 
-/// A PLAY of stream 1.
+/// Makes a PLAY of stream 1.
 pub(crate) fn make_play(cseq: u32, client: Client, query: Query) -> Request
     ensures request { result ≡ play cseq client query }
 {
@@ -93,7 +93,7 @@ pub(crate) fn make_play(cseq: u32, client: Client, query: Query) -> Request
     }
 }
 
-/// An OPTIONS.
+/// Makes an OPTIONS.
 pub(crate) fn make_options(cseq: u32, client: Client) -> Request
     ensures request { result ≡ options cseq client }
 {
@@ -108,7 +108,7 @@ pub(crate) fn make_options(cseq: u32, client: Client) -> Request
     }
 }
 
-/// The query of the SETUP that founds the stream.
+/// Makes the query of the SETUP that creates the stream.
 pub(crate) fn make_founding_query() -> Query
     ensures query { result ≡ founding_query }
 {
@@ -141,7 +141,7 @@ fn founding_pids() -> PidList
     pids
 }
 
-/// The list of one PID.
+/// Makes the list of one PID.
 pub(crate) fn one_pid(pid: u8) -> PidList
     ensures pids { result ≡ pid ∷ [] }
 {
@@ -150,7 +150,7 @@ pub(crate) fn one_pid(pid: u8) -> PidList
     pids
 }
 
-/// A packet of a PID below 128: a payload of zeros, and no adaptation field.
+/// Makes a packet of a PID below 128: a payload of zeros, and no adaptation field.
 #[tactic(auto, unfolding(crate::specs::Making::packet_of))]
 pub(crate) fn make_packet(pid: u8) -> Packet
     ensures packet { result ≡ packet_of pid }
@@ -165,7 +165,7 @@ pub(crate) fn make_packet(pid: u8) -> Packet
     }
 }
 
-/// The seed of the generator: the number, low byte first, and zeros.
+/// Makes the seed of the generator: the number, low byte first, and zeros.
 pub(crate) fn make_seed(seed: u64) -> [u8; 32]
     ensures seed { result ≡ seed_bytes seed }
 {

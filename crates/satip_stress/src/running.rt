@@ -1,4 +1,4 @@
-//! The run: events are made one at a time, and each is answered and counted.
+//! Runs the events: generates them one at a time, executes and counts each.
 
 ghost use Rattle.std.specs.Prelude.{◌≡◌, ℕ, ◌+◌, ◌≤◌, IfOk};
 ghost use Rattle.satip_script.specs.Runs.{run};
@@ -32,7 +32,7 @@ struct Run {
     cseq: u32,
 }
 
-/// Makes the events of a seed, so many behind those that open a run, and counts their entries.
+/// Executes the opening events and then `count` events of a seed, and counts their entries.
 pub(crate) fn count_events(alloc: Global, seed: u64, count: u32) -> Result<Counts, Want>
     requires few { count ≤ 1000000 }
     ensures counted { IfOk result (λ counted. counted
@@ -46,7 +46,7 @@ pub(crate) fn count_events(alloc: Global, seed: u64, count: u32) -> Result<Count
     Ok(run.counted.counts)
 }
 
-// The next word of the generator.
+// Returns the next word of the generator.
 #[tactic(auto, unfolding(crate::specs::Making::word))]
 fn next_word(words: &mut ChaCha8Rng) -> u32
     ensures word { (seed : ℕ) (place : ℕ) → words.old ≡ before_word seed place
@@ -57,7 +57,7 @@ fn next_word(words: &mut ChaCha8Rng) -> u32
     words.next_word()
 }
 
-// A run behind the events that open it.
+// Creates a run and executes its opening events.
 fn open(alloc: Global) -> Result<Run, Want>
     ensures ready { IfOk result IsReady }
     ensures opens { IfOk result (λ run. Opens run.counted) }
@@ -75,7 +75,7 @@ fn open(alloc: Global) -> Result<Run, Want>
     })
 }
 
-// Makes the events that open a run.
+// Executes the opening events of a run.
 fn make_opening(counted: &mut Counted)
     requires setting { counted.old.server.setting ≡ stress_setting }
     requires opening { Stands counted.old.server (opening stress_setting) }
@@ -97,7 +97,7 @@ fn make_opening(counted: &mut Counted)
 }
 
 impl Run {
-    // Makes the event of a word.
+    // Executes the event of a word.
     fn answer(&mut self, word: u32)
         requires ready { IsReady self.old }
         ensures goes { Goes self.old (event_of word self.old.moment self.old.cseq)

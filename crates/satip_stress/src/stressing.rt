@@ -1,4 +1,4 @@
-//! `stress`: the six counts of a run of made events.
+//! `stress`: writes the six counts of a run of generated events.
 
 ghost use Rattle.std.specs.Prelude.{◌≡◌, ◌≤◌};
 ghost use Rattle.satip_base.specs.Streams.{PutAll, FailedToPut};
@@ -9,21 +9,21 @@ use crate::running::count_events;
 use satip_base::{Put, Sink, Strip};
 use std::alloc::Global;
 
-/// The most events of a run behind those that open it.
+/// The most events of a run after the opening ones.
 pub const MOST_EVENTS: u32 = 1000000;
 
-/// Runs made events on a server of its own and writes six counts, a line each: events, RTSP
+/// Runs generated events on a private server and writes six counts, a line each: events, RTSP
 /// replies, those whose status isn't 200, RTP datagrams, transport packets in them, and reports.
-/// Two clients found and join a stream; behind that each of `count` words of the ChaCha8 generator
-/// of the seed makes one event. All memory is taken before anything is written, and no list of the
-/// events is kept. It always returns. The generator stands in docs/PROTOCOL.md under Stress runs.
+/// Two clients create and join a stream. After that each of `count` words of the ChaCha8 generator
+/// of the seed is one event. All memory is taken before anything is written, and no list of the
+/// events is kept. It always returns. For the generator see docs/PROTOCOL.md, Stress runs.
 pub fn stress<O: Sink>(alloc: Global, seed: u64, count: u32, output: &mut O) -> StressEnd
     requires few { count ≤ 1000000 }
     // With `Done` all of it was written.
     ensures done { result ≡ StressEnd.Done → PutAll O.tells
         (O.drain output.old) (O.drain output.new)
         (stressed seed count) }
-    // With these a beginning of it was written, or nothing.
+    // With these a prefix of it was written, or nothing.
     ensures output_fault { result ≡ StressEnd.OutputFault → FailedToPut O.tells
         (O.drain output.old) (O.drain output.new)
         (stressed seed count) }

@@ -1,10 +1,10 @@
--- What of a session changes while it lives.
+-- Changes of a living session.
 use Rattle.satip_table.specs.declared.session.Session.{Session}
 use Rattle.satip_table.specs.declared.session.Change.{Change}
 use Rattle.satip_table.specs.declared.session.Change.TheVariants.{Heard, Playing, Address, Reported}
 use Rattle.satip_table.specs.Sessions.{heard_at, moved_to, played, reported_at}
 
--- the session once this changed
+-- the session after this change
 abbrev pub changed_by : Change → Session → Session
 changed_by (Heard now) = heard_at now
 changed_by Playing = played

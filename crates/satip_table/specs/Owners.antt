@@ -4,11 +4,11 @@ use Rattle.satip_base.specs.declared.identity.SessionId.{SessionId}
 use Rattle.satip_table.specs.declared.stream.Stream.{Stream}
 use Rattle.satip_table.specs.Streams.{has_number}
 
--- the stream, with this owner where it has this number
+-- the stream, with this owner if it has this number
 unfoldable pub owned_where : ℕ → SessionId → Stream → Stream
 owned_where number owner stream = if has_number number stream then record stream { owner = owner } else stream
 
--- the streams, where that of this number goes to the owner, or ends where there is none
+-- the streams after that of this number got the owner, or ended if there is none
 abbrev pub handed : ℕ → Option SessionId → List Stream → List Stream
 handed number None streams = filter (λ stream. not (has_number number stream)) streams
 handed number (Some owner) streams = map (owned_where number owner) streams

@@ -1,4 +1,4 @@
--- Sessions, in order of making, each with its slot.
+-- Sessions, in order of creation, each with its slot.
 use Rattle.std.specs.Prelude.{◌≡◌, ℕ, ◌+◌, ◌<◌, ◌==◌, ◌&&◌, not, Bool, true, false, if◌then◌else◌, List, [], ◌∷◌, ◌++◌, Option, None, Some, find, filter, map}
 use Rattle.std.specs.List.{list_any}
 use Rattle.std.specs.Option.{option_map}
@@ -25,7 +25,7 @@ has_slot slot seat = seat.slot == slot
 abbrev pub is_in : ℕ → Seat → Bool
 is_in stream seat = seat.session.stream == stream
 
--- the sessions of a stream: its owner, and then those that joined it, in order
+-- the sessions of a stream: its owner, followed by those that joined it, in order
 abbrev pub members : ℕ → List Seat → List Seat
 members stream seats = filter (is_in stream) seats
 
@@ -33,11 +33,11 @@ members stream seats = filter (is_in stream) seats
 abbrev pub owner_of : List Seat → ℕ → Option SessionId
 owner_of seats stream = option_map (λ (seat : Seat). seat.session.id) (find (is_in stream) seats)
 
--- the id of the session that is made after this many
+-- the id of the next session after `made` ones
 unfoldable pub following_id : ℕ → NewSession → SessionId
 following_id made session = record { count = made + 1; word = session.draw.word }
 
--- the session that is made after this many, at this stream; an HTTP session plays at once
+-- the next session after `made` ones, at this stream; an HTTP session plays at once
 unfoldable pub session_of : ℕ → NewSession → ℕ → Session
 session_of made session stream = record {
   id = following_id made session;
@@ -52,7 +52,7 @@ session_of made session stream = record {
   first = session.draw.first;
 }
 
--- a new session comes last, in a slot below 64 that no other has
+-- the sessions after a new one was appended, in a slot below 64 that no other has
 pub record Adds (old : List Seat) (session : Session) (new : List Seat) : Type 0 where
   pub slot : ℕ
   pub within : slot < 64
@@ -63,26 +63,26 @@ pub record Adds (old : List Seat) (session : Session) (new : List Seat) : Type 0
 abbrev pub without : SessionId → List Seat → List Seat
 without id seats = filter (λ seat. not (has_id_of id seat)) seats
 
--- the session, changed where it has this id
+-- the session, changed if it has this id
 unfoldable pub changed_where : SessionId → (Session → Session) → Seat → Seat
 changed_where id change seat = if has_id_of id seat then record seat { session = change seat.session } else seat
 
--- the sessions, where that of this id is changed
+-- the sessions after that of this id was changed
 abbrev pub with_session : SessionId → (Session → Session) → List Seat → List Seat
 with_session id change seats = map (changed_where id change) seats
 
--- the session, heard of at this moment
+-- the session after activity at this moment
 unfoldable pub heard_at : ℕ → Session → Session
 heard_at now session = record session { heard = now }
 
--- the session, playing
+-- the session, as playing
 unfoldable pub played : Session → Session
 played session = record session { playing = true }
 
--- the session, whose datagrams go to these ports of this peer
+-- the session, with its datagrams sent to these ports of this peer
 unfoldable pub moved_to : Peer → Ports → Session → Session
 moved_to peer ports session = record session { peer = peer; ports = ports }
 
--- the session, reported on at this moment
+-- the session after a report at this moment
 unfoldable pub reported_at : ℕ → Session → Session
 reported_at now session = record session { reported = Some now }

@@ -1,4 +1,4 @@
--- Streams, in rising number.
+-- Streams, by rising number.
 use Rattle.std.specs.Prelude.{ℕ, ◌+◌, ◌==◌, nat_lt, not, suc, Bool, if◌then◌else◌, List, [], ◌∷◌, ◌++◌, Option, None, find, filter, map, unwrap_or}
 use Rattle.std.specs.List.{list_any, range_with_len}
 use Rattle.satip_base.specs.declared.identity.SessionId.{SessionId}
@@ -16,7 +16,7 @@ has_number number stream = stream.number == number
 abbrev pub is_live : List Stream → ℕ → Bool
 is_live streams number = list_any (has_number number) streams
 
--- the least number from 1 to 64 that doesn't live, by a test of which live; 65 where all do
+-- the least number from 1 to 64 that isn't living, by a test of those that are; 65 if all are
 abbrev pub least_number : (ℕ → Bool) → ℕ
 least_number lives = unwrap_or (find (λ number. not (lives number)) (range_with_len 1 64)) 65
 
@@ -24,7 +24,7 @@ least_number lives = unwrap_or (find (λ number. not (lives number)) (range_with
 unfoldable pub fresh : ℕ → SessionId → Stream
 fresh number owner = record { number = number; owner = owner; tuning = None; front = None; pids = Only [] }
 
--- the streams with one more, which stands behind those of lesser number
+-- the streams with one more, after those of lesser numbers
 unfoldable pub put_stream : Stream → List Stream → List Stream
 put_stream stream streams =
     filter (λ (other : Stream). nat_lt other.number stream.number) streams
@@ -38,20 +38,20 @@ lasts seats stream = list_any (is_in stream.number) seats
 unfoldable pub re_owned : List Seat → Stream → Stream
 re_owned seats stream = record stream { owner = unwrap_or (owner_of seats stream.number) stream.owner }
 
--- the streams that have sessions, each owned by the first of its own
+-- the streams that have sessions, each owned by the first of them
 unfoldable pub kept_streams : List Seat → List Stream → List Stream
 kept_streams seats streams = map (re_owned seats) (filter (lasts seats) streams)
 
--- the stream, with another tuning, front end and PID set where it has this number
+-- the stream, with another tuning, front end and PID set if it has this number
 unfoldable pub stream_where : ℕ → Option Tuning → Option ℕ → Pids → Stream → Stream
 stream_where number tuning front pids stream =
     if has_number number stream then record stream { tuning = tuning; front = front; pids = pids } else stream
 
--- the streams, where that of this number has another tuning, front end and PID set
+-- the streams after that of this number got another tuning, front end and PID set
 abbrev pub with_stream : ℕ → Option Tuning → Option ℕ → Pids → List Stream → List Stream
 with_stream number tuning front pids streams = map (stream_where number tuning front pids) streams
 
--- how many streams are numbered in order from this number on
+-- the count of streams whose numbers are consecutive from `from` on
 abbrev pub gap : ℕ → List Stream → ℕ
 gap from [] = 0
 gap from (stream ∷ streams) = if stream.number == from then suc (gap (from + 1) streams) else 0

@@ -1,4 +1,6 @@
-//! Sessions and the streams that they own or joined.
+//! Keeps sessions by slot and streams by number, each list in its order.
+//! Contract: each call is its plain function of the two lists. If the owner of a stream ends, the
+//! earliest joined session becomes its owner.
 #![tactic(auto)]
 
 mod order;

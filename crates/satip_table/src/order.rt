@@ -1,4 +1,4 @@
-//! Numbers below 64 in an order.
+//! Ordered lists of numbers below 64.
 
 ghost use Rattle.std.specs.Prelude.{◌≡◌, ◌<◌, ◌≤◌, ◌==◌, ℕ, [], ◌∷◌, ◌++◌, not, false, true, filter, length, slice_get, IfOk, IfSome};
 ghost use Rattle.std.specs.List.{insert};
@@ -8,8 +8,7 @@ use satip_base::Want;
 use std::alloc::Global;
 use std::marker::Model;
 
-/// Up to 64 numbers below 64, in an order of the caller's. Whether a number is there takes one
-/// look.
+/// Up to 64 numbers below 64, in an order that the caller chooses. `has` takes constant time.
 #[derive(Drop)]
 pub struct Order {
     numbers: Vec<u16>,
@@ -29,7 +28,7 @@ impl Model for Order {
 }
 
 impl Order {
-    /// No number. `Want` where the room was refused.
+    /// Returns an empty list. `Want` is out of memory.
     pub fn make(alloc: Global) -> Result<Order, Want>
         ensures empty { IfOk result (λ o. o ≡ []) }
     {
@@ -42,7 +41,7 @@ impl Order {
         })
     }
 
-    /// The numbers, in order.
+    /// Returns the numbers, in order.
     pub fn as_slice(&self) -> &[u16]
         ensures numbers { result.now ≡ self.now }
         ensures within { (number : ℕ) → is_there number self.now ≡ true → number < 64 }
@@ -50,21 +49,21 @@ impl Order {
         self.numbers.as_slice()
     }
 
-    /// The number at this place, where there is one.
+    /// Returns the number at this place, if there is one.
     pub fn get(&self, place: usize) -> Option<u16>
         ensures number { result ≡ slice_get self.now place }
     {
         self.numbers.get(place).copied()
     }
 
-    /// Whether the number is there.
+    /// Returns whether the list has the number.
     pub fn has(&self, number: u16) -> bool
         ensures there { result ≡ is_there number self.now }
     {
         number < 64 && self.there[number as usize]
     }
 
-    /// The least number that isn't there.
+    /// Returns the least number that the list doesn't have.
     pub fn free(&self) -> u16
         requires room { length self.now < 64 }
         ensures within { result < 64 }
@@ -78,7 +77,7 @@ impl Order {
         number
     }
 
-    /// Puts a number behind the others.
+    /// Appends a number.
     pub fn push(&mut self, number: u16)
         requires number { number < 64 }
         requires room { length self.old < 64 }
@@ -88,7 +87,7 @@ impl Order {
         self.there[number as usize] = true;
     }
 
-    /// Puts a number at a place; those from there on move up by one.
+    /// Inserts a number at a place; those from there on move up by one.
     pub fn insert(&mut self, place: usize, number: u16)
         requires place { place ≤ length self.old }
         requires number { number < 64 }
@@ -99,7 +98,7 @@ impl Order {
         self.there[number as usize] = true;
     }
 
-    /// Takes a number out; those behind it move down by one.
+    /// Removes a number; those after it move down by one.
     pub fn remove(&mut self, number: u16)
         requires number { number < 64 }
         ensures removed { self.new ≡ filter (λ other. not (number == other)) self.old }

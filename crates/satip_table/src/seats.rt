@@ -1,4 +1,4 @@
-//! The living sessions, in order of making.
+//! The living sessions, in order of creation.
 
 ghost use Rattle.std.specs.Prelude.{◌≡◌, ◌+◌, ◌<◌, [], ◌∷◌, ◌++◌, false, true, ℕ, find, length, map, slice_get, slice_index_or, is_some, IfOk, IfNone, IfSome};
 ghost use Rattle.std.specs.List.{list_any};
@@ -15,7 +15,7 @@ use satip_base::{SessionId, Want};
 use std::alloc::Global;
 use std::marker::Model;
 
-/// The living sessions, in order of making. Each has a slot, and stays there.
+/// The living sessions, in order of creation. Each has a slot, and keeps it.
 #[derive(Drop)]
 pub struct Seats {
     seats: Vec<Seat>,
@@ -36,7 +36,7 @@ impl Model for Seats {
 }
 
 impl Seats {
-    /// No session lives. Takes the room of 64; `Want` where it was refused.
+    /// Returns an empty list with room for 64 sessions. `Want` is out of memory.
     pub fn make(alloc: Global) -> Result<Seats, Want>
         ensures empty { IfOk result (λ s. s ≡ []) }
     {
@@ -53,14 +53,14 @@ impl Seats {
         Ok(Seats { seats, order })
     }
 
-    /// How many sessions live.
+    /// Returns the number of living sessions.
     pub fn count(&self) -> usize
         ensures count { result ≡ length self.now }
     {
         self.order.as_slice().len()
     }
 
-    /// The session with this id, where it lives.
+    /// Returns the session with this id, if it lives.
     pub fn find(&self, id: SessionId) -> Option<&Seat>
         requires rising { (last : ℕ) × CountsRise 0 last self.now }
         ensures seat { option_map (λ s. s.now) result ≡ find (has_id_of id) self.now }
@@ -71,7 +71,7 @@ impl Seats {
         Some(&self.seats[slot as usize])
     }
 
-    /// The session of this slot, where one lives there.
+    /// Returns the session in this slot, if one lives there.
     pub fn at(&self, slot: u16) -> Option<&Seat>
         ensures seat { option_map (λ s. s.now) result ≡ find (has_slot slot) self.now }
     {
@@ -81,7 +81,7 @@ impl Seats {
         Some(&self.seats[slot as usize])
     }
 
-    /// The session at this place in order, where there is one.
+    /// Returns the session at this place in the order, if there is one.
     pub fn get(&self, place: usize) -> Option<&Seat>
         ensures seat { option_map (λ s. s.now) result ≡ slice_get self.now place }
     {
@@ -91,14 +91,14 @@ impl Seats {
         Some(&self.seats[slot as usize])
     }
 
-    /// The id of the first session of a stream, which owns it.
+    /// Returns the id of the first session of a stream, which owns it.
     pub fn first_member(&self, stream: u16) -> Option<SessionId>
         ensures first { result ≡ owner_of self.now stream }
     {
         first_of(&self.seats, self.order.as_slice(), stream)
     }
 
-    /// The id of the session of a stream behind its owner at this place, where there is one.
+    /// Returns the id of a session of a stream after its owner, by its place among those, from 0.
     pub fn member(&self, stream: u16, place: usize) -> Option<SessionId>
         ensures member { result ≡ option_map (λ seat. seat.session.id)
             (slice_get (members stream self.now) (place + 1)) }
@@ -106,7 +106,7 @@ impl Seats {
         member_of(&self.seats, self.order.as_slice(), stream, place)
     }
 
-    /// Puts a session behind the others, in the least free slot, which is the answer.
+    /// Appends a session in the least free slot, and returns the slot.
     pub fn add(&mut self, session: Session) -> u16
         requires room { length self.old < 64 }
         ensures within { result < 64 }
@@ -119,8 +119,7 @@ impl Seats {
         slot
     }
 
-    /// Removes the session with this id, and tells which stream it was at; None where it doesn't
-    /// live.
+    /// Removes the session with this id, and returns its stream; `None` if it doesn't live.
     pub fn remove(&mut self, id: SessionId) -> Option<u16>
         requires rising { (last : ℕ) × CountsRise 0 last self.old }
         ensures stream { result ≡ option_map (λ seat. seat.session.stream)
@@ -136,7 +135,7 @@ impl Seats {
         Some(self.seats[slot as usize].session.stream)
     }
 
-    /// Changes the session with this id; false where it doesn't live.
+    /// Changes the session with this id; returns `false` if it doesn't live.
     pub fn change(&mut self, id: SessionId, to: Change) -> bool
         requires rising { (last : ℕ) × CountsRise 0 last self.old }
         ensures lives { result ≡ list_any (has_id_of id) self.old }
@@ -150,8 +149,8 @@ impl Seats {
     }
 }
 
-/// The slot of the session with this id, where it is in the order: a binary search by the ids'
-/// counts.
+/// Returns the slot of the session with this id, if it is in the order. It does a binary search by
+/// the ids' counts.
 fn slot_of(seats: &[Seat], order: &[u16], id: SessionId) -> Option<u16>
     requires within { (slot : ℕ) → is_there slot order.now ≡ true → slot < length seats.now }
     requires rising { (last : ℕ) × CountsRise 0 last (in_order no_seat seats.now order.now) }
@@ -182,7 +181,7 @@ fn slot_of(seats: &[Seat], order: &[u16], id: SessionId) -> Option<u16>
     }
 }
 
-/// The id of the first session of a stream, of those in order.
+/// Returns the id of the first session of a stream, among those in the order.
 fn first_of(seats: &[Seat], order: &[u16], stream: u16) -> Option<SessionId>
     requires within { (slot : ℕ) → is_there slot order.now ≡ true → slot < length seats.now }
     ensures first { result ≡ owner_of (in_order no_seat seats.now order.now) stream }
@@ -196,7 +195,7 @@ fn first_of(seats: &[Seat], order: &[u16], stream: u16) -> Option<SessionId>
     None
 }
 
-/// The id of the session of a stream behind its first at this place, of those in order.
+/// Returns the id of a session of a stream after its first, by its place among those, from 0.
 fn member_of(seats: &[Seat], order: &[u16], stream: u16, place: usize) -> Option<SessionId>
     requires within { (slot : ℕ) → is_there slot order.now ≡ true → slot < length seats.now }
     ensures member { result ≡ option_map (λ seat. seat.session.id)

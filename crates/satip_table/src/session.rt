@@ -1,4 +1,4 @@
-//! A session, what it is made of and what changes of it.
+//! Sessions, the data of a new one, and the changes of one.
 
 ghost use Rattle.std.specs.Prelude.{◌≡◌, ◌+◌, ◌<◌};
 ghost use Rattle.satip_table.specs.Sessions.{has_id_of, following_id, session_of};
@@ -7,9 +7,9 @@ ghost use Rattle.satip_table.specs.Seated.{nobody};
 
 use satip_base::{Draw, Peer, Ports, SessionId};
 
-/// A living session. `heard` is the moment in milliseconds at which it was last heard of,
-/// `reported` that of its last report, `ssrc` and `first` are its SSRC and first sequence number
-/// (RFC 3550, 5.1). An HTTP session has the ports 0 and 0.
+/// A living session. `http` is whether it is over HTTP; its ports are then 0 and 0. `heard` is its
+/// last activity and `reported` its last report, in milliseconds. `ssrc` and `first` are its SSRC
+/// and first sequence number (RFC 3550, 5.1).
 #[derive(Clone, Copy, Debug, PartialEq, Eq)]
 pub struct Session {
     pub id: SessionId,
@@ -24,7 +24,7 @@ pub struct Session {
     pub first: u16,
 }
 
-/// What a session is made of.
+/// The data of a new session, before it has an id and a stream.
 #[derive(Clone, Copy, Debug, PartialEq, Eq)]
 pub struct NewSession {
     pub http: bool,
@@ -34,14 +34,14 @@ pub struct NewSession {
     pub heard: u64,
 }
 
-/// A session with its slot, as a contract sees it.
+/// A session with its slot, as contracts see it.
 #[derive(Clone, Copy, Debug, PartialEq, Eq)]
 pub struct Seat {
     pub slot: u16,
     pub session: Session,
 }
 
-/// What stands in a slot that no session had yet.
+/// Returns the content of a slot that had no session yet.
 pub fn no_session() -> Session
     ensures none { result ≡ nobody }
 {
@@ -59,7 +59,7 @@ pub fn no_session() -> Session
     }
 }
 
-/// The id of the session that is made after this many.
+/// Returns the id of the next session after `made` ones.
 #[tactic(auto, unfolding(crate::specs::Sessions::following_id))]
 pub fn next_id(made: u32, session: &NewSession) -> SessionId
     requires some_left { made < 4294967295 }
@@ -71,7 +71,7 @@ pub fn next_id(made: u32, session: &NewSession) -> SessionId
     }
 }
 
-/// The session that is made after this many, at this stream. An HTTP session plays at once.
+/// Returns the next session after `made` ones, at this stream. An HTTP session plays at once.
 #[tactic(auto, unfolding(crate::specs::Sessions::session_of))]
 pub fn new_session(made: u32, session: &NewSession, stream: u16) -> Session
     requires some_left { made < 4294967295 }
@@ -91,23 +91,27 @@ pub fn new_session(made: u32, session: &NewSession, stream: u16) -> Session
     }
 }
 
-/// Whether the session has this id.
+/// Returns whether the session has this id.
 pub fn has_id(seat: &Seat, id: SessionId) -> bool
     ensures has { result ≡ has_id_of id seat.now }
 {
     seat.session.id == id
 }
 
-/// What of a session changes while it lives.
+/// A change of a living session.
 #[derive(Clone, Copy)]
 pub enum Change {
+    /// Its last activity was at this moment, in milliseconds.
     Heard(u64),
+    /// It plays.
     Playing,
+    /// Its datagrams go to these ports of this peer.
     Address(Peer, Ports),
+    /// Its last report was at this moment, in milliseconds.
     Reported(u64),
 }
 
-/// Changes this of a session.
+/// Applies a change to a session.
 #[tactic(auto, unfolding(crate::specs::Sessions::heard_at, crate::specs::Sessions::played, crate::specs::Sessions::moved_to, crate::specs::Sessions::reported_at))]
 pub fn apply(session: &mut Session, to: Change)
     ensures changed { session.new ≡ changed_by to session.old }

@@ -1,4 +1,4 @@
-//! A stream.
+//! Streams.
 
 ghost use Rattle.std.specs.Prelude.{◌≡◌};
 ghost use Rattle.satip_table.specs.Streams.{fresh};
@@ -7,8 +7,8 @@ use satip_base::SessionId;
 use satip_pids::PidSet;
 use satip_tune::Tuning;
 
-/// A living stream: its number from 1, the session that owns it, its tuning and front end where it
-/// has them, and the PIDs that it selects.
+/// A living stream: its number from 1, the session that owns it, its tuning and front end if it has
+/// them, and the PIDs that it selects.
 #[derive(Debug, Drop)]
 pub struct Stream {
     pub number: u16,
@@ -18,7 +18,7 @@ pub struct Stream {
     pub pids: PidSet,
 }
 
-/// A stream that isn't tuned and selects no PID.
+/// Returns a stream that isn't tuned and selects no PID.
 #[tactic(auto, unfolding(crate::specs::Streams::fresh))]
 pub fn new_stream(number: u16, owner: SessionId) -> Stream
     ensures fresh { result ≡ fresh number owner }
@@ -32,7 +32,7 @@ pub fn new_stream(number: u16, owner: SessionId) -> Stream
     }
 }
 
-/// Begins a stream that isn't tuned and selects no PID, of the number that it has.
+/// Makes this a stream that isn't tuned and selects no PID, and keeps its number.
 #[tactic(auto, unfolding(crate::specs::Streams::fresh))]
 pub fn begin(stream: &mut Stream, owner: SessionId)
     ensures fresh { stream.new ≡ fresh stream.old.number owner }
@@ -43,7 +43,7 @@ pub fn begin(stream: &mut Stream, owner: SessionId)
     stream.pids = PidSet::new();
 }
 
-/// Gives a stream another tuning, front end and PID set.
+/// Sets the tuning, front end and PID set of a stream.
 pub fn retune(stream: &mut Stream, tuning: Option<Tuning>, front: Option<u16>, pids: PidSet)
     ensures tuned { stream.new
         ≡ record stream.old { tuning = tuning; front = front; pids = pids } }

@@ -1,4 +1,4 @@
-//! The living streams, in rising number.
+//! The living streams, by rising number.
 
 ghost use Rattle.std.specs.Prelude.{◌≡◌, ◌+◌, ◌<◌, ◌≤◌, [], not, true, false, ℕ, filter, find, length, map, is_some, slice_get, IfOk, IfSome, IfNone};
 ghost use Rattle.std.specs.Option.{option_map};
@@ -15,8 +15,7 @@ use satip_tune::Tuning;
 use std::alloc::Global;
 use std::marker::Model;
 
-/// The living streams, in rising number. Each has a place of its own, by its number, and stays
-/// there.
+/// The living streams, by rising number. Each has a separate place, by its number, and keeps it.
 #[derive(Drop)]
 pub struct Streams {
     streams: Vec<Stream>,
@@ -37,7 +36,7 @@ impl Model for Streams {
 }
 
 impl Streams {
-    /// No stream lives. Takes the room of 64; `Want` where it was refused.
+    /// Returns an empty list with room for 64 streams. `Want` is out of memory.
     pub fn make(alloc: Global) -> Result<Streams, Want>
         ensures empty { IfOk result (λ s. s ≡ []) }
     {
@@ -51,7 +50,7 @@ impl Streams {
         Ok(Streams { streams, order })
     }
 
-    /// The stream of this number, where it lives.
+    /// Returns the stream of this number, if it lives.
     pub fn find(&self, number: u16) -> Option<&Stream>
         ensures stream { option_map (λ s. s.now) result ≡ find (has_number number) self.now }
     {
@@ -61,7 +60,7 @@ impl Streams {
         Some(&self.streams[place as usize])
     }
 
-    /// The stream at this place in order, where there is one.
+    /// Returns the stream at this place in the order, if there is one.
     pub fn get(&self, place: usize) -> Option<&Stream>
         ensures stream { option_map (λ s. s.now) result ≡ slice_get self.now place }
     {
@@ -71,7 +70,7 @@ impl Streams {
         Some(&self.streams[place as usize])
     }
 
-    /// The least number from 1 that doesn't live.
+    /// Returns the least number from 1 that no living stream has.
     pub fn free_number(&self) -> u16
         requires few { length self.now < 64 }
         requires rising { NumbersRise 0 self.now }
@@ -80,7 +79,7 @@ impl Streams {
         self.order.free() + 1
     }
 
-    /// Begins the stream of the least number that doesn't live. It isn't tuned and selects no PID.
+    /// Creates the stream of the least free number. It isn't tuned and selects no PID.
     pub fn begin(&mut self, number: u16, owner: SessionId)
         requires room { length self.old < 64 }
         requires rising { NumbersRise 0 self.old }
@@ -92,7 +91,7 @@ impl Streams {
         self.order.insert(place as usize, place);
     }
 
-    /// Gives a stream another owner.
+    /// Sets the owner of a stream.
     pub fn own(&mut self, number: u16, owner: SessionId)
         ensures owned { self.new ≡ map (owned_where number owner) self.old }
     {
@@ -112,7 +111,7 @@ impl Streams {
         self.order.remove(place);
     }
 
-    /// Changes the stream of this number; false where it doesn't live.
+    /// Changes the stream of this number; returns `false` if it doesn't live.
     pub fn change(
         &mut self,
         number: u16,
@@ -131,7 +130,7 @@ impl Streams {
     }
 }
 
-/// Gives a stream to the first of the sessions that it has left, or ends it where none is left.
+/// Makes `first` the owner of a stream that lost a session; ends the stream if there is none.
 pub fn hand_on(streams: &mut Streams, number: u16, first: Option<SessionId>)
     ensures handed { streams.new ≡ handed number first streams.old }
 {
@@ -141,7 +140,7 @@ pub fn hand_on(streams: &mut Streams, number: u16, first: Option<SessionId>)
     }
 }
 
-/// The place of the stream of this number, where it lives.
+/// Returns the place of the stream of this number, if it lives.
 fn place_of(order: &Order, number: u16) -> Option<u16>
     ensures some { IfSome result (λ place. (place + 1 ≡ number)
         × (is_there place order.now ≡ true)) }

@@ -18,10 +18,9 @@ use satip_tune::Tuning;
 use std::alloc::Global;
 use std::marker::Model;
 
-/// The sessions and streams that live, at most 64 of each. A contract sees the sessions in order of
-/// making, each with its slot, the streams in rising number, and how many sessions were made. Of
-/// the sessions of a stream the first is its owner, and the others are those that joined it, in
-/// order.
+/// The living sessions and streams, at most 64 of each. In contracts it has the sessions in order
+/// of creation, each with its slot, the streams by rising number, and the count of sessions
+/// created. The first session of a stream is its owner; the others joined it, in that order.
 #[derive(Drop)]
 pub struct Table {
     seats: Seats,
@@ -42,8 +41,7 @@ impl Model for Table {
 }
 
 impl Table {
-    /// No session lives, and none was made. Takes the room of 64 sessions and 64 streams; `Want`
-    /// where it was refused.
+    /// Returns an empty table with room for 64 sessions and 64 streams. `Want` is out of memory.
     pub fn make(alloc: Global) -> Result<Table, Want>
         ensures empty { IfOk result (λ t. t ≡ none) }
         ensures sound { IfOk result Sound }
@@ -57,7 +55,7 @@ impl Table {
         })
     }
 
-    /// How many sessions live.
+    /// Returns the number of living sessions.
     pub fn count(&self) -> usize
         ensures count { result ≡ length self.now.seats }
         ensures within { result ≤ 64 }
@@ -65,14 +63,15 @@ impl Table {
         self.seats.count()
     }
 
-    /// Whether no session can be made: 64 live, or 4294967295 were made.
+    /// Returns whether no session can be created: 64 live, or 4294967295 were created.
     pub fn full(&self) -> bool
         ensures full { result ≡ is_full self.now }
     {
         self.seats.count() == 64 || self.made == u32::MAX
     }
 
-    /// Makes a session that owns a new stream, which isn't tuned and selects no PID.
+    /// Creates a session that owns a new stream, which isn't tuned and selects no PID. Returns the
+    /// session's id and the stream's number.
     pub fn found(&mut self, session: NewSession) -> (SessionId, u16)
         requires room { is_full self.old ≡ false }
         ensures id { result.0 ≡ following_id self.old.made session }
@@ -92,7 +91,8 @@ impl Table {
         (session.id, number)
     }
 
-    /// Makes a session that joins a living stream, as the last of those that joined it.
+    /// Creates a session that joins a living stream, after those that joined it before. Returns its
+    /// id.
     pub fn join(&mut self, session: NewSession, stream: u16) -> SessionId
         requires room { is_full self.old ≡ false }
         requires lives { is_live self.old.streams stream ≡ true }
@@ -109,8 +109,8 @@ impl Table {
         session.id
     }
 
-    /// Ends a session; false where it doesn't live. Where it owned a stream that others joined, the
-    /// first of them becomes the owner. Where it owned a stream that none joined, the stream ends.
+    /// Ends a session; returns `false` if it doesn't live. If it owned a stream that others joined,
+    /// the first of them becomes the owner. If it owned a stream that none joined, the stream ends.
     pub fn leave(&mut self, id: SessionId) -> bool
         ensures lived { result ≡ list_any (has_id_of id) self.old.seats }
         ensures sessions { self.new.seats ≡ without id self.old.seats }
@@ -127,7 +127,7 @@ impl Table {
         true
     }
 
-    /// The session with this id; None where it doesn't live.
+    /// Returns the session with this id; `None` if it doesn't live.
     pub fn find(&self, id: SessionId) -> Option<&Session>
         ensures found { option_map (λ s. s.now) result
             ≡ option_map (λ seat. seat.session) (find (has_id_of id) self.now.seats) }
@@ -136,8 +136,8 @@ impl Table {
         self.seats.find(id).map(|seat| &seat.session)
     }
 
-    /// The slot of the session with this id: a number below 64, its own while it lives. None where
-    /// it doesn't live.
+    /// Returns the slot of the session with this id: a number below 64, which only this session has
+    /// while it lives. `None` if it doesn't live.
     pub fn slot(&self, id: SessionId) -> Option<u16>
         ensures slot { result ≡ option_map (λ seat. seat.slot)
             (find (has_id_of id) self.now.seats) }
@@ -146,7 +146,7 @@ impl Table {
         self.seats.find(id).map(|seat| seat.slot)
     }
 
-    /// The session with this id, and its slot; None where it doesn't live.
+    /// Returns the session with this id, and its slot; `None` if it doesn't live.
     pub fn seat_of(&self, id: SessionId) -> Option<&Seat>
         ensures seat { option_map (λ s. s.now) result ≡ find (has_id_of id) self.now.seats }
         ensures within { IfSome result (λ seat. seat.now.slot < 64) }
@@ -154,7 +154,7 @@ impl Table {
         self.seats.find(id)
     }
 
-    /// The living session of this slot, and the slot; None where there is none.
+    /// Returns the living session in this slot, with the slot; `None` if there is none.
     pub fn seat_at(&self, slot: u16) -> Option<&Seat>
         ensures seat { option_map (λ s. s.now) result ≡ find (has_slot slot) self.now.seats }
         ensures within { IfSome result (λ seat. seat.now.slot < 64) }
@@ -162,7 +162,7 @@ impl Table {
         self.seats.at(slot)
     }
 
-    /// The living session of this slot; None where there is none.
+    /// Returns the living session in this slot; `None` if there is none.
     pub fn at(&self, slot: u16) -> Option<&Session>
         ensures session { option_map (λ s. s.now) result
             ≡ option_map (λ seat. seat.session) (find (has_slot slot) self.now.seats) }
@@ -170,7 +170,7 @@ impl Table {
         self.seat_at(slot).map(|seat| &seat.session)
     }
 
-    /// The stream of this number; None where it doesn't live.
+    /// Returns the stream of this number; `None` if it doesn't live.
     pub fn find_stream(&self, number: u16) -> Option<&Stream>
         ensures found { option_map (λ s. s.now) result ≡ find (has_number number) self.now.streams }
         ensures lives { is_some result ≡ is_live self.now.streams number }
@@ -178,7 +178,8 @@ impl Table {
         self.streams.find(number)
     }
 
-    /// The living session at this place, from 0, in order of making; None where there is none.
+    /// Returns the living session at this place, from 0, in order of creation; `None` if there is
+    /// none.
     pub fn session(&self, place: usize) -> Option<&Session>
         ensures found { option_map (λ s. s.now) result
             ≡ option_map (λ seat. seat.session) (slice_get self.now.seats place) }
@@ -186,8 +187,8 @@ impl Table {
         self.seats.get(place).map(|seat| &seat.session)
     }
 
-    /// The living session at this place, from 0, in order of making, and its slot; None where there
-    /// is none.
+    /// Returns the living session at this place, from 0, in order of creation, with its slot;
+    /// `None` if there is none.
     pub fn seat(&self, place: usize) -> Option<&Seat>
         ensures seat { option_map (λ s. s.now) result ≡ slice_get self.now.seats place }
         ensures within { IfSome result (λ seat. seat.now.slot < 64) }
@@ -195,15 +196,15 @@ impl Table {
         self.seats.get(place)
     }
 
-    /// The living stream at this place, from 0, in rising number; None where there is none.
+    /// Returns the living stream at this place, from 0, by rising number; `None` if there is none.
     pub fn stream(&self, place: usize) -> Option<&Stream>
         ensures found { option_map (λ s. s.now) result ≡ slice_get self.now.streams place }
     {
         self.streams.get(place)
     }
 
-    /// The session at this place, from 0, of those that joined a stream, in order of joining; None
-    /// where there is none.
+    /// Returns the session at this place, from 0, of those that joined a stream, in order of
+    /// joining; `None` if there is none.
     pub fn joined(&self, number: u16, place: usize) -> Option<SessionId>
         ensures joined { result
             ≡ option_map (λ seat. seat.session.id) (slice_get (members number self.now.seats)
@@ -212,7 +213,7 @@ impl Table {
         self.seats.member(number, place)
     }
 
-    /// Sets when a session was last heard of; false where it doesn't live.
+    /// Sets the last activity of a session, in milliseconds; returns `false` if it doesn't live.
     pub fn heard(&mut self, id: SessionId, now: u64) -> bool
         ensures lives { result ≡ list_any (has_id_of id) self.old.seats }
         ensures heard { self.new ≡ record self.old {
@@ -224,7 +225,7 @@ impl Table {
         self.seats.change(id, Change::Heard(now))
     }
 
-    /// Makes a session play; false where it doesn't live.
+    /// Marks a session as playing; returns `false` if it doesn't live.
     pub fn play(&mut self, id: SessionId) -> bool
         ensures lives { result ≡ list_any (has_id_of id) self.old.seats }
         ensures plays { self.new ≡ record self.old {
@@ -236,7 +237,7 @@ impl Table {
         self.seats.change(id, Change::Playing)
     }
 
-    /// Sets where a session's datagrams go; false where it doesn't live.
+    /// Sets the destination of a session's datagrams; returns `false` if it doesn't live.
     pub fn move_to(&mut self, id: SessionId, peer: Peer, ports: Ports) -> bool
         ensures lives { result ≡ list_any (has_id_of id) self.old.seats }
         ensures moved { self.new ≡ record self.old {
@@ -248,7 +249,8 @@ impl Table {
         self.seats.change(id, Change::Address(peer, ports))
     }
 
-    /// Sets when a session's last report left; false where it doesn't live.
+    /// Sets the moment of a session's last report, in milliseconds; returns `false` if it doesn't
+    /// live.
     pub fn reported(&mut self, id: SessionId, now: u64) -> bool
         ensures lives { result ≡ list_any (has_id_of id) self.old.seats }
         ensures reported { self.new ≡ record self.old {
@@ -260,7 +262,7 @@ impl Table {
         self.seats.change(id, Change::Reported(now))
     }
 
-    /// Sets a stream's tuning, front end and PIDs; false where it doesn't live.
+    /// Sets a stream's tuning, front end and PIDs; returns `false` if it doesn't live.
     pub fn change(
         &mut self,
         number: u16,

@@ -4,7 +4,7 @@ use Rattle.satip_base.specs.Streams.{Feed, Drain, Rose}
 use Rattle.satip_frame.specs.Said.{Said}
 use Rattle.satip_frame.specs.Stream.{Unfinished, Broken, Messages}
 use Rattle.satip_frame.proofs.StreamLemmas.{one_list, broken_stays}
-use Rattle.satip_history.specs.Lists.{Has}
+use Rattle.satip_base.specs.Lists.{Has}
 use Rattle.satip_talk_command.specs.declared.ends.TalkEnd.{TalkEnd}
 use Rattle.satip_talk_command.specs.declared.ends.TalkEnd.TheVariants.{Done, InputFault, OutputFault, TooLong, OutOfMemory}
 use Rattle.satip_talk_command.specs.Runs.{input_limit, TalkRuns, EndsEarly, EndsByLength, NothingDone}

@@ -3,8 +3,8 @@ use Rattle.std.proofs.Common.{◌≡◌, ℕ, ◌+◌, List, [], ◌∷◌, ◌+
 use Rattle.satip_base.specs.Streams.{Drain, Began, PutAll, FailedToPut}
 use Rattle.satip_rtsp.specs.declared.requests.Request.{Request}
 use Rattle.satip_rtsp.specs.Asked.{asked, broken_request}
-use Rattle.satip_hearing.specs.Asking.{AsksFirst, AsksNext, AsksLast, AsksMore}
-use Rattle.satip_hearing.proofs.TextLemmas.{nothing_asked, more_came, all_with_last, all_is_more, first_is_less}
+use Rattle.satip_frame.specs.Asking.{AsksFirst, AsksNext, AsksLast, AsksMore}
+use Rattle.satip_frame.proofs.TextLemmas.{nothing_asked, more_came, all_with_last, all_is_more, first_is_less}
 use Rattle.satip_plain.specs.declared.events.Event.{Event}
 use Rattle.satip_plain.specs.State.{State}
 use Rattle.satip_plain.specs.Steps.{step}

@@ -6,13 +6,13 @@ use Rattle.satip_frame.specs.Stream.{Broken}
 use Rattle.satip_frame.proofs.StreamLemmas.{broken_stays}
 use Rattle.satip_rtsp.specs.declared.requests.Request.{Request}
 use Rattle.satip_rtsp.specs.Asked.{asked, broken_request}
-use Rattle.satip_hearing.proofs.TextLemmas.{nothing_asked, more_came, all_so_far}
+use Rattle.satip_frame.proofs.TextLemmas.{nothing_asked, more_came, all_so_far}
 use Rattle.satip_talk_command.specs.Talk.{replies_to, talk_replies, Answered}
 use Rattle.satip_talk_command.specs.Talking.{HasAnswered}
 use Rattle.satip_talk_command.specs.declared.talker.Talker.{Talker}
 use Rattle.satip_talk_command.specs.Hearing.{Listens, HasClosed, HasFailed}
 use Rattle.satip_talk_command.specs.Runs.{EndsWell, EndsByInput, EndsByOutput, EndsByLength, input_limit}
-use Rattle.satip_reading.specs.Reading.{Read}
+use Rattle.satip_config.specs.Reading.{Read}
 use Rattle.satip_talk_command.proofs.TalkLemmas.{part_of_first}
 use Rattle.satip_talk_command.proofs.GatherLemmas.{sent_nothing, sent_all}
 

@@ -3,7 +3,7 @@ use Rattle.std.specs.Prelude.{◌≡◌, ℕ, List, [], ◌∷◌, ◌++◌}
 use Rattle.satip_base.specs.Streams.{Drain, Rose}
 use Rattle.satip_rtsp.specs.declared.requests.Request.{Request}
 use Rattle.satip_rtsp.specs.Asked.{asked, broken_request}
-use Rattle.satip_hearing.specs.Asking.{AsksFirst, AsksSoFar, AsksLast}
+use Rattle.satip_frame.specs.Asking.{AsksFirst, AsksSoFar, AsksLast}
 use Rattle.satip_talk_command.specs.Talk.{replies_to, PartlyAnswered}
 use Rattle.satip_talk_command.specs.Talking.{HasAnswered}
 use Rattle.satip_talk_command.specs.Gathering.{SentBut}
@@ -11,19 +11,19 @@ use Rattle.satip_talk_command.specs.declared.talker.Talker.{Talker}
 use Rattle.satip_talk_command.specs.declared.conversation.Heard.{Heard}
 use Rattle.satip_talk_command.specs.declared.conversation.Heard.TheVariants.{All, Closed, Failed}
 
--- these requests were answered, and what waits of the replies is still to be sent
+-- these requests were answered, and the waiting part of the replies is still to be sent
 pub record Replied (tells : Type 0) (o n : Drain) (waiting : List ℕ) (requests : List Request) (talker : Talker) : Type 0 where
   pub answered : HasAnswered talker requests
   pub faults : n.faults ≡ o.faults
   pub sent : tells → SentBut o.sent n.sent waiting (replies_to requests)
 
--- what the text asks first was answered, and then rest stands in it
+-- the first requests of the text were answered, and rest is left of it
 pub record Stands (tells : Type 0) (o n : Drain) (waiting text rest : List ℕ) (talker : Talker) : Type 0 where
   pub requests : List Request
   pub first : AsksFirst asked text requests rest
   pub replied : Replied tells o n waiting requests talker
 
--- all that the text asks so far was answered, and then the framer holds these bytes
+-- all requests of the text so far were answered, and the framer holds these bytes
 pub record Listens (tells : Type 0) (o n : Drain) (waiting text held : List ℕ) (talker : Talker) : Type 0 where
   pub requests : List Request
   pub heard : AsksSoFar asked text requests held
@@ -41,7 +41,7 @@ pub record HasFailed (tells : Type 0) (o n : Drain) (text : List ℕ) : Type 0 w
   pub faults : Rose o.faults n.faults
   pub part : PartlyAnswered tells o.sent n.sent text
 
--- what hearing a text comes to, of which the framer then holds these bytes
+-- the state after a text, of which the framer then holds these bytes
 abbrev pub Hears : (tells : Type 0) (o n : Drain) (waiting text held : List ℕ) (talker : Talker) → Heard → Type 0
 Hears tells o n waiting text held talker All = Listens tells o n waiting text held talker
 Hears tells o n waiting text held talker Closed = HasClosed tells o n waiting text talker

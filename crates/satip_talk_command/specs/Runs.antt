@@ -1,10 +1,10 @@
--- How a talk runs, by its end.
+-- The ends of a talk.
 use Rattle.std.specs.Prelude.{◌≡◌, ℕ, ◌+◌, ◌≤◌, ◌⊎◌, true, List, ◌++◌, length}
 use Rattle.satip_base.specs.Streams.{Feed, Drain, Rose}
 use Rattle.satip_frame.specs.Said.{Said}
 use Rattle.satip_frame.specs.Stream.{Unfinished, Broken, Messages}
 use Rattle.satip_frame.specs.declared.framing.Break.{Break}
-use Rattle.satip_reading.specs.Reading.{Read}
+use Rattle.satip_config.specs.Reading.{Read}
 use Rattle.satip_talk_command.specs.Talk.{Answered, PartlyAnswered}
 use Rattle.satip_talk_command.specs.declared.ends.TalkEnd.{TalkEnd}
 use Rattle.satip_talk_command.specs.declared.ends.TalkEnd.TheVariants.{Done, InputFault, OutputFault, TooLong, OutOfMemory}
@@ -19,7 +19,7 @@ pub record IsBroken (text : List ℕ) : Type 0 where
   pub cause : Break
   pub read : Messages text messages (Broken cause)
 
--- nothing is taken behind a broken text: it wasn't broken before the last piece that was taken
+-- nothing is taken after a broken text: it wasn't broken before the last piece that was taken
 pub record StopsInTime (text : List ℕ) : Type 0 where
   pub earlier : List ℕ
   pub piece : List ℕ
@@ -40,7 +40,7 @@ pub record EndsWell (in_tells out_tells : Type 0) (i j : Feed) (o n : Drain) : T
   pub ending : (j.ended ≡ true) ⊎ IsBroken text
   pub in_time : StopsInTime text
 
--- the run ended before that, with a beginning of the replies to what was taken
+-- the run ended before that, with a prefix of the replies to the bytes taken
 pub record EndsEarly (in_tells out_tells : Type 0) (i j : Feed) (o n : Drain) : Type 0 where
   pub text : List ℕ
   pub read : Read in_tells i j text
@@ -60,7 +60,7 @@ pub record EndsByOutput (in_tells out_tells : Type 0) (i j : Feed) (o n : Drain)
   pub in_faults : j.faults ≡ i.faults
   pub rose : Rose o.faults n.faults
 
--- one byte too many was taken, and no closing reply came sooner
+-- one byte too many was taken, and no closing reply was sent before it
 pub record EndsByLength (in_tells out_tells : Type 0) (i j : Feed) (o n : Drain) : Type 0 where
   pub early : EndsEarly in_tells out_tells i j o n
   pub long : length early.text ≡ input_limit + 1
@@ -74,7 +74,7 @@ pub record NothingDone (i j : Feed) (o n : Drain) : Type 0 where
   pub input : j ≡ i
   pub output : n ≡ o
 
--- how a talk ends
+-- the contract of each end
 abbrev pub TalkRuns : (in_tells out_tells : Type 0) (i j : Feed) (o n : Drain) → TalkEnd → Type 0
 TalkRuns in_tells out_tells i j o n Done = EndsWell in_tells out_tells i j o n
 TalkRuns in_tells out_tells i j o n InputFault = EndsByInput in_tells out_tells i j o n
@@ -82,7 +82,7 @@ TalkRuns in_tells out_tells i j o n OutputFault = EndsByOutput in_tells out_tell
 TalkRuns in_tells out_tells i j o n TooLong = EndsByLength in_tells out_tells i j o n
 TalkRuns in_tells out_tells i j o n OutOfMemory = NothingDone i j o n
 
--- the input was read to its end, or to the piece that has the message to which the closing reply answers
+-- the input was read to its end, or to the piece in which it is broken
 pub record ReadsInTime (tells : Type 0) (i j : Feed) : Type 0 where
   pub text : List ℕ
   pub read : Read tells i j text

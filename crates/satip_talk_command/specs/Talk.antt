@@ -6,7 +6,7 @@ use Rattle.satip_frame.specs.Said.{Said}
 use Rattle.satip_frame.specs.Stream.{Tail, Messages}
 use Rattle.satip_rtsp.specs.declared.requests.Request.{Request}
 use Rattle.satip_rtsp.specs.Asked.{asked, broken_request}
-use Rattle.satip_hearing.specs.Asking.{asked_by_tail}
+use Rattle.satip_frame.specs.Asking.{asked_by_tail}
 use Rattle.satip_config.specs.Configuration.{Configuration}
 use Rattle.satip_plain.specs.declared.events.Event.{Event}
 use Rattle.satip_plain.specs.declared.events.Event.TheVariants.{Request as Asked}
@@ -32,23 +32,23 @@ talk_config = record {
   files = [];
 }
 
--- its clock begins at 0, and stays there
+-- its clock begins at 0 and stays there
 abbrev pub talk_setting : Setting
 talk_setting = record { config = talk_config; start = 0 }
 
--- the server of a connection before anything came
+-- the server of a connection before any event
 abbrev pub start : State
 start = opening talk_setting
 
--- what message k draws; no input has so many messages that the numbers come round
+-- the draw of message k; no input has enough messages for the numbers to repeat
 abbrev pub draw_of : ℕ → Draw
 draw_of k = record { word = k % 4294967296; ssrc = k % 4294967296; first = 0 }
 
--- the request of message k, as what happens to the server
+-- the event of message k
 abbrev pub event_of : ℕ → Request → Event
 event_of k request = Asked (record { ip = localhost }) (draw_of k) request
 
--- requests of which the first is that of message k
+-- the events of requests, of which the first is that of message k
 abbrev pub events_from : ℕ → List Request → List Event
 events_from k [] = []
 events_from k (request ∷ requests) = event_of k request ∷ events_from (k + 1) requests
@@ -57,20 +57,20 @@ events_from k (request ∷ requests) = event_of k request ∷ events_from (k + 1
 abbrev pub events_of : List Request → List Event
 events_of requests = events_from 1 requests
 
--- the request of what is no message
+-- the requests of a tail: one if the text ends with something that is no message
 abbrev pub tail_requests : Tail → List Request
 tail_requests = asked_by_tail broken_request
 
--- one request for each message in order, and one more for what is no message; its reply is a closing one, and the last
+-- one request for each message in order, and one more for something that is no message; the reply to that is a closing one, and the last
 abbrev pub requests_of : List Said → Tail → List Request
 requests_of messages tail = map asked messages ++ tail_requests tail
 
--- the replies to events, one after another, each by a step of the plain server
+-- the replies to events, each by a step of the plain server
 abbrev pub replies : State → List Event → List ℕ
 replies state [] = []
 replies state (event ∷ events) = (step talk_config state event).reply ++ replies (step talk_config state event).state events
 
--- the state behind events
+-- the state after events
 abbrev pub after : State → List Event → State
 after state [] = state
 after state (event ∷ events) = after (step talk_config state event).state events
@@ -90,7 +90,7 @@ pub record Answered (tells : Type 0) (before now text : List ℕ) : Type 0 where
   pub read : Messages text messages tail
   pub sent : tells → now ≡ before ++ talk_replies messages tail
 
--- a beginning of the replies to the whole text was sent
+-- a prefix of the replies to the whole text was sent
 pub record PartlyAnswered (tells : Type 0) (before now text : List ℕ) : Type 0 where
   pub messages : List Said
   pub tail : Tail

@@ -1,4 +1,4 @@
--- The server of a talk in the middle of it.
+-- The state of a talk's server in the middle of the talk.
 use Rattle.std.specs.Prelude.{◌≡◌, ℕ, ◌+◌, ◌%◌, List, length}
 use Rattle.satip_rtsp.specs.declared.requests.Request.{Request}
 use Rattle.satip_plain.specs.Steps.{step}

@@ -1,4 +1,4 @@
-//! The bytes of the input are taken and answered, piece by piece.
+//! Takes the bytes of the input and answers them, piece by piece.
 
 ghost use Rattle.std.specs.Prelude.{◌≡◌, ◌<◌, ◌≤◌, ◌+◌, []};
 ghost use Rattle.satip_frame.specs.Held.{new_framer};
@@ -9,13 +9,13 @@ use crate::conversation::{Conversation, Heard};
 use crate::ends::TalkEnd;
 use satip_base::limits::{INPUT, PIECE};
 use satip_base::{Sink, Source, Taken};
-use satip_reading::take_some;
+use satip_config::take_some;
 use std::alloc::Global;
 
 const LIMIT: u64 = INPUT as u64;
 
-/// Answers what comes in until the input ends, a closing reply was sent, or something fails. All
-/// memory is taken before any input.
+/// Answers the input until it ends, a closing reply was sent, or something fails. All memory is
+/// taken before any input.
 pub(crate) fn answer<I: Source, O: Sink>(alloc: Global, input: &mut I, output: &mut O) -> TalkEnd
     ensures ends { TalkRuns I.tells O.tells
         (I.feed input.old) (I.feed input.new)
@@ -62,8 +62,8 @@ fn converse<I: Source, O: Sink>(
     }
 }
 
-// How many bytes the next take may give: one at the limit, which tells whether the input is too
-// long.
+// Returns the room for the next take. At the limit it is one byte, which shows whether the input is
+// too long.
 fn room_for(taken: u64) -> usize
     requires { taken ≤ input_limit }
     ensures some { 1 ≤ result }

@@ -1,8 +1,8 @@
-//! `talk`: what comes in is answered, and how that ended is told.
+//! `talk`: answers the input, and logs the end of the talk.
 
 ghost use Rattle.std.specs.Prelude.{◌≡◌, ◌↔◌, ◌+◌, ◌-◌, ◌<◌, ◌≤◌};
 ghost use Rattle.satip_base.specs.Streams.{Rose};
-ghost use Rattle.satip_telling.specs.Lines.{Says};
+ghost use Rattle.satip_config.specs.Lines.{Says};
 ghost use Rattle.satip_talk_command.specs.Runs.{input_limit};
 ghost use Rattle.satip_talk_command.specs.Ends.{TalkEnds, talk_line, talk_status};
 
@@ -12,17 +12,16 @@ use crate::telling::tell;
 use satip_base::{Sink, Source};
 use std::alloc::Global;
 
-/// Answers the requests of one RTSP connection in order (RFC 2326, sections 9.1 and 10): they come
-/// from the input, and the replies go to the output. All memory is taken before any input, and it
-/// always returns. What isn't an end of the input or a closing reply is told in a line on the
-/// errors sink.
+/// Answers the requests of one RTSP connection in order (RFC 2326, sections 9.1 and 10). The
+/// requests are read from the input, and the replies go to the output. All memory is taken before
+/// any input, and it always returns. Any end but `Done` is logged in a line on the errors sink.
 pub fn talk<I: Source, O: Sink, E: Sink>(
     alloc: Global,
     input: &mut I,
     output: &mut O,
     errors: &mut E,
 ) -> TalkEnd
-    // What the talk comes to by its status, and the line of its end.
+    // The outcome of the talk by its status, and the line of its end.
     ensures ends { TalkEnds I.tells O.tells
         (I.feed input.old) (I.feed input.new)
         (O.drain output.old) (O.drain output.new)
@@ -31,7 +30,7 @@ pub fn talk<I: Source, O: Sink, E: Sink>(
         (E.drain errors.old) (E.drain errors.new)
         (talk_line result) }
 
-    // The causes of its faults, and how much is taken of the input.
+    // The causes of the faults, and a limit for the bytes taken of the input.
     ensures input_fault { result ≡ TalkEnd.InputFault
         → Rose (I.feed input.old).faults (I.feed input.new).faults }
     ensures output_fault { result ≡ TalkEnd.OutputFault

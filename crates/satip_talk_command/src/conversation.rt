@@ -1,4 +1,4 @@
-//! One RTSP connection: the bytes that come in are answered as they come.
+//! One RTSP connection: its bytes are answered as they arrive.
 
 ghost use Rattle.std.specs.Prelude.{◌≡◌, ℕ, List, [], ◌++◌, None, IfOk};
 ghost use Rattle.satip_base.specs.Streams.{Drain};
@@ -9,12 +9,11 @@ ghost use Rattle.satip_talk_command.specs.Hearing.{Stands, Hears};
 use crate::gathered::Gathered;
 use crate::talker::Talker;
 use satip_base::{Put, Sink, Want};
-use satip_frame::{Break, Framer};
-use satip_hearing::{Next, Piece, next_asked};
+use satip_frame::{Break, Framer, Next, Piece, next_asked};
 use satip_rtsp::Request;
 use std::alloc::Global;
 
-/// What hearing some bytes came to.
+/// The state of a conversation after some bytes.
 #[derive(Clone, Copy, Debug, PartialEq, Eq)]
 pub(crate) enum Heard {
     /// All whole messages were answered.
@@ -36,21 +35,21 @@ pub(crate) struct Conversation {
 }
 
 impl Conversation {
-    /// A new connection to a new server. All memory is taken here.
+    /// Creates a new connection to a new server. Takes all memory.
     pub(crate) fn make(alloc: Global) -> Result<Conversation, Want>
         ensures framer { IfOk result (λ made. made.framer ≡ new_framer) }
         ensures talker { IfOk result (λ made. HasAnswered made.talker []) }
         ensures gathered { IfOk result (λ made. made.gathered ≡ []) }
     {
         Ok(Conversation {
-            talker: Talker::make(alloc)?,
             framer: Framer::make(alloc)?,
             request: Request::broken(Break::Bad),
             gathered: Gathered::make(alloc)?,
+            talker: Talker::make(alloc)?,
         })
     }
 
-    // Takes in a piece behind what came before, and answers all that is asked.
+    // Takes in a piece after the bytes before it, and answers all requests in them.
     fn take_in<O: Sink>(&mut self, piece: &[u8], output: &mut O) -> Heard
         requires goes_on { self.old.framer.ended ≡ None }
         ensures hears { (o : Drain) (text : List ℕ)
@@ -80,7 +79,7 @@ impl Conversation {
         }
     }
 
-    // Sends the replies that wait; the last message was heard so.
+    // Sends the replies that wait. `heard` is the state after the last message.
     fn send<O: Sink>(&mut self, heard: Heard, output: &mut O) -> Heard
         requires sound { heard ≡ Heard.Failed → ⊥ }
         ensures sends { (o : Drain) (text : List ℕ)
@@ -98,7 +97,8 @@ impl Conversation {
         }
     }
 
-    /// Takes in a piece behind what came before, answers all that is asked, and sends the replies.
+    /// Takes in a piece after the bytes before it, answers all requests in them, and sends the
+    /// replies.
     pub(crate) fn hear<O: Sink>(&mut self, piece: &[u8], output: &mut O) -> Heard
         requires goes_on { self.old.framer.ended ≡ None }
         requires empty { self.old.gathered ≡ [] }

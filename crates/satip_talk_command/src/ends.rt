@@ -1,9 +1,9 @@
-//! How a talk ends.
+//! The ends of a talk.
 
-/// How a talk ends.
+/// The end of a talk.
 #[derive(Clone, Copy, Debug, PartialEq, Eq)]
 pub enum TalkEnd {
-    /// The input was read to its end, or to a closing reply.
+    /// The input was read to its end, or to a closing reply, and all of it was answered.
     Done,
     /// The input failed.
     InputFault,
@@ -11,6 +11,6 @@ pub enum TalkEnd {
     OutputFault,
     /// The input is longer than 67108864 bytes.
     TooLong,
-    /// There was no memory, and nothing was done.
+    /// Out of memory. Nothing was done.
     OutOfMemory,
 }

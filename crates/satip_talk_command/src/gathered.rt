@@ -1,4 +1,4 @@
-//! Replies that wait to be put together.
+//! Gathers replies, so that many are sent by one call.
 
 ghost use Rattle.std.specs.Prelude.{◌≡◌, [], IfOk};
 ghost use Rattle.satip_base.specs.Streams.{Puts};
@@ -11,7 +11,7 @@ use std::marker::Model;
 const ROOM: usize = 65536;
 
 /// Bytes that wait to be put, at most 65536. All memory is taken when it is made. The first bytes
-/// behind a flush are put at once, so that nobody waits for them.
+/// after a flush are put at once, so that the client doesn't wait for them.
 #[derive(Drop)]
 pub(crate) struct Gathered {
     waiting: Vec<u8>,
@@ -29,7 +29,7 @@ impl Model for Gathered {
 }
 
 impl Gathered {
-    /// Takes all the memory that it ever uses. No bytes wait yet.
+    /// Creates it without any bytes. Takes all the memory that it ever uses.
     pub(crate) fn make(alloc: Global) -> Result<Gathered, Want>
         ensures empty { IfOk result (λ gathered. gathered ≡ []) }
     {
@@ -39,8 +39,8 @@ impl Gathered {
         })
     }
 
-    /// Has bytes wait behind the others. The first bytes, and bytes for which there is no room, are
-    /// put behind those that wait.
+    /// Adds bytes to those that wait. The first bytes after a flush are put at once. So are bytes
+    /// for which there is no room, after those that wait.
     pub(crate) fn gather<O: Sink>(&mut self, bytes: &[u8], output: &mut O) -> Put
         ensures gathers { Gathers O.tells
             (O.drain output.old) (O.drain output.new)
@@ -56,7 +56,7 @@ impl Gathered {
         }
     }
 
-    // Puts bytes where none wait; others will wait behind them.
+    // Puts bytes while none wait. Later bytes will wait.
     fn begin<O: Sink>(&mut self, bytes: &[u8], output: &mut O) -> Put
         ensures puts { Puts O.tells
             (O.drain output.old) (O.drain output.new)
@@ -67,7 +67,7 @@ impl Gathered {
         output.put(bytes)
     }
 
-    /// Puts the bytes that wait, by one call, or by none where there are none.
+    /// Puts the bytes that wait, in one call, or in none if there are none.
     pub(crate) fn flush<O: Sink>(&mut self, output: &mut O) -> Put
         ensures puts { Puts O.tells
             (O.drain output.old) (O.drain output.new)

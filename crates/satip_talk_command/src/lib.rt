@@ -1,5 +1,6 @@
-//! The command `talk` as a function of its input, its output and its errors: one RTSP connection
-//! (RFC 2326, section 10).
+//! Runs the command `talk`: one RTSP connection over standard streams (RFC 2326, section 10).
+//! Contract: the output is the plain server's replies to the messages of the input, or a prefix of
+//! them; each other end but out of memory has its cause.
 #![tactic(auto)]
 
 mod answering;

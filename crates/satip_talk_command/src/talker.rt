@@ -1,4 +1,4 @@
-//! The server of a talk: it has no front ends, and numbers the messages that it answers.
+//! The server of a talk. It has no front ends, and numbers the messages that it answers.
 
 ghost use Rattle.std.specs.Prelude.{[], ◌∷◌, List, ◌++◌, IfOk};
 ghost use Rattle.satip_rtsp.specs.declared.requests.Request.{Request as Asked};
@@ -15,7 +15,7 @@ use std::alloc::Global;
 // The address 127.0.0.1.
 const LOCALHOST: u32 = 2130706433;
 
-/// A server with no front ends, and how many messages it answered, modulo 2^32.
+/// A server with no front ends, and the count of messages that it answered, modulo 2^32.
 #[derive(Drop)]
 pub(crate) struct Talker {
     pub(crate) server: Server,
@@ -24,7 +24,7 @@ pub(crate) struct Talker {
 }
 
 impl Talker {
-    /// A server that nobody asked yet. All memory is taken here.
+    /// Creates a server before any request. Takes all memory.
     pub(crate) fn make(alloc: Global) -> Result<Talker, Want>
         ensures new { IfOk result (λ talker. HasAnswered talker []) }
     {
@@ -39,9 +39,9 @@ impl Talker {
             files: Vec::new(alloc),
         };
         Ok(Talker {
-            server: Server::make(alloc, config, 0)?,
-            count: 0,
             out: Out::make(alloc)?,
+            count: 0,
+            server: Server::make(alloc, config, 0)?,
         })
     }
 

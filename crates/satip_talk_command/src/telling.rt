@@ -1,14 +1,14 @@
-//! How a talk is told: its status, and its line on the errors sink.
+//! Logs a talk: its status, and its line on the errors sink.
 
 ghost use Rattle.std.specs.Prelude.{◌≡◌};
-ghost use Rattle.satip_telling.specs.Lines.{Says};
+ghost use Rattle.satip_config.specs.Lines.{Says};
 ghost use Rattle.satip_talk_command.specs.Ends.{talk_line, talk_status};
 
 use crate::ends::TalkEnd;
 use satip_base::Sink;
-use satip_telling::say;
+use satip_config::say;
 
-/// The program's exit status where a talk ended so.
+/// Returns the program's exit status for this end of a talk.
 pub fn status_of(end: TalkEnd) -> u8
     ensures status { result ≡ talk_status end }
 {
@@ -21,7 +21,7 @@ pub fn status_of(end: TalkEnd) -> u8
     }
 }
 
-// Tells how a talk ended; nothing where all was answered.
+// Logs the end of a talk. Writes nothing if all was answered.
 pub(crate) fn tell<E: Sink>(end: TalkEnd, errors: &mut E)
     ensures says { Says E.tells
         (E.drain errors.old) (E.drain errors.new)

@@ -4,7 +4,7 @@ use Rattle.std.specs.Prelude.{◌≡◌, ◌<◌, ◌≤◌, ℕ, List, Option, 
 abbrev pub HasDeadline : List (Option ℕ) → ℕ → ℕ → Type 0
 HasDeadline dues key moment = slice_get dues key ≡ Some (Some moment)
 
--- each deadline comes after this moment
+-- each deadline is after this moment
 abbrev pub NoneDue : ℕ → List (Option ℕ) → Type 0
 NoneDue now dues = (key moment : ℕ) → HasDeadline dues key moment → now < moment
 

@@ -1,4 +1,4 @@
--- A binary heap, as the number at each of its places.
+-- A binary heap, as the function from its places to the numbers there.
 use Rattle.std.specs.Prelude.{◌≡◌, ◌≢◌, ◌<◌, ◌≤◌, ◌-◌, ◌/◌, ℕ}
 
 -- the place above this one; 0 has none
@@ -14,23 +14,23 @@ abbrev pub IsAcross : (ℕ → ℕ) → ℕ → ℕ → Type 0
 IsAcross at count place =
     (i : ℕ) → 0 < i → i < count → parent i ≡ place → 0 < place → at (parent place) ≤ at i
 
--- a heap, but that this place may have a lesser number than its parent
+-- a heap, except that this place may have a lesser number than its parent
 pub record IsHeapBut (at : ℕ → ℕ) (count place : ℕ) : Type 0 where
   pub pairs : (i : ℕ) → 0 < i → i < count → i ≢ place → at (parent i) ≤ at i
   pub across : IsAcross at count place
 
--- a heap, but that this place may have a greater number than its children
+-- a heap, except that this place may have a greater number than its children
 pub record IsHeapUnder (at : ℕ → ℕ) (count place : ℕ) : Type 0 where
   pub pairs : (i : ℕ) → 0 < i → i < count → parent i ≢ place → at (parent i) ≤ at i
   pub across : IsAcross at count place
 
--- a heap, but for the number at this place
+-- a heap, except for the number at this place
 pub record IsHeapAround (at : ℕ → ℕ) (count place : ℕ) : Type 0 where
   pub pairs : (i : ℕ) → 0 < i → i < count → i ≢ place → parent i ≢ place
       → at (parent i) ≤ at i
   pub across : IsAcross at count place
 
--- of the children of a place this one has the least number
+-- this child has the least number of the children of a place
 pub record IsFirstChild (at : ℕ → ℕ) (count place child : ℕ) : Type 0 where
   pub after : 0 < child
   pub within : child < count

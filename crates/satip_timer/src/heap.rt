@@ -5,8 +5,8 @@ ghost use Rattle.satip_timer.specs.Deadlines.{HasDeadline};
 ghost use Rattle.satip_timer.specs.Heaps.{parent, IsFirstChild, IsHeapAround, IsHeapBut, IsHeapUnder};
 ghost use Rattle.satip_timer.specs.Placed.{ranks, Moved, Paired, Placed, Sound};
 
-/// The keys below 64 that have a deadline, the one whose deadline comes first at place 0. Each
-/// place but that one has its parent above it, whose deadline doesn't come later.
+/// The keys below 64 that have a deadline, as a heap: the key with the least deadline is at place
+/// 0. The deadline of each other place isn't before that of its parent.
 #[derive(Drop)]
 pub struct Heap {
     pub keys: [u8; 64],
@@ -15,7 +15,7 @@ pub struct Heap {
 }
 
 impl Heap {
-    /// No key.
+    /// Returns the empty heap.
     pub fn new() -> Heap
         ensures sound { Sound (replicate 64 None) result }
     {
@@ -30,7 +30,7 @@ impl Heap {
         }
     }
 
-    /// The key whose deadline comes first, where there is one.
+    /// Returns the key with the least deadline, if there is one.
     pub fn first(&self) -> Option<u16>
         ensures first { MatchOption result (self.now.count ≡ 0)
             (λ key. (0 < self.now.count) × (key ≡ slice_index self.now.keys 0)) }
@@ -41,7 +41,7 @@ impl Heap {
         Some(u16::from(self.keys[0]))
     }
 
-    /// Takes in a key that has got a deadline.
+    /// Adds a key that got a deadline.
     pub fn add(&mut self, dues: &[Option<u64>], key: u16)
         requires due { (moment : ℕ) × HasDeadline dues.now key moment }
         requires before { Sound (slice_set dues.now key None) self.old }
@@ -54,7 +54,7 @@ impl Heap {
         self.rise(dues, end);
     }
 
-    /// Moves a key whose deadline has changed.
+    /// Moves a key whose deadline changed.
     pub fn replace(&mut self, dues: &[Option<u64>], key: u16)
         requires due { (moment : ℕ) × HasDeadline dues.now key moment }
         requires before { (moment : ℕ) × Sound (slice_set dues.now key (Some moment)) self.old }
@@ -64,7 +64,7 @@ impl Heap {
         self.settle(dues, at);
     }
 
-    /// Takes out a key that no longer has a deadline.
+    /// Removes a key that has no deadline any more.
     pub fn remove(&mut self, dues: &[Option<u64>], key: u16)
         requires due { slice_get dues.now key ≡ Some None }
         requires before { (moment : ℕ) × Sound (slice_set dues.now key (Some moment)) self.old }
@@ -79,7 +79,7 @@ impl Heap {
         }
     }
 
-    /// Moves the key at this place up or down to where it belongs.
+    /// Moves the key at this place up or down to its place.
     fn settle(&mut self, dues: &[Option<u64>], at: usize)
         requires within { at < self.old.count }
         requires placed { Placed dues.now self.old }
@@ -93,7 +93,7 @@ impl Heap {
         }
     }
 
-    /// Moves the key at this place up while it comes before its parent.
+    /// Moves the key at this place up while it is before its parent.
     fn rise(&mut self, dues: &[Option<u64>], from: usize)
         requires within { from < self.old.count }
         requires placed { Placed dues.now self.old }
@@ -108,7 +108,7 @@ impl Heap {
         }
     }
 
-    /// Moves the key at this place down while a child comes before it.
+    /// Moves the key at this place down while a child is before it.
     fn sink(&mut self, dues: &[Option<u64>], from: usize)
         requires within { from < self.old.count }
         requires placed { Placed dues.now self.old }
@@ -125,7 +125,7 @@ impl Heap {
         }
     }
 
-    /// Whether the key at this place comes before its parent.
+    /// Returns whether the key at this place is before its parent.
     fn rises(&self, dues: &[Option<u64>], at: usize) -> bool
         requires within { at < self.now.count }
         requires placed { Placed dues.now self.now }
@@ -139,7 +139,7 @@ impl Heap {
         self.is_before(dues, at, (at - 1) / 2)
     }
 
-    /// The child of this place that comes before the other, where it has one.
+    /// Returns the child of this place that is before the other, if it has any.
     fn first_child(&self, dues: &[Option<u64>], at: usize) -> Option<usize>
         requires within { at < self.now.count }
         requires placed { Placed dues.now self.now }
@@ -161,8 +161,8 @@ impl Heap {
         }
     }
 
-    /// Whether the key at the first place comes before the key at the second: its deadline is
-    /// earlier, or they are equal and it is the lesser key.
+    /// Returns whether the key at the first place is before that at the second. It is if its
+    /// deadline is less, or if the deadlines are equal and it is the lesser key.
     fn is_before(&self, dues: &[Option<u64>], first: usize, second: usize) -> bool
         requires first { first < self.now.count }
         requires second { second < self.now.count }

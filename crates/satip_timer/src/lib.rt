@@ -1,4 +1,6 @@
-//! Deadlines of sessions: a map from keys below 64 to moments.
+//! Keeps the deadlines of sessions: a map from keys below 64 to moments.
+//! Contract: `due` returns the key of the least deadline that has passed, of equal ones the lesser
+//! key.
 #![tactic(auto)]
 
 mod heap;

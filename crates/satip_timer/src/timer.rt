@@ -1,4 +1,4 @@
-//! A map from keys to moments, and the key whose moment comes first.
+//! A map from keys to deadlines, with the key of the least deadline.
 
 ghost use Rattle.std.specs.Prelude.{◌≡◌, ◌<◌, ◌↔◌, ℕ, List, Option, Some, None, length, replicate, slice_set, IfOk, IfSome, IsNone};
 ghost use Rattle.satip_timer.specs.Deadlines.{IsNextDue, NoneDue};
@@ -8,11 +8,11 @@ use satip_base::Want;
 use std::alloc::Global;
 use std::marker::Model;
 
-/// How many keys there are: 0 to 63.
+/// The number of keys, which are 0 to 63.
 pub const KEYS: u16 = 64;
 
-/// Deadlines in milliseconds, at most one a key. A contract sees the list of the keys' deadlines,
-/// in the order of keys.
+/// Deadlines in milliseconds, at most one a key. In contracts it is the list of the keys'
+/// deadlines, in the order of keys.
 #[derive(Drop)]
 pub struct Timer {
     dues: Vec<Option<u64>>,
@@ -32,7 +32,8 @@ impl Model for Timer {
 }
 
 impl Timer {
-    /// No key has a deadline. Takes the room of all deadlines; `Want` where it was refused.
+    /// Returns a timer without deadlines. It allocates the room of all deadlines; `Want` is out of
+    /// memory.
     pub fn make(alloc: Global) -> Result<Timer, Want>
         ensures empty { IfOk result (λ t. t ≡ replicate KEYS None) }
     {
@@ -46,7 +47,7 @@ impl Timer {
         }
     }
 
-    /// Gives the key this deadline, in place of the one that it had.
+    /// Sets the deadline of the key, and replaces the one that it had.
     pub fn set(&mut self, key: u16, due: u64)
         requires key { key < KEYS }
         ensures replaced { self.new ≡ slice_set self.old key (Some due) }
@@ -61,7 +62,7 @@ impl Timer {
         }
     }
 
-    /// Takes the key's deadline away, where it has one.
+    /// Removes the key's deadline, if it has one.
     pub fn drop_key(&mut self, key: u16)
         requires key { key < KEYS }
         ensures dropped { self.new ≡ slice_set self.old key None }
@@ -73,7 +74,8 @@ impl Timer {
         }
     }
 
-    /// The key of the least deadline that is at most `now`; of equal ones the least key.
+    /// Returns the key of the least deadline that is at most `now`, in milliseconds; of equal
+    /// deadlines the least key.
     pub fn due(&self, now: u64) -> Option<u16>
         ensures none { IsNone result ↔ NoneDue now self.now }
         ensures next { IfSome result (IsNextDue now self.now) }

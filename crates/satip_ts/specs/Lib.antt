@@ -1,3 +1,4 @@
 pub mod Packet
 pub mod Recording
 pub mod Calls
+pub mod Digits

@@ -1,4 +1,4 @@
-//! `Cutter`, which a clause sees as the list of the bytes that it holds.
+//! `Cutter`; in contracts it is the list of the bytes that it holds.
 ghost use Rattle.std.specs.Prelude.{◌≡◌, ◌⊎◌, ℕ, ◌+◌, ◌-◌, ◌<◌, ◌≤◌, ◌↔◌, ◌==◌, List, min, [], ◌++◌, length, take, drop, position, slice_index, IsNone, IfNone, IfSome, MatchOption};
 ghost use Rattle.std.specs.Option.{option_to_list};
 ghost use Rattle.satip_ts.specs.Recording.{from_sync, cut_packets};
@@ -9,7 +9,7 @@ use std::marker::Model;
 
 const PLACES: usize = 4096;
 
-/// Cuts the packets out of a recording that comes in pieces. It holds at most 4096 bytes.
+/// Cuts transport packets out of a recording that is fed in pieces. It holds at most 4096 bytes.
 #[derive(Drop)]
 pub struct Cutter {
     places: [u8; PLACES],
@@ -28,7 +28,7 @@ impl Model for Cutter {
 }
 
 impl Cutter {
-    /// A cutter that holds nothing.
+    /// Returns a cutter that holds nothing.
     pub fn new() -> Cutter
         ensures empty { result ≡ [] }
     {
@@ -39,7 +39,7 @@ impl Cutter {
         }
     }
 
-    /// Takes as many bytes from the front of the piece as there is room for, and answers their
+    /// Takes bytes from the start of the piece, as many as there is room for, and returns their
     /// number.
     pub fn feed(&mut self, piece: &[u8]) -> usize
         ensures taken { result ≡ min (length piece.now) (4096 - length self.old) }
@@ -55,12 +55,12 @@ impl Cutter {
         count
     }
 
-    /// Drops the bytes before the next sync byte and hands out the packet that begins there, or
-    /// None where fewer than 188 bytes are held from there on.
+    /// Drops the bytes before the next sync byte, and returns the packet that begins there. `None`
+    /// if fewer than 188 bytes are held from there on; the caller then feeds more.
     pub fn next(&mut self) -> Option<Packet>
         ensures none { IsNone result ↔ (length (from_sync self.old) < 188) }
         ensures held { Does self.old (Answered result) self.new }
-        // whatever bytes come later
+        // for any bytes that are fed later
         ensures first { (more : List ℕ) → cut_packets (self.old ++ more) ≡ option_to_list result
             ++ cut_packets (self.new ++ more) }
         ensures complete { IsNone result → cut_packets self.new ≡ [] }
@@ -75,8 +75,8 @@ impl Cutter {
     }
 }
 
-/// Moves the held bytes to the front where fewer than `wanted` places are behind them. Answers
-/// where they then start.
+/// Moves the held bytes to the start if fewer than `wanted` places follow them. Returns the place
+/// of their first byte.
 fn start_with_room(places: &mut [u8; PLACES], start: usize, end: usize, wanted: usize) -> usize
     requires ordered { start ≤ end }
     requires within { end ≤ 4096 }
@@ -92,7 +92,7 @@ fn start_with_room(places: &mut [u8; PLACES], start: usize, end: usize, wanted: 
     0
 }
 
-/// How many bytes stand before the first sync byte.
+/// Returns the number of bytes before the first sync byte.
 fn bytes_before_sync(held: &[u8]) -> usize
     ensures sync { drop result held.now ≡ from_sync held.now }
     ensures within { result ≤ length held.now }
@@ -100,14 +100,14 @@ fn bytes_before_sync(held: &[u8]) -> usize
     first_sync(held).unwrap_or(held.len())
 }
 
-/// Where the first sync byte stands.
+/// Returns the place of the first sync byte.
 fn first_sync(held: &[u8]) -> Option<usize>
     ensures place { result ≡ position (λ b. b == 71) held.now }
 {
     held.iter().position(|b| *b == SYNC_BYTE)
 }
 
-/// The packet at the front of bytes that begin with a sync byte, if all of it is there.
+/// Returns the packet at the start of bytes that begin with a sync byte, if it is complete.
 fn packet_at_front(held: &[u8]) -> Option<Packet>
     requires synchronized { 0 < length held.now → slice_index held.now 0 ≡ 71 }
     ensures packet { MatchOption result (length held.now < 188)

@@ -1,4 +1,4 @@
-//! `Packet`, which a clause sees as the list of its bytes.
+//! `Packet`; in contracts it is the list of its bytes.
 ghost use Rattle.std.specs.Prelude.{◌≡◌, ◌≢◌, ◌<◌, ◌↔◌, IsNone, IfSome, slice_index};
 ghost use Rattle.satip_ts.specs.Packet.{IsPacket, pid_of};
 
@@ -26,7 +26,7 @@ impl Model for Packet {
 }
 
 impl Packet {
-    /// The packet of these bytes, unless they don't begin with the sync byte.
+    /// Returns the packet of these bytes; `None` if they don't begin with the sync byte.
     pub fn of(bytes: &[u8; 188]) -> Option<Packet>
         ensures none { IsNone result ↔ (slice_index bytes.now 0 ≢ 71) }
         ensures bytes { IfSome result (λ packet. packet ≡ bytes.now) }
@@ -37,7 +37,7 @@ impl Packet {
         Some(Packet { bytes: *bytes })
     }
 
-    /// The packet identifier: 13 bits.
+    /// Returns the packet identifier (PID): 13 bits.
     pub fn pid(&self) -> u16
         ensures pid { result ≡ pid_of self.now }
         ensures within { result < 8192 }
@@ -45,7 +45,7 @@ impl Packet {
         u16::from(self.bytes[1] & 0x1f) << 8 | u16::from(self.bytes[2])
     }
 
-    /// All 188 bytes.
+    /// Returns all 188 bytes.
     pub fn bytes(&self) -> &[u8; 188]
         ensures bytes { result.now ≡ self.now }
         ensures packet { IsPacket self.now }

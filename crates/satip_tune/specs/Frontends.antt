@@ -18,7 +18,7 @@ abbrev pub receives : Front → System → Bool
 receives front Dvbs = slice_index_or front.systems 0 false
 receives front Dvbs2 = slice_index_or front.systems 1 false
 
--- whether a wanted number, if there is one, is this
+-- whether the wanted number, if there is one, is this
 abbrev pub may_be : Option ℕ → ℕ → Bool
 may_be None number = true
 may_be (Some wanted) number = wanted == number
@@ -31,7 +31,7 @@ fits_of front tuning = reaches front tuning.src && receives front tuning.msys &&
 abbrev pub is_near : ℕ → ℕ → Bool
 is_near a b = nat_le a (b + 2000) && nat_le b (a + 2000)
 
--- whether the multiplex is the one that a tuning means
+-- whether a tuning means this multiplex
 abbrev pub is_meant_of : Tuning → Mux → Bool
 is_meant_of tuning mux =
     mux.src == tuning.src && pol_eq mux.pol tuning.pol && system_eq mux.msys tuning.msys && mux.sr == tuning.sr

@@ -1,4 +1,4 @@
--- The tuning that a change makes, of an old tuning or of none.
+-- The tuning that results from a change, with an old tuning or without.
 use Rattle.std.specs.Prelude.{ℕ, Bool, false, not, [], ◌∷◌, Option, None, Some, Result, Ok, Err, unwrap_or, is_some, find}
 use Rattle.std.specs.List.{list_any}
 use Rattle.std.specs.Option.{option_or}
@@ -41,15 +41,15 @@ change_gives change Pids = false
 change_gives change Addpids = false
 change_gives change Delpids = false
 
--- whether a change gives anything
+-- whether a change gives at least one field
 abbrev pub gives_any : Change → Bool
 gives_any change = list_any (change_gives change) all_keys
 
--- the first needed key that a change doesn't give
+-- the first required key that a change doesn't give
 abbrev pub missing : Change → Option Key
 missing change = find (λ key. not (change_gives change key)) (Freq ∷ PolKey ∷ Msys ∷ Sr ∷ [])
 
--- the tuning of the given fields, where the needed ones are these; the first needed one that is absent, else
+-- the tuning of the given fields with these required ones, or the first required key that is absent
 abbrev pub founded : Change → Option ℕ → Option Pol → Option System → Option ℕ → Result Tuning Key
 founded change None pol msys sr = Err Freq
 founded change (Some freq) None msys sr = Err PolKey
@@ -68,6 +68,6 @@ founded change (Some freq) (Some pol) (Some msys) (Some sr) = Ok (record {
   fec = change.fec;
 })
 
--- the first tuning of a stream, made of a change alone
+-- the first tuning of a stream, which results from a change alone
 abbrev pub first_of : Change → Result Tuning Key
 first_of change = founded change change.freq change.pol change.msys change.sr

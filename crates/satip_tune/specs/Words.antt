@@ -1,4 +1,4 @@
--- The words of a query: each key's text, and each value's.
+-- The words of a query: the text of each key and of each value.
 use Rattle.std.specs.Prelude.{ℕ, Bool, true, false, List, [], ◌∷◌, Option, find, codes}
 use Rattle.std.specs.Str.{bytes_eq}
 use Rattle.satip_tune.specs.declared.signal.Pol.{Pol}
@@ -113,11 +113,11 @@ all_keys = Fe ∷ Src ∷ Freq ∷ PolKey ∷ Ro ∷ Msys ∷ Mtype ∷ Plts ∷
 unfoldable pub key_named : List ℕ → Option Key
 key_named text = find (λ value. bytes_eq (key_text value) text) all_keys
 
--- the word of the pilot tones, where they are on or off
+-- the word for pilot tones on or off
 unfoldable pub pilots_text_of : Bool → List ℕ
 pilots_text_of true = codes "on"
 pilots_text_of false = codes "off"
 
--- whether the pilot tones are on, of a word
+-- whether pilot tones are on, by a word
 unfoldable pub pilots_named_of : List ℕ → Option Bool
 pilots_named_of text = find (λ on. bytes_eq (pilots_text_of on) text) (true ∷ false ∷ [])

@@ -1,9 +1,10 @@
-//! What can be wrong with a value.
+//! Faults of values.
 
-/// Why a text gives no value: it doesn't have the form of one, or it has, and that value isn't
-/// allowed.
+/// The fault of a text that gives no value.
 #[derive(Clone, Copy, Debug, PartialEq, Eq)]
 pub enum ValueFault {
+    /// The text doesn't have the form of a value.
     Malformed,
+    /// The text has the form of a value, and that value isn't allowed.
     NotAllowed,
 }

@@ -1,4 +1,4 @@
-//! Frequencies in kHz, written in MHz as a query has them.
+//! Frequencies in kHz, which queries write in MHz.
 
 ghost use Rattle.std.specs.Prelude.{◌≡◌, ◌-◌, ◌≤◌, ◌++◌, true, take, codes};
 ghost use Rattle.std.specs.Char.{is_ascii_digit};
@@ -11,9 +11,9 @@ use crate::faults::ValueFault;
 use crate::pieces::cut;
 use satip_base::read_number;
 
-/// Reads a frequency (`freq` of a query) in MHz, as kHz: a number of 1 to 20 digits, then, where a
-/// dot follows, 1 to 6 digits, of which those past the third are dropped. `NotAllowed` where it is
-/// below 1 MHz or above 99999.999 MHz.
+/// Reads a frequency (`freq` of a query) in MHz, as kHz: 1 to 20 digits, then optionally a dot and
+/// 1 to 6 digits. After the dot only the first three digits count. `NotAllowed` if it is below 1
+/// MHz or above 99999.999 MHz.
 #[tactic(auto, unfolding(crate::specs::Frequency::frequency_of))]
 pub fn read_frequency(text: &[u8]) -> Result<u32, ValueFault>
     ensures value { result ≡ frequency_of text.now }
@@ -57,7 +57,7 @@ fn read_thousandths(digits: &[u8]) -> Option<u16>
     }
 }
 
-/// Whether the text is 1 to 6 digits, as they stand behind the dot of a decimal number.
+/// Returns whether the text is 1 to 6 digits, as they may follow the dot of a decimal number.
 pub fn is_fraction(text: &[u8]) -> bool
     ensures digits { result ≡ are_digits 6 text.now }
 {
@@ -70,7 +70,7 @@ fn are_all_digits(text: &[u8]) -> bool
     text.iter().all(|byte| byte.is_ascii_digit())
 }
 
-// The number of the first three digits, with zeros where there are fewer.
+// Returns the value of the first three digits, with zeros for missing ones.
 fn first_three(digits: &[u8]) -> u16
     requires { are_digits 6 digits.now ≡ true }
     ensures value { result ≡ digits_value 10 (take 3 (digits.now ++ codes "00")) }

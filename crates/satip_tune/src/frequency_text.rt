@@ -8,8 +8,8 @@ use arrayvec::ArrayVec;
 use itoa::Buffer;
 use std::marker::Model;
 
-/// A frequency in kHz as a query prints it: its MHz, then, where the rest isn't 0, a dot and the
-/// three digits of the rest without the zeros at their end.
+/// The text of a frequency in kHz as a query prints it. It has the MHz, then, if the rest isn't 0,
+/// a dot and the three digits of the rest without the zeros at their end.
 #[derive(Drop)]
 pub struct FrequencyText {
     text: ArrayVec<u8, 16>,
@@ -24,7 +24,7 @@ impl Model for FrequencyText {
 }
 
 impl FrequencyText {
-    /// The text of any number of kHz; that of an allowed frequency is read again as it.
+    /// Prints any number of kHz. `read_frequency` reads an allowed frequency back.
     #[tactic(auto, using(crate::proofs::Printed::frequency_printed))]
     pub fn of(khz: u32) -> Self
         ensures text { result ≡ frequency_text khz }
@@ -33,7 +33,7 @@ impl FrequencyText {
         FrequencyText { text: text_of(khz) }
     }
 
-    /// The text's bytes.
+    /// Returns the text's bytes.
     pub fn bytes(&self) -> &[u8]
         ensures text { result.now ≡ self.now }
     {

@@ -7,8 +7,8 @@ ghost use Rattle.satip_tune.specs.Frontends.{fits_of, is_meant_of, mux_for};
 use crate::signal::{Pol, System};
 use crate::tunings::Tuning;
 
-/// A front end: its number from 1, the satellite positions that it reaches (place `n` for
-/// position `n`), and the systems that it receives (place 0 for DVB-S, place 1 for DVB-S2).
+/// A front end: its number from 1, the satellite positions that it reaches and the systems that it
+/// receives. `sources[n]` is for position `n`; `systems` has DVB-S at 0 and DVB-S2 at 1.
 #[derive(Clone, Copy, Debug, PartialEq, Eq)]
 pub struct Front {
     pub number: u16,
@@ -16,8 +16,8 @@ pub struct Front {
     pub systems: [bool; 2],
 }
 
-/// A multiplex that can be received: its satellite position, its frequency in kHz, its
-/// polarisation and system, and its symbol rate in kSymb/s.
+/// A multiplex that can be received: its satellite position, its frequency in kHz, its polarisation
+/// and system, and its symbol rate in kSymb/s.
 #[derive(Clone, Copy, Debug, PartialEq, Eq)]
 pub struct Mux {
     pub src: u8,
@@ -27,8 +27,8 @@ pub struct Mux {
     pub sr: u32,
 }
 
-/// Whether the front end can be tuned to this: it reaches the position, receives the system, and
-/// is the wanted one where one is wanted.
+/// Returns whether the front end can be tuned to this. It has to reach the position, receive the
+/// system, and have the wanted number if one is wanted.
 pub fn fits(front: &Front, tuning: &Tuning) -> bool
     ensures fitting { result ≡ fits_of front.now tuning.now }
 {
@@ -59,8 +59,8 @@ fn place_of(muxes: &[Mux], tuning: &Tuning) -> Option<usize>
     muxes.iter().position(|mux| is_meant(tuning, mux))
 }
 
-/// The number, from 1, of the first multiplex with the tuning's position, polarisation, system and
-/// symbol rate and a frequency at most 2000 kHz from the tuning's; None where there is none.
+/// Returns the number, from 1, of the first multiplex that the tuning means. Position,
+/// polarisation, system and symbol rate are equal, and the frequencies differ by at most 2000 kHz.
 pub fn mux_of(muxes: &[Mux], tuning: &Tuning) -> Option<u16>
     requires { length muxes.now ≤ 256 }
     ensures found { result ≡ mux_for muxes.now tuning.now }

@@ -5,26 +5,39 @@ ghost use Rattle.satip_tune.specs.Words.{key_text, key_named};
 
 use crate::pieces::same_bytes;
 
-/// A known key of a query, in the order in which a query prints them.
+/// A known key of a query, in the order in which queries print them.
 #[derive(Clone, Copy, Debug, PartialEq, Eq)]
 pub enum Key {
+    /// The number of the wanted front end.
     Fe,
+    /// The satellite position.
     Src,
+    /// The frequency, in MHz.
     Freq,
+    /// The polarisation.
     Pol,
+    /// The roll-off factor.
     Ro,
+    /// The delivery system.
     Msys,
+    /// The modulation.
     Mtype,
+    /// Whether pilot tones are on.
     Plts,
+    /// The symbol rate, in kSymb/s.
     Sr,
+    /// The inner code rate.
     Fec,
+    /// The PIDs to select in place of all others.
     Pids,
+    /// The PIDs to select too.
     Addpids,
+    /// The PIDs to select no longer.
     Delpids,
 }
 
 impl Key {
-    /// The key as a query has it.
+    /// Returns the key's text in a query.
     #[tactic(auto, unfolding(crate::specs::Words::key_named, crate::specs::Words::key_text))]
     pub fn text(&self) -> &'static [u8]
         ensures text { result.now ≡ key_text self.now }
@@ -47,7 +60,7 @@ impl Key {
         }
     }
 
-    /// The key whose text this is, byte for byte; None where there is none.
+    /// Returns the key with this text, byte for byte.
     #[tactic(auto, unfolding(crate::specs::Words::key_named))]
     pub fn named(text: &[u8]) -> Option<Key>
         ensures named { result ≡ key_named text.now }

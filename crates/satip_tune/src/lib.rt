@@ -1,4 +1,6 @@
-//! Tunings: what a client asks of a front end, which front ends fit, and which multiplex is meant.
+//! Merges tunings, finds the front ends that fit and the multiplex of a tuning.
+//! Contract: `merge`, `first`, `fits` and `mux_of` are their definitions; each word of a tuning is
+//! read back as its value.
 #![tactic(auto)]
 
 mod faults;

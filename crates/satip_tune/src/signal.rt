@@ -1,4 +1,4 @@
-//! What a satellite signal is sent with (SAT>IP 1.2.2, 3.5.10).
+//! The parameters of a satellite signal (SAT>IP 1.2.2, 3.5.10).
 
 ghost use Rattle.std.specs.Prelude.{◌≡◌};
 ghost use Rattle.satip_tune.specs.Words.{pol_text, pol_named, system_text, system_named, modulation_text, modulation_named, roll_off_text, roll_off_named, fec_text, fec_named, pilots_text_of, pilots_named_of};
@@ -15,7 +15,7 @@ pub enum Pol {
 }
 
 impl Pol {
-    /// The value of `pol` in a query.
+    /// Returns the value of `pol` in a query.
     #[tactic(auto, unfolding(crate::specs::Words::pol_named, crate::specs::Words::pol_text))]
     pub fn text(&self) -> &'static [u8]
         ensures text { result.now ≡ pol_text self.now }
@@ -29,7 +29,7 @@ impl Pol {
         }
     }
 
-    /// The polarisation whose text this is, byte for byte; None where there is none.
+    /// Returns the polarisation with this text, byte for byte.
     #[tactic(auto, unfolding(crate::specs::Words::pol_named))]
     pub fn named(text: &[u8]) -> Option<Pol>
         ensures named { result ≡ pol_named text.now }
@@ -56,7 +56,7 @@ pub enum System {
 }
 
 impl System {
-    /// The value of `msys` in a query.
+    /// Returns the value of `msys` in a query.
     #[tactic(auto, unfolding(crate::specs::Words::system_named, crate::specs::Words::system_text))]
     pub fn text(&self) -> &'static [u8]
         ensures text { result.now ≡ system_text self.now }
@@ -68,7 +68,7 @@ impl System {
         }
     }
 
-    /// The delivery system whose text this is, byte for byte; None where there is none.
+    /// Returns the delivery system with this text, byte for byte.
     #[tactic(auto, unfolding(crate::specs::Words::system_named))]
     pub fn named(text: &[u8]) -> Option<System>
         ensures named { result ≡ system_named text.now }
@@ -91,7 +91,7 @@ pub enum Modulation {
 }
 
 impl Modulation {
-    /// The value of `mtype` in a query.
+    /// Returns the value of `mtype` in a query.
     #[tactic(auto, unfolding(crate::specs::Words::modulation_named, crate::specs::Words::modulation_text))]
     pub fn text(&self) -> &'static [u8]
         ensures text { result.now ≡ modulation_text self.now }
@@ -103,7 +103,7 @@ impl Modulation {
         }
     }
 
-    /// The modulation whose text this is, byte for byte; None where there is none.
+    /// Returns the modulation with this text, byte for byte.
     #[tactic(auto, unfolding(crate::specs::Words::modulation_named))]
     pub fn named(text: &[u8]) -> Option<Modulation>
         ensures named { result ≡ modulation_named text.now }
@@ -127,7 +127,7 @@ pub enum RollOff {
 }
 
 impl RollOff {
-    /// The value of `ro` in a query.
+    /// Returns the value of `ro` in a query.
     #[tactic(auto, unfolding(crate::specs::Words::roll_off_named, crate::specs::Words::roll_off_text))]
     pub fn text(&self) -> &'static [u8]
         ensures text { result.now ≡ roll_off_text self.now }
@@ -140,7 +140,7 @@ impl RollOff {
         }
     }
 
-    /// The roll-off whose text this is, byte for byte; None where there is none.
+    /// Returns the roll-off with this text, byte for byte.
     #[tactic(auto, unfolding(crate::specs::Words::roll_off_named))]
     pub fn named(text: &[u8]) -> Option<RollOff>
         ensures named { result ≡ roll_off_named text.now }
@@ -172,7 +172,7 @@ pub enum Fec {
 }
 
 impl Fec {
-    /// The value of `fec` in a query.
+    /// Returns the value of `fec` in a query.
     #[tactic(auto, unfolding(crate::specs::Words::fec_named, crate::specs::Words::fec_text))]
     pub fn text(&self) -> &'static [u8]
         ensures text { result.now ≡ fec_text self.now }
@@ -191,7 +191,7 @@ impl Fec {
         }
     }
 
-    /// The code rate whose text this is, byte for byte; None where there is none.
+    /// Returns the code rate with this text, byte for byte.
     #[tactic(auto, unfolding(crate::specs::Words::fec_named))]
     pub fn named(text: &[u8]) -> Option<Fec>
         ensures named { result ≡ fec_named text.now }
@@ -220,7 +220,7 @@ impl Fec {
     }
 }
 
-/// The value of `plts` in a query.
+/// Returns the value of `plts` in a query.
 #[tactic(auto, unfolding(crate::specs::Words::pilots_named_of, crate::specs::Words::pilots_text_of))]
 pub fn pilots_text(on: bool) -> &'static [u8]
     ensures text { result.now ≡ pilots_text_of on }
@@ -229,7 +229,7 @@ pub fn pilots_text(on: bool) -> &'static [u8]
     if on { b"on" } else { b"off" }
 }
 
-/// Whether the pilot tones are on by this text, byte for byte; None where it is neither.
+/// Returns whether this text, byte for byte, is `on`; None if it is neither `on` nor `off`.
 #[tactic(auto, unfolding(crate::specs::Words::pilots_named_of))]
 pub fn pilots_named(text: &[u8]) -> Option<bool>
     ensures named { result ≡ pilots_named_of text.now }

@@ -1,4 +1,4 @@
-//! A tuning, and a change of it.
+//! Tunings, and changes of them.
 
 ghost use Rattle.std.specs.Prelude.{◌≡◌, ◌↔◌, IsTrue, IsNone, MatchResult, None, Some};
 ghost use Rattle.satip_tune.specs.Tunings.{merge_of, first_of, change_gives, gives_any, missing};
@@ -6,9 +6,9 @@ ghost use Rattle.satip_tune.specs.Tunings.{merge_of, first_of, change_gives, giv
 use crate::keys::Key;
 use crate::signal::{Fec, Modulation, Pol, RollOff, System};
 
-/// What a front end is tuned to. `fe` is the number of the wanted front end, `src` the satellite
-/// position from 1, `freq` the transponder's frequency in kHz, `plts` whether pilot tones are on,
-/// and `sr` the symbol rate in kSymb/s.
+/// The parameters that a front end is tuned to. `fe` is the number of the wanted front end, `src`
+/// the satellite position from 1, `freq` the transponder's frequency in kHz. `plts` is whether
+/// pilot tones are on, and `sr` the symbol rate in kSymb/s.
 #[derive(Clone, Copy, Debug, PartialEq, Eq)]
 pub struct Tuning {
     pub fe: Option<u16>,
@@ -39,7 +39,7 @@ pub struct Change {
 }
 
 impl Change {
-    /// Whether the field of a key is given; the keys of PIDs have none.
+    /// Returns whether the field of a key is given; for the keys of PIDs `false`.
     pub fn gives(&self, key: Key) -> bool
         ensures given { result ≡ change_gives self.now key }
     {
@@ -60,7 +60,7 @@ impl Change {
         }
     }
 
-    /// Whether at least one field is given.
+    /// Returns whether at least one field is given.
     pub fn any(&self) -> bool
         ensures given { result ≡ gives_any self.now }
     {
@@ -77,7 +77,7 @@ impl Change {
     }
 }
 
-/// The old tuning with each given field replaced by that of the change.
+/// Returns the old tuning with each given field replaced by that of the change.
 pub fn merge(old: &Tuning, change: &Change) -> Tuning
     ensures merged { result ≡ merge_of old.now change.now }
 {
@@ -95,8 +95,8 @@ pub fn merge(old: &Tuning, change: &Change) -> Tuning
     }
 }
 
-/// The first tuning of a stream: the given fields, with position 1 where none is given. A key of
-/// `freq`, `pol`, `msys` and `sr` that is not given is the error, the first of them in this order.
+/// Returns the first tuning of a stream: the given fields, with position 1 if none is given. The
+/// error is the first of `freq`, `pol`, `msys` and `sr` that isn't given.
 pub fn first(change: &Change) -> Result<Tuning, Key>
     ensures made { result ≡ first_of change.now }
     ensures absent { MatchResult result (λ _. missing change.now ≡ None)

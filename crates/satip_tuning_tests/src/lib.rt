@@ -1,4 +1,4 @@
-//! Numbers, texts, tunings, queries and configurations by example. It has nothing but tests.
+//! Tests numbers, texts, tunings, queries and configurations.
 #![tactic(auto)]
 
 #[cfg(test)]

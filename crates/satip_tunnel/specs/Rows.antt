@@ -1,44 +1,34 @@
--- Entries for the worked rows. What an entry answers plays no part in the lanes that it leaves.
-use Rattle.std.specs.Prelude.{ℕ, List, [], ◌∷◌, replicate}
-use Rattle.satip_base.specs.Output.{Datagram, empty}
-use Rattle.satip_history.specs.History.{entry}
-use Rattle.satip_lanes.specs.Lanes.{drain_answer, lane_of, taken_frames}
-use Rattle.std.specs.List.{concat}
-use Rattle.satip_plain.specs.declared.answers.Answer.TheVariants.{Beat}
-use Rattle.satip_plain.specs.declared.answers.Beat.TheVariants.{Going}
-use Rattle.satip_plain.specs.declared.events.Event.TheVariants.{Tick}
-use Rattle.satip_tunnel.specs.declared.events.TunnelEvent.TheVariants.{Inner, Enter, Drain, Leave}
-use Rattle.satip_tunnel.specs.declared.events.TunnelAnswer.{TunnelAnswer}
-use Rattle.satip_tunnel.specs.declared.events.TunnelAnswer.TheVariants.{Inner as InnerAnswer, Lane, Empty, Left}
-use Rattle.satip_tunnel.specs.Tunnels.{drain_told}
-use Rattle.satip_tunnel.specs.Histories.{TunnelItem, lanes_after}
+-- Entries for the worked examples.
+use Rattle.std.specs.Prelude.{ℕ, false, List}
+use Rattle.satip_base.specs.Output.{Output, empty}
+use Rattle.satip_base.specs.History.{entry}
+use Rattle.satip_plain.specs.declared.answers.Answer.TheVariants.{Replied}
+use Rattle.satip_plain.specs.declared.events.Event.TheVariants.{Request as Asks}
+use Rattle.satip_rtsp.specs.Asked.{blank}
+use Rattle.satip_interleave.specs.declared.events.TunnelEvent.TheVariants.{Inner, Enter, Drain, Leave}
+use Rattle.satip_interleave.specs.declared.events.TunnelAnswer.{TunnelAnswer}
+use Rattle.satip_interleave.specs.declared.events.TunnelAnswer.TheVariants.{Inner as InnerAnswer, Left}
+use Rattle.satip_interleave.specs.Histories.{TunnelItem}
+use Rattle.satip_tunnel.specs.Walk.{lane_peer}
 
--- a connection enters
-abbrev pub enters : ℕ → TunnelItem
-enters number = entry 1 Enter (Lane number) empty
+-- an output with this reply and no datagram
+abbrev pub reply_of : List ℕ → Output
+reply_of reply = record empty { reply = reply }
 
--- the server sends these datagrams at a tick
-abbrev pub sends : List Datagram → TunnelItem
-sends datagrams = entry 2 (Inner (Tick 1040)) (InnerAnswer (Beat Going)) (record empty { datagrams = datagrams })
+-- a connection enters, with this answer
+abbrev pub enters : TunnelAnswer → TunnelItem
+enters answer = entry 1 Enter answer empty
 
--- a connection drains its lane, and leaves
-abbrev pub drains : ℕ → TunnelItem
-drains number = entry 1 (Drain number) Empty empty
+-- a request of a lane's peer, with this reply
+abbrev pub asks : ℕ → List ℕ → TunnelItem
+asks lane reply =
+    entry 1 (Inner (Asks (lane_peer lane) (record { word = 10; ssrc = 20; first = 30 }) blank))
+    (InnerAnswer (Replied (record { status = 200; closing = false }))) (reply_of reply)
 
+-- a drain of a lane, with this answer and these frames
+abbrev pub drains : ℕ → TunnelAnswer → List ℕ → TunnelItem
+drains lane answer frames = entry 1 (Drain lane) answer (reply_of frames)
+
+-- a connection leaves its lane
 abbrev pub leaves : ℕ → TunnelItem
-leaves number = entry 1 (Leave number) Left empty
-
--- as many bytes to a port of a lane
-abbrev pub datagram_to : ℕ → ℕ → ℕ → Datagram
-datagram_to lane port count = record { to = record { ip = lane; port = port }; bytes = replicate count 71 }
-
--- a datagram of six packets to channel 0 of a lane, and a report to channel 1
-abbrev pub media : ℕ → List Datagram
-media lane = datagram_to lane 1 1140 ∷ datagram_to lane 2 152 ∷ []
-
--- what a drain of a lane answers then, and the frames that it gives
-abbrev pub drain_after : List TunnelItem → ℕ → TunnelAnswer
-drain_after h lane = drain_told (drain_answer (lane_of lane (lanes_after h).held))
-
-abbrev pub drained_after : List TunnelItem → ℕ → List ℕ
-drained_after h lane = concat (taken_frames (lane_of lane (lanes_after h).held))
+leaves lane = entry 1 (Leave lane) Left empty

@@ -1,15 +1,37 @@
-//! The server with the lanes of a tunnel: packets that go down RTSP connections as interleaved
-//! frames (RFC 2326, section 10.12).
+//! Serves tunnel connections: replies and RTP leave on one connection (RFC 2326, section 10.12).
+//! Contract: the entries of a connection are one Enter, the requests of what it received, each
+//! followed by a drain, and one Leave. It was sent their rewritten replies and the drained frames,
+//! or a prefix of that. The silent outlet sends no datagram.
+//! Only tested: that memory for a connection's room is given.
 #![tactic(auto)]
 
+mod connection;
+mod ends;
 mod events;
-mod laws;
-mod rows;
-mod sending;
-mod served;
-mod tunnel;
+mod exchanges;
+mod hearing;
+mod kits;
+mod lists;
+mod room;
+#[rattlefmt::skip]
+#[tactic(auto, unfolding(
+    satip_rtsp_interleaved::specs::Turned::turned,
+    satip_rtsp_interleaved::specs::Turned::told_ports,
+    satip_rtsp_interleaved::specs::Turned::channel_line,
+    satip_base::specs::Numbers::number_of,
+))]
+mod connection_examples;
+mod silent;
+mod worker;
+mod worker_connection;
+mod worker_examples;
 
-pub use events::{TunnelAnswer, TunnelEvent};
-pub use laws::lane_numbers_rise;
-pub use rows::worked_rows;
-pub use tunnel::Tunnel;
+pub use connection::serve_tunnel;
+pub use connection_examples::worked_rows;
+pub use ends::TunnelEnd;
+pub use kits::{silence_ticker, sound_ticker};
+pub use lists::{silence_pumps, silence_workers, sound_pumps, sound_workers};
+pub use room::WorkerRoom;
+pub use silent::Silent;
+pub use worker::run_tunnel_worker;
+pub use worker_examples::worked_rows as worked_workers;

@@ -4,13 +4,13 @@ use Rattle.std.proofs.lemmas.List.{length-map}
 use Rattle.satip_world.specs.Dials.{Dial}
 use Rattle.satip_world.specs.Halls.{Hall}
 use Rattle.satip_world.specs.Recordings.{StoreView}
-use Rattle.satip_pump.specs.declared.kits.PumpKit.{PumpKit}
-use Rattle.satip_pump.specs.declared.kits.TickKit.{TickKit}
-use Rattle.satip_worker.specs.declared.kits.WorkerKit.{WorkerKit}
-use Rattle.satip_silent.specs.Kits.{each_two, pump_with, silent, silent_pump, silent_worker, ticker_with, worker_with}
-use Rattle.satip_silent.specs.declared.silent.Silent.{Silent}
-use Rattle.satip_serve.specs.declared.kits.Jobs.{Jobs}
-use Rattle.satip_serve.specs.Views.{WorkerView, PumpView, TickView, JobsView}
+use Rattle.satip_desk.specs.declared.kits.PumpKit.{PumpKit}
+use Rattle.satip_desk.specs.declared.kits.TickKit.{TickKit}
+use Rattle.satip_desk.specs.declared.kits.WorkerKit.{WorkerKit}
+use Rattle.satip_tunnel.specs.Kits.{each_two, pump_with, silent, silent_pump, silent_worker, ticker_with, worker_with}
+use Rattle.satip_tunnel.specs.declared.silent.Silent.{Silent}
+use Rattle.satip_desk.specs.declared.kits.Jobs.{Jobs}
+use Rattle.satip_desk.specs.Views.{WorkerView, PumpView, TickView, JobsView}
 use Rattle.satip_tunnel_serve.specs.Ran.{HaveOutlets}
 use Rattle.satip_tunnel_serve.specs.Views.{worker_seen, pump_seen, ticker_seen, jobs_seen}
 

@@ -1,20 +1,20 @@
 -- Why a tunnel's jobs ended so.
 use Rattle.std.proofs.Common.{◌≡◌, ◌≢◌, ℕ, Bool, true, false, List, length, sym, subst}
 use Rattle.std.proofs.lemmas.Bool.{false≢true}
-use Rattle.satip_service.specs.Known.{Known}
+use Rattle.satip_plain.specs.Known.{Known}
 use Rattle.satip_interleave.specs.Calling.{known_by}
-use Rattle.satip_tunneling.specs.Seats.{Seat}
+use Rattle.satip_tunnel.specs.Seats.{Seat}
 use Rattle.satip_world.specs.Halls.{Hall, Return, fresh_hall}
 use Rattle.satip_pump.specs.declared.ends.JobEnd.{JobEnd}
 use Rattle.satip_pump.specs.declared.ends.JobEnd.TheVariants.{Stopped, Spent as JobSpent, Want as JobWant}
 use Rattle.satip_worker.specs.declared.worker.WorkerEnd.{WorkerEnd}
 use Rattle.satip_worker.specs.declared.worker.WorkerEnd.TheVariants.{Closed, DoorsFault as WorkerDoorsFault, Spent, Want}
 use Rattle.satip_worker.specs.WorkerRun.{WorkerEnds}
-use Rattle.satip_crew.specs.declared.end.ServeEnd.{ServeEnd}
-use Rattle.satip_crew.specs.Runs.{MatchEnd}
+use Rattle.satip_jobs.specs.declared.end.ServeEnd.{ServeEnd}
+use Rattle.satip_jobs.specs.Runs.{MatchEnd}
 use Rattle.satip_serve.specs.Ends.{end_of_worker, end_of_job}
-use Rattle.satip_serve.specs.Fresh.{FreshWorker}
-use Rattle.satip_serve.specs.Views.{WorkerView, PumpView, TickView}
+use Rattle.satip_desk.specs.Fresh.{FreshWorker}
+use Rattle.satip_desk.specs.Views.{WorkerView, PumpView, TickView}
 use Rattle.satip_serve.proofs.Finishing.{not_zero}
 use Rattle.satip_tunnel_serve.specs.Deeds.{TunnelWorkerDid, TunnelPumpDid, TunnelTickerDid}
 

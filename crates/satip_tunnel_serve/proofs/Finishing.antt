@@ -1,12 +1,12 @@
 -- What a job of a tunnel did to a fresh kit is what it has done.
 use Rattle.std.proofs.Common.{◌≡◌, ◌≢◌, ℕ, ◌⊎◌, inl, inr, Bool, true, false, List, [], ◌∷◌, ◌++◌, map, length, sym, ap, ◌∙◌, subst}
 use Rattle.std.proofs.lemmas.Bool.{false≢true}
-use Rattle.satip_history.specs.Lists.{Each}
-use Rattle.satip_history.proofs.Elements.{Each-append, each_follows}
+use Rattle.satip_base.specs.Lists.{Each}
+use Rattle.satip_base.proofs.Elements.{Each-append, each_follows}
 use Rattle.satip_interleave.specs.Calling.{known_by, outers}
-use Rattle.satip_service.specs.Known.{Known}
-use Rattle.satip_tunnel.specs.Histories.{TunnelItem, inners}
-use Rattle.satip_tunneling.specs.Seats.{Seat}
+use Rattle.satip_plain.specs.Known.{Known}
+use Rattle.satip_interleave.specs.Histories.{TunnelItem, inners}
+use Rattle.satip_tunnel.specs.Seats.{Seat}
 use Rattle.satip_turn.specs.Views.{row}
 use Rattle.satip_world.specs.declared.doors.ConnEnd.TheVariants.{Spent as ConnSpent}
 use Rattle.satip_world.specs.Dials.{Reads, fresh_dial}
@@ -17,12 +17,12 @@ use Rattle.satip_worker.specs.declared.worker.WorkerEnd.TheVariants.{Closed, Doo
 use Rattle.satip_worker.specs.Drawing.{draw_at}
 use Rattle.satip_worker.specs.Ends.{is_unmade}
 use Rattle.satip_worker.specs.WorkerRun.{WorkerEnds}
-use Rattle.satip_crew.specs.declared.end.ServeEnd.{ServeEnd}
+use Rattle.satip_jobs.specs.declared.end.ServeEnd.{ServeEnd}
 use Rattle.satip_serve.specs.Done.{EndsInTime}
-use Rattle.satip_serve.specs.Fresh.{FreshPump}
-use Rattle.satip_serve.specs.Views.{WorkerView, PumpView, TickView}
+use Rattle.satip_desk.specs.Fresh.{FreshPump}
+use Rattle.satip_desk.specs.Views.{WorkerView, PumpView, TickView}
 use Rattle.satip_serve.proofs.Finishing.{not_zero, pump_done, ticker_done}
-use Rattle.satip_tunnel_worker.specs.WorkerRun.{ServesAll}
+use Rattle.satip_tunnel.specs.WorkerRun.{ServesAll}
 use Rattle.satip_tunnel_serve.specs.Deeds.{TunnelWorkerDid, TunnelPumpDid, TunnelTickerDid}
 use Rattle.satip_tunnel_serve.specs.Done.{TunnelWorkerDone, TunnelPumpDone, TunnelTickerDone}
 

@@ -5,3 +5,20 @@ mod Ended
 mod WholeRuns
 mod Asides
 mod Starting
+pub mod Holding
+pub mod Turning
+pub mod Moving
+pub mod Taking
+pub mod Owning
+pub mod Connecting
+pub mod Carrying
+pub mod Splitting
+pub mod Plain
+pub mod Forming
+pub mod PieceTurning
+pub mod Replies
+pub mod Wiring
+pub mod Framing
+pub mod Parting
+mod RunOwning
+mod EndLemmas

@@ -1,21 +1,21 @@
 -- Jobs of a tunnel at their seats, over a service of its server.
 use Rattle.std.proofs.Common.{◌≡◌, Bool, List, subst}
 use Rattle.satip_plain.specs.declared.setting.Setting.{Setting}
-use Rattle.satip_pump.specs.declared.kits.PumpKit.{PumpKit}
-use Rattle.satip_pump.specs.declared.kits.TickKit.{TickKit}
-use Rattle.satip_service.specs.Known.{Known}
+use Rattle.satip_desk.specs.declared.kits.PumpKit.{PumpKit}
+use Rattle.satip_desk.specs.declared.kits.TickKit.{TickKit}
+use Rattle.satip_plain.specs.Known.{Known}
 use Rattle.satip_turn.specs.Shown.{Cell}
 use Rattle.satip_interleave.specs.Calling.{ShownPass, known_by}
-use Rattle.satip_tunnel.specs.Histories.{TunnelItem}
+use Rattle.satip_interleave.specs.Histories.{TunnelItem}
 use Rattle.satip_world.specs.Dials.{Dial}
 use Rattle.satip_world.specs.Recordings.{StoreView}
-use Rattle.satip_crew.specs.declared.seat.Seat.{Seat}
-use Rattle.satip_crew.specs.Works.{IsSameSeat}
+use Rattle.satip_jobs.specs.declared.seat.Seat.{Seat}
+use Rattle.satip_jobs.specs.Works.{IsSameSeat}
 use Rattle.satip_serve.specs.Deeds.{PumpDid, TickerDid}
-use Rattle.satip_serve.specs.Views.{pump_view, tick_view}
+use Rattle.satip_desk.specs.Views.{pump_view, tick_view}
 use Rattle.satip_tunnel_serve.specs.Deeds.{SeatDid, pump_deed, ticker_deed}
-use Rattle.satip_silent.specs.declared.silent.Silent.{Silent}
-use Rattle.satip_silent.specs.Kits.{silent_outbox}
+use Rattle.satip_tunnel.specs.declared.silent.Silent.{Silent}
+use Rattle.satip_tunnel.specs.Kits.{silent_outbox}
 use Rattle.satip_tunnel_serve.specs.Services.{PumpedAtSeat, ServesInTunnel, TickedAtSeat}
 use Rattle.satip_tunnel_serve.proofs.Unheard.{pump_unheard, ticker_unheard}
 

@@ -3,9 +3,9 @@ use Rattle.std.proofs.Common.{◌≡◌, sym, ap, ◌∙◌, subst, ℕ, List, m
 use Rattle.satip_plain.specs.declared.setting.Setting.{Setting}
 use Rattle.satip_world.specs.Dials.{Reads}
 use Rattle.satip_interleave.specs.Calling.{ShownPass}
-use Rattle.satip_crew.specs.declared.end.ServeEnd.{ServeEnd}
-use Rattle.satip_serve.specs.Fresh.{AreFresh, FreshJobs}
-use Rattle.satip_serve.specs.Views.{WorkerView, PumpView, JobsView}
+use Rattle.satip_jobs.specs.declared.end.ServeEnd.{ServeEnd}
+use Rattle.satip_desk.specs.Fresh.{AreFresh, FreshJobs}
+use Rattle.satip_desk.specs.Views.{WorkerView, PumpView, JobsView}
 use Rattle.satip_serve.proofs.Starting.{fresh_at}
 use Rattle.satip_tunnel_serve.specs.Ran.{TunnelJobsRan}
 

@@ -1,13 +1,13 @@
 -- Jobs whose outlets tell nothing: their deeds, with nothing said of the outlet.
 use Rattle.std.proofs.Common.{ℕ, inl, List, [], ◌∷◌, arith}
 use Rattle.satip_base.specs.Output.{Datagram}
-use Rattle.satip_service.specs.Known.{Known}
+use Rattle.satip_plain.specs.Known.{Known}
 use Rattle.satip_world.specs.Deliveries.{Delivers, LeavesOut}
 use Rattle.satip_world.specs.Deliveries.LeavesOut.{no_more, went}
 use Rattle.satip_world.specs.Outboxes.{fresh_outbox}
-use Rattle.satip_crew.specs.declared.end.ServeEnd.{ServeEnd}
+use Rattle.satip_jobs.specs.declared.end.ServeEnd.{ServeEnd}
 use Rattle.satip_serve.specs.Deeds.{PumpDid, TickerDid}
-use Rattle.satip_serve.specs.Views.{PumpView, TickView}
+use Rattle.satip_desk.specs.Views.{PumpView, TickView}
 
 all_went : (ds : List Datagram) → LeavesOut ds ds 0
 all_went [] = no_more

@@ -1,23 +1,23 @@
 -- What all jobs of a tunnel did is a run of it.
 use Rattle.std.proofs.Common.{◌≡◌, ◌≢◌, ℕ, ◌⊎◌, inl, inr, true, List, map, sym, ap, ◌∙◌, subst, length}
 use Rattle.std.proofs.lemmas.List.{length-map}
-use Rattle.satip_history.specs.Lists.{Each}
+use Rattle.satip_base.specs.Lists.{Each}
 use Rattle.satip_plain.specs.declared.setting.Setting.{Setting}
 use Rattle.satip_turn.specs.Shown.{Cell, Knows}
-use Rattle.satip_tunnel.specs.Histories.{TunnelItem, TunnelLegal}
+use Rattle.satip_interleave.specs.Histories.{TunnelItem, TunnelLegal}
 use Rattle.satip_interleave.specs.Calling.{ShownPass}
-use Rattle.satip_tunneling.specs.Seats.{seated, Seat as CallerSeat}
-use Rattle.satip_crew.specs.declared.end.ServeEnd.{ServeEnd}
-use Rattle.satip_crew.specs.declared.posts.Posts.{Posts}
-use Rattle.satip_crew.specs.declared.seat.Seat.{Seat}
-use Rattle.satip_crew.specs.Crewed.{RunDid}
-use Rattle.satip_crew.specs.Passes.{IsFull}
-use Rattle.satip_crew.specs.Runs.{HasOne, HasNoStop, MatchEnd, Run, StopsOnce}
-use Rattle.satip_crew.proofs.Ended.{end_over}
-use Rattle.satip_crew.proofs.WholeRuns.{run_over}
-use Rattle.satip_serve.specs.Fresh.{FreshWorker, FreshPump, FreshJobs, ReadOnce}
+use Rattle.satip_tunnel.specs.Seats.{seated, Seat as CallerSeat}
+use Rattle.satip_jobs.specs.declared.end.ServeEnd.{ServeEnd}
+use Rattle.satip_jobs.specs.declared.posts.Posts.{Posts}
+use Rattle.satip_jobs.specs.declared.seat.Seat.{Seat}
+use Rattle.satip_jobs.specs.Crewed.{RunDid}
+use Rattle.satip_jobs.specs.Passes.{IsFull}
+use Rattle.satip_jobs.specs.Runs.{HasOne, HasNoStop, MatchEnd, Run, StopsOnce}
+use Rattle.satip_jobs.proofs.Ended.{end_over}
+use Rattle.satip_jobs.proofs.WholeRuns.{run_over}
+use Rattle.satip_desk.specs.Fresh.{FreshWorker, FreshPump, FreshJobs, ReadOnce}
 use Rattle.satip_serve.specs.Services.{IsFirst}
-use Rattle.satip_serve.specs.Views.{WorkerView, PumpView, TickView}
+use Rattle.satip_desk.specs.Views.{WorkerView, PumpView, TickView}
 use Rattle.satip_serve.proofs.WholeRuns.{each_map, map_twice}
 use Rattle.satip_tunnel_serve.specs.Deeds.{SeatDid, TunnelWorkerDid, TunnelPumpDid, TunnelTickerDid}
 use Rattle.satip_tunnel_serve.specs.Done.{TunnelRow, TunnelWorkerDone, TunnelPumpDone, TunnelTickerDone}

@@ -1,51 +1,50 @@
--- What one job of a tunnel did to its kit, as a caller of the shared tunnel. Its outlet has no part.
+-- The effect of one job of a tunnel on its kit, as a caller of the shared tunnel. Outlets aren't used.
 use Rattle.std.specs.Prelude.{◌≡◌, ℕ}
 use Rattle.satip_plain.specs.declared.setting.Setting.{Setting}
 use Rattle.satip_world.specs.Dials.{Dial}
 use Rattle.satip_world.specs.Halls.{Hall}
 use Rattle.satip_world.specs.Recordings.{StoreView}
-use Rattle.satip_pump.specs.declared.kits.PumpKit.{PumpKit}
-use Rattle.satip_pump.specs.declared.kits.TickKit.{TickKit}
-use Rattle.satip_worker.specs.declared.kits.WorkerKit.{WorkerKit}
+use Rattle.satip_desk.specs.declared.kits.PumpKit.{PumpKit}
+use Rattle.satip_desk.specs.declared.kits.TickKit.{TickKit}
+use Rattle.satip_desk.specs.declared.kits.WorkerKit.{WorkerKit}
 use Rattle.satip_worker.specs.declared.worker.WorkerEnd.{WorkerEnd}
 use Rattle.satip_turn.specs.Shown.{Cell, Keeps}
 use Rattle.satip_interleave.specs.Calling.{ShownPass, known_by, outers}
-use Rattle.satip_tunneling.specs.Seats.{seated, Seat as CallerSeat}
-use Rattle.satip_crew.specs.declared.end.ServeEnd.{ServeEnd}
-use Rattle.satip_crew.specs.declared.seat.Seat.{Seat}
-use Rattle.satip_crew.specs.Works.{IsSameSeat}
+use Rattle.satip_tunnel.specs.Seats.{seated, Seat as CallerSeat}
+use Rattle.satip_jobs.specs.declared.end.ServeEnd.{ServeEnd}
+use Rattle.satip_jobs.specs.declared.seat.Seat.{Seat}
+use Rattle.satip_jobs.specs.Works.{IsSameSeat}
 use Rattle.satip_serve.specs.Deeds.{PumpDid, TickerDid}
 use Rattle.satip_serve.specs.Ends.{end_of_worker}
-use Rattle.satip_serve.specs.Views.{WorkerView, PumpView, TickView}
-use Rattle.satip_tunnel_worker.specs.WorkerRun.{ServesDoors}
+use Rattle.satip_desk.specs.Views.{WorkerView, PumpView, TickView}
+use Rattle.satip_tunnel.specs.WorkerRun.{ServesDoors}
 use Rattle.satip_tunnel_serve.specs.Views.{worker_seen, pump_seen, ticker_seen}
 
--- a worker served the connections that came by its doors, with this stream of its key
+-- a worker served the connections that arrived at its doors, with this stream of its key
 pub record TunnelWorkerDid (conn_tells : Type 0) (number : ℕ) (o : WorkerView) (s : CallerSeat) (n : WorkerView) (t : CallerSeat) (end : ServeEnd) : Type 0 where
   pub ended : WorkerEnd
   pub end_is : end ≡ end_of_worker ended
   pub key : n.key ≡ o.key
   pub serves : ServesDoors conn_tells o.key number s t o.hall n.hall ended
 
--- and it is at its seat still: its caller has the same tunnel, and its pass the same number, kept rows and numbers of passes
--- made, and the job has its number
+-- the same at its seat: the job has the same number, its caller the same tunnel, and its pass the same number, kept rows and numbers of passes made
 pub record WorkedAtSeat (conn_tells : Type 0) (before after : ℕ) (o : WorkerView) (s : CallerSeat) (n : WorkerView) (t : CallerSeat) (end : ServeEnd) : Type 0 where
   pub number : after ≡ before
   pub cell_is : t.cell ≡ s.cell
   pub keeps : Keeps s.pass t.pass
   pub did : TunnelWorkerDid conn_tells before o s n t end
 
--- a pump asked and fed as one of the server does, and made no entry of the lanes
+-- a pump did what a pump of the server does, and made no entry of the lanes
 pub record TunnelPumpDid (number : ℕ) (o : PumpView) (s : CallerSeat) (n : PumpView) (t : CallerSeat) (end : ServeEnd) : Type 0 where
   pub pumped : PumpDid ⊥ number o (known_by s.pass) n (known_by t.pass) end
   pub others : outers t.pass.own ≡ outers s.pass.own
 
--- the ticker ticked as that of the server does, and made no entry of the lanes
+-- the ticker did what that of the server does, and made no entry of the lanes
 pub record TunnelTickerDid (o : TickView) (s : CallerSeat) (n : TickView) (t : CallerSeat) (end : ServeEnd) : Type 0 where
   pub ticked : TickerDid ⊥ o (known_by s.pass) n (known_by t.pass) end
   pub others : outers t.pass.own ≡ outers s.pass.own
 
--- these deeds as relations of kits
+-- these effects as relations of kits
 abbrev pub worker_deed : {D O P : Type 0} → (conn_tells : Type 0) → (D → Hall) → ℕ → WorkerKit D O P → CallerSeat → WorkerKit D O P → CallerSeat → ServeEnd → Type 0
 worker_deed conn_tells hall number o s n t end = TunnelWorkerDid conn_tells number (worker_seen hall o) s (worker_seen hall n) t end
 

@@ -1,31 +1,31 @@
--- What each job of a tunnel has done when all have ended.
+-- The work of each job of a tunnel when all have ended.
 use Rattle.std.specs.Prelude.{◌≡◌, ◌≢◌, ℕ, ◌⊎◌, true, List, [], map}
 use Rattle.satip_base.specs.declared.limits.TheConstants.{LONGEST_HISTORY}
 use Rattle.satip_base.specs.Output.{Output}
-use Rattle.satip_history.specs.Lists.{Each}
+use Rattle.satip_base.specs.Lists.{Each}
 use Rattle.satip_turn.specs.declared.view.Row.{Row}
 use Rattle.satip_turn.specs.Views.{row}
-use Rattle.satip_tunnel.specs.declared.events.TunnelAnswer.{TunnelAnswer}
-use Rattle.satip_tunnel.specs.declared.events.TunnelEvent.{TunnelEvent}
-use Rattle.satip_tunnel.specs.Histories.{inners}
+use Rattle.satip_interleave.specs.declared.events.TunnelAnswer.{TunnelAnswer}
+use Rattle.satip_interleave.specs.declared.events.TunnelEvent.{TunnelEvent}
+use Rattle.satip_interleave.specs.Histories.{inners}
 use Rattle.satip_interleave.specs.Calling.{outers}
 use Rattle.satip_world.specs.Halls.{Return}
 use Rattle.satip_worker.specs.Drawing.{draw_at}
 use Rattle.satip_worker.specs.WorkerRun.{arrival_of}
 use Rattle.satip_serve.specs.Done.{Caller, EndsInTime, PumpDone, TickerDone}
-use Rattle.satip_serve.specs.Views.{WorkerView, PumpView, TickView}
-use Rattle.satip_tunnel_worker.specs.WorkerRun.{ServesAll}
+use Rattle.satip_desk.specs.Views.{WorkerView, PumpView, TickView}
+use Rattle.satip_tunnel.specs.WorkerRun.{ServesAll}
 
 -- a caller of the tunnel: its number and its entries
 abbrev pub TunnelRow : Type 0
 TunnelRow = Row TunnelEvent TunnelAnswer Output
 
--- it as a caller of the server, which has the server's entries alone
+-- the same as a caller of the server, with the server's entries alone
 abbrev pub inner_row : TunnelRow → Caller
 inner_row r = row r.number (inners r.own)
 
--- a worker: its doors have this limit, and they ended or failed, or the history is full. What came by them was handed
--- back, in order; its entries are those of these connections, with the draws of its key and its number
+-- a worker: its doors have this limit, and they ended or failed, or the history is full. Each connection that arrived was handed back, in order. The worker's
+-- entries are those of these connections, with the draws of its key and its number
 pub record TunnelWorkerDone (conn_tells full : Type 0) (accepts number : ℕ) (worker : WorkerView) (caller : TunnelRow) : Type 0 where
   pub limit : worker.hall.limit ≡ accepts
   pub ended : (worker.hall.ended ≡ true) ⊎ ((worker.hall.faults ≢ 0) ⊎ full)
@@ -33,19 +33,19 @@ pub record TunnelWorkerDone (conn_tells full : Type 0) (accepts number : ℕ) (w
   pub draws : ℕ
   pub came : worker.hall.told ≡ true → worker.hall.given ≡ map arrival_of connections
   pub handed_back : worker.hall.told ≡ true → worker.hall.returned ≡ connections
-  -- the history had so many entries at first, and so many at last
+  -- some numbers between which the lengths of the history seen at the ends of the connections are; `last` is the largest length only if the history is full
   pub first : ℕ
   pub last : ℕ
   pub served : ServesAll conn_tells (draw_at worker.key number) 0 draws first last connections caller.own
   pub filled : last ≡ LONGEST_HISTORY → full
   pub in_time : Each (EndsInTime full) connections
 
--- the pump of a front end: it has done what one of the server has, and has no entry of the lanes. Nothing is said of its outlet
+-- the pump of a front end did what a pump of the server does, and has no entry of the lanes. Nothing is said of its outlet
 pub record TunnelPumpDone (full : Type 0) (front : ℕ) (pump : PumpView) (caller : TunnelRow) : Type 0 where
   pub done : PumpDone ⊥ full front pump (inner_row caller)
   pub none : outers caller.own ≡ []
 
--- the ticker: it has done what that of the server has, and has no entry of the lanes. Nothing is said of its outlet
+-- the ticker did what that of the server does, and has no entry of the lanes. Nothing is said of its outlet
 pub record TunnelTickerDone (full : Type 0) (start : ℕ) (ticker : TickView) (caller : TunnelRow) : Type 0 where
   pub done : TickerDone ⊥ full start ticker (inner_row caller)
   pub none : outers caller.own ≡ []

@@ -5,3 +5,17 @@ pub mod TunnelRuns
 pub mod Ran
 pub mod Services
 pub mod Asides
+pub mod LaneFrames
+pub mod Owners
+pub mod Rows
+pub mod Channels
+pub mod ChannelRows
+pub mod Pieces
+pub mod Replies
+pub mod Wires
+pub mod Splits
+pub mod Runs
+pub mod Outlets
+pub mod Sent
+pub mod Ends
+pub use Rattle.satip_tunnel.specs.Silences

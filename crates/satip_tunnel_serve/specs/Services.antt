@@ -3,26 +3,26 @@ use Rattle.std.specs.Prelude.{◌≡◌, ℕ, Bool, List}
 use denote.Ref.{MutBor}
 use denote.Param.Members.{Shared}
 use Rattle.satip_plain.specs.declared.setting.Setting.{Setting}
-use Rattle.satip_pump.specs.declared.kits.PumpKit.{PumpKit}
-use Rattle.satip_pump.specs.declared.kits.TickKit.{TickKit}
-use Rattle.satip_service.specs.Known.{Known}
+use Rattle.satip_desk.specs.declared.kits.PumpKit.{PumpKit}
+use Rattle.satip_desk.specs.declared.kits.TickKit.{TickKit}
+use Rattle.satip_plain.specs.Known.{Known}
 use Rattle.satip_turn.specs.Shown.{Cell}
 use Rattle.satip_world.specs.Dials.{Dial}
 use Rattle.satip_world.specs.Recordings.{StoreView}
-use Rattle.satip_tunnel.specs.Histories.{TunnelItem, TunnelLegal}
+use Rattle.satip_interleave.specs.Histories.{TunnelItem, TunnelLegal}
 use Rattle.satip_interleave.specs.Calling.{ShownPass, SameCaller, known_by}
-use Rattle.satip_tunneling.specs.Seats.{Seat as CallerSeat}
-use Rattle.satip_crew.specs.declared.end.ServeEnd.{ServeEnd}
-use Rattle.satip_crew.specs.declared.seat.Seat.{Seat}
+use Rattle.satip_tunnel.specs.Seats.{Seat as CallerSeat}
+use Rattle.satip_jobs.specs.declared.end.ServeEnd.{ServeEnd}
+use Rattle.satip_jobs.specs.declared.seat.Seat.{Seat}
 use Rattle.satip_serve.specs.Deeds.{pump_deed as pumps_by, ticker_deed as ticks_by}
 use Rattle.satip_serve.specs.Services.{NeverWants, SeatDid as ServesAtSeat}
-use Rattle.satip_silent.specs.declared.silent.Silent.{Silent}
-use Rattle.satip_silent.specs.Kits.{silent_outbox}
+use Rattle.satip_tunnel.specs.declared.silent.Silent.{Silent}
+use Rattle.satip_tunnel.specs.Kits.{silent_outbox}
 use Rattle.satip_tunnel_serve.specs.Deeds.{SeatDid}
 use Rattle.satip_tunnel_serve.specs.TunnelRuns.{IsTunnelStop}
 
--- each caller of this type is a service that knows what its pass has seen and made of the server's entries, and always has
--- memory; as the same service it is the same caller. Their histories are those of the tunnel, and their stop is its server's
+-- each caller of this type is a service that knows what its pass has seen and made of the server's entries, and never returns out of memory. As the same
+-- service it is the same caller. Their histories are those of the tunnel, and their stop is its server's
 pub record ServesInTunnel {X : Type 0} (known : X → Known) (may_want : X → Bool) (same : X → X → Type 0) (cell : X → Cell Setting) (pass : X → ShownPass)
     (legal : Setting → List TunnelItem → Type 0) (is_stop : TunnelItem → Type 0) : Type 0 where
   pub known_is : (x : X) → known x ≡ known_by (pass x)
@@ -31,14 +31,14 @@ pub record ServesInTunnel {X : Type 0} (known : X → Known) (may_want : X → B
   pub lawful : (c : Setting) (h : List TunnelItem) → legal c h → TunnelLegal c h
   pub stops : (t : TunnelItem) → is_stop t → IsTunnelStop t
 
--- a pump was run at its seat, and the ticker, over the same service, with an outlet that sends nothing
+-- a pump or the ticker ran at its seat, over the same service, with an outlet that sends nothing
 abbrev pub PumpedAtSeat : {X M P L : Type 0} → (same : X → X → Type 0) → (X → Known) → (M → StoreView) → Seat X (PumpKit M Silent P) L → Seat X (PumpKit M Silent P) L → Type 0
 PumpedAtSeat same known shelf before after = ServesAtSeat same known (pumps_by ⊥ shelf silent_outbox) before after
 
 abbrev pub TickedAtSeat : {X C P L : Type 0} → (same : X → X → Type 0) → (X → Known) → (C → Dial) → Seat X (TickKit C Silent P) L → Seat X (TickKit C Silent P) L → Type 0
 TickedAtSeat same known dial before after = ServesAtSeat same known (ticks_by ⊥ dial silent_outbox) before after
 
--- this work may be done on any job, and does this at its seat
+-- this work may be done on any job, and has this effect at its seat
 pub record WorksSo {X K M F : Type 0} (cell : X → Cell Setting) (pass : X → ShownPass) (did : ℕ → K → CallerSeat → K → CallerSeat → ServeEnd → Type 0)
     (g : Shared F (MutBor (Seat X K M) × Unit {0}) (Unit {0} × (MutBor (Seat X K M) × Unit {0}))) (f : F) : Type 0 where
   pub takes : (argument : MutBor (Seat X K M)) → g.pre f (argument, tt)

@@ -1,14 +1,15 @@
--- What contracts see of the kits of a tunnel's jobs, whose outlets have no part.
+-- The contract's view of the kits of a tunnel's jobs, whose outlets aren't used.
 use Rattle.satip_world.specs.Dials.{Dial}
 use Rattle.satip_world.specs.Halls.{Hall}
 use Rattle.satip_world.specs.Recordings.{StoreView}
-use Rattle.satip_pump.specs.declared.kits.PumpKit.{PumpKit}
-use Rattle.satip_pump.specs.declared.kits.TickKit.{TickKit}
-use Rattle.satip_worker.specs.declared.kits.WorkerKit.{WorkerKit}
-use Rattle.satip_crew.specs.declared.posts.Posts.{Posts}
-use Rattle.satip_serve.specs.declared.kits.Jobs.{Jobs}
-use Rattle.satip_serve.specs.Views.{WorkerView, PumpView, TickView, JobsView, worker_view, pump_view, tick_view, jobs_view, posts_view}
-use Rattle.satip_silent.specs.Silences.{no_outbox}
+use Rattle.satip_desk.specs.declared.kits.PumpKit.{PumpKit}
+use Rattle.satip_desk.specs.declared.kits.TickKit.{TickKit}
+use Rattle.satip_desk.specs.declared.kits.WorkerKit.{WorkerKit}
+use Rattle.satip_jobs.specs.declared.posts.Posts.{Posts}
+use Rattle.satip_desk.specs.declared.kits.Jobs.{Jobs}
+use Rattle.satip_desk.specs.Views.{WorkerView, PumpView, TickView, JobsView, worker_view, pump_view, tick_view, jobs_view}
+use Rattle.satip_serve.specs.JobViews.{posts_view}
+use Rattle.satip_tunnel.specs.Silences.{no_outbox}
 
 abbrev pub worker_seen : {D O P : Type 0} → (D → Hall) → WorkerKit D O P → WorkerView
 worker_seen hall kit = worker_view hall no_outbox kit

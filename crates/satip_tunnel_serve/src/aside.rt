@@ -1,16 +1,14 @@
-//! The outlets of kits, which are put aside while the jobs of a tunnel run.
+//! The outlets of kits, put aside while the jobs of a tunnel run.
 
 ghost use Rattle.std.specs.Prelude.{◌≡◌, map, vec_len, vec_capacity};
-ghost use Rattle.satip_silent.specs.Kits.{each_two, pump_with, silent, silent_pump, silent_worker, ticker_with, worker_with};
+ghost use Rattle.satip_tunnel.specs.Kits.{each_two, pump_with, silent, silent_pump, silent_worker, ticker_with, worker_with};
 ghost use Rattle.satip_tunnel_serve.specs.Asides.{AreKept, IsSpareFor};
 
-use satip_pump::PumpKit;
-use satip_serve::Jobs;
-use satip_silent::{
+use satip_desk::{Jobs, PumpKit, WorkerKit};
+use satip_tunnel::{
     Silent, silence_pumps, silence_ticker, silence_workers, sound_pumps, sound_ticker,
     sound_workers,
 };
-use satip_worker::WorkerKit;
 
 /// Lists for the kits without outlets, and for the outlets.
 #[derive(Drop)]
@@ -21,7 +19,7 @@ pub(crate) struct Spare<D, O, P, M> {
     pub pump_outlets: Vec<O>,
 }
 
-/// The outlets of all kits, and lists that the kits come back in.
+/// The outlets of all kits, and lists for the kits when they come back.
 #[derive(Drop)]
 pub(crate) struct Aside<D, O, P, M> {
     pub workers: Vec<WorkerKit<D, O, P>>,

@@ -1,12 +1,12 @@
-//! How the jobs of a tunnel end.
+//! The ends of a tunnel's jobs.
 
 ghost use Rattle.std.specs.Prelude.{◌≡◌};
 ghost use Rattle.satip_serve.specs.Ends.{end_of_worker};
 
-use satip_crew::ServeEnd;
+use satip_jobs::ServeEnd;
 use satip_worker::WorkerEnd;
 
-// How the job of a worker ended.
+// Returns how the job of a worker ended.
 pub(crate) fn tell_worker(end: WorkerEnd) -> ServeEnd
     ensures end { result ≡ end_of_worker end }
 {

@@ -3,8 +3,8 @@
 ghost use Rattle.std.specs.Prelude.{◌≡◌, length, vec_capacity};
 ghost use Rattle.std.specs.Thread.{IsSync};
 ghost use Rattle.satip_turn.specs.Shown.{Knows};
-ghost use Rattle.satip_crew.specs.Crews.{IsSpace};
-ghost use Rattle.satip_serve.specs.Fresh.{FreshJobs};
+ghost use Rattle.satip_jobs.specs.Crews.{IsSpace};
+ghost use Rattle.satip_desk.specs.Fresh.{FreshJobs};
 ghost use Rattle.satip_serve.specs.Services.{IsFirst, NeverWants};
 ghost use Rattle.satip_tunnel_serve.specs.Deeds.{worker_deed};
 ghost use Rattle.satip_tunnel_serve.specs.Ran.{TunnelJobsRan};
@@ -12,18 +12,17 @@ ghost use Rattle.satip_tunnel_serve.specs.Services.{PumpedAtSeat, ServesInTunnel
 ghost use Rattle.satip_tunnel_serve.specs.Views.{posts_seen};
 
 use satip_base::Out;
-use satip_crew::{Crew, Posts, Seat, ServeEnd, Space, run_jobs};
-use satip_pump::{PumpKit, TickKit};
+use satip_desk::{PumpKit, TickKit, WorkerKit};
+use satip_interleave::{TunnelAnswer, TunnelEvent};
+use satip_jobs::{Crew, Posts, Seat, ServeEnd, Space, run_jobs};
+use satip_plain::Service;
 use satip_serve::{PumpRoom, pump_seat, tick_seat};
-use satip_service::Service;
-use satip_silent::Silent;
-use satip_tunnel::{TunnelAnswer, TunnelEvent};
-use satip_worker::WorkerKit;
+use satip_tunnel::Silent;
 use satip_world::{Clock, Doors, MuxStore, Pacer};
 use std::sync::Wait;
 use std::thread::Threads;
 
-/// The kits of a tunnel's jobs, and what the callers of these have.
+/// The kits of a tunnel's jobs, and the gears of their callers.
 pub type TunnelPosts<D, P, M, C, G> = Posts<
     WorkerKit<D, Silent, P>,
     PumpKit<M, Silent, P>,
@@ -41,11 +40,11 @@ pub type TunnelSpace<X, D, L, P, M> = Space<
     Out,
 >;
 
-/// Serves with all jobs of a tunnel beside each other: workers, which do this work, pumps in the
-/// order of front ends, and the ticker. Each job is a caller of its own, split off from `root`,
-/// caller 0, with its gear. When all workers have ended their callers are joined, and caller 0
-/// makes the one stop, while pumps and ticker still run; when these have ended they are joined too.
-/// Callers are joined in the order of jobs. Kits and gears come back in that order. It waits.
+/// Runs all jobs of a tunnel in parallel: workers, which do `work`, pumps in the order of front
+/// ends, and the ticker. Splits off a caller from `root`, caller 0, for each job, with its gear.
+/// After the last worker it joins the workers' callers, and caller 0 submits the one stop while
+/// pumps and ticker still run. Then it joins theirs. Callers are joined, and kits and gears come
+/// back, in the order of jobs. Blocks.
 pub fn run_in_tunnel<
     R: Threads + Wait + Sync,
     X: Service + Crew<Asks = TunnelEvent, Answers = TunnelAnswer> + Send + Drop,
@@ -77,8 +76,8 @@ pub fn run_in_tunnel<
     ensures cell { X.cell result.0 ≡ X.cell root }
     ensures knows { Knows (X.Crew.legal (X.cell root).setting) (X.pass result.0) }
 
-    // the kits come back in their order; where they were fresh, and the clock was read once, for
-    // the start, it was a run of the tunnel
+    // the workers' keys and the pumps' recordings come back in order; it was a run of the tunnel if
+    // the kits were fresh, but for one reading of the clock for the start
     ensures ran { TunnelJobsRan D.Conn.tells (FreshJobs (X.cell root).setting.start)
         (X.cell root).setting (posts_seen D.hall M.shelf C.dial posts) (X.pass result.0)
         (posts_seen D.hall M.shelf C.dial result.1) result.2 }

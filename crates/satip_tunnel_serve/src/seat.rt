@@ -1,19 +1,18 @@
 //! The worker of a tunnel at its seat.
 
-ghost use Rattle.satip_tunneling.specs.Seats.{seated};
+ghost use Rattle.satip_tunnel.specs.Seats.{seated};
 ghost use Rattle.satip_tunnel_serve.specs.Deeds.{SeatDid, WorkedAtSeat, pump_deed, ticker_deed};
 ghost use Rattle.satip_tunnel_serve.specs.Views.{worker_seen};
 
 use crate::end::tell_worker;
-use satip_crew::Seat;
+use satip_desk::WorkerKit;
 use satip_interleave::TunnelCaller;
-use satip_silent::Silent;
-use satip_tunnel_worker::{WorkerRoom, run_tunnel_worker};
-use satip_worker::WorkerKit;
+use satip_jobs::Seat;
+use satip_tunnel::{Silent, WorkerRoom, run_tunnel_worker};
 use satip_world::{Doors, Pacer};
 use std::sync::Wait;
 
-// Does the work of a worker, whose number is the stream of its draws. It waits.
+// Does the work of a worker; its number is the stream of its draws. Blocks.
 pub(crate) fn work_at_seat<'a, R: Wait + Sync, D: Doors, P: Pacer>(
     seat: &mut Seat<TunnelCaller<'a, R>, WorkerKit<D, Silent, P>, WorkerRoom>,
 )

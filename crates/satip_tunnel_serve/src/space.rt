@@ -7,12 +7,12 @@ ghost use Rattle.satip_tunnel_serve.specs.Asides.{IsSpareFor};
 use crate::aside::Spare;
 use crate::run::TunnelSpace;
 use satip_base::{Out, Want, with_room};
-use satip_crew::Space;
+use satip_jobs::Space;
 use satip_serve::{make_gears, make_pump_rooms};
-use satip_tunnel_worker::WorkerRoom;
+use satip_tunnel::WorkerRoom;
 use std::alloc::Global;
 
-/// All memory that the jobs take, beside their kits.
+/// All memory that the jobs take, apart from their kits.
 #[derive(Drop)]
 pub(crate) struct Memory<X, D, O, P, M> {
     pub space: TunnelSpace<X, D, WorkerRoom, P, M>,
@@ -50,7 +50,7 @@ fn take_spare<D: Drop, O: Drop, P: Drop, M: Drop>(
     })
 }
 
-// The memory for jobs at their seats.
+// Takes the memory for jobs at their seats.
 fn take_space<X: Drop, D: Drop, P: Drop, M: Drop>(
     alloc: Global,
     workers: usize,
@@ -64,16 +64,16 @@ fn take_space<X: Drop, D: Drop, P: Drop, M: Drop>(
     ensures pump_space { IfOk result (λ space. pumps ≤ vec_capacity space.pumps) }
 {
     Ok(Space {
-        worker_rooms: make_rooms(alloc, workers)?,
         workers: with_room(alloc, workers)?,
-        pump_rooms: make_pump_rooms(alloc, pumps)?,
         pumps: with_room(alloc, pumps)?,
         ticker_room: Out::make(alloc)?,
         stop_out: Out::make(alloc)?,
+        pump_rooms: make_pump_rooms(alloc, pumps)?,
+        worker_rooms: make_rooms(alloc, workers)?,
     })
 }
 
-/// Takes the memory for so many workers and pumps. `Want` where it was refused.
+/// Takes the memory for all workers and pumps. Returns `Want` if it was refused.
 pub(crate) fn take_memory<X: Drop, D: Drop, O: Drop, P: Drop, M: Drop>(
     alloc: Global,
     workers: usize,
@@ -93,9 +93,9 @@ pub(crate) fn take_memory<X: Drop, D: Drop, O: Drop, P: Drop, M: Drop>(
         (vec_capacity memory.spare.pump_outlets)) }
 {
     Ok(Memory {
-        space: take_space(alloc, workers, pumps)?,
         worker_gears: make_gears(alloc, workers)?,
         pump_gears: make_gears(alloc, pumps)?,
         spare: take_spare(alloc, workers, pumps)?,
+        space: take_space(alloc, workers, pumps)?,
     })
 }

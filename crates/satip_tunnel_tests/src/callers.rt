@@ -1,13 +1,13 @@
 //! Callers of a shared tunnel.
 ghost use Rattle.std.specs.Prelude.{◌≡◌, ◌+◌, ◌<◌, [], ◌∷◌, length, IfSome};
 ghost use Rattle.satip_base.specs.Output.{empty};
-ghost use Rattle.satip_history.specs.History.{entry, taken};
+ghost use Rattle.satip_base.specs.History.{entry, taken};
 ghost use Rattle.satip_plain.specs.declared.answers.Answer.TheVariants.{Beat as BeatTold};
 ghost use Rattle.satip_plain.specs.declared.answers.Beat.TheVariants.{Stopping};
 ghost use Rattle.satip_plain.specs.declared.events.Event.TheVariants.{Stop};
-ghost use Rattle.satip_tunnel.specs.declared.events.TunnelEvent.TheVariants.{Inner, Enter};
-ghost use Rattle.satip_tunnel.specs.declared.events.TunnelAnswer.TheVariants.{Inner as Told, Lane, Full};
-ghost use Rattle.satip_tunnel.specs.Histories.{TunnelLegal, inners};
+ghost use Rattle.satip_interleave.specs.declared.events.TunnelEvent.TheVariants.{Inner, Enter};
+ghost use Rattle.satip_interleave.specs.declared.events.TunnelAnswer.TheVariants.{Inner as Told, Lane, Full};
+ghost use Rattle.satip_interleave.specs.Histories.{TunnelLegal, inners};
 ghost use Rattle.satip_turn.specs.Shown.{IsOf, Knows, first_pass, met_once, newborn};
 ghost use Rattle.satip_interleave.specs.Calling.{SameCaller, known_by, outers};
 ghost use Rattle.satip_interleave.specs.Taking.{inners_taken};
@@ -18,10 +18,8 @@ mod threads;
 use crate::steps::shared;
 use asks::Asks;
 use satip_base::Out;
-use satip_interleave::{SharedTunnel, TunnelCaller, TunnelPass};
-use satip_plain::{Answer, Event, Work};
-use satip_service::Service;
-use satip_tunnel::{TunnelAnswer, TunnelEvent};
+use satip_interleave::{SharedTunnel, TunnelAnswer, TunnelCaller, TunnelEvent, TunnelPass};
+use satip_plain::{Answer, Event, Service, Work};
 use std::sync::Wait;
 use std::test::Fail;
 

@@ -2,7 +2,7 @@
 
 use crate::steps::{drain, enter, leave, tunnel};
 use satip_base::Out;
-use satip_tunnel::{Tunnel, TunnelAnswer};
+use satip_interleave::{Tunnel, TunnelAnswer};
 use std::process::Abort;
 use std::test::Fail;
 

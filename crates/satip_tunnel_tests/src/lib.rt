@@ -1,12 +1,19 @@
-//! The one-thread server with the lanes of a tunnel, and callers of a shared one, followed by hand.
-//! It has nothing but tests.
+//! Tests lanes, callers of a shared tunnel, and its connections and workers over memory.
 #![tactic(auto)]
 
 #[cfg(test)]
 mod callers;
 #[cfg(test)]
+mod connections;
+#[cfg(test)]
 mod lanes;
+#[cfg(test)]
+mod setting;
 #[cfg(test)]
 mod steps;
 #[cfg(test)]
 mod streaming;
+#[cfg(test)]
+mod tunnel_streaming;
+#[cfg(test)]
+mod worker;

@@ -1,19 +1,17 @@
 //! A small tunnel, and one event of it at a time.
 
 ghost use Rattle.std.specs.Prelude.{IfOk};
-ghost use Rattle.satip_tunnel.specs.Histories.{TunnelLegal};
+ghost use Rattle.satip_interleave.specs.Histories.{TunnelLegal};
 ghost use Rattle.satip_turn.specs.Shown.{IsOf, Knows};
 
 use satip_base::{Out, Peer};
-use satip_channels::request;
 use satip_fixtures::{DRAW, FIRST_MUX, SECOND_MUX, config_with};
 use satip_frame::Step;
-use satip_interleave::{SharedTunnel, TunnelPass, make};
-use satip_parts::Parter;
+use satip_interleave::{SharedTunnel, Tunnel, TunnelAnswer, TunnelEvent, TunnelPass, make};
 use satip_plain::{Answer, Beat, Event, Replied};
 use satip_rtsp::Request;
+use satip_rtsp_interleaved::{Parter, request};
 use satip_ts::Packet;
-use satip_tunnel::{Tunnel, TunnelAnswer, TunnelEvent};
 use std::alloc::Global;
 use std::process::Abort;
 use std::test::Fail;

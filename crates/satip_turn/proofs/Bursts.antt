@@ -1,10 +1,10 @@
 -- A burst goes on by one entry.
 use Rattle.std.proofs.Common.{◌≡◌, ℕ, ◌+◌, List, [], ◌∷◌, ◌++◌, length, Some, sym, ap, ◌∙◌, subst, append_assoc, length-append, arith}
 use Rattle.atomic_table.specs.Table.{Me}
-use Rattle.satip_history.specs.declared.entry.Entry.{Entry}
-use Rattle.satip_history.specs.declared.entry.Taken.{Taken}
-use Rattle.satip_history.specs.History.{entry, entries, taken}
-use Rattle.satip_history.proofs.Owned.{entries-append}
+use Rattle.satip_base.specs.declared.entry.Entry.{Entry}
+use Rattle.satip_base.specs.declared.entry.Taken.{Taken}
+use Rattle.satip_base.specs.History.{entry, entries, taken}
+use Rattle.satip_base.proofs.Owned.{entries-append}
 use Rattle.satip_turn.specs.declared.view.View.{View}
 use Rattle.satip_turn.specs.declared.view.Content.{Content}
 use Rattle.satip_turn.specs.declared.view.Content.TheVariants.{Away}

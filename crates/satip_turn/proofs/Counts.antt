@@ -3,7 +3,7 @@ use Rattle.std.proofs.Common.{◌≡◌, ◌≢◌, ℕ, zero, suc, ◌+◌, ◌
 use Rattle.std.proofs.lemmas.Bool.Decides.{eqb_tells}
 use mathlib.Core.Option.{some, some-injective, some-ne-none}
 use lib.ListN.{get_elem?}
-use Rattle.satip_history.specs.Lists.{Has}
+use Rattle.satip_base.specs.Lists.{Has}
 use Rattle.satip_turn.specs.Faithful.{AreApart}
 use Rattle.satip_turn.specs.Rule.{one_if, times, total}
 

@@ -8,7 +8,7 @@ use Rattle.std.proofs.Crossing as heap
 use Rattle.std.specs.contracts.snapshot.Snapshot as Snapshot
 use Rattle.atomic_table.proofs.shared.Seat.TheSendSync as seat
 use Rattle.atomic_table.proofs.owned.Table.TheSendSync as table
-use Rattle.satip_history.specs.declared.served.Served.{Ghosts}
+use Rattle.satip_base.specs.declared.served.Served.{Ghosts}
 use Rattle.satip_turn.specs.contracts.cell.Pass as Pass
 use Rattle.satip_turn.specs.contracts.cell.TurnCell as Cell
 use Rattle.satip_turn.specs.contracts.cell.TurnCell.TheInside as inside

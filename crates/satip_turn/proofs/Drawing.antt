@@ -6,11 +6,11 @@ use lib.ListN.{get_elem?}
 use native.Mathlib.Decide.{dec_le}
 use Rattle.atomic_table.specs.Table.{State, Me, Allows, Splits, keeps}
 use Rattle.atomic_table.proofs.Lists.{at_snoc, at_longer}
-use Rattle.satip_history.specs.declared.entry.Entry.{Entry}
-use Rattle.satip_history.specs.Lists.{Each, Has, Begins}
-use Rattle.satip_history.specs.History.{own_of}
-use Rattle.satip_history.proofs.Elements.{Each-append, Each-append_left, Each-append_right, each_at, each_follows, Has-append_left, Has-append_right}
-use Rattle.satip_history.proofs.Owned.{own_of-none}
+use Rattle.satip_base.specs.declared.entry.Entry.{Entry}
+use Rattle.satip_base.specs.Lists.{Each, Has, Begins}
+use Rattle.satip_base.specs.History.{own_of}
+use Rattle.satip_base.proofs.Elements.{Each-append, Each-append_left, Each-append_right, each_at, each_follows, Has-append_left, Has-append_right}
+use Rattle.satip_base.proofs.Owned.{own_of-none}
 use Rattle.satip_turn.specs.declared.view.Row.{Row}
 use Rattle.satip_turn.specs.declared.view.View.{View}
 use Rattle.satip_turn.specs.declared.view.Content.{Content}

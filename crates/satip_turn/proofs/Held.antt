@@ -4,7 +4,7 @@ use Rattle.std.proofs.lemmas.Bool.{false_from_ne_true}
 use mathlib.Core.Option.{some}
 use lib.ListN.{get_elem?}
 use Rattle.atomic_table.proofs.Lists.{at_set, set_else, at_snoc}
-use Rattle.satip_history.specs.declared.entry.Entry.{Entry}
+use Rattle.satip_base.specs.declared.entry.Entry.{Entry}
 use Rattle.satip_turn.specs.declared.view.View.{View}
 use Rattle.satip_turn.specs.Rule.{IsBusy}
 use Rattle.satip_turn.proofs.Counts.{same_at}

@@ -5,12 +5,12 @@ use mathlib.Core.Option.{some}
 use lib.ListN.{get_elem?}
 use Rattle.atomic_table.specs.Table.{State, Me, Allows, Joins, keeps}
 use Rattle.atomic_table.proofs.Lists.{at_set, set_else}
-use Rattle.satip_history.specs.declared.entry.Entry.{Entry}
-use Rattle.satip_history.specs.Lists.{Each, Has, Begins}
-use Rattle.satip_history.specs.History.{own_of}
-use Rattle.satip_history.proofs.Elements.{Each-append, Each-append_left, Each-append_right, Has-append_left, Has-append_right}
-use Rattle.satip_history.proofs.Prefixes.{begins_refl, begins_both}
-use Rattle.satip_history.proofs.Owned.{own_of-between}
+use Rattle.satip_base.specs.declared.entry.Entry.{Entry}
+use Rattle.satip_base.specs.Lists.{Each, Has, Begins}
+use Rattle.satip_base.specs.History.{own_of}
+use Rattle.satip_base.proofs.Elements.{Each-append, Each-append_left, Each-append_right, Has-append_left, Has-append_right}
+use Rattle.satip_base.proofs.Prefixes.{begins_refl, begins_both}
+use Rattle.satip_base.proofs.Owned.{own_of-between}
 use Rattle.satip_turn.specs.declared.view.Row.{Row}
 use Rattle.satip_turn.specs.declared.view.View.{View}
 use Rattle.satip_turn.specs.declared.view.Content.{Content}

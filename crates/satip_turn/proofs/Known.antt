@@ -3,10 +3,10 @@ use Rattle.std.proofs.Common.{◌≡◌, ℕ, zero, suc, ◌+◌, ◌^◌, ◌<�
 use Rattle.std.proofs.lemmas.Bool.Decides.{eqb_tells}
 use mathlib.Core.Option.{some}
 use lib.ListN.{get_elem?}
-use Rattle.satip_history.specs.declared.entry.Entry.{Entry}
-use Rattle.satip_history.specs.Lists.{Each, Has}
-use Rattle.satip_history.proofs.Elements.{Each-append_left, each_at, each_follows}
-use Rattle.satip_history.proofs.Prefixes.{begins_length}
+use Rattle.satip_base.specs.declared.entry.Entry.{Entry}
+use Rattle.satip_base.specs.Lists.{Each, Has}
+use Rattle.satip_base.proofs.Elements.{Each-append_left, each_at, each_follows}
+use Rattle.satip_base.proofs.Prefixes.{begins_length}
 use Rattle.satip_turn.specs.declared.view.Row.{Row}
 use Rattle.satip_turn.specs.declared.view.View.{View}
 use Rattle.satip_turn.specs.Views.{held, holders, numbers, numbers_of, unless}
@@ -68,7 +68,7 @@ module _ {E A O C : Type 0} (legal : C → List (Entry E A O) → Type 0) (c : C
   sound j v at live short =
       let g = all.good j v at live in
       let le = begins_length v.seen log g.begins in
-      let mine : AreOwnIn v.seen (held v) = Each-append_left (λ (r : Row E A O). Rattle.satip_history.specs.History.own_of r.number v.seen ≡ r.own) (held v)
+      let mine : AreOwnIn v.seen (held v) = Each-append_left (λ (r : Row E A O). Rattle.satip_base.specs.History.own_of r.number v.seen ≡ r.own) (held v)
       v.drawn g.in_seen in
       record {
         of = c;

@@ -5,8 +5,8 @@ use mathlib.Core.Option.{some, some-ne-none}
 use lib.ListN.{get_elem?}
 use native.Mathlib.Decide.{dec_le}
 use Rattle.atomic_table.proofs.Lists.{at_set, set_else}
-use Rattle.satip_history.specs.declared.entry.Entry.{Entry}
-use Rattle.satip_history.specs.Lists.{Each, Has}
+use Rattle.satip_base.specs.declared.entry.Entry.{Entry}
+use Rattle.satip_base.specs.Lists.{Each, Has}
 use Rattle.satip_turn.specs.declared.view.View.{View}
 use Rattle.satip_turn.specs.Views.{holders, numbers}
 use Rattle.satip_turn.specs.Rule.{one_if, times, total, IsGood, HasParent, AreViews}

@@ -1,7 +1,7 @@
 -- Views that are sound by themselves.
 use Rattle.std.proofs.Common.{◌≡◌, List, [], length, refl, lit<, sym, subst}
 use Rattle.atomic_table.specs.Table.{Me}
-use Rattle.satip_history.specs.declared.entry.Entry.{Entry}
+use Rattle.satip_base.specs.declared.entry.Entry.{Entry}
 use Rattle.satip_turn.specs.declared.view.View.{View}
 use Rattle.satip_turn.specs.declared.view.Content.{Content}
 use Rattle.satip_turn.specs.Views.{opening_view}

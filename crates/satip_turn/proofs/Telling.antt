@@ -5,12 +5,12 @@ use Rattle.std.proofs.lemmas.Bool.Decides.{eqb_tells}
 use mathlib.Core.Option.{some, some-injective, some-ne-none}
 use lib.ListN.{get_elem?}
 use Rattle.atomic_table.specs.Table.{State, Me, Allows, opening, rest, keeps}
-use Rattle.satip_history.specs.declared.entry.Entry.{Entry}
-use Rattle.satip_history.specs.Lists.{Has, Begins}
-use Rattle.satip_history.specs.History.{entry, own_of}
-use Rattle.satip_history.proofs.Elements.{Each-append, each_at, each_has, each_follows}
-use Rattle.satip_history.proofs.Prefixes.{begins_refl, begins_more, begins_trans, begins_along}
-use Rattle.satip_history.proofs.Owned.{own_of-push_same, own_of-push_other}
+use Rattle.satip_base.specs.declared.entry.Entry.{Entry}
+use Rattle.satip_base.specs.Lists.{Has, Begins}
+use Rattle.satip_base.specs.History.{entry, own_of}
+use Rattle.satip_base.proofs.Elements.{Each-append, each_at, each_has, each_follows}
+use Rattle.satip_base.proofs.Prefixes.{begins_refl, begins_more, begins_trans, begins_along}
+use Rattle.satip_base.proofs.Owned.{own_of-push_same, own_of-push_other}
 use Rattle.satip_turn.specs.declared.view.Row.{Row}
 use Rattle.satip_turn.specs.declared.view.View.{View}
 use Rattle.satip_turn.specs.declared.view.Content.{Content}

@@ -4,7 +4,7 @@ use mathlib.Core.Option.{some}
 use lib.ListN.{get_elem?}
 use prog.Atomic.{either}
 use Rattle.atomic_table.specs.Table.{State, Me, Act, Valid, Allows, homes_after, carried_after, rest, keeps, takes, gives}
-use Rattle.satip_history.specs.declared.entry.Entry.{Entry}
+use Rattle.satip_base.specs.declared.entry.Entry.{Entry}
 use Rattle.satip_turn.specs.declared.view.View.{View}
 use Rattle.satip_turn.specs.declared.view.Content.{Content}
 use Rattle.satip_turn.specs.declared.view.Content.TheVariants.{Home}

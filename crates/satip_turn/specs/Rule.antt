@@ -3,30 +3,30 @@ use Rattle.std.specs.Prelude.{◌≡◌, ◌⊎◌, ℕ, ◌+◌, ◌^◌, ◌<�
 use mathlib.Core.Option.{some}
 use lib.ListN.{get_elem?}
 use Rattle.atomic_table.specs.Table.{State}
-use Rattle.satip_history.specs.declared.entry.Entry.{Entry}
-use Rattle.satip_history.specs.Lists.{Each, Has, Begins}
+use Rattle.satip_base.specs.declared.entry.Entry.{Entry}
+use Rattle.satip_base.specs.Lists.{Each, Has, Begins}
 use Rattle.satip_turn.specs.declared.view.View.{View}
 use Rattle.satip_turn.specs.declared.view.Content.{Content}
 use Rattle.satip_turn.specs.declared.view.Content.TheVariants.{Home}
 use Rattle.satip_turn.specs.Views.{held, holders, numbers}
 use Rattle.satip_turn.specs.Faithful.{AreOwnIn}
 
--- 1 where the test holds, and else 0
+-- 1 if the test holds, else 0
 abbrev pub one_if : Bool → ℕ
 one_if true = 1
 one_if false = 0
 
--- how often n stands in a list
+-- the count of n in a list
 abbrev pub times : ℕ → List ℕ → ℕ
 times n [] = 0
 times n (x ∷ xs) = one_if (x == n) + times n xs
 
--- f of each element, added up
+-- the sum of f over the list
 abbrev pub total : {T : Type 0} → (T → ℕ) → List T → ℕ
 total f [] = 0
 total f (x ∷ xs) = f x + total f xs
 
--- what the rule says of a view that isn't spent, where this is the history and there are so many numbers
+-- the rule for a view that isn't spent, with this history and this count of numbers
 pub record IsGood {E A O C : Type 0} (legal : C → List (Entry E A O) → Type 0) (c : C) (log : List (Entry E A O)) (count : ℕ) (v : View E A O C) : Type 0 where
   pub setting : v.setting ≡ Some c
   pub begins : Begins v.seen log
@@ -36,7 +36,7 @@ pub record IsGood {E A O C : Type 0} (legal : C → List (Entry E A O) → Type 
   pub made : Each (λ n. n < count) v.made
   pub heard : Each (λ h. Begins h v.seen) v.heard
 
--- a view answers for a lesser number, and has made n
+-- a view that answers for a lesser number has made n
 pub record HasParent {E A O C : Type 0} (views : List (View E A O C)) (n : ℕ) : Type 0 where
   pub number : ℕ
   pub lesser : number < n
@@ -46,14 +46,14 @@ pub record HasParent {E A O C : Type 0} (views : List (View E A O C)) (n : ℕ) 
   pub holds : Has number (holders view)
   pub made : Has n view.made
 
--- what the rule says of all views
+-- the rule for all views
 pub record AreViews {E A O C : Type 0} (legal : C → List (Entry E A O) → Type 0) (c : C) (log : List (Entry E A O)) (count : ℕ) (views : List (View E A O C)) : Type 0 where
   pub below : Each (λ e. e.caller < count) log
   pub good : (j : ℕ) (v : View E A O C) → get_elem? views j ≡ some v → v.spent ≡ false → IsGood legal c log count v
   pub once : (n : ℕ) → total (λ v. times n (numbers v)) views ≡ one_if (nat_lt n count)
   pub parents : (n : ℕ) → 0 < n → n < count → HasParent views n
 
--- nobody holds the turn, and the value at home stands for the history
+-- no view holds the turn, and the value in the slot stands for the history
 pub record IsFree {E A O C X : Type 0} (setting_of : X → C) (stands : X → List (Entry E A O) → Type 0) (c : C) (log : List (Entry E A O)) (s : State (Content X E A O) (View E A O C)) : Type 0 where
   pub value : X
   pub home : s.homes ≡ some (Home value) ∷ []
@@ -61,7 +61,7 @@ pub record IsFree {E A O C X : Type 0} (setting_of : X → C) (stands : X → Li
   pub stands_for : stands value log
   pub nobody : (j : ℕ) (v : View E A O C) → get_elem? s.views j ≡ some v → v.turn ≡ false
 
--- one view holds the turn, and knows the whole history
+-- exactly one view holds the turn, and it knows the whole history
 pub record IsBusy {E A O C : Type 0} (log : List (Entry E A O)) (views : List (View E A O C)) : Type 0 where
   pub seat : ℕ
   pub view : View E A O C
@@ -70,7 +70,7 @@ pub record IsBusy {E A O C : Type 0} (log : List (Entry E A O)) (views : List (V
   pub whole : view.whole ≡ log
   pub alone : (j : ℕ) (v : View E A O C) → get_elem? views j ≡ some v → v.turn ≡ true → j ≡ seat
 
--- the rule: word 0 is the turn, word 1 the length of the one history
+-- the rule of the table: word 0 is the turn, word 1 the length of the one history
 pub record Kept {E A O C X : Type 0} (setting_of : X → C) (legal : C → List (Entry E A O) → Type 0) (stands : X → List (Entry E A O) → Type 0) (c : C) (s : State (Content X E A O) (View E A O C)) : Type 0 where
   pub log : List (Entry E A O)
   pub count : ℕ

@@ -1,11 +1,11 @@
--- What the calls on a seat say.
+-- The effects of calls on a seat.
 use Rattle.std.specs.Prelude.{◌≡◌, ℕ, ◌^◌, ◌<◌, ◌≤◌, true, false, List, [], ◌∷◌, ◌++◌, length, Some}
 use Rattle.atomic_table.specs.Table.{Me}
 use Rattle.atomic_table.specs.Seated.{TableId}
-use Rattle.satip_history.specs.declared.entry.Entry.{Entry}
-use Rattle.satip_history.specs.declared.entry.Taken.{Taken}
-use Rattle.satip_history.specs.Lists.{Has, Begins}
-use Rattle.satip_history.specs.History.{own_of, entries}
+use Rattle.satip_base.specs.declared.entry.Entry.{Entry}
+use Rattle.satip_base.specs.declared.entry.Taken.{Taken}
+use Rattle.satip_base.specs.Lists.{Has, Begins}
+use Rattle.satip_base.specs.History.{own_of, entries}
 use Rattle.satip_turn.specs.declared.view.View.{View}
 use Rattle.satip_turn.specs.declared.view.Content.{Content}
 use Rattle.satip_turn.specs.declared.view.Content.TheVariants.{Away}
@@ -24,7 +24,7 @@ pub record IsIdle {E A O C X : Type 0} (me : Me (Content X E A O) (View E A O C)
   pub turn : me.0.turn ≡ false
   pub live : me.0.spent ≡ false
 
--- the seat holds the turn and the slot, and the served value is elsewhere
+-- the seat holds the turn and the slot, and the served value is out of the slot
 pub record IsHolding {E A O C X : Type 0} (me : Me (Content X E A O) (View E A O C)) : Type 0 where
   pub slots : me.1 ≡ (0, Away) ∷ []
   pub turn : me.0.turn ≡ true
@@ -44,29 +44,29 @@ pub record TakesTurn {E A O C X : Type 0} (setting_of : X → C) (stands : X →
   pub begins : Begins me.0.seen whole
   pub fits : length whole < 2 ^ 64
 
--- the turn was taken after it was found taken so often
+-- the turn was taken, after tries that found it taken
 pub record WaitsTurn {E A O C X : Type 0} (setting_of : X → C) (stands : X → List (Entry E A O) → Type 0) (me me' : Me (Content X E A O) (View E A O C)) (value : X) : Type 0 where
   pub met : ℕ
   pub rises : me.0.met ≤ met
   pub takes : TakesTurn setting_of stands (record me.0 { met = met }, []) me' value
 
--- the turn was found taken so often, and nothing else changed
+-- tries found the turn taken, and nothing else changed
 pub record IsWaiting {E A O C X : Type 0} (me me' : Me (Content X E A O) (View E A O C)) : Type 0 where
   pub met : ℕ
   pub rises : me.0.met ≤ met
   pub is : me' ≡ (record me.0 { met = met }, [])
 
--- the seat rests between two calls, and knows what is true of its view
+-- the seat is between two calls, and its view is sound
 pub record IsResting {E A O C X : Type 0} (legal : C → List (Entry E A O) → Type 0) (me : Me (Content X E A O) (View E A O C)) : Type 0 where
   pub idle : IsIdle me
   pub drawn : me.0.drawn ≡ []
   pub sound : IsSound legal me.0
 
--- the view after a turn in which this entry was made
+-- the view after a turn that added this entry
 abbrev pub after_entry : {E A O C : Type 0} → View E A O C → Entry E A O → View E A O C
 after_entry v e = resting (committed (looking v) e)
 
--- a number that no seat had was given to a new seat
+-- a number was given to a new seat; this seat didn't hold it, hadn't given it away, and had seen no entry of it
 pub record Parts {E A O C X : Type 0} (legal : C → List (Entry E A O) → Type 0) (me me' new : Me (Content X E A O) (View E A O C)) : Type 0 where
   pub number : ℕ
   pub old : me' ≡ (parting (drawing me.0 number), [])
@@ -78,11 +78,11 @@ pub record Parts {E A O C X : Type 0} (legal : C → List (Entry E A O) → Type
   pub rests : IsResting legal me'
   pub rests_too : IsResting legal new
 
--- the view with these entries more
+-- the view with these entries added
 abbrev pub extended : {E A O C : Type 0} → View E A O C → List (Entry E A O) → View E A O C
 extended v es = record v { seen = v.seen ++ es; whole = v.whole ++ es; own = v.own ++ es }
 
--- a burst under way: since its look it has made so many entries, which are those that the feed took
+-- a burst under way: since its look it has added `made` entries, which are those that the feed took
 pub record IsUnderWay {E A O C X : Type 0} (setting_of : X → C) (stands : X → List (Entry E A O) → Type 0) (has_taken : List (Taken E A O) → Type 0) (v : View E A O C) (made : ℕ) (me : Me (Content X E A O) (View E A O C)) (value : X) (place : ℕ) : Type 0 where
   pub taken : List (Taken E A O)
   pub count : length taken ≡ made

@@ -1,6 +1,6 @@
--- What a view shows.
+-- The parts of a view.
 use Rattle.std.specs.Prelude.{ℕ, Bool, true, false, List, [], ◌∷◌, ◌++◌, Some, None}
-use Rattle.satip_history.specs.declared.entry.Entry.{Entry}
+use Rattle.satip_base.specs.declared.entry.Entry.{Entry}
 use Rattle.satip_turn.specs.declared.view.Row.{Row}
 use Rattle.satip_turn.specs.declared.view.View.{View}
 
@@ -16,7 +16,7 @@ numbers_of (r ∷ rs) = r.number ∷ numbers_of rs
 abbrev pub held : {E A O C : Type 0} → View E A O C → List (Row E A O)
 held v = row v.number v.own ∷ v.kept
 
--- the list, unless the test holds
+-- the list, or nothing if the test holds
 abbrev pub unless : {T : Type 0} → Bool → List T → List T
 unless true xs = []
 unless false xs = xs
@@ -25,7 +25,7 @@ unless false xs = xs
 abbrev pub holders : {E A O C : Type 0} → View E A O C → List ℕ
 holders v = unless v.spent (numbers_of (held v))
 
--- these, and a number that it has drawn
+-- these numbers, and the number that it has drawn
 abbrev pub numbers : {E A O C : Type 0} → View E A O C → List ℕ
 numbers v = unless v.spent (numbers_of (held v ++ v.drawn))
 

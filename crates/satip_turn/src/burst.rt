@@ -1,6 +1,6 @@
 //! Many calls under one turn.
 ghost use Rattle.std.specs.Prelude.{◌≡◌, ◌≢◌, ◌⊎◌, ℕ, ◌+◌, ◌^◌, ◌<◌, ◌≤◌, Bool, true, false, [], ◌∷◌, length, None, IsSome, ◌↔◌, IsTrue};
-ghost use Rattle.satip_history.specs.History.{entries};
+ghost use Rattle.satip_base.specs.History.{entries};
 ghost use Rattle.satip_turn.specs.declared.view.View.{View};
 ghost use Rattle.satip_turn.specs.Seats.{IsTurnTable, IsHolding, IsServed, IsUnderWay};
 ghost use Rattle.satip_turn.specs.Fed.{MatchFed};
@@ -8,20 +8,20 @@ ghost use Rattle.satip_turn.specs.Fed.{MatchFed};
 use crate::cell::Burst;
 use crate::feed::Feed;
 use crate::seat::{TurnSeat, TurnTable, commit};
+use satip_base::Served;
 use satip_base::limits::{BURST, LONGEST_HISTORY};
-use satip_history::Served;
 
-// What one step of a burst did.
+// The result of one step of a burst.
 pub(crate) enum Fed {
-    // It made an entry.
+    // It added an entry.
     Made,
-    // The feed gave no event.
+    // The feed had no event.
     Ended,
-    // The feed gave an event, and the history is full.
+    // The feed gave an event, but the history is full.
     Full,
 }
 
-// Asks the feed for an event, serves it, commits it and hands over the answer.
+// Asks the feed for an event, serves it, commits its entry and passes the answer to the feed.
 pub(crate) fn feed_one<S: Served, F: Feed<S>>(
     table: &TurnTable<S>,
     seat: &mut TurnSeat<S>,
@@ -68,7 +68,7 @@ pub(crate) fn feed_one<S: Served, F: Feed<S>>(
     Fed::Made
 }
 
-// Up to 64 steps, after the look.
+// Makes up to 64 steps, after the look at the history.
 pub(crate) fn feed_many<S: Served, F: Feed<S>>(
     table: &TurnTable<S>,
     seat: &mut TurnSeat<S>,

@@ -1,6 +1,6 @@
-//! The calls of a cell that make entries or look at the history.
+//! The calls of a cell that add entries or look at the history.
 ghost use Rattle.std.specs.Prelude.{◌≡◌, ◌+◌, ◌<◌, ◌≤◌, ◌⊎◌, ◌↔◌, true, false, [], ◌∷◌, length, None, IsTrue, IsSome, IsErr, OnErr, MatchResult};
-ghost use Rattle.satip_history.specs.History.{entry};
+ghost use Rattle.satip_base.specs.History.{entry};
 ghost use Rattle.satip_turn.specs.Shown.{IsOf, Keeps, Knows, Turned, Looked, Bursts, met_once};
 ghost use Rattle.satip_turn.specs.Tried.{MatchTried, OnDone, OnSpent, OnUndone, busy_count};
 
@@ -9,14 +9,13 @@ use crate::cell::{Burst, Pass, Tried, TurnCell};
 use crate::feed::Feed;
 use crate::seat::{give, look, take};
 use crate::turns::{serve_turn, wait_turn};
-use satip_base::Spent;
 use satip_base::limits::{BURST, LONGEST_HISTORY};
-use satip_history::Served;
+use satip_base::{Served, Spent};
 use std::sync::Wait;
 
 impl<S: Served> TurnCell<S> {
-    /// Makes one call, unless another caller holds the turn or the history is full. The place of
-    /// the call's entry in the history is the single addition to the cell's count word.
+    /// Makes one call, unless another caller holds the turn or the history is full. The single
+    /// addition to the cell's count word fixes the place of the call's entry in the history.
     pub fn try_call(
         &self,
         pass: &mut Pass<S>,
@@ -34,7 +33,7 @@ impl<S: Served> TurnCell<S> {
             (pass.new ≡ met_once pass.old)
             (Looked pass.old pass.new) }
 
-        // Busy exactly where the one try found the turn taken, and Spent where the history is full
+        // Busy exactly if the one try found the turn taken, and Spent if the history is full
         ensures met { pass.new.met ≡ pass.old.met + busy_count result }
         ensures room { OnDone result (length pass.new.looked < LONGEST_HISTORY) }
         ensures full { OnSpent result (length pass.new.seen ≡ LONGEST_HISTORY) }
@@ -56,7 +55,7 @@ impl<S: Served> TurnCell<S> {
         }
     }
 
-    /// Makes one call, once no other caller holds the turn. It waits.
+    /// Makes one call after no other caller holds the turn. Waits for the turn.
     pub fn call<R: Wait>(
         &self,
         rt: &R,
@@ -89,7 +88,7 @@ impl<S: Served> TurnCell<S> {
         )
     }
 
-    /// Looks at the whole history, once no other caller holds the turn. It waits.
+    /// Looks at the whole history after no other caller holds the turn. Waits for the turn.
     pub fn refresh<R: Wait>(&self, rt: &R, pass: &mut Pass<S>)
         requires { IsOf pass.old self.now }
         ensures of { IsOf pass.new self.now }
@@ -105,9 +104,9 @@ impl<S: Served> TurnCell<S> {
         give(&self.table.shared, &mut pass.seat, value);
     }
 
-    /// Makes the feed's events one after another under one turn, each one entry: until the feed
-    /// gives none, 64 entries were made, or the history is full. It waits for the turn. No other
-    /// caller's entry stands between those of a burst.
+    /// Executes the feed's events one after another under one turn; each adds one entry. Ends when
+    /// the feed has none left, after 64 entries, or when the history is full. Waits for the turn.
+    /// No entry of another caller lies between those of a burst.
     pub fn burst<R: Wait, F: Feed<S>>(
         &self,
         rt: &R,

@@ -6,14 +6,13 @@ use crate::rule::Turns;
 use crate::seat::TurnSeat;
 use crate::view::{Content, Sight, Slot};
 use atomic_table::Table;
-use satip_base::Want;
-use satip_history::Served;
+use satip_base::{Served, Want};
 use std::alloc::Global;
 use std::marker::Model;
 use std::snapshot::Snapshot;
 
-/// A served value that many threads call through a `&`, one at a time. All their calls stand in
-/// one history, which is legal in the cell's setting: that of the value that it was made with.
+/// A served value that many threads call through a `&`, one at a time. All their calls are in one
+/// history, which is legal in the setting of the value with which the cell was created.
 #[derive(Drop)]
 pub struct TurnCell<S: Served> {
     pub(crate) table: Table<Slot<S>, Sight<S>, Snapshot<S>, Turns, Global>,
@@ -34,8 +33,8 @@ impl<S: Served> Model for TurnCell<S> {
     ghost invariant = { λ t. IsTurnTable t.table.shared.table_id };
 }
 
-/// The right to call a cell as one caller, and what that caller knows of the cell's history. Only
-/// the number of entries that it has seen takes bytes.
+/// The right to call a cell as one caller, and what that caller knows of the cell's history. Of
+/// that knowledge only the count of entries seen takes memory.
 #[derive(Drop)]
 pub struct Pass<S: Served> {
     pub(crate) seat: TurnSeat<S>,
@@ -56,7 +55,7 @@ impl<S: Served> Model for Pass<S> {
         × (p.place ≡ length p.seat.me.0.seen) };
 }
 
-/// What a try answers.
+/// The result of a try.
 #[derive(Drop)]
 pub enum Tried<A> {
     /// The call was made.
@@ -67,17 +66,18 @@ pub enum Tried<A> {
     Spent,
 }
 
-/// What a burst made.
+/// The result of a burst.
 #[derive(Clone, Copy, Debug, PartialEq, Eq)]
 pub struct Burst {
-    /// How many entries, at most 64.
+    /// The count of entries added, at most 64.
     pub made: u32,
-    /// The feed gave an event when the history was full.
+    /// The feed gave an event, but the history was full.
     pub spent: bool,
 }
 
 impl<S: Served> TurnCell<S> {
-    /// A cell with an empty history, and its first pass, of caller 0.
+    /// Creates a cell with an empty history, and its first pass, of caller 0. Returns `Want` if out
+    /// of memory.
     pub fn make(alloc: Global, served: S) -> Result<(TurnCell<S>, Pass<S>), Want>
         requires { S.stands_for served [] }
         ensures setting { IfOk result (λ made. made.0.setting ≡ S.setting served) }
@@ -97,7 +97,7 @@ impl<S: Served> TurnCell<S> {
 }
 
 impl<S: Served> Pass<S> {
-    /// How many entries the pass has seen.
+    /// Returns the count of entries that the pass has seen.
     pub fn place(&self) -> u64
         ensures { result ≡ length self.now.seen }
     {

@@ -1,22 +1,23 @@
-//! What a burst is fed with.
+//! The source of the events of a burst.
 ghost use Rattle.std.specs.Prelude.{◌≡◌, Bool, false, List, [], ◌∷◌, ◌++◌, Option, Some, None, MatchOption, IsSome, is_none};
-ghost use Rattle.satip_history.specs.declared.entry.Taken.{Taken};
-ghost use Rattle.satip_history.specs.History.{taken};
+ghost use Rattle.satip_base.specs.declared.entry.Taken.{Taken};
+ghost use Rattle.satip_base.specs.History.{taken};
 
-use satip_history::Served;
+use satip_base::Served;
 
-/// A source of events that is told each answer before it is asked for the next event.
+/// A source of events. It is given each answer before it is asked for the next event.
 pub trait Feed<S: Served> {
-    // the event that was given and not yet taken, where there is one
+    // the event that was given and not yet answered, if there is one
     ghost given: { Self → Option S.Event };
 
-    // whether its last answer was None
+    // whether its last event was None
     ghost ended: { Self → Bool };
 
-    // since it was the first, it has taken these events with their answers and outs, in order
+    // from the first state to the second, it took these events with their answers and outputs, in
+    // order
     ghost has_taken: { Self → Self → List (Taken S.Event S.Answer S.Out) → Type 0 };
 
-    /// The next event, or None once there is none.
+    /// Returns the next event, or None if there is none left. It isn't called again after None.
     fn next(&mut self) -> Option<S::Event>
         requires open { ended self.old ≡ false }
         requires none { given self.old ≡ None }
@@ -25,7 +26,7 @@ pub trait Feed<S: Served> {
         ensures taken { (first : Self) (ts : List (Taken S.Event S.Answer S.Out))
             → has_taken first self.old ts → has_taken first self.new ts };
 
-    /// Takes the answer to the event that was given, and what `out` then has.
+    /// Takes the answer to the event that was given, and its output, which is in `out`.
     fn took(&mut self, answer: &S::Answer, out: &S::Out)
         requires { IsSome (given self.old) }
         ensures given { given self.new ≡ None }
@@ -34,6 +35,6 @@ pub trait Feed<S: Served> {
             → given self.old ≡ Some e → has_taken first self.old ts
             → has_taken first self.new (ts ++ taken e answer.now out.now ∷ []) };
 
-    // nothing was taken since a moment ago
+    // from a state to itself, nothing was taken
     ghost none_taken: { (s : Self) → has_taken s s [] };
 }

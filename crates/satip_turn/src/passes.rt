@@ -1,6 +1,6 @@
-//! Passes that are split off from others, and joined into others.
+//! Passes that are split off from others and joined into others.
 ghost use Rattle.std.specs.Prelude.{◌≡◌, false, []};
-ghost use Rattle.satip_history.specs.Lists.{Begins};
+ghost use Rattle.satip_base.specs.Lists.{Begins};
 ghost use Rattle.satip_turn.specs.Faithful.{IsSound};
 ghost use Rattle.satip_turn.specs.Steps.{joining, heeding};
 ghost use Rattle.satip_turn.specs.Seats.{IsTurnTable, IsResting, Parts};
@@ -9,9 +9,9 @@ ghost use Rattle.satip_turn.specs.Shown.{IsOf, Knows, IsUnused, with_made, newbo
 use crate::cell::{Pass, TurnCell};
 use crate::rule::{Draw, Hear, JoinIn, SplitOff};
 use crate::seat::{TurnSeat, TurnTable};
-use satip_history::Served;
+use satip_base::Served;
 
-// Draws a number, and gives it to a new seat.
+// Draws a new number, and gives it to a new seat.
 fn split_seat<S: Served>(table: &TurnTable<S>, seat: &mut TurnSeat<S>) -> TurnSeat<S>
     requires cell { (seat.old.table_id ≡ table.now.table_id) × IsTurnTable table.now.table_id }
     requires resting { IsResting S.legal seat.old.me }
@@ -40,7 +40,8 @@ fn join_seat<S: Served>(table: &TurnTable<S>, seat: &mut TurnSeat<S>, other: Tur
 }
 
 impl<S: Served> TurnCell<S> {
-    /// A new pass, of a caller that the cell didn't have before, which has seen what `pass` has.
+    /// Creates a pass that has seen what `pass` has. Its number is new to `pass`: neither held, nor
+    /// given to another pass, nor in an entry seen.
     pub fn split(&self, pass: &mut Pass<S>) -> Pass<S>
         requires { IsOf pass.old self.now }
         ensures of { IsOf pass.new self.now }
@@ -58,7 +59,8 @@ impl<S: Served> TurnCell<S> {
         }
     }
 
-    /// Takes another pass of the cell in: what it has seen, its entries, and what it made.
+    /// Joins another pass of the cell into this one: what it has seen, its entries, and the passes
+    /// that it made.
     pub fn join(&self, pass: &mut Pass<S>, other: Pass<S>)
         requires mine { IsOf pass.old self.now }
         requires theirs { IsOf other self.now }

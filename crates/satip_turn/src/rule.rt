@@ -1,4 +1,4 @@
-//! The rule of the cell's table, and what each of its steps tells.
+//! The rule of the cell's table, and what a seat learns from each of its steps.
 ghost use Rattle.std.specs.Prelude.{◌≡◌};
 ghost use Rattle.satip_turn.specs.Views.{opening_view, spent_view};
 ghost use Rattle.satip_turn.specs.Rule.{Kept};
@@ -6,10 +6,11 @@ ghost use Rattle.satip_turn.specs.Steps.{Tries, Looks, Gives, Draws, Hears, spok
 
 use crate::view::{Sight, Slot, View};
 use atomic_table::{Join, Play, Split, TableRule};
-use satip_history::Served;
+use satip_base::Served;
 use std::snapshot::Snapshot;
 
-/// Word 0 is the turn, word 1 the length of the history, and the slot holds the served value.
+/// The rule: word 0 is the turn, word 1 the length of the history, and the slot holds the served
+/// value.
 pub struct Turns;
 
 impl<S: Served> TableRule<Slot<S>, Sight<S>, Snapshot<S>> for Turns {
@@ -18,49 +19,49 @@ impl<S: Served> TableRule<Slot<S>, Sight<S>, Snapshot<S>> for Turns {
     ghost first = { λ k. opening_view (S.setting k.value) };
 }
 
-// The turn word from 0 to 1, and the slot out.
+// Sets the turn word from 0 to 1, and takes the value out of the slot.
 pub(crate) struct Take;
 
 impl<S: Served> Play<Slot<S>, Sight<S>> for Take {
     ghost then = { λ _ me found after. Tries S.setting S.stands_for me found after };
 }
 
-// The length is read under the turn.
+// Reads the length under the turn.
 pub(crate) struct Look;
 
 impl<S: Served> Play<Slot<S>, Sight<S>> for Look {
     ghost then = { λ _ me found after. Looks me found after };
 }
 
-// One is added to the length: what the slot says is an entry.
+// Adds one to the length: the content of the slot is an entry.
 pub(crate) struct Commit;
 
 impl<S: Served> Play<Slot<S>, Sight<S>> for Commit {
     ghost then = { λ _ me _ after. after ≡ (spoken me.0 me.1, me.1) };
 }
 
-// The turn word to 0, and the slot home.
+// Sets the turn word to 0, with the value back in the slot.
 pub(crate) struct Give;
 
 impl<S: Served> Play<Slot<S>, Sight<S>> for Give {
     ghost then = { λ _ me _ after. Gives S.legal me after };
 }
 
-// A new number is drawn.
+// Draws a new number.
 pub(crate) struct Draw;
 
 impl<S: Served> Play<Slot<S>, Sight<S>> for Draw {
     ghost then = { λ _ me _ after. Draws S.legal me after };
 }
 
-// What was joined is told to be one history.
+// Learns that what two joined seats had seen is of one history.
 pub(crate) struct Hear;
 
 impl<S: Served> Play<Slot<S>, Sight<S>> for Hear {
     ghost then = { λ _ me _ after. Hears S.legal me after };
 }
 
-// A seat with the drawn number.
+// Splits off a seat with the drawn number.
 pub(crate) struct SplitOff;
 
 impl<E, A, O, C> Split<View<E, A, O, C>> for SplitOff {
@@ -69,7 +70,7 @@ impl<E, A, O, C> Split<View<E, A, O, C>> for SplitOff {
     ghost right = { newcomer };
 }
 
-// A seat takes in another.
+// Joins a seat into another.
 pub(crate) struct JoinIn;
 
 impl<E, A, O, C> Join<View<E, A, O, C>> for JoinIn {

@@ -1,6 +1,6 @@
 //! The steps of one seat at the cell's table.
 ghost use Rattle.std.specs.Prelude.{◌≡◌, ◌+◌, ◌^◌, ◌<◌, [], ◌∷◌, ◌++◌, length, Some, IfSome, IfNone};
-ghost use Rattle.satip_history.specs.History.{entry};
+ghost use Rattle.satip_base.specs.History.{entry};
 ghost use Rattle.satip_turn.specs.declared.view.Content.TheVariants.{Away};
 ghost use Rattle.satip_turn.specs.Faithful.{IsSound};
 ghost use Rattle.satip_turn.specs.Steps.{meeting, looking, committed, resting};
@@ -9,7 +9,7 @@ ghost use Rattle.satip_turn.specs.Seats.{IsTurnTable, IsIdle, IsHolding, IsServe
 use crate::rule::{Commit, Give, Look, Take, Turns};
 use crate::view::{Content, Sight, Slot};
 use atomic_table::{Seat, Shared};
-use satip_history::Served;
+use satip_base::Served;
 use std::snapshot::Snapshot;
 
 pub(crate) type TurnTable<S> = Shared<Slot<S>, Sight<S>, Snapshot<S>, Turns>;
@@ -34,7 +34,7 @@ pub(crate) fn take<S: Served>(table: &TurnTable<S>, seat: &mut TurnSeat<S>) -> O
     }
 }
 
-// Reads the length of the history under the turn, and has then seen the whole of it.
+// Reads the length of the history under the turn; the seat has then seen the whole of it.
 pub(crate) fn look<S: Served>(table: &TurnTable<S>, seat: &mut TurnSeat<S>) -> u64
     requires cell { (seat.old.table_id ≡ table.now.table_id) × IsTurnTable table.now.table_id }
     requires holds { IsHolding seat.old.me }
@@ -45,7 +45,7 @@ pub(crate) fn look<S: Served>(table: &TurnTable<S>, seat: &mut TurnSeat<S>) -> u
     table.load::<Look>(seat, 1)
 }
 
-// Commits one entry: its place is the addition to the length.
+// Commits one entry; the addition to the length fixes its place.
 pub(crate) fn commit<S: Served>(
     table: &TurnTable<S>,
     seat: &mut TurnSeat<S>,

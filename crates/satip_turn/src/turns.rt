@@ -1,18 +1,17 @@
-//! Whole turns of one seat, from the taking to the giving up.
+//! Whole turns of one seat, from taking the turn to giving it up.
 ghost use Rattle.std.specs.Prelude.{◌≡◌, ◌+◌, ◌^◌, ◌<◌, [], ◌∷◌, length, ◌↔◌, IsErr, OnErr, MatchResult};
-ghost use Rattle.satip_history.specs.History.{entry};
+ghost use Rattle.satip_base.specs.History.{entry};
 ghost use Rattle.satip_turn.specs.Faithful.{IsSound};
 ghost use Rattle.satip_turn.specs.Steps.{looking, resting};
 ghost use Rattle.satip_turn.specs.Seats.{IsTurnTable, IsIdle, IsHolding, IsServed, WaitsTurn, after_entry};
 
 use crate::seat::{TurnSeat, TurnTable, commit, give, look, take};
-use satip_base::Spent;
 use satip_base::limits::LONGEST_HISTORY;
-use satip_history::Served;
+use satip_base::{Served, Spent};
 use std::sync::Wait;
 use std::thread;
 
-// Tries to take the turn until it is free.
+// Tries to take the turn until it succeeds.
 pub(crate) fn wait_turn<S: Served, R: Wait>(
     rt: &R,
     table: &TurnTable<S>,

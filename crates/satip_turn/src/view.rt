@@ -1,24 +1,24 @@
-//! What the proofs say of a seat at the cell's table. No value of a view or a row is made.
-use satip_history::{Entry, Served};
+//! The knowledge of a seat at the cell's table, for proofs. No value of a view or a row is created.
+use satip_base::{Entry, Served};
 use std::collections::LinkedList;
 use std::snapshot::Snapshot;
 
-/// A caller's number and its entries.
+/// A caller's number with its entries.
 pub struct Row<E, A, O> {
     pub number: u64,
     pub own: LinkedList<Entry<E, A, O>>,
 }
 
-/// What the holder of a seat knows.
+/// The knowledge of a seat's holder.
 pub struct View<E, A, O, C> {
-    /// The seat was joined into another, and has no number any more.
+    /// Whether the seat was joined into another, and has no number any more.
     pub spent: bool,
     /// The seat holds the turn.
     pub turn: bool,
     /// The setting of the cell; a spent seat has none.
     pub setting: Option<C>,
     pub number: u64,
-    /// A prefix of the history that was seen.
+    /// The prefix of the history that the seat has seen.
     pub seen: LinkedList<Entry<E, A, O>>,
     /// The whole history, as it was when the seat last held the turn.
     pub whole: LinkedList<Entry<E, A, O>>,
@@ -30,9 +30,9 @@ pub struct View<E, A, O, C> {
     pub made: LinkedList<u64>,
     /// A number that was drawn and not yet given to a new seat, as a row.
     pub drawn: LinkedList<Row<E, A, O>>,
-    /// What two seats had seen that were joined, until a step tells that both are prefixes.
+    /// What two joined seats had seen, until a step shows that both are prefixes.
     pub heard: LinkedList<LinkedList<Entry<E, A, O>>>,
-    /// How often the turn was found taken.
+    /// The count of tries that found the turn taken.
     pub met: u64,
     /// How often the whole history was looked at.
     pub looks: u64,
@@ -40,8 +40,8 @@ pub struct View<E, A, O, C> {
     pub looked: LinkedList<Entry<E, A, O>>,
 }
 
-/// What the cell's slot holds: the served value, or, while a seat has it out, nothing or what is
-/// to be committed. What is to be committed takes no bytes.
+/// The content of the cell's slot: the served value, or, while a seat has taken it, nothing or the
+/// entry to be committed. The entry takes no memory.
 #[derive(Drop)]
 pub enum Content<X, E, A, O> {
     Away,

@@ -6,7 +6,7 @@ use Rattle.satip_base.specs.declared.network.Peer.{Peer}
 use Rattle.satip_base.specs.declared.identity.Draw.{Draw}
 use Rattle.satip_rtsp.specs.declared.requests.Request.{Request}
 use Rattle.satip_rtsp.specs.Asked.{asked, broken_request}
-use Rattle.satip_hearing.specs.Asking.{AsksMore}
+use Rattle.satip_frame.specs.Asking.{AsksMore}
 use Rattle.satip_plain.specs.Histories.{Item}
 use Rattle.satip_plain.specs.declared.events.Event.{Event}
 use Rattle.satip_plain.specs.declared.events.Event.TheVariants.{Request as Asks}

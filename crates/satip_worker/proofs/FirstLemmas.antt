@@ -6,7 +6,7 @@ use Rattle.satip_frame.proofs.StreamLemmas.{leads_first, leads-append, broken_st
 use Rattle.satip_frame.proofs.ReadingLemmas.{reading_of}
 use Rattle.satip_http.specs.declared.requests.HttpRequest.{HttpRequest}
 use Rattle.satip_http.specs.Gets.{asked_get, broken_get}
-use Rattle.satip_hearing.specs.Asking.{AsksSoFar, AsksNext, AsksLast}
+use Rattle.satip_frame.specs.Asking.{AsksSoFar, AsksNext, AsksLast}
 use Rattle.satip_world.specs.Lines.{Line, GotBytes, InputEnded, ReceiveFailed}
 use Rattle.satip_worker.specs.Progress.{Carries}
 use Rattle.satip_worker.specs.HttpRun.{asked_first}

@@ -11,13 +11,13 @@ use Rattle.satip_rtsp.specs.declared.requests.Refusal.TheVariants.{Broken, TooLo
 use Rattle.satip_rtsp.specs.declared.requests.Request.{Request}
 use Rattle.satip_rtsp.specs.Asked.{asked, broken_request}
 use Rattle.satip_rtsp.proofs.Causes.{causes}
-use Rattle.satip_hearing.specs.Asking.{AsksNext, AsksLast, AsksMore}
-use Rattle.satip_hearing.proofs.TextLemmas.{all_with_last, all_is_more, first_is_less}
+use Rattle.satip_frame.specs.Asking.{AsksNext, AsksLast, AsksMore}
+use Rattle.satip_frame.proofs.TextLemmas.{all_with_last, all_is_more, first_is_less}
 use Rattle.satip_plain.specs.Histories.{Item}
 use Rattle.satip_plain.specs.declared.events.Event.TheVariants.{Request as Asks}
 use Rattle.satip_world.specs.Lines.{Line}
-use Rattle.satip_service.specs.Calls.{Cause}
-use Rattle.satip_service.specs.Suits.{closes}
+use Rattle.satip_plain.specs.Calls.{Cause}
+use Rattle.satip_plain.specs.Suits.{closes}
 use Rattle.satip_worker.specs.declared.turns.Turn.{Turn}
 use Rattle.satip_worker.specs.declared.turns.Turn.TheVariants.{Sent, Lost, Unmade}
 use Rattle.satip_worker.specs.Drawing.{draw_at, before_draw}

@@ -14,7 +14,7 @@ use Rattle.satip_world.specs.Lines.{Line}
 use Rattle.satip_world.specs.declared.doors.ConnEnd.{ConnEnd}
 use Rattle.satip_world.specs.declared.doors.ConnEnd.TheVariants.{Done, ReadFault, WriteFault, Spent as spent, Want as wants}
 use Rattle.satip_world.specs.declared.doors.DoorKind.TheVariants.{Http}
-use Rattle.satip_service.specs.declared.fault.ServiceFault.{ServiceFault}
+use Rattle.satip_plain.specs.declared.fault.ServiceFault.{ServiceFault}
 use Rattle.satip_worker.specs.Answers.{ends_with, ends_with_last}
 use Rattle.satip_worker.specs.Drawing.{draw_at, before_draw}
 use Rattle.satip_worker.specs.Ends.{LineEnds, ServiceEnds, end_of}

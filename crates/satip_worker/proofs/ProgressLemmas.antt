@@ -3,7 +3,7 @@ use Rattle.std.proofs.Common.{◌≡◌, ℕ, suc, ◌≤◌, ◌⊎◌, inl, in
 use Rattle.std.proofs.lemmas.List.{append-nil}
 use Rattle.std.proofs.lemmas.List.Concat.{flat_map-append}
 use Rattle.satip_base.specs.Output.{Datagram, Output}
-use Rattle.satip_history.specs.History.{entry}
+use Rattle.satip_base.specs.History.{entry}
 use Rattle.satip_plain.specs.Histories.{Item}
 use Rattle.satip_plain.specs.declared.answers.Answer.{Answer}
 use Rattle.satip_plain.specs.declared.events.Event.{Event}
@@ -12,10 +12,10 @@ use Rattle.satip_world.specs.Lines.{Line, GotBytes, WasIdle, InputEnded, Receive
 use Rattle.satip_world.specs.Outboxes.{Outbox, locked, unlocked}
 use Rattle.satip_world.specs.Deliveries.{Delivers}
 use Rattle.satip_world.proofs.DeliveryLemmas.{delivers_none, delivers_then, delivers_within}
-use Rattle.satip_service.specs.Known.{Known}
-use Rattle.satip_service.specs.Calls.{Made, Unmade}
-use Rattle.satip_service.specs.declared.fault.ServiceFault.{ServiceFault}
-use Rattle.satip_service.proofs.Growing.{adds_nothing, adds_then, adds_one, adds_no_more}
+use Rattle.satip_plain.specs.Known.{Known}
+use Rattle.satip_plain.specs.Calls.{Made, Unmade}
+use Rattle.satip_plain.specs.declared.fault.ServiceFault.{ServiceFault}
+use Rattle.satip_plain.proofs.Growing.{adds_nothing, adds_then, adds_one, adds_no_more}
 use Rattle.satip_worker.specs.Answers.{datagrams_of}
 use Rattle.satip_worker.specs.Progress.{Stage, Makes, Carries}
 use Rattle.satip_worker.specs.Making.{MadeEvent, UnmadeEvent, MakesEvent}

@@ -5,13 +5,13 @@ use Rattle.rand_chacha.specs.ChaCha.{ChaCha}
 use Rattle.satip_frame.specs.Held.{Held, new_framer}
 use Rattle.satip_rtsp.specs.declared.requests.Request.{Request}
 use Rattle.satip_rtsp.specs.Asked.{asked, broken_request}
-use Rattle.satip_hearing.proofs.TextLemmas.{nothing_asked, more_came, all_so_far}
+use Rattle.satip_frame.proofs.TextLemmas.{nothing_asked, more_came, all_so_far}
 use Rattle.satip_world.specs.Lines.{Line, GotBytes, WasIdle, InputEnded, ReceiveFailed}
 use Rattle.satip_world.specs.declared.doors.ConnEnd.{ConnEnd}
 use Rattle.satip_world.specs.declared.doors.ConnEnd.TheVariants.{Done, ReadFault, WriteFault}
 use Rattle.satip_world.specs.declared.doors.DoorKind.TheVariants.{Rtsp}
-use Rattle.satip_service.specs.declared.fault.ServiceFault.{ServiceFault}
-use Rattle.satip_service.specs.declared.fault.ServiceFault.TheVariants.{Spent, Want}
+use Rattle.satip_plain.specs.declared.fault.ServiceFault.{ServiceFault}
+use Rattle.satip_plain.specs.declared.fault.ServiceFault.TheVariants.{Spent, Want}
 use Rattle.satip_worker.specs.Drawing.{draw_at, before_draw}
 use Rattle.satip_worker.specs.Answers.{events_of}
 use Rattle.satip_worker.specs.Ends.{LineEnds, ServiceEnds, end_of}

@@ -7,10 +7,10 @@ use Rattle.satip_plain.specs.Histories.{Item}
 use Rattle.satip_world.specs.Lines.{Line, GotBytes, WasIdle, InputEnded, ReceiveFailed}
 use Rattle.satip_world.specs.declared.doors.ConnEnd.{ConnEnd}
 use Rattle.satip_world.specs.declared.doors.ConnEnd.TheVariants.{Done, ReadFault, WriteFault, Spent as spent, Want as wants}
-use Rattle.satip_service.specs.Calls.{Cause}
-use Rattle.satip_service.specs.Known.{Known}
-use Rattle.satip_service.specs.declared.fault.ServiceFault.{ServiceFault}
-use Rattle.satip_service.specs.declared.fault.ServiceFault.TheVariants.{Spent, Want}
+use Rattle.satip_plain.specs.Calls.{Cause}
+use Rattle.satip_plain.specs.Known.{Known}
+use Rattle.satip_plain.specs.declared.fault.ServiceFault.{ServiceFault}
+use Rattle.satip_plain.specs.declared.fault.ServiceFault.TheVariants.{Spent, Want}
 use Rattle.satip_worker.specs.Answers.{ends_with, ends_with_last}
 use Rattle.satip_worker.specs.Ends.{LineEnds, ServiceEnds, is_unmade, end_of}
 use Rattle.satip_worker.specs.HttpRun.{Closes, FollowsPull, Pulls}

@@ -1,4 +1,4 @@
--- What entries say: their events, and whether a connection ends with the last of them.
+-- Readings of entries: their events, their datagrams, and whether a connection ends with the last of them.
 use Rattle.std.specs.Prelude.{Bool, true, false, List, [], ◌∷◌, map}
 use Rattle.std.specs.List.{flat_map}
 use Rattle.satip_base.specs.Output.{Datagram}
@@ -9,7 +9,7 @@ use Rattle.satip_plain.specs.declared.answers.Pulled.TheVariants.{Gone}
 use Rattle.satip_plain.specs.declared.events.Event.{Event}
 use Rattle.satip_plain.specs.Histories.{Item}
 
--- the events of entries
+-- the events of entries, in order
 abbrev pub events_of : List Item → List Event
 events_of entries = map (λ entry. entry.event) entries
 
@@ -24,7 +24,7 @@ ends_with (Get (Refused status)) = true
 ends_with (Pulled Gone) = true
 ends_with _ = false
 
--- whether it ends with the last entry
+-- whether a connection ends with the last of these entries
 abbrev pub ends_with_last : List Item → Bool
 ends_with_last [] = false
 ends_with_last (entry ∷ []) = ends_with entry.answer

@@ -1,13 +1,13 @@
--- Why the service of a connection ended.
+-- The reasons why the service of a connection ends.
 use Rattle.std.specs.Prelude.{◌≡◌, ◌⊎◌, Bool, true, false}
 use Rattle.satip_base.specs.declared.limits.TheConstants.{LONGEST_HISTORY}
 use Rattle.satip_world.specs.declared.doors.ConnEnd.{ConnEnd}
 use Rattle.satip_world.specs.declared.doors.ConnEnd.TheVariants.{Done, ReadFault, WriteFault, Spent, Want}
 use Rattle.satip_world.specs.Counts.{Rises}
 use Rattle.satip_world.specs.Lines.{Line}
-use Rattle.satip_service.specs.Known.{Known}
-use Rattle.satip_service.specs.declared.fault.ServiceFault.{ServiceFault}
-use Rattle.satip_service.specs.declared.fault.ServiceFault.TheVariants.{Spent as service_spent, Want as service_wants}
+use Rattle.satip_plain.specs.Known.{Known}
+use Rattle.satip_plain.specs.declared.fault.ServiceFault.{ServiceFault}
+use Rattle.satip_plain.specs.declared.fault.ServiceFault.TheVariants.{Spent as service_spent, Want as service_wants}
 
 -- a receive failed, before the input ended and before the connection ended with an answer
 pub record ReadFailed (o n : Line) (over : Bool) : Type 0 where
@@ -24,7 +24,7 @@ pub record WriteFailed (o n : Line) : Type 0 where
 abbrev pub IsOver : (ended over : Bool) → Type 0
 IsOver ended over = ((ended ≡ true) × (over ≡ false)) ⊎ ((ended ≡ false) × (over ≡ true))
 
--- what the connection shows at each end, and whether it ended with the last answer
+-- the connection's state at each end; `over` says whether it ended with the last answer
 abbrev pub LineEnds : ConnEnd → (o n : Line) (over : Bool) → Type 0
 LineEnds Done o n over = IsOver n.ended over
 LineEnds ReadFault o n over = ReadFailed o n over
@@ -32,7 +32,7 @@ LineEnds WriteFault o n over = WriteFailed o n
 LineEnds Spent o n over = Unit {0}
 LineEnds Want o n over = Unit {0}
 
--- what the service shows at each end: its history is full, or it can answer want of memory
+-- the service's state at each end: its history is full, or it may return out of memory
 abbrev pub ServiceEnds : ConnEnd → (may_want : Bool) → Known → Type 0
 ServiceEnds Done may_want known = Unit {0}
 ServiceEnds ReadFault may_want known = Unit {0}
@@ -48,7 +48,7 @@ is_unmade WriteFault = false
 is_unmade Spent = true
 is_unmade Want = true
 
--- how a connection ends where an event has no entry
+-- the end of a connection if an event has no entry
 abbrev pub end_of : ServiceFault → ConnEnd
 end_of service_spent = Spent
 end_of service_wants = Want

@@ -1,4 +1,4 @@
--- What is asked first on an HTTP connection.
+-- The first request of an HTTP connection.
 use Rattle.std.specs.Prelude.{◌≡◌, ◌⊎◌, true, false, ℕ, List, [], ◌∷◌}
 use Rattle.satip_frame.specs.declared.framing.Break.{Break}
 use Rattle.satip_frame.specs.Said.{Said}
@@ -11,37 +11,37 @@ use Rattle.satip_worker.specs.declared.first.First.{First}
 use Rattle.satip_worker.specs.declared.first.First.TheVariants.{Asked, Ended, Failed}
 use Rattle.satip_worker.specs.Progress.{Carries}
 
--- the first message of the text asks this
+-- the first message of the text is this request
 pub record AsksByMessage (text : List ℕ) (request : HttpRequest) : Type 0 where
   pub message : Said
   pub first : AreFirst (message ∷ []) text
   pub request_is : request ≡ asked_get message
 
--- what stands first in the text is no message, and asks this
+-- the text begins with something that is no message, and that gives this request
 pub record AsksByBreak (text : List ℕ) (request : HttpRequest) : Type 0 where
   pub cause : Break
   pub read : Messages text [] (Broken cause)
   pub request_is : request ≡ broken_get cause
 
--- this is what the text asks first
+-- this is the first request of the text
 abbrev pub AsksFirst : List ℕ → HttpRequest → Type 0
 AsksFirst text request = AsksByMessage text request ⊎ AsksByBreak text request
 
--- something was asked
+-- a request was read
 pub record ReadAsked (tells : Type 0) (l m : Line) (request : HttpRequest) : Type 0 where
   pub received : List ℕ
   pub first : AsksFirst received request
   pub goes_on : m.ended ≡ false
   pub carries : Carries tells l m received []
 
--- the input ended before anything was asked
+-- the input ended before any request
 pub record ReadNothing (tells : Type 0) (l m : Line) : Type 0 where
   pub received : List ℕ
   pub nothing : Messages received [] Unfinished
   pub ended : m.ended ≡ true
   pub carries : Carries tells l m received []
 
--- a receive failed before anything was asked
+-- a receive failed before any request
 pub record ReadFailed (tells : Type 0) (l m : Line) : Type 0 where
   pub received : List ℕ
   pub nothing : Messages received [] Unfinished
@@ -49,7 +49,7 @@ pub record ReadFailed (tells : Type 0) (l m : Line) : Type 0 where
   pub carries : Carries tells l m received []
   pub faults : Rises l.receive_faults m.receive_faults
 
--- what reading up to what is asked first came to
+-- the outcome of reading up to the first request
 abbrev pub ReadsFirst : (tells : Type 0) (l m : Line) → First → Type 0
 ReadsFirst tells l m (Asked request) = ReadAsked tells l m request
 ReadsFirst tells l m Ended = ReadNothing tells l m

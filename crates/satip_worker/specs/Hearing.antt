@@ -4,13 +4,13 @@ use Rattle.rand_chacha.specs.ChaCha.{ChaCha}
 use Rattle.satip_base.specs.declared.network.Peer.{Peer}
 use Rattle.satip_rtsp.specs.declared.requests.Request.{Request}
 use Rattle.satip_rtsp.specs.Asked.{asked}
-use Rattle.satip_hearing.specs.Asking.{AsksFirst, AsksSoFar}
+use Rattle.satip_frame.specs.Asking.{AsksFirst, AsksSoFar}
 use Rattle.satip_plain.specs.declared.events.Event.{Event}
 use Rattle.satip_plain.specs.Histories.{Item}
 use Rattle.satip_world.specs.Counts.{Rises}
 use Rattle.satip_world.specs.Lines.{Line}
-use Rattle.satip_service.specs.Calls.{Cause}
-use Rattle.satip_service.specs.declared.fault.ServiceFault.{ServiceFault}
+use Rattle.satip_plain.specs.Calls.{Cause}
+use Rattle.satip_plain.specs.declared.fault.ServiceFault.{ServiceFault}
 use Rattle.satip_worker.specs.declared.turns.Heard.{Heard}
 use Rattle.satip_worker.specs.declared.turns.Heard.TheVariants.{All, Closed, Lost, Unmade}
 use Rattle.satip_worker.specs.Drawing.{draw_at, before_draw}
@@ -19,7 +19,7 @@ use Rattle.satip_worker.specs.Progress.{Stage, Makes, Carries}
 use Rattle.satip_worker.specs.Requests.{AsksAll, request_events}
 use Rattle.satip_worker.specs.RtspRun.{replies, SentInPart}
 
--- who is served with which draws, and how the service, the outlet and the connection stood when it began
+-- the start of a connection: its peer, the stream of its draws and the first number, and the states of the service, the outlet and the connection
 pub record Course : Type 0 where
   pub peer : Peer
   pub key : List ℕ
@@ -32,11 +32,11 @@ pub record Course : Type 0 where
 abbrev pub course_events : Course → List Request → List Event
 course_events course requests = request_events course.peer (draw_at course.key course.stream) course.from requests
 
--- the draws stand behind so many
+-- the generator after `count` draws of this course
 abbrev pub drawn : Course → ℕ → ChaCha
 drawn course count = before_draw course.key course.stream (course.from + count)
 
--- these requests of the text were answered, and the connection ends with the last answer, or doesn't
+-- these requests of the text were answered; `over` says whether the connection ends with the last answer
 pub record Answered (conn_tells outlet_tells : Type 0) (course : Course) (n : Stage) (m : Line) (draws : ChaCha) (text : List ℕ)
     (requests : List Request) (over : Bool) : Type 0 where
   pub entries : List Item
@@ -46,25 +46,25 @@ pub record Answered (conn_tells outlet_tells : Type 0) (course : Course) (n : St
   pub makes : Makes outlet_tells course.stage n entries
   pub carries : Carries conn_tells course.line m text (replies entries)
 
--- what the text asks first was answered, and then these bytes wait
+-- the first requests of the text were answered, and these bytes wait
 pub record Stands (conn_tells outlet_tells : Type 0) (course : Course) (n : Stage) (m : Line) (draws : ChaCha) (text waiting : List ℕ) : Type 0 where
   pub requests : List Request
   pub first : AsksFirst asked text requests waiting
   pub answered : Answered conn_tells outlet_tells course n m draws text requests false
 
--- all that the text asks so far was answered, and then the framer holds these bytes
+-- all requests of the text so far were answered, and the framer holds these bytes
 pub record Listens (conn_tells outlet_tells : Type 0) (course : Course) (n : Stage) (m : Line) (draws : ChaCha) (text held : List ℕ) : Type 0 where
   pub requests : List Request
   pub heard : AsksSoFar asked text requests held
   pub answered : Answered conn_tells outlet_tells course n m draws text requests false
 
--- the text is broken, and all that it asks was answered
+-- the text is broken, and all its requests were answered; the connection ends with the last answer
 pub record HasClosed (conn_tells outlet_tells : Type 0) (course : Course) (n : Stage) (m : Line) (draws : ChaCha) (text : List ℕ) : Type 0 where
   pub requests : List Request
   pub asks : AsksAll text requests
   pub answered : Answered conn_tells outlet_tells course n m draws text requests true
 
--- the events of entries are the first of what the text asks
+-- the events of entries are the first ones of the text
 pub record AreFirstOf (course : Course) (text : List ℕ) (entries : List Item) : Type 0 where
   pub requests : List Request
   pub asks : AsksAll text requests
@@ -82,7 +82,7 @@ pub record HasLost (conn_tells outlet_tells : Type 0) (course : Course) (n : Sta
   pub carries : Carries conn_tells course.line m text sent
   pub faults : Rises course.line.send_faults m.send_faults
 
--- the service made no entry of what the text asks next
+-- the service made no entry of the text's next event
 pub record HasStopped (conn_tells outlet_tells : Type 0) (course : Course) (n : Stage) (m : Line) (draws : ChaCha) (text : List ℕ)
     (fault : ServiceFault) : Type 0 where
   pub entries : List Item
@@ -93,7 +93,7 @@ pub record HasStopped (conn_tells outlet_tells : Type 0) (course : Course) (n : 
   pub carries : Carries conn_tells course.line m text (replies entries)
   pub cause : Cause course.stage.may_want n.known fault
 
--- what hearing a text comes to, of which the framer then holds these bytes
+-- the outcome of hearing a text; the framer then holds `held`
 abbrev pub Hears : (conn_tells outlet_tells : Type 0) (course : Course) (n : Stage) (m : Line) (draws : ChaCha)
     (text held : List ℕ) → Heard → Type 0
 Hears conn_tells outlet_tells course n m draws text held All = Listens conn_tells outlet_tells course n m draws text held

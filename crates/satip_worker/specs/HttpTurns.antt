@@ -31,7 +31,7 @@ IsRefusal answer = (status : ℕ) × (answer ≡ Got (get_refused status))
 abbrev pub IsSome : Answer → Type 0
 IsSome answer = (count : ℕ) × (answer ≡ Pulled (Bytes count))
 
--- the pull found none
+-- the pull found no bytes
 abbrev pub IsNone : Answer → Type 0
 IsNone answer = answer ≡ Pulled none_queued
 
@@ -39,7 +39,7 @@ IsNone answer = answer ≡ Pulled none_queued
 abbrev pub IsGone : Answer → Type 0
 IsGone answer = answer ≡ Pulled session_gone
 
--- what a GET came to
+-- the outcome of a GET
 abbrev pub GetTurns : (ct ot : Type 0) (o n : Stage) (l m : Line) → Event → Getting → Type 0
 GetTurns ct ot o n l m event (Started id) = ReplySent ct ot o n l m event (IsStart id)
 GetTurns ct ot o n l m event (StartCut id) = ReplyLost ct ot o n l m event (IsStart id)
@@ -47,7 +47,7 @@ GetTurns ct ot o n l m event Refused = ReplySent ct ot o n l m event IsRefusal
 GetTurns ct ot o n l m event RefusalCut = ReplyLost ct ot o n l m event IsRefusal
 GetTurns ct ot o n l m event (get_unmade fault) = TurnUnmade ct ot o n l m fault
 
--- what a pull came to
+-- the outcome of a pull
 abbrev pub PullTurns : (ct ot : Type 0) (o n : Stage) (l m : Line) → Event → Pulling → Type 0
 PullTurns ct ot o n l m event Sent = ReplySent ct ot o n l m event IsSome
 PullTurns ct ot o n l m event Cut = ReplyLost ct ot o n l m event IsSome
@@ -55,7 +55,7 @@ PullTurns ct ot o n l m event Empty = EntryMade ct ot o n l m event IsNone
 PullTurns ct ot o n l m event Gone = EntryMade ct ot o n l m event IsGone
 PullTurns ct ot o n l m event (pull_unmade fault) = TurnUnmade ct ot o n l m fault
 
--- a session was closed for a reason, or the service made no entry of it
+-- a session was closed for this cause, or the service made no entry of the close
 pub record ClosesSession (ot : Type 0) (o n : Stage) (id : SessionId) (cause end : ConnEnd) : Type 0 where
   pub entries : List Item
   pub closes : Closes id cause end entries

@@ -1,12 +1,12 @@
--- What making one event does.
+-- The execution of one event.
 use Rattle.std.specs.Prelude.{[], ◌∷◌, Result, Ok, Err}
 use Rattle.satip_base.specs.Output.{Output}
-use Rattle.satip_history.specs.History.{entry}
+use Rattle.satip_base.specs.History.{entry}
 use Rattle.satip_plain.specs.declared.answers.Answer.{Answer}
 use Rattle.satip_plain.specs.declared.events.Event.{Event}
-use Rattle.satip_service.specs.declared.fault.ServiceFault.{ServiceFault}
-use Rattle.satip_service.specs.Calls.{Cause}
-use Rattle.satip_service.specs.Suits.{Suits}
+use Rattle.satip_plain.specs.declared.fault.ServiceFault.{ServiceFault}
+use Rattle.satip_plain.specs.Calls.{Cause}
+use Rattle.satip_plain.specs.Suits.{Suits}
 use Rattle.std.specs.Prelude.{ℕ}
 use Rattle.satip_worker.specs.Progress.{Stage, Makes}
 
@@ -21,7 +21,7 @@ pub record UnmadeEvent (tells : Type 0) (o n : Stage) (fault : ServiceFault) : T
   pub makes : Makes tells o n []
   pub cause : Cause o.may_want n.known fault
 
--- what making an event came to
+-- the outcome of an event
 abbrev pub MakesEvent : (tells : Type 0) (o n : Stage) → Event → Output → Result Answer ServiceFault → Type 0
 MakesEvent tells o n event out (Ok answer) = MadeEvent tells o n event answer out
 MakesEvent tells o n event out (Err fault) = UnmadeEvent tells o n fault

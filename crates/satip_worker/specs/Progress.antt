@@ -1,19 +1,19 @@
--- How a service, an outlet and a connection go on while entries are made.
+-- The progress of a service, an outlet and a connection while entries are made.
 use Rattle.std.specs.Prelude.{◌≡◌, ℕ, ◌≤◌, Bool, List}
 use Rattle.satip_plain.specs.Histories.{Item}
 use Rattle.satip_world.specs.Lines.{Line, Grew}
 use Rattle.satip_world.specs.Outboxes.{Outbox}
 use Rattle.satip_world.specs.Deliveries.{Delivers}
-use Rattle.satip_service.specs.Known.{Known, AddsAll}
+use Rattle.satip_plain.specs.Known.{Known, AddsAll}
 use Rattle.satip_worker.specs.Answers.{datagrams_of}
 
--- a service and an outlet: whether the service can answer want of memory, what it knows, and what the outlet was sent
+-- a service and an outlet: whether the service may return out of memory, what it knows of the history, and what the outlet was sent
 pub record Stage : Type 0 where
   pub may_want : Bool
   pub known : Known
   pub outbox : Outbox
 
--- what a service and an outlet show
+-- the contract's view of a service and an outlet
 abbrev pub staged : {S O : Type 0} → (S → Bool) → (S → Known) → (O → Outbox) → S → O → Stage
 staged may_want known outbox service outlet = record { may_want = may_want service; known = known service; outbox = outbox outlet }
 
@@ -23,7 +23,7 @@ pub record Makes (tells : Type 0) (o n : Stage) (entries : List Item) : Type 0 w
   pub adds : AddsAll o.known n.known entries
   pub delivers : Delivers tells o.outbox n.outbox (datagrams_of entries)
 
--- these bytes were received and these were sent, and no count fell
+-- these bytes were received and sent, and no count fell
 pub record Carries (tells : Type 0) (o n : Line) (received sent : List ℕ) : Type 0 where
   pub content : Grew tells o n received sent
   pub idles : o.idles ≤ n.idles

@@ -11,11 +11,11 @@ use Rattle.satip_world.specs.declared.doors.ConnEnd.TheVariants.{Done, ReadFault
 use Rattle.satip_worker.specs.Answers.{events_of}
 use Rattle.satip_worker.specs.Requests.{AsksAll, request_events}
 
--- the replies of entries, one behind the other
+-- the replies of entries, in order
 abbrev pub replies : List Item → List ℕ
 replies entries = flat_map (λ entry. entry.out.reply) entries
 
--- the replies of all entries but the last were sent, and a beginning of that of the last
+-- the replies of all entries but the last were sent, and a prefix of the last one's
 pub record SentInPart (entries : List Item) (sent : List ℕ) : Type 0 where
   pub before : List Item
   pub last : Item
@@ -25,7 +25,7 @@ pub record SentInPart (entries : List Item) (sent : List ℕ) : Type 0 where
   pub reply : last.out.reply ≡ part ++ rest
   pub sent_is : sent ≡ replies before ++ part
 
--- what was sent by each end
+-- the bytes that were sent, by each end
 abbrev pub RepliesSent : ConnEnd → List Item → List ℕ → Type 0
 RepliesSent Done entries sent = sent ≡ replies entries
 RepliesSent ReadFault entries sent = sent ≡ replies entries
@@ -33,8 +33,7 @@ RepliesSent WriteFault entries sent = SentInPart entries sent
 RepliesSent Spent entries sent = sent ≡ replies entries
 RepliesSent Want entries sent = sent ≡ replies entries
 
--- what was asked and has no entry: nothing where the connection was done or a receive failed, and something where
--- the service made no entry
+-- the events that were asked for and have no entry: none after `Done` or a failed receive, and at least one if the service made no entry
 abbrev pub LeftOver : ConnEnd → List Event → Type 0
 LeftOver Done rest = rest ≡ []
 LeftOver ReadFault rest = rest ≡ []
@@ -42,7 +41,7 @@ LeftOver WriteFault rest = Unit {0}
 LeftOver Spent rest = rest ≢ []
 LeftOver Want rest = rest ≢ []
 
--- how many draws were taken: one for each entry, and one for an event that the service made no entry of
+-- the number of draws taken: one for each entry, and one for an event that the service made no entry of
 abbrev pub draws_taken : ConnEnd → List Item → ℕ
 draws_taken Done entries = length entries
 draws_taken ReadFault entries = length entries
@@ -50,7 +49,7 @@ draws_taken WriteFault entries = length entries
 draws_taken Spent entries = length entries + 1
 draws_taken Want entries = length entries + 1
 
--- an RTSP connection that received and sent these bytes, and took the draws from one number up to another
+-- the run of an RTSP connection that received and sent these bytes, and took the draws from number `from` up to `to`
 pub record RtspRun (peer : Peer) (drawn : ℕ → Draw) (from to : ℕ) (received sent : List ℕ) (end : ConnEnd) (entries : List Item) : Type 0 where
   pub requests : List Request
   pub asks : AsksAll received requests

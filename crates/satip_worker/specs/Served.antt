@@ -1,4 +1,4 @@
--- A connection that was served: its run, why it ended, and what the service, the outlet and the connection then show.
+-- A served connection: its run, why it ended, and the state of the service, the outlet and the connection then.
 use Rattle.std.specs.Prelude.{ℕ, List}
 use Rattle.satip_base.specs.declared.network.Peer.{Peer}
 use Rattle.satip_base.specs.declared.identity.Draw.{Draw}
@@ -13,12 +13,12 @@ use Rattle.satip_worker.specs.Ends.{LineEnds, ServiceEnds}
 use Rattle.satip_worker.specs.RtspRun.{RtspRun}
 use Rattle.satip_worker.specs.HttpRun.{HttpRun}
 
--- the run of a connection of a kind
+-- the run of a connection of either kind
 abbrev pub ConnRun : DoorKind → Peer → (ℕ → Draw) → (from to : ℕ) → (received sent : List ℕ) → ConnEnd → List Item → Type 0
 ConnRun Rtsp peer drawn from to received sent end entries = RtspRun peer drawn from to received sent end entries
 ConnRun Http peer drawn from to received sent end entries = HttpRun peer drawn from to received sent end entries
 
--- a connection was served from one moment to another
+-- a connection was served between two states of service, outlet and connection
 pub record ServesConn (conn_tells outlet_tells : Type 0) (kind : DoorKind) (peer : Peer) (drawn : ℕ → Draw) (from to : ℕ)
     (o n : Stage) (l m : Line) (end : ConnEnd) : Type 0 where
   pub entries : List Item

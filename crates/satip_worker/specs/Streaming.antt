@@ -1,4 +1,4 @@
--- The part of an HTTP connection behind the start of its session.
+-- The part of an HTTP connection after the start of its session.
 use Rattle.std.specs.Prelude.{ℕ, List}
 use Rattle.satip_base.specs.declared.identity.SessionId.{SessionId}
 use Rattle.satip_plain.specs.Histories.{Item}

@@ -1,18 +1,18 @@
--- One event of a connection: its entry, and what was sent of its reply.
+-- One event of a connection: its entry, and the part of its reply that was sent.
 use Rattle.std.specs.Prelude.{◌≡◌, ℕ, Bool, List, [], ◌∷◌, ◌++◌}
 use Rattle.satip_plain.specs.declared.answers.Answer.{Answer}
 use Rattle.satip_plain.specs.declared.events.Event.{Event}
 use Rattle.satip_plain.specs.Histories.{Item}
 use Rattle.satip_world.specs.Counts.{Rises}
 use Rattle.satip_world.specs.Lines.{Line}
-use Rattle.satip_service.specs.Calls.{Cause}
-use Rattle.satip_service.specs.declared.fault.ServiceFault.{ServiceFault}
+use Rattle.satip_plain.specs.Calls.{Cause}
+use Rattle.satip_plain.specs.declared.fault.ServiceFault.{ServiceFault}
 use Rattle.satip_worker.specs.declared.turns.Turn.{Turn}
 use Rattle.satip_worker.specs.declared.turns.Turn.TheVariants.{Sent, Lost, Unmade}
 use Rattle.satip_worker.specs.Answers.{ends_with}
 use Rattle.satip_worker.specs.Progress.{Stage, Makes, Carries}
 
--- the entry was made with such an answer, and its reply sent
+-- the entry was made with such an answer, and its reply was sent
 pub record ReplySent (conn_tells outlet_tells : Type 0) (o n : Stage) (l m : Line) (event : Event) (IsSuch : Answer → Type 0) : Type 0 where
   pub entry : Item
   pub event_is : entry.event ≡ event
@@ -20,7 +20,7 @@ pub record ReplySent (conn_tells outlet_tells : Type 0) (o n : Stage) (l m : Lin
   pub makes : Makes outlet_tells o n (entry ∷ [])
   pub carries : Carries conn_tells l m [] entry.out.reply
 
--- the entry was made with such an answer, and a beginning of its reply sent
+-- the entry was made with such an answer, and a prefix of its reply was sent
 pub record ReplyLost (conn_tells outlet_tells : Type 0) (o n : Stage) (l m : Line) (event : Event) (IsSuch : Answer → Type 0) : Type 0 where
   pub entry : Item
   pub event_is : entry.event ≡ event
@@ -44,9 +44,11 @@ pub record EntryMade (conn_tells outlet_tells : Type 0) (o n : Stage) (l m : Lin
 abbrev pub EndsAs : Bool → Answer → Type 0
 EndsAs over answer = ends_with answer ≡ over
 
+-- the entry was made, and its reply was sent; `over` says whether the connection ends with it
 abbrev pub TurnSent : (conn_tells outlet_tells : Type 0) (o n : Stage) (l m : Line) → Event → Bool → Type 0
 TurnSent conn_tells outlet_tells o n l m event over = ReplySent conn_tells outlet_tells o n l m event (EndsAs over)
 
+-- the entry was made, and a prefix of its reply was sent; `over` says whether the connection ends with it
 abbrev pub TurnLost : (conn_tells outlet_tells : Type 0) (o n : Stage) (l m : Line) → Event → Bool → Type 0
 TurnLost conn_tells outlet_tells o n l m event over = ReplyLost conn_tells outlet_tells o n l m event (EndsAs over)
 
@@ -56,7 +58,7 @@ pub record TurnUnmade (conn_tells outlet_tells : Type 0) (o n : Stage) (l m : Li
   pub carries : Carries conn_tells l m [] []
   pub cause : Cause o.may_want n.known fault
 
--- what an event came to
+-- the outcome of an event
 abbrev pub Turns : (conn_tells outlet_tells : Type 0) (o n : Stage) (l m : Line) → Event → (over : Bool) → Turn → Type 0
 Turns conn_tells outlet_tells o n l m event over Sent = TurnSent conn_tells outlet_tells o n l m event over
 Turns conn_tells outlet_tells o n l m event over Lost = TurnLost conn_tells outlet_tells o n l m event over

@@ -3,7 +3,7 @@ use Rattle.std.specs.Prelude.{◌≡◌, ℕ, Bool, true, false, List, [], ◌�
 use Rattle.satip_base.specs.declared.limits.TheConstants.{LONGEST_HISTORY}
 use Rattle.satip_base.specs.declared.network.Peer.{Peer}
 use Rattle.satip_base.specs.declared.identity.Draw.{Draw}
-use Rattle.satip_history.specs.Lists.{Each}
+use Rattle.satip_base.specs.Lists.{Each}
 use Rattle.satip_plain.specs.Histories.{Item}
 use Rattle.satip_world.specs.declared.doors.ConnEnd.{ConnEnd}
 use Rattle.satip_world.specs.declared.doors.ConnEnd.TheVariants.{Spent as conn_spent, Want as conn_wants}
@@ -11,7 +11,7 @@ use Rattle.satip_world.specs.declared.doors.DoorKind.{DoorKind}
 use Rattle.satip_world.specs.Counts.{Rises}
 use Rattle.satip_world.specs.Halls.{Hall, Arrival, Return, Moved, HandsBack}
 use Rattle.satip_world.specs.Lines.{Line, fresh_line}
-use Rattle.satip_service.specs.Known.{Known}
+use Rattle.satip_plain.specs.Known.{Known}
 use Rattle.satip_worker.specs.declared.worker.WorkerEnd.{WorkerEnd}
 use Rattle.satip_worker.specs.declared.worker.WorkerEnd.TheVariants.{Closed, DoorsFault, Spent, Want}
 use Rattle.satip_worker.specs.Answers.{ends_with_last}
@@ -20,7 +20,7 @@ use Rattle.satip_worker.specs.Ends.{LineEnds, is_unmade}
 use Rattle.satip_worker.specs.Progress.{Stage, Makes}
 use Rattle.satip_worker.specs.Served.{ConnRun, ServesConn}
 
--- what came, of what was handed back
+-- the arrival of a connection that was handed back
 abbrev pub arrival_of : Return → Arrival
 arrival_of r = record { kind = r.kind; peer = r.peer }
 
@@ -31,7 +31,7 @@ pub record ServesOne (conn_tells outlet_tells : Type 0) (kind : DoorKind) (peer 
   pub serves : ServesConn conn_tells outlet_tells kind peer drawn from to o n line later end
   pub back : HandsBack before after kind peer later end
 
--- a connection that came with nothing received and sent and was handed back, and the entries of its run
+-- a connection arrived with no byte received or sent, and was served and handed back; these are the entries of its run
 pub record ServedReturn (tells : Type 0) (drawn : ℕ → Draw) (from to : ℕ) (r : Return) (entries : List Item) : Type 0 where
   pub received : List ℕ
   pub sent : List ℕ
@@ -50,7 +50,7 @@ ServesAll tells drawn from to (r ∷ rs) entries = (between : ℕ) × (own other
 abbrev pub AreMade : List Return → Type 0
 AreMade returns = Each (λ r. is_unmade r.end ≡ false) returns
 
--- it made none of an event of the last
+-- the service made no entry of an event of the last connection
 pub record LastUnmade (end : ConnEnd) (returns : List Return) : Type 0 where
   pub before : List Return
   pub last : Return
@@ -84,14 +84,14 @@ pub record MemoryRefused (o n : Hall) (may_want : Bool) (returns : List Return) 
   pub may : may_want ≡ true
   pub last : LastUnmade conn_wants returns
 
--- why the worker ended
+-- the reason why the worker ended
 abbrev pub WorkerEnds : WorkerEnd → (o n : Hall) → (may_want : Bool) → Known → List Return → Type 0
 WorkerEnds Closed o n may_want known returns = DoorsEnded o n returns
 WorkerEnds DoorsFault o n may_want known returns = DoorsFailed o n returns
 WorkerEnds Spent o n may_want known returns = HistoryFull o n known returns
 WorkerEnds Want o n may_want known returns = MemoryRefused o n may_want returns
 
--- the connections that came by the doors were served, each handed back before the next came
+-- the connections that arrived at the doors were served, each handed back before the next arrived
 pub record ServesDoors (conn_tells outlet_tells : Type 0) (key : List ℕ) (stream : ℕ) (o n : Stage) (before after : Hall)
     (end : WorkerEnd) : Type 0 where
   pub returns : List Return

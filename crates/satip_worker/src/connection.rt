@@ -12,17 +12,17 @@ use crate::room::Room;
 use crate::rtsp::serve_rtsp;
 use satip_base::Peer;
 use satip_base::limits::LONGEST_HISTORY;
-use satip_service::Service;
+use satip_plain::Service;
 use satip_world::{Conn, ConnEnd, DoorKind, Outlet, Pacer};
 use std::sync::Wait;
 
-/// Serves a connection until its input ends, it was told what closes it, a receive or a send fails,
+/// Serves a connection until its input ends, its last answer closes it, a receive or a send fails,
 /// or the service makes no entry of an event.
 ///
-/// On an RTSP connection (RFC 2326) each message is one request, and what is no message is one
-/// more; the datagrams of each leave by the outlet, and its reply is sent. On an HTTP connection
-/// the first message is a GET (SAT>IP 1.2.2, 3.5.1); the packets of its session are sent as they
-/// come. Each message takes one draw. An idle connection waits.
+/// On an RTSP connection (RFC 2326) each message is one request, and bytes that are no message are
+/// one more. The datagrams of each request leave by the outlet, and its reply is sent. On an HTTP
+/// connection the first message is a GET (SAT>IP 1.2.2, 3.5.1); the packets of its session are sent
+/// as they arrive. Each message takes one draw. Blocks; pauses while the connection is idle.
 pub fn serve_connection<R: Wait + Sync, S: Service, C: Conn, O: Outlet, P: Pacer>(
     rt: &R,
     service: &mut S,
@@ -38,7 +38,7 @@ pub fn serve_connection<R: Wait + Sync, S: Service, C: Conn, O: Outlet, P: Pacer
     ensures free { (O.outbox outlet.new).held ≡ false }
     ensures same { S.same service.old service.new }
 
-    // What was made, received and sent, and why the connection ended.
+    // The entries, the bytes received and sent, and the reason of the end.
     ensures serves { (key : List ℕ) (stream from : ℕ) → draws.old ≡ before_draw key stream from
         → (to : ℕ) × (draws.new ≡ before_draw key stream to)
         × ServesConn C.tells O.tells kind peer (draw_at key stream) from to
@@ -46,11 +46,11 @@ pub fn serve_connection<R: Wait + Sync, S: Service, C: Conn, O: Outlet, P: Pacer
         (staged S.may_want S.known O.outbox service.new outlet.new)
         (C.line conn.old) (C.line conn.new) result }
 
-    // Where it ended well, no receive had failed.
+    // After `Done`, no receive had failed.
     ensures calm { result ≡ ConnEnd.Done → (C.line conn.new).receive_faults
         ≡ (C.line conn.old).receive_faults }
 
-    // When a fault ends it.
+    // The causes of the other ends.
     ensures read_fault { result ≡ ConnEnd.ReadFault
         → Rises (C.line conn.old).receive_faults (C.line conn.new).receive_faults }
     ensures write_fault { result ≡ ConnEnd.WriteFault

@@ -1,4 +1,4 @@
-//! What is drawn for each message.
+//! The random draws, one for each message.
 
 ghost use Rattle.std.specs.Prelude.{◌≡◌, ℕ, ◌+◌, List};
 ghost use Rattle.satip_worker.specs.Drawing.{draw_at, before_draw, StandsBefore};
@@ -27,7 +27,7 @@ impl Model for Draws {
 }
 
 impl Draws {
-    /// The draws of a stream, from its beginning.
+    /// Creates the draws of a stream, from its first word on.
     pub fn make(key: &[u8; 32], stream: u64) -> Draws
         ensures first { result ≡ before_draw key.now stream 0 }
     {
@@ -36,14 +36,14 @@ impl Draws {
         Draws { words }
     }
 
-    // What holds of the draws at all times.
+    // States the invariant of the draws; does nothing.
     pub(crate) fn known(&self)
         ensures stands { StandsBefore self.now }
     {
         let _ = &self.words;
     }
 
-    /// The next draw: three words of the stream, the last of them cut to 16 bits.
+    /// Returns the next draw: three words of the stream, the last of them cut to 16 bits.
     pub fn next(&mut self) -> Draw
         ensures drawn { (key : List ℕ) (stream : ℕ) (number : ℕ)
             → self.old ≡ before_draw key stream number

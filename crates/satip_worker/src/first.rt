@@ -1,20 +1,19 @@
-//! What is asked first on an HTTP connection (RFC 9112, section 2).
+//! The first request of an HTTP connection (RFC 9112, section 2).
 
 ghost use Rattle.std.specs.Prelude.{◌≡◌, ◌≢◌};
 ghost use Rattle.satip_frame.specs.Held.{new_framer};
 ghost use Rattle.satip_worker.specs.FirstAsked.{ReadsFirst};
 
 use satip_base::limits::PIECE;
-use satip_frame::{Break, Framer};
-use satip_hearing::{Next, Piece, next_asked};
+use satip_frame::{Break, Framer, Next, Piece, next_asked};
 use satip_http::HttpRequest;
 use satip_world::{Conn, Pacer, Received};
 use std::sync::Wait;
 
-/// What reading up to the first message came to.
+/// The outcome of reading up to the first message.
 #[derive(Clone, Copy, Debug, PartialEq, Eq)]
 pub(crate) enum First {
-    /// The first message, or what stands in place of one, asks this.
+    /// The request of the first message, or of bytes that are no message.
     Asked(HttpRequest),
     /// The input ended before.
     Ended,
@@ -22,7 +21,7 @@ pub(crate) enum First {
     Failed,
 }
 
-/// Receives up to the first message, or what stands in place of one.
+/// Receives up to the first message, or up to bytes that can't become one. Blocks.
 pub(crate) fn read_first<R: Wait + Sync, C: Conn, P: Pacer>(
     rt: &R,
     conn: &mut C,

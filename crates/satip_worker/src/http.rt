@@ -1,4 +1,4 @@
-//! One HTTP connection: a GET starts a session, whose packets are sent as they come, until the
+//! One HTTP connection: a GET starts a session, whose packets are sent as they arrive, until the
 //! session or the connection ends.
 
 ghost use Rattle.std.specs.Prelude.{◌≡◌, ℕ, List, false};
@@ -15,12 +15,12 @@ use crate::room::Room;
 use crate::turns::end_of;
 use satip_base::limits::PIECE;
 use satip_base::{Out, Peer, SessionId};
-use satip_service::Service;
+use satip_plain::Service;
 use satip_world::{Conn, ConnEnd, DoorKind, Outlet, Pacer, Received};
 use std::sync::Wait;
 
-// Pulls a session, and closes it where a send fails, or where nothing is queued and a receive fails
-// or the input ends. What comes in is dropped.
+// Pulls a session until it ends. Closes it if a send fails, or if nothing is queued and a receive
+// fails or the input ends. Drops the bytes that come in.
 fn stream<R: Wait + Sync, S: Service, C: Conn, O: Outlet, P: Pacer>(
     rt: &R,
     service: &mut S,
@@ -61,7 +61,7 @@ fn stream<R: Wait + Sync, S: Service, C: Conn, O: Outlet, P: Pacer>(
     unreachable!()
 }
 
-/// Serves an HTTP connection: its first message is a GET, and what follows it is dropped.
+/// Serves an HTTP connection: its first message is a GET, and all bytes after it are dropped.
 pub(crate) fn serve_http<R: Wait + Sync, S: Service, C: Conn, O: Outlet, P: Pacer>(
     rt: &R,
     service: &mut S,

@@ -11,41 +11,40 @@ use crate::draws::Draws;
 use crate::turns::{end_of, make};
 use satip_base::{Out, Peer, Put, SessionId};
 use satip_http::HttpRequest;
-use satip_plain::{Answer, Event, GetAnswer, Pulled};
-use satip_service::{Service, ServiceFault};
+use satip_plain::{Answer, Event, GetAnswer, Pulled, Service, ServiceFault};
 use satip_world::{Conn, ConnEnd, Outlet};
 
-/// What a GET came to.
+/// The outcome of a GET.
 #[derive(Clone, Copy, Debug, PartialEq, Eq)]
 pub(crate) enum Getting {
     /// A session started, and its head was sent.
     Started(SessionId),
-    /// A session started, and a beginning of its head was sent.
+    /// A session started, and a prefix of its head was sent.
     StartCut(SessionId),
     /// A refusal was sent.
     Refused,
-    /// A beginning of a refusal was sent.
+    /// A prefix of a refusal was sent.
     RefusalCut,
-    /// It has no entry.
+    /// The GET has no entry.
     Unmade(ServiceFault),
 }
 
-/// What a pull came to.
+/// The outcome of a pull.
 #[derive(Clone, Copy, Debug, PartialEq, Eq)]
 pub(crate) enum Pulling {
     /// Packets were sent.
     Sent,
-    /// A beginning of some packets was sent.
+    /// A prefix of some packets was sent.
     Cut,
-    /// None were queued.
+    /// No packet was queued.
     Empty,
     /// No such session lives.
     Gone,
-    /// It has no entry.
+    /// The pull has no entry.
     Unmade(ServiceFault),
 }
 
-/// Makes the GET, and sends its head or its refusal.
+/// Executes the GET, and sends its head or its refusal.
 pub(crate) fn get<S: Service, C: Conn, O: Outlet>(
     service: &mut S,
     peer: Peer,
@@ -89,7 +88,7 @@ pub(crate) fn get<S: Service, C: Conn, O: Outlet>(
     }
 }
 
-/// Makes a pull, and sends what it moved.
+/// Executes a pull, and sends the packets that it moved.
 pub(crate) fn pull<S: Service, C: Conn, O: Outlet>(
     service: &mut S,
     session: SessionId,
@@ -119,7 +118,7 @@ pub(crate) fn pull<S: Service, C: Conn, O: Outlet>(
     }
 }
 
-/// Closes the session for a reason, which is how the connection then ends.
+/// Closes the session. Returns `cause` as the end of the connection, unless the close has no entry.
 pub(crate) fn close<S: Service, O: Outlet>(
     service: &mut S,
     session: SessionId,

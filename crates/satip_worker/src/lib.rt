@@ -1,4 +1,8 @@
-//! Workers: each serves connections one after another, over any service.
+//! Serves RTSP and HTTP connections, one after another, over any service.
+//! Contract: the entries of a connection are the first requests in the bytes that it received, with
+//! one draw each; the bytes that were sent are their replies, in order.
+//! Only tested: that a pause follows when nothing comes in; that a reply leaves after the datagrams
+//! of its request.
 #![tactic(auto)]
 
 mod connection;
@@ -6,7 +10,6 @@ mod draws;
 mod first;
 mod http;
 mod http_turns;
-mod kits;
 mod room;
 mod rtsp;
 mod turns;
@@ -14,6 +17,7 @@ mod worker;
 
 pub use connection::serve_connection;
 pub use draws::Draws;
-pub use kits::WorkerKit;
 pub use room::Room;
+pub use satip_desk::{PumpKit, TickKit};
+pub use satip_pump::{Batch, JobEnd, run_pump, run_ticker};
 pub use worker::{WorkerEnd, run_worker};

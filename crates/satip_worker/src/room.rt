@@ -8,7 +8,7 @@ use satip_base::{Out, Want};
 use satip_frame::Framer;
 use std::alloc::Global;
 
-/// A framer for what comes in, and an `Out` for what each event writes.
+/// A framer for the bytes that come in, and an `Out` for the output of each event.
 #[derive(Drop)]
 pub struct Room {
     pub framer: Framer,
@@ -16,7 +16,7 @@ pub struct Room {
 }
 
 impl Room {
-    /// Takes all the memory that serving connections one after another needs.
+    /// Takes all the memory for serving connections one after another.
     pub fn make(alloc: Global) -> Result<Room, Want>
         ensures framer { IfOk result (λ room. room.framer ≡ new_framer) }
         ensures out { IfOk result (λ room. room.out ≡ empty) }

@@ -3,7 +3,7 @@
 ghost use Rattle.std.specs.Prelude.{◌≡◌, ◌+◌, ℕ, List, ◌++◌, None, false};
 ghost use Rattle.satip_frame.specs.Held.{new_framer};
 ghost use Rattle.satip_plain.specs.declared.events.Event.{Event};
-ghost use Rattle.satip_service.specs.Suits.{closes};
+ghost use Rattle.satip_plain.specs.Suits.{closes};
 ghost use Rattle.satip_worker.specs.Drawing.{draw_at, before_draw};
 ghost use Rattle.satip_worker.specs.Turns.{Turns};
 ghost use Rattle.satip_worker.specs.Hearing.{Course, Stands, Hears};
@@ -15,15 +15,13 @@ use crate::room::Room;
 use crate::turns::{Heard, Turn, end_of, make};
 use satip_base::limits::PIECE;
 use satip_base::{Out, Peer, Put};
-use satip_frame::Break;
-use satip_hearing::{Next, Piece, next_asked};
-use satip_plain::Event;
+use satip_frame::{Break, Next, Piece, next_asked};
+use satip_plain::{Event, Service};
 use satip_rtsp::Request;
-use satip_service::Service;
 use satip_world::{Conn, ConnEnd, DoorKind, Outlet, Pacer, Received};
 use std::sync::Wait;
 
-// Makes one request, and sends its reply.
+// Executes one request with the next draw, and sends its reply.
 fn turn<S: Service, C: Conn, O: Outlet>(
     service: &mut S,
     peer: Peer,
@@ -63,7 +61,7 @@ fn turn<S: Service, C: Conn, O: Outlet>(
     }
 }
 
-// Takes in a piece behind what came before, and answers all that is asked.
+// Appends a piece to the bytes that came before, and answers all its requests.
 fn hear<S: Service, C: Conn, O: Outlet>(
     service: &mut S,
     peer: Peer,
@@ -108,8 +106,8 @@ fn hear<S: Service, C: Conn, O: Outlet>(
     }
 }
 
-/// Serves an RTSP connection: the messages that come in are answered in order, until the input
-/// ends, a closing reply was sent, a receive or a send fails, or an event has no entry.
+/// Serves an RTSP connection. Answers its messages in order, until the input ends, a closing reply
+/// was sent, a receive or a send fails, or an event has no entry.
 pub(crate) fn serve_rtsp<R: Wait + Sync, S: Service, C: Conn, O: Outlet, P: Pacer>(
     rt: &R,
     service: &mut S,

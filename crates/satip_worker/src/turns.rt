@@ -1,30 +1,29 @@
-//! One event of a connection: it is made, its datagrams leave, and its reply is sent.
+//! One event of a connection: it is executed, its datagrams leave, and its reply is sent.
 
 ghost use Rattle.std.specs.Prelude.{◌≡◌, ◌∷◌, [], true, false};
 ghost use Rattle.satip_plain.specs.declared.events.Event.{Event};
 ghost use Rattle.satip_plain.specs.declared.answers.Answer.{Answer};
-ghost use Rattle.satip_service.specs.Calls.{Cause};
+ghost use Rattle.satip_plain.specs.Calls.{Cause};
 ghost use Rattle.satip_worker.specs.Ends.{end_of};
 ghost use Rattle.satip_worker.specs.Making.{MakesEvent};
 ghost use Rattle.satip_worker.specs.Progress.{staged};
 
 use satip_base::Out;
-use satip_plain::{Answer, Event};
-use satip_service::{Service, ServiceFault};
+use satip_plain::{Answer, Event, Service, ServiceFault};
 use satip_world::{ConnEnd, Outlet, post_all};
 
-/// What an event came to whose reply was to be sent.
+/// The outcome of an event with a reply.
 #[derive(Clone, Copy, Debug, PartialEq, Eq)]
 pub(crate) enum Turn {
     /// Its reply was sent.
     Sent,
-    /// A beginning of its reply was sent.
+    /// A prefix of its reply was sent.
     Lost,
-    /// It has no entry.
+    /// The event has no entry.
     Unmade(ServiceFault),
 }
 
-/// What hearing some bytes came to.
+/// The outcome of hearing some bytes.
 #[derive(Clone, Copy, Debug, PartialEq, Eq)]
 pub(crate) enum Heard {
     /// All whole messages were answered.
@@ -37,7 +36,7 @@ pub(crate) enum Heard {
     Unmade(ServiceFault),
 }
 
-/// How a connection ends where an event has no entry.
+/// Returns the end of a connection if an event has no entry.
 pub(crate) fn end_of(fault: ServiceFault) -> ConnEnd
     ensures end { result ≡ end_of fault }
 {
@@ -47,7 +46,7 @@ pub(crate) fn end_of(fault: ServiceFault) -> ConnEnd
     }
 }
 
-/// Makes an event, and sends its datagrams before those of later events.
+/// Executes an event and sends its datagrams, with the outlet's lock held.
 pub(crate) fn make<S: Service, O: Outlet>(
     service: &mut S,
     event: &Event,
@@ -68,7 +67,7 @@ pub(crate) fn make<S: Service, O: Outlet>(
     made
 }
 
-// Makes an event, and sends its datagrams.
+// Executes an event and sends its datagrams.
 fn call_and_post<S: Service, O: Outlet>(
     service: &mut S,
     event: &Event,

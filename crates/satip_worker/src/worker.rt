@@ -9,11 +9,11 @@ ghost use Rattle.satip_worker.specs.Progress.{staged};
 
 use crate::connection::serve_connection;
 use crate::draws::Draws;
-use crate::kits::WorkerKit;
 use crate::room::Room;
 use satip_base::Peer;
 use satip_base::limits::LONGEST_HISTORY;
-use satip_service::Service;
+use satip_desk::WorkerKit;
+use satip_plain::Service;
 use satip_world::{ConnEnd, Door, DoorKind, Doors, Outlet, Pacer};
 use std::sync::Wait;
 
@@ -26,11 +26,11 @@ pub enum WorkerEnd {
     DoorsFault,
     /// The history of the server is full.
     Spent,
-    /// There was no memory.
+    /// Memory was refused.
     Want,
 }
 
-// Serves a connection that came, and hands it back.
+// Serves a connection that arrived, and hands it back.
 fn serve_one<R: Wait + Sync, S: Service, D: Doors, O: Outlet, P: Pacer>(
     rt: &R,
     service: &mut S,
@@ -67,9 +67,9 @@ fn serve_one<R: Wait + Sync, S: Service, D: Doors, O: Outlet, P: Pacer>(
     end
 }
 
-/// Serves the connections that come by the doors of the kit one after another, and hands each back
-/// before it asks for the next, until the doors end or fail, or the service makes no entry of an
-/// event. What it draws is a stream of the kit's key, by its number.
+/// Serves the connections that arrive at the kit's doors, one after another. Hands each back before
+/// it asks for the next. Ends when the doors end or fail, or when the service makes no entry of an
+/// event. Draws from the stream `number` of the kit's key. Blocks.
 pub fn run_worker<R: Wait + Sync, S: Service, D: Doors, O: Outlet, P: Pacer>(
     rt: &R,
     service: &mut S,
@@ -82,13 +82,13 @@ pub fn run_worker<R: Wait + Sync, S: Service, D: Doors, O: Outlet, P: Pacer>(
     ensures same { S.same service.old service.new }
     ensures key { kit.new.key ≡ kit.old.key }
 
-    // What was made, which connections came and were handed back, and why the worker ended.
+    // The entries, the connections that arrived and were handed back, and the reason of the end.
     ensures serves { ServesDoors D.Conn.tells O.tells kit.old.key number
         (staged S.may_want S.known O.outbox service.old kit.old.outlet)
         (staged S.may_want S.known O.outbox service.new kit.new.outlet)
         (D.hall kit.old.doors) (D.hall kit.new.doors) result }
 
-    // When each end comes.
+    // The cause of each end.
     ensures closed { (result ≡ WorkerEnd.Closed) ↔ ((D.hall kit.new.doors).ended ≡ true) }
     ensures at_limit { result ≡ WorkerEnd.Closed → D.by_limit → IsAtLimit (D.hall kit.new.doors) }
     ensures doors_fault { result ≡ WorkerEnd.DoorsFault

@@ -2,16 +2,16 @@
 use Rattle.std.proofs.Common.{◌≡◌, ℕ, ◌-◌, Bool, true, false, List, [], ◌∷◌, ◌++◌, length, ap, sym, ◌∙◌, arith, refl, inl, lit≤, Option, Some, None, Ok, Err, is_some}
 use Rattle.std.proofs.lemmas.List.{append-nil}
 use Rattle.satip_base.specs.Output.{Output, Wrote}
-use Rattle.satip_history.specs.History.{entry}
+use Rattle.satip_base.specs.History.{entry}
 use Rattle.satip_plain.specs.declared.answers.Answer.{Answer}
 use Rattle.satip_plain.specs.declared.events.Event.{Event}
 use Rattle.satip_plain.specs.Histories.{Item}
-use Rattle.satip_service.specs.Known.{AddsNone}
-use Rattle.satip_history.specs.declared.entry.Taken.{Taken}
-use Rattle.satip_service.proofs.Growing.{adds_nothing}
-use Rattle.satip_service.specs.declared.fault.ServiceFault.TheVariants.{Want}
-use Rattle.satip_service.specs.Calls.{Made, Bursts}
-use Rattle.satip_service.specs.Suits.{Suits}
+use Rattle.satip_plain.specs.Known.{AddsNone}
+use Rattle.satip_base.specs.declared.entry.Taken.{Taken}
+use Rattle.satip_plain.proofs.Growing.{adds_nothing}
+use Rattle.satip_plain.specs.declared.fault.ServiceFault.TheVariants.{Want}
+use Rattle.satip_plain.specs.Calls.{Made, Bursts}
+use Rattle.satip_plain.specs.Suits.{Suits}
 use Rattle.satip_worker_tests.specs.WorkerScripts.{known_of, begun, out_of, reply_text}
 
 pub made_next : (h i : List Item) (event : Event) (answer : Answer) (out : Output) → i ≡ h ++ entry 0 event answer out ∷ [] → Suits event answer

@@ -12,7 +12,7 @@ use Rattle.satip_plain.specs.declared.events.Event.{Event}
 use Rattle.satip_plain.specs.declared.events.Event.TheVariants.{Request as Asks, Get, Pull, Close}
 use Rattle.satip_plain.specs.declared.setting.Setting.{Setting}
 use Rattle.satip_plain.specs.Histories.{Item}
-use Rattle.satip_service.specs.Known.{Known}
+use Rattle.satip_plain.specs.Known.{Known}
 
 abbrev pub test_setting : Setting
 test_setting = record {

@@ -1,4 +1,4 @@
-//! Connections and workers over memory and a scripted service, by example: tests alone.
+//! Tests connections and workers over memory and a scripted service.
 #![tactic(auto)]
 
 #[cfg(test)]

@@ -4,6 +4,7 @@ ghost use Rattle.std.specs.Prelude.{◌≡◌, false};
 mod script;
 
 use satip_base::{Draw, Peer};
+use satip_desk::WorkerKit;
 use satip_fixtures::texts::{is_joined, joined};
 use satip_memory::{MemoryConn, MemoryDoors, MemoryOutlet, MemoryPacer};
 use satip_plain::Pulled;

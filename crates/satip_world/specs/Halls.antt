@@ -1,4 +1,4 @@
--- What doors show, and what one call of them does.
+-- Doors as contracts see them, and the effect of one call.
 use Rattle.std.specs.Prelude.{◌≡◌, ◌≢◌, ℕ, ◌<◌, ◌≤◌, ◌⊎◌, Bool, true, false, List, [], ◌∷◌, ◌++◌}
 use Rattle.satip_base.specs.declared.network.Peer.{Peer}
 use Rattle.satip_world.specs.declared.doors.DoorKind.{DoorKind}
@@ -8,20 +8,20 @@ use Rattle.satip_world.specs.declared.doors.Door.TheVariants.{Came, Idle, End, F
 use Rattle.satip_world.specs.Counts.{Rises, RisesByOne}
 use Rattle.satip_world.specs.Lines.{Line, fresh_line}
 
--- a connection that came: what is spoken on it, and who is at its other end
+-- a connection that was accepted: its protocol and its client
 pub record Arrival : Type 0 where
   pub kind : DoorKind
   pub peer : Peer
 
--- a connection that was handed back: what came, what the connection then showed, and how its service ended
+-- a connection that was handed back: its protocol and its client, its line at that time, and the end of its service
 pub record Return : Type 0 where
   pub kind : DoorKind
   pub peer : Peer
   pub line : Line
   pub end : ConnEnd
 
--- doors: after how many connections they end (no number where it's 0), how many came, whether they ended, how often none had
--- come, how often they failed, and, where that is told, the connections that came and that were handed back
+-- doors: the count of connections after which they end (0: no limit), the count accepted, whether they ended, the counts of idles and faults;
+-- `told`: whether the connections that were accepted and handed back are exposed
 pub record Hall : Type 0 where
   pub limit : ℕ
   pub count : ℕ
@@ -32,18 +32,18 @@ pub record Hall : Type 0 where
   pub given : List Arrival
   pub returned : List Return
 
--- no connection came yet
+-- doors without a connection yet
 abbrev pub fresh_hall : ℕ → Bool → Hall
 fresh_hall limit told =
     record { limit = limit; count = 0; ended = false; idles = 0; faults = 0; told = told; given = []; returned = [] }
 
--- these connections came and these were handed back; doors that no longer tell them don't tell them again
+-- these connections were accepted and these were handed back; doors that stop exposing them never expose them again
 pub record Moved (o n : Hall) (came : List Arrival) (left : List Return) : Type 0 where
   pub told : n.told ≡ true → o.told ≡ true
   pub given : n.told ≡ true → n.given ≡ o.given ++ came
   pub returned : n.told ≡ true → n.returned ≡ o.returned ++ left
 
--- a connection came, within the limit
+-- a connection was accepted, within the limit
 pub record LetIn (o n : Hall) (kind : DoorKind) (peer : Peer) (line : Line) : Type 0 where
   pub before : o.ended ≡ false
   pub after : n.ended ≡ false
@@ -65,12 +65,12 @@ pub record HadNone (o n : Hall) : Type 0 where
   pub faults : n.faults ≡ o.faults
   pub content : Moved o n [] []
 
--- there is a limit, and so many connections came
+-- there is a limit, and that many connections were accepted
 pub record IsAtLimit (hall : Hall) : Type 0 where
   pub some : hall.limit ≢ 0
   pub reached : hall.limit ≤ hall.count
 
--- no further connection comes, for good; doors that end by their limit alone are at it
+-- no further connection comes, ever; doors that end by their limit alone are at it
 pub record Shut (by_limit : Type 0) (o n : Hall) : Type 0 where
   pub after : n.ended ≡ true
   pub at_limit : by_limit → IsAtLimit n
@@ -90,14 +90,14 @@ pub record FailedToOpen (o n : Hall) : Type 0 where
   pub faults : Rises o.faults n.faults
   pub content : Moved o n [] []
 
--- one call of `next`, where a connection shows its line
+-- the effect of one call of `next`; `line` is what a connection exposes
 abbrev pub Opens : {C : Type 0} → (by_limit : Type 0) → (C → Line) → (o n : Hall) → Door C → Type 0
 Opens by_limit line o n (Came kind peer conn) = LetIn o n kind peer (line conn)
 Opens by_limit line o n Idle = HadNone o n
 Opens by_limit line o n End = Shut by_limit o n
 Opens by_limit line o n Failed = FailedToOpen o n
 
--- one call of `back`
+-- the effect of one call of `back`
 pub record HandsBack (o n : Hall) (kind : DoorKind) (peer : Peer) (line : Line) (end : ConnEnd) : Type 0 where
   pub ended : n.ended ≡ o.ended
   pub limit : n.limit ≡ o.limit

@@ -5,3 +5,4 @@ pub mod Deliveries
 pub mod Recordings
 pub mod Dials
 pub mod Halls
+pub mod Inboxes

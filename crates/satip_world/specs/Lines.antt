@@ -1,4 +1,4 @@
--- What a connection shows, and what one call of it does.
+-- A connection as contracts see it, and the effect of one call.
 use Rattle.std.specs.Prelude.{◌≡◌, ℕ, ◌≤◌, Bool, true, false, List, [], ◌++◌, length, take}
 use Rattle.satip_base.specs.declared.streams.Put.{Put}
 use Rattle.satip_base.specs.declared.streams.Put.TheVariants.{Whole, Failed as send_failed}
@@ -6,8 +6,7 @@ use Rattle.satip_world.specs.declared.connections.Received.{Received}
 use Rattle.satip_world.specs.declared.connections.Received.TheVariants.{Got, Idle, End, Failed as receive_failed}
 use Rattle.satip_world.specs.Counts.{Rises}
 
--- a connection: the bytes that were received and that were sent, whether its input ended, how often nothing had come in, and
--- how often a receive and a send failed
+-- a connection: the bytes received and sent, whether its input ended, the count of idles, and the counts of failed receives and sends
 pub record Line : Type 0 where
   pub received : List ℕ
   pub sent : List ℕ
@@ -16,11 +15,11 @@ pub record Line : Type 0 where
   pub receive_faults : ℕ
   pub send_faults : ℕ
 
--- nothing came in and nothing went out yet
+-- a connection that has received and sent nothing yet
 abbrev pub fresh_line : Line
 fresh_line = record { received = []; sent = []; ended = false; idles = 0; receive_faults = 0; send_faults = 0 }
 
--- these bytes were received and these were sent
+-- these bytes were received and these were sent, if the content is exposed
 pub record Grew (tells : Type 0) (o n : Line) (got put : List ℕ) : Type 0 where
   pub received : tells → n.received ≡ o.received ++ got
   pub sent : tells → n.sent ≡ o.sent ++ put
@@ -31,7 +30,7 @@ pub record SameCounts (o n : Line) : Type 0 where
   pub receive_faults : n.receive_faults ≡ o.receive_faults
   pub send_faults : n.send_faults ≡ o.send_faults
 
--- so many bytes came in, and stand at the front of the buffer
+-- `count` bytes were received and are at the front of the buffer
 pub record GotBytes (tells : Type 0) (o n : Line) (buf : List ℕ) (count : ℕ) : Type 0 where
   pub some : 1 ≤ count
   pub within : count ≤ length buf
@@ -40,7 +39,7 @@ pub record GotBytes (tells : Type 0) (o n : Line) (buf : List ℕ) (count : ℕ)
   pub counts : SameCounts o n
   pub content : Grew tells o n (take count buf) []
 
--- nothing came in
+-- nothing was received
 pub record WasIdle (tells : Type 0) (o n : Line) : Type 0 where
   pub before : o.ended ≡ false
   pub after : n.ended ≡ false
@@ -49,7 +48,7 @@ pub record WasIdle (tells : Type 0) (o n : Line) : Type 0 where
   pub send_faults : n.send_faults ≡ o.send_faults
   pub content : Grew tells o n [] []
 
--- the input is at its end, for good
+-- the input has ended, for ever
 pub record InputEnded (tells : Type 0) (o n : Line) : Type 0 where
   pub after : n.ended ≡ true
   pub counts : SameCounts o n
@@ -64,7 +63,7 @@ pub record ReceiveFailed (tells : Type 0) (o n : Line) : Type 0 where
   pub send_faults : n.send_faults ≡ o.send_faults
   pub content : Grew tells o n [] []
 
--- one call of `receive`, with the buffer as the call leaves it
+-- the effect of one call of `receive`, with the buffer as the call leaves it
 abbrev pub Receives : (tells : Type 0) (o n : Line) (buf : List ℕ) → Received → Type 0
 Receives tells o n buf (Got count) = GotBytes tells o n buf count
 Receives tells o n buf Idle = WasIdle tells o n
@@ -77,7 +76,7 @@ pub record SentAll (tells : Type 0) (o n : Line) (bytes : List ℕ) : Type 0 whe
   pub counts : SameCounts o n
   pub content : Grew tells o n [] bytes
 
--- a send failed, and a beginning of the bytes was sent
+-- a send failed, and a prefix of the bytes was sent
 pub record SendFailed (tells : Type 0) (o n : Line) (bytes : List ℕ) : Type 0 where
   pub part : List ℕ
   pub rest : List ℕ
@@ -88,7 +87,7 @@ pub record SendFailed (tells : Type 0) (o n : Line) (bytes : List ℕ) : Type 0 
   pub send_faults : Rises o.send_faults n.send_faults
   pub content : Grew tells o n [] part
 
--- one call of `send`
+-- the effect of one call of `send`
 abbrev pub Sends : (tells : Type 0) (o n : Line) (bytes : List ℕ) → Put → Type 0
 Sends tells o n bytes Whole = SentAll tells o n bytes
 Sends tells o n bytes send_failed = SendFailed tells o n bytes

@@ -1,4 +1,4 @@
--- What an outlet shows, and what one call of it does.
+-- An outlet as contracts see it, and the effect of one call.
 use Rattle.std.specs.Prelude.{◌≡◌, ℕ, Bool, true, false, List, [], ◌∷◌, ◌++◌}
 use Rattle.satip_base.specs.Output.{Datagram}
 use Rattle.satip_base.specs.declared.network.Address.{Address}
@@ -6,21 +6,21 @@ use Rattle.satip_base.specs.declared.streams.Put.{Put}
 use Rattle.satip_base.specs.declared.streams.Put.TheVariants.{Whole, Failed}
 use Rattle.satip_world.specs.Counts.{Rises}
 
--- an outlet: the datagrams that were sent, how often a send failed, and whether it holds the lock of its socket
+-- an outlet: the datagrams sent, the count of failed sends, and whether it holds the lock of its socket
 pub record Outbox : Type 0 where
   pub sent : List Datagram
   pub faults : ℕ
   pub held : Bool
 
--- nothing was sent yet
+-- an outlet that has sent nothing yet
 abbrev pub fresh_outbox : Outbox
 fresh_outbox = record { sent = []; faults = 0; held = false }
 
--- it takes the lock, and nothing else changes
+-- the outlet after it took the lock; nothing else changes
 abbrev pub locked : Outbox → Outbox
 locked o = record o { held = true }
 
--- it gives the lock back, where it holds it, and nothing else changes
+-- the outlet after it gave the lock back, if it held it; nothing else changes
 abbrev pub unlocked : Outbox → Outbox
 unlocked o = record o { held = false }
 
@@ -36,7 +36,7 @@ pub record FailedToPost (tells : Type 0) (o n : Outbox) : Type 0 where
   pub faults : Rises o.faults n.faults
   pub content : tells → n.sent ≡ o.sent
 
--- one call of `send`
+-- the effect of one call of `send`
 abbrev pub Posts : (tells : Type 0) (o n : Outbox) (to : Address) (bytes : List ℕ) → Put → Type 0
 Posts tells o n to bytes Whole = Posted tells o n to bytes
 Posts tells o n to bytes Failed = FailedToPost tells o n

@@ -2,26 +2,26 @@
 
 ghost use Rattle.std.specs.Prelude.{ℕ};
 
-/// What tells the time.
+/// A source of the time.
 pub trait Clock {
     ghost use Rattle.satip_world.specs.Dials.{Dial, Reads};
 
-    // What was read so far, and whether that is told.
+    // The readings so far, and whether they are exposed.
     ghost dial: { Self → Dial };
 
-    /// Milliseconds of Unix time. It may fall from one reading to the next.
+    /// Returns the time in milliseconds of Unix time. It may be less than the time before.
     fn now(&mut self) -> u64
         ensures reads { Reads (dial self.old) (dial self.new) result };
 }
 
-/// What a thread that has nothing to do waits on for a while.
+/// A pause for a thread that has nothing to do.
 pub trait Pacer {
     ghost use Rattle.satip_world.specs.Counts.{Rises};
 
-    // How many pauses were made.
+    // The count of pauses, which saturates.
     ghost pauses: { Self → ℕ };
 
-    /// Lets some time go by.
+    /// Waits for some time.
     fn pause(&mut self)
         ensures pauses { Rises (pauses self.old) (pauses self.new) };
 }

@@ -1,17 +1,17 @@
-//! Connections: bytes come in and go out.
+//! Connections: bytes are received and sent.
 
 ghost use Rattle.std.specs.Prelude.{◌≤◌, length};
 
 use satip_base::Put;
 
-/// What a call of `receive` answers.
+/// The result of a call of `receive`.
 #[derive(Clone, Copy, Debug, PartialEq, Eq)]
 pub enum Received {
-    /// So many bytes stand at the front of the buffer; at least one.
+    /// The count of bytes at the front of the buffer; a connection gives at least one.
     Got(usize),
-    /// Nothing came in yet, and the count of idles rose.
+    /// Nothing was received yet, and the count of idles rose.
     Idle,
-    /// Nothing more comes in, now and at each later call.
+    /// The input has ended: nothing more is received, by this call and each later one.
     End,
     /// The connection failed, and its count of failed receives rose. Nothing was received.
     Failed,
@@ -21,18 +21,18 @@ pub enum Received {
 pub trait Conn {
     ghost use Rattle.satip_world.specs.Lines.{Line, Receives, Sends};
 
-    // What is told of the content where this fact holds: always, or never.
+    // The fact under which the content is exposed: it holds always or never.
     ghost tells: { Type 0 };
 
-    // The bytes that were received and sent, whether the input ended, and the counts.
+    // The bytes received and sent, whether the input ended, and the counts.
     ghost line: { Self → Line };
 
-    /// Takes some of what came in into the front of the buffer, which isn't empty.
+    /// Receives some bytes into the front of the buffer, which isn't empty.
     fn receive(&mut self, buf: &mut [u8]) -> Received
         requires room { 1 ≤ length buf.old }
         ensures receives { Receives tells (line self.old) (line self.new) buf.new result };
 
-    /// Sends bytes behind those that were sent before.
+    /// Sends bytes after those that were sent before.
     fn send(&mut self, bytes: &[u8]) -> Put
         ensures sends { Sends tells (line self.old) (line self.new) bytes.now result };
 }

@@ -1,11 +1,11 @@
-//! Doors: connections come in by them, and are handed back.
+//! Doors: they accept connections and take them back.
 
 ghost use Rattle.std.specs.Prelude.{ℕ};
 
 use crate::connections::Conn;
 use satip_base::Peer;
 
-/// What is spoken on a connection.
+/// The protocol of a connection.
 #[derive(Clone, Copy, Debug, PartialEq, Eq)]
 pub enum DoorKind {
     Rtsp,
@@ -15,7 +15,7 @@ pub enum DoorKind {
 /// How the service of a connection ended.
 #[derive(Clone, Copy, Debug, PartialEq, Eq)]
 pub enum ConnEnd {
-    /// Its input ended, or it was told what closes it.
+    /// Its input ended, or it was sent a reply that closes it.
     Done,
     /// A receive failed.
     ReadFault,
@@ -23,43 +23,42 @@ pub enum ConnEnd {
     WriteFault,
     /// The history of the server is full.
     Spent,
-    /// There was no memory.
+    /// Out of memory.
     Want,
 }
 
-/// What a call of `next` answers.
+/// The result of a call of `next`.
 #[derive(Drop)]
 pub enum Door<C> {
-    /// A connection: what is spoken on it, and who is at its other end.
+    /// A connection, with its protocol and its client.
     Came { kind: DoorKind, peer: Peer, conn: C },
     /// No connection came yet, and the count of idles rose.
     Idle,
-    /// No further connection comes, now and at each later call.
+    /// No further connection comes, by this call and each later one.
     End,
     /// The doors failed, and their count of faults rose.
     Failed,
 }
 
-/// Where connections come from.
+/// A source of connections.
 pub trait Doors {
     ghost use Rattle.satip_world.specs.Halls.{Hall, Opens, HandsBack};
 
-    /// A connection that comes by these doors.
+    /// The type of the connections of these doors.
     type Conn: Conn + Drop + Send;
 
-    // The limit, the connections that came and that were handed back, whether the doors ended,
-    // and the counts.
+    // The limit, the connections accepted and handed back, whether the doors ended, and the counts.
     ghost hall: { Self → Hall };
 
-    // Where this fact holds, always or never, the doors end by their limit alone, and so never
-    // where it is 0.
+    // A fact that holds always or never. If it holds, the doors end by their limit alone, and so
+    // never if the limit is 0.
     ghost by_limit: { Type 0 };
 
-    /// Waits a while for the next connection. It comes with nothing received and nothing sent.
+    /// Waits for a while for the next connection. A new connection has received and sent nothing.
     fn next(&mut self) -> Door<Self::Conn>
         ensures opens { Opens by_limit Self.Conn.line (hall self.old) (hall self.new) result };
 
-    /// Takes a connection back, and how its service ended.
+    /// Takes a connection back, with the end of its service.
     fn back(&mut self, conn: Self::Conn, kind: DoorKind, peer: Peer, end: ConnEnd)
         ensures back { HandsBack (hall self.old) (hall self.new) kind peer (Self.Conn.line conn)
             end };

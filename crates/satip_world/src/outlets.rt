@@ -1,30 +1,29 @@
-//! Outlets: datagrams go out (RFC 3550 over UDP).
+//! Outlets: they send datagrams (RFC 3550 over UDP).
 
 ghost use Rattle.std.specs.Prelude.{◌≡◌, ◌<◌, ◌∷◌, [], length, true, IsSomeAnd, slice_get};
 ghost use Rattle.satip_world.specs.Deliveries.{Delivers};
 
 use satip_base::{Address, Out, Put};
 
-/// Where datagrams are sent from.
+/// A sender of datagrams.
 pub trait Outlet {
     ghost use Rattle.std.specs.Prelude.{true, false};
     ghost use Rattle.satip_world.specs.Outboxes.{Outbox, Posts, locked, unlocked};
 
-    // What is told of the content where this fact holds: always, or never.
+    // The fact under which the content is exposed: it holds always or never.
     ghost tells: { Type 0 };
 
-    // The datagrams that were sent, how often a send failed, and whether it holds the lock.
+    // The datagrams sent, the count of failed sends, and whether it holds the lock.
     ghost outbox: { Self → Outbox };
 
-    /// Begins an event whose datagrams are to leave before those of later events. Other outlets of
-    /// the same socket wait in their `lock` until `unlock`; an outlet of its own has none to wait
-    /// for.
+    /// Begins an event. Other outlets of the same socket wait in their `lock` until `unlock`. An
+    /// outlet with a separate socket has none to wait for.
     fn lock(&mut self)
         requires free { (outbox self.old).held ≡ false }
         ensures locked { outbox self.new ≡ locked (outbox self.old) };
 
-    /// Ends what `lock` began: the event's datagrams were sent. Where nothing was begun it does
-    /// nothing.
+    /// Ends the event that `lock` began, after its datagrams were sent. Does nothing if no event
+    /// was begun.
     fn unlock(&mut self)
         ensures unlocked { outbox self.new ≡ unlocked (outbox self.old) };
 
@@ -34,7 +33,7 @@ pub trait Outlet {
         ensures posts { Posts tells (outbox self.old) (outbox self.new) to bytes.now result };
 }
 
-/// Sends the datagrams of an event, in order. One that can't be sent is left out.
+/// Sends the datagrams of an event, in order. Leaves out those that can't be sent.
 pub fn post_all<O: Outlet>(out: &Out, outlet: &mut O)
     requires held { (O.outbox outlet.old).held ≡ true }
     ensures held { (O.outbox outlet.new).held ≡ true }

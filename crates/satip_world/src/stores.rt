@@ -9,12 +9,12 @@ use satip_base::{Failed, Source};
 pub trait MuxStore {
     ghost use Rattle.satip_world.specs.Recordings.{IsStarted, StoreView};
 
-    /// What a recording is read from.
+    /// The type of the sources from which a recording is read.
     type From: Source + Drop + Send;
 
-    // The recording of each multiplex, where the store tells it; how often a start failed, or a
-    // source came back that had failed; how many sources are out, started and not taken back; and
-    // the most that ever were at once.
+    // The recording of each multiplex, if the store exposes it; the count of failed starts and of
+    // sources that came back after a fault; the count of sources that are lent, started and not
+    // taken back; and the highest such count.
     ghost shelf: { Self → StoreView };
 
     /// Opens the recording of a multiplex, from its beginning.
@@ -31,7 +31,8 @@ pub trait MuxStore {
             ≡ max (shelf self.old).peak (shelf self.new).lent) }
         ensures same_peak { OnErr result ((shelf self.new).peak ≡ (shelf self.old).peak) };
 
-    /// Takes a source back, whether or not it was read to its end.
+    /// Takes a source back, whether or not it was read to its end. A source that had a fault counts
+    /// as a fault of the store.
     fn back(&mut self, from: Self::From)
         ensures recordings { (shelf self.new).recording ≡ (shelf self.old).recording }
         ensures no_fault { (Self.From.feed from).faults ≡ 0

@@ -1,4 +1,4 @@
-//! The outside over memory, by example. It has nothing but tests.
+//! Tests the devices over memory: what each gives and keeps, and when it fails.
 #![tactic(auto)]
 
 #[cfg(test)]

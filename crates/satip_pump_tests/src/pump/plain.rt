@@ -4,8 +4,7 @@
 use super::script::Scripted;
 use satip_base::{Out, Source, Taken};
 use satip_memory::{MemoryRecording, MemoryStore};
-use satip_plain::{Answer, Event, Work};
-use satip_service::Service;
+use satip_plain::{Answer, Event, Service, Work};
 use satip_ts::{Cutter, Packet};
 use satip_world::MuxStore;
 use std::alloc::Global;

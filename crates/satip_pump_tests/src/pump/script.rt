@@ -2,13 +2,12 @@
 ghost use Rattle.std.proofs.Common.{rules};
 ghost use Rattle.std.proofs.lemmas.Grind.{common_steps};
 ghost use Rattle.std.specs.Prelude.{◌≡◌, ◌∷◌, ◌++◌, [], map, true, false, IsTrue, IfSome, MatchResult, refl};
-ghost use Rattle.satip_history.specs.History.{entry};
-ghost use Rattle.satip_service.specs.Suits.{Suits};
+ghost use Rattle.satip_base.specs.History.{entry};
+ghost use Rattle.satip_plain.specs.Suits.{Suits};
 ghost use Rattle.satip_pump_tests.specs.PumpScripts.{known_of, event_of, item_of, out_of, AsksOrTicks, test_setting};
 
 use satip_base::{Address, Out};
-use satip_plain::{Answer, Beat, Event, Work};
-use satip_service::{Lot, Service, ServiceFault};
+use satip_plain::{Answer, Beat, Event, Lot, Service, ServiceFault, Work};
 use satip_ts::Packet;
 use std::alloc::Global;
 

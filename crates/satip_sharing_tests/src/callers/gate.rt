@@ -6,8 +6,7 @@ ghost use Rattle.satip_turn.specs.Shown.{IsOf, Knows};
 
 use super::shared;
 use satip_base::Out;
-use satip_plain::{Answer, Event};
-use satip_service::{Lot, Service};
+use satip_plain::{Answer, Event, Lot, Service};
 use satip_shared::{Caller, SharedPass, SharedServer};
 use satip_turn::Tried;
 use std::alloc::Global;

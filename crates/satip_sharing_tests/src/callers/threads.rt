@@ -5,8 +5,7 @@ ghost use Rattle.satip_turn.specs.Shown.{IsOf, Knows};
 
 use super::shared;
 use satip_base::Out;
-use satip_plain::Event;
-use satip_service::Service;
+use satip_plain::{Event, Service};
 use satip_shared::{Caller, SharedPass, SharedServer};
 use std::sync::Wait;
 use std::test::Fail;

@@ -3,10 +3,10 @@
 ghost use Rattle.std.specs.Prelude.{◌≡◌, ℕ, List, [], ◌∷◌, true, false, length};
 ghost use Rattle.satip_plain.specs.declared.answers.Beat.TheVariants.{Going, Stopping};
 ghost use Rattle.satip_plain.specs.Histories.{Item};
-ghost use Rattle.satip_crew.specs.declared.end.ServeEnd.TheVariants.{Served, DoorsFault, HistoryFull};
+ghost use Rattle.satip_jobs.specs.declared.end.ServeEnd.TheVariants.{Served, DoorsFault, HistoryFull};
 ghost use Rattle.satip_serve.specs.Done.{IsFull};
 ghost use Rattle.satip_sharing_tests.specs.Examples.{AskedRun, IsApart, SmallRun, busy_worker, caller_of, close_by, idle_worker, pump_with, small_history, small_ticker, stop_by, stopped_well, tick_by, worker_with};
-ghost use Rattle.satip_serve.specs.Fresh.{FreshPump};
+ghost use Rattle.satip_desk.specs.Fresh.{FreshPump};
 ghost use Rattle.satip_serve.specs.ServeRuns.{Along, EndTells, MatchEnd, StopsOnce};
 
 // Caller 0 makes one entry, which is the stop, and no worker makes one behind it.

@@ -4,8 +4,7 @@ ghost use Rattle.std.specs.Prelude.{◌≡◌, ◌+◌, ◌<◌, true, false, le
 ghost use Rattle.satip_plain.specs.declared.events.Event.TheVariants.{Ask};
 
 use satip_base::Out;
-use satip_plain::{Answer, Event};
-use satip_service::Lot;
+use satip_plain::{Answer, Event, Lot};
 
 /// So many of them.
 #[derive(Drop)]

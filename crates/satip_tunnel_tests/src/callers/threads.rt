@@ -1,13 +1,12 @@
 //! Callers of one tunnel in several threads.
 ghost use Rattle.std.specs.Prelude.{◌≡◌};
-ghost use Rattle.satip_tunnel.specs.Histories.{TunnelLegal};
+ghost use Rattle.satip_interleave.specs.Histories.{TunnelLegal};
 ghost use Rattle.satip_turn.specs.Shown.{IsOf, Knows};
 
 use crate::steps::shared;
 use satip_base::Out;
 use satip_interleave::{SharedTunnel, TunnelCaller, TunnelPass};
-use satip_plain::Event;
-use satip_service::Service;
+use satip_plain::{Event, Service};
 use std::sync::Wait;
 use std::test::Fail;
 use std::thread::{Threads, join};

@@ -1,15 +1,14 @@
 //! A one-thread service that answers the events of connections as it is told beforehand.
 ghost use Rattle.std.specs.Prelude.{◌≡◌, ◌≤◌, ◌∷◌, ◌++◌, [], length, map, true, false, IsTrue, IfSome, MatchResult, refl};
 ghost use Rattle.satip_base.specs.Output.{Wrote, empty};
-ghost use Rattle.satip_history.specs.History.{entry};
-ghost use Rattle.satip_service.specs.Suits.{Suits, closes};
+ghost use Rattle.satip_base.specs.History.{entry};
+ghost use Rattle.satip_plain.specs.Suits.{Suits, closes};
 ghost use Rattle.satip_worker_tests.specs.WorkerScripts.{known_of, event_of, out_of, begun, reply_text, test_setting, all_noted, short_notes};
 
 use satip_base::{Address, Draw, Out, Peer, SessionId};
 use satip_http::HttpRequest;
-use satip_plain::{Answer, Closed, Event, GetAnswer, Pulled, Replied};
+use satip_plain::{Answer, Closed, Event, GetAnswer, Lot, Pulled, Replied, Service, ServiceFault};
 use satip_rtsp::{Refusal, Request};
-use satip_service::{Lot, Service, ServiceFault};
 
 const CLIENT: Address = Address {
     ip: 0x7f00_0001,

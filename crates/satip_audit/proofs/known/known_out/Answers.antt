@@ -2,8 +2,8 @@ use Rattle.std.proofs.Common.{◌≤◌, List, Option, length, subst, arith}
 use Rattle.std.specs.Prelude.{IfSome}
 use Rattle.std.proofs.lemmas.List.{take_all}
 use Rattle.satip_base.specs.Output.{Datagram}
-use Rattle.satip_history.specs.Lists.{Each}
-use Rattle.satip_record_reader.specs.ReadingEntries.{IsTarget}
+use Rattle.satip_base.specs.Lists.{Each}
+use Rattle.satip_entry_reader.specs.ReadingEntries.{IsTarget}
 use Rattle.satip_audit.proofs.EachLemmas.{each_take_more}
 use Rattle.satip_audit.proofs.known.known_out.Goals as goal
 

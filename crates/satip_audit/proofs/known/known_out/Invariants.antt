@@ -1,6 +1,6 @@
 use Rattle.std.proofs.Common.{take}
-use Rattle.satip_history.specs.Lists.{Each}
-use Rattle.satip_record_reader.specs.ReadingEntries.{IsTarget}
+use Rattle.satip_base.specs.Lists.{Each}
+use Rattle.satip_entry_reader.specs.ReadingEntries.{IsTarget}
 use Rattle.satip_audit.proofs.known.known_out.Given as goal
 
 -- the targets before a place are known

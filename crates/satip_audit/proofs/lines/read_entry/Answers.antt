@@ -1,6 +1,6 @@
 use Rattle.std.proofs.Common.{◌≡◌, ◌≤◌, ℕ, List, length, refl, sym, ◌∙◌, arith}
 use Rattle.hex.specs.Hex.{encode_lower}
-use Rattle.satip_record_reader.specs.ReadingEntries.{entry_text}
+use Rattle.satip_entry_reader.specs.ReadingEntries.{entry_text}
 use Rattle.satip_audit.specs.Journals.{Placed, placed}
 use Rattle.satip_audit.proofs.LineLemmas.{digits_without_end}
 use Rattle.satip_audit.proofs.EntryLemmas.{are_bytes, as_words, front_is, none_is, record_short, same_line}

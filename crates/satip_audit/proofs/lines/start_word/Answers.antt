@@ -1,5 +1,5 @@
 use Rattle.std.proofs.Common.{[], ◌∷◌, ◌++◌, decimal, codes, refl, ◌∙◌}
-use Rattle.satip_records.specs.Lines.{start_line}
+use Rattle.satip_entry_writer.specs.Lines.{start_line}
 use Rattle.satip_audit.proofs.LineLemmas.{no_end, number_read}
 use Rattle.satip_audit.proofs.lines.start_word.Goals as goal
 

@@ -1,5 +1,5 @@
 use Rattle.std.proofs.Common.{ℕ, List, ap, ◌∙◌}
-use Rattle.satip_requests.specs.Requests.{play_request}
+use Rattle.satip_client.specs.Requests.{play_request}
 use Rattle.satip_client.proofs.ExchangeLemmas.{wanted_before, starts_by, ok_of}
 use Rattle.satip_client.proofs.opening.start.Goals as goal
 

@@ -2,7 +2,7 @@ use Rattle.std.proofs.Common.{◌≤◌, List, Option, length, subst, arith}
 use Rattle.std.specs.Prelude.{IfSome}
 use Rattle.std.proofs.lemmas.List.{take_all}
 use Rattle.satip_base.specs.Output.{Datagram}
-use Rattle.satip_history.specs.Lists.{Each}
+use Rattle.satip_base.specs.Lists.{Each}
 use Rattle.satip_audit.proofs.EachLemmas.{each_take_more}
 use Rattle.satip_journal.specs.Typed.{IsOfBytes}
 use Rattle.satip_journal.proofs.typed.known_datagrams.Goals as goal

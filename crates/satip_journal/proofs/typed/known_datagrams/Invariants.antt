@@ -1,5 +1,5 @@
 use Rattle.std.proofs.Common.{take}
-use Rattle.satip_history.specs.Lists.{Each}
+use Rattle.satip_base.specs.Lists.{Each}
 use Rattle.satip_journal.specs.Typed.{IsOfBytes}
 use Rattle.satip_journal.proofs.typed.known_datagrams.Given as goal
 

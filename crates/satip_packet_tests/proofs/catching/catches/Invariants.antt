@@ -1,4 +1,4 @@
-use Rattle.satip_catch.specs.Catching.{Rests}
+use Rattle.satip_rtp_receiver.specs.Catching.{Rests}
 use Rattle.satip_packet_tests.proofs.catching.catches.Given as goal
 
 -- no item waits before a datagram

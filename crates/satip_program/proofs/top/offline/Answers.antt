@@ -1,6 +1,6 @@
 use Rattle.std.proofs.Common.{rules, ◌≡◌, [], None, Some, refl}
 use Rattle.satip_base.specs.Streams.{fresh_feed}
-use Rattle.satip_record_command.specs.Words.{wanted}
+use Rattle.satip_recorder.specs.Words.{wanted}
 use Rattle.satip_program.specs.Commands.{Talk, Replay, Stress, Audit, Record, Help, Version, command_of}
 use Rattle.satip_program.proofs.AuditLemmas.{audit_tells}
 use Rattle.satip_program.proofs.RecordingLemmas.{record_tells}

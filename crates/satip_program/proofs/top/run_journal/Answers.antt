@@ -1,5 +1,5 @@
 use Rattle.std.proofs.Common.{sym, ◌∙◌}
-use Rattle.satip_telling.specs.Lines.{Says}
+use Rattle.satip_config.specs.Lines.{Says}
 use Rattle.satip_program.proofs.JournalLemmas.{input_of, journal_apart, journal_told}
 use Rattle.satip_program.proofs.top.run_journal.Goals as goal
 

@@ -1,5 +1,5 @@
-use Rattle.satip_serving.proofs.StatusLemmas.{told_otherwise}
-use Rattle.satip_telling.specs.Lines.{Says}
+use Rattle.satip_serve.proofs.StatusLemmas.{told_otherwise}
+use Rattle.satip_config.specs.Lines.{Says}
 use Rattle.satip_program.proofs.ServingLemmas.{fault_line, line_told}
 use Rattle.satip_program.proofs.top.run_serve.Goals as goal
 

@@ -1,6 +1,6 @@
 use Rattle.std.proofs.Common.{◌≡◌, ◌<◌, false, List, ◌++◌, length}
-use Rattle.satip_catch.specs.declared.item.Item.{Item}
-use Rattle.satip_catch.specs.Runs.{all_items, drained}
+use Rattle.satip_rtp_receiver.specs.declared.item.Item.{Item}
+use Rattle.satip_rtp_receiver.specs.Runs.{all_items, drained}
 use Rattle.satip_recorder.specs.Tapes.{Taped}
 use Rattle.satip_recorder.proofs.tape.put_items.Given as goal
 

@@ -1,7 +1,7 @@
 use Rattle.std.specs.Prelude.{option_map}
 use Rattle.satip_plain.specs.declared.events.Event.TheVariants.{Get}
 use Rattle.satip_plain.specs.declared.answers.Answer.TheVariants.{Get as GetAnswer}
-use Rattle.satip_digits.specs.Digits.{bytes_of}
+use Rattle.satip_ts.specs.Digits.{bytes_of}
 use Rattle.satip_script.specs.Forms.{Http}
 use Rattle.satip_script.specs.InParts.{call_in}
 use Rattle.satip_script.proofs.PartLemmas.{http_asked}

@@ -1,7 +1,7 @@
 use Rattle.std.specs.Prelude.{option_map}
 use Rattle.satip_plain.specs.declared.events.Event.TheVariants.{Request}
 use Rattle.satip_plain.specs.declared.answers.Answer.TheVariants.{Replied as RepliedAnswer}
-use Rattle.satip_digits.specs.Digits.{bytes_of}
+use Rattle.satip_ts.specs.Digits.{bytes_of}
 use Rattle.satip_script.specs.Forms.{Rtsp}
 use Rattle.satip_script.specs.InParts.{call_in}
 use Rattle.satip_script.proofs.PartLemmas.{rtsp_asked}

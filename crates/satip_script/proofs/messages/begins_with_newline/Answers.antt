@@ -1,5 +1,5 @@
 use Rattle.std.proofs.Common.{sym, ◌∙◌, arith}
-use Rattle.satip_digits.proofs.HexDigits.{length-digits, front_is}
+use Rattle.satip_ts.proofs.HexDigits.{length-digits, front_is}
 use Rattle.satip_script.proofs.TextLemmas.{no_first, first_tested, or_first, or_second}
 use Rattle.satip_script.proofs.messages.begins_with_newline.Goals as goal
 

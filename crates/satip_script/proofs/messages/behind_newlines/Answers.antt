@@ -1,5 +1,5 @@
 use Rattle.std.proofs.Common.{ℕ, List, Ok, drop, sym, ap, ◌∙◌, arith}
-use Rattle.satip_digits.proofs.HexDigits.{length-digits, back_read}
+use Rattle.satip_ts.proofs.HexDigits.{length-digits, back_read}
 use Rattle.satip_script.proofs.TextLemmas.{skip_first, skip_none, some_first}
 use Rattle.satip_script.proofs.messages.behind_newlines.Goals as goal
 

@@ -2,7 +2,7 @@ use Rattle.std.proofs.Common.{◌≡◌, ℕ, ◌*◌, ◌≤◌, List, [], leng
 use Rattle.hex.specs.Hex.{decode_of}
 use Rattle.satip_frame.specs.declared.framing.Break.TheVariants.{Bad, TooLong}
 use Rattle.satip_frame.specs.Stream.{skip_newlines}
-use Rattle.satip_digits.proofs.HexDigits.{length-digits, read_bytes, front_reads, back_reads, front_read, back_read}
+use Rattle.satip_ts.proofs.HexDigits.{length-digits, read_bytes, front_reads, back_reads, front_read, back_read}
 use Rattle.satip_script.proofs.TextLemmas.{first_bytes, first_leads, front_message, front_short, front_broken, joined_sees, skip_taken}
 use Rattle.satip_script.proofs.messages.look_at.Goals as goal
 

@@ -1,7 +1,7 @@
 use Rattle.std.proofs.Common.{refl}
 use Rattle.satip_http.specs.Gets.{asked_get}
 use Rattle.satip_script.specs.Texts.{get_of}
-use Rattle.satip_digits.specs.Digits.{bytes_of}
+use Rattle.satip_ts.specs.Digits.{bytes_of}
 use Rattle.satip_script.proofs.PartLemmas.{asks_whole, asks_broken}
 use Rattle.satip_script.proofs.messages.read_get.Goals as goal
 

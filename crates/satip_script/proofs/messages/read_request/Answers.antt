@@ -1,7 +1,7 @@
 use Rattle.std.proofs.Common.{refl}
 use Rattle.satip_rtsp.specs.Asked.{asked}
 use Rattle.satip_script.specs.Texts.{request_of}
-use Rattle.satip_digits.specs.Digits.{bytes_of}
+use Rattle.satip_ts.specs.Digits.{bytes_of}
 use Rattle.satip_script.proofs.PartLemmas.{asks_whole, asks_broken}
 use Rattle.satip_script.proofs.messages.read_request.Goals as goal
 

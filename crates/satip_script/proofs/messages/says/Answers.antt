@@ -1,4 +1,4 @@
-use Rattle.satip_digits.specs.Digits.{bytes_of}
+use Rattle.satip_ts.specs.Digits.{bytes_of}
 use Rattle.satip_script.proofs.PartLemmas.{says_whole, says_broken}
 use Rattle.satip_script.proofs.messages.says.Goals as goal
 

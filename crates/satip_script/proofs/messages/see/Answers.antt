@@ -1,7 +1,7 @@
 use Rattle.std.proofs.Common.{arith}
 use Rattle.hex.specs.Hex.{decode_of}
 use Rattle.satip_frame.specs.Stream.{skip_newlines}
-use Rattle.satip_digits.proofs.HexDigits.{length-digits, read_bytes, is_read}
+use Rattle.satip_ts.proofs.HexDigits.{length-digits, read_bytes, is_read}
 use Rattle.satip_script.proofs.TextLemmas.{nothing_left, empty_rest, two_left, left_clean, sees_behind, skip_same, whole_behind, broken_behind_newlines, nothing_behind_newlines}
 use Rattle.satip_script.proofs.messages.see.Goals as goal
 

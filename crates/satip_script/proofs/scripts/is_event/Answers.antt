@@ -1,6 +1,6 @@
 use Rattle.std.proofs.Common.{refl}
 use Rattle.satip_plain.specs.declared.events.Event.TheVariants.{Tick, Ended, Ask, Pull, Close, Stop}
-use Rattle.satip_digits.specs.Digits.{bytes_of, packet_of}
+use Rattle.satip_ts.specs.Digits.{bytes_of, packet_of}
 use Rattle.satip_script.proofs.PartLemmas.{rtsp_some, http_some, packet_some, true_to}
 use Rattle.satip_script.proofs.scripts.is_event.Goals as goal
 

@@ -1,12 +1,12 @@
 -- The jobs work over the service, and what they did is a serve run.
 use denote.Param.Send.{sendable}
-use Rattle.satip_pump.specs.declared.kits.PumpKit.{PumpKit}
-use Rattle.satip_worker.specs.declared.kits.WorkerKit.{WorkerKit}
-use Rattle.satip_crew.proofs.Beside.{worked_as}
-use Rattle.satip_crew.proofs.Following.{pumps_keep, run_as, workers_keep}
+use Rattle.satip_desk.specs.declared.kits.PumpKit.{PumpKit}
+use Rattle.satip_desk.specs.declared.kits.WorkerKit.{WorkerKit}
+use Rattle.satip_jobs.proofs.Beside.{worked_as}
+use Rattle.satip_jobs.proofs.Following.{pumps_keep, run_as, workers_keep}
 use Rattle.satip_serve.specs.Deeds.{worker_deed, pump_deed, ticker_deed}
 use Rattle.satip_serve.specs.Services.{SeatDid}
-use Rattle.satip_serve.specs.Views.{worker_view, pump_view, tick_view}
+use Rattle.satip_desk.specs.Views.{worker_view, pump_view, tick_view}
 use Rattle.satip_serve.proofs.Ended.{end_tells}
 use Rattle.satip_serve.proofs.LeftKits.{come_back}
 use Rattle.satip_serve.proofs.WholeRuns.{seat_same, serve_run}

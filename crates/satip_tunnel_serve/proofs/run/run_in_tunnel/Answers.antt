@@ -1,12 +1,12 @@
 -- The jobs work over the tunnel, and what they did is a run of it.
 use Rattle.std.proofs.iter.Serving.{serving}
-use Rattle.satip_pump.specs.declared.kits.PumpKit.{PumpKit}
-use Rattle.satip_silent.specs.declared.silent.Silent.{Silent}
-use Rattle.satip_worker.specs.declared.kits.WorkerKit.{WorkerKit}
-use Rattle.satip_crew.proofs.Beside.{worked_as}
-use Rattle.satip_crew.proofs.Following.{pumps_keep, run_as, workers_keep}
+use Rattle.satip_desk.specs.declared.kits.PumpKit.{PumpKit}
+use Rattle.satip_tunnel.specs.declared.silent.Silent.{Silent}
+use Rattle.satip_desk.specs.declared.kits.WorkerKit.{WorkerKit}
+use Rattle.satip_jobs.proofs.Beside.{worked_as}
+use Rattle.satip_jobs.proofs.Following.{pumps_keep, run_as, workers_keep}
 use Rattle.satip_serve.proofs.LeftKits.{come_back}
-use Rattle.satip_silent.specs.Silences.{no_outbox}
+use Rattle.satip_tunnel.specs.Silences.{no_outbox}
 use Rattle.satip_tunnel_serve.specs.Deeds.{SeatDid, worker_deed, pump_deed, ticker_deed}
 use Rattle.satip_tunnel_serve.specs.Views.{worker_seen, pump_seen, ticker_seen}
 use Rattle.satip_tunnel_serve.proofs.Seating.{pumped_at_seat, still_seated, ticked_at_seat}

@@ -1,6 +1,6 @@
 use Rattle.std.proofs.Common.{refl, ◌∙◌, ◌++◌, [], take}
 use Rattle.satip_http.specs.Gets.{asked_get}
-use Rattle.satip_hearing.proofs.TextLemmas.{nothing_asked, more_came}
+use Rattle.satip_frame.proofs.TextLemmas.{nothing_asked, more_came}
 use Rattle.satip_worker.proofs.ProgressLemmas.{carries_nothing, carries_got}
 use Rattle.satip_worker.proofs.FirstLemmas.{first_found, first_broken, read_asked, read_nothing, read_failed}
 use Rattle.satip_worker.proofs.first.read_first.Goals as goal

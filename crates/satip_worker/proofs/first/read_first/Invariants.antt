@@ -1,6 +1,6 @@
 use Rattle.std.proofs.Common.{◌≡◌, ℕ, List, [], None, length}
 use Rattle.satip_http.specs.Gets.{asked_get}
-use Rattle.satip_hearing.specs.Asking.{AsksSoFar}
+use Rattle.satip_frame.specs.Asking.{AsksSoFar}
 use Rattle.satip_worker.specs.Progress.{Carries}
 use Rattle.satip_worker.proofs.first.read_first.Given as goal
 

@@ -1,6 +1,6 @@
 use Rattle.std.proofs.Common.{refl, ◌∙◌, ◌++◌, ◌∷◌, []}
 use Rattle.satip_rtsp.specs.Asked.{asked, broken_request}
-use Rattle.satip_hearing.proofs.TextLemmas.{all_with_last}
+use Rattle.satip_frame.proofs.TextLemmas.{all_with_last}
 use Rattle.satip_worker.specs.declared.turns.Turn.TheVariants.{Sent, Lost, Unmade}
 use Rattle.satip_worker.proofs.HearingLemmas.{stands_whole, message_turns, last_turns}
 use Rattle.satip_worker.proofs.rtsp.hear.Goals as goal

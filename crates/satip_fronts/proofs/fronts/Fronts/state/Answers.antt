@@ -2,8 +2,8 @@ use Rattle.std.proofs.Common.{◌≡◌, ◌∙◌, ℕ, ◌+◌, ◌-◌, ◌�
 use Rattle.std.specs.List.{list_any}
 use Rattle.satip_fronts.specs.Rows.{is_at, is_row}
 use Rattle.satip_fronts.specs.FrontEnds.{FrontEnds, is_front, state_of}
-use Rattle.satip_fronts.specs.declared.rows.FrontRow.{FrontRow}
-use Rattle.satip_fronts.specs.declared.rows.FrontState.{FrontState}
+use Rattle.satip_fronts.specs.declared.front_table.FrontRow.{FrontRow}
+use Rattle.satip_fronts.specs.declared.front_table.FrontState.{FrontState}
 use Rattle.satip_fronts.proofs.Numbers.{row_known, row_within}
 use Rattle.satip_fronts.proofs.fronts.Fronts.state.Goals as goal
 

@@ -1,7 +1,7 @@
 -- The entry is the caller's own, and one of the server.
 use Rattle.std.proofs.Common.{[], ◌∷◌, refl}
-use Rattle.satip_history.specs.History.{entry}
-use Rattle.satip_tunnel.specs.declared.events.TunnelEvent.TheVariants.{Inner}
+use Rattle.satip_base.specs.History.{entry}
+use Rattle.satip_interleave.specs.declared.events.TunnelEvent.TheVariants.{Inner}
 use Rattle.satip_interleave.proofs.Calling.{answered_by, made_by, same_turned, unmade_by}
 use Rattle.satip_interleave.proofs.caller.TunnelCallerService.call.Goals as goal
 

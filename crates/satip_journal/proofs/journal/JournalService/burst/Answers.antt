@@ -1,10 +1,10 @@
 use Rattle.std.proofs.Common.{◌∙◌, List, ◌++◌, ◌∷◌, [], Err, false, rules, arith}
 use Rattle.satip_base.specs.Output.{Output}
-use Rattle.satip_history.specs.declared.entry.Taken.{Taken}
-use Rattle.satip_history.specs.History.{taken}
+use Rattle.satip_base.specs.declared.entry.Taken.{Taken}
+use Rattle.satip_base.specs.History.{taken}
 use Rattle.satip_plain.specs.declared.answers.Answer.{Answer}
 use Rattle.satip_plain.specs.declared.events.Event.{Event}
-use Rattle.satip_service.proofs.Bursting.{under_way_more, under_way_none, under_way_ends}
+use Rattle.satip_plain.proofs.Bursting.{under_way_more, under_way_none, under_way_ends}
 use Rattle.satip_journal.specs.Continuing.{same_journal, same_journal_then}
 use Rattle.satip_journal.proofs.KeepLemmas.{adds_turned, under_way_still}
 use Rattle.satip_journal.proofs.journal.JournalService.burst.Goals as goal

@@ -1,6 +1,6 @@
 -- The events so far, each a call with its line.
 use Rattle.std.proofs.Common.{◌≡◌, false, None}
-use Rattle.satip_service.proofs.Bursting.{UnderWay}
+use Rattle.satip_plain.proofs.Bursting.{UnderWay}
 use Rattle.satip_shared.specs.Calling.{known_by}
 use Rattle.satip_journal.specs.Keeping.{kept, SameJournal}
 use Rattle.satip_journal.proofs.journal.JournalService.burst.Given as goal

@@ -1,6 +1,6 @@
 -- The line of the entry was put, with its place, unless a put had failed.
 use Rattle.std.proofs.Common.{ℕ, ◌-◌, Bool, List, length, refl, sym, ap, subst}
-use Rattle.satip_records.specs.Lines.{entry_line}
+use Rattle.satip_entry_writer.specs.Lines.{entry_line}
 use Rattle.satip_shared.proofs.Calling.{made_by}
 use Rattle.satip_journal.specs.Logs.{Logs}
 use Rattle.satip_journal.specs.Continuing.{logs_none}

@@ -1,7 +1,7 @@
 -- Each event of the lot is an entry of the caller's own.
 use Rattle.std.proofs.Common.{false, Ok, Err, rules}
-use Rattle.satip_service.specs.declared.fault.ServiceFault.TheVariants.{Spent}
-use Rattle.satip_service.specs.Calls.{Bursts}
+use Rattle.satip_plain.specs.declared.fault.ServiceFault.TheVariants.{Spent}
+use Rattle.satip_plain.specs.Calls.{Bursts}
 use Rattle.satip_shared.specs.Calling.{known_by}
 use Rattle.satip_shared.proofs.Calling.{at_last, bursts_by, ends_well, ends_spent}
 use Rattle.satip_shared.proofs.caller.CallerService.burst.Goals as goal

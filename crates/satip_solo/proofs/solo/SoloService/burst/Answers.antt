@@ -1,10 +1,10 @@
 use Rattle.std.proofs.Common.{◌∙◌, List, ◌++◌, ◌∷◌, [], refl}
 use Rattle.satip_base.specs.Output.{Output}
-use Rattle.satip_history.specs.declared.entry.Taken.{Taken}
-use Rattle.satip_history.specs.History.{taken}
+use Rattle.satip_base.specs.declared.entry.Taken.{Taken}
+use Rattle.satip_base.specs.History.{taken}
 use Rattle.satip_plain.specs.declared.answers.Answer.{Answer}
 use Rattle.satip_plain.specs.declared.events.Event.{Event}
-use Rattle.satip_service.proofs.Bursting.{under_way_more, under_way_none}
+use Rattle.satip_plain.proofs.Bursting.{under_way_more, under_way_none}
 use Rattle.satip_solo.proofs.LogLemmas.{adds_by, goes_on_more, suits_by}
 use Rattle.satip_solo.proofs.solo.SoloService.burst.Goals as goal
 

@@ -1,10 +1,10 @@
 -- The events so far, each a call.
 use Rattle.std.proofs.Common.{◌≡◌, false, None, List}
 use Rattle.satip_base.specs.Output.{Output}
-use Rattle.satip_history.specs.declared.entry.Taken.{Taken}
+use Rattle.satip_base.specs.declared.entry.Taken.{Taken}
 use Rattle.satip_plain.specs.declared.answers.Answer.{Answer}
 use Rattle.satip_plain.specs.declared.events.Event.{Event}
-use Rattle.satip_service.proofs.Bursting.{UnderWay}
+use Rattle.satip_plain.proofs.Bursting.{UnderWay}
 use Rattle.satip_solo.specs.Log.{GoesOn, known_of}
 use Rattle.satip_solo.specs.Solos.{log_of}
 use Rattle.satip_solo.proofs.solo.SoloService.burst.Given as goal

@@ -1,5 +1,5 @@
 use Rattle.std.proofs.Common.{◌∙◌}
-use Rattle.satip_service.proofs.Bursting.{under_way_more}
+use Rattle.satip_plain.proofs.Bursting.{under_way_more}
 use Rattle.satip_pump_tests.proofs.PumpLemmas.{adds_next}
 use Rattle.satip_pump_tests.proofs.pump.script.ScriptedService.burst.Goals as goal
 

@@ -1,6 +1,6 @@
 -- The events so far, each an entry.
 use Rattle.std.proofs.Common.{◌≡◌, false, None, map}
-use Rattle.satip_service.proofs.Bursting.{UnderWay}
+use Rattle.satip_plain.proofs.Bursting.{UnderWay}
 use Rattle.satip_pump_tests.specs.declared.pump.script.Note.{Note}
 use Rattle.satip_pump_tests.specs.PumpScripts.{item_of, known_of}
 use Rattle.satip_pump_tests.proofs.pump.script.ScriptedService.burst.Given as goal

@@ -1,0 +1,22 @@
+-- Lines that are right or wrong.
+use Rattle.std.specs.Prelude.{◌≡◌, ℕ, ◌<◌, ◌^◌, List}
+use Rattle.satip_audit.specs.Journals.{IsNote, IsPlaced, Note, Placed, note_text, placed_line}
+use Rattle.satip_entry_writer.specs.Lines.{start_line}
+use Rattle.satip_audit.specs.declared.indexing.Said.{Said}
+use Rattle.satip_audit.specs.declared.indexing.Said.TheVariants.{Start as StartSaid, Entry as EntrySaid}
+
+-- a line is no note's
+abbrev pub IsWrong : List ℕ → Type 0
+IsWrong line = (note : Note) → IsNote note → line ≡ note_text note → ⊥
+
+-- a line is that of an entry at this place
+pub record HasPlace (line : List ℕ) (place : ℕ) : Type 0 where
+  pub entry : Placed
+  pub within : IsPlaced entry
+  pub is : line ≡ placed_line entry
+  pub place_is : place ≡ entry.place
+
+-- a line is right, and this is its content
+abbrev pub Says : List ℕ → Said → Type 0
+Says line (StartSaid now) = (now < 2 ^ 64) × (line ≡ start_line now)
+Says line (EntrySaid place) = HasPlace line place

@@ -1,0 +1,121 @@
+//! `audit`: reads a configuration and journals as a whole, and judges the journals.
+
+ghost use Rattle.std.specs.Prelude.{◌≡◌, ◌↔◌, ℕ, ◌+◌, ◌-◌, ◌<◌, ◌≤◌, Err, IfOk, IfErr};
+ghost use Rattle.satip_base.specs.Streams.{Rose};
+ghost use Rattle.satip_config.specs.declared.fault.ConfigFault.{ConfigFault as Fault};
+ghost use Rattle.satip_config.specs.Reading.{EndsWhole};
+ghost use Rattle.satip_config.specs.Configurations.{configuration_limit};
+ghost use Rattle.satip_replay.specs.Replays.{script_limit};
+ghost use Rattle.satip_replay.specs.Ends.{EndsByConfiguration, EndsByInput, EndsByLength};
+ghost use Rattle.satip_audit.specs.Printed.{verdict_text};
+ghost use Rattle.satip_audit.specs.Audits.{Audited};
+ghost use Rattle.satip_audit.specs.Ends.{EndsByJournal, EndsByOutput, EndsByWant, InputEnds, IsEndOf, WriteEnds};
+
+use crate::ends::AuditEnd;
+use crate::journals::JournalFault;
+use crate::judging::verdict;
+use crate::printing::print_verdict;
+use crate::verdicts::Verdict;
+use satip_base::limits::INPUT;
+use satip_base::{Put, Sink, Source};
+use satip_config::{ReadFault, read_configuration, read_whole};
+use std::alloc::Global;
+
+/// Reads a configuration and then the whole input as journals, judges them, and writes the verdict
+/// in one line. Takes at most 1048577 bytes of the configuration and 67108865 of the input. It
+/// always returns. For the formats see docs/PROTOCOL.md, Configuration, and Journals and verdicts.
+pub fn audit<C: Source, I: Source, O: Sink>(
+    alloc: Global,
+    config: &mut C,
+    input: &mut I,
+    output: &mut O,
+) -> AuditEnd
+    // With `Done` the verdict was written, and with a fault of the output a prefix of it.
+    ensures done { result ≡ AuditEnd.Done → Audited C.tells I.tells O.tells
+        (C.feed config.old) (C.feed config.new)
+        (I.feed input.old) (I.feed input.new)
+        (O.drain output.old) (O.drain output.new) }
+    ensures output_fault { result ≡ AuditEnd.OutputFault → EndsByOutput C.tells I.tells O.tells
+        (C.feed config.old) (C.feed config.new)
+        (I.feed input.old) (I.feed input.new)
+        (O.drain output.old) (O.drain output.new) }
+
+    // With the others nothing was written. Each has its cause.
+    ensures configuration { (fault : Fault) → result ≡ AuditEnd.Configuration fault
+        → EndsByConfiguration C.tells
+        (C.feed config.old) (C.feed config.new)
+        (I.feed input.old) (I.feed input.new)
+        (O.drain output.old) (O.drain output.new) fault }
+    ensures journal { (number : ℕ) → result ≡ AuditEnd.Journal number
+        → EndsByJournal C.tells I.tells
+        (C.feed config.old) (C.feed config.new)
+        (I.feed input.old) (I.feed input.new)
+        (O.drain output.old) (O.drain output.new) number }
+    ensures input_fault { result ≡ AuditEnd.InputFault → EndsByInput C.tells
+        (C.feed config.old) (C.feed config.new)
+        (I.feed input.old) (I.feed input.new)
+        (O.drain output.old) (O.drain output.new) }
+    ensures long { result ≡ AuditEnd.TooLong → EndsByLength C.tells I.tells
+        (C.feed config.old) (C.feed config.new)
+        (I.feed input.old) (I.feed input.new)
+        (O.drain output.old) (O.drain output.new) }
+    ensures too_long { (result ≡ AuditEnd.TooLong)
+        ↔ (script_limit < (I.feed input.new).taken - (I.feed input.old).taken) }
+    ensures out_of_memory { result ≡ AuditEnd.OutOfMemory → EndsByWant
+        (C.feed config.old) (C.feed config.new)
+        (I.feed input.old) (I.feed input.new)
+        (O.drain output.old) (O.drain output.new) }
+
+    // How much is taken, and which ends the two texts allow if no source fails.
+    ensures configuration_taken { (C.feed config.new).taken
+        ≤ (C.feed config.old).taken + configuration_limit + 1 }
+    ensures input_taken { (I.feed input.new).taken ≤ (I.feed input.old).taken + script_limit + 1 }
+    ensures settled { C.tells → I.tells
+        → (Rose (C.feed config.old).faults (C.feed config.new).faults → ⊥)
+        → (Rose (I.feed input.old).faults (I.feed input.new).faults → ⊥)
+        → IsEndOf (C.feed config.old).left (I.feed input.old).left result }
+{
+    let configuration = match read_configuration(alloc, config) {
+        Ok(configuration) => configuration,
+        Err(end) => return AuditEnd::from(end),
+    };
+    let text = match read_journals(alloc, input) {
+        Ok(text) => text,
+        Err(end) => return end,
+    };
+    match verdict(alloc, configuration, &text) {
+        Ok(verdict) => write_verdict(verdict, output),
+        Err(JournalFault::WrongLine(number)) => AuditEnd::Journal(number),
+        Err(JournalFault::OutOfMemory) => AuditEnd::OutOfMemory,
+    }
+}
+
+// Reads the whole input.
+fn read_journals<I: Source>(alloc: Global, source: &mut I) -> Result<Vec<u8>, AuditEnd>
+    ensures ok { IfOk result (λ text. EndsWhole I.tells
+        (I.feed source.old) (I.feed source.new) script_limit text.items) }
+    ensures fault { IfErr result (InputEnds I.tells
+        (I.feed source.old) (I.feed source.new)) }
+    ensures limit { (I.feed source.new).taken ≤ (I.feed source.old).taken + script_limit + 1 }
+    ensures too_long { (result ≡ Err AuditEnd.TooLong)
+        ↔ (script_limit < (I.feed source.new).taken - (I.feed source.old).taken) }
+{
+    match read_whole(alloc, source, INPUT) {
+        Ok(text) => Ok(text),
+        Err(ReadFault::TooLong) => Err(AuditEnd::TooLong),
+        Err(ReadFault::Failed) => Err(AuditEnd::InputFault),
+        Err(ReadFault::OutOfMemory) => Err(AuditEnd::OutOfMemory),
+    }
+}
+
+// Writes a verdict in one line.
+fn write_verdict<O: Sink>(verdict: Verdict, output: &mut O) -> AuditEnd
+    ensures ends { WriteEnds O.tells
+        (O.drain output.old) (O.drain output.new)
+        (verdict_text verdict) result }
+{
+    match output.put(print_verdict(verdict).bytes()) {
+        Put::Whole => AuditEnd::Done,
+        Put::Failed => AuditEnd::OutputFault,
+    }
+}

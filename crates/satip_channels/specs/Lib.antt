@@ -1,4 +1,0 @@
-pub mod Channels
-pub mod Requests
-pub mod Rows
-pub mod Turned

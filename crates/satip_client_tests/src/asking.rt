@@ -1,0 +1,192 @@
+//! Exchanges over memory.
+use satip_base::{Strip, Want};
+use satip_client::{Heard, Lease, Page, Pulse, RecordEnd, keep_alive, set_up, start};
+use satip_fixtures::recordings::{ACCEPTED, GRANTED};
+use satip_memory::{MemoryClock, MemoryConn};
+use std::alloc::{AllocError, Global};
+use std::test::Fail;
+
+fn asks(alloc: Global, wire: &mut MemoryConn) -> Result<Lease, RecordEnd> {
+    let mut page = Page::new(alloc);
+    let mut heard = Heard::new();
+    let lease = set_up(
+        alloc,
+        wire,
+        b"10.0.0.1",
+        b"src=1",
+        5000,
+        &mut page,
+        &mut heard,
+    )?;
+    start(wire, b"10.0.0.1", &lease, &mut page, &mut heard)?;
+    Ok(lease)
+}
+
+fn ends(
+    alloc: Global,
+    pieces: &[&[u8]],
+    failing_receives: &[u64],
+    failing_sends: &[u64],
+) -> Result<RecordEnd, Want> {
+    let mut wire = MemoryConn::make(alloc, pieces, failing_receives, failing_sends, 5)?;
+    match asks(alloc, &mut wire) {
+        Ok(_) => Ok(RecordEnd::Done),
+        Err(end) => Ok(end),
+    }
+}
+
+#[test]
+fn a_reply_is_heard_however_it_is_cut(rt: HostRuntime) -> Result<(), Fail> {
+    for cut in 0..GRANTED.len() {
+        let (begin, rest) = GRANTED.split_at(cut);
+        let end = ends(rt.alloc(), &[begin, rest, ACCEPTED], &[], &[])?;
+        assert_eq!(rt; end, RecordEnd::Done);
+        assert_eq!(rt; ends(rt.alloc(), &[begin], &[], &[])?, RecordEnd::Closed);
+    }
+    Ok(())
+}
+
+// Pieces that come, each so often; the receives and sends that fail; and how it ends.
+type Row = (
+    &'static [(&'static [u8], usize)],
+    &'static [u64],
+    &'static [u64],
+    RecordEnd,
+);
+
+const ROWS: &[Row] = &[
+    (
+        &[(b"RTSP/1.0 503 No\r\nCSeq: 1\r\n\r\n", 1)],
+        &[],
+        &[],
+        RecordEnd::Refused(503),
+    ),
+    (
+        &[(GRANTED, 1), (b"RTSP/1.0 454 No\r\nCSeq: 2\r\n\r\n", 1)],
+        &[],
+        &[],
+        RecordEnd::Refused(454),
+    ),
+    (
+        &[(b"RTSP/1.0 200 OK\r\nCSeq: 1\r\nSession: 1a\r\n\r\n", 1)],
+        &[],
+        &[],
+        RecordEnd::BadReply,
+    ),
+    (
+        &[(GRANTED, 1), (b"RTSP/1.0 503 No\r\nCSeq: 3\r\n\r\n", 1)],
+        &[],
+        &[],
+        RecordEnd::BadReply,
+    ),
+    (&[(b"HTTP", 1)], &[], &[], RecordEnd::BadReply),
+    (
+        &[(GRANTED, 1), (ACCEPTED, 1)],
+        &[2],
+        &[],
+        RecordEnd::PeerFault,
+    ),
+    (
+        &[(GRANTED, 1), (ACCEPTED, 1)],
+        &[],
+        &[2],
+        RecordEnd::PeerFault,
+    ),
+    (&[(b"", 9999)], &[], &[], RecordEnd::Closed),
+    (&[(b"", 10000)], &[], &[], RecordEnd::Silent),
+];
+
+// The texts, each so often.
+fn pieces_of(
+    alloc: Global,
+    texts: &[(&'static [u8], usize)],
+) -> Result<Vec<&'static [u8]>, AllocError> {
+    let mut pieces = Vec::new(alloc);
+    for (text, times) in texts {
+        for _ in 0..*times {
+            pieces.push(*text)?;
+        }
+    }
+    Ok(pieces)
+}
+
+#[test]
+fn replies_faults_and_silence_end_it(rt: HostRuntime) -> Result<(), Fail> {
+    for (place, (texts, receives, sends, end)) in ROWS.iter().enumerate() {
+        let pieces = pieces_of(rt.alloc(), texts)?;
+        let seen = ends(rt.alloc(), &pieces, receives, sends)?;
+        assert_eq!(rt; seen, *end, "at {place}");
+    }
+    Ok(())
+}
+
+// A recording that began, with the moments of its clock.
+#[derive(Drop)]
+struct Begun {
+    wire: MemoryConn,
+    clock: MemoryClock,
+    lease: Lease,
+    page: Page,
+}
+
+fn just_begun(alloc: Global) -> Result<Begun, Fail> {
+    let mut wire = MemoryConn::make(alloc, &[GRANTED, ACCEPTED], &[], &[], 0)?;
+    let lease = asks(alloc, &mut wire).ok().ok_or("lease")?;
+    let clock = MemoryClock::make(alloc, &[1004, 1005, 1006])?;
+    Ok(Begun {
+        wire,
+        clock,
+        lease,
+        page: Page::new(alloc),
+    })
+}
+
+impl Begun {
+    // Whether it goes on behind a moment of the clock.
+    fn goes_on(&mut self, pulse: &mut Pulse) -> bool {
+        pulse.cseq < u32::MAX
+            && keep_alive(
+                &mut self.wire,
+                &mut self.clock,
+                b"10.0.0.1",
+                &self.lease,
+                pulse,
+                &mut self.page,
+            )
+            .is_ok()
+    }
+
+    // Whether what was sent behind a place is this.
+    fn has_sent(&self, before: usize, text: &[u8]) -> bool {
+        let sent = self.wire.sent();
+        sent.split_at(before.min(sent.len())).1 == text
+    }
+}
+
+#[test]
+fn half_of_the_timeout_brings_options(rt: HostRuntime) -> Result<(), Fail> {
+    let mut begun = just_begun(rt.alloc())?;
+    let mut pulse = Pulse { mark: 5, cseq: 3 };
+    let before = begun.wire.sent().len();
+    let options = b"OPTIONS rtsp://10.0.0.1/ RTSP/1.0\r\nCSeq: 3\r\nSession: 1a\r\n\r\n";
+    for (mark, cseq, text) in [
+        (5, 3, b"".as_slice()),
+        (1005, 4, options),
+        (1005, 4, options),
+    ] {
+        assert!(rt; begun.goes_on(&mut pulse));
+        assert_eq!(rt; pulse, Pulse { mark, cseq });
+        assert!(rt; begun.has_sent(before, text));
+    }
+    Ok(())
+}
+
+#[test]
+fn an_end_has_its_status_and_line(rt: HostRuntime) -> Result<(), Fail> {
+    let mut line = Strip::new();
+    assert_eq!(rt; RecordEnd::Refused(503).status(), 10);
+    RecordEnd::Refused(503).print(&mut line);
+    assert!(rt; line.bytes() == b"refused 503\n".as_slice());
+    assert_eq!(rt; RecordEnd::Silent.status(), 12);
+    Ok(())
+}

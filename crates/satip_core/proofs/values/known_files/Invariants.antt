@@ -1,7 +1,0 @@
-use Rattle.std.proofs.Common.{take}
-use Rattle.satip_history.specs.Lists.{Each}
-use Rattle.satip_plain.specs.Values.{AreBytes}
-use Rattle.satip_core.proofs.values.known_files.Given as goal
-
-abbrev pub invariant-loop-file : goal.invariant-loop-file
-invariant-loop-file l = Each AreBytes (take l.file-index l.files)

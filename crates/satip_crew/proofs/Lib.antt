@@ -1,5 +1,0 @@
-pub mod Seating
-pub mod Beside
-pub mod WholeRuns
-pub mod Following
-pub mod Ended

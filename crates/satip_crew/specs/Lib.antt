@@ -1,6 +1,0 @@
-pub mod Ends
-pub mod Passes
-pub mod Crews
-pub mod Works
-pub mod Crewed
-pub mod Runs

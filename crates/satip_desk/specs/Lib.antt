@@ -1,0 +1,5 @@
+pub mod Views
+pub mod Fresh
+pub mod Handed
+pub mod Given
+pub mod Desks

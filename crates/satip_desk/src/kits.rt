@@ -1,0 +1,34 @@
+//! The kit of each job: the devices it uses. The kits of all jobs of a server.
+
+/// A worker's doors, its outlet, its pacer, and the key of its random draws.
+#[derive(Drop)]
+pub struct WorkerKit<D, O, P> {
+    pub doors: D,
+    pub outlet: O,
+    pub pacer: P,
+    pub key: [u8; 32],
+}
+
+/// A pump's store of recordings, its outlet and its pacer.
+#[derive(Drop)]
+pub struct PumpKit<M, O, P> {
+    pub store: M,
+    pub outlet: O,
+    pub pacer: P,
+}
+
+/// The ticker's clock, its outlet and its pacer.
+#[derive(Drop)]
+pub struct TickKit<C, O, P> {
+    pub clock: C,
+    pub outlet: O,
+    pub pacer: P,
+}
+
+/// A kit for each worker, one for the pump of each front end, and one for the ticker.
+#[derive(Drop)]
+pub struct Jobs<D, O, P, M, C> {
+    pub workers: Vec<WorkerKit<D, O, P>>,
+    pub pumps: Vec<PumpKit<M, O, P>>,
+    pub tick: TickKit<C, O, P>,
+}

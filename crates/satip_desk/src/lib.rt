@@ -1,0 +1,10 @@
+//! Declares the desk: it opens configurations and gives jobs their kits, a client its devices.
+//! Contract: the kits are unused, and one for each job of the configuration; contracts see them by
+//! views. A call that gives nothing failed, and the count of faults rose, or memory was refused.
+#![tactic(auto)]
+
+mod desk;
+mod kits;
+
+pub use desk::{Desk, JobsFault};
+pub use kits::{Jobs, PumpKit, TickKit, WorkerKit};

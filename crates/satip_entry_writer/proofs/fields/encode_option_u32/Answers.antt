@@ -1,0 +1,7 @@
+use Rattle.satip_entry_writer.proofs.Writing.{◌then◌}
+use Rattle.satip_entry_writer.proofs.fields.encode_option_u32.Goals as goal
+
+pub returns-in-Some : goal.returns-in-Some
+returns-in-Some c = record {
+  wrote = rw c.in-Some.is (c.encode_u8-in-Some.ensures.wrote then c.encode_u32.ensures.wrote);
+}

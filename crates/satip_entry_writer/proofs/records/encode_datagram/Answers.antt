@@ -1,0 +1,7 @@
+use Rattle.satip_entry_writer.proofs.Writing.{◌then◌}
+use Rattle.satip_entry_writer.proofs.records.encode_datagram.Goals as goal
+
+pub returns : goal.returns
+returns c = record {
+  wrote = c.encode_address.ensures.wrote then c.encode_bytes.ensures.wrote;
+}

@@ -1,0 +1,55 @@
+//! The lines of journals.
+
+ghost use Rattle.std.specs.Prelude.{◌≡◌, ◌<◌, length};
+ghost use Rattle.satip_base.specs.Output.{IsWithinRoom};
+ghost use Rattle.satip_entry_writer.specs.Lines.{entry_line, start_line};
+
+use crate::records::encode_record;
+use crate::room::LineRoom;
+use satip_base::Out;
+use satip_plain::{Answer, Event, known_event};
+
+/// Writes the line of an entry instead of an older line: `entry`, its place in the history, the
+/// number of its caller, and its record in lower-case hexadecimal digits. It takes no memory.
+#[tactic(auto, using(crate::proofs::Bounds::line_steps), unfolding(crate::specs::Lines::entry_line))]
+pub fn write_entry(
+    place: u64,
+    caller: u64,
+    event: &Event,
+    answer: &Answer,
+    out: &Out,
+    line: &mut LineRoom,
+)
+    ensures line { line.new.text ≡ entry_line place caller event.now answer.now out.now.reply
+        out.now.datagrams }
+    ensures short { length line.new.text < 800000 }
+{
+    known_event(event);
+    known_out(out);
+    line.clear();
+    line.write(b"entry ");
+    line.write_number(place);
+    line.write(b" ");
+    line.write_number(caller);
+    line.write(b" ");
+    encode_record(event, *answer, out, line);
+    line.end();
+}
+
+/// Writes the line of the moment at which a history starts, in milliseconds, instead of an older
+/// line. It takes no memory.
+#[tactic(auto, using(crate::proofs::Bounds::line_steps), unfolding(crate::specs::Lines::start_line))]
+pub fn write_start(now: u64, line: &mut LineRoom)
+    ensures line { line.new.text ≡ start_line now }
+{
+    line.clear();
+    line.write(b"start ");
+    line.write_number(now);
+    line.end();
+}
+
+fn known_out(out: &Out)
+    ensures room { IsWithinRoom out.now }
+{
+    let _count = out.count();
+}

@@ -1,0 +1,11 @@
+use Rattle.std.proofs.Common.{◌≡◌, vec_len}
+use Rattle.satip_flow.specs.Rows.{KeepsOthers}
+use Rattle.satip_flow.proofs.RowLemmas.{MarkedTo}
+use Rattle.satip_flow.proofs.slot_masks.mark_front.Given as goal
+
+abbrev pub invariant-loop-at : goal.invariant-loop-at
+invariant-loop-at l = record {
+  count : vec_len l.rows ≡ vec_len l.initial.rows;
+  others : KeepsOthers l.slot l.initial.rows.items l.rows.items;
+  marked : MarkedTo l.at l.rows.items l.start l.slot l.pids;
+}

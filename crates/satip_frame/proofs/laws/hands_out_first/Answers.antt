@@ -1,5 +1,0 @@
-use Rattle.satip_frame.proofs.CallLemmas as calls
-use Rattle.satip_frame.proofs.laws.hands_out_first.Goals as goal
-
-pub returns : goal.returns
-returns c = record { first = calls.hands_out_first }

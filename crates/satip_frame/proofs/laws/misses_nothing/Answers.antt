@@ -1,5 +1,0 @@
-use Rattle.satip_frame.proofs.CallLemmas as calls
-use Rattle.satip_frame.proofs.laws.misses_nothing.Goals as goal
-
-pub returns : goal.returns
-returns c = record { complete = calls.misses_nothing }

@@ -1,0 +1,20 @@
+//! Reads the session clock and random bytes, and writes lines for people to standard error.
+//! Contract: none on what is read or written.
+//! Only tested: that no step of the wall clock moves the session clock, and that keys differ.
+#![tactic(auto)]
+
+mod clock;
+mod key;
+mod report;
+mod shown;
+mod starts;
+mod stopwatch;
+#[cfg(test)]
+mod tests;
+
+pub use clock::{ClockStart, RealClock, SteadyTime};
+pub use key::read_key;
+pub use report::{Throttle, report_line};
+pub use shown::Shown;
+pub use starts::{Start, Starts};
+pub use stopwatch::Stopwatch;

@@ -1,0 +1,5 @@
+use Rattle.satip_interleave.proofs.WritingLemmas.{written_nothing}
+use Rattle.satip_interleave.proofs.one_tunnel.Tunnel.enter.Goals as goal
+
+pub returns-clause-writes : goal.returns-clause-writes
+returns-clause-writes c = written_nothing _ c.clear.ensures.empty

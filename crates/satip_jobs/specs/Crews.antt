@@ -1,0 +1,60 @@
+-- Jobs at their seats, with callers of one value.
+use Rattle.std.specs.Prelude.{◌≡◌, ℕ, ◌+◌, ◌<◌, ◌≤◌, List, [], ◌∷◌, ◌++◌, map, length}
+use Rattle.satip_base.specs.Lists.{Each, Begins}
+use Rattle.satip_plain.specs.declared.setting.Setting.{Setting}
+use Rattle.satip_turn.specs.Shown.{Cell, Knows}
+use Rattle.satip_jobs.specs.declared.seat.Seat.{Seat}
+use Rattle.satip_jobs.specs.Passes.{ItemOf, PassOf, callers_of, IsAlone, IsNew}
+
+-- the numbers rise by one, from n on
+abbrev pub AreNumbered : ℕ → List ℕ → Type 0
+AreNumbered n [] = Unit {0}
+AreNumbered n (m ∷ ms) = (m ≡ n) × AreNumbered (n + 1) ms
+
+module _ {X E A : Type 0} (cell : X → Cell Setting) (pass : X → PassOf E A) where
+  -- new callers of this cell
+  abbrev pub AreNew : {K M : Type 0} → Cell Setting → List (Seat X K M) → Type 0
+  AreNew k seats = Each (λ s. (cell s.caller ≡ k) × IsNew (pass s.caller)) seats
+
+  -- callers of this cell whose passes may be joined
+  abbrev pub AreAlone : {K M : Type 0} → Cell Setting → List (Seat X K M) → Type 0
+  AreAlone k seats = Each (λ s. (cell s.caller ≡ k) × IsAlone (pass s.caller)) seats
+
+-- the numbers of the passes of these jobs
+abbrev pub pass_numbers : {X E A K M : Type 0} → (X → PassOf E A) → List (Seat X K M) → List ℕ
+pass_numbers pass seats = map (λ s. (pass s.caller).number) seats
+
+-- jobs before their start: new callers of this cell, with these kits and gears, numbered from 1
+pub record Begun {X E A G K M : Type 0} (cell : X → Cell Setting) (pass : X → PassOf E A) (gear : X → G) (k : Cell Setting) (kits : List K) (gears : List G)
+    (seats : List (Seat X K M)) : Type 0 where
+  pub kits_are : map (λ s. s.kit) seats ≡ kits
+  pub gears_are : map (λ s. gear s.caller) seats ≡ gears
+  pub numbered : AreNumbered 1 (map (λ s. s.number) seats)
+  pub new : AreNew cell pass k seats
+
+-- the passes of these jobs were joined into a pass, in order
+pub record Joins {X E A K M : Type 0} (pass : X → PassOf E A) (p q : PassOf E A) (seats : List (Seat X K M)) : Type 0 where
+  pub number : q.number ≡ p.number
+  pub own : q.own ≡ p.own
+  pub made : q.made ≡ p.made
+  pub kept : q.kept ≡ p.kept ++ callers_of (map (λ s. pass s.caller) seats)
+  pub mine : Begins p.seen q.seen
+  pub theirs : Each (λ s. Begins (pass s.caller).seen q.seen) seats
+
+-- memory for a job of each kit, and no job yet
+pub record IsSpace {S K G M : Type 0} (kits : List K) (gears : List G) (rooms : List M) (seats : List S) (capacity : ℕ) : Type 0 where
+  pub few : length kits < 65536
+  pub gears_are : length gears ≡ length kits
+  pub rooms_are : length rooms ≡ length kits
+  pub none : seats ≡ []
+  pub space : length kits ≤ capacity
+
+-- new callers whose passes may be joined into the root's, and empty lists with memory for their kits and gears
+pub record IsReady {X E A G K M : Type 0} (cell : X → Cell Setting) (pass : X → PassOf E A) (legal : Setting → List (ItemOf E A) → Type 0) (root : X)
+    (seats : List (Seat X K M)) (kits : List K) (gears : List G) (count kit_capacity gear_capacity : ℕ) : Type 0 where
+  pub knows : Knows (legal (cell root).setting) (pass root)
+  pub new : AreNew cell pass (cell root) seats
+  pub no_kits : kits ≡ []
+  pub no_gears : gears ≡ []
+  pub kit_space : count ≤ kit_capacity
+  pub gear_space : count ≤ gear_capacity

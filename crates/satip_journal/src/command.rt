@@ -1,0 +1,286 @@
+//! `journal`: reads a configuration, asks the desk for the kits and the journals of all jobs, and
+//! serves.
+
+ghost use Rattle.std.specs.Prelude.{◌≡◌, ℕ, ◌⊎◌, ◌+◌, ◌≤◌, ◌++◌, List, Some, None, length, map, IfSome, IsNone, IsSomeAnd, MatchOption};
+ghost use Rattle.satip_base.specs.Streams.{Rose, fresh_drain};
+ghost use Rattle.satip_config.specs.declared.fault.ConfigFault.{ConfigFault as Fault};
+ghost use Rattle.satip_fronts.specs.FrontEnds.{IsNumbered};
+ghost use Rattle.satip_base.specs.Lists.{Each};
+ghost use Rattle.satip_config.specs.Configurations.{configuration_limit, Configured, IsServed, Refused};
+ghost use Rattle.satip_desk.specs.Fresh.{AreFresh};
+ghost use Rattle.satip_desk.specs.Views.{jobs_view};
+ghost use Rattle.satip_world.specs.Counts.{Rises};
+ghost use Rattle.satip_desk.specs.Given.{ComeUnused};
+ghost use Rattle.satip_serve.specs.Servings.{IsOneOf, IsNeitherOf};
+ghost use Rattle.satip_journal.specs.Asked.{first_jobs};
+ghost use Rattle.satip_journal.specs.Ends.{AreUntouched, JournalEnds};
+ghost use Rattle.satip_journal.specs.Ran.{JournalRun};
+ghost use Rattle.satip_journal.specs.Statuses.{IsEndOfRun, IsJournalOf, IsUnready, IsUnusedEnd, journal_line, journal_status};
+ghost use Rattle.satip_config.specs.Lines.{Says};
+
+use crate::all_jobs::serve_journaled;
+use crate::asking::ask_journals;
+use crate::ends::JournalEnd;
+use crate::telling::tell_journal;
+use satip_base::{Failed, Sink, Text};
+use satip_config::{Config, read_configuration};
+use satip_desk::{Desk, Jobs, JobsFault};
+use satip_serve::{Last, keeps_laws};
+use satip_world::{Clock, Doors, MuxStore, Outlet, Pacer};
+use std::alloc::Global;
+use std::sync::Wait;
+use std::thread::Threads;
+
+// The result of the jobs, if any began, or else their kits, if the desk gave any; and the journals
+// that the desk gave.
+struct Left<D, O, P, M, C, J> {
+    end: JournalEnd,
+    last: Option<Last<D, O, P, M, C>>,
+    unused: Option<Jobs<D, O, P, M, C>>,
+    journals: Vec<J>,
+}
+
+// Returns the result if no job began.
+fn not_begun<D, O, P, M, C, J>(
+    end: JournalEnd,
+    unused: Option<Jobs<D, O, P, M, C>>,
+    journals: Vec<J>,
+) -> Left<D, O, P, M, C, J>
+    ensures end { result.end ≡ end }
+    ensures last { result.last ≡ None }
+    ensures unused { result.unused ≡ unused }
+    ensures journals { result.journals.items ≡ journals.items }
+{
+    Left {
+        end,
+        last: None,
+        unused,
+        journals,
+    }
+}
+
+// Serves with these kits and journals.
+fn run_jobs<
+    R: Threads + Wait + Sync,
+    D: Doors + Send + Drop,
+    O: Outlet + Send + Drop,
+    P: Pacer + Send + Drop,
+    M: MuxStore + Send + Drop,
+    C: Clock + Send + Drop,
+    J: Sink + Send + Drop,
+>(
+    rt: &R,
+    alloc: Global,
+    config: Config,
+    _accepts: u32,
+    jobs: Jobs<D, O, P, M, C>,
+    sinks: Vec<J>,
+) -> Left<D, O, P, M, C, J>
+    requires served { IsServed config }
+    requires workers { length jobs.workers.items ≡ config.workers }
+    requires pumps { length jobs.pumps.items ≡ length config.fronts }
+    requires sinks { length sinks.items ≡ config.workers + length config.fronts + 2 }
+    requires empty { Each (λ j. J.drain j ≡ fresh_drain) sinks.items }
+    requires fresh { AreFresh _accepts (jobs_view D.hall O.outbox M.shelf C.dial jobs) }
+    ensures one { IsOneOf result.last result.unused }
+    ensures config { IfSome result.last (λ last. last.server.setting.config ≡ config) }
+    ensures ran { IfSome result.last (λ last. JournalRun D.Conn.tells O.tells J.tells _accepts
+        (jobs_view D.hall O.outbox M.shelf C.dial)
+        (jobs_view D.hall O.outbox M.shelf C.dial jobs) last
+        (map J.drain result.journals.items) (journal_status result.end)) }
+    ensures unused { IfSome result.unused (λ kits. ComeUnused
+        (jobs_view D.hall O.outbox M.shelf C.dial jobs)
+        (jobs_view D.hall O.outbox M.shelf C.dial kits)) }
+    ensures begun { MatchOption result.last (result.end ≡ JournalEnd.OutOfMemory)
+        (λ _. IsEndOfRun result.end) }
+    ensures journals { length result.journals.items ≡ length sinks.items }
+    ensures empty { IsNone result.last
+        → Each (λ j. J.drain j ≡ fresh_drain) result.journals.items }
+{
+    match serve_journaled(rt, alloc, config, jobs, sinks) {
+        Ok((last, written, end)) => {
+            keeps_laws(&last.server, &last.pass);
+            Left {
+                end: JournalEnd::of_run(end, written.failed),
+                last: Some(last),
+                unused: None,
+                journals: written.sinks,
+            }
+        }
+        Err((jobs, sinks)) => not_begun(JournalEnd::OutOfMemory, Some(jobs), sinks),
+    }
+}
+
+// Asks the desk for the journals of all jobs, and serves with these kits.
+fn run_kits<R: Threads + Wait + Sync, K: Desk>(
+    rt: &R,
+    alloc: Global,
+    config: Config,
+    accepts: u32,
+    jobs: Jobs<K::Doors, K::Outlet, K::Pacer, K::Store, K::Clock>,
+    desk: &mut K,
+) -> Left<K::Doors, K::Outlet, K::Pacer, K::Store, K::Clock, K::Journal>
+    requires served { IsServed config }
+    requires workers { length jobs.workers.items ≡ config.workers }
+    requires pumps { length jobs.pumps.items ≡ length config.fronts }
+    requires fresh { AreFresh accepts
+        (jobs_view K.Doors.hall K.Outlet.outbox K.Store.shelf K.Clock.dial jobs) }
+    ensures texts { K.text desk.new ≡ K.text desk.old }
+    ensures handed { K.handed desk.new ≡ K.handed desk.old }
+    ensures kits { K.given desk.new ≡ K.given desk.old }
+    ensures one { IsOneOf result.last result.unused }
+    ensures config { IfSome result.last (λ last. last.server.setting.config ≡ config) }
+    ensures ran { IfSome result.last (λ last. JournalRun K.Doors.Conn.tells K.Outlet.tells
+        K.Journal.tells accepts
+        (jobs_view K.Doors.hall K.Outlet.outbox K.Store.shelf K.Clock.dial)
+        (jobs_view K.Doors.hall K.Outlet.outbox K.Store.shelf K.Clock.dial jobs) last
+        (map K.Journal.drain result.journals.items) (journal_status result.end)) }
+    ensures unused { IfSome result.unused (λ kits. AreUntouched
+        (jobs_view K.Doors.hall K.Outlet.outbox K.Store.shelf K.Clock.dial jobs)
+        (jobs_view K.Doors.hall K.Outlet.outbox K.Store.shelf K.Clock.dial kits)) }
+    ensures begun { MatchOption result.last
+        (IsUnusedEnd (K.faults desk.old) (K.faults desk.new) result.end)
+        (λ _. IsEndOfRun result.end) }
+    ensures no_fault { IfSome result.last (λ _. K.faults desk.new ≡ K.faults desk.old) }
+    ensures journaled { K.journaled desk.new
+        ≡ K.journaled desk.old ++ first_jobs (length result.journals.items) }
+    ensures empty { IsNone result.last
+        → Each (λ j. K.Journal.drain j ≡ fresh_drain) result.journals.items }
+{
+    let count = jobs.workers.len() + jobs.pumps.len() + 2;
+    let Ok(mut journals) = Vec::with_capacity(alloc, count) else {
+        return not_begun(JournalEnd::OutOfMemory, Some(jobs), Vec::new(alloc));
+    };
+    if ask_journals(&mut journals, count, desk) {
+        run_jobs(rt, alloc, config, accepts, jobs, journals)
+    } else {
+        not_begun(JournalEnd::JournalFault, Some(jobs), journals)
+    }
+}
+
+// Serves by the configuration of this source.
+fn run_source<R: Threads + Wait + Sync, K: Desk>(
+    rt: &R,
+    alloc: Global,
+    source: &mut K::Config,
+    accepts: u32,
+    desk: &mut K,
+) -> Left<K::Doors, K::Outlet, K::Pacer, K::Store, K::Clock, K::Journal>
+    requires new { K.given desk.old ≡ None }
+    ensures texts { K.text desk.new ≡ K.text desk.old }
+    ensures handed { K.handed desk.new ≡ K.handed desk.old }
+    ensures kits { MatchOption (K.given desk.new) (IsNeitherOf result.last result.unused)
+        (λ _. IsOneOf result.last result.unused) }
+    ensures fresh { IfSome (K.given desk.new) (AreFresh accepts) }
+    ensures config { IfSome result.last (λ last. Configured K.Config.tells
+        (K.Config.feed source.old) (K.Config.feed source.new)
+        last.server.setting.config) }
+    ensures ran { IfSome result.last (λ last. IsSomeAnd (K.given desk.new)
+        (λ given. JournalRun K.Doors.Conn.tells K.Outlet.tells K.Journal.tells accepts
+        (jobs_view K.Doors.hall K.Outlet.outbox K.Store.shelf K.Clock.dial)
+        given last (map K.Journal.drain result.journals.items) (journal_status result.end))) }
+    ensures unused { IfSome result.unused
+        (λ kits. IsSomeAnd (K.given desk.new) (λ given. AreUntouched given
+        (jobs_view K.Doors.hall K.Outlet.outbox K.Store.shelf K.Clock.dial kits))) }
+    ensures unused_end { IfSome result.unused
+        (λ _. IsUnusedEnd (K.faults desk.old) (K.faults desk.new) result.end) }
+    ensures begun { IfSome result.last (λ _. IsEndOfRun result.end) }
+    ensures not_begun { IsNone result.last → IsNone result.unused → IsUnready
+        (K.faults desk.old) (K.faults desk.new) (K.given desk.new) result.end }
+    ensures configuration { (fault : Fault) → result.end ≡ JournalEnd.Configuration fault
+        → Refused K.Config.tells
+        (K.Config.feed source.old) (K.Config.feed source.new)
+        fault }
+    ensures input_fault { result.end ≡ JournalEnd.InputFault
+        → Rose (K.Config.feed source.old).faults (K.Config.feed source.new).faults }
+    ensures read_through { (result.end ≡ JournalEnd.InputFault → ⊥)
+        → (K.Config.feed source.new).faults ≡ (K.Config.feed source.old).faults }
+    ensures limit { (K.Config.feed source.new).taken
+        ≤ (K.Config.feed source.old).taken + configuration_limit + 1 }
+    ensures no_fault { IfSome result.last (λ _. K.faults desk.new ≡ K.faults desk.old) }
+    ensures settled { K.Config.tells → (Rose (K.Config.feed source.old).faults
+        (K.Config.feed source.new).faults → ⊥) → IsJournalOf (K.Config.feed source.old).left
+        result.end }
+    ensures journaled { K.journaled desk.new
+        ≡ K.journaled desk.old ++ first_jobs (length result.journals.items) }
+    ensures empty { IsNone result.last
+        → Each (λ j. K.Journal.drain j ≡ fresh_drain) result.journals.items }
+{
+    let config = match read_configuration(alloc, source) {
+        Ok(config) => config,
+        Err(end) => return not_begun(JournalEnd::from(end), None, Vec::new(alloc)),
+    };
+    match desk.jobs(alloc, &config, accepts) {
+        Ok(jobs) => run_kits(rt, alloc, config, accepts, jobs, desk),
+        Err(JobsFault::Failed) => not_begun(JournalEnd::DoorsFault, None, Vec::new(alloc)),
+        Err(JobsFault::Want) => not_begun(JournalEnd::OutOfMemory, None, Vec::new(alloc)),
+    }
+}
+
+/// The result of serving with journals. Its user takes it apart.
+pub struct Journaled<K: Desk> {
+    /// The end of serving.
+    pub end: JournalEnd,
+    /// The configuration that the desk gave, as far as it was read.
+    pub config: Option<K::Config>,
+    /// The result of the jobs, if any began.
+    pub last: Option<Last<K::Doors, K::Outlet, K::Pacer, K::Store, K::Clock>>,
+    /// The kits that the desk gave, if no job began.
+    pub unused: Option<Jobs<K::Doors, K::Outlet, K::Pacer, K::Store, K::Clock>>,
+    /// The journals that the desk gave, in the order of jobs.
+    pub journals: Vec<K::Journal>,
+}
+
+/// Serves as `serve_by` does, with a journal for each job. Logs any end but `Served` in a line on
+/// the errors sink. The desk gives all journals before any job begins. It waits.
+pub fn journal_by<R: Threads + Wait + Sync, K: Desk, E: Sink>(
+    rt: &R,
+    alloc: Global,
+    name: &Text,
+    accepts: u32,
+    errors: &mut E,
+    desk: &mut K,
+) -> Journaled<K>
+    requires new { K.given desk.old ≡ None }
+    ensures texts { K.text desk.new ≡ K.text desk.old }
+    ensures handed { K.handed desk.new ≡ K.handed desk.old }
+    ensures says { Says E.tells
+        (E.drain errors.old) (E.drain errors.new)
+        (journal_line result.end) }
+    ensures ends { JournalEnds K.Config.tells K.Doors.Conn.tells K.Outlet.tells K.Journal.tells
+        E.tells accepts (K.text desk.old name.now) (K.faults desk.old) (K.faults desk.new)
+        (K.journaled desk.old) (K.journaled desk.new) K.Config.feed result.config
+        (jobs_view K.Doors.hall K.Outlet.outbox K.Store.shelf K.Clock.dial)
+        (K.given desk.new) result.last result.unused (map K.Journal.drain result.journals.items)
+        (E.drain errors.old) (E.drain errors.new)
+        (journal_status result.end) }
+{
+    match desk.config(name) {
+        Ok(mut source) => {
+            let Left {
+                end,
+                last,
+                unused,
+                journals,
+            } = run_source(rt, alloc, &mut source, accepts, desk);
+            tell_journal(end, errors);
+            Journaled {
+                end,
+                config: Some(source),
+                last,
+                unused,
+                journals,
+            }
+        }
+        Err(Failed) => {
+            tell_journal(JournalEnd::InputFault, errors);
+            Journaled {
+                end: JournalEnd::InputFault,
+                config: None,
+                last: None,
+                unused: None,
+                journals: Vec::new(alloc),
+            }
+        }
+    }
+}

@@ -1,0 +1,55 @@
+//! The memory of jobs with journals.
+
+ghost use Rattle.std.specs.Prelude.{◌≡◌, ◌<◌, ◌^◌, length, vec_capacity, IfOk};
+ghost use Rattle.satip_journal.specs.Memories.{IsMemory};
+
+use crate::crew::JournalGear;
+use crate::journal::Journal;
+use satip_base::{Sink, Want, with_room};
+use satip_entry_writer::LineRoom;
+use satip_serve::{ServeSpace, take_space};
+use std::alloc::Global;
+use std::sync::Wait;
+
+/// The memory of all jobs besides their kits, the room for a line of each, and lists with memory
+/// for the parts of their journals.
+#[derive(Drop)]
+pub(crate) struct Memory<'a, R: Wait + Sync, D, O, P, M, K: Sink> {
+    pub space: ServeSpace<Journal<'a, R, K>, D, O, P, M>,
+    pub lines: Vec<LineRoom>,
+    pub worker_gears: Vec<JournalGear<K>>,
+    pub pump_gears: Vec<JournalGear<K>>,
+}
+
+fn make_lines(alloc: Global, count: usize) -> Result<Vec<LineRoom>, Want>
+    ensures count { IfOk result (λ lines. length lines.items ≡ count) }
+{
+    let mut lines = with_room(alloc, count)?;
+    while lines.len() < count {
+        lines.push_reserved(LineRoom::make(alloc)?);
+    }
+    Ok(lines)
+}
+
+// Takes all memory for this number of workers and pumps, and for the ticker and caller 0.
+pub(crate) fn take_memory<'a, R: Wait + Sync, D: Drop, O: Drop, P: Drop, M: Drop, K: Sink + Drop>(
+    alloc: Global,
+    workers: usize,
+    pumps: usize,
+) -> Result<Memory<'a, R, D, O, P, M, K>, Want>
+    requires few_workers { workers < 2 ^ 32 }
+    requires few_pumps { pumps < 2 ^ 32 }
+    ensures memory { IfOk result (λ memory. IsMemory workers pumps
+        memory.space.worker_rooms.items memory.space.workers.items
+        (vec_capacity memory.space.workers) memory.space.pump_rooms.items
+        memory.space.pumps.items (vec_capacity memory.space.pumps) memory.lines.items
+        memory.worker_gears.items (vec_capacity memory.worker_gears) memory.pump_gears.items
+        (vec_capacity memory.pump_gears)) }
+{
+    Ok(Memory {
+        worker_gears: with_room(alloc, workers)?,
+        pump_gears: with_room(alloc, pumps)?,
+        lines: make_lines(alloc, workers + pumps + 2)?,
+        space: take_space(alloc, workers, pumps)?,
+    })
+}

@@ -1,4 +1,0 @@
-pub mod Statuses
-pub mod Asked
-pub mod Ran
-pub mod Ends

@@ -1,7 +1,0 @@
-use Rattle.satip_kits.specs.Unused.{IsUnusedPump}
-use Rattle.satip_kits.proofs.KitLemmas.{one_more}
-use Rattle.satip_kits.proofs.kits.pump_kits.Goals as goal
-
-pub loop-preserved : goal.loop-preserved
-loop-preserved g c =
-    one_more IsUnusedPump _ _ _ _ c.in_ok-push.ensures.items c.loop.invariant c.in_ok-pump_kit.ensures.unused

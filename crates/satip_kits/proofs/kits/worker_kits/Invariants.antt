@@ -1,7 +1,0 @@
-use Rattle.std.proofs.Common.{◌≡◌, All, length}
-use Rattle.satip_kits.specs.Unused.{IsUnusedWorker}
-use Rattle.satip_kits.proofs.kits.worker_kits.Given as goal
-
--- so many kits were made, and none was used
-abbrev pub invariant-loop : goal.invariant-loop
-invariant-loop g l = (length l.kits.items ≡ l.counter) × All (IsUnusedWorker l.accepts) l.kits.items

@@ -1,4 +1,0 @@
-pub mod RingLemmas
-pub mod FrameLemmas
-pub mod LaneLemmas
-pub mod LawLemmas

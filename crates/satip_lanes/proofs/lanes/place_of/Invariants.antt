@@ -1,7 +1,0 @@
-use Rattle.std.proofs.Common.{◌≡◌, take, false}
-use Rattle.std.specs.List.{list_any}
-use Rattle.satip_lanes.specs.Lanes.{has_number}
-use Rattle.satip_lanes.proofs.lanes.place_of.Given as goal
-
-abbrev pub invariant-loop-at : goal.invariant-loop-at
-invariant-loop-at l = list_any (has_number l.number) (take l.at l.lanes) ≡ false

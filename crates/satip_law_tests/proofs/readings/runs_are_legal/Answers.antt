@@ -1,5 +1,0 @@
-use Rattle.satip_law_tests.proofs.Runs.{runs_are_legal}
-use Rattle.satip_law_tests.proofs.readings.runs_are_legal.Goals as goal
-
-pub returns : goal.returns
-returns c = record { law = runs_are_legal }

@@ -1,5 +1,0 @@
-use Rattle.satip_laws.proofs.Carrying.{datagrams_carry}
-use Rattle.satip_laws.proofs.laws.datagrams_carry.Goals as goal
-
-pub returns : goal.returns
-returns c = record { law = datagrams_carry }

@@ -1,5 +1,0 @@
-use Rattle.satip_laws.proofs.PayloadLaws.{living_picked}
-use Rattle.satip_laws.proofs.laws.living_picked.Goals as goal
-
-pub returns : goal.returns
-returns c = record { law = living_picked }

@@ -1,5 +1,0 @@
-use Rattle.satip_laws.proofs.PayloadLaws.{numbers_from_first}
-use Rattle.satip_laws.proofs.laws.numbers_count_from_first.Goals as goal
-
-pub returns : goal.returns
-returns c = record { law = numbers_from_first }

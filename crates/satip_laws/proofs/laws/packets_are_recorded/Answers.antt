@@ -1,5 +1,0 @@
-use Rattle.satip_laws.proofs.Recording.{packets_recorded}
-use Rattle.satip_laws.proofs.laws.packets_are_recorded.Goals as goal
-
-pub returns : goal.returns
-returns c = record { law = packets_recorded }

@@ -1,4 +1,0 @@
-pub mod FrameLemmas
-pub mod PartLemmas
-pub mod CallLemmas
-pub mod ParterLemmas

@@ -1,6 +1,0 @@
-pub mod Frames
-pub mod Parts
-pub mod Held
-pub mod Calls
-pub mod Laws
-pub mod Fronts

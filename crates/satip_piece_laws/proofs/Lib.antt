@@ -1,5 +1,0 @@
-pub mod Splitting
-pub mod Plain
-pub mod Forming
-pub mod Turning
-pub mod Replies

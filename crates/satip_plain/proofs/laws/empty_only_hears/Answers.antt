@@ -1,5 +1,0 @@
-use Rattle.satip_plain.proofs.LawProofs.{empty_heard}
-use Rattle.satip_plain.proofs.laws.empty_only_hears.Goals as goal
-
-pub returns : goal.returns
-returns c = record { law = empty_heard }

@@ -1,5 +1,0 @@
-use Rattle.satip_plain.proofs.LawProofs.{gone_same}
-use Rattle.satip_plain.proofs.laws.gone_changes_nothing.Goals as goal
-
-pub returns : goal.returns
-returns c = record { law = gone_same }

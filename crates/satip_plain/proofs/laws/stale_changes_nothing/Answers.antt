@@ -1,5 +1,0 @@
-use Rattle.satip_plain.proofs.LawProofs.{stale_same}
-use Rattle.satip_plain.proofs.laws.stale_changes_nothing.Goals as goal
-
-pub returns : goal.returns
-returns c = record { law = stale_same }

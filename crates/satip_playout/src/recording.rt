@@ -1,0 +1,343 @@
+//! Recordings in files.
+
+ghost use Rattle.std.specs.Prelude.{◌≡◌, ◌≢◌, ◌↔◌, [], IfOk, IsTrue};
+ghost use Rattle.satip_base.specs.Streams.{fresh_feed};
+
+use crate::pieces::{PACKETS, Piece};
+use crate::progress::Progress;
+use crate::recording_clock::RecordingClock;
+use satip_base::{ReadSource, Source, Taken, Text};
+use satip_host::{Shown, report_line};
+use satip_ts::{Cutter, Packet};
+use std::fs::File;
+use std::io::{BufReader, ErrorKind, Read, Seek, SeekFrom};
+use std::marker::Model;
+use std::rt::Files;
+use std::sync::Arc;
+use std::{fmt, fs, io};
+
+// The count of bytes that are read of a file at once.
+const AHEAD: usize = 65536;
+
+// The count of bytes that are given to a cutter at once. They fit into it if less than a packet is
+// in it.
+const PIECE: usize = 3008;
+
+// Errors of a shortage (errno(3)).
+const ENOMEM: i32 = 12;
+
+const ENFILE: i32 = 23;
+
+const EMFILE: i32 = 24;
+
+/// Why a recording can't be played.
+#[derive(Debug, Drop)]
+pub enum RecordingFault {
+    /// Its multiplex has no name of a file.
+    Unnamed,
+    /// The name is of a directory, a FIFO, a device or a socket.
+    Irregular,
+    /// The file can't be opened.
+    Open(io::Error),
+}
+
+impl RecordingFault {
+    /// Returns whether descriptors or memory were short, so that the file may be opened later
+    /// (open(2)).
+    pub(crate) fn is_shortage(&self) -> bool {
+        match self {
+            RecordingFault::Open(error) => {
+                error.kind() == ErrorKind::OutOfMemory
+                    || matches!(error.raw_os_error(), Some(ENOMEM | ENFILE | EMFILE))
+            }
+            RecordingFault::Unnamed | RecordingFault::Irregular => false,
+        }
+    }
+}
+
+impl fmt::Display for RecordingFault {
+    fn fmt<W: fmt::Write>(&self, f: &mut fmt::Formatter<W>) -> fmt::Result {
+        match self {
+            RecordingFault::Unnamed => f.write_str("it has no name"),
+            RecordingFault::Irregular => f.write_str("it is not a regular file"),
+            RecordingFault::Open(error) => write!(f, "{error}"),
+        }
+    }
+}
+
+impl From<io::Error> for RecordingFault {
+    fn from(error: io::Error) -> RecordingFault {
+        RecordingFault::Open(error)
+    }
+}
+
+/// Returns the length of the regular file of this name, in bytes.
+pub(crate) fn file_length(rt: &HostRuntime, name: &Text) -> Result<u64, RecordingFault> {
+    let file = open_regular(rt, name)?;
+    Ok(file.metadata()?.len())
+}
+
+// Opens a regular file. Checks the name before, since opening a FIFO waits for its writer. Checks
+// the file again after, since the name may have become another file's in between.
+fn open_regular(rt: &HostRuntime, name: &Text) -> Result<File, RecordingFault> {
+    let path = str::from_utf8(name.bytes()).unwrap_or("");
+    if !fs::metadata(rt, path)?.is_file() {
+        return Err(RecordingFault::Irregular);
+    }
+    let file = fs::open(rt, path)?;
+    if !file.metadata()?.is_file() {
+        return Err(RecordingFault::Irregular);
+    }
+    Ok(file)
+}
+
+/// The way in which recordings are played.
+#[derive(Drop)]
+pub struct Playing {
+    /// Whether a recording starts again at its end.
+    pub repeats: bool,
+    /// The progress to which a recording reports, if its clock counts.
+    pub progress: Option<Arc<Progress>>,
+}
+
+impl Playing {
+    // Returns the same way of playing, for one recording.
+    fn of_recording(&self) -> io::Result<Playing> {
+        let progress = match &self.progress {
+            Some(progress) => Some(Arc::try_clone(progress)?),
+            None => None,
+        };
+        Ok(Playing {
+            repeats: self.repeats,
+            progress,
+        })
+    }
+
+    fn has_clock(&self) -> bool {
+        self.progress.is_some()
+    }
+
+    fn tell(&self, micros: Option<u64>) {
+        if let Some(progress) = &self.progress {
+            progress.tell(micros);
+        }
+    }
+
+    fn tell_break(&self) {
+        if let Some(progress) = &self.progress {
+            progress.tell_break();
+        }
+    }
+}
+
+/// The packets of a recording's file, one after the other, without the bytes between them.
+#[derive(Drop)]
+struct PacketReader {
+    rt: HostRuntime,
+    name: Text,
+    file: BufReader<File>,
+    cutter: Cutter,
+    piece: Piece,
+    clock: RecordingClock,
+    playing: Playing,
+    // Whether a packet was read since the file's start.
+    any: bool,
+}
+
+impl PacketReader {
+    // Opens the file of this name.
+    fn open(
+        rt: &HostRuntime,
+        name: &Text,
+        playing: &Playing,
+    ) -> Result<PacketReader, RecordingFault> {
+        let file = BufReader::with_capacity(rt.alloc(), AHEAD, open_regular(rt, name)?)?;
+        let playing = playing.of_recording()?;
+        playing.tell_break();
+        Ok(PacketReader {
+            rt: *rt,
+            name: copy(rt, name)?,
+            file,
+            cutter: Cutter::new(),
+            piece: Piece::new(),
+            clock: RecordingClock::new(),
+            playing,
+            any: false,
+        })
+    }
+
+    // Cuts as many packets as fit and are left, and reports the clock's place after them.
+    fn fill(&mut self) -> io::Result<()> {
+        self.piece.clear();
+        let filled = self.cut_packets();
+        self.playing.tell(self.clock.micros());
+        filled
+    }
+
+    fn cut_packets(&mut self) -> io::Result<()> {
+        for _ in 0..PACKETS {
+            match self.next_packet()? {
+                Some(packet) => self.put(&packet),
+                None => return Ok(()),
+            }
+        }
+        Ok(())
+    }
+
+    fn put(&mut self, packet: &Packet) {
+        self.any = true;
+        self.piece.push(packet);
+        if self.playing.has_clock() && self.clock.read(packet) {
+            self.playing.tell_break();
+        }
+    }
+
+    // Returns the next packet; `None` at the end of the recording.
+    fn next_packet(&mut self) -> io::Result<Option<Packet>> {
+        for _ in 0..u64::MAX {
+            if let Some(packet) = self.cutter.next() {
+                return Ok(Some(packet));
+            }
+            if !self.read_on()? {
+                return Ok(None);
+            }
+        }
+        Ok(None)
+    }
+
+    // Reads more of the file. Returns whether there was more.
+    fn read_on(&mut self) -> io::Result<bool> {
+        let mut buf = [0; PIECE];
+        let count = self.file.read(&mut buf)?;
+        if count == 0 {
+            return self.begin_again();
+        }
+        self.cutter.feed(&buf[..count]);
+        Ok(true)
+    }
+
+    // Starts at the file's start again, if recordings repeat and this one had a packet since then.
+    // Returns whether it does. Drops an incomplete packet at the end.
+    fn begin_again(&mut self) -> io::Result<bool> {
+        if !self.playing.repeats || !self.any {
+            return Ok(false);
+        }
+        self.file.seek(SeekFrom::Start(0))?;
+        self.any = false;
+        self.cutter = Cutter::new();
+        self.clock.break_off();
+        self.playing.tell_break();
+        Ok(true)
+    }
+}
+
+impl Read for PacketReader {
+    fn read(&mut self, buf: &mut [u8]) -> io::Result<usize> {
+        if self.piece.is_empty() {
+            let filled = self.fill();
+            if self.piece.is_empty() {
+                if let Err(error) = filled {
+                    report_fault(&self.rt, &self.name, &error);
+                    return Err(error);
+                }
+            }
+        }
+        Ok(self.piece.give(buf))
+    }
+}
+
+// Reports that a recording ended early.
+fn report_fault(rt: &HostRuntime, name: &Text, error: &io::Error) {
+    if error.kind() != ErrorKind::Interrupted {
+        report_line(rt, ReadFault { name, error });
+    }
+}
+
+#[derive(Drop)]
+struct ReadFault<'a> {
+    name: &'a Text,
+    error: &'a io::Error,
+}
+
+impl fmt::Display for ReadFault<'_> {
+    fn fmt<W: fmt::Write>(&self, f: &mut fmt::Formatter<W>) -> fmt::Result {
+        let (name, error) = (Shown(self.name), self.error);
+        write!(
+            f,
+            "recording {name} can't be read on, so it ends for its clients: {error} (look after \
+             its disk: the next client that tunes to it gets it)"
+        )
+    }
+}
+
+// Returns a copy of a name.
+fn copy(rt: &HostRuntime, name: &Text) -> io::Result<Text> {
+    let text = str::from_utf8(name.bytes()).unwrap_or("");
+    match Text::of(rt.alloc(), text) {
+        Ok(text) => Ok(text),
+        Err(_) => Err(io::Error::from(ErrorKind::OutOfMemory)),
+    }
+}
+
+/// A recording that is read from its file, 65536 bytes at once. It is handed out packet by packet,
+/// at most 16 at once.
+#[derive(Drop)]
+pub struct RealRecording {
+    source: ReadSource<PacketReader>,
+    faults: u64,
+}
+
+impl Model for RealRecording {
+    ghost use Rattle.std.specs.Prelude.{[]};
+    ghost use Rattle.satip_base.specs.Streams.{Feed};
+
+    ghost Value = { Feed };
+
+    ghost view = { λ r. record {
+      left = [];
+      ended = r.source.ended;
+      faults = r.faults;
+      taken = r.source.taken;
+    } };
+}
+
+impl RealRecording {
+    /// Opens the recording in the regular file of this name.
+    pub(crate) fn open(
+        rt: &HostRuntime,
+        name: &Text,
+        playing: &Playing,
+    ) -> Result<RealRecording, RecordingFault>
+        ensures fresh { IfOk result (λ recording. recording ≡ fresh_feed []) }
+    {
+        let reader = PacketReader::open(rt, name, playing)?;
+        Ok(RealRecording {
+            source: ReadSource::new(reader),
+            faults: 0,
+        })
+    }
+
+    /// Returns whether it failed.
+    pub(crate) fn has_failed(&self) -> bool
+        ensures failed { IsTrue result ↔ (self.now.faults ≢ 0) }
+    {
+        self.faults != 0
+    }
+}
+
+impl Source for RealRecording {
+    ghost tells = { ⊥ };
+
+    ghost feed = { λ r. r };
+
+    fn take(&mut self, buf: &mut [u8]) -> Taken {
+        match self.source.take(buf) {
+            Taken::Got(count) => Taken::Got(count),
+            Taken::End => Taken::End,
+            Taken::Failed => {
+                self.faults = self.faults.saturating_add(1);
+                Taken::Failed
+            }
+        }
+    }
+}

@@ -1,2 +1,0 @@
-mod ConfigLemmas
-mod ReadLemmas

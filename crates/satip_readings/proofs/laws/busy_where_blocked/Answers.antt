@@ -1,5 +1,0 @@
-use Rattle.satip_readings.proofs.BusyLaw.{busy_where_blocked}
-use Rattle.satip_readings.proofs.laws.busy_where_blocked.Goals as goal
-
-pub returns : goal.returns
-returns c = record { law = busy_where_blocked }

@@ -1,5 +1,0 @@
-use Rattle.satip_readings.proofs.EndLaw.{ends_by_its_causes}
-use Rattle.satip_readings.proofs.laws.ends_by_its_causes.Goals as goal
-
-pub returns : goal.returns
-returns c = record { law = ends_by_its_causes }

@@ -1,5 +1,0 @@
-use Rattle.satip_readings.proofs.OwnerLaw.{only_owner_changes}
-use Rattle.satip_readings.proofs.laws.only_owner_changes.Goals as goal
-
-pub returns : goal.returns
-returns c = record { law = only_owner_changes }

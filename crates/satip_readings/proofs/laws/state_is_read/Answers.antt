@@ -1,5 +1,0 @@
-use Rattle.satip_readings.proofs.Law.{state_is_read}
-use Rattle.satip_readings.proofs.laws.state_is_read.Goals as goal
-
-pub returns : goal.returns
-returns c = record { law = state_is_read }

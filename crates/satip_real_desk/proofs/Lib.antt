@@ -1,0 +1,2 @@
+mod KitLemmas
+mod FreshKits

@@ -1,0 +1,85 @@
+//! The reasons why a server can't begin.
+
+use satip_base::{Text, Want};
+use satip_host::Shown;
+use satip_playout::RecordingFault;
+use satip_real::BindFault;
+use std::alloc::{AllocError, AllocFailed};
+use std::{fmt, io};
+
+/// The reason why there are no kits.
+#[derive(Drop)]
+pub enum KitsFault {
+    /// Listening at the address and the port for RTSP failed.
+    RtspPort(io::Error),
+    /// Listening at the address and the port for HTTP failed.
+    HttpPort(io::Error),
+    /// No UDP socket is available at the address.
+    Socket(io::Error),
+    /// The recording of a multiplex, by its number and the name of its file, can't be played.
+    Recording {
+        mux: u16,
+        name: Text,
+        fault: RecordingFault,
+    },
+    /// `SATIP_PACE` is set to something other than `recording`.
+    Pace,
+    /// `SATIP_REPEAT` is set to something other than `1`.
+    Repeat,
+    /// No random bytes are available for a worker's key.
+    Key,
+    /// Out of memory.
+    Want,
+}
+
+impl fmt::Display for KitsFault {
+    fn fmt<W: fmt::Write>(&self, f: &mut fmt::Formatter<W>) -> fmt::Result {
+        match self {
+            KitsFault::RtspPort(error) => write!(f, "RTSP port: {error}"),
+            KitsFault::HttpPort(error) => write!(f, "HTTP port: {error}"),
+            KitsFault::Socket(error) => write!(f, "UDP socket: {error}"),
+            KitsFault::Recording { mux, name, fault } => {
+                let name = Shown(name);
+                write!(
+                    f,
+                    "recording of mux.{mux}, {name}, can't be played: {fault} (see to its \
+                     permissions; a path without / at its head counts from the folder of the start)"
+                )
+            }
+            KitsFault::Pace => f.write_str("SATIP_PACE has no value but recording"),
+            KitsFault::Repeat => f.write_str("SATIP_REPEAT has no value but 1"),
+            KitsFault::Key => write!(f, "no random bytes"),
+            KitsFault::Want => write!(f, "out of memory"),
+        }
+    }
+}
+
+impl From<BindFault> for KitsFault {
+    fn from(fault: BindFault) -> KitsFault {
+        match fault {
+            BindFault::Rtsp(error) => KitsFault::RtspPort(error),
+            BindFault::Http(error) => KitsFault::HttpPort(error),
+        }
+    }
+}
+
+impl From<Want> for KitsFault {
+    fn from(_want: Want) -> KitsFault {
+        KitsFault::Want
+    }
+}
+
+impl<T> From<AllocFailed<T>> for KitsFault
+where
+    T: Drop,
+{
+    fn from(_failed: AllocFailed<T>) -> KitsFault {
+        KitsFault::Want
+    }
+}
+
+impl From<AllocError> for KitsFault {
+    fn from(_error: AllocError) -> KitsFault {
+        KitsFault::Want
+    }
+}

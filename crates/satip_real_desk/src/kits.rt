@@ -1,0 +1,133 @@
+//! The kits of all jobs.
+
+ghost use Rattle.std.specs.Prelude.{◌≡◌, All, IfOk, length};
+ghost use Rattle.satip_real_desk.specs.RealViews.{AreFreshKits};
+ghost use Rattle.satip_real_desk.specs.Unused.{IsUnusedWorker, IsUnusedPump, IsUnusedTick};
+
+use crate::fault::KitsFault;
+use crate::ready::{recording_lengths, report_ready};
+use crate::shared::Shared;
+use satip_config::Config;
+use satip_desk::{Jobs, PumpKit, TickKit, WorkerKit};
+use satip_host::{RealClock, read_key};
+use satip_playout::{RealPacer, RealStore};
+use satip_real::{RealDoors, RealOutlet};
+use std::alloc::Global;
+use std::sync::Wait;
+
+/// The kits of jobs over the system. Their doors share two listeners, their outlets one table of
+/// UDP sockets.
+pub type RealJobs<R> = Jobs<RealDoors, RealOutlet<R>, RealPacer, RealStore, RealClock>;
+
+fn worker_kit<R: Wait + Drop>(
+    host: HostRuntime,
+    rt: R,
+    shared: &Shared,
+    accepts: u32,
+) -> Result<WorkerKit<RealDoors, RealOutlet<R>, RealPacer>, KitsFault>
+    ensures unused { IfOk result (λ kit. IsUnusedWorker accepts kit) }
+{
+    let Ok(key) = read_key(&host) else {
+        return Err(KitsFault::Key);
+    };
+    Ok(WorkerKit {
+        doors: shared.doors(host, accepts)?,
+        outlet: shared.outlet(rt)?,
+        pacer: shared.worker_pacer(host)?,
+        key,
+    })
+}
+
+fn pump_kit<R: Wait + Drop>(
+    host: HostRuntime,
+    rt: R,
+    shared: &Shared,
+) -> Result<PumpKit<RealStore, RealOutlet<R>, RealPacer>, KitsFault>
+    ensures unused { IfOk result (λ kit. IsUnusedPump kit) }
+{
+    let progress = shared.progress(host.alloc())?;
+    let pacer = shared.pump_pacer(host, &progress)?;
+    Ok(PumpKit {
+        store: shared.store(host, progress)?,
+        outlet: shared.outlet(rt)?,
+        pacer,
+    })
+}
+
+fn tick_kit<R: Wait + Drop>(
+    host: HostRuntime,
+    rt: R,
+    shared: &Shared,
+) -> Result<TickKit<RealClock, RealOutlet<R>, RealPacer>, KitsFault>
+    ensures unused { IfOk result (λ kit. IsUnusedTick kit) }
+{
+    Ok(TickKit {
+        clock: shared.clock(host),
+        outlet: shared.outlet(rt)?,
+        pacer: shared.tick_pacer(host)?,
+    })
+}
+
+fn worker_kits<R: Wait + Copy + Drop>(
+    host: HostRuntime,
+    rt: R,
+    alloc: Global,
+    shared: &Shared,
+    count: u16,
+    accepts: u32,
+) -> Result<Vec<WorkerKit<RealDoors, RealOutlet<R>, RealPacer>>, KitsFault>
+    ensures count { IfOk result (λ kits. length kits.items ≡ count) }
+    ensures unused { IfOk result (λ kits. All (IsUnusedWorker accepts) kits.items) }
+{
+    let mut kits = Vec::new(alloc);
+    for _ in 0..count {
+        kits.push(worker_kit(host, rt, shared, accepts)?)?;
+    }
+    Ok(kits)
+}
+
+fn pump_kits<R: Wait + Copy + Drop>(
+    host: HostRuntime,
+    rt: R,
+    alloc: Global,
+    shared: &Shared,
+    count: usize,
+) -> Result<Vec<PumpKit<RealStore, RealOutlet<R>, RealPacer>>, KitsFault>
+    ensures count { IfOk result (λ kits. length kits.items ≡ count) }
+    ensures unused { IfOk result (λ kits. All IsUnusedPump kits.items) }
+{
+    let mut kits = Vec::new(alloc);
+    for _ in 0..count {
+        kits.push(pump_kit(host, rt, shared)?)?;
+    }
+    Ok(kits)
+}
+
+/// Makes the kits of a configuration. It reads the settings, binds the address and ports, checks
+/// that each recording can be played, and reads a key for each worker. Then it logs on standard
+/// error that the server is ready. Each worker's doors end after `accepts` connections, or never if
+/// it is 0.
+pub fn real_kits<R: Wait + Copy + Drop>(
+    host: HostRuntime,
+    rt: R,
+    config: &Config,
+    accepts: u32,
+) -> Result<RealJobs<R>, KitsFault>
+    ensures workers { IfOk result (λ kits. length kits.workers.items ≡ config.now.workers) }
+    ensures pumps { IfOk result (λ kits. length kits.pumps.items ≡ length config.now.fronts) }
+    ensures unused_workers { IfOk result (λ kits. All (IsUnusedWorker accepts) kits.workers.items) }
+    ensures unused_pumps { IfOk result (λ kits. All IsUnusedPump kits.pumps.items) }
+    ensures unused_tick { IfOk result (λ kits. IsUnusedTick kits.tick) }
+    ensures fresh { IfOk result (AreFreshKits accepts) }
+{
+    let alloc = host.alloc();
+    let shared = Shared::open(&host, alloc, config)?;
+    let lengths = recording_lengths(alloc, &shared.store(host, None)?, &config.files)?;
+    let kits = Jobs {
+        workers: worker_kits(host, rt, alloc, &shared, config.workers, accepts)?,
+        pumps: pump_kits(host, rt, alloc, &shared, config.fronts.len())?,
+        tick: tick_kit(host, rt, &shared)?,
+    };
+    report_ready(&host, config, &shared, &lengths);
+    Ok(kits)
+}

@@ -1,0 +1,60 @@
+//! Settings from the environment.
+
+ghost use Rattle.std.specs.Prelude.{◌≡◌, ◌≢◌, [], true, false, Some, None};
+
+use crate::fault::KitsFault;
+use std::env::{Env, FillError};
+
+const PACE: &str = "SATIP_PACE";
+
+const REPEAT: &str = "SATIP_REPEAT";
+
+// The room for a setting's value. Each value that a setting has is shorter.
+const ROOM: usize = 16;
+
+/// The settings of playing recordings.
+#[derive(Clone, Copy, PartialEq, Eq)]
+pub struct Settings {
+    /// Recordings play at their own rate: `SATIP_PACE=recording`.
+    pub paces: bool,
+    /// Recordings play again at their end: `SATIP_REPEAT=1`.
+    pub repeats: bool,
+}
+
+impl Settings {
+    /// Reads both variables. An empty one counts as not set.
+    pub fn read(env: &impl Env) -> Result<Settings, KitsFault> {
+        let Some(paces) = read_switch(env, PACE, "recording") else {
+            return Err(KitsFault::Pace);
+        };
+        let Some(repeats) = read_switch(env, REPEAT, "1") else {
+            return Err(KitsFault::Repeat);
+        };
+        Ok(Settings { paces, repeats })
+    }
+}
+
+// Tells whether a variable has its one value. Returns None if it has another.
+fn read_switch(env: &impl Env, name: &str, value: &str) -> Option<bool> {
+    let mut buf = [0; ROOM];
+    match env.var(name, &mut buf) {
+        Ok(count) => switch_of(&buf[..count], value),
+        Err(FillError::NotPresent) => Some(false),
+        Err(FillError::TooLong) => None,
+    }
+}
+
+// Tells whether a text is the one value of a switch, or empty. Returns None if it is another.
+fn switch_of(text: &[u8], value: &str) -> Option<bool>
+    ensures off { text.now ≡ [] → result ≡ Some false }
+    ensures on { text.now ≡ value.now → text.now ≢ [] → result ≡ Some true }
+    ensures other { text.now ≢ value.now → text.now ≢ [] → result ≡ None }
+{
+    if text.is_empty() {
+        return Some(false);
+    }
+    if text == value.as_bytes() {
+        return Some(true);
+    }
+    None
+}

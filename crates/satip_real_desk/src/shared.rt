@@ -1,0 +1,156 @@
+//! The parts that the kits of one server share.
+
+ghost use Rattle.std.specs.Prelude.{◌≡◌, IfOk};
+
+use crate::fault::KitsFault;
+use crate::settings::Settings;
+use satip_base::Text;
+use satip_config::Config;
+use satip_host::{ClockStart, RealClock, Start, Starts};
+use satip_playout::{Playing, Progress, RealPacer, RealStore};
+use satip_real::{Listeners, RealDoors, RealOutlet, SharedSocket};
+use std::alloc::Global;
+use std::sync::{Arc, Wait};
+
+/// The listeners and a client's timeout, the UDP sockets, the names of the recordings and their
+/// settings, the start of the clocks, and the count of jobs that have begun.
+#[derive(Drop)]
+pub(crate) struct Shared {
+    listeners: Arc<Listeners>,
+    timeout_s: u32,
+    socket: Arc<SharedSocket>,
+    files: Arc<Vec<Text>>,
+    pub(crate) settings: Settings,
+    clock_start: ClockStart,
+    starts: Arc<Starts>,
+}
+
+impl Shared {
+    ghost use Rattle.std.specs.Prelude.{false};
+    ghost use Rattle.satip_world.specs.Dials.{fresh_dial};
+    ghost use Rattle.satip_playout.specs.StoreCounts.{fresh_counts};
+    ghost use Rattle.satip_world.specs.Halls.{fresh_hall};
+    ghost use Rattle.satip_world.specs.Outboxes.{fresh_outbox};
+
+    /// Reads the settings and binds the sockets of a configuration.
+    pub(crate) fn open(
+        host: &HostRuntime,
+        alloc: Global,
+        config: &Config,
+    ) -> Result<Shared, KitsFault> {
+        let settings = Settings::read(host)?;
+        let listeners = Listeners::bind(
+            host,
+            config.address,
+            config.rtsp_port,
+            config.http_port,
+            config.workers,
+        )?;
+        let socket = match SharedSocket::bind(*host, config.address) {
+            Ok(socket) => socket,
+            Err(error) => return Err(KitsFault::Socket(error)),
+        };
+        Ok(Shared {
+            listeners: Arc::new(alloc, listeners)?,
+            timeout_s: config.timeout,
+            socket: Arc::new(alloc, socket)?,
+            files: Arc::new(alloc, copy_all(alloc, &config.files)?)?,
+            settings,
+            clock_start: ClockStart::read(host),
+            starts: Arc::new(alloc, Starts::expect(job_count(config)))?,
+        })
+    }
+
+    /// Makes doors at the listeners that end after `accepts` connections, or never if it is 0.
+    pub(crate) fn doors(&self, host: HostRuntime, accepts: u32) -> Result<RealDoors, KitsFault>
+        ensures fresh { IfOk result (λ doors. doors ≡ fresh_hall accepts false) }
+    {
+        let start = Start::counting(&self.starts)?;
+        let listeners = Arc::try_clone(&self.listeners)?;
+        Ok(RealDoors::new(host, start, listeners, self.timeout_s, accepts))
+    }
+
+    /// Makes an outlet at the UDP sockets.
+    pub(crate) fn outlet<R: Wait + Drop>(&self, rt: R) -> Result<RealOutlet<R>, KitsFault>
+        ensures fresh { IfOk result (λ outlet. outlet ≡ fresh_outbox) }
+    {
+        Ok(RealOutlet::new(rt, Arc::try_clone(&self.socket)?))
+    }
+
+    /// Makes a clock that counts from the start.
+    pub(crate) fn clock(&self, host: HostRuntime) -> RealClock
+        ensures fresh { result ≡ fresh_dial false }
+    {
+        RealClock::new(host, self.clock_start)
+    }
+
+    /// Makes the state that the store and the pacer of a pump share, if recordings play at their
+    /// own rate.
+    pub(crate) fn progress(&self, alloc: Global) -> Result<Option<Arc<Progress>>, KitsFault> {
+        if !self.settings.paces {
+            return Ok(None);
+        }
+        Ok(Some(Arc::new(alloc, Progress::new())?))
+    }
+
+    /// Makes a store of the recordings, which report their clocks to `progress` if there is one.
+    pub(crate) fn store(
+        &self,
+        host: HostRuntime,
+        progress: Option<Arc<Progress>>,
+    ) -> Result<RealStore, KitsFault>
+        ensures fresh { IfOk result (λ store. store ≡ fresh_counts) }
+    {
+        let playing = Playing {
+            repeats: self.settings.repeats,
+            progress,
+        };
+        Ok(RealStore::new(host, Arc::try_clone(&self.files)?, playing))
+    }
+
+    /// Makes the pacer of a worker, whose first step is its doors.
+    pub(crate) fn worker_pacer(&self, host: HostRuntime) -> Result<RealPacer, KitsFault>
+        ensures none { IfOk result (λ pacer. pacer ≡ 0) }
+    {
+        Ok(RealPacer::new(host, Start::watching(&self.starts)?))
+    }
+
+    /// Makes the pacer of a pump, which follows a recording's clock if there is a `progress`.
+    pub(crate) fn pump_pacer(
+        &self,
+        host: HostRuntime,
+        progress: &Option<Arc<Progress>>,
+    ) -> Result<RealPacer, KitsFault>
+        ensures none { IfOk result (λ pacer. pacer ≡ 0) }
+    {
+        let start = Start::counting(&self.starts)?;
+        match progress {
+            Some(progress) => Ok(RealPacer::following(host, start, Arc::try_clone(progress)?)),
+            None => Ok(RealPacer::new(host, start)),
+        }
+    }
+
+    /// Makes the pacer of the ticker.
+    pub(crate) fn tick_pacer(&self, host: HostRuntime) -> Result<RealPacer, KitsFault>
+        ensures none { IfOk result (λ pacer. pacer ≡ 0) }
+    {
+        Ok(RealPacer::new(host, Start::counting(&self.starts)?))
+    }
+}
+
+// Counts the jobs: the workers, a pump for each front end, and the ticker.
+fn job_count(config: &Config) -> u64 {
+    (config.fronts.len() as u64)
+        .saturating_add(config.workers as u64)
+        .saturating_add(1)
+}
+
+// Copies texts.
+fn copy_all(alloc: Global, texts: &[Text]) -> Result<Vec<Text>, KitsFault> {
+    let mut copies = Vec::new(alloc);
+    for text in texts {
+        let text = str::from_utf8(text.bytes()).unwrap();
+        copies.push(Text::of(alloc, text)?)?;
+    }
+    Ok(copies)
+}

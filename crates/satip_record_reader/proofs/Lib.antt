@@ -1,6 +1,0 @@
-pub mod ListsAgain
-pub mod Loops
-pub mod Again
-pub mod EventsAgain
-pub mod EntriesAgain
-pub mod TakingSteps

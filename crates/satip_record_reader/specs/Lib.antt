@@ -1,6 +1,0 @@
-pub mod ReadingLists
-pub mod ReadingRequests
-pub mod ReadingEvents
-pub mod ReadingEntries
-pub mod Taking
-pub mod Rows

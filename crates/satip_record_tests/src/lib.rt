@@ -1,7 +1,0 @@
-//! Recordings by the top call over memory. It has nothing but tests.
-#![tactic(auto)]
-
-#[cfg(test)]
-mod recordings;
-#[cfg(test)]
-mod words;

@@ -1,0 +1,95 @@
+//! `record`: takes a clock, a connection and an inlet from the desk, and records with them.
+
+ghost use Rattle.std.specs.Prelude.{◌≡◌, ◌≤◌};
+ghost use Rattle.satip_base.specs.Streams.{Feed};
+ghost use Rattle.satip_client.specs.Ends.{line_for, status_of};
+ghost use Rattle.satip_recorder.specs.Recordings.{Said};
+ghost use Rattle.satip_recorder.specs.Ends.{RecordEnds, left_of};
+ghost use Rattle.satip_recorder.specs.Words.{wanted};
+ghost use Rattle.satip_desk.specs.Handed.{nothing_handed};
+
+use crate::recording_run::record_by;
+use crate::wish::Wish;
+use crate::words::Recording;
+use satip_base::{Failed, Sink, Strip};
+use satip_client::RecordEnd;
+use satip_desk::Desk;
+use std::alloc::Global;
+
+/// How a recording ended, with the connection, the inlet and the clock that the desk gave for it.
+pub struct Recorded<K: Desk> {
+    pub end: RecordEnd,
+    pub wire: Option<K::Wire>,
+    pub inlet: Option<K::Inlet>,
+    pub moment: Option<K::Moment>,
+}
+
+/// Records with the clock, the connection to the address and the inlet that the desk gives, in this
+/// order. The end is `PeerFault` if the desk doesn't give the connection or the inlet. Logs a line
+/// for each gap, and then the line of the end, unless it is `Done`.
+pub fn record<K: Desk, O: Sink, E: Sink>(
+    alloc: Global,
+    recording: &Recording,
+    output: &mut O,
+    errors: &mut E,
+    desk: &mut K,
+) -> Recorded<K>
+    requires some { 1 ≤ recording.now.count }
+    requires few { recording.now.count ≤ 1000000 }
+    requires new { K.handed desk.old ≡ nothing_handed }
+    ensures texts { K.text desk.new ≡ K.text desk.old }
+    ensures kits { K.given desk.new ≡ K.given desk.old }
+    ensures journaled { K.journaled desk.new ≡ K.journaled desk.old }
+    ensures ends { (i : Feed) → RecordEnds K.Wire.tells K.Inlet.tells O.tells E.tells
+        (wanted recording.now) (K.handed desk.new) (K.faults desk.old) (K.faults desk.new)
+        (left_of K.Wire.line K.Moment.dial K.Inlet.inbox result.wire result.moment result.inlet)
+        i i (O.drain output.old) (O.drain output.new) (E.drain errors.old) (E.drain errors.new)
+        (status_of result.end) }
+{
+    let moment = desk.moment();
+    let wire = match desk.dial(recording.to) {
+        Ok(wire) => wire,
+        Err(Failed) => return not_given(None, moment, errors),
+    };
+    let inlet = match desk.inlet() {
+        Ok(inlet) => inlet,
+        Err(Failed) => return not_given(Some(wire), moment, errors),
+    };
+    let wish = Wish {
+        address: recording.address,
+        query: recording.query,
+        count: recording.count,
+    };
+    let recorded = record_by(alloc, wire, inlet, moment, &wish, output, errors);
+    Recorded {
+        end: recorded.end,
+        wire: Some(recorded.wire),
+        inlet: Some(recorded.inlet),
+        moment: Some(recorded.moment),
+    }
+}
+
+// Returns the end of a recording for which the desk gave no connection or no inlet, and logs its
+// line.
+fn not_given<K: Desk, E: Sink>(
+    wire: Option<K::Wire>,
+    moment: K::Moment,
+    errors: &mut E,
+) -> Recorded<K>
+    ensures end { result.end ≡ RecordEnd.PeerFault }
+    ensures wire { result.wire ≡ wire }
+    ensures moment { result.moment ≡ Some moment }
+    ensures inlet { result.inlet ≡ None }
+    ensures said { Said E.tells (E.drain errors.old) (E.drain errors.new)
+        (line_for RecordEnd.PeerFault) }
+{
+    let mut line = Strip::new();
+    RecordEnd::PeerFault.print(&mut line);
+    errors.put(line.bytes());
+    Recorded {
+        end: RecordEnd::PeerFault,
+        wire,
+        inlet: None,
+        moment: Some(moment),
+    }
+}

@@ -1,8 +1,0 @@
-use Rattle.satip_records.proofs.Writing.{◌then◌}
-use Rattle.satip_records.proofs.fields.encode_draw.Goals as goal
-
-pub returns : goal.returns
-returns c = record {
-  wrote =
-      c.encode_u32.ensures.wrote then c.encode_u32-2.ensures.wrote then c.encode_u16.ensures.wrote;
-}

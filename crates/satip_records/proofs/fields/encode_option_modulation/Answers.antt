@@ -1,7 +1,0 @@
-use Rattle.satip_records.proofs.Writing.{◌then◌}
-use Rattle.satip_records.proofs.fields.encode_option_modulation.Goals as goal
-
-pub returns-in-Some : goal.returns-in-Some
-returns-in-Some c = record {
-  wrote = rw c.in-Some.is (c.encode_u8-in-Some.ensures.wrote then c.encode_modulation.ensures.wrote);
-}

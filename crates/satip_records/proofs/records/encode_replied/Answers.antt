@@ -1,7 +1,0 @@
-use Rattle.satip_records.proofs.Writing.{◌then◌}
-use Rattle.satip_records.proofs.records.encode_replied.Goals as goal
-
-pub returns : goal.returns
-returns c = record {
-  wrote = c.encode_u16.ensures.wrote then c.encode_bool.ensures.wrote;
-}

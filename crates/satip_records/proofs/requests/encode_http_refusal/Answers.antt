@@ -1,9 +1,0 @@
-use Rattle.satip_records.proofs.Writing.{◌then◌}
-use Rattle.satip_records.specs.Requests.{http_refusal_text}
-use Rattle.satip_records.proofs.requests.encode_http_refusal.Goals as goal
-
-pub returns-in-Query : goal.returns-in-Query
-unfolding http_refusal_text
-returns-in-Query c = record {
-  wrote = rw c.in-Query.is (c.encode_u8-in-Query.ensures.wrote then c.encode_fault.ensures.wrote);
-}

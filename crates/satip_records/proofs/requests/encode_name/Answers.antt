@@ -1,9 +1,0 @@
-use Rattle.satip_records.proofs.Writing.{◌then◌}
-use Rattle.satip_records.specs.Requests.{name_text}
-use Rattle.satip_records.proofs.requests.encode_name.Goals as goal
-
-pub returns-in-Named : goal.returns-in-Named
-unfolding name_text
-returns-in-Named c = record {
-  wrote = rw c.in-Named.is (c.encode_u8-in-Named.ensures.wrote then c.encode_id.ensures.wrote);
-}

@@ -1,7 +1,0 @@
-use Rattle.satip_records.proofs.Writing.{◌then◌}
-use Rattle.satip_records.proofs.requests.encode_pid_list.Goals as goal
-
-pub returns : goal.returns
-returns c = record {
-  wrote = rw (← c.as_slice-pids.ensures.pids) (c.encode_u16.ensures.wrote then c.encode_pids.ensures.wrote);
-}

@@ -1,9 +1,0 @@
-use Rattle.satip_records.proofs.Writing.{◌then◌}
-use Rattle.satip_records.specs.Requests.{pids_text}
-use Rattle.satip_records.proofs.requests.encode_pids_given.Goals as goal
-
-pub returns-in-List : goal.returns-in-List
-unfolding pids_text
-returns-in-List c = record {
-  wrote = rw c.in-List.is (c.encode_u8-in-List.ensures.wrote then c.encode_pid_list.ensures.wrote);
-}

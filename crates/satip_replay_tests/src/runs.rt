@@ -1,0 +1,41 @@
+//! Runs of the program over memory.
+
+use satip_base::Source;
+use satip_memory::{MemorySink, MemorySource};
+use satip_memory_desk::{MemoryDesk, Ran, desk_with, texts_of};
+use satip_program::offline;
+use std::alloc::Global;
+use std::test::Fail;
+
+/// A replay of a script by the text of a configuration.
+pub fn replay(alloc: Global, configuration: &str, script: &[u8]) -> Result<Ran, Fail> {
+    let mut desk = desk_with(alloc, configuration.as_bytes(), &[])?;
+    let input = MemorySource::make(alloc, script, &[], &[])?;
+    run(alloc, &["replay", "c1.toml"], input, &[], 0, &mut desk)
+}
+
+/// Runs the program with these words over an input, and a desk that has given a client nothing yet.
+/// The puts with a number, from 1, in `failing` fail, and pass `passed` bytes at most.
+pub fn run<I: Source + Drop>(
+    alloc: Global,
+    words: &[&str],
+    mut input: I,
+    failing: &[u64],
+    passed: usize,
+    desk: &mut MemoryDesk,
+) -> Result<Ran, Fail> {
+    let texts = texts_of(alloc, words)?;
+    let mut output = MemorySink::make(alloc, failing, passed)?;
+    let mut errors = MemorySink::make(alloc, &[], 0)?;
+    desk.renew();
+    let mut ended = offline(alloc, &texts, &mut input, &mut output, &mut errors, desk);
+    Ok(Ran {
+        status: ended.status,
+        config: ended.config.is_some(),
+        wire: ended.wire.take(),
+        inlet: ended.inlet.is_some(),
+        moment: ended.moment.is_some(),
+        output,
+        errors,
+    })
+}

@@ -1,7 +1,0 @@
-use Rattle.std.proofs.Common.{◌≡◌, ◌+◌, drop}
-use Rattle.satip_rtsp.specs.Targets.{host_size}
-use Rattle.satip_rtsp.proofs.targets.host_length.Given as goal
-
--- no byte so far ends the host
-abbrev pub invariant-loop-byte : goal.invariant-loop-byte
-invariant-loop-byte l = (l.count ≡ l.byte-index) × (host_size l.text ≡ l.count + host_size (drop l.byte-index l.text))

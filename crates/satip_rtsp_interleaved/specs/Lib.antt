@@ -1,0 +1,10 @@
+pub mod Frames
+pub mod Parts
+pub mod Held
+pub mod Calls
+pub mod Laws
+pub mod Fronts
+pub mod Channels
+pub mod Requests
+pub mod Rows
+pub mod Turned

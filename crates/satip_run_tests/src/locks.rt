@@ -1,0 +1,293 @@
+//! Outlets that count, and a connection that notes what left before a reply.
+ghost use Rattle.std.specs.Prelude.{◌≡◌, false, IfOk};
+
+use satip_base::{Address, Out, Put};
+use satip_desk::{PumpKit, TickKit, WorkerKit};
+use satip_fixtures::texts::{SETUP, joined, repeated};
+use satip_fixtures::{CLIENT, packet_bytes};
+use satip_memory::{MemoryClock, MemoryConn, MemoryDoors, MemoryOutlet, MemoryPacer, MemoryStore};
+use satip_pump::{Batch, JobEnd, run_pump, run_ticker};
+use satip_solo::Solo;
+use satip_solo::connections::{KEY, PLAY};
+use satip_solo::setting::{give, letters, play, set_up, solo};
+use satip_worker::{Draws, Room, WorkerEnd, run_worker, serve_connection};
+use satip_world::{Conn, ConnEnd, DoorKind, Outlet, Received};
+use std::alloc::Global;
+use std::sync::Wait;
+use std::sync::atomic::{AtomicU64, Ordering};
+use std::test::Fail;
+
+const TEARDOWN: &[u8] = b"TEARDOWN rtsp://192.168.1.10/stream=1 RTSP/1.0\r\n\
+    CSeq: 3\r\n\
+    Session: 000000010000000a\r\n\r\n";
+
+// How often the outlets of one socket were locked and unlocked, how many datagrams they were given,
+// and how many of them while not exactly one lock was held.
+#[derive(Drop)]
+struct Tally {
+    locks: AtomicU64,
+    unlocks: AtomicU64,
+    sent: AtomicU64,
+    astray: AtomicU64,
+}
+
+impl Tally {
+    fn new() -> Tally {
+        Tally {
+            locks: AtomicU64::new(0),
+            unlocks: AtomicU64::new(0),
+            sent: AtomicU64::new(0),
+            astray: AtomicU64::new(0),
+        }
+    }
+
+    fn locks(&self) -> u64 {
+        self.locks.load(Ordering::SeqCst)
+    }
+
+    fn unlocks(&self) -> u64 {
+        self.unlocks.load(Ordering::SeqCst)
+    }
+
+    fn sent(&self) -> u64 {
+        self.sent.load(Ordering::SeqCst)
+    }
+
+    fn astray(&self) -> u64 {
+        self.astray.load(Ordering::SeqCst)
+    }
+
+    // The locks, the unlocks, the datagrams, and those that were sent without one lock.
+    fn counts(&self) -> [u64; 4] {
+        [self.locks(), self.unlocks(), self.sent(), self.astray()]
+    }
+}
+
+#[derive(Drop)]
+struct CountedOutlet<'a> {
+    outlet: MemoryOutlet,
+    tally: &'a Tally,
+}
+
+impl<'a> Outlet for CountedOutlet<'a> {
+    ghost tells = { Unit {0} };
+
+    ghost outbox = { λ o. o.outlet };
+
+    fn lock(&mut self) {
+        self.tally.locks.fetch_add(1, Ordering::SeqCst);
+        self.outlet.lock();
+    }
+
+    fn unlock(&mut self) {
+        self.tally.unlocks.fetch_add(1, Ordering::SeqCst);
+        self.outlet.unlock();
+    }
+
+    fn send(&mut self, to: Address, bytes: &[u8]) -> Put {
+        if self.tally.locks() != self.tally.unlocks().wrapping_add(1) {
+            self.tally.astray.fetch_add(1, Ordering::SeqCst);
+        }
+        self.tally.sent.fetch_add(1, Ordering::SeqCst);
+        self.outlet.send(to, bytes)
+    }
+}
+
+fn outlet<'a>(alloc: Global, tally: &'a Tally) -> Result<CountedOutlet<'a>, Fail>
+    ensures free { IfOk result (λ counted. counted.outlet.held ≡ false) }
+{
+    Ok(CountedOutlet {
+        outlet: MemoryOutlet::make(alloc, &[])?,
+        tally,
+    })
+}
+
+// Doors by which one connection comes, which sets up and plays.
+fn doors(alloc: Global) -> Result<MemoryDoors, Fail> {
+    let text = joined(alloc, &[SETUP, PLAY])?;
+    let conn = MemoryConn::make(alloc, &[&text], &[], &[], 0)?;
+    let mut doors = MemoryDoors::make(alloc, 1, &[], &[])?;
+    doors.add(DoorKind::Rtsp, CLIENT, conn)?;
+    Ok(doors)
+}
+
+// A worker with one connection.
+fn work<R: Wait + Sync>(
+    rt: &R,
+    alloc: Global,
+    solo: &mut Solo,
+    tally: &Tally,
+) -> Result<WorkerEnd, Fail> {
+    let mut room = Room::make(alloc)?;
+    let mut kit = WorkerKit {
+        doors: doors(alloc)?,
+        outlet: outlet(alloc, tally)?,
+        pacer: MemoryPacer::new(),
+        key: KEY,
+    };
+    Ok(run_worker(rt, solo, &mut kit, 0, &mut room))
+}
+
+// A store with a recording of seven packets.
+fn store(alloc: Global) -> Result<MemoryStore, Fail> {
+    let text = repeated(alloc, &[(packet_bytes(16).as_slice(), 7)])?;
+    let mut store = MemoryStore::make(alloc, &[])?;
+    store.add(1, &text, &[], &[])?;
+    Ok(store)
+}
+
+type CountedPump<'a> = PumpKit<MemoryStore, CountedOutlet<'a>, MemoryPacer>;
+
+fn pump_kit<'a>(alloc: Global, tally: &'a Tally) -> Result<CountedPump<'a>, Fail>
+    ensures free { IfOk result (λ kit. kit.outlet.outlet.held ≡ false) }
+{
+    Ok(PumpKit {
+        store: store(alloc)?,
+        outlet: outlet(alloc, tally)?,
+        pacer: MemoryPacer::new(),
+    })
+}
+
+// A pump with the recording.
+fn pump<R: Wait + Sync>(
+    rt: &R,
+    alloc: Global,
+    solo: &mut Solo,
+    tally: &Tally,
+) -> Result<JobEnd, Fail> {
+    let mut out = Out::make(alloc)?;
+    let mut batch = Batch::make(alloc)?;
+    let mut kit = pump_kit(alloc, tally)?;
+    Ok(run_pump(rt, solo, 1, &mut kit, &mut out, &mut batch))
+}
+
+// A ticker, one second after the start.
+fn tick<R: Wait + Sync>(
+    rt: &R,
+    alloc: Global,
+    solo: &mut Solo,
+    tally: &Tally,
+) -> Result<JobEnd, Fail> {
+    let mut out = Out::make(alloc)?;
+    let mut kit = TickKit {
+        clock: MemoryClock::make(alloc, &[1000])?,
+        outlet: outlet(alloc, tally)?,
+        pacer: MemoryPacer::new(),
+    };
+    Ok(run_ticker(rt, solo, &mut kit, &mut out))
+}
+
+// The worker, the pump and the ticker, one after another: how they ended.
+fn run_jobs<R: Wait + Sync>(
+    rt: &R,
+    alloc: Global,
+    solo: &mut Solo,
+    tally: &Tally,
+) -> Result<(WorkerEnd, JobEnd, JobEnd), Fail> {
+    let worked = work(rt, alloc, solo, tally)?;
+    let pumped = pump(rt, alloc, solo, tally)?;
+    let ticked = tick(rt, alloc, solo, tally)?;
+    Ok((worked, pumped, ticked))
+}
+
+// Two requests, four calls of the pump and a tick, each under a lock of its own; the seven packets
+// leave as one datagram, and the tick sends a report.
+#[test]
+fn three_jobs_lock_for_each_event(rt: HostRuntime) -> Result<(), Fail> {
+    let alloc = rt.alloc();
+    let tally = Tally::new();
+    let mut solo = solo(alloc, Some(11))?;
+    let ends = run_jobs(&rt, alloc, &mut solo, &tally)?;
+    let kinds = letters(alloc, &solo)?;
+    assert!(rt; ends == (WorkerEnd::Closed, JobEnd::Stopped, JobEnd::Stopped));
+    assert_eq!(rt; kinds.as_slice(), b"RRAPPPPPPPESAT".as_slice());
+    assert_eq!(rt; tally.counts(), [7, 7, 2, 0]);
+    Ok(())
+}
+
+// A connection that notes how many datagrams had left at its last send.
+#[derive(Drop)]
+struct NotingConn<'a> {
+    conn: MemoryConn,
+    tally: &'a Tally,
+    before: u64,
+}
+
+impl<'a> Conn for NotingConn<'a> {
+    ghost tells = { Unit {0} };
+
+    ghost line = { λ c. c.conn };
+
+    fn receive(&mut self, buf: &mut [u8]) -> Received {
+        self.conn.receive(buf)
+    }
+
+    fn send(&mut self, bytes: &[u8]) -> Put {
+        self.before = self.tally.sent();
+        self.conn.send(bytes)
+    }
+}
+
+// Sets up and plays, and gives three packets, which are held: the statuses of both replies.
+fn play_three(alloc: Global, solo: &mut Solo) -> Result<[u16; 2], Fail> {
+    let mut out = Out::make(alloc)?;
+    let statuses = [set_up(solo, &mut out)?, play(solo, &mut out)?];
+    for _ in 0..3u8 {
+        give(solo, &mut out)?;
+    }
+    Ok(statuses)
+}
+
+// Serves a connection, and tallies what leaves.
+fn serve<R: Wait + Sync>(
+    rt: &R,
+    alloc: Global,
+    solo: &mut Solo,
+    conn: &mut NotingConn,
+    tally: &Tally,
+) -> Result<ConnEnd, Fail> {
+    let mut room = Room::make(alloc)?;
+    let mut outlet = outlet(alloc, tally)?;
+    let mut draws = Draws::make(&KEY, 0);
+    let mut pacer = MemoryPacer::new();
+    Ok(serve_connection(
+        rt,
+        solo,
+        DoorKind::Rtsp,
+        CLIENT,
+        conn,
+        &mut outlet,
+        &mut pacer,
+        &mut draws,
+        &mut room,
+    ))
+}
+
+// Serves a connection with a TEARDOWN: how it ended, and how many datagrams had left at its reply.
+fn tear_down<R: Wait + Sync>(
+    rt: &R,
+    alloc: Global,
+    solo: &mut Solo,
+    tally: &Tally,
+) -> Result<(ConnEnd, u64), Fail> {
+    let mut conn = NotingConn {
+        conn: MemoryConn::make(alloc, &[TEARDOWN], &[], &[], 0)?,
+        tally,
+        before: 0,
+    };
+    let end = serve(rt, alloc, solo, &mut conn, tally)?;
+    Ok((end, conn.before))
+}
+
+// The packets that a session holds leave before the reply to its TEARDOWN.
+#[test]
+fn a_reply_follows_the_datagrams_of_its_request(rt: HostRuntime) -> Result<(), Fail> {
+    let alloc = rt.alloc();
+    let tally = Tally::new();
+    let mut solo = solo(alloc, None)?;
+    assert_eq!(rt; play_three(alloc, &mut solo)?, [200, 200]);
+    let seen = tear_down(&rt, alloc, &mut solo, &tally)?;
+    assert!(rt; seen == (ConnEnd::Done, 1));
+    assert_eq!(rt; tally.sent(), 1);
+    Ok(())
+}

@@ -1,0 +1,195 @@
+//! Connections that are served by a new server, a row each.
+
+use satip_fixtures::texts::{CLOSING, OPTIONS, OPTIONS_REPLY, SETUP, is_joined, repeated};
+use satip_memory::MemoryConn;
+use satip_solo::connections::{GET, HEAD, SETUP_REPLY, Seen, serve_alone};
+use satip_world::{ConnEnd, DoorKind};
+use std::alloc::Global;
+use std::sync::Wait;
+use std::test::Fail;
+
+const BEGINNING: &[u8] = b"OPTIONS * RTSP/1.0\r\nCSeq: 1\r\n";
+
+// A connection, and what serving it is to come to. It receives these texts, each of them so often,
+// alone or all at once; receives and sends of these numbers fail, and of a failing send so many
+// bytes are passed.
+#[derive(Clone, Copy)]
+struct Row {
+    name: &'static str,
+    kind: DoorKind,
+    texts: &'static [(&'static [u8], usize)],
+    joined: bool,
+    receives: &'static [u64],
+    sends: &'static [u64],
+    passed: usize,
+    end: ConnEnd,
+    kinds: &'static [u8],
+    sent: &'static [&'static [u8]],
+}
+
+// An RTSP connection that receives its text at once, and ends well.
+const RTSP: Row = Row {
+    name: "",
+    kind: DoorKind::Rtsp,
+    texts: &[],
+    joined: true,
+    receives: &[],
+    sends: &[],
+    passed: 0,
+    end: ConnEnd::Done,
+    kinds: b"",
+    sent: &[],
+};
+
+// An HTTP connection that receives a GET, and ends well.
+const HTTP: Row = Row {
+    kind: DoorKind::Http,
+    texts: &[(GET, 1)],
+    ..RTSP
+};
+
+const ROWS: &[Row] = &[
+    Row {
+        name: "a first receive that fails ends the connection",
+        texts: &[(SETUP, 1)],
+        receives: &[1],
+        end: ConnEnd::ReadFault,
+        ..RTSP
+    },
+    Row {
+        name: "a later receive that fails ends the connection",
+        texts: &[(SETUP, 1), (OPTIONS, 1)],
+        joined: false,
+        receives: &[2],
+        end: ConnEnd::ReadFault,
+        kinds: b"R",
+        sent: &[SETUP_REPLY],
+        ..RTSP
+    },
+    Row {
+        name: "a send that fails passes a beginning",
+        texts: &[(OPTIONS, 1)],
+        sends: &[1],
+        passed: 10,
+        end: ConnEnd::WriteFault,
+        kinds: b"R",
+        sent: &[b"RTSP/1.0 2"],
+        ..RTSP
+    },
+    Row {
+        name: "a line without an end is no message",
+        texts: &[(b"OPTIONS * RTSP/1.0", 1)],
+        ..RTSP
+    },
+    Row {
+        name: "a hundred thousand letters are answered once, and nothing behind them",
+        texts: &[(b"a", 100000), (OPTIONS, 1)],
+        kinds: b"R",
+        sent: &[CLOSING],
+        ..RTSP
+    },
+    Row {
+        name: "a million ends of lines are no message",
+        texts: &[(b"\n", 1000000)],
+        ..RTSP
+    },
+    Row {
+        name: "a length past all numbers closes",
+        texts: &[
+            (BEGINNING, 1),
+            (b"Content-Length: 18446744073709551616\r\n\r\n", 1),
+        ],
+        kinds: b"R",
+        sent: &[CLOSING],
+        ..RTSP
+    },
+    Row {
+        name: "a body of the greatest length is skipped",
+        texts: &[
+            (BEGINNING, 1),
+            (b"Content-Length: 4096\r\n\r\n", 1),
+            (b"a", 4096),
+            (OPTIONS, 1),
+        ],
+        kinds: b"RR",
+        sent: &[OPTIONS_REPLY, OPTIONS_REPLY],
+        ..RTSP
+    },
+    Row {
+        name: "two lengths close",
+        texts: &[(BEGINNING, 1), (b"Content-Length: 0\r\n", 2), (b"\r\n", 1)],
+        kinds: b"R",
+        sent: &[CLOSING],
+        ..RTSP
+    },
+    Row {
+        name: "a head has 64 headers",
+        texts: &[(BEGINNING, 1), (b"X: y\r\n", 63), (b"\r\n", 1)],
+        kinds: b"R",
+        sent: &[OPTIONS_REPLY],
+        ..RTSP
+    },
+    Row {
+        name: "a head has no more headers than 64",
+        texts: &[(BEGINNING, 1), (b"X: y\r\n", 64), (b"\r\n", 1)],
+        kinds: b"R",
+        sent: &[CLOSING],
+        ..RTSP
+    },
+    Row {
+        name: "a GET without packets is closed at the end of its input",
+        kinds: b"GLC",
+        sent: &[HEAD],
+        ..HTTP
+    },
+    Row {
+        name: "a head that is not sent closes the session",
+        sends: &[1],
+        end: ConnEnd::WriteFault,
+        kinds: b"GC",
+        ..HTTP
+    },
+    Row {
+        name: "a receive that fails behind an empty pull closes the session",
+        receives: &[2],
+        end: ConnEnd::ReadFault,
+        kinds: b"GLC",
+        sent: &[HEAD],
+        ..HTTP
+    },
+];
+
+// What a connection receives at a time.
+fn pieces_of<'a>(alloc: Global, row: &Row, whole: &'a [u8]) -> Result<Vec<&'a [u8]>, Fail> {
+    let mut pieces = Vec::new(alloc);
+    if row.joined {
+        pieces.push(whole)?;
+        return Ok(pieces);
+    }
+    for (text, _) in row.texts {
+        pieces.push(*text)?;
+    }
+    Ok(pieces)
+}
+
+fn serve_row<R: Wait + Sync>(rt: &R, alloc: Global, row: &Row) -> Result<Seen, Fail> {
+    let whole = repeated(alloc, row.texts)?;
+    let pieces = pieces_of(alloc, row, &whole)?;
+    let conn = MemoryConn::make(alloc, &pieces, row.receives, row.sends, row.passed)?;
+    serve_alone(rt, alloc, row.kind, conn)
+}
+
+// Whether a connection came to what its row says.
+fn is_met(row: &Row, seen: &Seen) -> bool {
+    seen.end == row.end && seen.kinds.as_slice() == row.kinds && is_joined(&seen.sent, row.sent)
+}
+
+#[test]
+fn connections_come_to_what_their_rows_say(rt: HostRuntime) -> Result<(), Fail> {
+    for row in ROWS {
+        let seen = serve_row(&rt, rt.alloc(), row)?;
+        let name = row.name;
+        assert!(rt; is_met(row, &seen), "{name}");
+    }
+    Ok(())
+}

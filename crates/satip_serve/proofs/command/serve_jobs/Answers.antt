@@ -1,0 +1,23 @@
+use Rattle.std.proofs.Common.{ap}
+use Rattle.satip_desk.specs.Views.{jobs_view}
+use Rattle.satip_serve.specs.Statuses.{serving_status}
+use Rattle.satip_serve.proofs.EndLemmas.{unused_of, come_unused}
+use Rattle.satip_serve.proofs.ServingRuns.{serving_run}
+use Rattle.satip_serve.proofs.command.serve_jobs.Goals as goal
+
+pub returns-in-Ok-clause-ran : goal.returns-in-Ok-clause-ran
+returns-in-Ok-clause-ran g c =
+    let laws = c.keeps_laws.ensures in
+    rw (ap serving_status c.of_run.ensures.end)
+    (serving_run g.D.Conn.Conn.tells g.O.Outlet.tells c.args._accepts (jobs_view g.D.Doors.hall g.O.Outlet.outbox g.M.MuxStore.shelf g.C.Clock.dial) _
+    c.in-Ok.last
+    c.in-Ok.end c.requires.fresh c.in-Ok.ensures.ran laws.payload laws.owners laws.busy laws.recordings)
+
+pub returns-in-Err-clause-kits_unused : goal.returns-in-Err-clause-kits_unused
+returns-in-Err-clause-kits_unused g c =
+    come_unused g.D.Doors.hall g.O.Outlet.outbox g.M.MuxStore.shelf g.C.Clock.dial c.args.jobs c.in-Err.jobs c.in-Err.ensures.unused
+
+pub returns-in-Err-clause-unused_kits : goal.returns-in-Err-clause-unused_kits
+returns-in-Err-clause-unused_kits g c =
+    unused_of g.D.Doors.hall g.O.Outlet.outbox g.M.MuxStore.shelf g.C.Clock.dial c.args._accepts c.args.jobs c.in-Err.jobs c.requires.fresh
+    c.in-Err.ensures.unused

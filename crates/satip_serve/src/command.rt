@@ -1,0 +1,233 @@
+//! `serve`: reads a configuration, takes the kits of all jobs from the desk, and serves.
+
+ghost use Rattle.std.specs.Prelude.{◌≡◌, ℕ, List, Option, Some, None, length, IfSome, MatchOption};
+ghost use Rattle.satip_fronts.specs.FrontEnds.{IsNumbered};
+ghost use Rattle.satip_config.specs.Configurations.{IsServed};
+ghost use Rattle.satip_desk.specs.Fresh.{AreFresh};
+ghost use Rattle.satip_desk.specs.Views.{jobs_view};
+ghost use Rattle.satip_world.specs.Recordings.{IsStarted};
+ghost use Rattle.satip_serve.specs.CommandEnds.{Serves};
+ghost use Rattle.satip_desk.specs.Given.{ComeUnused};
+ghost use Rattle.satip_serve.specs.CommandRan.{ServingRun};
+ghost use Rattle.satip_serve.specs.Servings.{end_of_reading, end_of_run, IsEndOfRun, IsOneOf};
+ghost use Rattle.satip_desk.specs.Fresh.{AreUnused};
+ghost use Rattle.satip_serve.specs.Statuses.{serving_status};
+
+use crate::all_jobs::{Last, serve};
+use crate::kept_laws::keeps_laws;
+use satip_base::{Failed, Text};
+use satip_config::{Config, ConfigFault, ConfigurationEnd, read_configuration};
+use satip_desk::{Desk, Jobs, JobsFault};
+use satip_jobs::ServeEnd;
+use satip_world::{Clock, Doors, MuxStore, Outlet, Pacer};
+use std::alloc::Global;
+use std::sync::Wait;
+use std::thread::Threads;
+
+/// How serving ends.
+#[derive(Clone, Copy, Debug, PartialEq, Eq)]
+pub enum ServingEnd {
+    /// All doors ended, and all jobs.
+    Served,
+    /// The configuration has this first fault.
+    Configuration(ConfigFault),
+    /// No configuration was opened, or its source failed.
+    InputFault,
+    /// The doors of a worker failed, or the desk did.
+    DoorsFault,
+    /// The history is full.
+    HistoryFull,
+    /// Memory was refused, and no job began.
+    OutOfMemory,
+}
+
+impl ServingEnd {
+    /// Returns the end of serving after the run of all jobs.
+    pub fn of_run(end: ServeEnd) -> ServingEnd
+        ensures end { result ≡ end_of_run end }
+    {
+        match end {
+            ServeEnd::Served => ServingEnd::Served,
+            ServeEnd::DoorsFault => ServingEnd::DoorsFault,
+            ServeEnd::HistoryFull => ServingEnd::HistoryFull,
+        }
+    }
+}
+
+impl From<ConfigurationEnd> for ServingEnd {
+    ghost from_gives = { λ end result. result ≡ end_of_reading end };
+
+    fn from(end: ConfigurationEnd) -> ServingEnd {
+        match end {
+            ConfigurationEnd::Fault(fault) => ServingEnd::Configuration(fault),
+            ConfigurationEnd::SourceFailed => ServingEnd::InputFault,
+            ConfigurationEnd::OutOfMemory => ServingEnd::OutOfMemory,
+        }
+    }
+}
+
+/// The remains of the jobs, if any began, or else their kits, if there were any.
+pub struct JobsLeft<L, J> {
+    /// How serving ended.
+    pub end: ServingEnd,
+    /// The remains of the jobs, if any began.
+    pub last: Option<L>,
+    /// The kits, if no job began with them.
+    pub unused: Option<J>,
+}
+
+impl<L, J> JobsLeft<L, J> {
+    /// Creates an outcome without kits.
+    pub fn nothing(end: ServingEnd) -> JobsLeft<L, J>
+        ensures end { result.end ≡ end }
+        ensures last { result.last ≡ None }
+        ensures unused { result.unused ≡ None }
+    {
+        JobsLeft {
+            end,
+            last: None,
+            unused: None,
+        }
+    }
+}
+
+// Serves with these kits.
+fn serve_jobs<
+    R: Threads + Wait + Sync,
+    D: Doors + Send + Drop,
+    O: Outlet + Send + Drop,
+    P: Pacer + Send + Drop,
+    M: MuxStore + Send + Drop,
+    C: Clock + Send + Drop,
+>(
+    rt: &R,
+    alloc: Global,
+    config: Config,
+    _accepts: u32,
+    jobs: Jobs<D, O, P, M, C>,
+) -> JobsLeft<Last<D, O, P, M, C>, Jobs<D, O, P, M, C>>
+    requires served { IsServed config }
+    requires workers { length jobs.workers.items ≡ config.workers }
+    requires pumps { length jobs.pumps.items ≡ length config.fronts }
+    requires fresh { AreFresh _accepts (jobs_view D.hall O.outbox M.shelf C.dial jobs) }
+    ensures one { IsOneOf result.last result.unused }
+    ensures config { IfSome result.last (λ last. last.server.setting.config ≡ config) }
+    ensures ran { IfSome result.last (λ last. ServingRun D.Conn.tells O.tells _accepts
+        (jobs_view D.hall O.outbox M.shelf C.dial)
+        (jobs_view D.hall O.outbox M.shelf C.dial jobs) last (serving_status result.end)) }
+    ensures begun { MatchOption result.last (result.end ≡ ServingEnd.OutOfMemory)
+        (λ _. IsEndOfRun result.end) }
+    ensures kits_unused { IfSome result.unused (λ kits. ComeUnused
+        (jobs_view D.hall O.outbox M.shelf C.dial jobs)
+        (jobs_view D.hall O.outbox M.shelf C.dial kits)) }
+    ensures unused_kits { IfSome result.unused (λ kits. AreUnused _accepts
+        (jobs_view D.hall O.outbox M.shelf C.dial kits)) }
+{
+    match serve(rt, alloc, config, jobs) {
+        Ok((last, end)) => {
+            keeps_laws(&last.server, &last.pass);
+            JobsLeft {
+                end: ServingEnd::of_run(end),
+                last: Some(last),
+                unused: None,
+            }
+        }
+        Err(jobs) => JobsLeft {
+            end: ServingEnd::OutOfMemory,
+            last: None,
+            unused: Some(jobs),
+        },
+    }
+}
+
+// Serves by the configuration of this source.
+fn serve_source<R: Threads + Wait + Sync, K: Desk>(
+    rt: &R,
+    alloc: Global,
+    source: &mut K::Config,
+    accepts: u32,
+    desk: &mut K,
+) -> JobsLeft<
+    Last<K::Doors, K::Outlet, K::Pacer, K::Store, K::Clock>,
+    Jobs<K::Doors, K::Outlet, K::Pacer, K::Store, K::Clock>,
+>
+    requires new { K.given desk.old ≡ None }
+    ensures texts { K.text desk.new ≡ K.text desk.old }
+    ensures handed { K.handed desk.new ≡ K.handed desk.old }
+    ensures journaled { K.journaled desk.new ≡ K.journaled desk.old }
+    ensures ends { (text : Option (List ℕ))
+        → IsStarted K.Config.tells (K.Config.feed source.old) text
+        → (K.Config.feed source.old).taken ≡ 0
+        → Serves K.Config.tells K.Doors.Conn.tells K.Outlet.tells
+        (λ fault. result.end ≡ ServingEnd.Configuration fault) accepts
+        text (K.faults desk.old) (K.faults desk.new) K.Config.feed (Some source.new)
+        (jobs_view K.Doors.hall K.Outlet.outbox K.Store.shelf K.Clock.dial)
+        (K.given desk.new) result.last result.unused (serving_status result.end) }
+{
+    let config = match read_configuration(alloc, source) {
+        Ok(config) => config,
+        Err(end) => return JobsLeft::nothing(ServingEnd::from(end)),
+    };
+    match desk.jobs(alloc, &config, accepts) {
+        Ok(jobs) => serve_jobs(rt, alloc, config, accepts, jobs),
+        Err(JobsFault::Failed) => JobsLeft::nothing(ServingEnd::DoorsFault),
+        Err(JobsFault::Want) => JobsLeft::nothing(ServingEnd::OutOfMemory),
+    }
+}
+
+/// The outcome of serving. The caller takes it apart.
+pub struct Served<K: Desk> {
+    /// How it ended.
+    pub end: ServingEnd,
+    /// The configuration's source that the desk gave, as far as it was read.
+    pub config: Option<K::Config>,
+    /// The remains of the jobs, if any began.
+    pub last: Option<Last<K::Doors, K::Outlet, K::Pacer, K::Store, K::Clock>>,
+    /// The kits that the desk gave, if no job began.
+    pub unused: Option<Jobs<K::Doors, K::Outlet, K::Pacer, K::Store, K::Clock>>,
+}
+
+/// Serves by the configuration of this name, with the kits of the desk. Each worker's doors end
+/// after `accepts` connections, and never if it is 0. Blocks.
+pub fn serve_by<R: Threads + Wait + Sync, K: Desk>(
+    rt: &R,
+    alloc: Global,
+    name: &Text,
+    accepts: u32,
+    desk: &mut K,
+) -> Served<K>
+    requires new { K.given desk.old ≡ None }
+    ensures texts { K.text desk.new ≡ K.text desk.old }
+    ensures handed { K.handed desk.new ≡ K.handed desk.old }
+    ensures journaled { K.journaled desk.new ≡ K.journaled desk.old }
+    ensures ends { Serves K.Config.tells K.Doors.Conn.tells K.Outlet.tells
+        (λ fault. result.end ≡ ServingEnd.Configuration fault) accepts
+        (K.text desk.old name.now) (K.faults desk.old) (K.faults desk.new)
+        K.Config.feed result.config
+        (jobs_view K.Doors.hall K.Outlet.outbox K.Store.shelf K.Clock.dial)
+        (K.given desk.new) result.last result.unused (serving_status result.end) }
+{
+    match desk.config(name) {
+        Ok(mut source) => {
+            let JobsLeft { end, last, unused } = serve_source(
+                rt,
+                alloc,
+                &mut source,
+                accepts,
+                desk,
+            );
+            Served {
+                end,
+                config: Some(source),
+                last,
+                unused,
+            }
+        }
+        Err(Failed) => Served {
+            end: ServingEnd::InputFault,
+            config: None,
+            last: None,
+            unused: None,
+        },
+    }
+}

@@ -1,5 +1,0 @@
-//! The one-thread server, followed by hand. It has nothing but tests.
-#![tactic(auto)]
-
-#[cfg(test)]
-mod server;

@@ -1,9 +1,0 @@
-use Rattle.std.proofs.Common.{◌∙◌, sym}
-use Rattle.satip_serving.proofs.StatusLemmas.{unopened_ends}
-use Rattle.satip_serving.proofs.serving.serve_by.Goals as goal
-
-pub returns-in-Ok-clause-ends : goal.returns-in-Ok-clause-ends
-returns-in-Ok-clause-ends g c = rw (sym c.in-Ok.ensures.no_fault) (c.serve_source-end.ensures.ends _ c.in-Ok.ensures.started c.in-Ok.ensures.untaken)
-
-pub returns-in-Err-clause-ends : goal.returns-in-Err-clause-ends
-returns-in-Err-clause-ends g c = unopened_ends (c.in-Err.ensures.kits ∙ c.requires.new) c.in-Err.ensures.failed

@@ -1,5 +1,0 @@
-use Rattle.satip_ts.proofs.Runs as runs
-use Rattle.satip_ts.proofs.laws.hands_out_first.Goals as goal
-
-pub returns : goal.returns
-returns c = record { first = runs.hands_out_first }

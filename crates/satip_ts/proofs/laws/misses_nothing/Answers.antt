@@ -1,5 +1,0 @@
-use Rattle.satip_ts.proofs.Runs as runs
-use Rattle.satip_ts.proofs.laws.misses_nothing.Goals as goal
-
-pub returns : goal.returns
-returns c = record { complete = runs.misses_nothing }

@@ -1,0 +1,310 @@
+-- A connection of a tunnel from its Enter to its end.
+use Rattle.std.proofs.Common.{◌≡◌, ◌∙◌, ℕ, false, List, [], ◌∷◌, ◌++◌, append-nil, map, take, arith, refl, sym, subst, inl, inr}
+use Rattle.rand_chacha.specs.ChaCha.{ChaCha}
+use Rattle.satip_rtsp_interleaved.specs.Requests.{asked_by_tunnel}
+use Rattle.satip_frame.specs.Stream.{Unfinished, Broken as broken_tail}
+use Rattle.satip_rtsp_interleaved.specs.Held.{Held, new_parter}
+use Rattle.satip_rtsp_interleaved.proofs.PartLemmas.{empty_ends}
+use Rattle.satip_rtsp.specs.declared.requests.Request.{Request}
+use Rattle.satip_rtsp.specs.Asked.{broken_request}
+use Rattle.satip_world.specs.Lines.{Line, GotBytes, WasIdle, InputEnded, ReceiveFailed}
+use Rattle.satip_worker.specs.Progress.{Carries}
+use Rattle.satip_worker.proofs.ProgressLemmas.{carries_nothing, carries_received, carries_on, rises_from}
+use Rattle.satip_tunnel.specs.declared.ends.TunnelEnd.TheVariants.{Broken, Done, ReadFault, WriteFault, Spent}
+use Rattle.satip_tunnel.specs.Walk.{Free, Draining, Over}
+use Rattle.satip_tunnel.specs.Wire.{wire}
+use Rattle.satip_tunnel.specs.Requests.{AsksInParts}
+use Rattle.satip_tunnel.specs.Seats.{Seat}
+use Rattle.satip_tunnel.specs.Exchanges.{Drains, DrainsInPart, DrainsToStop}
+use Rattle.satip_tunnel.specs.Hearing.{Course, SoFar, Listens, HasClosed, MadeFirst, HasLost, HasStopped, Talked}
+use Rattle.satip_tunnel.proofs.SeatLemmas.{grows_none}
+use Rattle.satip_tunnel.proofs.DrawLemmas.{takes_none}
+use Rattle.satip_tunnel.proofs.WalkLemmas.{wire-append, in_part_behind}
+use Rattle.satip_tunnel.proofs.HearingLemmas.{asks_all, so_far_drained, events_drained, over_drained}
+
+-- nothing came in yet
+pub listens_from : (tells : Type 0) (course : Course) (parter : Held) → parter ≡ new_parter
+    → Listens tells course course.seat course.line course.draws [] [] parter
+listens_from tells course parter new = record {
+  messages = [];
+  read = empty_ends;
+  stands = record {
+    leads = rw new (λ more. refl);
+    body = [];
+    draws = [];
+    counted = refl;
+    events = refl;
+    unended = refl;
+    so_far = record {
+      walk = refl;
+      grows = grows_none course.seat;
+      takes = takes_none course.draws;
+      carries = carries_nothing tells course.line;
+    };
+  };
+}
+
+module _ (tells : Type 0) (course : Course) (n : Seat) (m m' : Line) (c : ChaCha) (text : List ℕ) (parter : Held)
+    (listens : Listens tells course n m c text text parter) where
+  -- the line went on
+  listens_line : (received : List ℕ) → Carries tells m m' received [] → Listens tells course n m' c (text ++ received) text parter
+  listens_line received carries =
+      let s = listens.stands in
+      record {
+        messages = listens.messages;
+        read = listens.read;
+        stands = record {
+          leads = s.leads;
+          body = s.body;
+          draws = s.draws;
+          counted = s.counted;
+          events = s.events;
+          unended = s.unended;
+          so_far = record {
+            walk = s.so_far.walk;
+            grows = s.so_far.grows;
+            takes = s.so_far.takes;
+            carries = carries_received tells course.line m m' text _ received s.so_far.carries carries;
+          };
+        };
+      }
+
+  -- some bytes came in
+  pub listens_got : (buf : List ℕ) (count : ℕ) → GotBytes tells m m' buf count → Listens tells course n m' c (text ++ take count buf) text parter
+  listens_got buf count got = listens_line (take count buf) (record {
+    content = got.content;
+    idles = omega (arith, got.counts.idles);
+    receive_faults = omega (arith, got.counts.receive_faults);
+    send_faults = omega (arith, got.counts.send_faults);
+  })
+
+  -- nothing came in
+  pub listens_idle : WasIdle tells m m' → Listens tells course n m' c text text parter
+  listens_idle idle =
+      let P : List ℕ → Type 0 = λ t. Listens tells course n m' c t text parter in
+      subst P (append-nil text) (listens_line [] (record {
+        content = idle.content;
+        idles = idle.idles.kept;
+        receive_faults = omega (arith, idle.receive_faults);
+        send_faults = omega (arith, idle.send_faults);
+      }))
+
+  -- the requests of what was received
+  all_asked : AsksInParts text (map asked_by_tunnel listens.messages ++ [])
+  all_asked = asks_all text listens.messages Unfinished listens.read
+
+  -- what was made, where the line went on
+  so_far_on : Carries tells m m' [] [] → SoFar tells course n m' c text (wire listens.stands.body) Free listens.stands.body listens.stands.draws
+  so_far_on carries =
+      let s = listens.stands in
+      record {
+        walk = s.so_far.walk;
+        grows = s.so_far.grows;
+        takes = s.so_far.takes;
+        carries = carries_on tells course.line m m' text (wire s.body) s.so_far.carries carries;
+      }
+
+  -- the input ended
+  pub talked_to_end : InputEnded tells m m' → Talked tells course n m' c Done
+  talked_to_end ended =
+      let s = listens.stands in
+      record {
+        received = text;
+        first = record {
+          body = s.body;
+          draws = s.draws;
+          sent = wire s.body;
+          stance = Free;
+          made = map asked_by_tunnel listens.messages;
+          left = [];
+          asks = all_asked;
+          left_over = refl;
+          events = s.events;
+          drawn = s.counted;
+          stops = refl;
+          sent_is = refl;
+          so_far = so_far_on (record {
+            content = ended.content;
+            idles = omega (arith, ended.counts.idles);
+            receive_faults = omega (arith, ended.counts.receive_faults);
+            send_faults = omega (arith, ended.counts.send_faults);
+          });
+        };
+        line_ends = inl (ended.after, s.unended);
+        full = tt;
+      }
+
+  -- a receive failed
+  pub talked_to_read_fault : ReceiveFailed tells m m' → Talked tells course n m' c ReadFault
+  talked_to_read_fault failed =
+      let s = listens.stands in
+      record {
+        received = text;
+        first = record {
+          body = s.body;
+          draws = s.draws;
+          sent = wire s.body;
+          stance = Free;
+          made = map asked_by_tunnel listens.messages;
+          left = [];
+          asks = all_asked;
+          left_over = refl;
+          events = s.events;
+          drawn = s.counted;
+          stops = refl;
+          sent_is = refl;
+          so_far = so_far_on (record {
+            content = failed.content;
+            idles = omega (arith, failed.idles);
+            receive_faults = failed.receive_faults.kept;
+            send_faults = omega (arith, failed.send_faults);
+          });
+        };
+        line_ends = record {
+          goes_on = failed.after;
+          unanswered = s.unended;
+          faults = rises_from course.line.receive_faults m.receive_faults m'.receive_faults s.so_far.carries.receive_faults failed.receive_faults;
+        };
+        full = tt;
+      }
+
+-- ---- drains where nothing came in
+
+module _ (tells : Type 0) (course : Course) (o n : Seat) (l m : Line) (c : ChaCha) (text : List ℕ) (parter : Held)
+    (listens : Listens tells course o l c text text parter) where
+  -- all frames were sent
+  pub listens_drained : Drains tells course.lane o n l m Free Free → Listens tells course n m c text text parter
+  listens_drained d =
+      let s = listens.stands in
+      let P : List ℕ → Type 0 = λ w. SoFar tells course n m c text w Free (s.body ++ d.entries) s.draws in
+      record {
+        messages = listens.messages;
+        read = listens.read;
+        stands = record {
+          leads = s.leads;
+          body = s.body ++ d.entries;
+          draws = s.draws;
+          counted = s.counted;
+          events = events_drained s.body d.entries _ s.events d.none_asked;
+          unended = over_drained s.body d.entries d.none_asked ∙ s.unended;
+          so_far = subst P (sym (wire-append s.body d.entries))
+              (so_far_drained tells course o n l m c text (wire s.body) s.body s.draws s.so_far Free d.entries (wire d.entries) d.talks);
+        };
+      }
+
+  -- the lane is broken
+  pub drains_to_break : Drains tells course.lane o n l m Free Over → MadeFirst tells course n m c text text Broken
+  drains_to_break d =
+      let s = listens.stands in
+      let P : List ℕ → Type 0 = λ w. SoFar tells course n m c text w Over (s.body ++ d.entries) s.draws in
+      record {
+        body = s.body ++ d.entries;
+        draws = s.draws;
+        sent = wire (s.body ++ d.entries);
+        stance = Over;
+        made = map asked_by_tunnel listens.messages;
+        left = [];
+        asks = asks_all text listens.messages Unfinished listens.read;
+        left_over = tt;
+        events = events_drained s.body d.entries _ s.events d.none_asked;
+        drawn = s.counted;
+        stops = refl;
+        sent_is = refl;
+        so_far = subst P (sym (wire-append s.body d.entries))
+            (so_far_drained tells course o n l m c text (wire s.body) s.body s.draws s.so_far Over d.entries (wire d.entries) d.talks);
+      }
+
+  -- a send failed
+  pub drains_to_lose : DrainsInPart tells course.lane o n l m Free → HasLost tells course n m c text text
+  drains_to_lose d =
+      let s = listens.stands in
+      record {
+        first = record {
+          body = s.body ++ d.entries;
+          draws = s.draws;
+          sent = wire s.body ++ d.sent;
+          stance = Draining;
+          made = map asked_by_tunnel listens.messages;
+          left = [];
+          asks = asks_all text listens.messages Unfinished listens.read;
+          left_over = tt;
+          events = events_drained s.body d.entries _ s.events d.none_asked;
+          drawn = s.counted;
+          stops = refl;
+          sent_is = in_part_behind s.body d.entries d.sent d.in_part;
+          so_far = so_far_drained tells course o n l m c text (wire s.body) s.body s.draws s.so_far Draining d.entries d.sent d.talks;
+        };
+        faults = rises_from course.line.send_faults l.send_faults m.send_faults s.so_far.carries.send_faults d.faults;
+      }
+
+  -- the history was full
+  pub drains_to_stop : DrainsToStop tells course.lane o n l m Free → HasStopped tells course n m c text text
+  drains_to_stop stop =
+      let s = listens.stands in
+      let d = stop.drains in
+      let P : List ℕ → Type 0 = λ w. SoFar tells course n m c text w stop.to (s.body ++ d.entries) s.draws in
+      record {
+        first = record {
+          body = s.body ++ d.entries;
+          draws = s.draws;
+          sent = wire (s.body ++ d.entries);
+          stance = stop.to;
+          made = map asked_by_tunnel listens.messages;
+          left = [];
+          asks = asks_all text listens.messages Unfinished listens.read;
+          left_over = tt;
+          events = events_drained s.body d.entries _ s.events d.none_asked;
+          drawn = inl s.counted;
+          stops = stop.going;
+          sent_is = refl;
+          so_far = subst P (sym (wire-append s.body d.entries))
+              (so_far_drained tells course o n l m c text (wire s.body) s.body s.draws s.so_far stop.to d.entries (wire d.entries) d.talks);
+        };
+        full = stop.full;
+      }
+
+-- ---- how it ended
+
+module _ (tells : Type 0) (course : Course) (n : Seat) (m : Line) (c : ChaCha) (text : List ℕ) where
+  -- a closing reply was sent
+  pub talked_to_closing : m.ended ≡ false → HasClosed tells course n m c text text → Talked tells course n m c Done
+  talked_to_closing goes_on closed =
+      let all : List Request = map asked_by_tunnel closed.messages ++ broken_request closed.cause ∷ [] in
+      let A : List Request → Type 0 = λ rs. AsksInParts text rs in
+      record {
+        received = text;
+        first = record {
+          body = closed.body;
+          draws = closed.draws;
+          sent = wire closed.body;
+          stance = Free;
+          made = all;
+          left = [];
+          asks = subst A (sym (append-nil all)) (asks_all text closed.messages (broken_tail closed.cause) closed.read);
+          left_over = refl;
+          events = closed.events;
+          drawn = closed.counted;
+          stops = refl;
+          sent_is = refl;
+          so_far = closed.so_far;
+        };
+        line_ends = inr (goes_on, closed.ended);
+        full = tt;
+      }
+
+  -- the lane is broken
+  pub talked_to_break : MadeFirst tells course n m c text text Broken → Talked tells course n m c Broken
+  talked_to_break first = record { received = text; first = first; line_ends = tt; full = tt }
+
+  -- a send failed
+  pub talked_to_write_fault : m.ended ≡ false → HasLost tells course n m c text text → Talked tells course n m c WriteFault
+  talked_to_write_fault goes_on lost = record {
+    received = text;
+    first = lost.first;
+    line_ends = record { goes_on = goes_on; faults = lost.faults };
+    full = tt;
+  }
+
+  -- the history was full
+  pub talked_to_stop : HasStopped tells course n m c text text → Talked tells course n m c Spent
+  talked_to_stop stopped = record { received = text; first = stopped.first; line_ends = tt; full = stopped.full }

@@ -1,0 +1,13 @@
+use Rattle.std.proofs.Common.{◌≡◌}
+use Rattle.satip_tunnel.specs.Seats.{seated}
+use Rattle.satip_tunnel.proofs.WorkerLemmas.{ServesOn}
+use Rattle.satip_tunnel.proofs.worker.run_tunnel_worker.Given as goal
+
+-- the connections so far were served and handed back
+abbrev pub invariant-loop : goal.invariant-loop
+invariant-loop g l =
+    (l.kit.key ≡ l.initial.kit.key)
+    × (l.kit.outlet ≡ l.initial.kit.outlet)
+    × ServesOn g.D.Conn.Conn.tells l.initial.kit.key l.number
+    (seated l.initial.caller.server.now l.initial.caller.pass) (seated l.caller.server.now l.caller.pass)
+    (g.D.Doors.hall l.initial.kit.doors) (g.D.Doors.hall l.kit.doors) l.draws

@@ -1,8 +1,0 @@
--- What a contract sees of a tunnel.
-use Rattle.satip_core.specs.Held.{Held as HeldServer}
-use Rattle.satip_lanes.specs.Lanes.{PlainLanes}
-
--- the server, and the lanes
-pub record Held : Type 0 where
-  pub server : HeldServer
-  pub lanes : PlainLanes

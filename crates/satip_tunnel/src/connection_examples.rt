@@ -1,0 +1,52 @@
+//! Worked examples of walks, wires and runs, as the contract of a function with an empty body.
+ghost use Rattle.std.specs.Prelude.{◌≡◌, [], ◌∷◌, ◌++◌, codes};
+ghost use Rattle.satip_rtsp_interleaved.specs.Rows.{setup_with};
+ghost use Rattle.satip_interleave.specs.declared.events.TunnelAnswer.TheVariants.{Lane, Full as NoLane, Frames, Empty, Broken as LaneBroken, Gone};
+ghost use Rattle.satip_tunnel.specs.declared.ends.TunnelEnd.TheVariants.{Full, Broken, Done, ReadFault, WriteFault, Spent};
+ghost use Rattle.satip_tunnel.specs.Rows.{asks, drains, enters, leaves};
+ghost use Rattle.satip_tunnel.specs.TunnelRun.{TunnelRun};
+ghost use Rattle.satip_tunnel.specs.Walk.{Free, Draining, Over, Walk};
+ghost use Rattle.satip_tunnel.specs.Wire.{SentInPart, wire};
+
+/// Shows the order of entries, the bytes sent for them, and the runs of a connection on which
+/// nothing came in.
+pub fn worked_rows()
+    // A request is followed by drains of its lane, until one isn't answered with frames.
+    ensures drained { Walk 3 Free (asks 3 [] ∷ drains 3 (Frames 5) [] ∷ drains 3 Empty [] ∷ [])
+        Free }
+    ensures gone { Walk 3 Free (asks 3 [] ∷ drains 3 Gone [] ∷ []) Free }
+    ensures idle { Walk 3 Free (drains 3 Empty [] ∷ drains 3 Empty [] ∷ []) Free }
+    ensures undrained { ¬ (Walk 3 Free (asks 3 [] ∷ asks 3 [] ∷ []) Draining) }
+    ensures half { ¬ (Walk 3 Free (drains 3 (Frames 5) [] ∷ asks 3 [] ∷ []) Draining) }
+    ensures still { Walk 3 Free (asks 3 [] ∷ drains 3 (Frames 5) [] ∷ []) Draining }
+    ensures other_lane { ¬ (Walk 3 Free (asks 3 [] ∷ drains 4 Empty [] ∷ []) Free) }
+    ensures other_peer { ¬ (Walk 3 Free (asks 4 [] ∷ drains 3 Empty [] ∷ []) Free) }
+    ensures broken { Walk 3 Free (drains 3 LaneBroken [] ∷ []) Over }
+    ensures over { ¬ (Walk 3 Free (drains 3 LaneBroken [] ∷ drains 3 Empty [] ∷ []) Free) }
+    ensures no_leave { ¬ (Walk 3 Free (leaves 3 ∷ []) Free) }
+
+    // Replies are rewritten, and frames sent as they are.
+    ensures wired { wire (enters (Lane 3)
+        ∷ asks 3 (setup_with (codes "Transport: RTP/AVP;unicast;client_port=1-2"))
+        ∷ drains 3 (Frames 5) (36 ∷ 0 ∷ 0 ∷ 1 ∷ 71 ∷ []) ∷ drains 3 Empty [] ∷ leaves 3 ∷ [])
+        ≡ setup_with (codes "Transport: RTP/AVP/TCP;unicast;interleaved=0-1")
+        ++ 36 ∷ 0 ∷ 0 ∷ 1 ∷ 71 ∷ [] }
+    ensures in_part { SentInPart (asks 3 (1 ∷ 2 ∷ 3 ∷ []) ∷ []) (1 ∷ 2 ∷ []) }
+    ensures not_in_part { ¬ (SentInPart [] (1 ∷ [])) }
+
+    // The connection enters, and leaves its lane.
+    ensures silent { TunnelRun [] [] [] 2 Done (enters (Lane 3) ∷ leaves 3 ∷ []) }
+    ensures unread { TunnelRun [] [] [] 2 ReadFault (enters (Lane 3) ∷ leaves 3 ∷ []) }
+    ensures left_out { ¬ (TunnelRun [] [] [] 1 ReadFault (enters (Lane 3) ∷ [])) }
+    ensures other_left { ¬ (TunnelRun [] [] [] 2 Done (enters (Lane 3) ∷ leaves 4 ∷ [])) }
+    ensures lost { TunnelRun [] [] (36 ∷ []) 3 WriteFault (enters (Lane 3)
+        ∷ drains 3 (Frames 5) (36 ∷ 0 ∷ 0 ∷ 1 ∷ 71 ∷ []) ∷ leaves 3 ∷ []) }
+    ensures turned_away { TunnelRun [] [] [] 1 Full (enters NoLane ∷ []) }
+    ensures entry_behind { ¬ (TunnelRun [] [] [] 2 Full (enters NoLane ∷ leaves 3 ∷ [])) }
+    ensures broke { TunnelRun [] [] [] 3 Broken
+        (enters (Lane 3) ∷ drains 3 LaneBroken [] ∷ leaves 3 ∷ []) }
+    ensures not_done { ¬ (TunnelRun [] [] [] 3 Done
+        (enters (Lane 3) ∷ drains 3 LaneBroken [] ∷ leaves 3 ∷ [])) }
+    ensures spent { TunnelRun [] [] [] 18446744073709551615 Spent (enters (Lane 3) ∷ []) }
+    ensures not_spent { ¬ (TunnelRun [] [] [] 1 Spent (enters (Lane 3) ∷ [])) }
+{}

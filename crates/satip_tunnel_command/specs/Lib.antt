@@ -1,3 +1,0 @@
-pub mod Outlets
-pub mod Sent
-pub mod Ends

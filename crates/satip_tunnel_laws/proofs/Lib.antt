@@ -1,6 +1,0 @@
-pub mod Holding
-pub mod Turning
-pub mod Moving
-pub mod Taking
-pub mod Owning
-pub mod Connecting

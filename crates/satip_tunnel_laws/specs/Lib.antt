@@ -1,3 +1,0 @@
-pub mod LaneFrames
-pub mod Owners
-pub mod Rows

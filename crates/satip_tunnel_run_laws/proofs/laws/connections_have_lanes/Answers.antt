@@ -1,5 +1,0 @@
-use Rattle.satip_tunnel_run_laws.proofs.Owning as lemmas
-use Rattle.satip_tunnel_run_laws.proofs.laws.connections_have_lanes.Goals as goal
-
-pub returns : goal.returns
-returns g c = record { law = lemmas.connections_have_lanes g.D.Conn.Conn.tells c.jobs_drain_own.ensures.law c.wires_have_lanes.ensures.law }

@@ -1,0 +1,35 @@
+use Rattle.std.proofs.Common.{ap}
+use Rattle.satip_tunnel.specs.Silences.{no_outbox}
+use Rattle.satip_serve.proofs.LeftKits.{come_back_as}
+use Rattle.satip_serve.specs.Statuses.{serving_status}
+use Rattle.satip_serve.proofs.EndLemmas.{come_unused, unused_of}
+use Rattle.satip_tunnel_serve.proofs.EndLemmas.{fresh_seen, outlets_stay, tunnel_end}
+use Rattle.satip_tunnel_serve.proofs.command.run_kits.Goals as goal
+
+pub returns-in-Ok-clause-ran : goal.returns-in-Ok-clause-ran
+returns-in-Ok-clause-ran g c =
+    let fresh = fresh_seen g.D.Doors.hall g.O.Outlet.outbox g.M.MuxStore.shelf g.C.Clock.dial c.args._accepts c.args.jobs c.requires.fresh in
+    let ran = c.in-Ok.ensures.ran in
+    let run = ran.jobs.run c.args._accepts fresh in
+    let laws = c.keeps_laws.ensures in
+    rw (ap serving_status c.of_run.ensures.end) (record {
+      pass = ran.of;
+      run = run;
+      payload = laws.payload;
+      owners = laws.owners;
+      busy = laws.busy;
+      frames = c.connections_have_lanes.ensures.law _ _ _ _ _ _ _ run;
+      channels = laws.channels;
+      kits_left = come_back_as g.D.Doors.hall no_outbox g.O.Outlet.outbox g.M.MuxStore.shelf g.C.Clock.dial c.args.jobs c.in-Ok.last.jobs ran.jobs.kits_left;
+      outlets = outlets_stay g.D.Doors.hall g.O.Outlet.outbox g.M.MuxStore.shelf g.C.Clock.dial c.args.jobs c.in-Ok.last.jobs c.in-Ok.ensures.outlets;
+      ends = tunnel_end c.in-Ok.end _ _ (ran.jobs.ended c.args._accepts fresh);
+    })
+
+pub returns-in-Err-clause-kits_unused : goal.returns-in-Err-clause-kits_unused
+returns-in-Err-clause-kits_unused g c =
+    come_unused g.D.Doors.hall g.O.Outlet.outbox g.M.MuxStore.shelf g.C.Clock.dial c.args.jobs c.in-Err.jobs c.in-Err.ensures.unused
+
+pub returns-in-Err-clause-unused_kits : goal.returns-in-Err-clause-unused_kits
+returns-in-Err-clause-unused_kits g c =
+    unused_of g.D.Doors.hall g.O.Outlet.outbox g.M.MuxStore.shelf g.C.Clock.dial c.args._accepts c.args.jobs c.in-Err.jobs
+    c.requires.fresh c.in-Err.ensures.unused

@@ -1,0 +1,197 @@
+//! A tunnel with all its jobs, from the first reading of the clock to the last join.
+
+ghost use Rattle.std.specs.Prelude.{◌≡◌, ◌≤◌, length, vec_capacity, IfOk, IfErr};
+ghost use Rattle.std.specs.Thread.{IsSync};
+ghost use Rattle.satip_fronts.specs.FrontEnds.{IsNumbered};
+ghost use Rattle.satip_desk.specs.Fresh.{AreFresh, FreshJobs, Unused};
+ghost use Rattle.satip_serve.specs.Ran.{CanRun};
+ghost use Rattle.satip_serve.specs.Spaces.{IsSpaceFor};
+ghost use Rattle.satip_interleave.specs.Histories.{TunnelLegal};
+ghost use Rattle.satip_tunnel.specs.Seats.{seated};
+ghost use Rattle.satip_tunnel_serve.specs.Deeds.{WorkedAtSeat};
+ghost use Rattle.satip_tunnel_serve.specs.Ran.{HaveOutlets, HaveTunneled};
+ghost use Rattle.satip_tunnel_serve.specs.Views.{worker_seen, jobs_seen};
+
+use crate::aside::{put_aside, take_back};
+use crate::run::{TunnelSpace, run_in_tunnel};
+use crate::seat::work_at_seat;
+use crate::space::{Memory, take_memory};
+use satip_base::Want;
+use satip_config::Config;
+use satip_desk::{Jobs, WorkerKit};
+use satip_interleave::{SharedTunnel, TunnelCaller, TunnelPass, make};
+use satip_jobs::{Posts, Seat, ServeEnd};
+use satip_tunnel::{Silent, WorkerRoom};
+use satip_world::{Clock, Doors, MuxStore, Outlet, Pacer};
+use std::alloc::Global;
+use std::sync::Wait;
+use std::thread::Threads;
+
+/// The remains when all jobs have ended: the tunnel, the one pass into which all others are joined,
+/// and the kits.
+#[derive(Drop)]
+pub struct TunnelLast<D, O, P, M, C> {
+    pub server: SharedTunnel,
+    pub pass: TunnelPass,
+    pub jobs: Jobs<D, O, P, M, C>,
+}
+
+// The gears of the jobs' callers, which are nothing.
+#[derive(Drop)]
+struct Gears {
+    pub workers: Vec<()>,
+    pub pumps: Vec<()>,
+}
+
+// Runs the jobs, whose outlets send nothing.
+fn run_silent<
+    'a,
+    R: Threads + Wait + Sync,
+    D: Doors + Send + Drop,
+    P: Pacer + Send + Drop,
+    M: MuxStore + Send + Drop,
+    C: Clock + Send + Drop,
+>(
+    rt: &'a R,
+    server: &'a SharedTunnel,
+    pass: TunnelPass,
+    jobs: Jobs<D, Silent, P, M, C>,
+    gears: Gears,
+    space: TunnelSpace<TunnelCaller<'a, R>, D, WorkerRoom, P, M>,
+) -> (TunnelPass, Jobs<D, Silent, P, M, C>, ServeEnd)
+    requires ready { CanRun TunnelLegal server.now pass jobs }
+    requires worker_space { IsSpaceFor (length jobs.workers.items) gears.workers.items
+        space.worker_rooms.items space.workers.items (vec_capacity space.workers) }
+    requires pump_space { IsSpaceFor (length jobs.pumps.items) gears.pumps.items
+        space.pump_rooms.items space.pumps.items (vec_capacity space.pumps) }
+    requires few { length jobs.pumps.items ≤ 16 }
+    ensures ran { HaveTunneled D.Conn.tells (FreshJobs server.now.setting.start) server.now
+        (jobs_seen D.hall M.shelf C.dial jobs) result.0
+        (jobs_seen D.hall M.shelf C.dial result.1) result.2 }
+    ensures worker_count { length result.1.workers.items ≡ length jobs.workers.items }
+    ensures pump_count { length result.1.pumps.items ≡ length jobs.pumps.items }
+{
+    let posts = Posts {
+        workers: jobs.workers,
+        worker_gears: gears.workers,
+        pumps: jobs.pumps,
+        pump_gears: gears.pumps,
+        ticker: jobs.tick,
+        ticker_gear: (),
+    };
+    let root = TunnelCaller { rt, server, pass };
+    let (root, posts, end) = run_in_tunnel(
+        rt,
+        root,
+        posts,
+        space,
+        &|seat: &mut Seat<TunnelCaller<R>, WorkerKit<D, Silent, P>, WorkerRoom>|
+            requires { IsSync R.row }
+            ensures { WorkedAtSeat D.Conn.tells seat.old.number seat.new.number
+                (worker_seen D.hall seat.old.kit)
+                (seated seat.old.caller.server.now seat.old.caller.pass)
+                (worker_seen D.hall seat.new.kit)
+                (seated seat.new.caller.server.now seat.new.caller.pass) seat.new.end }
+        { work_at_seat(seat) },
+    );
+    let TunnelCaller {
+        rt: _,
+        server: _,
+        pass,
+    } = root;
+    let jobs = Jobs {
+        workers: posts.workers,
+        pumps: posts.pumps,
+        tick: posts.ticker,
+    };
+    (pass, jobs, end)
+}
+
+// Takes all memory and runs the jobs. Gives the kits back if memory was refused.
+fn serve_all<
+    R: Threads + Wait + Sync,
+    D: Doors + Send + Drop,
+    O: Outlet + Send + Drop,
+    P: Pacer + Send + Drop,
+    M: MuxStore + Send + Drop,
+    C: Clock + Send + Drop,
+>(
+    rt: &R,
+    alloc: Global,
+    server: &SharedTunnel,
+    pass: TunnelPass,
+    jobs: Jobs<D, O, P, M, C>,
+) -> Result<(TunnelPass, Jobs<D, O, P, M, C>, ServeEnd), Jobs<D, O, P, M, C>>
+    requires ready { CanRun TunnelLegal server.now pass jobs }
+    requires few { length jobs.pumps.items ≤ 16 }
+    ensures ran { IfOk result (λ served. HaveTunneled D.Conn.tells
+        (FreshJobs server.now.setting.start) server.now (jobs_seen D.hall M.shelf C.dial jobs)
+        served.0 (jobs_seen D.hall M.shelf C.dial served.1) served.2) }
+    ensures outlets { IfOk result (λ served. HaveOutlets jobs served.1) }
+    ensures unused { IfErr result (λ back. back ≡ jobs) }
+{
+    match take_memory(alloc, jobs.workers.len(), jobs.pumps.len()) {
+        Ok(memory) => {
+            let Memory {
+                space,
+                worker_gears,
+                pump_gears,
+                spare,
+            } = memory;
+            let (silent, aside) = put_aside(jobs, spare);
+            let gears = Gears {
+                workers: worker_gears,
+                pumps: pump_gears,
+            };
+            let (pass, silent, end) = run_silent(rt, server, pass, silent, gears, space);
+            Ok((pass, take_back(silent, aside), end))
+        }
+        Err(Want) => Err(jobs),
+    }
+}
+
+/// Runs all jobs in parallel, with RTP and RTCP inside the RTSP connections: workers, pumps in the
+/// order of front ends, and the ticker, whose clock is read first, for the start. Splits off a
+/// caller from caller 0 for each job. After the last worker it joins the workers' callers, and
+/// caller 0 submits the one stop while pumps and ticker still run. Then it joins theirs. Callers
+/// are joined in the order of jobs. No outlet is used: each comes back as it was. Blocks.
+///
+/// All memory is taken before any job begins. If it was refused, returns the kits; then only the
+/// clock was used, once.
+pub fn serve_through_tunnel<
+    R: Threads + Wait + Sync,
+    D: Doors + Send + Drop,
+    O: Outlet + Send + Drop,
+    P: Pacer + Send + Drop,
+    M: MuxStore + Send + Drop,
+    C: Clock + Send + Drop,
+>(
+    rt: &R,
+    alloc: Global,
+    config: Config,
+    mut jobs: Jobs<D, O, P, M, C>,
+) -> Result<(TunnelLast<D, O, P, M, C>, ServeEnd), Jobs<D, O, P, M, C>>
+    requires few { length config.fronts ≤ 16 }
+    requires numbered { IsNumbered 1 config.fronts }
+    requires received { length config.muxes ≤ 256 }
+    requires workers { length jobs.workers.items ≡ config.workers }
+    requires pumps { length jobs.pumps.items ≡ length config.fronts }
+
+    ensures config { IfOk result (λ served. served.0.server.setting.config ≡ config) }
+    // the workers' keys, the pumps' recordings and all outlets come back in order; it was a run of
+    // the tunnel if the kits were fresh, apart from their outlets
+    ensures ran { IfOk result (λ served. HaveTunneled D.Conn.tells AreFresh served.0.server
+        (jobs_seen D.hall M.shelf C.dial jobs) served.0.pass
+        (jobs_seen D.hall M.shelf C.dial served.0.jobs) served.1) }
+    ensures outlets { IfOk result (λ served. HaveOutlets jobs served.0.jobs) }
+    ensures unused { IfErr result (Unused C.dial jobs) }
+{
+    let start = jobs.tick.clock.now();
+    match make(alloc, config, start) {
+        Ok((server, pass)) => match serve_all(rt, alloc, &server, pass, jobs) {
+            Ok((pass, jobs, end)) => Ok((TunnelLast { server, pass, jobs }, end)),
+            Err(jobs) => Err(jobs),
+        },
+        Err(Want) => Err(jobs),
+    }
+}

@@ -1,3 +1,0 @@
-pub mod ConnRun
-pub mod WorkerRun
-pub mod Rows

@@ -1,6 +1,0 @@
-use Rattle.satip_verdict.proofs.ReplayLemmas.{Runs}
-use Rattle.satip_verdict.proofs.judging.replay_lines.Given as goal
-
--- the entries before a place are what the server does
-abbrev pub invariant-places : goal.invariant-places
-invariant-places l = Runs l.text l.spots l.initial.server l.place l.server

@@ -1,4 +1,0 @@
-pub mod Checks
-pub mod Indexes
-pub mod Replaying
-pub mod OneThing

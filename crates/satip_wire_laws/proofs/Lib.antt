@@ -1,3 +1,0 @@
-pub mod Wiring
-pub mod Framing
-pub mod Parting

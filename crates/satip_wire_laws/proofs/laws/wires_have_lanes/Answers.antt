@@ -1,5 +1,0 @@
-use Rattle.satip_wire_laws.proofs.Wiring as lemmas
-use Rattle.satip_wire_laws.proofs.laws.wires_have_lanes.Goals as goal
-
-pub returns : goal.returns
-returns c = record { law = lemmas.wires_have_lanes c.connections_take_first.ensures.law }
