@@ -1,5 +1,5 @@
 #!/usr/bin/env python3
-"""Measures what journals cost: the CPU of `satip journal` beside `satip serve`, each to 16 receivers,
+"""Measures what journals cost: the CPU of `satip journal` and of `satip serve`, each to 16 receivers,
 and the CPU, time and memory of `satip audit` on journals of 16, 32 and 60 MiB.
 
     python3 bench/journal.py [PROGRAM [SECONDS]]
@@ -9,7 +9,7 @@ SECONDS, 6 without the word, is how long each server is measured. CPU is that of
 an audit are those of a server with one receiver that was killed when they had the size.
 
 PROGRAM is SATIP_PROGRAM or crates/satip/out/satip without the word; `cd crates/satip && rt run --
---version` builds it. Needs the Debian package python3."""
+--version` builds it. Needs python3 alone."""
 import glob
 import os
 import subprocess
@@ -17,29 +17,26 @@ import sys
 import time
 
 TOP = os.path.dirname(os.path.dirname(os.path.abspath(__file__)))
-sys.path.insert(0, os.path.join(TOP, "tools"))
-sys.path.insert(0, os.path.join(TOP, "bench"))
+sys.path.insert(0, os.path.join(TOP, "trials"))
 sys.dont_write_bytecode = True
-from count_late import Client, begin
-from receivers import PACKET, Receivers, cpu_seconds
-from serving import PROGRAM, QUERY, Server, free_ports
+from lib.rtp import PACKET, Receivers
+from lib.server import QUERY, Server, cpu_seconds, use_program
 
 ADDRESS = "127.0.0.1"
 RECEIVERS = 16
 MEBIBYTES = (16, 32, 60)
 
 
-def play(ports, count):
-    receivers, client = Receivers(count), Client(ADDRESS, ports[0])
-    begin(client, f"rtsp://{ADDRESS}:{ports[0]}/", f"{QUERY}&pids=all", receivers.ports())
+def play(server, count):
+    receivers, client = Receivers(ADDRESS, count), server.client()
+    client.play_to(receivers.ports(), QUERY)
     return receivers, client
 
 
 def seconds_a_million(command, seconds):
     """CPU seconds of a server for a million packets that came to its receivers."""
-    ports = free_ports(ADDRESS)
-    server = Server(ADDRESS, workers=20, ports=ports, seconds=4 * seconds + 20, command=command)
-    receivers, client = play(ports, RECEIVERS)
+    server = Server(ADDRESS, workers=20, seconds=4 * seconds + 20, command=command)
+    receivers, client = play(server, RECEIVERS)
     try:
         receivers.read_for(1)
         before, payload = cpu_seconds(server.process.pid), receivers.payload
@@ -48,7 +45,7 @@ def seconds_a_million(command, seconds):
         return 1e6 * used * PACKET / (receivers.payload - payload), receivers.missing
     finally:
         receivers.close()
-        client.line.close()
+        client.close()
         server.close()
 
 
@@ -57,11 +54,10 @@ def written(folder):
 
 
 def audit(program, mebibytes):
-    """What an audit of so many bytes of journals uses, and its verdict."""
-    ports = free_ports(ADDRESS)
-    server = Server(ADDRESS, workers=2, ports=ports, seconds=120, command="journal")
+    """Prints what an audit of journals of this size uses, and its verdict."""
+    server = Server(ADDRESS, workers=2, seconds=120, command="journal")
     folder = server.folder.name
-    receivers, client = play(ports, 1)
+    receivers, client = play(server, 1)
     try:
         while written(folder) < mebibytes << 20:
             receivers.read_for(0.1)
@@ -75,7 +71,7 @@ def audit(program, mebibytes):
         with open(text, "rb") as input_file:
             begun = time.monotonic()
             auditing = subprocess.Popen(
-                [program, "audit", server.path("try.toml")], stdin=input_file, stdout=subprocess.PIPE
+                [program, "audit", server.config], stdin=input_file, stdout=subprocess.PIPE
             )
             told = auditing.stdout.read().decode().strip()
             _, _, usage = os.wait4(auditing.pid, 0)
@@ -90,13 +86,12 @@ def audit(program, mebibytes):
         )
     finally:
         receivers.close()
-        client.line.close()
+        client.close()
         server.close()
 
 
 def main():
-    program = os.path.abspath(sys.argv[1] if len(sys.argv) > 1 else PROGRAM)
-    os.environ["SATIP_PROGRAM"] = program
+    program = use_program(sys.argv[1:2])
     seconds = float(sys.argv[2]) if len(sys.argv) > 2 else 6
     plain, missing = seconds_a_million("serve", int(seconds))
     written_down, lost = seconds_a_million("journal", int(seconds))

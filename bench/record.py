@@ -1,5 +1,5 @@
 #!/usr/bin/env python3
-"""Measures `satip record` on loopback, beside FFmpeg's `-c copy` of the same stream.
+"""Measures `satip record` on loopback, and FFmpeg's `-c copy` of the same stream.
 
     python3 bench/record.py [PROGRAM [PACKETS]]
 
@@ -11,8 +11,8 @@ datagram that a line `gap FROM COUNT` or FFmpeg's `RTP: missed COUNT packets` te
 goes to a file.
 
 PROGRAM is SATIP_PROGRAM or crates/satip/out/satip without the word; `cd crates/satip && rt run --
---version` builds it. Needs the Debian packages python3 and ffmpeg. Without ffmpeg the recording
-is random bytes in packets, and `satip record` is measured alone."""
+--version` builds it. Needs the Debian package ffmpeg. Without it the recording is random bytes in
+packets, and `satip record` is measured alone."""
 
 import os
 import random
@@ -27,14 +27,14 @@ import threading
 import time
 
 TOP = os.path.dirname(os.path.dirname(os.path.abspath(__file__)))
-sys.path.insert(0, os.path.join(TOP, "tools"))
+sys.path.insert(0, os.path.join(TOP, "trials"))
 sys.dont_write_bytecode = True
-from serving import PROGRAM, QUERY
+from lib.rtp import PACKET, PACKETS_A_DATAGRAM
+from lib.server import QUERY, use_program
 
 ADDRESS = "127.0.0.1"
 BIT_RATE = 100_000_000
-SIZE, PACKETS_A_DATAGRAM = 188, 7
-PAYLOAD = SIZE * PACKETS_A_DATAGRAM
+PAYLOAD = PACKET * PACKETS_A_DATAGRAM
 DATAGRAMS_A_SECOND = BIT_RATE / 8 / PAYLOAD
 SDP = (
     "v=0\r\no=- 1 1 IN IP4 127.0.0.1\r\ns=bench\r\nt=0 0\r\n"
@@ -44,7 +44,7 @@ SDP = (
 
 def make_recording(path, packets):
     """A picture with noise at 90 Mbit/s in a stream of 100 Mbit/s."""
-    seconds = packets * SIZE * 8 / BIT_RATE + 1
+    seconds = packets * PACKET * 8 / BIT_RATE + 1
     picture = "testsrc2=size=1920x1080:rate=25,noise=alls=60:allf=t"
     coded = "-c:v mpeg2video -pix_fmt yuv420p -g 1 -b:v 90M -minrate 90M -maxrate 90M -bufsize 20M"
     words = ["ffmpeg", "-hide_banner", "-loglevel", "error", "-f", "lavfi", "-i", picture]
@@ -64,8 +64,8 @@ def make_noise(path, packets):
 
 
 class Player:
-    """An RTSP server that plays a recording to one client at a time: over and over, or so many
-    datagrams, behind which it ends the connection."""
+    """An RTSP server that plays a recording to one client at a time: over and over, or up to a
+    number of datagrams, after which it ends the connection."""
 
     def __init__(self, recording):
         with open(recording, "rb") as file:
@@ -79,7 +79,7 @@ class Player:
         threading.Thread(target=self.serve, daemon=True).start()
 
     def expect(self, limit):
-        """The next client is sent so many datagrams, or all it wants."""
+        """Sends the next client `limit` datagrams, or all it wants without a limit."""
         self.limit, self.sent = limit, 0
 
     def serve(self):
@@ -189,7 +189,7 @@ def measure_record(program, player, count, output):
     record = Measured(words, output, player, None)
     gaps = [int(told) for told in re.findall(r"^gap \d+ (\d+)$", record.errors, re.M)]
     record.show("satip record", PACKETS_A_DATAGRAM * sum(gaps))
-    well = record.status == 0 and record.bytes == SIZE * count
+    well = record.status == 0 and record.bytes == PACKET * count
     if not well:
         print(record.errors[-300:])
     return well
@@ -205,7 +205,7 @@ def measure_ffmpeg(player, count, output):
 
 
 def main():
-    program = os.path.abspath(sys.argv[1] if len(sys.argv) > 1 else PROGRAM)
+    program = use_program(sys.argv[1:2])
     count = int(sys.argv[2]) if len(sys.argv) > 2 else 1_000_000
     has_ffmpeg = shutil.which("ffmpeg") is not None
     with tempfile.TemporaryDirectory() as folder:

@@ -5,8 +5,7 @@
 
 PROGRAM is SATIP_PROGRAM or crates/satip/out/satip without the word; `cd crates/satip && rt run --
 --version` builds it. With words, only the rows with one of them in their names are measured. Needs
-the Debian packages python3, and valgrind for the counts of instructions. Writes nothing into the
-repository."""
+the Debian package valgrind for the counts of instructions. Writes nothing into the repository."""
 
 import os
 import re
@@ -18,9 +17,9 @@ import time
 from functools import partial
 
 TOP = os.path.dirname(os.path.dirname(os.path.abspath(__file__)))
-sys.path.insert(0, os.path.join(TOP, "tools"))
+sys.path.insert(0, os.path.join(TOP, "trials"))
 sys.dont_write_bytecode = True
-from serving import PROGRAM
+from lib.server import use_program
 
 INPUT_LIMIT = 67108864
 RUNS = 5
@@ -106,7 +105,7 @@ GUEST = 100
 
 
 class Lines:
-    """Lines of each kind, behind the opening. The guest is one session more, founded and ended again."""
+    """Lines of each kind, after the opening. The guest is one session more, created and ended again."""
 
     def __init__(self):
         self.made = SESSIONS
@@ -197,7 +196,7 @@ def in_turn(*kinds):
 
 
 def script(lines, kind_at, opened=(), opening_lines=None):
-    """So many lines behind the opening and these, each of the kind that its place has."""
+    """Lines after the opening and these, each of the kind that its place has."""
     made = Lines()
     parts = [opening_lines or opening()] + [made.next(kind) for kind in opened]
     parts += [made.next(kind_at(place)) for place in range(lines)]
@@ -311,7 +310,7 @@ def options(count):
 
 
 def replay_row(program, folder, name, lines, kind_at, opened=(), opening_lines=None):
-    """The row of a script of so many lines."""
+    """Prints the row of a script with this number of lines."""
     short = tuple(script(count, kind_at, opened, opening_lines) for count in (1_000, 4_000))
     text = script(lines, kind_at, opened, opening_lines)
     measure(name, [program, "replay", "bench.toml"], text, short, folder, b"\n")
@@ -334,7 +333,7 @@ def rows(program, folder):
 
 
 def main():
-    program = os.path.abspath(sys.argv[1] if len(sys.argv) > 1 else PROGRAM)
+    program = use_program(sys.argv[1:2])
     wanted = sys.argv[2:] or [""]
     with tempfile.TemporaryDirectory() as folder:
         with open(os.path.join(folder, "bench.toml"), "w") as file:

@@ -1,6 +1,6 @@
 #!/usr/bin/env python3
-"""Measures `satip serve` on loopback, beside plain loops that only send at the same pace: by sendto
-from one socket, and from a connected socket for each receiver. It counts the calls of the system by
+"""Measures `satip serve` on loopback, and plain loops that only send at the same pace: by sendto from
+one socket, and from a connected socket for each receiver. It counts the calls of the system by
 kind, too.
 
     python3 bench/serve.py [PROGRAM [SECONDS]]
@@ -10,9 +10,8 @@ bytes that came; what is late or missing is read off the RTP numbers. SECONDS, 2
 is how long each row takes.
 
 PROGRAM is SATIP_PROGRAM or crates/satip/out/satip without the word; `cd crates/satip && rt run --
---version` builds it. Needs the right to trace it, and the Debian packages python3, gcc,
-libc6-dev, strace, and ffmpeg for tools/make_recording.sh. Ports 18554 and 18875 of 127.0.0.1 are to
-be free."""
+--version` builds it. Needs the right to trace it, and the Debian packages gcc, libc6-dev, strace and
+ffmpeg."""
 
 import os
 import subprocess
@@ -22,12 +21,13 @@ import threading
 import time
 
 TOP = os.path.dirname(os.path.dirname(os.path.abspath(__file__)))
-sys.path.insert(0, os.path.join(TOP, "tools"))
-sys.path.insert(0, os.path.join(TOP, "bench"))
+sys.path.insert(0, os.path.join(TOP, "trials"))
 sys.dont_write_bytecode = True
-from count_late import Client, begin
-from receivers import ADDRESS, RECEIVERS, RTSP_PORT, Receivers, cpu_seconds, resident_megabytes
-from serving import PROGRAM, QUERY, Server
+from lib.rtp import Receivers
+from lib.server import QUERY, Server, cpu_seconds, resident_megabytes, use_program
+
+ADDRESS = "127.0.0.1"
+RECEIVERS = (1, 16, 60)
 
 IDLE_SECONDS, CALLS_SECONDS = 5, 5
 # Clients that ask for OPTIONS side by side; one worker more serves the one that streams.
@@ -36,24 +36,22 @@ ASKERS = 8
 
 def serve_to(count, server, seconds):
     """CPU seconds of the server for each packet that came, its receivers, and its memory."""
-    receivers, client = Receivers(count), Client(ADDRESS, RTSP_PORT)
-    base = f"rtsp://{ADDRESS}:{RTSP_PORT}/"
-    target, sessions = begin(client, base, f"{QUERY}&pids=all", receivers.ports())
-    before, packets = cpu_seconds(server.pid), receivers.packets()
+    receivers, client, pid = Receivers(ADDRESS, count), server.client(), server.process.pid
+    target, sessions = client.play_to(receivers.ports(), QUERY)
+    before, packets = cpu_seconds(pid), receivers.packets()
     receivers.read_for(seconds)
-    used, packets = cpu_seconds(server.pid) - before, receivers.packets() - packets
-    memory = resident_megabytes(server.pid)
-    print(f"{count} receivers: calls a second: {calls(server.pid, receivers.read_for)}")
-    for session in reversed(sessions):
-        client.ask("TEARDOWN", target, f"Session: {session}")
+    used, packets = cpu_seconds(pid) - before, receivers.packets() - packets
+    memory = resident_megabytes(pid)
+    print(f"{count} receivers: calls a second: {calls(pid, receivers.read_for)}")
+    client.tear_down(target, *sessions)
     receivers.close()
-    client.line.close()
+    client.close()
     return used / packets, receivers, memory
 
 
 def loop_to(count, loop, kind, seconds):
     """CPU seconds of a plain loop for each packet."""
-    receivers = Receivers(count)
+    receivers = Receivers(ADDRESS, count)
     words = [loop, kind, str(seconds), *map(str, receivers.ports())]
     with subprocess.Popen(words, stdout=subprocess.PIPE, text=True) as sends:
         while sends.poll() is None:
@@ -64,7 +62,7 @@ def loop_to(count, loop, kind, seconds):
 
 
 def calls(pid, wait):
-    """Calls of the system a second by kind, most frequent first; `wait` lets seconds pass."""
+    """Returns the system calls a second by kind, most frequent first; `wait` lets seconds pass."""
     with tempfile.NamedTemporaryFile("r") as table:
         # it ends well where timeout interrupts it, and lets the program go on
         words = ["timeout", "--signal=INT", str(CALLS_SECONDS)]
@@ -102,16 +100,16 @@ def measure_sending(server, loop, seconds):
         )
 
 
-def measure_requests(seconds):
+def measure_requests(server, seconds):
     counts = [0] * ASKERS
     end = time.monotonic() + seconds
 
     def ask(place):
-        client = Client(ADDRESS, RTSP_PORT)
+        client = server.client()
         while time.monotonic() < end:
             client.ask("OPTIONS", "*", "User-Agent: bench")
             counts[place] += 1
-        client.line.close()
+        client.close()
 
     threads = [threading.Thread(target=ask, args=(place,)) for place in range(ASKERS)]
     for thread in threads:
@@ -130,7 +128,7 @@ def make_recording(folder, seconds):
 
 
 def main():
-    os.environ["SATIP_PROGRAM"] = os.path.abspath(sys.argv[1] if len(sys.argv) > 1 else PROGRAM)
+    use_program(sys.argv[1:2])
     seconds = int(sys.argv[2]) if len(sys.argv) > 2 else 20
     with tempfile.TemporaryDirectory() as folder:
         loop = os.path.join(folder, "sendto_loop")
@@ -140,8 +138,8 @@ def main():
         server = Server(ADDRESS, workers=ASKERS + 1, fronts=2, recording=recording)
         try:
             measure_idle(server.process)
-            measure_sending(server.process, loop, seconds)
-            measure_requests(seconds)
+            measure_sending(server, loop, seconds)
+            measure_requests(server, seconds)
         finally:
             server.close()
 

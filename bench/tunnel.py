@@ -1,6 +1,6 @@
 #!/usr/bin/env python3
-"""Measures `satip tunnel` on loopback to 1, 8 and 16 connections, beside a plain loop that only
-sends the same frames at the same pace on as many TCP connections. Then one of eight stops reading,
+"""Measures `satip tunnel` on loopback to 1, 8 and 16 connections, and a plain loop that only
+sends the same frames at the same pace on the same number of TCP connections. Then one of eight stops reading,
 and what the others miss is counted.
 
     python3 bench/tunnel.py [PROGRAM [SECONDS]]
@@ -10,7 +10,7 @@ bytes that came; what is missing is read off the RTP numbers. SECONDS, 6 without
 long each row takes.
 
 PROGRAM is SATIP_PROGRAM or crates/satip/out/satip without the word; `cd crates/satip && rt run --
---version` builds it. Needs the Debian packages python3, gcc and libc6-dev."""
+--version` builds it. Needs the Debian packages gcc and libc6-dev."""
 import os
 import select
 import socket
@@ -20,12 +20,11 @@ import tempfile
 import time
 
 TOP = os.path.dirname(os.path.dirname(os.path.abspath(__file__)))
-sys.path.insert(0, os.path.join(TOP, "tools"))
-sys.path.insert(0, os.path.join(TOP, "bench"))
+sys.path.insert(0, os.path.join(TOP, "trials"))
 sys.dont_write_bytecode = True
-from interleaved import PACKET, RTP_HEADER, Interleaved
-from receivers import cpu_seconds, resident_megabytes
-from serving import PROGRAM, QUERY, Server, free_ports
+from lib.rtp import PACKET, RTP_HEADER, number_of
+from lib.rtsp import inside
+from lib.server import QUERY, Server, cpu_seconds, free_ports, resident_megabytes, use_program
 
 ADDRESS = "127.0.0.1"
 CONNECTIONS = (1, 8, 16)
@@ -34,14 +33,12 @@ CONNECTIONS = (1, 8, 16)
 class Readers:
     """Connections that play one stream, read by one thread; those that are left out don't read."""
 
-    def __init__(self, port, count):
-        self.clients = [Interleaved(ADDRESS, port)]
-        target, self.session = self.clients[0].play(f"{QUERY}&pids=all")
-        for _ in range(count - 1):
-            client = Interleaved(ADDRESS, port)
-            client.play("", target)
-            self.clients.append(client)
-        self.target, self.poll = target, select.epoll()
+    def __init__(self, server, count):
+        self.clients = [server.client() for _ in range(count)]
+        target = self.clients[0].url(QUERY)
+        for client in self.clients:
+            target, _ = client.play(target, inside())
+        self.poll = select.epoll()
         self.by_file = {client.line.fileno(): client for client in self.clients}
         self.last, self.payload, self.missing, self.ended = {}, 0, 0, 0
         for client in self.clients:
@@ -72,7 +69,7 @@ class Readers:
     def count(self, file, channel, data):
         if channel != 0:
             return
-        number = data[2] << 8 | data[3]
+        number = number_of(data)
         last = self.last.get(file)
         if last is not None:
             self.missing += (number - last - 1) & 0xFFFF
@@ -85,13 +82,13 @@ class Readers:
         self.poll.close()
 
 
-def measure(server, port, count, seconds):
+def measure(server, count, seconds):
     """CPU seconds of the server for each packet that came, and the readers."""
-    readers = Readers(port, count)
+    readers, pid = Readers(server, count), server.process.pid
     readers.read_for(1)
-    before, payload = cpu_seconds(server.pid), readers.payload
+    before, payload = cpu_seconds(pid), readers.payload
     readers.read_for(seconds)
-    used = cpu_seconds(server.pid) - before
+    used = cpu_seconds(pid) - before
     packets = (readers.payload - payload) // PACKET
     readers.close()
     return used / packets, readers
@@ -115,9 +112,9 @@ def loop_to(loop, count, seconds):
     return float(told[3]) / int(told[1])
 
 
-def measure_slow(port, seconds):
+def measure_slow(server, seconds):
     """Eight connections, one of which stops reading."""
-    readers = Readers(port, 8)
+    readers = Readers(server, 8)
     readers.read_for(1)
     readers.leave_out(readers.clients[3])
     readers.read_for(2 * seconds)
@@ -127,24 +124,22 @@ def measure_slow(port, seconds):
 
 
 def main():
-    program = os.path.abspath(sys.argv[1] if len(sys.argv) > 1 else PROGRAM)
-    os.environ["SATIP_PROGRAM"] = program
+    use_program(sys.argv[1:2])
     seconds = int(sys.argv[2]) if len(sys.argv) > 2 else 6
     with tempfile.TemporaryDirectory() as folder:
         loop = os.path.join(folder, "send_loop")
         source = os.path.join(TOP, "bench", "send_loop.c")
         subprocess.run(["gcc", "-O2", "-o", loop, source], check=True)
-        ports = free_ports(ADDRESS)
-        server = Server(ADDRESS, workers=20, ports=ports, seconds=20 * seconds + 60, command="tunnel")
+        server = Server(ADDRESS, workers=20, seconds=20 * seconds + 60, command="tunnel")
         try:
             for count in CONNECTIONS:
-                each, readers = measure(server.process, ports[0], count, seconds)
+                each, readers = measure(server, count, seconds)
                 plain = loop_to(loop, count, seconds)
                 memory = resident_megabytes(server.process.pid)
                 print(f"{count:2} connections: {1e6 * each:.3f} s of CPU a million packets, a loop of send "
                       f"{1e6 * plain:.3f} s: factor {each / plain:.2f}; missing {readers.missing}; "
                       f"{memory:.1f} MB", flush=True)
-            measure_slow(ports[0], seconds)
+            measure_slow(server, seconds)
         finally:
             server.close()
 

@@ -1,15 +1,14 @@
 #!/usr/bin/env python3
 """Draws docs/serve.svg: what one sees of a server, from a real run.
 
-    tools/draw_serve.py [--program PROGRAM] [--to PICTURE]
+    tools/draw_serve.py [--to PICTURE]
 
 It makes two recordings, a configuration by tools/new_config.py, starts the server, prints its
 channels by tools/channels.py, and takes a stream by curl. Each line of the picture is one that a
 command wrote, but for the prompts and for the scratch folder's name, which is told as ~.
 
-Needs the Debian packages python3, ffmpeg and curl, and PROGRAM, which is SATIP_PROGRAM or
-crates/satip/out/satip without the word (`cd crates/satip && rt run -- --version` builds it). Ports
-from 18554 and 18875 on of 127.0.0.1 are to be free.
+Needs the Debian packages ffmpeg and curl, and crates/satip/out/satip (`cd crates/satip && rt run --
+--version` builds it) or SATIP_PROGRAM. Ports from 18554 and 18875 on of 127.0.0.1 are to be free.
 """
 
 import argparse
@@ -23,10 +22,11 @@ import time
 from xml.sax.saxutils import escape
 
 sys.dont_write_bytecode = True
-from channels import read
-from serving import PROGRAM
-
 TOP = os.path.dirname(os.path.dirname(os.path.abspath(__file__)))
+sys.path.insert(0, os.path.join(TOP, "trials"))
+from channels import read
+from lib.server import program
+
 COLUMNS, LINE_HEIGHT, CHARACTER_WIDTH, EDGE = 100, 18, 7.8, 14
 STYLES = {"prompt": "#9ece6a", "told": "#c0caf5"}
 NAMES = {"news.ts": "News", "film.ts": "Film"}
@@ -123,7 +123,6 @@ def session(screen, environment):
 
 def main():
     words = argparse.ArgumentParser(description="Draws what one sees of a server.")
-    words.add_argument("--program", default=PROGRAM)
     words.add_argument("--to", metavar="PICTURE", default=f"{TOP}/docs/serve.svg")
     given = words.parse_args()
     signal.signal(signal.SIGTERM, lambda *_: sys.exit(1))
@@ -131,7 +130,7 @@ def main():
         screen = Screen(folder)
         make_recordings(folder)
         os.mkdir(f"{folder}/bin")
-        os.symlink(os.path.abspath(given.program), f"{folder}/bin/satip")
+        os.symlink(program(), f"{folder}/bin/satip")
         os.symlink(f"{TOP}/tools", f"{folder}/tools")
         path = f"{folder}/bin:{os.environ['PATH']}"
         session(screen, {**os.environ, "PATH": path})

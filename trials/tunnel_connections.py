@@ -1,0 +1,151 @@
+#!/usr/bin/env python3
+"""Each packet of a recording comes through connections of `tunnel`, in order and none missing.
+
+    trials/tunnel_connections.py [SECONDS]
+
+The recording's packets are numbered. They go, for SECONDS each, 6 without the word, to one
+connection; to eight, one of which stops reading; to one that sends receiver reports between its
+requests; and to one in parallel with 62 that stop reading, each of which the server has to end. A
+transport over UDP has to be refused with 461. Ends with status 1 if something doesn't hold. Needs
+the built program (trials/lib/server.py).
+
+Packages: none
+Limit: 180 s
+"""
+
+import sys
+import threading
+import time
+
+sys.dont_write_bytecode = True
+from lib.checks import Checks
+from lib.rtp import PACKET, missing_runs, numbered, payload
+from lib.rtsp import inside, over_udp
+from lib.server import PACKETS_A_SECOND, QUERY, Server
+
+ADDRESS = "127.0.0.1"
+# A server has at most 64 workers, so it serves 64 connections at once.
+STOPPED = 62
+# An empty receiver report, on the channel of RTCP.
+REPORT = bytes.fromhex("2401000880c9000100000001")
+
+
+class Reader(threading.Thread):
+    """A connection that plays for some seconds, and then tears its session down."""
+
+    def __init__(self, server, length, target=None, stops_after=None, sends=b""):
+        super().__init__(daemon=True)
+        self.client, self.length = server.client(), length
+        self.stops_after, self.sends = stops_after, sends
+        self.target, self.session = self.client.play(target or self.client.url(QUERY), inside())
+        self.packets, self.numbers, self.reports, self.fault = b"", [], 0, None
+
+    def run(self):
+        try:
+            self.read()
+        except OSError as error:
+            self.fault = str(error)
+
+    def read(self):
+        begun = time.monotonic()
+        while time.monotonic() < begun + self.length:
+            if self.stops_after and time.monotonic() > begun + self.stops_after:
+                time.sleep(0.1)
+                continue
+            if self.sends:
+                self.client.line.sendall(self.sends)
+            self.keep(self.client.take_frames())
+        if not self.stops_after:
+            self.client.tear_down(self.target, self.session)
+            self.keep(self.client.frames)
+
+    def keep(self, frames):
+        packets, numbers = payload(frames, 0)
+        self.packets += packets
+        self.numbers += numbers
+        self.reports += sum(place == 1 for place, _ in frames)
+
+
+def rises(numbers):
+    return all((b - a) % 65536 == 1 for a, b in zip(numbers, numbers[1:]))
+
+
+def check_whole(checks, where, reader, recording):
+    count, length = len(reader.packets) // PACKET, reader.length
+    checks.check(reader.fault is None, f"{where}: it ended well ({reader.fault or 'TEARDOWN: 200'})")
+    enough = count > PACKETS_A_SECOND * length * 0.8
+    checks.check(enough, f"{where}: {count} packets in {length} s, {reader.reports} reports")
+    missing = missing_runs(reader.packets, recording)
+    checks.check(missing == [], f"{where}: they are the recording's, in order, none missing")
+    checks.check(rises(reader.numbers), f"{where}: the datagrams' numbers rise by one")
+
+
+def run_all(readers):
+    for reader in readers:
+        reader.start()
+    for reader in readers:
+        reader.join(60)
+
+
+def try_connections(checks, recording, length):
+    with Server(ADDRESS, workers=12, recording=recording, command="tunnel") as server:
+        alone = Reader(server, length)
+        run_all([alone])
+        check_whole(checks, "one connection", alone, recording)
+
+        slow = Reader(server, length + 6, stops_after=0.5)
+        others = [Reader(server, length + 4, slow.target) for _ in range(7)]
+        run_all([slow, *others])
+        for place, other in enumerate(others, 1):
+            check_whole(checks, f"reader {place} of 7 next to one that stops", other, recording)
+        slow.client.close()
+
+        talker = Reader(server, length, sends=REPORT)
+        run_all([talker])
+        check_whole(checks, "a connection that sends reports", talker, recording)
+
+        client = server.client()
+        reply = client.ask("SETUP", client.url(QUERY), over_udp(1400))
+        checks.check(reply.startswith("RTSP/1.0 461 "), f"UDP: {reply.splitlines()[0]}")
+        client.close()
+        checks.check(server.lives(), "the server lives")
+
+
+def is_ended(client, longest):
+    """Whether the server ends this connection within the seconds."""
+    client.line.settimeout(longest)
+    try:
+        while client.line.recv(262144):
+            pass
+        return True
+    except TimeoutError:
+        return False
+    except OSError:
+        return True
+
+
+def try_stopped_readers(checks, recording, length):
+    """One reader next to as many connections that stop reading as the other workers serve."""
+    with Server(ADDRESS, workers=64, recording=recording, command="tunnel") as server:
+        reader = Reader(server, length + 14)
+        stopped = [server.client() for _ in range(STOPPED)]
+        for client in stopped:
+            client.play(reader.target, inside())
+        run_all([reader])
+        check_whole(checks, f"a reader next to {STOPPED} that stop", reader, recording)
+        ended = sum(is_ended(client, 10) for client in stopped)
+        checks.check(ended == STOPPED, f"{ended} of {STOPPED} that stopped were ended")
+        checks.check(server.lives(), "the server lives after those that stopped")
+
+
+def main():
+    length = int(sys.argv[1]) if len(sys.argv) > 1 else 6
+    recording = numbered(PACKETS_A_SECOND * (8 * length + 60))
+    checks = Checks()
+    try_connections(checks, recording, length)
+    try_stopped_readers(checks, recording, length)
+    checks.end()
+
+
+if __name__ == "__main__":
+    main()
