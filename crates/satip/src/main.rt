@@ -13,7 +13,7 @@ use std::process::ExitCode;
 // so a QUERY may not be longer, though the form sets no limit.
 const WORDS: usize = 8;
 
-const WORD: usize = 4096;
+const WORD: usize = 8192;
 
 const OUT_OF_MEMORY: u8 = 70;
 

@@ -1,183 +1,101 @@
--- What an audit comes to, by its status.
-use Rattle.std.proofs.Common.{◌≡◌, ℕ, ◌+◌, ◌≤◌, ◌⊎◌, inl, inr, List, Option, Some, None, refl, subst, ⊎_elim, arith}
-use Rattle.satip_base.specs.Streams.{Feed, Drain, Rose}
-use Rattle.satip_world.specs.Counts.{Rises}
-use Rattle.satip_world.specs.Recordings.{IsStarted}
-use Rattle.satip_config.specs.declared.fault.ConfigFault.{ConfigFault}
+-- The outcome of an audit, by what was read and judged, and its statuses.
+use Rattle.std.proofs.Common.{◌≡◌, ℕ, ◌⊎◌, inl, inr, List, Option, refl, sym, subst}
 use Rattle.satip_base.specs.Lists.{Has}
-use Rattle.satip_config.specs.Configurations.{configuration_limit}
-use Rattle.satip_replay.specs.Ends.{EndsByConfiguration, EndsByInput, EndsByLength, ConfigurationFails, InputFails}
-use Rattle.satip_audit.specs.Audits.{Audited}
-use Rattle.satip_audit.specs.Ends.{EndsByJournal, EndsByOutput, EndsByWant, IsEndOf}
+use Rattle.satip_base.specs.Streams.{Feed, Drain, Rose}
+use Rattle.satip_world.specs.Recordings.{IsStarted}
+use Rattle.satip_config.specs.Configuration.{Configuration}
+use Rattle.satip_config.specs.Configurations.{Configured, ConfigurationEnds}
+use Rattle.satip_config.specs.Reading.{EndsWhole}
+use Rattle.satip_config.specs.declared.reading.ConfigurationEnd.{ConfigurationEnd}
+use Rattle.satip_config.specs.declared.reading.ConfigurationEnd.TheVariants as reading
+use Rattle.satip_replay.specs.Replays.{script_limit}
+use Rattle.satip_replay.specs.Ends.{EndsByInput}
+use Rattle.satip_replay.proofs.BatchLemmas.{fault_of}
+use Rattle.satip_replay.proofs.EndLemmas.{streams}
+use Rattle.satip_audit.specs.declared.verdicts.Verdict.{Verdict}
+use Rattle.satip_audit.specs.LegalTexts.{IsLegalIfYes}
+use Rattle.satip_audit.specs.Printed.{verdict_text}
+use Rattle.satip_audit.specs.Replaying.{IsJudged}
+use Rattle.satip_audit.specs.Audits.{Judged}
+use Rattle.satip_audit.specs.Ends.{AuditOutcome, EndsByOutput, InputEnds, WriteEnds, end_of_reading}
 use Rattle.satip_audit.specs.declared.ends.AuditEnd.{AuditEnd}
-use Rattle.satip_audit.specs.declared.ends.AuditEnd.TheVariants.{Done, Configuration, Journal, InputFault, OutputFault, TooLong, OutOfMemory}
-use Rattle.satip_desk.specs.Desks.{GivenFrom}
-use Rattle.satip_config.specs.Lines.{Says, configuration_line}
-use Rattle.satip_audit.specs.CommandEnds.{audit_statuses, audit_status, audit_line, journal_line, AuditEnds, IsAuditSettled}
+use Rattle.satip_audit.specs.declared.ends.AuditEnd.TheVariants.{Done, Configuration as OfConfiguration, Journal, InputFault, OutputFault, TooLong, OutOfMemory}
+use Rattle.satip_audit.specs.CommandEnds.{audit_statuses, audit_status}
+
+-- the configuration isn't read
+unread : (ct it ot : Type 0) (a b i : Feed) (o : Drain) (end : ConfigurationEnd) → ConfigurationEnds ct a b end
+    → AuditOutcome ct it ot (streams a i o) (streams b i o) (end_of_reading end)
+unread ct it ot a b i o (reading.Fault fault) refused = record { refused = refused; input = refl; output = refl }
+unread ct it ot a b i o reading.SourceFailed rose = record { cause = inl (record { rose = rose; input = refl }); output = refl }
+unread ct it ot a b i o reading.OutOfMemory kept = record { config_faults = kept; in_faults = refl; output = refl }
+
+pub unread_ends : (ct it ot : Type 0) (a b i : Feed) (o : Drain) (end : ConfigurationEnd) (ending : AuditEnd) → ending ≡ end_of_reading end
+    → ConfigurationEnds ct a b end → AuditOutcome ct it ot (streams a i o) (streams b i o) ending
+unread_ends ct it ot a b i o end ending is ends =
+    subst (λ (e : AuditEnd). AuditOutcome ct it ot (streams a i o) (streams b i o) e) (sym is) (unread ct it ot a b i o end ends)
+
+-- the journals aren't read
+pub input_ends : (ct it ot : Type 0) (a b i j : Feed) (o : Drain) (c : Configuration) (end : AuditEnd) → Configured ct a b c → InputEnds it i j end
+    → AuditOutcome ct it ot (streams a i o) (streams b j o) end
+input_ends ct it ot a b i j o c Done configured never = absurd never
+input_ends ct it ot a b i j o c (OfConfiguration fault) configured never = absurd never
+input_ends ct it ot a b i j o c (Journal number) configured never = absurd never
+input_ends ct it ot a b i j o c InputFault configured rose = record {
+  cause = inr (record { configuration = c; configured = configured; rose = rose });
+  output = refl;
+}
+input_ends ct it ot a b i j o c OutputFault configured never = absurd never
+input_ends ct it ot a b i j o c TooLong configured long = record { configuration = c; configured = configured; long = long; output = refl }
+input_ends ct it ot a b i j o c OutOfMemory configured kept = record { config_faults = configured.whole.faults; in_faults = kept; output = refl }
+
+-- both are read, and the verdict is written
+module _ (ct it ot : Type 0) (a b i j : Feed) (o n : Drain) (c : Configuration) (text slice : List ℕ) (verdict : Verdict) (configured : Configured ct a b c)
+    (read : EndsWhole it i j script_limit text) (same : slice ≡ text) (judged : IsJudged c slice verdict) (legal : IsLegalIfYes c slice verdict) where
+  found : Judged ct it (streams a i o) (streams b j n) verdict
+  found =
+      let P : List ℕ → Type 0 = λ t. IsJudged c t verdict × IsLegalIfYes c t verdict in
+      let both : P text = subst P same (judged, legal) in
+      record {
+        configuration = c;
+        configured = configured;
+        notes = both.0.notes;
+        heard = record { text = text; whole = read.whole; short = read.short; journal = both.0.journal };
+        verdict_is = both.0.verdict_is;
+        legal = both.1;
+      }
+
+  pub write_ends : (end : AuditEnd) → WriteEnds ot o n (verdict_text verdict) end → AuditOutcome ct it ot (streams a i o) (streams b j n) end
+  write_ends Done put = record { verdict = verdict; judged = found; put = put }
+  write_ends (OfConfiguration fault) never = absurd never
+  write_ends (Journal number) never = absurd never
+  write_ends InputFault never = absurd never
+  write_ends OutputFault failed = record { verdict = verdict; judged = found; failed = failed }
+  write_ends TooLong never = absurd never
+  write_ends OutOfMemory never = absurd never
 
 -- the status is one of an audit's
-has_end : (end : AuditEnd) → Has (audit_status end) audit_statuses
+pub has_end : (end : AuditEnd) → Has (audit_status end) audit_statuses
 has_end Done = inl refl
-has_end (Configuration fault) = inr (inl refl)
+has_end (OfConfiguration fault) = inr (inl refl)
 has_end (Journal number) = inr (inr (inl refl))
 has_end InputFault = inr (inr (inr (inl refl)))
 has_end OutputFault = inr (inr (inr (inr (inl refl))))
 has_end TooLong = inr (inr (inr (inr (inr (inl refl)))))
 has_end OutOfMemory = inr (inr (inr (inr (inr (inr (inl refl))))))
 
--- how an audit ended that has this status
-ends_done : (end : AuditEnd) → audit_status end ≡ 0 → end ≡ Done
-ends_done Done is = refl
-ends_done (Configuration fault) is = absurd (omega (arith, is))
-ends_done (Journal number) is = absurd (omega (arith, is))
-ends_done InputFault is = absurd (omega (arith, is))
-ends_done OutputFault is = absurd (omega (arith, is))
-ends_done TooLong is = absurd (omega (arith, is))
-ends_done OutOfMemory is = absurd (omega (arith, is))
+-- the causes of faults
+module _ (ct it ot : Type 0) (a b i j : Feed) (o n : Drain) (end : AuditEnd)
+    (outcome : AuditOutcome ct it ot (streams a i o) (streams b j n) end) where
+  ended_so : (other : AuditEnd) → end ≡ other → AuditOutcome ct it ot (streams a i o) (streams b j n) other
+  ended_so other is = subst (λ (e : AuditEnd). AuditOutcome ct it ot (streams a i o) (streams b j n) e) is outcome
 
-ends_input : (end : AuditEnd) → audit_status end ≡ 5 → end ≡ InputFault
-ends_input Done is = absurd (omega (arith, is))
-ends_input (Configuration fault) is = absurd (omega (arith, is))
-ends_input (Journal number) is = absurd (omega (arith, is))
-ends_input InputFault is = refl
-ends_input OutputFault is = absurd (omega (arith, is))
-ends_input TooLong is = absurd (omega (arith, is))
-ends_input OutOfMemory is = absurd (omega (arith, is))
+  pub input_fault_of : (text : Option (List ℕ)) (Desk : Type 0) → IsStarted ct a text → end ≡ InputFault
+      → Desk ⊎ Rose 0 b.faults ⊎ Rose i.faults j.faults
+  input_fault_of text Desk started is =
+      let ends : EndsByInput ct (streams a i o) (streams b j n) = ended_so InputFault is in
+      fault_of ct text (streams a i o) (streams b j n) Desk started ends
 
-ends_output : (end : AuditEnd) → audit_status end ≡ 6 → end ≡ OutputFault
-ends_output Done is = absurd (omega (arith, is))
-ends_output (Configuration fault) is = absurd (omega (arith, is))
-ends_output (Journal number) is = absurd (omega (arith, is))
-ends_output InputFault is = absurd (omega (arith, is))
-ends_output OutputFault is = refl
-ends_output TooLong is = absurd (omega (arith, is))
-ends_output OutOfMemory is = absurd (omega (arith, is))
-
-ends_long : (end : AuditEnd) → audit_status end ≡ 8 → end ≡ TooLong
-ends_long Done is = absurd (omega (arith, is))
-ends_long (Configuration fault) is = absurd (omega (arith, is))
-ends_long (Journal number) is = absurd (omega (arith, is))
-ends_long InputFault is = absurd (omega (arith, is))
-ends_long OutputFault is = absurd (omega (arith, is))
-ends_long TooLong is = refl
-ends_long OutOfMemory is = absurd (omega (arith, is))
-
-ends_wanting : (end : AuditEnd) → audit_status end ≡ 70 → end ≡ OutOfMemory
-ends_wanting Done is = absurd (omega (arith, is))
-ends_wanting (Configuration fault) is = absurd (omega (arith, is))
-ends_wanting (Journal number) is = absurd (omega (arith, is))
-ends_wanting InputFault is = absurd (omega (arith, is))
-ends_wanting OutputFault is = absurd (omega (arith, is))
-ends_wanting TooLong is = absurd (omega (arith, is))
-ends_wanting OutOfMemory is = refl
-
-fault_told : (Line : List ℕ → Type 0) (Cause : ConfigFault → Type 0) (end : AuditEnd) → Line (audit_line end)
-    → ((fault : ConfigFault) → end ≡ Configuration fault → Cause fault) → audit_status end ≡ 3
-    → (fault : ConfigFault) × Line (configuration_line fault) × Cause fault
-fault_told Line Cause Done line cause is = absurd (omega (arith, is))
-fault_told Line Cause (Configuration fault) line cause is = (fault, line, cause fault refl)
-fault_told Line Cause (Journal number) line cause is = absurd (omega (arith, is))
-fault_told Line Cause InputFault line cause is = absurd (omega (arith, is))
-fault_told Line Cause OutputFault line cause is = absurd (omega (arith, is))
-fault_told Line Cause TooLong line cause is = absurd (omega (arith, is))
-fault_told Line Cause OutOfMemory line cause is = absurd (omega (arith, is))
-
-number_told : (Line : List ℕ → Type 0) (Cause : ℕ → Type 0) (end : AuditEnd) → Line (audit_line end)
-    → ((number : ℕ) → end ≡ Journal number → Cause number) → audit_status end ≡ 4 → (number : ℕ) × Line (journal_line number) × Cause number
-number_told Line Cause Done line cause is = absurd (omega (arith, is))
-number_told Line Cause (Configuration fault) line cause is = absurd (omega (arith, is))
-number_told Line Cause (Journal number) line cause is = (number, line, cause number refl)
-number_told Line Cause InputFault line cause is = absurd (omega (arith, is))
-number_told Line Cause OutputFault line cause is = absurd (omega (arith, is))
-number_told Line Cause TooLong line cause is = absurd (omega (arith, is))
-number_told Line Cause OutOfMemory line cause is = absurd (omega (arith, is))
-
--- where neither the verdict nor a beginning of it was written, nothing was
-nothing_put : (ct it : Type 0) (a b i j : Feed) (o n : Drain) (end : AuditEnd)
-    → ((fault : ConfigFault) → end ≡ Configuration fault → EndsByConfiguration ct a b i j o n fault)
-    → ((number : ℕ) → end ≡ Journal number → EndsByJournal ct it a b i j o n number)
-    → (end ≡ InputFault → EndsByInput ct a b i j o n) → (end ≡ TooLong → EndsByLength ct it a b i j o n)
-    → (end ≡ OutOfMemory → EndsByWant a b i j o n)
-    → (audit_status end ≡ 0 → ⊥) → (audit_status end ≡ 6 → ⊥) → n ≡ o
-nothing_put ct it a b i j o n Done fault number input long wants whole part = absurd (whole refl)
-nothing_put ct it a b i j o n (Configuration cause) fault number input long wants whole part = (fault cause refl).output
-nothing_put ct it a b i j o n (Journal line) fault number input long wants whole part = (number line refl).output
-nothing_put ct it a b i j o n InputFault fault number input long wants whole part = (input refl).output
-nothing_put ct it a b i j o n OutputFault fault number input long wants whole part = absurd (part refl)
-nothing_put ct it a b i j o n TooLong fault number input long wants whole part = (long refl).output
-nothing_put ct it a b i j o n OutOfMemory fault number input long wants whole part = (wants refl).output
-
--- where nothing failed the texts say the status
-settled_told : (ct it : Type 0) (text : Option (List ℕ)) (a b i j : Feed) (end : AuditEnd) → IsStarted ct a text
-    → (ct → it → (Rose a.faults b.faults → ⊥) → (Rose i.faults j.faults → ⊥) → IsEndOf a.left i.left end)
-    → (told : List ℕ) → text ≡ Some told → it → (Rose 0 b.faults → ⊥) → (Rose i.faults j.faults → ⊥)
-    → IsAuditSettled told i.left (audit_status end)
-settled_told ct it text a b i j end started settled told is tells source input =
-    let P : Option (List ℕ) → Type 0 = λ t. IsStarted ct a t in
-    let begun : IsStarted ct a (Some told) = subst P is started in
-    let R : ℕ → Type 0 = λ k. Rose k b.faults in
-    let L : List ℕ → Type 0 = λ t. IsEndOf t i.left end in
-    let ended : IsEndOf a.left i.left end = settled begun.holds.0 tells (λ rose. source (subst R begun.faults rose)) input in
-    record { ending = end; told = refl; ends = subst L begun.holds.1 ended }
-
--- the desk gave no configuration
-pub unopened_ends : {C : Type 0} (ct it ot et : Type 0) (text : Option (List ℕ)) (before now : ℕ) (view : C → Feed) (i : Feed) (o e m : Drain)
-    → Rises before now → AuditEnds ct it ot et text before now view None i i o o e m 5
-unopened_ends ct it ot et text before now view i o e m rises = record {
-  status_is = has_end InputFault;
-  audited = λ is. absurd (omega (arith, is));
-  audited_partly = λ is. absurd (omega (arith, is));
-  nothing_written = λ whole part. refl;
-  input = λ is. tt;
-  long = λ is. absurd (omega (arith, is));
-  wants = λ is. absurd (omega (arith, is));
-  configuration = λ is. absurd (omega (arith, is));
-  journal = λ is. absurd (omega (arith, is));
-  config = rises;
-  config_limit = tt;
-  settled = λ told is tells desk source input. absurd (desk rises.rose);
-}
-
--- the desk gave a configuration
-pub opened_ends : {C : Type 0} (ct it ot et : Type 0) (text : Option (List ℕ)) (before now : ℕ) (view : C → Feed) (s : C) (a i j : Feed) (o n e m : Drain)
-    (end : AuditEnd) → now ≡ before → IsStarted ct a text → a.taken ≡ 0
-    → (end ≡ Done → Audited ct it ot a (view s) i j o n)
-    → (end ≡ OutputFault → EndsByOutput ct it ot a (view s) i j o n)
-    → ((fault : ConfigFault) → end ≡ Configuration fault → EndsByConfiguration ct a (view s) i j o n fault)
-    → ((number : ℕ) → end ≡ Journal number → EndsByJournal ct it a (view s) i j o n number)
-    → (end ≡ InputFault → EndsByInput ct a (view s) i j o n)
-    → (end ≡ TooLong → EndsByLength ct it a (view s) i j o n)
-    → (end ≡ OutOfMemory → EndsByWant a (view s) i j o n)
-    → (view s).taken ≤ a.taken + configuration_limit + 1
-    → (ct → it → (Rose a.faults (view s).faults → ⊥) → (Rose i.faults j.faults → ⊥) → IsEndOf a.left i.left end)
-    → Says et e m (audit_line end)
-    → AuditEnds ct it ot et text before now view (Some s) i j o n e m (audit_status end)
-opened_ends ct it ot et text before now view s a i j o n e m end desk started untaken done output fault number input long wants limit settled line = record {
-  status_is = has_end end;
-  audited = λ is. record { source = a; started = started; untaken = untaken; said = done (ends_done end is) };
-  audited_partly = λ is. record { source = a; started = started; untaken = untaken; said = output (ends_output end is) };
-  nothing_written = λ whole part. nothing_put ct it a (view s) i j o n end fault number input long wants whole part;
-  input = λ is. record { source = a; started = started; untaken = untaken; said = input (ends_input end is) };
-  long = λ is. record { source = a; started = started; untaken = untaken; said = long (ends_long end is) };
-  wants = λ is. record { source = a; started = started; untaken = untaken; said = wants (ends_wanting end is) };
-  configuration = λ is.
-      fault_told (λ text. Says et e m text) (λ cause. GivenFrom ct text (λ b. EndsByConfiguration ct b (view s) i j o n cause)) end line
-      (λ cause same. record { source = a; started = started; untaken = untaken; said = fault cause same }) is;
-  journal = λ is.
-      number_told (λ text. Says et e m text) (λ place. GivenFrom ct text (λ b. EndsByJournal ct it b (view s) i j o n place)) end line
-      (λ place same. record { source = a; started = started; untaken = untaken; said = number place same }) is;
-  config = desk;
-  config_limit = omega (arith, limit, untaken);
-  settled = λ told is tells still source failed. settled_told ct it text a (view s) i j end started settled told is tells source failed;
-}
-
--- an input fault is one of the configuration that the desk gave, or of the input
-pub fault_of : (ct : Type 0) (text : Option (List ℕ)) (a b i j : Feed) (o n : Drain) (Desk : Type 0) → IsStarted ct a text → EndsByInput ct a b i j o n
-    → Desk ⊎ Rose 0 b.faults ⊎ Rose i.faults j.faults
-fault_of ct text a b i j o n Desk started ends =
-    let R : ℕ → Type 0 = λ k. Rose k b.faults in
-    ⊎_elim (λ (fails : ConfigurationFails a b i j). inr (inl (subst R started.faults fails.rose)))
-    (λ (fails : InputFails ct a b i j). inr (inr fails.rose)) ends.cause
-
-pub output_fault_of : (ct it ot : Type 0) (a b i j : Feed) (o n : Drain) → EndsByOutput ct it ot a b i j o n → Rose o.faults n.faults
-output_fault_of ct it ot a b i j o n ends = ends.failed.faults
+  pub output_fault_of : end ≡ OutputFault → Rose o.faults n.faults
+  output_fault_of is =
+      let ends : EndsByOutput ct it ot (streams a i o) (streams b j n) = ended_so OutputFault is in
+      ends.failed.faults

@@ -1,20 +1,15 @@
 -- Lines of entries: what is written is read again.
-use Rattle.std.proofs.Common.{◌≡◌, ℕ, zero, suc, ◌+◌, ◌-◌, ◌<◌, ◌≤◌, ◌^◌, Bool, true, false, List, [], ◌∷◌, ◌++◌, length, take, Some, None, refl, sym, ap, ◌∙◌, arith}
-use Rattle.std.specs.Prelude.{slice_index, MatchOption, IfSome}
+use Rattle.std.proofs.Common.{◌≡◌, ℕ, zero, suc, ◌<◌, ◌≤◌, ◌^◌, List, [], ◌∷◌, length, take, Some, None, refl, sym, ap, ◌∙◌, arith}
 use Rattle.std.proofs.lemmas.List.Elements.{All-head, All-tail}
 use Rattle.std.proofs.lemmas.Option.{same_Some}
 use Rattle.hex.specs.Hex.{IsBytes, encode_lower}
-use Rattle.satip_base.specs.declared.limits.TheConstants.{REPLY_BYTES, EVENT_BYTES, EVENT_DATAGRAMS}
-use Rattle.satip_base.specs.Output.{IsWithinRoom, Output}
-use Rattle.satip_plain.specs.declared.answers.Answer.{Answer}
-use Rattle.satip_plain.specs.declared.events.Event.{Event}
+use Rattle.satip_base.specs.Output.{IsWithinRoom}
 use Rattle.satip_plain.specs.Values.{AreBytes}
 use Rattle.satip_entry_writer.specs.Lines.{entry_line}
-use Rattle.satip_entry_writer.specs.Records.{record_text}
 use Rattle.satip_entry_writer.proofs.Bounds.{record_bound}
 use Rattle.satip_entry_reader.specs.ReadingEntries.{Entry, IsEntry, entry_text}
 use Rattle.satip_audit.specs.Cuts.{words_line}
-use Rattle.satip_audit.specs.Journals.{IsPlaced, Placed, placed, placed_line}
+use Rattle.satip_audit.specs.Journals.{Placed, placed_line}
 use Rattle.satip_audit.specs.Verdicts.{output_of}
 
 -- a line by its words

@@ -10,4 +10,5 @@ pub mod ReplayLemmas
 pub mod HistoryLemmas
 pub mod VerdictLemmas
 pub mod OneReading
+pub mod LegalLemmas
 pub mod EndLemmas

@@ -1,5 +1,5 @@
 -- Places that climb: the first that is named twice, and the first that is missing.
-use Rattle.std.proofs.Common.{◌≡◌, ℕ, zero, suc, ◌+◌, ◌-◌, ◌<◌, ◌≤◌, Bool, true, false, cond, List, [], ◌∷◌, length, map, drop, get_or, Option, None, Some, refl, sym, ap, ◌∙◌, subst, arith, length-drop, inl, inr, ◌⊎◌, ⊎_elim}
+use Rattle.std.proofs.Common.{◌≡◌, ℕ, suc, ◌+◌, ◌-◌, ◌<◌, ◌≤◌, Bool, true, false, cond, List, [], ◌∷◌, length, drop, get_or, Option, None, Some, refl, sym, ap, ◌∙◌, subst, arith, length-drop, inl, inr, ◌⊎◌, ⊎_elim}
 use Rattle.std.specs.Prelude.{◌==◌}
 use Rattle.std.specs.List.Sorted.{IsNonDecreasingBy}
 use Rattle.std.proofs.lemmas.List.{drop_more, drop_all}
@@ -13,10 +13,10 @@ use Rattle.satip_audit.specs.declared.index.Spot.{Spot}
 
 -- ---- how often a place is named
 
-abbrev Same : List ℕ → ℕ → ℕ → Type 0
+abbrev pub Same : List ℕ → ℕ → ℕ → Type 0
 Same xs x q = (x ≡ q) × (times (x ∷ xs) q ≡ 1 + times xs q)
 
-abbrev Other : List ℕ → ℕ → ℕ → Type 0
+abbrev pub Other : List ℕ → ℕ → ℕ → Type 0
 Other xs x q = (x ≡ q → ⊥) × (times (x ∷ xs) q ≡ times xs q)
 
 step_by : (xs : List ℕ) (x q : ℕ) (b : Bool) → (x == q) ≡ b → times (x ∷ xs) q ≡ cond b 1 0 + times xs q → Same xs x q ⊎ Other xs x q
@@ -24,7 +24,7 @@ step_by xs x q true is h = inl (eqb-true x q is, h)
 step_by xs x q false is h = inr (eqb-false x q is, h ∙ omega arith)
 
 -- one place more in front is the one that is asked for, or another
-times_step : (xs : List ℕ) (x q : ℕ) → Same xs x q ⊎ Other xs x q
+pub times_step : (xs : List ℕ) (x q : ℕ) → Same xs x q ⊎ Other xs x q
 times_step xs x q = step_by xs x q (x == q) refl (sum_by-cons (λ (p : ℕ). cond (p == q) 1 0) x xs)
 
 pub times_same : (xs : List ℕ) (x q : ℕ) → x ≡ q → times (x ∷ xs) q ≡ 1 + times xs q

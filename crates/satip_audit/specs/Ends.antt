@@ -9,11 +9,13 @@ use Rattle.satip_config.specs.declared.reading.ConfigurationEnd.{ConfigurationEn
 use Rattle.satip_config.specs.declared.reading.ConfigurationEnd.TheVariants as reading
 use Rattle.satip_config.specs.Reading.{EndsTooLong}
 use Rattle.satip_config.specs.Configurations.{Configured, IsConfiguration}
+use Rattle.satip_replay.specs.BatchStreams.{BatchStreams}
 use Rattle.satip_replay.specs.Replays.{script_limit}
+use Rattle.satip_replay.specs.Ends.{EndsByConfiguration, EndsByInput, EndsByLength}
 use Rattle.satip_audit.specs.declared.ends.AuditEnd.{AuditEnd}
 use Rattle.satip_audit.specs.declared.ends.AuditEnd.TheVariants.{Done, Configuration as OfConfiguration, Journal, InputFault, OutputFault, TooLong, OutOfMemory}
 use Rattle.satip_audit.specs.Printed.{verdict_text}
-use Rattle.satip_audit.specs.Audits.{Heard, Judged}
+use Rattle.satip_audit.specs.Audits.{Audited, Heard, Judged}
 
 -- the end of an audit whose configuration isn't read
 abbrev pub end_of_reading : ConfigurationEnd → AuditEnd
@@ -22,23 +24,23 @@ end_of_reading reading.SourceFailed = InputFault
 end_of_reading reading.OutOfMemory = OutOfMemory
 
 -- the first wrong line of the whole input has this number; nothing was written
-pub record EndsByJournal (config_tells in_tells : Type 0) (a b i j : Feed) (o n : Drain) (number : ℕ) : Type 0 where
+pub record EndsByJournal (config_tells in_tells : Type 0) (o n : BatchStreams) (number : ℕ) : Type 0 where
   pub configuration : Configuration
-  pub configured : Configured config_tells a b configuration
-  pub heard : Heard in_tells i j (Err number)
-  pub output : n ≡ o
+  pub configured : Configured config_tells o.config n.config configuration
+  pub heard : Heard in_tells o.input n.input (Err number)
+  pub output : n.output ≡ o.output
 
 -- the output failed after a prefix of the verdict
-pub record EndsByOutput (config_tells in_tells out_tells : Type 0) (a b i j : Feed) (o n : Drain) : Type 0 where
+pub record EndsByOutput (config_tells in_tells out_tells : Type 0) (o n : BatchStreams) : Type 0 where
   pub verdict : Verdict
-  pub judged : Judged config_tells in_tells a b i j verdict
-  pub failed : FailedToPut out_tells o n (verdict_text verdict)
+  pub judged : Judged config_tells in_tells o n verdict
+  pub failed : FailedToPut out_tells o.output n.output (verdict_text verdict)
 
 -- no source failed, and nothing was written
-pub record EndsByWant (a b i j : Feed) (o n : Drain) : Type 0 where
-  pub config_faults : b.faults ≡ a.faults
-  pub in_faults : j.faults ≡ i.faults
-  pub output : n ≡ o
+pub record EndsByWant (o n : BatchStreams) : Type 0 where
+  pub config_faults : n.config.faults ≡ o.config.faults
+  pub in_faults : n.input.faults ≡ o.input.faults
+  pub output : n.output ≡ o.output
 
 -- the end if the input isn't read
 abbrev pub InputEnds : (tells : Type 0) (i j : Feed) → AuditEnd → Type 0
@@ -59,6 +61,16 @@ WriteEnds tells o n text InputFault = ⊥
 WriteEnds tells o n text OutputFault = FailedToPut tells o n text
 WriteEnds tells o n text TooLong = ⊥
 WriteEnds tells o n text OutOfMemory = ⊥
+
+-- the outcome of each end: the line of the verdict was written, or a prefix of it, or nothing
+abbrev pub AuditOutcome : (config_tells in_tells out_tells : Type 0) (o n : BatchStreams) → AuditEnd → Type 0
+AuditOutcome ct it ot o n Done = Audited ct it ot o n
+AuditOutcome ct it ot o n (OfConfiguration fault) = EndsByConfiguration ct o n fault
+AuditOutcome ct it ot o n (Journal number) = EndsByJournal ct it o n number
+AuditOutcome ct it ot o n InputFault = EndsByInput ct o n
+AuditOutcome ct it ot o n OutputFault = EndsByOutput ct it ot o n
+AuditOutcome ct it ot o n TooLong = EndsByLength ct it o n
+AuditOutcome ct it ot o n OutOfMemory = EndsByWant o n
 
 -- the text is journals without a wrong line, within the limit
 pub record IsRight (text : List ℕ) : Type 0 where

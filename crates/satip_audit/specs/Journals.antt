@@ -1,5 +1,5 @@
 -- The text of journals: the notes of its lines, or the number of its first wrong line.
-use Rattle.std.specs.Prelude.{◌≡◌, ◌≢◌, ℕ, ◌+◌, ◌<◌, ◌^◌, List, [], ◌∷◌, ◌++◌, length, flat_map, Result, Ok, Err}
+use Rattle.std.specs.Prelude.{◌≡◌, ◌≢◌, ℕ, ◌+◌, ◌<◌, ◌^◌, List, [], ◌++◌, length, flat_map, Result, Ok, Err}
 use Rattle.satip_base.specs.Output.{Output}
 use Rattle.satip_base.specs.Lists.{Each}
 use Rattle.satip_plain.specs.Values.{AreBytes}

@@ -7,6 +7,7 @@ pub mod Rows
 pub mod Checks
 pub mod Indexes
 pub mod Replaying
+pub mod LegalTexts
 pub mod OneThing
 pub mod Printed
 pub mod Audits

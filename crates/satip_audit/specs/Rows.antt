@@ -1,13 +1,13 @@
 -- Journals whose verdicts were worked out by hand.
-use Rattle.std.specs.Prelude.{◌≡◌, ℕ, List, [], ◌∷◌, codes, Ok}
+use Rattle.std.specs.Prelude.{ℕ, [], ◌∷◌}
 use Rattle.satip_plain.specs.declared.answers.Answer.{Answer}
 use Rattle.satip_plain.specs.declared.answers.Answer.TheVariants.{Beat}
 use Rattle.satip_plain.specs.declared.answers.Beat.TheVariants.{Going, Stopping}
 use Rattle.satip_plain.specs.declared.events.Event.{Event}
-use Rattle.satip_plain.specs.declared.events.Event.TheVariants.{Stop, Tick}
+use Rattle.satip_plain.specs.declared.events.Event.TheVariants.{Stop}
 use Rattle.satip_plain.specs.Types.{Config}
 use Rattle.satip_audit.specs.declared.verdicts.Verdict.TheVariants.{NoStart, Repeated, Missing, Differs, Yes}
-use Rattle.satip_audit.specs.Journals.{Note, Start, Entered, Placed, note_text}
+use Rattle.satip_audit.specs.Journals.{Note, Start, Entered}
 use Rattle.satip_audit.specs.Verdicts.{IsVerdict}
 
 -- the entry of an event that has no reply and no datagrams

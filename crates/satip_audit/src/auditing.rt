@@ -1,15 +1,12 @@
 //! `audit`: reads a configuration and journals as a whole, and judges the journals.
 
-ghost use Rattle.std.specs.Prelude.{◌≡◌, ◌↔◌, ℕ, ◌+◌, ◌-◌, ◌<◌, ◌≤◌, Err, IfOk, IfErr};
+ghost use Rattle.std.specs.Prelude.{◌≡◌, ◌↔◌, ◌+◌, ◌-◌, ◌<◌, ◌≤◌, Err, IfOk, IfErr};
 ghost use Rattle.satip_base.specs.Streams.{Rose};
-ghost use Rattle.satip_config.specs.declared.fault.ConfigFault.{ConfigFault as Fault};
 ghost use Rattle.satip_config.specs.Reading.{EndsWhole};
 ghost use Rattle.satip_config.specs.Configurations.{configuration_limit};
 ghost use Rattle.satip_replay.specs.Replays.{script_limit};
-ghost use Rattle.satip_replay.specs.Ends.{EndsByConfiguration, EndsByInput, EndsByLength};
 ghost use Rattle.satip_audit.specs.Printed.{verdict_text};
-ghost use Rattle.satip_audit.specs.Audits.{Audited};
-ghost use Rattle.satip_audit.specs.Ends.{EndsByJournal, EndsByOutput, EndsByWant, InputEnds, IsEndOf, WriteEnds};
+ghost use Rattle.satip_audit.specs.Ends.{AuditOutcome, InputEnds, IsEndOf, WriteEnds};
 
 use crate::ends::AuditEnd;
 use crate::journals::JournalFault;
@@ -30,43 +27,23 @@ pub fn audit<C: Source, I: Source, O: Sink>(
     input: &mut I,
     output: &mut O,
 ) -> AuditEnd
-    // With `Done` the verdict was written, and with a fault of the output a prefix of it.
-    ensures done { result ≡ AuditEnd.Done → Audited C.tells I.tells O.tells
-        (C.feed config.old) (C.feed config.new)
-        (I.feed input.old) (I.feed input.new)
-        (O.drain output.old) (O.drain output.new) }
-    ensures output_fault { result ≡ AuditEnd.OutputFault → EndsByOutput C.tells I.tells O.tells
-        (C.feed config.old) (C.feed config.new)
-        (I.feed input.old) (I.feed input.new)
-        (O.drain output.old) (O.drain output.new) }
-
-    // With the others nothing was written. Each has its cause.
-    ensures configuration { (fault : Fault) → result ≡ AuditEnd.Configuration fault
-        → EndsByConfiguration C.tells
-        (C.feed config.old) (C.feed config.new)
-        (I.feed input.old) (I.feed input.new)
-        (O.drain output.old) (O.drain output.new) fault }
-    ensures journal { (number : ℕ) → result ≡ AuditEnd.Journal number
-        → EndsByJournal C.tells I.tells
-        (C.feed config.old) (C.feed config.new)
-        (I.feed input.old) (I.feed input.new)
-        (O.drain output.old) (O.drain output.new) number }
-    ensures input_fault { result ≡ AuditEnd.InputFault → EndsByInput C.tells
-        (C.feed config.old) (C.feed config.new)
-        (I.feed input.old) (I.feed input.new)
-        (O.drain output.old) (O.drain output.new) }
-    ensures long { result ≡ AuditEnd.TooLong → EndsByLength C.tells I.tells
-        (C.feed config.old) (C.feed config.new)
-        (I.feed input.old) (I.feed input.new)
-        (O.drain output.old) (O.drain output.new) }
-    ensures too_long { (result ≡ AuditEnd.TooLong)
-        ↔ (script_limit < (I.feed input.new).taken - (I.feed input.old).taken) }
-    ensures out_of_memory { result ≡ AuditEnd.OutOfMemory → EndsByWant
-        (C.feed config.old) (C.feed config.new)
-        (I.feed input.old) (I.feed input.new)
-        (O.drain output.old) (O.drain output.new) }
+    // The outcome of each end.
+    ensures ends { AuditOutcome C.tells I.tells O.tells
+        (record {
+          config = C.feed config.old;
+          input = I.feed input.old;
+          output = O.drain output.old;
+        })
+        (record {
+          config = C.feed config.new;
+          input = I.feed input.new;
+          output = O.drain output.new;
+        })
+        result }
 
     // How much is taken, and which ends the two texts allow if no source fails.
+    ensures too_long { (result ≡ AuditEnd.TooLong)
+        ↔ (script_limit < (I.feed input.new).taken - (I.feed input.old).taken) }
     ensures configuration_taken { (C.feed config.new).taken
         ≤ (C.feed config.old).taken + configuration_limit + 1 }
     ensures input_taken { (I.feed input.new).taken ≤ (I.feed input.old).taken + script_limit + 1 }

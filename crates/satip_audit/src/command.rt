@@ -1,6 +1,6 @@
 //! `audit`: opens the configuration by the desk, and judges the journals on the input.
 
-ghost use Rattle.std.specs.Prelude.{◌≡◌, ◌↔◌, ◌⊎◌, ◌+◌, ◌-◌, ◌<◌, ◌≤◌, IsSomeAnd};
+ghost use Rattle.std.specs.Prelude.{◌≡◌, ◌↔◌, ◌⊎◌, ◌+◌, ◌-◌, ◌<◌, ◌≤◌, IsSomeAnd, option_map};
 ghost use Rattle.satip_base.specs.Streams.{Rose};
 ghost use Rattle.satip_replay.specs.Replays.{script_limit};
 ghost use Rattle.satip_config.specs.Lines.{Says};
@@ -22,8 +22,8 @@ pub struct Audited<K: Desk> {
 }
 
 /// Audits the journals on the input by the configuration of this name, and writes the verdict in
-/// one line. Ends with `InputFault` if the desk doesn't open the configuration. Any end but `Done`
-/// is logged in a line on the errors sink.
+/// one line. If the desk doesn't open the configuration, nothing is taken of the input, and the end
+/// is `InputFault`. Any end but `Done` is logged in a line on the errors sink.
 pub fn audit_by<K: Desk, I: Source, O: Sink, E: Sink>(
     alloc: Global,
     name: &Text,
@@ -32,26 +32,43 @@ pub fn audit_by<K: Desk, I: Source, O: Sink, E: Sink>(
     errors: &mut E,
     desk: &mut K,
 ) -> Audited<K>
-    ensures texts { K.text desk.new ≡ K.text desk.old }
-    ensures kits { K.given desk.new ≡ K.given desk.old }
-    ensures handed { K.handed desk.new ≡ K.handed desk.old }
-    ensures journaled { K.journaled desk.new ≡ K.journaled desk.old }
+    ensures texts { (K.desk desk.new).text ≡ (K.desk desk.old).text }
+    ensures kits { (K.desk desk.new).given ≡ (K.desk desk.old).given }
+    ensures handed { (K.desk desk.new).handed ≡ (K.desk desk.old).handed }
+    ensures journaled { (K.desk desk.new).journaled ≡ (K.desk desk.old).journaled }
 
     // The outcome of the audit by its status, and the line of its end.
-    ensures ends { AuditEnds K.Config.tells I.tells O.tells E.tells
-        (K.text desk.old name.now) (K.faults desk.old) (K.faults desk.new)
-        K.Config.feed result.config
-        (I.feed input.old) (I.feed input.new)
-        (O.drain output.old) (O.drain output.new)
-        (E.drain errors.old) (E.drain errors.new)
-        (audit_status result.end) }
+    ensures ends { AuditEnds
+        (record {
+          input = I.tells;
+          output = O.tells;
+          errors = E.tells;
+          config = K.Config.tells;
+          conn = K.Doors.Conn.tells;
+          outlet = K.Outlet.tells;
+          journal = K.Journal.tells;
+          wire = K.Wire.tells;
+          inlet = K.Inlet.tells;
+        })
+        name.now (K.desk desk.old) (K.desk desk.new)
+        (record {
+          input = I.feed input.old;
+          output = O.drain output.old;
+          errors = E.drain errors.old;
+        })
+        (record {
+          input = I.feed input.new;
+          output = O.drain output.new;
+          errors = E.drain errors.new;
+        })
+        (option_map K.Config.feed result.config) (audit_status result.end) }
     ensures says { Says E.tells
         (E.drain errors.old) (E.drain errors.new)
         (audit_line result.end) }
 
     // The causes of the faults, and a limit for the bytes taken of the input.
     ensures input_fault { result.end ≡ AuditEnd.InputFault
-        → Rose (K.faults desk.old) (K.faults desk.new)
+        → Rose (K.desk desk.old).faults (K.desk desk.new).faults
         ⊎ IsSomeAnd result.config (λ source. Rose 0 (K.Config.feed source).faults)
         ⊎ Rose (I.feed input.old).faults (I.feed input.new).faults }
     ensures output_fault { result.end ≡ AuditEnd.OutputFault

@@ -1,16 +1,17 @@
 //! The verdict on journals: the server executes the entries' events again, in the order of their
 //! places.
 
-ghost use Rattle.std.specs.Prelude.{◌≡◌, ◌<◌, ◌≤◌, ◌^◌, List, length, take, drop, IfOk, IfErr};
+ghost use Rattle.std.specs.Prelude.{◌≡◌, ◌<◌, ◌≤◌, ◌^◌, [], List, length, take, drop, IfOk, IfErr};
 ghost use Rattle.std.specs.Bool.{MatchBool};
 ghost use Rattle.std.specs.List.{All};
 ghost use Rattle.satip_fronts.specs.FrontEnds.{IsNumbered};
-ghost use Rattle.satip_plain.specs.Histories.{Item, opening};
+ghost use Rattle.satip_plain.specs.Histories.{Item, Legal, opening};
 ghost use Rattle.satip_core.specs.Serving.{Stands};
 ghost use Rattle.satip_audit.specs.Journals.{IsPlaced, Placed, placed_line};
 ghost use Rattle.satip_audit.specs.Verdicts.{setting};
 ghost use Rattle.satip_audit.specs.Indexes.{IsFaultOf};
 ghost use Rattle.satip_audit.specs.Replaying.{AreLed, DoesOther, DoesSo, Finds, IsInside, IsJudged};
+ghost use Rattle.satip_audit.specs.LegalTexts.{IsLegalIfYes};
 
 use crate::cutting::same_bytes;
 use crate::index::{Spot, first_missing, first_repeated, sort_spots};
@@ -34,6 +35,7 @@ pub fn verdict(alloc: Global, config: Config, text: &[u8]) -> Result<Verdict, Jo
     requires numbered { IsNumbered 1 config.fronts }
     requires received { length config.muxes ≤ 256 }
     ensures verdict { IfOk result (IsJudged config text.now) }
+    ensures legal { IfOk result (IsLegalIfYes config text.now) }
     ensures fault { IfErr result (IsFaultOf text.now) }
 {
     let mut index = index_journals(alloc, text)?;
@@ -69,6 +71,7 @@ fn first_differing(
     requires received { length config.muxes ≤ 256 }
     ensures finds { IfOk result (λ place. (h : List Item) → AreLed text.now h spots.now
         → Finds (setting config start) h place) }
+    ensures opens { IfOk result (λ _. Legal (setting config start) []) }
 {
     let Ok(mut out) = Out::make(alloc) else {
         return Err(Want);

@@ -35,5 +35,5 @@ pub use satip_entry_reader::read_record;
 pub use satip_entry_writer::{LineRoom, write_entry};
 pub use telling::status_of;
 pub use verdict_examples::worked_verdicts;
-pub use verdict_law::journals_say_one_thing;
+pub use verdict_law::{journals_say_one_thing, yes_is_legal};
 pub use verdicts::Verdict;

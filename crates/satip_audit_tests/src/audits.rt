@@ -21,18 +21,6 @@ pub(crate) fn run(alloc: Global, text: &[u8]) -> Result<Report, Fail> {
     Ok(Report { end, output })
 }
 
-// Whether an audit of the text ends well, and writes this.
-fn is_judged(alloc: Global, text: &[u8], line: &[u8]) -> Result<bool, Fail> {
-    let report = run(alloc, text)?;
-    Ok(report.end == AuditEnd::Done && report.output.sent() == line)
-}
-
-// Whether this line of the text is its first wrong one, and nothing is written.
-fn is_wrong(alloc: Global, text: &[u8], number: u64) -> Result<bool, Fail> {
-    let report = run(alloc, text)?;
-    Ok(report.end == AuditEnd::Journal(number) && report.output.sent().is_empty())
-}
-
 // Texts, and what is written of them.
 const STARTS: &[(&[u8], &[u8])] = &[
     (b"", b"no start\n"),
@@ -44,7 +32,9 @@ const STARTS: &[(&[u8], &[u8])] = &[
 #[test]
 fn one_start_line_stands_anywhere(rt: HostRuntime) -> Result<(), Fail> {
     for (place, (text, line)) in STARTS.iter().enumerate() {
-        assert!(rt; is_judged(rt.alloc(), text, line)?, "at {place}");
+        let report = run(rt.alloc(), text)?;
+        assert_eq!(rt; report.end, AuditEnd::Done, "at {place}");
+        assert_eq!(rt; report.output.sent(), *line, "at {place}");
     }
     Ok(())
 }
@@ -68,17 +58,30 @@ const ORDERS: &[(&[u8], &[u8])] = &[
 #[test]
 fn entries_are_made_again_in_the_order_of_their_places(rt: HostRuntime) -> Result<(), Fail> {
     for (place, (text, line)) in ORDERS.iter().enumerate() {
-        assert!(rt; is_judged(rt.alloc(), text, line)?, "at {place}");
+        let report = run(rt.alloc(), text)?;
+        assert_eq!(rt; report.end, AuditEnd::Done, "at {place}");
+        assert_eq!(rt; report.output.sent(), *line, "at {place}");
     }
     Ok(())
 }
 
+// A stop with a reply, and one with a datagram.
+const SENDING: &[&[u8]] = &[
+    b"start 0\nentry 0 0 08020100000001410000\n",
+    b"start 0\nentry 0 0 0802010000000000010a00000105780000000141\n",
+];
+
 #[test]
 fn the_reply_and_the_datagrams_are_compared(rt: HostRuntime) -> Result<(), Fail> {
-    let reply = b"start 0\nentry 0 0 08020100000001410000\n";
-    assert!(rt; is_judged(rt.alloc(), reply, b"no differs 0\n")?);
-    let datagram = b"start 0\nentry 0 0 0802010000000000010a00000105780000000141\n";
-    assert!(rt; is_judged(rt.alloc(), datagram, b"no differs 0\n")?);
+    for (place, text) in SENDING.iter().enumerate() {
+        let report = run(rt.alloc(), text)?;
+        assert_eq!(rt; report.end, AuditEnd::Done, "at {place}");
+        assert_eq!(rt;
+            report.output.sent(),
+            b"no differs 0\n".as_slice(),
+            "at {place}"
+        );
+    }
     Ok(())
 }
 
@@ -101,7 +104,9 @@ const VERDICTS: &[(&[u8], &[u8])] = &[
 #[test]
 fn the_first_verdict_that_applies_is_told(rt: HostRuntime) -> Result<(), Fail> {
     for (place, (text, line)) in VERDICTS.iter().enumerate() {
-        assert!(rt; is_judged(rt.alloc(), text, line)?, "at {place}");
+        let report = run(rt.alloc(), text)?;
+        assert_eq!(rt; report.end, AuditEnd::Done, "at {place}");
+        assert_eq!(rt; report.output.sent(), *line, "at {place}");
     }
     Ok(())
 }
@@ -116,7 +121,9 @@ const ENDS_OF_LINES: &[(&[u8], u64)] = &[
 #[test]
 fn each_line_ends_with_lf(rt: HostRuntime) -> Result<(), Fail> {
     for (place, (text, number)) in ENDS_OF_LINES.iter().enumerate() {
-        assert!(rt; is_wrong(rt.alloc(), text, *number)?, "at {place}");
+        let report = run(rt.alloc(), text)?;
+        assert_eq!(rt; report.end, AuditEnd::Journal(*number), "at {place}");
+        assert!(rt; report.output.sent().is_empty(), "at {place}");
     }
     Ok(())
 }
@@ -134,14 +141,54 @@ const DIGITS: &[(&[u8], u64)] = &[
 #[test]
 fn digits_are_lower_case_and_numbers_have_no_zeros_in_front(rt: HostRuntime) -> Result<(), Fail> {
     for (place, (text, number)) in DIGITS.iter().enumerate() {
-        assert!(rt; is_wrong(rt.alloc(), text, *number)?, "at {place}");
+        let report = run(rt.alloc(), text)?;
+        assert_eq!(rt; report.end, AuditEnd::Journal(*number), "at {place}");
+        assert!(rt; report.output.sent().is_empty(), "at {place}");
     }
     Ok(())
 }
 
+const OTHERS: &[(&[u8], u64)] = &[
+    (b"# a comment\n", 1),
+    (b"start 0\nentry 0 0 08020100000000000000\n", 2),
+];
+
 #[test]
 fn other_lines_are_wrong(rt: HostRuntime) -> Result<(), Fail> {
-    assert!(rt; is_wrong(rt.alloc(), b"# a comment\n", 1)?);
-    assert!(rt; is_wrong(rt.alloc(), b"start 0\nentry 0 0 08020100000000000000\n", 2)?);
+    for (place, (text, number)) in OTHERS.iter().enumerate() {
+        let report = run(rt.alloc(), text)?;
+        assert_eq!(rt; report.end, AuditEnd::Journal(*number), "at {place}");
+        assert!(rt; report.output.sent().is_empty(), "at {place}");
+    }
+    Ok(())
+}
+
+// The count of entries of a long journal, of more than two million bytes.
+const TICKS: u64 = 50000;
+
+// A journal of ticks, each at the moment of its place. The lines are in another order than their
+// places, and the start line is in their middle. The entry at the place `wrong` has another answer.
+fn shuffled_ticks(alloc: Global, wrong: u64) -> Result<Vec<u8>, Fail> {
+    let mut text = Vec::new(alloc);
+    for line in 0..TICKS {
+        if line == TICKS / 2 {
+            text.extend_from_slice(b"start 0\n")?;
+        }
+        let place = line * 7919 % TICKS;
+        let beat = if place == wrong { "01" } else { "00" };
+        let entry = format!(in alloc; "entry {place} 3 02{place:016x}02{beat}000000000000\n")?;
+        text.extend_from_slice(entry.as_bytes())?;
+    }
+    Ok(text)
+}
+
+#[test]
+fn a_long_journal_in_another_order_is_judged(rt: HostRuntime) -> Result<(), Fail> {
+    let right = run(rt.alloc(), &shuffled_ticks(rt.alloc(), TICKS)?)?;
+    assert_eq!(rt; right.end, AuditEnd::Done);
+    assert_eq!(rt; right.output.sent(), b"yes 50000\n".as_slice());
+    let wrong = run(rt.alloc(), &shuffled_ticks(rt.alloc(), TICKS - 1)?)?;
+    assert_eq!(rt; wrong.end, AuditEnd::Done);
+    assert_eq!(rt; wrong.output.sent(), b"no differs 49999\n".as_slice());
     Ok(())
 }

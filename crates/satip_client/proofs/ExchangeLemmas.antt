@@ -1,14 +1,12 @@
 -- The first two requests, by what their replies give.
-use Rattle.std.proofs.Common.{◌≡◌, ℕ, Bool, true, false, IfOk, List, [], refl, sym, ◌∙◌, subst, append-nil, Result, Ok, Err}
-use Rattle.std.specs.Result.{is_err}
+use Rattle.std.proofs.Common.{◌≡◌, ℕ, List, subst, Result, Ok, Err}
 use Rattle.satip_world.specs.Lines.{Line}
 use Rattle.satip_client.specs.declared.reply.ReplyView.{ReplyView}
 use Rattle.satip_client.specs.Grants.{IsNoGrant}
 use Rattle.satip_client.specs.Waits.{Asked, Asks}
-use Rattle.satip_client.specs.Exchanges.{HasAnswer, HasRefusal, HasOtherNumber, IsBadReply, EndsReading, Answered, AskWanted, EndsAsking, Starts, ReadsAccepted}
+use Rattle.satip_client.specs.Exchanges.{HasAnswer, HasRefusal, HasOtherNumber, IsBadReply, EndsReading, Answered, EndsAsking, Starts, ReadsAccepted}
 use Rattle.satip_client.specs.declared.ending.RecordEnd.{RecordEnd}
 use Rattle.satip_client.specs.declared.ending.RecordEnd.TheVariants.{Done, OutputFault, Refused, BadReply, Silent, PeerFault, Closed, OutOfMemory}
-use Rattle.satip_client.proofs.PulseLemmas.{grew_none}
 
 -- a request without a whole reply ends the recording
 pub asks_end : (IsOther : ReplyView → Type 0) (cseq : ℕ) (tells : Type 0) (o n : Line) (request before now : List ℕ) (end : RecordEnd)
@@ -29,28 +27,8 @@ answered tells o n request before now Is a is = record {
   got = a.got;
   content = a.content;
   faults = a.faults;
+  up_to = a.up_to;
   is_such = subst Is a.held is;
-}
-
--- there was no memory behind the reply, or before the request
-pub wanted_after : (tells : Type 0) (o n : Line) (request before now : List ℕ) → Asked tells o n request before now → AskWanted tells o n request
-wanted_after tells o n request before now a = record {
-  got = a.got;
-  part = request;
-  rest = [];
-  whole = sym (append-nil request);
-  content = a.content;
-  faults = a.faults;
-}
-
-pub wanted_before : (tells : Type 0) (o : Line) (request : List ℕ) → AskWanted tells o o request
-wanted_before tells o request = record {
-  got = [];
-  part = [];
-  rest = request;
-  whole = refl;
-  content = grew_none tells o;
-  faults = record { receive_faults = refl; send_faults = refl };
 }
 
 -- a reply that gives nothing ends the recording
@@ -63,7 +41,7 @@ reads_end IsOther cseq tells o n request before now BadReply a r = answered tell
 reads_end IsOther cseq tells o n request before now Silent a r = absurd r
 reads_end IsOther cseq tells o n request before now PeerFault a r = absurd r
 reads_end IsOther cseq tells o n request before now Closed a r = absurd r
-reads_end IsOther cseq tells o n request before now OutOfMemory a r = wanted_after tells o n request before now a
+reads_end IsOther cseq tells o n request before now OutOfMemory a r = absurd r
 
 pub starts_by : (tells : Type 0) (o n : Line) (asked request before now text : List ℕ) (result : Result (Unit {0}) RecordEnd)
     → asked ≡ request → Asked tells o n asked before now → text ≡ now → ReadsAccepted text result → Starts tells o n request before result
@@ -74,14 +52,6 @@ starts_by tells o n asked request before now text (Err end) is b same r =
     let a = subst (λ (t : List ℕ). Asked tells o n t before now) is b in
     reads_end (HasOtherNumber 2) 2 tells o n request before now end a
     (subst (λ (t : List ℕ). EndsReading (HasOtherNumber 2) 2 t end) same r)
-
--- a call that went well
-pub ok_of : {A B : Type 0} (result : Result A B) (is_fault : Bool) (P : Type 0) → is_fault ≡ is_err result → is_fault ≡ false → IfOk result (λ _. P) → P
-ok_of (Ok a) is_fault P value well p = p
-ok_of (Err b) is_fault P value well p = absurd (true_is_not_false (sym value ∙ well))
-  where
-    true_is_not_false : true ≡ false → ⊥
-    true_is_not_false is = cc
 
 -- the reply to SETUP ended it
 pub no_set_up_by : (tells : Type 0) (o n : Line) (asked request before now text : List ℕ) (end : RecordEnd)

@@ -9,3 +9,4 @@ pub mod Sections
 pub mod Endings
 pub mod Lines
 pub mod HeadLemmas
+pub mod SessionLemmas

@@ -1,15 +1,15 @@
 -- A client that awaits a reply, receive by receive.
-use Rattle.std.proofs.Common.{◌≡◌, ◌⊎◌, inl, inr, ℕ, ◌<◌, ◌≤◌, true, List, [], ◌++◌, length, sym, ap, ◌∙◌, subst, arith, append_assoc, append-nil, Result, Ok, Err}
+use Rattle.std.proofs.Common.{◌≡◌, ◌⊎◌, inl, inr, ℕ, ◌+◌, ◌<◌, ◌≤◌, refl, length-append, true, List, [], ◌++◌, length, sym, ap, ◌∙◌, subst, arith, append_assoc, append-nil, Result, Ok, Err}
 use Rattle.std.proofs.lemmas.Bool.{cases_lt}
 use Rattle.satip_world.specs.Counts.{Rises}
-use Rattle.satip_world.specs.Lines.{Line, Grew, SentAll}
+use Rattle.satip_world.specs.Lines.{Line, Grew, SentAll, WasIdle}
 use Rattle.satip_client.specs.Heads.{Head, HasReply, print_head}
 use Rattle.satip_client.specs.Replies.{NeverHasReply}
 use Rattle.satip_client.proofs.Cuts.{cut, inside-shorter}
-use Rattle.satip_client.specs.Waits.{IsOpen, IsSettled, WasIdleFor, Asked, Asks, Unanswered, AskFailed, idle_limit}
+use Rattle.satip_client.specs.Waits.{IsOpen, IsSettled, IsUpToPiece, WasIdleFor, TookIn, TookPiece, Asked, Asks, Unanswered, AskFailed, idle_limit}
 use Rattle.satip_client.specs.declared.ending.RecordEnd.{RecordEnd}
 use Rattle.satip_client.specs.declared.ending.RecordEnd.TheVariants.{Done, OutputFault, Refused, BadReply, Silent, PeerFault, Closed, OutOfMemory}
-use Rattle.satip_client.proofs.PulseLemmas.{grew_then, faults_then}
+use Rattle.satip_client.proofs.PulseLemmas.{grew_then, grew_none, faults_then}
 
 -- a text that has the room of the longest reply isn't open
 reply_within : (text more : List ℕ) (h : Head) (size : ℕ) → HasReply (text ++ more) h size → 12288 ≤ length text → HasReply text h size
@@ -35,6 +35,74 @@ open_is_short text o =
 pub settled_bad : (text : List ℕ) → NeverHasReply text → IsSettled text
 settled_bad text never o = let c = o.can_become in never c.0 c.1 c.2 c.3
 
+-- bytes were received, and no piece after one that settled them
+abbrev pub TookUpTo : (tells : Type 0) (o n : Line) (before now : List ℕ) → Type 0
+TookUpTo tells o n before now = (took : TookIn tells o n before now) × IsUpToPiece before took.got
+
+-- nothing was received yet
+pub took_nothing : (tells : Type 0) (o : Line) (before : List ℕ) → TookUpTo tells o o before before
+took_nothing tells o before = (
+  record {
+    got = [];
+    held = sym (append-nil before);
+    content = grew_none tells o;
+    faults = record { receive_faults = refl; send_faults = refl };
+    idles = omega arith;
+  },
+  inl refl,
+)
+
+-- one piece more
+pub took_piece : (tells : Type 0) (o m n : Line) (before mid now : List ℕ) → TookIn tells o m before mid → IsOpen mid → TookPiece tells m n mid now
+    → TookUpTo tells o n before now
+took_piece tells o m n before mid now first was_open second = (
+  record {
+    got = first.got ++ second.took.got;
+    held = second.took.held ∙ ap (λ (t : List ℕ). t ++ second.took.got) first.held ∙ append_assoc before first.got second.took.got;
+    content = grew_then tells o m n first.got [] second.took.got [] first.content second.took.content;
+    faults = faults_then o m n first.faults second.took.faults;
+    idles = omega (arith, first.idles, second.idles);
+  },
+  inr (record {
+    first = first.got;
+    piece = second.took.got;
+    whole = refl;
+    was_open = subst IsOpen first.held was_open;
+    short = omega (arith, second.short, ap (λ (t : List ℕ). length t) second.took.held, length-append mid second.took.got);
+  }),
+)
+
+-- no bytes more
+no_more : (tells : Type 0) (o m n : Line) (got : List ℕ) → Grew tells o m got [] → Grew tells m n [] [] → Grew tells o n got []
+no_more tells o m n got first second =
+    subst (λ (t : List ℕ). Grew tells o n t []) (append-nil got) (grew_then tells o m n got [] [] [] first second)
+
+pub took_idle : (tells : Type 0) (o m n : Line) (before mid now : List ℕ) → TookUpTo tells o m before mid → now ≡ mid × WasIdle tells m n
+    → TookUpTo tells o n before now
+took_idle tells o m n before mid now first idle = (
+  record {
+    got = first.0.got;
+    held = idle.0 ∙ first.0.held;
+    content = no_more tells o m n first.0.got first.0.content idle.1.content;
+    faults = faults_then o m n first.0.faults (record { receive_faults = idle.1.receive_faults; send_faults = idle.1.send_faults });
+    idles = omega (arith, first.0.idles, idle.1.idles.kept);
+  },
+  first.1,
+)
+
+pub idle_as_before : (k : ℕ) (o m n : Line) → WasIdleFor k o m → n.idles ≡ m.idles → WasIdleFor k o n
+idle_as_before k o m n (inl few) same = inl (omega (arith, few, same))
+idle_as_before k o m n (inr last) same = inr (omega (arith, last, same))
+
+pub idle_for_one : (k : ℕ) (o m n : Line) → WasIdleFor k o m → Rises m.idles n.idles → WasIdleFor (k + 1) o n
+idle_for_one k o m n before rises = rose before rises.rose
+  where
+    rose : (o.idles + k ≤ m.idles) ⊎ (18446744073709551615 ≤ m.idles) → (m.idles < n.idles) ⊎ (18446744073709551615 ≤ n.idles)
+        → (o.idles + (k + 1) ≤ n.idles) ⊎ (18446744073709551615 ≤ n.idles)
+    rose (inl a) (inl b) = inl (omega (arith, a, b))
+    rose (inl a) (inr b) = inr b
+    rose (inr a) b = inr (omega (arith, a, rises.kept))
+
 -- a request was sent before
 pub asked_after : (tells : Type 0) (o m n : Line) (request before now : List ℕ) → SentAll tells o m request → Asked tells m n [] before now
     → Asked tells o n request before now
@@ -45,6 +113,7 @@ asked_after tells o m n request before now sent a = record {
   faults = faults_then o m n (record { receive_faults = sent.counts.receive_faults; send_faults = sent.counts.send_faults }) a.faults;
   idles = omega (arith, sent.counts.idles, a.idles);
   settled = a.settled;
+  up_to = a.up_to;
 }
 
 pub unanswered_after : (tells : Type 0) (o m n : Line) (request before : List ℕ) (first second : Type 0) → (first → second)
@@ -58,21 +127,25 @@ unanswered_after tells o m n request before first second follows sent u = record
 }
 
 -- a receive failed after the request
-pub ask_failed_after : (tells : Type 0) (o m n : Line) (request : List ℕ) → SentAll tells o m request → AskFailed tells m n []
-    → AskFailed tells o n request
-ask_failed_after tells o m n request sent a = record {
-  got = a.got;
+pub ask_failed_after : (tells : Type 0) (o m n : Line) (request before : List ℕ) → SentAll tells o m request → AskFailed tells m n [] before
+    → AskFailed tells o n request before
+ask_failed_after tells o m n request before sent (inl a) = inl (record {
   part = request ++ a.part;
   rest = a.rest;
   whole = sym (append-nil request) ∙ ap (λ (t : List ℕ). request ++ t) a.whole ∙ sym (append_assoc request a.part a.rest);
-  content = grew_then tells o m n [] request a.got a.part sent.content a.content;
-  rose = rose_since a.rose;
-}
-  where
-    rose_since : Rises m.receive_faults n.receive_faults ⊎ Rises m.send_faults n.send_faults
-        → Rises o.receive_faults n.receive_faults ⊎ Rises o.send_faults n.send_faults
-    rose_since (inl r) = inl (subst (λ (k : ℕ). Rises k n.receive_faults) sent.counts.receive_faults r)
-    rose_since (inr r) = inr (subst (λ (k : ℕ). Rises k n.send_faults) sent.counts.send_faults r)
+  ended = a.ended ∙ sent.ended;
+  idles = a.idles ∙ sent.counts.idles;
+  receive_faults = a.receive_faults ∙ sent.counts.receive_faults;
+  send_faults = subst (λ (k : ℕ). Rises k n.send_faults) sent.counts.send_faults a.send_faults;
+  content = grew_then tells o m n [] request [] a.part sent.content a.content;
+})
+ask_failed_after tells o m n request before sent (inr a) = inr (record {
+  got = a.got;
+  content = subst (λ (t : List ℕ). Grew tells o n a.got t) (append-nil request) (grew_then tells o m n [] request a.got [] sent.content a.content);
+  send_faults = a.send_faults ∙ sent.counts.send_faults;
+  rose = subst (λ (k : ℕ). Rises k n.receive_faults) sent.counts.receive_faults a.rose;
+  still_open = a.still_open;
+})
 
 idle_from : (o m n : Line) → m.idles ≡ o.idles → WasIdleFor idle_limit m n → WasIdleFor idle_limit o n
 idle_from o m n same (inl few) = inl (omega (arith, same, few))
@@ -88,7 +161,7 @@ asks_after tells o m n request before now (Err (Refused code)) sent a = a
 asks_after tells o m n request before now (Err BadReply) sent a = a
 asks_after tells o m n request before now (Err Silent) sent a =
     unanswered_after tells o m n request before (WasIdleFor idle_limit m n) (WasIdleFor idle_limit o n) (idle_from o m n sent.counts.idles) sent a
-asks_after tells o m n request before now (Err PeerFault) sent a = ask_failed_after tells o m n request sent a
+asks_after tells o m n request before now (Err PeerFault) sent a = ask_failed_after tells o m n request before sent a
 asks_after tells o m n request before now (Err Closed) sent a =
     unanswered_after tells o m n request before (n.ended ≡ true) (n.ended ≡ true) (λ ended. ended) sent a
 asks_after tells o m n request before now (Err OutOfMemory) sent a = a

@@ -7,7 +7,7 @@ use Rattle.satip_client.specs.Grants.{Answers, Grants, IsNoGrant, Refuses}
 use Rattle.satip_client.specs.declared.grants.ReplyFault.{ReplyFault}
 use Rattle.satip_client.specs.declared.grants.ReplyFault.TheVariants.{Bad, Refused as reply_refused}
 use Rattle.satip_client.specs.Leases.{Terms}
-use Rattle.satip_client.specs.Waits.{Unanswered, AskFailed, SameFaults, WasIdleFor, idle_limit}
+use Rattle.satip_client.specs.Waits.{Unanswered, AskFailed, IsUpToPiece, SameFaults, WasIdleFor, idle_limit}
 use Rattle.satip_client.specs.declared.ending.RecordEnd.{RecordEnd}
 use Rattle.satip_client.specs.declared.ending.RecordEnd.TheVariants.{Done, OutputFault, Refused, BadReply, Silent, PeerFault, Closed, OutOfMemory}
 
@@ -58,23 +58,15 @@ EndsReading IsOther cseq text BadReply = IsBadReply IsOther text
 EndsReading IsOther cseq text Silent = ⊥
 EndsReading IsOther cseq text PeerFault = ⊥
 EndsReading IsOther cseq text Closed = ⊥
-EndsReading IsOther cseq text OutOfMemory = Unit {0}
+EndsReading IsOther cseq text OutOfMemory = ⊥
 
--- the request was sent, and the bytes received are such
+-- the request was sent, and the bytes received are such; no piece was received after one that settled them
 pub record Answered (tells : Type 0) (o n : Line) (request before : List ℕ) (Is : List ℕ → Type 0) : Type 0 where
   pub got : List ℕ
   pub content : Grew tells o n got request
   pub faults : SameFaults o n
+  pub up_to : IsUpToPiece before got
   pub is_such : Is (before ++ got)
-
--- memory was refused: a prefix of the request was sent, and some bytes may have been received
-pub record AskWanted (tells : Type 0) (o n : Line) (request : List ℕ) : Type 0 where
-  pub got : List ℕ
-  pub part : List ℕ
-  pub rest : List ℕ
-  pub whole : request ≡ part ++ rest
-  pub content : Grew tells o n got part
-  pub faults : SameFaults o n
 
 -- the end of the recording by a request
 abbrev pub EndsAsking : (IsOther : ReplyView → Type 0) (cseq : ℕ) (tells : Type 0) (o n : Line) (request before : List ℕ) → RecordEnd → Type 0
@@ -83,15 +75,16 @@ EndsAsking IsOther cseq tells o n request before OutputFault = ⊥
 EndsAsking IsOther cseq tells o n request before (Refused code) = Answered tells o n request before (HasRefusal cseq code)
 EndsAsking IsOther cseq tells o n request before BadReply = Answered tells o n request before (IsBadReply IsOther)
 EndsAsking IsOther cseq tells o n request before Silent = Unanswered tells o n request before (WasIdleFor idle_limit o n)
-EndsAsking IsOther cseq tells o n request before PeerFault = AskFailed tells o n request
+EndsAsking IsOther cseq tells o n request before PeerFault = AskFailed tells o n request before
 EndsAsking IsOther cseq tells o n request before Closed = Unanswered tells o n request before (n.ended ≡ true)
-EndsAsking IsOther cseq tells o n request before OutOfMemory = AskWanted tells o n request
+EndsAsking IsOther cseq tells o n request before OutOfMemory = ⊥
 
--- SETUP was sent, and its reply gives these terms; the bytes after the reply are held
+-- SETUP was sent, and its reply gives these terms; the bytes after the reply are held. No piece was received after one that settled the text
 pub record SetUp (tells : Type 0) (o n : Line) (request before now : List ℕ) (terms : Terms) : Type 0 where
   pub got : List ℕ
   pub content : Grew tells o n got request
   pub faults : SameFaults o n
+  pub up_to : IsUpToPiece before got
   pub idles : o.idles ≤ n.idles
   pub size : ℕ
   pub grant : HasGrant (before ++ got) terms size

@@ -1,5 +1,5 @@
 -- The grants in a reply to SETUP and to PLAY.
-use Rattle.std.specs.Prelude.{◌≡◌, ◌≢◌, ℕ, ◌⊎◌, List, Option, None, Some, Result, Ok, Err}
+use Rattle.std.specs.Prelude.{◌≡◌, ◌≢◌, ℕ, ◌⊎◌, List, None, Some, Result, Ok, Err}
 use Rattle.std.specs.Option.{option_copied}
 use Rattle.satip_client.specs.declared.reply.ReplyView.{ReplyView}
 use Rattle.satip_client.specs.declared.grants.Grant.{Grant}

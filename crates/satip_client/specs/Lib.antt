@@ -9,5 +9,6 @@ pub mod Places
 pub mod Replies
 pub mod ReplyRows
 pub mod Requests
+pub mod Pages
 pub mod Grants
 pub mod RequestRows

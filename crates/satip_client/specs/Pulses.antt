@@ -24,17 +24,21 @@ abbrev pub sent_at : (address : List ℕ) → Terms → Pulse → ℕ → List �
 sent_at address terms pulse now =
     if is_due_at terms.timeout pulse.mark now then options_request address pulse.cseq terms.session else []
 
--- after this reading the request was sent if it was due
-pub record Beat (tells : Type 0) (o n : Line) (address : List ℕ) (terms : Terms) (before now : Pulse) (moment : ℕ) : Type 0 where
-  pub pulse : now ≡ after_reading terms.timeout before moment
-  pub content : Grew tells o n [] (sent_at address terms before moment)
-  pub faults : SameFaults o n
-  pub idles : n.idles ≡ o.idles
+-- the state of the requests: the connection, the clock, the mark and the next number
+pub record Talk : Type 0 where
+  pub wire : Line
+  pub clock : Dial
+  pub pulse : Pulse
 
--- nothing was sent, since memory was refused
-pub record NotBeat (tells : Type 0) (o n : Line) : Type 0 where
-  pub content : Grew tells o n [] []
-  pub faults : SameFaults o n
+abbrev pub talk : Line → Dial → Pulse → Talk
+talk wire clock pulse = record { wire = wire; clock = clock; pulse = pulse }
+
+-- after this reading the request was sent if it was due
+pub record Beat (tells : Type 0) (o n : Talk) (address : List ℕ) (terms : Terms) (moment : ℕ) : Type 0 where
+  pub pulse : n.pulse ≡ after_reading terms.timeout o.pulse moment
+  pub content : Grew tells o.wire n.wire [] (sent_at address terms o.pulse moment)
+  pub faults : SameFaults o.wire n.wire
+  pub idles : n.wire.idles ≡ o.wire.idles
 
 -- a prefix of the request was sent, and a fault was counted
 pub record BeatFailed (tells : Type 0) (o n : Line) (text : List ℕ) : Type 0 where
@@ -44,22 +48,20 @@ pub record BeatFailed (tells : Type 0) (o n : Line) (text : List ℕ) : Type 0 w
   pub content : Grew tells o n [] part
   pub rose : Rises o.send_faults n.send_faults
 
--- one reading, and the bytes sent after it
-abbrev pub BeatsAs : (tells : Type 0) (o n : Line) (address : List ℕ) (terms : Terms) (before now : Pulse) (moment : ℕ)
-    → Result (Unit {0}) RecordEnd → Type 0
-BeatsAs tells o n address terms before now moment (Ok done) = Beat tells o n address terms before now moment
-BeatsAs tells o n address terms before now moment (Err Done) = ⊥
-BeatsAs tells o n address terms before now moment (Err OutputFault) = ⊥
-BeatsAs tells o n address terms before now moment (Err (Refused code)) = ⊥
-BeatsAs tells o n address terms before now moment (Err BadReply) = ⊥
-BeatsAs tells o n address terms before now moment (Err Silent) = ⊥
-BeatsAs tells o n address terms before now moment (Err PeerFault) = BeatFailed tells o n (sent_at address terms before moment)
-BeatsAs tells o n address terms before now moment (Err Closed) = ⊥
-BeatsAs tells o n address terms before now moment (Err OutOfMemory) = NotBeat tells o n
+-- the bytes sent after a reading
+abbrev pub BeatsAs : (tells : Type 0) (o n : Talk) (address : List ℕ) (terms : Terms) (moment : ℕ) → Result (Unit {0}) RecordEnd → Type 0
+BeatsAs tells o n address terms moment (Ok done) = Beat tells o n address terms moment
+BeatsAs tells o n address terms moment (Err Done) = ⊥
+BeatsAs tells o n address terms moment (Err OutputFault) = ⊥
+BeatsAs tells o n address terms moment (Err (Refused code)) = ⊥
+BeatsAs tells o n address terms moment (Err BadReply) = ⊥
+BeatsAs tells o n address terms moment (Err Silent) = ⊥
+BeatsAs tells o n address terms moment (Err PeerFault) = BeatFailed tells o.wire n.wire (sent_at address terms o.pulse moment)
+BeatsAs tells o n address terms moment (Err Closed) = ⊥
+BeatsAs tells o n address terms moment (Err OutOfMemory) = ⊥
 
 -- the outcome of one call: a reading of the clock, and the bytes sent after it
-pub record Beats (tells : Type 0) (o n : Line) (d e : Dial) (address : List ℕ) (terms : Terms) (before now : Pulse)
-    (result : Result (Unit {0}) RecordEnd) : Type 0 where
+pub record Beats (tells : Type 0) (o n : Talk) (address : List ℕ) (terms : Terms) (result : Result (Unit {0}) RecordEnd) : Type 0 where
   pub moment : ℕ
-  pub reads : Reads d e moment
-  pub beats : BeatsAs tells o n address terms before now moment result
+  pub reads : Reads o.clock n.clock moment
+  pub beats : BeatsAs tells o n address terms moment result

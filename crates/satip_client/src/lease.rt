@@ -1,54 +1,66 @@
 //! The session that a client was given.
 
-ghost use Rattle.std.specs.Prelude.{◌≡◌, IfOk};
+ghost use Rattle.std.specs.Prelude.{◌≡◌, ◌<◌, ◌≤◌, length, IfNone, IfSome};
+ghost use Rattle.satip_client.specs.Leases.{terms_of};
 
 use crate::grants::Grant;
-use satip_base::Want;
-use std::alloc::Global;
 use std::marker::Model;
 
-/// The session's name, the seconds that it lives without a request, and its stream.
+/// The most bytes of a session's name: the head of a reply has no more.
+const SESSION: usize = 8192;
+
+/// The session's name, the seconds that it lives without a request, and its stream. It allocates no
+/// memory.
 #[derive(Drop)]
 pub struct Lease {
-    session: Vec<u8>,
+    room: [u8; SESSION],
+    count: usize,
     timeout: u32,
     stream: u16,
 }
 
 impl Model for Lease {
+    ghost use Rattle.std.specs.Prelude.{take, ◌≤◌};
     ghost use Rattle.satip_client.specs.Leases.{Terms};
 
     ghost Value = { Terms };
 
     ghost view = { λ l. record {
-      session = l.session.items;
+      session = take l.count l.room;
       timeout = l.timeout;
       stream = l.stream;
     } };
+
+    ghost invariant = { λ l. l.count ≤ 8192 };
 }
 
 impl Lease {
-    ghost use Rattle.satip_client.specs.Leases.{terms_of};
-
-    /// Copies the grant of a reply.
-    pub(crate) fn of(alloc: Global, grant: &Grant) -> Result<Lease, Want>
-        ensures ok { IfOk result (λ lease. lease ≡ terms_of grant.now) }
+    /// Copies a grant. Returns `None` if its session has more than 8192 bytes, as that of a reply
+    /// never has.
+    pub fn of(grant: &Grant) -> Option<Lease>
+        ensures lease { IfSome result (λ lease. lease ≡ terms_of grant.now) }
+        ensures long { IfNone result (8192 < length grant.now.session.now) }
     {
-        match Vec::from_slice(alloc, grant.session) {
-            Ok(session) => Ok(Lease {
-                session,
-                timeout: grant.timeout,
-                stream: grant.stream,
-            }),
-            Err(_) => Err(Want),
+        let session = grant.session;
+        if session.len() > SESSION {
+            return None;
         }
+        let mut room = [0; SESSION];
+        room[..session.len()].copy_from_slice(session);
+        Some(Lease {
+            room,
+            count: session.len(),
+            timeout: grant.timeout,
+            stream: grant.stream,
+        })
     }
 
     /// Returns the session's name, as the Session header of SETUP's reply has it (RFC 2326, 12.37).
     pub fn session(&self) -> &[u8]
         ensures session { result.now ≡ self.now.session }
+        ensures short { length self.now.session ≤ 8192 }
     {
-        &self.session
+        &self.room[..self.count]
     }
 
     /// Returns the seconds without a request after which the server ends the session (RFC 2326,

@@ -13,7 +13,6 @@ use crate::lease::Lease;
 use crate::page::Page;
 use crate::reply::{ReplyRead, read_reply};
 use satip_world::Conn;
-use std::alloc::Global;
 
 fn end_of(fault: ReplyFault) -> RecordEnd
     ensures end { result ≡ end_of_fault fault }
@@ -24,25 +23,21 @@ fn end_of(fault: ReplyFault) -> RecordEnd
     }
 }
 
-/// Sets up a stream by a query. Its RTP datagrams go to `port`, and RTCP to the next one.
+/// Sets up the page's stream. Its RTP datagrams go to `port`, and RTCP to the next one.
 pub fn set_up<W: Conn>(
-    alloc: Global,
     wire: &mut W,
-    address: &[u8],
-    query: &[u8],
     port: u16,
     page: &mut Page,
     heard: &mut Heard,
 ) -> Result<Lease, RecordEnd>
     requires next { port ≤ 65534 }
     ensures sets_up { SetsUp W.tells (W.line wire.old) (W.line wire.new)
-        (setup_request address.now query.now port) heard.old heard.new result }
+        (setup_request page.old.address page.old.query port) heard.old heard.new result }
+    ensures address { page.new.address ≡ page.old.address }
 {
-    if page.write_setup(address, query, port).is_err() {
-        return Err(RecordEnd::OutOfMemory);
-    }
+    page.write_setup(port);
     ask(wire, page.bytes(), heard)?;
-    match grant(alloc, heard.bytes()) {
+    match grant(heard.bytes()) {
         Ok((lease, length)) => {
             heard.pass(length);
             Ok(lease)
@@ -52,15 +47,15 @@ pub fn set_up<W: Conn>(
 }
 
 // Returns the grant in the text, and the number of bytes of the reply.
-fn grant(alloc: Global, text: &[u8]) -> Result<(Lease, usize), RecordEnd>
+fn grant(text: &[u8]) -> Result<(Lease, usize), RecordEnd>
     requires settled { IsSettled text.now }
     ensures grants { ReadsGrant text.now result }
 {
     match read_reply(text) {
         ReplyRead::Reply(view) => match grant_of(&view) {
-            Ok(grant) => match Lease::of(alloc, &grant) {
-                Ok(lease) => Ok((lease, view.length)),
-                Err(_) => Err(RecordEnd::OutOfMemory),
+            Ok(grant) => match Lease::of(&grant) {
+                Some(lease) => Ok((lease, view.length)),
+                None => unreachable!(),
             },
             Err(fault) => Err(end_of(fault)),
         },
@@ -72,20 +67,15 @@ fn grant(alloc: Global, text: &[u8]) -> Result<(Lease, usize), RecordEnd>
 /// Lets the stream play.
 pub fn start<W: Conn>(
     wire: &mut W,
-    address: &[u8],
     lease: &Lease,
     page: &mut Page,
     heard: &mut Heard,
 ) -> Result<(), RecordEnd>
     ensures starts { Starts W.tells (W.line wire.old) (W.line wire.new)
-        (play_request address.now lease.now.stream lease.now.session) heard.old result }
+        (play_request page.old.address lease.now.stream lease.now.session) heard.old result }
+    ensures address { page.new.address ≡ page.old.address }
 {
-    if page
-        .write_play(address, lease.stream(), lease.session())
-        .is_err()
-    {
-        return Err(RecordEnd::OutOfMemory);
-    }
+    page.write_play(lease);
     ask(wire, page.bytes(), heard)?;
     accepted(heard.bytes())
 }

@@ -1,7 +1,7 @@
 //! Keeping a session alive.
 
 ghost use Rattle.std.specs.Prelude.{◌≡◌, ◌+◌, ◌<◌, ◌≤◌};
-ghost use Rattle.satip_client.specs.Pulses.{Beats, is_due_at};
+ghost use Rattle.satip_client.specs.Pulses.{Beats, is_due_at, talk};
 
 use crate::ending::RecordEnd;
 use crate::lease::Lease;
@@ -21,27 +21,22 @@ pub struct Pulse {
 pub fn keep_alive<W: Conn, M: Clock>(
     wire: &mut W,
     moment: &mut M,
-    address: &[u8],
     lease: &Lease,
     pulse: &mut Pulse,
     page: &mut Page,
 ) -> Result<(), RecordEnd>
     requires few { pulse.old.cseq < 4294967295 }
-    ensures beats { Beats W.tells (W.line wire.old) (W.line wire.new)
-        (M.dial moment.old) (M.dial moment.new)
-        address.now lease.now pulse.old pulse.new result }
+    ensures beats { Beats W.tells (talk (W.line wire.old) (M.dial moment.old) pulse.old)
+        (talk (W.line wire.new) (M.dial moment.new) pulse.new)
+        page.old.address lease.now result }
+    ensures address { page.new.address ≡ page.old.address }
     ensures counted { pulse.new.cseq ≤ pulse.old.cseq + 1 }
 {
     let now = moment.now();
     if !is_due(lease.timeout(), pulse.mark, now) {
         return Ok(());
     }
-    if page
-        .write_options(address, pulse.cseq, lease.session())
-        .is_err()
-    {
-        return Err(RecordEnd::OutOfMemory);
-    }
+    page.write_options(lease, pulse.cseq);
     match wire.send(page.bytes()) {
         Put::Whole => {
             pulse.mark = now;

@@ -6,19 +6,14 @@ use satip_memory::{MemoryClock, MemoryConn};
 use std::alloc::{AllocError, Global};
 use std::test::Fail;
 
-fn asks(alloc: Global, wire: &mut MemoryConn) -> Result<Lease, RecordEnd> {
-    let mut page = Page::new(alloc);
+fn page(alloc: Global) -> Result<Page<'static>, Want> {
+    Page::make(alloc, b"10.0.0.1", b"src=1")
+}
+
+fn asks(wire: &mut MemoryConn, page: &mut Page) -> Result<Lease, RecordEnd> {
     let mut heard = Heard::new();
-    let lease = set_up(
-        alloc,
-        wire,
-        b"10.0.0.1",
-        b"src=1",
-        5000,
-        &mut page,
-        &mut heard,
-    )?;
-    start(wire, b"10.0.0.1", &lease, &mut page, &mut heard)?;
+    let lease = set_up(wire, 5000, page, &mut heard)?;
+    start(wire, &lease, page, &mut heard)?;
     Ok(lease)
 }
 
@@ -29,7 +24,7 @@ fn ends(
     failing_sends: &[u64],
 ) -> Result<RecordEnd, Want> {
     let mut wire = MemoryConn::make(alloc, pieces, failing_receives, failing_sends, 5)?;
-    match asks(alloc, &mut wire) {
+    match asks(&mut wire, &mut page(alloc)?) {
         Ok(_) => Ok(RecordEnd::Done),
         Err(end) => Ok(end),
     }
@@ -79,6 +74,20 @@ const ROWS: &[Row] = &[
         &[],
         RecordEnd::BadReply,
     ),
+    // Nothing is received after a whole refusal or a bad reply, so no fault of a later receive counts.
+    (
+        &[(b"RTSP/1.0 503 No\r\nCSeq: 1\r\n\r\n", 1)],
+        &[2],
+        &[],
+        RecordEnd::Refused(503),
+    ),
+    (
+        &[(GRANTED, 1), (b"RTSP/1.0 454 No\r\nCSeq: 2\r\n\r\n", 1)],
+        &[3],
+        &[],
+        RecordEnd::Refused(454),
+    ),
+    (&[(b"HTTP", 1)], &[2], &[], RecordEnd::BadReply),
     (&[(b"HTTP", 1)], &[], &[], RecordEnd::BadReply),
     (
         &[(GRANTED, 1), (ACCEPTED, 1)],
@@ -126,18 +135,19 @@ struct Begun {
     wire: MemoryConn,
     clock: MemoryClock,
     lease: Lease,
-    page: Page,
+    page: Page<'static>,
 }
 
 fn just_begun(alloc: Global) -> Result<Begun, Fail> {
     let mut wire = MemoryConn::make(alloc, &[GRANTED, ACCEPTED], &[], &[], 0)?;
-    let lease = asks(alloc, &mut wire).ok().ok_or("lease")?;
+    let mut page = page(alloc)?;
+    let lease = asks(&mut wire, &mut page).ok().ok_or("lease")?;
     let clock = MemoryClock::make(alloc, &[1004, 1005, 1006])?;
     Ok(Begun {
         wire,
         clock,
         lease,
-        page: Page::new(alloc),
+        page,
     })
 }
 
@@ -148,7 +158,6 @@ impl Begun {
             && keep_alive(
                 &mut self.wire,
                 &mut self.clock,
-                b"10.0.0.1",
                 &self.lease,
                 pulse,
                 &mut self.page,

@@ -65,13 +65,14 @@ fn memory_devices(
     alloc: Global,
     replies: &[&[u8]],
     datagrams: &[&[u8]],
+    moments: &[u64],
     troubles: Troubles,
 ) -> Result<Devices, Want> {
     let (idle, failing) = ([troubles.idle], [troubles.inlet]);
     Ok(Devices {
         wire: MemoryConn::make(alloc, replies, &[], &[troubles.send], 5)?,
         inlet: MemoryInlet::make(alloc, 5000, datagrams, &idle, &failing)?,
-        moment: MemoryClock::make(alloc, &[5, 1004, 1005, 1006])?,
+        moment: MemoryClock::make(alloc, moments)?,
         output: MemorySink::make(alloc, &[], 0)?,
         errors: MemorySink::make(alloc, &[troubles.errors], 3)?,
     })
@@ -112,6 +113,7 @@ struct Row {
     name: &'static str,
     replies: &'static [&'static [u8]],
     came: &'static [Came],
+    moments: &'static [u64],
     troubles: Troubles,
     count: u32,
     end: RecordEnd,
@@ -124,6 +126,7 @@ const USUAL: Row = Row {
     name: "",
     replies: &[GRANTED, ACCEPTED],
     came: &[],
+    moments: &[5, 1004, 1005, 1006],
     troubles: NONE,
     count: 1,
     end: RecordEnd::Done,
@@ -170,6 +173,34 @@ const ROWS: &[Row] = &[
             b"OPTIONS rtsp://127.0.0.1:18554/ RTSP/1.0\r\nCSeq: 3\r\nSession: 1a\r\n\r\n",
             b"TEARDOWN rtsp://127.0.0.1:18554/stream=7 RTSP/1.0\r\nCSeq: 4\r\nSession: 1a\r\n\r\n",
         ]),
+        ..USUAL
+    },
+    Row {
+        name: "OPTIONS is sent again half of the timeout after it",
+        came: &[
+            Came::Other(b"no RTP"),
+            Came::Other(b"no RTP"),
+            Came::Data(9),
+        ],
+        moments: &[5, 1005, 2004, 2005],
+        sent: Some(&[
+            OPENED,
+            b"OPTIONS rtsp://127.0.0.1:18554/ RTSP/1.0\r\nCSeq: 3\r\nSession: 1a\r\n\r\n",
+            b"OPTIONS rtsp://127.0.0.1:18554/ RTSP/1.0\r\nCSeq: 4\r\nSession: 1a\r\n\r\n",
+            b"TEARDOWN rtsp://127.0.0.1:18554/stream=7 RTSP/1.0\r\nCSeq: 5\r\nSession: 1a\r\n\r\n",
+        ]),
+        ..USUAL
+    },
+    Row {
+        name: "the line of a gap is followed by that of the end",
+        came: &[Came::Data(10), Came::Data(75)],
+        moments: &[5, 6, 7, 8],
+        troubles: Troubles { inlet: 3, ..NONE },
+        count: 6,
+        end: RecordEnd::PeerFault,
+        sent: Some(&[OPENED]),
+        written: Some(&[(10, 564)]),
+        told: Some(b"gap 11 1\npeer fault\n"),
         ..USUAL
     },
     Row {
@@ -225,7 +256,7 @@ fn devices_of(alloc: Global, row: &Row, owned: &[Vec<u8>]) -> Result<Devices, Fa
     for bytes in owned {
         datagrams.push(bytes.as_slice())?;
     }
-    Ok(memory_devices(alloc, row.replies, &datagrams, row.troubles)?)
+    Ok(memory_devices(alloc, row.replies, &datagrams, row.moments, row.troubles)?)
 }
 
 // Whether bytes are the beginnings of the packets of these datagrams, where they are looked at.
@@ -259,6 +290,30 @@ fn recordings_come_to_what_their_rows_say(rt: HostRuntime) -> Result<(), Fail> {
         assert_eq!(rt; played.end(), row.end, "{name}");
         assert_eq!(rt; sent_and_written(&played, row), [true, true], "{name}");
         assert_eq!(rt; played.told(), row.told.unwrap_or(played.told()), "{name}");
+    }
+    Ok(())
+}
+
+// Records a packet of which the datagram comes after so many others.
+fn play_behind(alloc: Global, others: usize) -> Result<Played, Fail> {
+    let wanted = datagram(9);
+    let other: &[u8] = b"no RTP";
+    let mut datagrams = vec![in alloc; other; others]?;
+    datagrams.push(wanted.as_slice())?;
+    let devices = memory_devices(alloc, USUAL.replies, &datagrams, USUAL.moments, NONE)?;
+    Ok(play(alloc, devices, 1))
+}
+
+#[test]
+fn other_datagrams_use_up_the_patience(rt: HostRuntime) -> Result<(), Fail> {
+    for (others, end, written, told) in [
+        (10063, RecordEnd::Done, 188, b"".as_slice()),
+        (10064, RecordEnd::Silent, 0, b"silent\n"),
+    ] {
+        let played = play_behind(rt.alloc(), others)?;
+        assert_eq!(rt; played.end(), end, "{others}");
+        assert_eq!(rt; played.written().len(), written, "{others}");
+        assert_eq!(rt; played.told(), told, "{others}");
     }
     Ok(())
 }

@@ -1,6 +1,6 @@
 //! Each status once, with what is written and what is told.
 
-use crate::runs::run;
+use crate::runs::{check, run};
 use satip_base::{ReadSource, Source};
 use satip_memory::MemorySource;
 use satip_memory_desk::{Ran, desk_with};
@@ -58,9 +58,38 @@ fn verdicts_are_written(rt: HostRuntime) -> Result<(), Fail> {
             b"yes 1\n",
         ),
     ];
-    for (text, verdict) in rows {
+    for (place, (text, verdict)) in rows.iter().enumerate() {
         let report = audit(rt.alloc(), CONFIG, text)?;
-        assert!(rt; report.is(0, verdict, b"") && report.config);
+        check(&rt, "a verdict", &report, 0, verdict, b"");
+        assert!(rt; report.config, "row {place}");
+    }
+    Ok(())
+}
+
+// A journal of ticks, each at the moment that its place has as a number. From one line to the next
+// the place rises by `step`, and goes on from the first one after the last.
+fn ticks(alloc: Global, count: u64, step: u64) -> Result<String, Fail> {
+    let mut text = String::new(alloc);
+    let mut place: u64 = 0;
+    for _ in 0..count {
+        writeln!(text, "entry {place} 0 02{place:016x}0200000000000000")?;
+        place = place.saturating_add(step);
+        if place >= count {
+            place -= count;
+        }
+    }
+    writeln!(text, "start 0")?;
+    Ok(text)
+}
+
+// The lines are in the order of their places, and shuffled: 60000 isn't divided by the prime 7919.
+#[test]
+fn a_journal_of_megabytes_is_judged(rt: HostRuntime) -> Result<(), Fail> {
+    for step in [1, 7919] {
+        let text = ticks(rt.alloc(), 60000, step)?;
+        assert!(rt; text.len() > 2000000, "{} bytes", text.len());
+        let report = audit(rt.alloc(), CONFIG, text.as_bytes())?;
+        check(&rt, "60000 ticks", &report, 0, b"yes 60000\n", b"");
     }
     Ok(())
 }
@@ -71,14 +100,29 @@ const WRONG_JOURNAL: &[u8] = b"start 0\nentry 0 0 02000000000000000A020000000000
 #[test]
 fn a_wrong_line_of_a_journal_is_told(rt: HostRuntime) -> Result<(), Fail> {
     let report = audit(rt.alloc(), CONFIG, WRONG_JOURNAL)?;
-    assert!(rt; report.is(4, b"", b"journal: line 2\n"));
+    check(
+        &rt,
+        "an upper-case digit",
+        &report,
+        4,
+        b"",
+        b"journal: line 2\n",
+    );
     Ok(())
 }
 
 #[test]
 fn a_fault_of_the_configuration_is_told_first(rt: HostRuntime) -> Result<(), Fail> {
     let report = audit(rt.alloc(), WRONG_CONFIG, WRONG_JOURNAL)?;
-    assert!(rt; report.is(3, b"", b"configuration: value of timeout\n") && report.config);
+    check(
+        &rt,
+        "timeout = 5",
+        &report,
+        3,
+        b"",
+        b"configuration: value of timeout\n",
+    );
+    assert!(rt; report.config);
     Ok(())
 }
 
@@ -86,7 +130,7 @@ fn a_fault_of_the_configuration_is_told_first(rt: HostRuntime) -> Result<(), Fai
 fn a_journal_that_fails_is_an_input_fault(rt: HostRuntime) -> Result<(), Fail> {
     let input = MemorySource::make(rt.alloc(), STOP, &[3], &[2])?;
     let report = run_words(rt.alloc(), &WORDS, CONFIG, input, &[])?;
-    assert!(rt; report.is(5, b"", b"input fault\n"));
+    check(&rt, "the second take", &report, 5, b"", b"input fault\n");
     Ok(())
 }
 
@@ -94,7 +138,8 @@ fn a_journal_that_fails_is_an_input_fault(rt: HostRuntime) -> Result<(), Fail> {
 fn a_configuration_that_is_not_there_is_an_input_fault(rt: HostRuntime) -> Result<(), Fail> {
     let input = MemorySource::make(rt.alloc(), STOP, &[], &[])?;
     let report = run_words(rt.alloc(), &["audit", "c2.toml"], CONFIG, input, &[])?;
-    assert!(rt; report.is(5, b"", b"input fault\n") && !report.config);
+    check(&rt, "another name", &report, 5, b"", b"input fault\n");
+    assert!(rt; !report.config);
     Ok(())
 }
 
@@ -103,7 +148,8 @@ fn a_configuration_that_fails_is_an_input_fault(rt: HostRuntime) -> Result<(), F
     let mut desk = desk_with(rt.alloc(), CONFIG, &[1])?;
     let input = MemorySource::make(rt.alloc(), STOP, &[], &[])?;
     let report = run(rt.alloc(), &WORDS, input, &[], 5, &mut desk)?;
-    assert!(rt; report.is(5, b"", b"input fault\n") && report.config);
+    check(&rt, "the first take", &report, 5, b"", b"input fault\n");
+    assert!(rt; report.config);
     Ok(())
 }
 
@@ -111,7 +157,14 @@ fn a_configuration_that_fails_is_an_input_fault(rt: HostRuntime) -> Result<(), F
 fn an_output_that_fails_is_an_output_fault(rt: HostRuntime) -> Result<(), Fail> {
     let input = MemorySource::make(rt.alloc(), STOP, &[], &[])?;
     let report = run_words(rt.alloc(), &WORDS, CONFIG, input, &[1])?;
-    assert!(rt; report.is(6, b"yes 1", b"output fault\n"));
+    check(
+        &rt,
+        "the first put",
+        &report,
+        6,
+        b"yes 1",
+        b"output fault\n",
+    );
     Ok(())
 }
 
@@ -119,7 +172,7 @@ fn an_output_that_fails_is_an_output_fault(rt: HostRuntime) -> Result<(), Fail> 
 fn an_input_of_67108865_bytes_is_too_long(rt: HostRuntime) -> Result<(), Fail> {
     let input = ReadSource::new(repeat(b'\n').take(67108865));
     let report = run_words(rt.alloc(), &WORDS, CONFIG, input, &[])?;
-    assert!(rt; report.is(8, b"", b"input too long\n"));
+    check(&rt, "a byte more", &report, 8, b"", b"input too long\n");
     Ok(())
 }
 

@@ -1,4 +1,4 @@
-//! Tests `talk`, `stress`, `audit` and `record` by the top call; `serve` over loopback.
+//! Tests command lines, `stress`, `audit` and `record` by the top call; `serve` over loopback.
 #![tactic(auto)]
 
 #[cfg(test)]
@@ -14,4 +14,4 @@ mod runs;
 #[cfg(test)]
 mod stress;
 #[cfg(test)]
-mod talk;
+mod words;

@@ -1,7 +1,7 @@
 //! The command `serve` over loopback, and what the real desk can't have.
 
-use satip_base::{Sink, Text};
-use satip_desk::Desk;
+use satip_base::Text;
+use satip_desk::{Desk, JobSink};
 use satip_fixtures::texts::{OPTIONS, OPTIONS_REPLY};
 use satip_memory::{MemorySink, MemorySource};
 use satip_program::satip;
@@ -189,7 +189,7 @@ fn a_port_in_use_is_a_fault(rt: HostRuntime) -> Result<(), Fail> {
     Ok(())
 }
 
-// What is put on a journal is in its file at once; what it had before is gone.
+// What is put on a journal is in its job's file at once; what that had before is gone.
 #[test]
 fn a_journal_is_a_file(rt: HostRuntime) -> Result<(), Fail> {
     fs::write(
@@ -198,13 +198,19 @@ fn a_journal_is_a_file(rt: HostRuntime) -> Result<(), Fail> {
         b"of an earlier server, and longer than what comes",
     )?;
     let mut desk = RealDesk::new(rt, rt);
-    let Ok(mut journal) = desk.journal(7) else {
+    let (Ok(mut first), Ok(mut second)) = (desk.journal(7), desk.journal(12)) else {
         return Err(Fail::from("no journal was made"));
     };
-    journal.put(b"start 0\n");
-    journal.put(b"entry 0 7 08\n");
-    let text = fs::read(&rt, "journal.7")?;
-    fs::remove_file(&rt, "journal.7")?;
-    assert_eq!(rt; text.as_slice(), b"start 0\nentry 0 7 08\n".as_slice());
+    first.put(b"start 0\n");
+    second.put(b"entry 1 12 08\n");
+    first.put(b"entry 0 7 08\n");
+    for (name, text) in [
+        ("journal.7", b"start 0\nentry 0 7 08\n".as_slice()),
+        ("journal.12", b"entry 1 12 08\n".as_slice()),
+    ] {
+        let found = fs::read(&rt, name)?;
+        fs::remove_file(&rt, name)?;
+        assert_eq!(rt; found.as_slice(), text, "{name}");
+    }
     Ok(())
 }

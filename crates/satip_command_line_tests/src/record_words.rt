@@ -25,7 +25,11 @@ fn addresses_have_a_port_or_none(rt: HostRuntime) -> Result<(), Fail> {
         "192.168.1.10:65535",
         "127.0.0.1:00554",
     ] {
-        assert_eq!(rt; status(rt.alloc(), address, QUERY, "1000000")?, 13);
+        assert_eq!(rt;
+            status(rt.alloc(), address, QUERY, "1000000")?,
+            13,
+            "{address}"
+        );
     }
     Ok(())
 }
@@ -45,7 +49,7 @@ fn other_addresses_are_a_faulty_command_line(rt: HostRuntime) -> Result<(), Fail
         "127.0.0.1 ",
     ];
     for address in wrong {
-        assert_eq!(rt; status(rt.alloc(), address, QUERY, "1")?, 2);
+        assert_eq!(rt; status(rt.alloc(), address, QUERY, "1")?, 2, "{address}");
     }
     Ok(())
 }
@@ -60,7 +64,7 @@ fn other_queries_are_a_faulty_command_line(rt: HostRuntime) -> Result<(), Fail> 
         "freq=12402\r\n",
         "src=\u{e9}",
     ] {
-        assert_eq!(rt; status(rt.alloc(), "127.0.0.1", query, "1")?, 2);
+        assert_eq!(rt; status(rt.alloc(), "127.0.0.1", query, "1")?, 2, "{query}");
     }
     Ok(())
 }
@@ -68,7 +72,11 @@ fn other_queries_are_a_faulty_command_line(rt: HostRuntime) -> Result<(), Fail> 
 #[test]
 fn other_counts_are_a_faulty_command_line(rt: HostRuntime) -> Result<(), Fail> {
     for count in ["", "0", "1000001", "-1", "2 ", "two"] {
-        assert_eq!(rt; status(rt.alloc(), "127.0.0.1", QUERY, count)?, 2);
+        assert_eq!(rt;
+            status(rt.alloc(), "127.0.0.1", QUERY, count)?,
+            2,
+            "{count}"
+        );
     }
     Ok(())
 }

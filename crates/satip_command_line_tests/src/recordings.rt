@@ -1,8 +1,8 @@
 //! Whole recordings: each status, with the requests, the packets and the lines.
 
-use crate::runs::run;
+use crate::runs::{check, run};
 use satip_fixtures::recordings::{ACCEPTED, ADDRESS, GRANTED, HEAD, LEFT, OPENED, QUERY, datagram};
-use satip_fixtures::texts::is_joined;
+use satip_fixtures::texts::joined;
 use satip_memory::{MemoryClock, MemoryConn, MemoryInlet, MemorySource};
 use satip_memory_desk::{MemoryDesk, Ran};
 use std::alloc::Global;
@@ -62,9 +62,9 @@ fn play(
 fn two_packets_are_recorded(rt: HostRuntime) -> Result<(), Fail> {
     let came = datagram(9);
     let played = play(rt.alloc(), &[GRANTED, ACCEPTED], &[&came], 0, 0)?;
-    assert!(rt; played.is(0, &came[HEAD..HEAD + 376], b""));
-    let all = sent(&played).ok_or("connection")?;
-    assert!(rt; is_joined(all, &[OPENED, LEFT]));
+    check(&rt, "two packets", &played, 0, &came[HEAD..HEAD + 376], b"");
+    let wanted = joined(rt.alloc(), &[OPENED, LEFT])?;
+    assert_eq!(rt; sent(&played), Some(wanted.as_slice()));
     assert!(rt; played.inlet && played.moment);
     Ok(())
 }
@@ -73,7 +73,7 @@ fn two_packets_are_recorded(rt: HostRuntime) -> Result<(), Fail> {
 fn a_busy_server_is_told(rt: HostRuntime) -> Result<(), Fail> {
     let busy: &[u8] = b"RTSP/1.0 503 Service Unavailable\r\nCSeq: 1\r\n\r\n";
     let played = play(rt.alloc(), &[busy], &[], 0, 0)?;
-    assert!(rt; played.is(10, b"", b"refused 503\n"));
+    check(&rt, "SETUP", &played, 10, b"", b"refused 503\n");
     Ok(())
 }
 
@@ -81,21 +81,30 @@ fn a_busy_server_is_told(rt: HostRuntime) -> Result<(), Fail> {
 fn a_play_that_is_refused_is_told(rt: HostRuntime) -> Result<(), Fail> {
     let unknown: &[u8] = b"RTSP/1.0 454 Session Not Found\r\nCSeq: 2\r\n\r\n";
     let played = play(rt.alloc(), &[GRANTED, unknown], &[], 0, 0)?;
-    assert!(rt; played.is(10, b"", b"refused 454\n"));
+    check(&rt, "PLAY", &played, 10, b"", b"refused 454\n");
     Ok(())
 }
 
 #[test]
 fn replies_that_give_nothing_are_bad(rt: HostRuntime) -> Result<(), Fail> {
-    let replies: [&[u8]; 4] = [
-        b"RTSP/1.0 200 OK\r\nCSeq: 1\r\ncom.ses.streamID: 7\r\n\r\n",
-        b"RTSP/1.0 200 OK\r\nCSeq: 1\r\nSession: 1a\r\n\r\n",
-        b"RTSP/1.0 200 OK\r\nCSeq: 2\r\nSession: 1a\r\ncom.ses.streamID: 7\r\n\r\n",
-        b"HTTP/1.1 200 OK\r\nCSeq: 1\r\n\r\n",
+    let replies: [(&str, &[u8]); 4] = [
+        (
+            "no session",
+            b"RTSP/1.0 200 OK\r\nCSeq: 1\r\ncom.ses.streamID: 7\r\n\r\n",
+        ),
+        (
+            "no stream",
+            b"RTSP/1.0 200 OK\r\nCSeq: 1\r\nSession: 1a\r\n\r\n",
+        ),
+        (
+            "another CSeq",
+            b"RTSP/1.0 200 OK\r\nCSeq: 2\r\nSession: 1a\r\ncom.ses.streamID: 7\r\n\r\n",
+        ),
+        ("HTTP", b"HTTP/1.1 200 OK\r\nCSeq: 1\r\n\r\n"),
     ];
-    for reply in replies {
+    for (name, reply) in replies {
         let played = play(rt.alloc(), &[reply], &[], 0, 0)?;
-        assert!(rt; played.is(11, b"", b"bad reply\n"));
+        check(&rt, name, &played, 11, b"", b"bad reply\n");
     }
     Ok(())
 }
@@ -104,14 +113,14 @@ fn replies_that_give_nothing_are_bad(rt: HostRuntime) -> Result<(), Fail> {
 fn a_reply_that_never_comes_is_silence(rt: HostRuntime) -> Result<(), Fail> {
     let nothing: [&[u8]; 10001] = [b""; 10001];
     let played = play(rt.alloc(), &nothing, &[], 0, 0)?;
-    assert!(rt; played.is(12, b"", b"silent\n"));
+    check(&rt, "no reply", &played, 12, b"", b"silent\n");
     Ok(())
 }
 
 #[test]
 fn packets_that_never_come_are_silence(rt: HostRuntime) -> Result<(), Fail> {
     let played = play(rt.alloc(), &[GRANTED, ACCEPTED], &[], 0, 0)?;
-    assert!(rt; played.is(12, b"", b"silent\n"));
+    check(&rt, "no packet", &played, 12, b"", b"silent\n");
     Ok(())
 }
 
@@ -119,7 +128,8 @@ fn packets_that_never_come_are_silence(rt: HostRuntime) -> Result<(), Fail> {
 fn a_reply_that_ends_early_is_an_end(rt: HostRuntime) -> Result<(), Fail> {
     for length in 0..GRANTED.len() {
         let played = play(rt.alloc(), &[&GRANTED[..length]], &[], 0, 0)?;
-        assert!(rt; played.is(14, b"", b"closed\n"));
+        let name = format!(in rt.alloc(); "{length} bytes")?;
+        check(&rt, &name, &played, 14, b"", b"closed\n");
     }
     Ok(())
 }
@@ -127,7 +137,7 @@ fn a_reply_that_ends_early_is_an_end(rt: HostRuntime) -> Result<(), Fail> {
 #[test]
 fn a_failing_inlet_is_a_fault_of_the_peer(rt: HostRuntime) -> Result<(), Fail> {
     let played = play(rt.alloc(), &[GRANTED, ACCEPTED], &[], 1, 0)?;
-    assert!(rt; played.is(13, b"", b"peer fault\n"));
+    check(&rt, "the inlet", &played, 13, b"", b"peer fault\n");
     Ok(())
 }
 
@@ -135,7 +145,7 @@ fn a_failing_inlet_is_a_fault_of_the_peer(rt: HostRuntime) -> Result<(), Fail> {
 fn a_server_that_is_not_there_is_a_fault_of_the_peer(rt: HostRuntime) -> Result<(), Fail> {
     let mut desk = MemoryDesk::make(rt.alloc(), 0);
     let played = record(rt.alloc(), &WORDS, 0, &mut desk)?;
-    assert!(rt; played.is(13, b"", b"peer fault\n"));
+    check(&rt, "no connection", &played, 13, b"", b"peer fault\n");
     assert!(rt; played.wire.is_none() && !played.inlet && played.moment);
     Ok(())
 }
@@ -146,7 +156,7 @@ fn without_a_port_nothing_is_sent(rt: HostRuntime) -> Result<(), Fail> {
     let wire = MemoryConn::make(rt.alloc(), &[GRANTED], &[], &[], 0)?;
     desk.lend(Some(wire), None, None);
     let played = record(rt.alloc(), &WORDS, 0, &mut desk)?;
-    assert!(rt; played.is(13, b"", b"peer fault\n"));
+    check(&rt, "no inlet", &played, 13, b"", b"peer fault\n");
     assert_eq!(rt; sent(&played), Some(b"".as_slice()));
     assert!(rt; !played.inlet);
     Ok(())
@@ -156,6 +166,13 @@ fn without_a_port_nothing_is_sent(rt: HostRuntime) -> Result<(), Fail> {
 fn a_failing_output_is_told(rt: HostRuntime) -> Result<(), Fail> {
     let came = datagram(9);
     let played = play(rt.alloc(), &[GRANTED, ACCEPTED], &[&came], 0, 1)?;
-    assert!(rt; played.is(6, &came[HEAD..HEAD + 100], b"output fault\n"));
+    check(
+        &rt,
+        "the first put",
+        &played,
+        6,
+        &came[HEAD..HEAD + 100],
+        b"output fault\n",
+    );
     Ok(())
 }

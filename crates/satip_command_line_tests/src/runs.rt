@@ -5,7 +5,17 @@ use satip_memory::{MemorySink, MemorySource};
 use satip_memory_desk::{MemoryDesk, Ran, desk_with, texts_of};
 use satip_program::offline;
 use std::alloc::Global;
+use std::process::Abort;
 use std::test::Fail;
+
+/// Asserts that the run with this name ended with this status, this output and these errors.
+pub fn check(rt: &impl Abort, name: &str, ran: &Ran, status: u8, output: &[u8], errors: &[u8]) {
+    assert_eq!(rt;
+        (ran.status, ran.output.sent(), ran.errors.sent()),
+        (status, output, errors),
+        "{name}"
+    );
+}
 
 /// A replay of a script by the text of a configuration.
 pub fn replay(alloc: Global, configuration: &str, script: &[u8]) -> Result<Ran, Fail> {

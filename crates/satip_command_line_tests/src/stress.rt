@@ -1,7 +1,7 @@
 //! Stress runs: the six counts of two runs, the words, the statuses, and the replay of a script
 //! with the texts of the same events.
 
-use crate::runs::{replay, run};
+use crate::runs::{check, replay, run};
 use rand_chacha::ChaCha8Rng;
 use rand_core::SeedableRng;
 use rand_core::utils::NextWord;
@@ -220,7 +220,7 @@ fn stressed(alloc: Global, seed: &str, count: &str, failing: &[u64]) -> Result<R
 fn without_made_events_there_are_five(rt: HostRuntime) -> Result<(), Fail> {
     let ran = stressed(rt.alloc(), "7", "0", &[])?;
     let counts = b"events 5\nreplies 4\nrefused 0\ndatagrams 0\npayload 0\nreports 0\n";
-    assert!(rt; ran.is(0, counts, b""));
+    check(&rt, "stress", &ran, 0, counts, b"");
     Ok(())
 }
 
@@ -234,7 +234,7 @@ fn a_hundred_thousand_made_events_are_counted(rt: HostRuntime) -> Result<(), Fai
         datagrams 14076\n\
         payload 88982\n\
         reports 628\n";
-    assert!(rt; ran.is(0, counts, b""));
+    check(&rt, "stress", &ran, 0, counts, b"");
     Ok(())
 }
 
@@ -273,7 +273,7 @@ fn a_replay_of_the_texts_has_the_same_counts(rt: HostRuntime) -> Result<(), Fail
 #[test]
 fn an_output_that_fails_has_a_beginning_of_the_counts(rt: HostRuntime) -> Result<(), Fail> {
     let ran = stressed(rt.alloc(), "7", "0", &[1])?;
-    assert!(rt; ran.is(6, b"", b"output fault\n"));
+    check(&rt, "the first put", &ran, 6, b"", b"output fault\n");
     Ok(())
 }
 

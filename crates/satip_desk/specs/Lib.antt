@@ -3,3 +3,5 @@ pub mod Fresh
 pub mod Handed
 pub mod Given
 pub mod Desks
+pub mod Streams
+pub mod Journals

@@ -1,4 +1,4 @@
--- The kits of jobs, as contracts see them.
+-- A desk and the kits of jobs, as contracts see them.
 use Rattle.std.specs.Prelude.{ℕ, List, Option, map}
 use Rattle.satip_world.specs.Recordings.{StoreView}
 use Rattle.satip_world.specs.Dials.{Dial}
@@ -8,6 +8,7 @@ use Rattle.satip_desk.specs.declared.kits.PumpKit.{PumpKit}
 use Rattle.satip_desk.specs.declared.kits.TickKit.{TickKit}
 use Rattle.satip_desk.specs.declared.kits.WorkerKit.{WorkerKit}
 use Rattle.satip_desk.specs.declared.kits.Jobs.{Jobs}
+use Rattle.satip_desk.specs.Handed.{Handed}
 
 -- a worker's kit: its doors, its outlet, and the key of its draws
 pub record WorkerView : Type 0 where
@@ -56,3 +57,12 @@ jobs_view hall outbox shelf dial jobs = record {
   pumps = map (pump_view shelf outbox) jobs.pumps.items;
   ticker = tick_view dial outbox jobs.tick;
 }
+
+-- a desk: the text of the configuration of each name, if it exposes it; the count of its failed calls; the kits that it gave, if it gave them, as they were at
+-- that time; the devices that it gave a client; and the jobs to which it gave a journal, in order
+pub record DeskView : Type 0 where
+  pub text : List ℕ → Option (List ℕ)
+  pub faults : ℕ
+  pub given : Option JobsView
+  pub handed : Handed
+  pub journaled : List ℕ

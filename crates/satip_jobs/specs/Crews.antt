@@ -1,8 +1,9 @@
 -- Jobs at their seats, with callers of one value.
-use Rattle.std.specs.Prelude.{◌≡◌, ℕ, ◌+◌, ◌<◌, ◌≤◌, List, [], ◌∷◌, ◌++◌, map, length}
+use Rattle.std.specs.Prelude.{◌≡◌, ℕ, ◌+◌, ◌<◌, ◌≤◌, List, [], ◌∷◌, ◌++◌, map, length, vec_len, vec_capacity}
 use Rattle.satip_base.specs.Lists.{Each, Begins}
 use Rattle.satip_plain.specs.declared.setting.Setting.{Setting}
 use Rattle.satip_turn.specs.Shown.{Cell, Knows}
+use Rattle.satip_jobs.specs.declared.run.Front.{Front}
 use Rattle.satip_jobs.specs.declared.seat.Seat.{Seat}
 use Rattle.satip_jobs.specs.Passes.{ItemOf, PassOf, callers_of, IsAlone, IsNew}
 
@@ -49,12 +50,12 @@ pub record IsSpace {S K G M : Type 0} (kits : List K) (gears : List G) (rooms : 
   pub none : seats ≡ []
   pub space : length kits ≤ capacity
 
--- new callers whose passes may be joined into the root's, and empty lists with memory for their kits and gears
-pub record IsReady {X E A G K M : Type 0} (cell : X → Cell Setting) (pass : X → PassOf E A) (legal : Setting → List (ItemOf E A) → Type 0) (root : X)
-    (seats : List (Seat X K M)) (kits : List K) (gears : List G) (count kit_capacity gear_capacity : ℕ) : Type 0 where
-  pub knows : Knows (legal (cell root).setting) (pass root)
-  pub new : AreNew cell pass (cell root) seats
-  pub no_kits : kits ≡ []
-  pub no_gears : gears ≡ []
-  pub kit_space : count ≤ kit_capacity
-  pub gear_space : count ≤ gear_capacity
+-- the workers' callers are new callers of the root's cell, and there are empty lists with memory for their kits and gears
+pub record IsReady {X E A W L G : Type 0} (cell : X → Cell Setting) (pass : X → PassOf E A) (legal : Setting → List (ItemOf E A) → Type 0)
+    (front : Front X W L G) : Type 0 where
+  pub knows : Knows (legal (cell front.root).setting) (pass front.root)
+  pub new : AreNew cell pass (cell front.root) front.workers.items
+  pub no_kits : front.kits.items ≡ []
+  pub no_gears : front.gears.items ≡ []
+  pub kit_space : vec_len front.workers ≤ vec_capacity front.kits
+  pub gear_space : vec_len front.workers ≤ vec_capacity front.gears

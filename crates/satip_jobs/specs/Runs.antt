@@ -6,7 +6,7 @@ use Rattle.satip_plain.specs.declared.setting.Setting.{Setting}
 use Rattle.satip_turn.specs.Views.{numbers_of}
 use Rattle.satip_jobs.specs.declared.end.ServeEnd.{ServeEnd}
 use Rattle.satip_jobs.specs.declared.end.ServeEnd.TheVariants.{Served, DoorsFault, HistoryFull}
-use Rattle.satip_jobs.specs.Passes.{ItemOf, CallerOf, IsFull}
+use Rattle.satip_jobs.specs.Passes.{ItemOf, CallerOf, PassOf}
 
 -- P holds of the elements at each place, and of the place's number, counted from n; the lists have the same length
 abbrev pub Along : {S T : Type 0} → (ℕ → S → T → Type 0) → ℕ → List S → List T → Type 0
@@ -25,35 +25,49 @@ pub record StopsOnce {E A : Type 0} (IsStop : ItemOf E A → Type 0) (h : List (
   pub own : own_of 0 h ≡ stop ∷ []
   pub last : Each (λ r. own_of r.number after ≡ []) callers
 
--- there is no stop: the history is full, and caller 0 has no entry
-pub record HasNoStop {E A : Type 0} (h : List (ItemOf E A)) : Type 0 where
-  pub full : IsFull h
+-- there was no room for a stop: the history is full (`full`), and caller 0 has no entry
+pub record HasNoStop {E A : Type 0} (full : Type 0) (h : List (ItemOf E A)) : Type 0 where
+  pub full_is : full
   pub own : own_of 0 h ≡ []
 
--- all jobs ran over one history, which is legal in the setting and of which `seen` was seen; each job meets its condition with its caller;
--- each entry seen is of one of these callers, or is the one stop of caller 0
-pub record Run {E A W P T : Type 0} (c : Setting) (legal : Setting → List (ItemOf E A) → Type 0) (IsStop : ItemOf E A → Type 0)
-    (WorkerOk : ℕ → W → CallerOf E A → Type 0) (PumpOk : ℕ → P → CallerOf E A → Type 0) (TickerOk : T → CallerOf E A → Type 0)
-    (seen : List (ItemOf E A)) (kept : List (CallerOf E A)) (workers : List W) (pumps : List P) (ticker : T) : Type 0 where
+-- a value for each job: for the workers and the pumps, in order, and for the ticker
+pub record PerJob (W P T : Type 0) : Type 0 where
+  pub workers : List W
+  pub pumps : List P
+  pub ticker : T
+
+-- the terms of a run: the histories that are legal in a setting; whether an entry is a stop; a fact without which no job ended because the history is full; and
+-- the condition that each kind of job meets, by its number, its value and its caller
+pub record Terms (E A W P T : Type 0) : Type 1 where
+  pub legal : Setting → List (ItemOf E A) → Type 0
+  pub is_stop : ItemOf E A → Type 0
+  pub full : Type 0
+  pub worked : ℕ → W → CallerOf E A → Type 0
+  pub pumped : ℕ → P → CallerOf E A → Type 0
+  pub ticked : T → CallerOf E A → Type 0
+
+-- all jobs ran over one history, which is legal in the setting; `pass` is the one into which the passes of their callers were joined, and has seen it. Each job
+-- meets its condition with its caller; each entry seen is of one of these callers, or is the one stop of caller 0
+pub record Run {E A W P T : Type 0} (c : Setting) (terms : Terms E A W P T) (pass : PassOf E A) (jobs : PerJob W P T) : Type 0 where
   -- the callers, in the order of jobs: workers, pumps, ticker
   pub of_workers : List (CallerOf E A)
   pub of_pumps : List (CallerOf E A)
   pub of_ticker : CallerOf E A
-  pub callers : kept ≡ of_workers ++ of_pumps ++ of_ticker ∷ []
+  pub callers : pass.kept ≡ of_workers ++ of_pumps ++ of_ticker ∷ []
   -- the counts of workers and pumps are those of the setting
-  pub worker_count : length workers ≡ c.config.workers
-  pub pump_count : length pumps ≡ length c.config.fronts
+  pub worker_count : length jobs.workers ≡ c.config.workers
+  pub pump_count : length jobs.pumps ≡ length c.config.fronts
   -- the entries of each caller in the history are its own, in order
-  pub entries : Each (λ r. own_of r.number seen ≡ r.own) kept
-  pub lawful : legal c seen
+  pub entries : Each (λ r. own_of r.number pass.seen ≡ r.own) pass.kept
+  pub lawful : terms.legal c pass.seen
   -- each job meets its condition
-  pub worked : Along WorkerOk 1 workers of_workers
-  pub pumped : Along PumpOk 1 pumps of_pumps
-  pub ticked : TickerOk ticker of_ticker
+  pub worked : Along terms.worked 1 jobs.workers of_workers
+  pub pumped : Along terms.pumped 1 jobs.pumps of_pumps
+  pub ticked : terms.ticked jobs.ticker of_ticker
   -- the stop, unless the history is full
-  pub stopped : StopsOnce IsStop seen of_workers ⊎ HasNoStop seen
+  pub stopped : StopsOnce terms.is_stop pass.seen of_workers ⊎ HasNoStop terms.full pass.seen
   -- each entry is of one of these callers or of caller 0
-  pub covered : Each (λ e. Has e.caller (0 ∷ numbers_of kept)) seen
+  pub covered : Each (λ e. Has e.caller (0 ∷ numbers_of pass.kept)) pass.seen
 
 -- a fact for each end
 abbrev pub MatchEnd : ServeEnd → (served fault full : Type 0) → Type 0

@@ -1,6 +1,6 @@
 //! The parallel run of all jobs.
 
-ghost use Rattle.std.specs.Prelude.{◌≡◌, vec_len, vec_capacity};
+ghost use Rattle.std.specs.Prelude.{◌≡◌, vec_capacity};
 ghost use Rattle.std.specs.Thread.{IsSync};
 ghost use Rattle.satip_turn.specs.Shown.{Knows};
 ghost use Rattle.satip_jobs.specs.Pairs.{Both};
@@ -67,9 +67,7 @@ fn run_front<
     F: Fn(&mut Seat<X, W, L>) + Sync,
 >(rt: &R, front: &mut Front<X, W, L, X::Gear>, work: &F)
     requires work { IsWork X.cell X.pass F.Fn work.now }
-    requires ready { IsReady X.cell X.pass X.legal front.old.root front.old.workers.items
-        front.old.kits.items front.old.gears.items (vec_len front.old.workers)
-        (vec_capacity front.old.kits) (vec_capacity front.old.gears) }
+    requires ready { IsReady X.cell X.pass X.legal front.old }
     ensures did { FrontDid X.cell X.pass X.gear X.legal X.is_stop X.goes_on
         (Worked F.Fn work.now) front.old.root front.old.workers.items front.new.root
         front.new.kits.items front.new.gears.items front.new.end }
@@ -139,9 +137,7 @@ fn run_both<
     requires work { IsWork X.cell X.pass F.Fn work.now }
     requires pump { IsWork X.cell X.pass G.Fn pump.now }
     requires tick { IsWork X.cell X.pass H.Fn tick.now }
-    requires ready { IsReady X.cell X.pass X.legal front.old.root front.old.workers.items
-        front.old.kits.items front.old.gears.items (vec_len front.old.workers)
-        (vec_capacity front.old.kits) (vec_capacity front.old.gears) }
+    requires ready { IsReady X.cell X.pass X.legal front.old }
     ensures front { FrontDid X.cell X.pass X.gear X.legal X.is_stop X.goes_on
         (Worked F.Fn work.now) front.old.root front.old.workers.items front.new.root
         front.new.kits.items front.new.gears.items front.new.end }
@@ -160,9 +156,7 @@ fn run_both<
         front,
         &|front: &mut Front<X, W, L, X::Gear>|
             requires { IsSync R.row × IsSync F.row × IsWork X.cell X.pass F.Fn work.now
-                × IsReady X.cell X.pass X.legal front.old.root front.old.workers.items
-                front.old.kits.items front.old.gears.items (vec_len front.old.workers)
-                (vec_capacity front.old.kits) (vec_capacity front.old.gears) }
+                × IsReady X.cell X.pass X.legal front.old }
             ensures { FrontDid X.cell X.pass X.gear X.legal X.is_stop X.goes_on
                 (Worked F.Fn work.entry.now) front.old.root front.old.workers.items front.new.root
                 front.new.kits.items front.new.gears.items front.new.end }

@@ -1,21 +1,23 @@
 -- A run of jobs with journals, by its end.
-use Rattle.std.proofs.Common.{◌≡◌, ℕ, Bool, true, false, List, map, refl, subst, arith}
-use Rattle.satip_base.specs.Streams.{Drain, fresh_drain}
-use Rattle.satip_base.specs.Lists.{Each}
+use Rattle.std.proofs.Common.{◌≡◌, ℕ, Bool, true, false, List, map, refl, sym, subst, arith}
+use Rattle.satip_base.specs.Streams.{Drain}
 use Rattle.satip_jobs.specs.declared.end.ServeEnd.{ServeEnd}
 use Rattle.satip_jobs.specs.declared.end.ServeEnd.TheVariants as serves
 use Rattle.satip_journal.specs.declared.all_jobs.Written.{Written}
+use Rattle.satip_journal.specs.Asked.{drains_of}
 use Rattle.satip_journal.specs.Journaled.{Journaled}
-use Rattle.satip_journal.specs.Sent.{AreSent, AreWhole, AreWritten, HasRisen}
-use Rattle.satip_desk.specs.declared.kits.Jobs.{Jobs}
-use Rattle.satip_serve.specs.declared.all_jobs.Last.{Last}
-use Rattle.satip_desk.specs.Views.{JobsView}
-use Rattle.satip_serve.specs.CommandRan.{ServingRun}
+use Rattle.satip_journal.specs.Judged.{AreOneHistory}
+use Rattle.satip_journal.specs.Sent.{AreWhole, AreWritten, HasRisen, new_journals}
+use Rattle.satip_desk.specs.Views.{JobsView, WorkerView}
+use Rattle.satip_desk.specs.Journals.{journals_view}
+use Rattle.satip_serve.specs.CommandRan.{EndsAtLimit, LastView, ServingRun}
 use Rattle.satip_serve.specs.Servings.{end_of_run as serving_end}
+use Rattle.satip_serve.specs.Ran.{AreAtLimit}
 use Rattle.satip_serve.specs.Statuses.{serving_status}
+use Rattle.satip_serve.proofs.StatusLemmas.{limit_told}
 use Rattle.satip_journal.specs.Statuses.{journal_status, end_of_run}
-use Rattle.satip_journal.specs.Ran.{JournalRun, journals_left, new_journals, status_of_jobs}
-use Rattle.satip_journal.proofs.Sending.{new_sent, were_new, written_sent}
+use Rattle.satip_journal.specs.Ran.{JournalRun, journals_left, status_of_jobs}
+use Rattle.satip_journal.proofs.Sending.{drains_viewed, written_sent}
 
 -- the jobs' status is that of a serve that ends as they did
 pub jobs_status : (end : ServeEnd) (failed : Bool) → serving_status (serving_end end) ≡ status_of_jobs (journal_status (end_of_run end failed))
@@ -23,6 +25,12 @@ jobs_status serves.Served false = refl
 jobs_status serves.Served true = refl
 jobs_status serves.DoorsFault failed = refl
 jobs_status serves.HistoryFull failed = refl
+
+-- so are the doors at their limit
+pub jobs_limit : (by_limit : Type 0) (end : ServeEnd) (failed : Bool) (workers : List WorkerView) → AreAtLimit by_limit end workers
+    → EndsAtLimit by_limit workers (status_of_jobs (journal_status (end_of_run end failed)))
+jobs_limit by_limit end failed workers limits =
+    subst (λ (status : ℕ). EndsAtLimit by_limit workers status) (jobs_status end failed) (limit_told by_limit end workers limits)
 
 -- with 0 no put failed
 unfailed_told : (end : ServeEnd) (failed : Bool) → journal_status (end_of_run end failed) ≡ 0 → failed ≡ false
@@ -42,26 +50,23 @@ risen_told tells os ns texts serves.Served true written is = written.1
 risen_told tells os ns texts serves.DoorsFault failed written is = absurd (omega (arith, is))
 risen_told tells os ns texts serves.HistoryFull failed written is = absurd (omega (arith, is))
 
--- the jobs ran, and wrote their journals on new sinks
-pub journal_run : {D O P M C J : Type 0} (ct ot jt : Type 0) (drain : J → Drain) (accepts : ℕ) (view : Jobs D O P M C → JobsView)
-    (given : JobsView) (l : Last D O P M C) (sinks : List J) (written : Written J) (end : ServeEnd)
-    → ServingRun ct ot accepts view given l (serving_status (serving_end end))
-    → Each (λ d. d ≡ fresh_drain) (map drain sinks) → Journaled jt drain l.server.setting sinks l.pass written
-    → JournalRun ct ot jt accepts view given l (map drain written.sinks.items) (journal_status (end_of_run end written.failed))
-journal_run ct ot jt drain accepts view given l sinks written end run new journaled =
-    let os : List Drain = map drain sinks in
-    let ns : List Drain = map drain written.sinks.items in
+-- the jobs ran, and wrote their journals
+pub journal_run : {J : Type 0} (ct ot jt : Type 0) (job : J → ℕ) (drain : J → Drain) (accepts : ℕ) (given : JobsView) (l : LastView) (written : Written J)
+    (end : ServeEnd) → ServingRun ct ot accepts given l (serving_status (serving_end end))
+    → Journaled jt drain l.server.setting l.pass written
+    → JournalRun ct ot jt accepts given l (journals_view job drain written.sinks.items) (journal_status (end_of_run end written.failed))
+journal_run ct ot jt job drain accepts given l written end run journaled =
+    let ns : List Drain = drains_of (journals_view job drain written.sinks.items) in
     let failed = written.failed in
     let texts = journals_left l in
-    let sent : AreSent jt os ns texts = written_sent jt failed os ns texts journaled.journals in
-    let S : List Drain → Type 0 = λ ds. AreSent jt ds ns texts in
-    let W : List Drain → Type 0 = λ ds. AreWritten jt failed ds ns texts in
-    let were : os ≡ new_journals ns = were_new jt os ns texts new sent in
-    let from_new : AreWritten jt failed (new_journals ns) ns texts = subst W were journaled.journals in
+    let seen : map drain written.sinks.items ≡ ns = sym (drains_viewed job drain written.sinks.items) in
+    let H : List Drain → Type 0 = λ ds. AreOneHistory jt l.server.setting l.pass.seen ds in
+    let all : AreWritten jt failed (new_journals ns) ns texts =
+    subst (λ (ds : List Drain). AreWritten jt failed (new_journals ds) ds texts) seen journaled.journals in
     record {
-      serves = subst (λ (status : ℕ). ServingRun ct ot accepts view given l status) (jobs_status end failed) run;
-      sent = subst S were sent;
-      whole = λ is. whole_told jt (new_journals ns) ns texts end failed from_new is;
-      judged = λ is told. journaled.yes (unfailed_told end failed is) told (new_sent os new);
-      journal_fault = λ is. risen_told jt (new_journals ns) ns texts end failed from_new is;
+      serves = subst (λ (status : ℕ). ServingRun ct ot accepts given l status) (jobs_status end failed) run;
+      sent = written_sent jt failed (new_journals ns) ns texts all;
+      whole = λ is. whole_told jt (new_journals ns) ns texts end failed all is;
+      judged = λ is. subst H seen (journaled.yes (unfailed_told end failed is));
+      journal_fault = λ is. risen_told jt (new_journals ns) ns texts end failed all is;
     }

@@ -2,7 +2,7 @@
 use denote.RattleType.{RattleType}
 use denote.Ref.{NamedLft}
 use denote.Param.Send.{IsSend, IsSync, sendable}
-use Rattle.satip_base.specs.declared.streams.Sink.{Ghosts}
+use Rattle.satip_desk.specs.declared.journals.JobSink.{Ghosts}
 use Rattle.satip_entry_writer.proofs.room.LineRoom.TheSendSync.{the_send as line_send}
 use Rattle.satip_shared.proofs.Crossing.{crossing as caller_crossing}
 use Rattle.satip_journal.specs.contracts.journal.Journal as Journal

@@ -1,5 +1,5 @@
 -- How serving with journals ends, by its status.
-use Rattle.std.proofs.Common.{◌≡◌, ◌∙◌, ℕ, ◌<◌, ◌≤◌, ◌⊎◌, ◌↔◌, inl, inr, List, Option, Some, None, IfSome, IsNone, IsSome, MatchOption, refl, sym, ap, subst}
+use Rattle.std.proofs.Common.{◌≡◌, ◌∙◌, ℕ, ◌<◌, ◌≤◌, ◌⊎◌, ◌↔◌, inl, inr, List, Option, Some, None, IfSome, IsNone, IsSome, refl, ap, subst}
 use Rattle.std.proofs.Common.{⊎_elim, arith}
 use Rattle.satip_base.specs.Streams.{Feed, Rose}
 use Rattle.satip_world.specs.Counts.{Rises}
@@ -54,6 +54,19 @@ ends_input JournalFault is = absurd (omega (arith, is))
 ends_input DoorsFault is = absurd (omega (arith, is))
 ends_input HistoryFull is = absurd (omega (arith, is))
 ends_input OutOfMemory is = absurd (omega (arith, is))
+
+pub ends_memory : (end : JournalEnd) → journal_status end ≡ 70 → end ≡ OutOfMemory
+ends_memory Served is = absurd (omega (arith, is))
+ends_memory (Configuration fault) is = absurd (omega (arith, is))
+ends_memory InputFault is = absurd (omega (arith, is))
+ends_memory JournalFault is = absurd (omega (arith, is))
+ends_memory DoorsFault is = absurd (omega (arith, is))
+ends_memory HistoryFull is = absurd (omega (arith, is))
+ends_memory OutOfMemory is = refl
+
+-- jobs that ran don't end by memory that is refused
+pub never_memory : {P : Type 0} (end : JournalEnd) → IsEndOfRun end → end ≡ OutOfMemory → P
+never_memory end ran is = absurd (subst (λ (e : JournalEnd). IsEndOfRun e) is ran)
 
 -- no job began with the kits
 unused_status : (before now : ℕ) (end : JournalEnd) → IsUnusedEnd before now end → (journal_status end ≡ 6) ⊎ (journal_status end ≡ 70)
@@ -228,18 +241,3 @@ left_from before mid now given last unused end same left =
 -- status 5 is neither 0 nor 9
 pub input_status : (status : ℕ) → status ≡ 5 → (status ≡ 0) ⊎ (status ≡ 9) → ⊥
 input_status status five is = ⊎_elim (λ (a : status ≡ 0). omega (arith, five, a)) (λ (b : status ≡ 9). omega (arith, five, b)) is
-
--- the second of two facts holds
-pub right_of : {T : Type 0} (P Q : T → Type 0) (x : Option T) → IfSome x Q → IfSome x (λ t. P t ⊎ Q t)
-right_of P Q None q = tt
-right_of P Q (Some t) q = inr q
-
-pub always : {T P : Type 0} (x : Option T) → P → IfSome x (λ _. P)
-always None p = tt
-always (Some t) p = p
-
--- where no journal was lacking and no job began there was no memory
-pub begun_of : {L : Type 0} (last : Option L) (before now : ℕ) (end : JournalEnd) → MatchOption last (end ≡ OutOfMemory) (λ _. IsEndOfRun end) → now ≡ before
-    → MatchOption last (IsUnusedEnd before now end) (λ _. IsEndOfRun end)
-begun_of None before now end begun same = let P : JournalEnd → Type 0 = λ e. IsUnusedEnd before now e in subst P (sym begun) same
-begun_of (Some l) before now end begun same = begun

@@ -1,5 +1,5 @@
 -- What the sinks of all jobs were sent, of callers side by side: before their jobs and after.
-use Rattle.std.proofs.Common.{◌≡◌, ℕ, ◌+◌, Bool, true, false, List, [], ◌∷◌, map, sym, ap, subst, inl, inr, ⊎_elim}
+use Rattle.std.proofs.Common.{◌≡◌, ℕ, ◌+◌, Bool, true, false, List, [], ◌∷◌, map, refl, sym, ap, subst, inl, inr, ⊎_elim}
 use Rattle.std.specs.Prelude.{◌==◌}
 use Rattle.satip_base.specs.Streams.{Drain}
 use Rattle.satip_base.specs.History.{kept_if, own_of}
@@ -21,13 +21,19 @@ use Rattle.satip_journal.specs.SinkGears.{AreOpen, AreLogged}
 use Rattle.satip_journal.proofs.OwnAtLast.{at_last}
 
 -- a journal by its cell, its pass and what it has beside
-abbrev pub kept_of : {X K : Type 0} → (K → Drain) → (X → Cell Setting) → (X → ServerPass) → (X → JournalGear K) → X → Kept
-kept_of drain cell pass gear x = kept (cell x) (pass x) (gear x).number (drain (gear x).sink) (gear x).failed
+abbrev pub kept_of : {X K : Type 0} → (K → ℕ) → (K → Drain) → (X → Cell Setting) → (X → ServerPass) → (X → JournalGear K) → X → Kept
+kept_of job drain cell pass gear x = kept (cell x) (pass x) (gear x).number (job (gear x).sink) (drain (gear x).sink) (gear x).failed
 
-module _ {X K : Type 0} (tells : Type 0) (drain : K → Drain) (cell : X → Cell Setting) (pass : X → ServerPass) (gear : X → JournalGear K)
+module _ {X K : Type 0} (tells : Type 0) (job_of : K → ℕ) (drain : K → Drain) (cell : X → Cell Setting) (pass : X → ServerPass) (gear : X → JournalGear K)
     (own : (x : X) → KnowsOwn (pass x)) (h : List Item) where
   abbrev Same : X → X → Type 0
-  Same x y = SameJournal tells (kept_of drain cell pass gear x) (kept_of drain cell pass gear y)
+  Same x y = SameJournal tells (kept_of job_of drain cell pass gear x) (kept_of job_of drain cell pass gear y)
+
+  pub jobs_same : (xs ys : List X) → Both Same xs ys → map (λ y. job_of (gear y).sink) ys ≡ map (λ x. job_of (gear x).sink) xs
+  jobs_same [] [] both = refl
+  jobs_same [] (y ∷ ys) both = absurd both
+  jobs_same (x ∷ xs) [] both = absurd both
+  jobs_same (x ∷ xs) (y ∷ ys) both = λ i. both.0.job i ∷ jobs_same xs ys both.1 i
 
   pub jobs_logged : (job : ℕ) (xs ys : List X) → Both Same xs ys → AreOpen job (map gear xs) → Each (λ x. (pass x).own ≡ []) xs
       → Each (λ y. Begins (pass y).seen h) ys → Each (λ y. own_of (pass y).number h ≡ (pass y).own) ys
@@ -36,7 +42,7 @@ module _ {X K : Type 0} (tells : Type 0) (drain : K → Drain) (cell : X → Cel
   jobs_logged job [] (y ∷ ys) both unfailed new begins all = absurd both
   jobs_logged job (x ∷ xs) [] both unfailed new begins all = absurd both
   jobs_logged job (x ∷ xs) (y ∷ ys) both unfailed new begins all =
-      let one = at_last tells (kept_of drain cell pass gear x) (kept_of drain cell pass gear y) h both.0 (own x) (own y) new.0 begins.0 all.0 in
+      let one = at_last tells (kept_of job_of drain cell pass gear x) (kept_of job_of drain cell pass gear y) h both.0 (own x) (own y) new.0 begins.0 all.0 in
       let P : ℕ → Bool → Type 0 =
       λ number failed. Logs tells (drain (gear x).sink) (drain (gear y).sink) failed (gear y).failed (journal_of number (pass y).number h) in
       let numbered : P job (gear x).failed = subst (λ (n : ℕ). P n (gear x).failed) unfailed.0 one.0 in
@@ -49,7 +55,7 @@ module _ {X K : Type 0} (tells : Type 0) (drain : K → Drain) (cell : X → Cel
   jobs_typed [] (y ∷ ys) both new begins all = absurd both
   jobs_typed (x ∷ xs) [] both new begins all = absurd both
   jobs_typed (x ∷ xs) (y ∷ ys) both new begins all =
-      let one = at_last tells (kept_of drain cell pass gear x) (kept_of drain cell pass gear y) h both.0 (own x) (own y) new.0 begins.0 all.0 in
+      let one = at_last tells (kept_of job_of drain cell pass gear x) (kept_of job_of drain cell pass gear y) h both.0 (own x) (own y) new.0 begins.0 all.0 in
       (one.1, jobs_typed xs ys both.1 new.1 begins.1 all.1)
 
 has_kept : (b : Bool) (e x : Item) (xs : List Item) → Has e xs → Has e (kept_if b x xs)

@@ -9,7 +9,8 @@ use Rattle.satip_journal.specs.Journals.{AreCallersOf, journals}
 use Rattle.satip_journal.specs.Typed.{IsTyped}
 use Rattle.satip_journal.proofs.OneHistory.{one_history}
 use Rattle.satip_journal.specs.Judged.{AreOneHistory}
-use Rattle.satip_journal.specs.Sent.{AreWhole, AreWritten}
+use Rattle.satip_journal.specs.Sent.{AreWhole, AreWritten, new_journals}
+use Rattle.satip_journal.proofs.Sending.{new_sent}
 
 whole_texts : (tells : Type 0) (before after : List Drain) (texts : List (List ℕ)) → tells → Each (λ d. d.sent ≡ []) before → AreWhole tells before after texts
     → map (λ d. d.sent) after ≡ texts
@@ -24,10 +25,11 @@ whole_texts tells (o ∷ os) (n ∷ ns) (t ∷ ts) told fresh whole =
     let here : n.sent ≡ t = whole.0.content told ∙ ap (λ (s : List ℕ). s ++ t) fresh.0 in
     λ i. here i ∷ whole_texts tells os ns ts told fresh.1 whole.1 i
 
-pub judged_yes : (tells : Type 0) (c : Setting) (h : List Item) (callers : List ℕ) (failed : Bool) (before after : List Drain) → Legal c h → Each IsTyped h
-    → AreCallersOf (0 ∷ callers) h → AreWritten tells failed before after (journals c.start 0 callers h) → failed ≡ false → AreOneHistory tells c h before after
-judged_yes tells c h callers failed before after legal typed are written unfailed told fresh texts permutation =
+pub judged_yes : (tells : Type 0) (c : Setting) (h : List Item) (callers : List ℕ) (failed : Bool) (drains : List Drain) → Legal c h → Each IsTyped h
+    → AreCallersOf (0 ∷ callers) h → AreWritten tells failed (new_journals drains) drains (journals c.start 0 callers h) → failed ≡ false
+    → AreOneHistory tells c h drains
+judged_yes tells c h callers failed drains legal typed are written unfailed told texts permutation =
     let all : List (List ℕ) = journals c.start 0 callers h in
-    let whole : AreWhole tells before after all = subst (λ (b : Bool). AreWritten tells b before after all) unfailed written in
+    let whole : AreWhole tells (new_journals drains) drains all = subst (λ (b : Bool). AreWritten tells b (new_journals drains) drains all) unfailed written in
     one_history c h 0 callers texts legal typed are
-    (subst (λ (l : List (List ℕ)). IsPermutation l texts) (whole_texts tells before after all told fresh whole) permutation)
+    (subst (λ (l : List (List ℕ)). IsPermutation l texts) (whole_texts tells (new_journals drains) drains all told (new_sent drains) whole) permutation)

@@ -45,11 +45,11 @@ typed_one n others e is none typed =
 
 -- an own entry was made, and its line was put unless a put had failed
 pub entered : (tells : Type 0) (k l : Kept) (place : ℕ) (event : Event) (answer : Answer) (out : Output) → SameCaller k.server k.pass l.server l.pass
-    → l.number ≡ k.number
+    → l.number ≡ k.number → l.job ≡ k.job
     → KnowsOwn k.pass → KnowsOwn l.pass → Turned k.pass l.pass (entry k.pass.number event answer out ∷ []) → place ≡ length l.pass.seen - 1
     → Logs tells k.drain l.drain k.failed l.failed (entry_line place k.number event answer out.reply out.datagrams)
     → IsTyped (entry k.pass.number event answer out) → SameJournal tells k l
-entered tells k l place event answer out same same_number before after turned at logs typed =
+entered tells k l place event answer out same same_number same_job before after turned at logs typed =
     let p = k.pass in let q = l.pass in
     let e : Item = entry p.number event answer out in
     let now : own_of p.number q.seen ≡ q.own = ap (λ (n : ℕ). own_of n q.seen) (sym same.pass.number) ∙ after in
@@ -64,6 +64,7 @@ entered tells k l place event answer out same same_number before after turned at
     record {
       caller = same;
       number = same_number;
+      job = same_job;
       more = turned.between ++ e ∷ [];
       seen = seen ∙ append_assoc p.seen turned.between (e ∷ []);
       logs = subst P line logs;
@@ -71,10 +72,10 @@ entered tells k l place event answer out same same_number before after turned at
     }
 
 -- no own entry was made, and nothing was put
-pub not_entered : (tells : Type 0) (k l : Kept) → SameCaller k.server k.pass l.server l.pass → l.number ≡ k.number → KnowsOwn k.pass → KnowsOwn l.pass
-    → Looked k.pass l.pass
+pub not_entered : (tells : Type 0) (k l : Kept) → SameCaller k.server k.pass l.server l.pass → l.number ≡ k.number → l.job ≡ k.job
+    → KnowsOwn k.pass → KnowsOwn l.pass → Looked k.pass l.pass
     → Logs tells k.drain l.drain k.failed l.failed [] → SameJournal tells k l
-not_entered tells k l same same_number before after looked logs =
+not_entered tells k l same same_number same_job before after looked logs =
     let p = k.pass in let q = l.pass in
     let now : own_of p.number q.seen ≡ q.own = ap (λ (n : ℕ). own_of n q.seen) (sym same.pass.number) ∙ after in
     let none = own_at_none (length p.seen) p.number looked.between (looked_between p q before now looked) in
@@ -82,6 +83,7 @@ not_entered tells k l same same_number before after looked logs =
     record {
       caller = same;
       number = same_number;
+      job = same_job;
       more = looked.between;
       seen = looked.seen ∙ looked.looked;
       logs = subst P (sym (ap (λ ps. lines_of k.number ps) none)) logs;

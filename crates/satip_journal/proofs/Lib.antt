@@ -17,3 +17,4 @@ pub mod Judging
 pub mod Sending
 pub mod CommandRuns
 pub mod Endings
+pub mod Seen

@@ -6,7 +6,7 @@ use Rattle.satip_base.specs.Streams.{Drain, FailedToPut, PutAll, Rose}
 use Rattle.satip_journal.specs.declared.crew.JournalGear.{JournalGear}
 use Rattle.satip_journal.specs.Journals.{journals}
 use Rattle.satip_journal.specs.Logs.{Logs}
-use Rattle.satip_journal.specs.SinkGears.{AreLogged, HasBegun, WentOn, has_failed, sinks_of}
+use Rattle.satip_journal.specs.SinkGears.{AreLogged, HasBegun, WentOn, has_failed, jobs_of, sinks_of}
 use Rattle.satip_journal.specs.Sent.{AreSent, AreWhole, AreWritten, HasRisen}
 
 one_of : (a b : Bool) → (a || b) ≡ true → (a ≡ true) ⊎ (b ≡ true)
@@ -71,12 +71,24 @@ drains_of : {K : Type 0} (drain : K → Drain) (gs : List (JournalGear K)) → m
 drains_of drain [] = refl
 drains_of {K} drain (g ∷ gs) = ap (λ (ds : List Drain). drain g.sink ∷ ds) (drains_of drain gs)
 
+jobs_given : {K : Type 0} (job : K → ℕ) (gs : List (JournalGear K)) → map job (sinks_of gs) ≡ jobs_of job gs
+jobs_given job [] = refl
+jobs_given job (g ∷ gs) = ap (λ (js : List ℕ). job g.sink ∷ js) (jobs_given job gs)
+
+-- the sinks come back in the order of their jobs
+pub jobs_back : {K : Type 0} (tells : Type 0) (job : K → ℕ) (drain : K → Drain) (start : ℕ) (sinks back : List K) (o n : JournalGear K)
+    (os ns : List (JournalGear K)) → HasBegun tells job drain start sinks o os → jobs_of job (n ∷ ns) ≡ jobs_of job (o ∷ os) → back ≡ sinks_of (n ∷ ns)
+    → map job back ≡ map job sinks
+jobs_back {K} tells job drain start sinks back o n os ns begun kept came =
+    let first : jobs_of job (o ∷ os) ≡ map job (begun.bare ∷ sinks_of os) = λ i. begun.same_job i ∷ sym (jobs_given job os) i in
+    ap (λ (l : List K). map job l) came ∙ jobs_given job (n ∷ ns) ∙ kept ∙ first ∙ sym (ap (λ (l : List K). map job l) begun.sinks_are)
+
 -- from sinks before their jobs to the same sinks after them
-pub journals_written : {K : Type 0} (tells : Type 0) (drain : K → Drain) (start begin : ℕ) (sinks back : List K) (o n : JournalGear K)
-    (os ns : List (JournalGear K)) (callers : List ℕ) (h : List Item) (failed : Bool) → HasBegun tells drain start sinks o os
+pub journals_written : {K : Type 0} (tells : Type 0) (job : K → ℕ) (drain : K → Drain) (start begin : ℕ) (sinks back : List K) (o n : JournalGear K)
+    (os ns : List (JournalGear K)) (callers : List ℕ) (h : List Item) (failed : Bool) → HasBegun tells job drain start sinks o os
     → WentOn tells drain o os n ns callers h → back ≡ sinks_of (n ∷ ns) → failed ≡ has_failed (n ∷ ns) → begin ≡ start
     → AreWritten tells failed (map drain sinks) (map drain back) (journals begin 0 callers h)
-journals_written {K} tells drain start begin sinks back o n os ns callers h failed begun went came failed_is same =
+journals_written {K} tells job drain start begin sinks back o n os ns callers h failed begun went came failed_is same =
     let texts = journals start 0 callers h in
     let before : List Drain = drain begun.bare ∷ map (λ (g : JournalGear K). drain g.sink) os in
     let logged = went start (drain begun.bare) begun.are_open begun.number begun.started in

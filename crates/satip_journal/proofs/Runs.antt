@@ -21,18 +21,18 @@ use Rattle.satip_jobs.specs.Crewed.{RunDid}
 use Rattle.satip_jobs.specs.Passes.{CallerOf, callers_of}
 use Rattle.satip_jobs.specs.Works.{IsSameSeat}
 use Rattle.satip_jobs.proofs.Beside.{both_length}
-use Rattle.satip_jobs.proofs.WholeRuns.{from_stop, pumps_begin, run_over, ticker_begins, workers_begin}
+use Rattle.satip_jobs.proofs.WholeRuns.{all_covered, from_stop, pumps_begin, ticker_begins, workers_begin}
 use Rattle.satip_shared.specs.Calling.{ServerPass}
 use Rattle.satip_serve.specs.Services.{IsFirst}
 use Rattle.satip_journal.specs.declared.crew.JournalGear.{JournalGear}
-use Rattle.satip_journal.specs.Continuing.{logs_then}
+use Rattle.satip_journal.specs.Continuing.{logs_then, sink_state}
 use Rattle.satip_journal.specs.Journals.{AreCallersOf, journal_of, journals_from}
 use Rattle.satip_journal.specs.Keeping.{SameJournal}
 use Rattle.satip_journal.specs.Logs.{Logs}
 use Rattle.satip_journal.specs.Owning.{KnowsOwn}
 use Rattle.satip_journal.specs.Typed.{IsTyped}
-use Rattle.satip_journal.specs.SinkGears.{AreOpen, AreLogged, WentOn}
-use Rattle.satip_journal.proofs.Jobs.{all_typed, jobs_logged, jobs_typed, kept_of}
+use Rattle.satip_journal.specs.SinkGears.{AreOpen, AreLogged, WentOn, jobs_of}
+use Rattle.satip_journal.proofs.Jobs.{all_typed, jobs_logged, jobs_same, jobs_typed, kept_of}
 use Rattle.satip_journal.proofs.OwnAtLast.{at_last}
 
 -- ---- callers at their seats
@@ -68,10 +68,10 @@ each_of P f (x ∷ xs) each = (each.0, each_of P f xs each.1)
 module _ {X K W L P M T N : Type 0} {cell : X → Cell Setting} {pass : X → ServerPass} {gear : X → JournalGear K} {legal : Setting → List Item → Type 0}
     {is_stop : Item → Type 0} {goes_on : X → X → Type 0} {worked : Seat X W L → Seat X W L → Type 0} {pumped : Seat X P M → Seat X P M → Type 0}
     {ticked : Seat X T N → Seat X T N → Type 0} {o : X} {before : Posts W P T (JournalGear K)} {n : X} {after : Posts W P T (JournalGear K)} {end : ServeEnd}
-    (run : RunDid cell pass gear legal is_stop goes_on worked pumped ticked o before n after end) (tells : Type 0) (drain : K → Drain)
+    (run : RunDid cell pass gear legal is_stop goes_on worked pumped ticked o before n after end) (tells : Type 0) (job : K → ℕ) (drain : K → Drain)
     (own : (x : X) → KnowsOwn (pass x)) where
   abbrev Same : X → X → Type 0
-  Same x y = SameJournal tells (kept_of drain cell pass gear x) (kept_of drain cell pass gear y)
+  Same x y = SameJournal tells (kept_of job drain cell pass gear x) (kept_of job drain cell pass gear y)
 
   -- the same journal at its seat
   abbrev Still : {KK MM : Type 0} → Seat X KK MM → Seat X KK MM → Type 0
@@ -83,9 +83,7 @@ module _ {X K W L P M T N : Type 0} {cell : X → Cell Setting} {pass : X → Se
   -- callers before their jobs and after
   module _ (went_on : (x y : X) → goes_on x y → Same x y) (works : (s t : Seat X W L) → worked s t → Still s t)
       (pumps : (s t : Seat X P M) → pumped s t → Still s t) (ticks : (s t : Seat X T N) → ticked s t → Still s t)
-      (knows : Knows (legal (cell o).setting) (pass n)) (first : IsFirst (pass o))
-      (worker_count : length before.workers.items ≡ (cell o).setting.config.workers)
-      (pump_count : length before.pumps.items ≡ length (cell o).setting.config.fronts) where
+      (knows : Knows (legal (cell o).setting) (pass n)) (first : IsFirst (pass o)) where
     abbrev h : List Item
     h = (pass n).seen
 
@@ -196,7 +194,7 @@ module _ {X K W L P M T N : Type 0} {cell : X → Cell Setting} {pass : X → Se
         × Each IsTyped (own_of 0 h)
     root =
         let went = went_on run.front.joined run.stopped run.front.went_on in
-        let one = at_last tells (kept_of drain cell pass gear run.front.joined) (kept_of drain cell pass gear run.stopped) h went
+        let one = at_last tells (kept_of job drain cell pass gear run.front.joined) (kept_of job drain cell pass gear run.stopped) h went
         (own run.front.joined) (own run.stopped) (run.front.joins.own ∙ run.own ∙ first.own)
         (from_stop cell pass gear legal is_stop goes_on worked pumped ticked o before n after end run) stopped_own in
         let from : gear run.front.joined ≡ gear o = run.front.joined_gear ∙ run.begun_gear in
@@ -209,19 +207,10 @@ module _ {X K W L P M T N : Type 0} {cell : X → Cell Setting} {pass : X → Se
         subst (λ (i : ℕ). Q (gear o) (gear n) i) stopped_is last_gear
 
     -- ---- all together
-    any_of : {S : Type 0} (xs : List S) → Each (λ x. Unit {0}) xs
-    any_of [] = tt
-    any_of (x ∷ xs) = (tt, any_of xs)
-
     covered : Each (λ e. Has e.caller (0 ∷ numbers_of (pass n).kept)) h
     covered =
-        let whole = run_over cell pass gear legal is_stop goes_on worked pumped ticked o before n after end run
-        {W' = Unit {0}} {P' = Unit {0}} {T' = Unit {0}} (λ s. tt) (λ s. tt) (λ s. tt) (λ s. Unit {0}) (λ s. Unit {0}) (λ s. Unit {0})
-        (λ i v r. Unit {0}) (λ i v r. Unit {0}) (λ v r. Unit {0}) (λ s t did fresh none full. tt) (λ s t did fresh none full. tt)
-        (λ s t did fresh none full. tt) (λ s t did. seat_is s t (works s t did)) (λ s t did. seat_is s t (pumps s t did))
-        (λ s t did. seat_is s t (ticks s t did)) first.number first.own first.kept first.made knows (any_of run.first) (any_of run.second) tt
-        worker_count pump_count in
-        whole.covered
+        all_covered cell pass gear legal is_stop goes_on worked pumped ticked o before n after end run (λ s t did. seat_is s t (works s t did))
+        (λ s t did. seat_is s t (pumps s t did)) (λ s t did. seat_is s t (ticks s t did)) first.number first.kept first.made knows
 
     pub worker_gears : length after.worker_gears.items ≡ length before.worker_gears.items
     worker_gears =
@@ -237,9 +226,28 @@ module _ {X K W L P M T N : Type 0} {cell : X → Cell Setting} {pass : X → Se
 
     pub all_are_typed : Each IsTyped h
     all_are_typed =
-        let jobs = jobs_typed tells drain cell pass gear own h began ended same_jobs new_jobs all_begin all_own in
+        let jobs = jobs_typed tells job drain cell pass gear own h began ended same_jobs new_jobs all_begin all_own in
         all_typed (0 ∷ numbers_of (pass n).kept) h
         (root.1, subst (λ (ms : List ℕ). Each (λ (m : ℕ). Each IsTyped (own_of m h)) ms) numbers jobs) covered
+
+    jobs_at : (xs : List X) → map (λ x. job (gear x).sink) xs ≡ jobs_of job (map gear xs)
+    jobs_at [] = refl
+    jobs_at (x ∷ xs) = ap (λ (js : List ℕ). job (gear x).sink ∷ js) (jobs_at xs)
+
+    root_job : job (gear n).sink ≡ job (gear o).sink
+    root_job =
+        let went = went_on run.front.joined run.stopped run.front.went_on in
+        let from : gear run.front.joined ≡ gear o = run.front.joined_gear ∙ run.begun_gear in
+        ap (λ (g : JournalGear K). job g.sink) run.gear_is ∙ went.job ∙ ap (λ (g : JournalGear K). job g.sink) from
+
+    -- the sinks come back in the order of their jobs
+    pub jobs_kept : jobs_of job (gear n ∷ came_back) ≡ jobs_of job (gear o ∷ given)
+    jobs_kept =
+        let others : jobs_of job came_back ≡ jobs_of job given =
+        ap (λ (gs : List (JournalGear K)). jobs_of job gs) (sym back_is) ∙ sym (jobs_at ended)
+        ∙ jobs_same tells job drain cell pass gear own h began ended same_jobs ∙ jobs_at began
+        ∙ ap (λ (gs : List (JournalGear K)). jobs_of job gs) given_is in
+        λ i. root_job i ∷ others i
 
     pub callers_are : 1 + length given ≤ 2 ^ 64 → AreCallersOf (0 ∷ numbers_of (pass n).kept) h
     callers_are few =
@@ -257,7 +265,7 @@ module _ {X K W L P M T N : Type 0} {cell : X → Cell Setting} {pass : X → Se
 
     pub all_logged : WentOn tells drain (gear o) given (gear n) came_back (numbers_of (pass n).kept) h
     all_logged start bare unfailed number begun =
-        let jobs = jobs_logged tells drain cell pass gear own h 1 began ended same_jobs
+        let jobs = jobs_logged tells job drain cell pass gear own h 1 began ended same_jobs
         (subst (λ (gs : List (JournalGear K)). AreOpen 1 gs) (sym given_is) unfailed) new_jobs all_begin all_own in
         let drains_are : map (λ x. drain (gear x).sink) began ≡ map (λ (g : JournalGear K). drain g.sink) given =
         map_map began ∙ ap (λ (gs : List (JournalGear K)). map (λ (g : JournalGear K). drain g.sink) gs) given_is in
@@ -269,8 +277,8 @@ module _ {X K W L P M T N : Type 0} {cell : X → Cell Setting} {pass : X → Se
         let three = subst (λ (ms : List ℕ). Q (map (λ (g : JournalGear K). drain g.sink) given) came_back ms) numbers two in
         let mine = subst (λ (i : ℕ). Logs tells (drain (gear o).sink) (drain (gear n).sink) (gear o).failed (gear n).failed (journal_of i 0 h))
         number root.0 in
-        let both = logs_then tells bare (drain (gear o).sink) (drain (gear n).sink) false (gear o).failed (gear n).failed (start_line start)
-        (journal_of 0 0 h) begun mine in
+        let both = logs_then tells (sink_state bare false) (sink_state (drain (gear o).sink) (gear o).failed)
+        (sink_state (drain (gear n).sink) (gear n).failed) (start_line start) (journal_of 0 0 h) begun mine in
         (both, three)
       where
         map_map : (xs : List X) → map (λ x. drain (gear x).sink) xs ≡ map (λ (g : JournalGear K). drain g.sink) (map gear xs)

@@ -2,9 +2,9 @@
 use Rattle.std.proofs.Common.{◌≡◌, ℕ, inl, Bool, true, false, List, [], ◌∷◌, length, map, refl, ap, arith}
 use Rattle.satip_base.specs.Streams.{Drain, fresh_drain}
 use Rattle.satip_base.specs.Lists.{Each}
-use Rattle.satip_base.proofs.Elements.{each_follows}
-use Rattle.satip_journal.specs.Sent.{AreSent, AreWhole, AreWritten}
-use Rattle.satip_journal.specs.Ran.{new_journals}
+use Rattle.satip_journal.specs.Sent.{AreSent, AreWhole, AreWritten, new_journals}
+use Rattle.satip_desk.specs.Journals.{JournalView, journals_view}
+use Rattle.satip_journal.specs.Asked.{drains_of}
 
 -- each element is so where its image is
 pub each_map : {A B : Type 0} (f : A → B) (P : B → Type 0) (xs : List A) → Each (λ x. P (f x)) xs → Each P (map f xs)
@@ -14,6 +14,16 @@ each_map f P (x ∷ xs) each = (each.0, each_map f P xs each.1)
 pub length_map : {A B : Type 0} (f : A → B) (xs : List A) → length (map f xs) ≡ length xs
 length_map f [] = refl
 length_map f (x ∷ xs) = omega (arith, length_map f xs)
+
+-- the drains and the jobs of journals that contracts see
+pub drains_viewed : {K : Type 0} (job : K → ℕ) (drain : K → Drain) (xs : List K) → drains_of (journals_view job drain xs) ≡ map drain xs
+drains_viewed job drain [] = refl
+drains_viewed job drain (x ∷ xs) = ap (λ (ds : List Drain). drain x ∷ ds) (drains_viewed job drain xs)
+
+pub jobs_viewed : {K : Type 0} (job : K → ℕ) (drain : K → Drain) (xs : List K)
+    → map (λ (j : JournalView). j.job) (journals_view job drain xs) ≡ map job xs
+jobs_viewed job drain [] = refl
+jobs_viewed job drain (x ∷ xs) = ap (λ (ns : List ℕ). job x ∷ ns) (jobs_viewed job drain xs)
 
 -- whole journals were sent
 pub whole_sent : (tells : Type 0) (os ns : List Drain) (texts : List (List ℕ)) → AreWhole tells os ns texts → AreSent tells os ns texts
@@ -31,17 +41,6 @@ pub written_sent : (tells : Type 0) (failed : Bool) (os ns : List Drain) (texts 
 written_sent tells false os ns texts written = whole_sent tells os ns texts written
 written_sent tells true os ns texts written = written.0
 
--- there are as many journals as before
-pub as_many : (tells : Type 0) (os ns : List Drain) (texts : List (List ℕ)) → AreSent tells os ns texts → length ns ≡ length os
-as_many tells [] [] [] sent = refl
-as_many tells [] [] (t ∷ ts) sent = absurd sent
-as_many tells [] (n ∷ ns) [] sent = absurd sent
-as_many tells [] (n ∷ ns) (t ∷ ts) sent = absurd sent
-as_many tells (o ∷ os) [] [] sent = absurd sent
-as_many tells (o ∷ os) [] (t ∷ ts) sent = absurd sent
-as_many tells (o ∷ os) (n ∷ ns) [] sent = absurd sent
-as_many tells (o ∷ os) (n ∷ ns) (t ∷ ts) sent = omega (arith, as_many tells os ns ts sent.1)
-
 -- they had nothing before
 pub were_new : (tells : Type 0) (os ns : List Drain) (texts : List (List ℕ)) → Each (λ d. d ≡ fresh_drain) os → AreSent tells os ns texts → os ≡ new_journals ns
 were_new tells [] [] [] new sent = refl
@@ -54,5 +53,6 @@ were_new tells (o ∷ os) (n ∷ ns) [] new sent = absurd sent
 were_new tells (o ∷ os) (n ∷ ns) (t ∷ ts) new sent = λ i. new.0 i ∷ were_new tells os ns ts new.1 sent.1 i
 
 -- nothing was sent to new journals
-pub new_sent : (ds : List Drain) → Each (λ d. d ≡ fresh_drain) ds → Each (λ d. d.sent ≡ []) ds
-new_sent ds new = each_follows (λ d. d ≡ fresh_drain) (λ d. d.sent ≡ []) (λ d is. ap (λ (e : Drain). e.sent) is) ds new
+pub new_sent : (ds : List Drain) → Each (λ d. d.sent ≡ []) (new_journals ds)
+new_sent [] = tt
+new_sent (d ∷ ds) = (refl, new_sent ds)

@@ -26,9 +26,9 @@ own_at-append place n (e ∷ es) k =
     ∙ ap (λ p. own_at place n (e ∷ es) ++ own_at p n k) later
 
 -- the lines of entries and of those after them
-pub lines_then : (job later_job place later_place n later_n : ℕ) (h k : List Item) → later_job ≡ job → later_place ≡ place + length h → later_n ≡ n
+pub lines_then : {job later_job later_place n later_n : ℕ} (place : ℕ) (h k : List Item) → later_job ≡ job → later_place ≡ place + length h → later_n ≡ n
     → lines_of job (own_at place n h) ++ lines_of later_job (own_at later_place later_n k) ≡ lines_of job (own_at place n (h ++ k))
-lines_then job later_job place later_place n later_n h k same_job behind same_n =
+lines_then {job} {later_job} {later_place} {n} {later_n} place h k same_job behind same_n =
     let moved : lines_of later_job (own_at later_place later_n k) ≡ lines_of job (own_at (place + length h) n k) = λ i. lines_of (same_job i) (own_at (behind i) (same_n i) k) in
     ap (λ (t : List ℕ). lines_of job (own_at place n h) ++ t) moved
     ∙ sym (ap (λ (ps : List Placed). lines_of job ps) (own_at-append place n h k) ∙ flat_map-append (line_of job) (own_at place n h) (own_at (place + length h) n k))
@@ -38,42 +38,54 @@ pub logs_none : (tells : Type 0) (o : Drain) (failed : Bool) → Logs tells o o 
 logs_none tells o false = record { faults = refl; content = λ told. sym (append-nil o.sent) }
 logs_none tells o true = refl
 
+-- a sink at a moment: its drain, and whether a put had failed
+pub record SinkState : Type 0 where
+  pub drain : Drain
+  pub failed : Bool
+
+abbrev pub sink_state : Drain → Bool → SinkState
+sink_state drain failed = record { drain = drain; failed = failed }
+
 -- a text and one after it
-pub logs_then : (tells : Type 0) (o m n : Drain) (a b c : Bool) (s t : List ℕ) → Logs tells o m a b s → Logs tells m n b c t → Logs tells o n a c (s ++ t)
-logs_then tells o m n false false false s t x y = record {
-  faults = y.faults ∙ x.faults;
-  content = λ told. y.content told ∙ ap (λ (u : List ℕ). u ++ t) (x.content told) ∙ append_assoc o.sent s t;
-}
-logs_then tells o m n false false true s t x y =
-    let R : ℕ → Type 0 = λ f. Rose f n.faults in
-    record {
-      faults = subst R x.faults y.faults;
-      content = λ told.
-          let began = y.content told in
-          record {
-            part = s ++ began.part;
-            rest = began.rest;
-            whole = ap (λ (u : List ℕ). s ++ u) began.whole ∙ sym (append_assoc s began.part began.rest);
-            sent = began.sent ∙ ap (λ (u : List ℕ). u ++ began.part) (x.content told) ∙ append_assoc o.sent s began.part;
-          };
+pub logs_then : (tells : Type 0) (o m n : SinkState) (s t : List ℕ) → Logs tells o.drain m.drain o.failed m.failed s
+    → Logs tells m.drain n.drain m.failed n.failed t → Logs tells o.drain n.drain o.failed n.failed (s ++ t)
+logs_then tells o m n s t first second = then o.failed m.failed n.failed first second
+  where
+    then : (a b c : Bool) → Logs tells o.drain m.drain a b s → Logs tells m.drain n.drain b c t → Logs tells o.drain n.drain a c (s ++ t)
+    then false false false x y = record {
+      faults = y.faults ∙ x.faults;
+      content = λ told. y.content told ∙ ap (λ (u : List ℕ). u ++ t) (x.content told) ∙ append_assoc o.drain.sent s t;
     }
-logs_then tells o m n false true true s t x y =
-    let P : Drain → Type 0 = λ d. FailedToPut tells o d (s ++ t) in
-    subst P (sym y) (record {
-      faults = x.faults;
-      content = λ told.
-          let began = x.content told in
-          record {
-            part = began.part;
-            rest = began.rest ++ t;
-            whole = ap (λ (u : List ℕ). u ++ t) began.whole ∙ append_assoc began.part began.rest t;
-            sent = began.sent;
-          };
-    })
-logs_then tells o m n true true true s t x y = y ∙ x
-logs_then tells o m n false true false s t x y = absurd y
-logs_then tells o m n true true false s t x y = absurd y
-logs_then tells o m n true false c s t x y = absurd x
+    then false false true x y =
+        let R : ℕ → Type 0 = λ f. Rose f n.drain.faults in
+        record {
+          faults = subst R x.faults y.faults;
+          content = λ told.
+              let began = y.content told in
+              record {
+                part = s ++ began.part;
+                rest = began.rest;
+                whole = ap (λ (u : List ℕ). s ++ u) began.whole ∙ sym (append_assoc s began.part began.rest);
+                sent = began.sent ∙ ap (λ (u : List ℕ). u ++ began.part) (x.content told) ∙ append_assoc o.drain.sent s began.part;
+              };
+        }
+    then false true true x y =
+        let P : Drain → Type 0 = λ d. FailedToPut tells o.drain d (s ++ t) in
+        subst P (sym y) (record {
+          faults = x.faults;
+          content = λ told.
+              let began = x.content told in
+              record {
+                part = began.part;
+                rest = began.rest ++ t;
+                whole = ap (λ (u : List ℕ). u ++ t) began.whole ∙ append_assoc began.part began.rest t;
+                sent = began.sent;
+              };
+        })
+    then true true true x y = y ∙ x
+    then false true false x y = absurd y
+    then true true false x y = absurd y
+    then true false c x y = absurd x
 
 typed_then : (n later_n : ℕ) (h k : List Item) → later_n ≡ n → Each IsTyped (own_of n h) → Each IsTyped (own_of later_n k) → Each IsTyped (own_of n (h ++ k))
 typed_then n later_n h k same x y =
@@ -84,6 +96,7 @@ pub same_journal : (tells : Type 0) (k : Kept) → SameJournal tells k k
 same_journal tells k = record {
   caller = same_caller k.server k.pass;
   number = refl;
+  job = refl;
   more = [];
   seen = sym (append-nil k.pass.seen);
   logs = logs_none tells k.drain k.failed;
@@ -99,10 +112,11 @@ same_journal_then tells k l m a b =
     record {
       caller = same_caller_then k.server k.pass l.server l.pass m.server m.pass a.caller b.caller;
       number = b.number ∙ a.number;
+      job = b.job ∙ a.job;
       more = a.more ++ b.more;
       seen = b.seen ∙ ap (λ (h : List Item). h ++ b.more) a.seen ∙ append_assoc k.pass.seen a.more b.more;
       logs = subst P
-          (lines_then k.number l.number (length k.pass.seen) (length l.pass.seen) k.pass.number l.pass.number a.more b.more a.number behind a.caller.pass.number)
-          (logs_then tells k.drain l.drain m.drain k.failed l.failed m.failed first second a.logs b.logs);
+          (lines_then (length k.pass.seen) a.more b.more a.number behind a.caller.pass.number)
+          (logs_then tells (sink_state k.drain k.failed) (sink_state l.drain l.failed) (sink_state m.drain m.failed) first second a.logs b.logs);
       typed = typed_then k.pass.number l.pass.number a.more b.more a.caller.pass.number a.typed b.typed;
     }

@@ -1,27 +1,22 @@
 -- Jobs that served and wrote journals.
 use Rattle.std.specs.Prelude.{if◌then◌else◌, ◌≡◌, ◌==◌, ℕ, List, map, length, flat_map}
 use Rattle.std.specs.List.Sorted.{IsPermutation}
-use Rattle.satip_base.specs.Streams.{Drain, fresh_drain}
 use Rattle.satip_turn.specs.Views.{numbers_of}
 use Rattle.satip_audit.specs.declared.verdicts.Verdict.TheVariants.{Yes}
 use Rattle.satip_audit.specs.Replaying.{IsJudged}
-use Rattle.satip_journal.specs.Journals.{journals}
-use Rattle.satip_journal.specs.Sent.{AreSent, AreWhole, HasRisen}
-use Rattle.satip_desk.specs.declared.kits.Jobs.{Jobs}
-use Rattle.satip_serve.specs.declared.all_jobs.Last.{Last}
+use Rattle.satip_journal.specs.Asked.{drains_of}
+use Rattle.satip_journal.specs.Journals.{journals as journals_of}
+use Rattle.satip_journal.specs.Sent.{AreSent, AreWhole, HasRisen, new_journals}
 use Rattle.satip_desk.specs.Views.{JobsView}
-use Rattle.satip_serve.specs.CommandRan.{ServingRun}
-
--- that many journals, all empty
-abbrev pub new_journals : List Drain → List Drain
-new_journals drains = map (λ _. fresh_drain) drains
+use Rattle.satip_desk.specs.Journals.{JournalView}
+use Rattle.satip_serve.specs.CommandRan.{LastView, ServingRun}
 
 -- the journals of all jobs that the jobs left, as texts: the lines of each job's entries, in order, with those of job 0 after the start line
-abbrev pub journals_left : {D O P M C : Type 0} → Last D O P M C → List (List ℕ)
-journals_left l = journals l.server.setting.start 0 (numbers_of l.pass.kept) l.pass.seen
+abbrev pub journals_left : LastView → List (List ℕ)
+journals_left l = journals_of l.server.setting.start 0 (numbers_of l.pass.kept) l.pass.seen
 
 -- put together in any order, these texts are judged `yes` with the length of the history
-abbrev pub AreJudgedYes : {D O P M C : Type 0} → Last D O P M C → List (List ℕ) → Type 0
+abbrev pub AreJudgedYes : LastView → List (List ℕ) → Type 0
 AreJudgedYes l texts = (shuffled : List (List ℕ)) → IsPermutation texts shuffled
     → IsJudged l.server.setting.config (flat_map (λ text. text) shuffled) (Yes (length l.pass.seen))
 
@@ -29,14 +24,14 @@ AreJudgedYes l texts = (shuffled : List (List ℕ)) → IsPermutation texts shuf
 abbrev pub status_of_jobs : ℕ → ℕ
 status_of_jobs status = if status == 6 then 0 else status
 
--- jobs ran with these kits; `l` is what they left, and `drains` are the journals in the order of jobs
-pub record JournalRun {D O P M C : Type 0} (conn_tells outlet_tells journal_tells : Type 0) (accepts : ℕ) (view : Jobs D O P M C → JobsView)
-    (given : JobsView) (l : Last D O P M C) (drains : List Drain) (status : ℕ) : Type 0 where
+-- jobs ran with these kits; `l` is what they left, and `journals` are their journals, in the order of jobs
+pub record JournalRun (conn_tells outlet_tells journal_tells : Type 0) (accepts : ℕ) (given : JobsView) (l : LastView) (journals : List JournalView)
+    (status : ℕ) : Type 0 where
   -- as in a serve
-  pub serves : ServingRun conn_tells outlet_tells accepts view given l (status_of_jobs status)
+  pub serves : ServingRun conn_tells outlet_tells accepts given l (status_of_jobs status)
   -- each journal was sent its job's lines, or a prefix of them and its fault count rose
-  pub sent : AreSent journal_tells (new_journals drains) drains (journals_left l)
+  pub sent : AreSent journal_tells (new_journals (drains_of journals)) (drains_of journals) (journals_left l)
   -- with 0 the journals are whole, and are judged `yes` if they expose their bytes; with 6 the fault count of one of them rose
-  pub whole : status ≡ 0 → AreWhole journal_tells (new_journals drains) drains (journals_left l)
-  pub judged : status ≡ 0 → journal_tells → AreJudgedYes l (map (λ d. d.sent) drains)
-  pub journal_fault : status ≡ 6 → HasRisen (new_journals drains) drains
+  pub whole : status ≡ 0 → AreWhole journal_tells (new_journals (drains_of journals)) (drains_of journals) (journals_left l)
+  pub judged : status ≡ 0 → journal_tells → AreJudgedYes l (map (λ d. d.sent) (drains_of journals))
+  pub journal_fault : status ≡ 6 → HasRisen (new_journals (drains_of journals)) (drains_of journals)

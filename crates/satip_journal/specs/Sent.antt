@@ -1,6 +1,10 @@
 -- The bytes that the sinks of journals were sent.
-use Rattle.std.specs.Prelude.{ℕ, ◌⊎◌, Bool, true, false, List, [], ◌∷◌}
-use Rattle.satip_base.specs.Streams.{Drain, FailedToPut, PutAll, Rose}
+use Rattle.std.specs.Prelude.{ℕ, ◌⊎◌, Bool, true, false, List, [], ◌∷◌, map}
+use Rattle.satip_base.specs.Streams.{Drain, FailedToPut, PutAll, Rose, fresh_drain}
+
+-- that many journals, all empty
+abbrev pub new_journals : List Drain → List Drain
+new_journals drains = map (λ _. fresh_drain) drains
 
 -- each sink was sent its journal, and its fault count is unchanged
 abbrev pub AreWhole : (tells : Type 0) (before after : List Drain) (texts : List (List ℕ)) → Type 0

@@ -22,15 +22,21 @@ has_failed (g ∷ gs) = g.failed || has_failed gs
 abbrev pub sinks_of : {K : Type 0} → List (JournalGear K) → List K
 sinks_of gs = map (λ g. g.sink) gs
 
+-- the jobs of these sinks
+abbrev pub jobs_of : {K : Type 0} → (K → ℕ) → List (JournalGear K) → List ℕ
+jobs_of job gs = map (λ g. job g.sink) gs
+
 -- those of workers, pumps and the ticker, in the order of jobs
 abbrev pub others_of : {K : Type 0} → Gears K → List (JournalGear K)
 others_of gears = gears.workers.items ++ (gears.pumps.items ++ gears.ticker ∷ [])
 
 -- the journals have these sinks, in order, and the first one's was sent the start line
-pub record HasBegun {K : Type 0} (tells : Type 0) (drain : K → Drain) (start : ℕ) (sinks : List K) (root : JournalGear K) (others : List (JournalGear K)) : Type 0 where
+pub record HasBegun {K : Type 0} (tells : Type 0) (job : K → ℕ) (drain : K → Drain) (start : ℕ) (sinks : List K) (root : JournalGear K)
+    (others : List (JournalGear K)) : Type 0 where
   pub bare : K
   pub sinks_are : sinks ≡ bare ∷ sinks_of others
   pub number : root.number ≡ 0
+  pub same_job : job root.sink ≡ job bare
   pub started : Logs tells (drain bare) (drain root.sink) false root.failed (start_line start)
   pub are_open : AreOpen 1 others
 

@@ -1,6 +1,6 @@
 //! Asks a desk for journals.
 
-ghost use Rattle.std.specs.Prelude.{◌≡◌, ◌++◌, ◌≤◌, [], length, vec_capacity, IsTrue, MatchBool};
+ghost use Rattle.std.specs.Prelude.{◌≡◌, ◌++◌, ◌≤◌, [], length, map, vec_capacity, IsTrue, MatchBool};
 ghost use Rattle.satip_base.specs.Streams.{fresh_drain};
 ghost use Rattle.satip_base.specs.Lists.{Each};
 ghost use Rattle.satip_world.specs.Counts.{Rises};
@@ -18,15 +18,17 @@ pub(crate) fn ask_journals<K: Desk>(
 ) -> bool
     requires none { journals.old.items ≡ [] }
     requires space { count ≤ vec_capacity journals.old }
-    ensures texts { K.text desk.new ≡ K.text desk.old }
-    ensures kits { K.given desk.new ≡ K.given desk.old }
-    ensures handed { K.handed desk.new ≡ K.handed desk.old }
-    ensures journaled { K.journaled desk.new
-        ≡ K.journaled desk.old ++ first_jobs (length journals.new.items) }
+    ensures texts { (K.desk desk.new).text ≡ (K.desk desk.old).text }
+    ensures kits { (K.desk desk.new).given ≡ (K.desk desk.old).given }
+    ensures handed { (K.desk desk.new).handed ≡ (K.desk desk.old).handed }
+    ensures journaled { (K.desk desk.new).journaled
+        ≡ (K.desk desk.old).journaled ++ first_jobs (length journals.new.items) }
+    ensures jobs { map K.Journal.job journals.new.items
+        ≡ first_jobs (length journals.new.items) }
     ensures fresh { Each (λ j. K.Journal.drain j ≡ fresh_drain) journals.new.items }
     ensures all { IsTrue result → length journals.new.items ≡ count }
-    ensures faults { MatchBool result (K.faults desk.new ≡ K.faults desk.old)
-        (Rises (K.faults desk.old) (K.faults desk.new)) }
+    ensures faults { MatchBool result ((K.desk desk.new).faults ≡ (K.desk desk.old).faults)
+        (Rises (K.desk desk.old).faults (K.desk desk.new).faults) }
 {
     'jobs: while journals.len() < count {
         match desk.journal(journals.len() as u64) {

@@ -1,7 +1,7 @@
 //! `journal`: reads a configuration, asks the desk for the kits and the journals of all jobs, and
 //! serves.
 
-ghost use Rattle.std.specs.Prelude.{◌≡◌, ℕ, ◌⊎◌, ◌+◌, ◌≤◌, ◌++◌, List, Some, None, length, map, IfSome, IsNone, IsSomeAnd, MatchOption};
+ghost use Rattle.std.specs.Prelude.{◌≡◌, ℕ, ◌⊎◌, ◌+◌, ◌≤◌, [], ◌++◌, List, Some, None, length, map, IfSome, IsNone, IsSomeAnd, MatchOption};
 ghost use Rattle.satip_base.specs.Streams.{Rose, fresh_drain};
 ghost use Rattle.satip_config.specs.declared.fault.ConfigFault.{ConfigFault as Fault};
 ghost use Rattle.satip_fronts.specs.FrontEnds.{IsNumbered};
@@ -9,24 +9,24 @@ ghost use Rattle.satip_base.specs.Lists.{Each};
 ghost use Rattle.satip_config.specs.Configurations.{configuration_limit, Configured, IsServed, Refused};
 ghost use Rattle.satip_desk.specs.Fresh.{AreFresh};
 ghost use Rattle.satip_desk.specs.Views.{jobs_view};
+ghost use Rattle.satip_desk.specs.Journals.{journals_view};
 ghost use Rattle.satip_world.specs.Counts.{Rises};
-ghost use Rattle.satip_desk.specs.Given.{ComeUnused};
 ghost use Rattle.satip_serve.specs.Servings.{IsOneOf, IsNeitherOf};
 ghost use Rattle.satip_journal.specs.Asked.{first_jobs};
-ghost use Rattle.satip_journal.specs.Ends.{AreUntouched, JournalEnds};
-ghost use Rattle.satip_journal.specs.Ran.{JournalRun};
+ghost use Rattle.satip_journal.specs.Ends.{AreUntouched, JournalEnds, journal_left, journal_tells};
+ghost use Rattle.satip_serve.specs.CommandEnds.{serving_left};
+ghost use Rattle.satip_serve.specs.CommandRan.{EndsAtLimit, last_view};
+ghost use Rattle.satip_journal.specs.Ran.{JournalRun, status_of_jobs};
 ghost use Rattle.satip_journal.specs.Statuses.{IsEndOfRun, IsJournalOf, IsUnready, IsUnusedEnd, journal_line, journal_status};
 ghost use Rattle.satip_config.specs.Lines.{Says};
 
 use crate::all_jobs::serve_journaled;
-use crate::asking::ask_journals;
 use crate::ends::JournalEnd;
 use crate::telling::tell_journal;
 use satip_base::{Failed, Sink, Text};
 use satip_config::{Config, read_configuration};
 use satip_desk::{Desk, Jobs, JobsFault};
 use satip_serve::{Last, keeps_laws};
-use satip_world::{Clock, Doors, MuxStore, Outlet, Pacer};
 use std::alloc::Global;
 use std::sync::Wait;
 use std::thread::Threads;
@@ -59,45 +59,50 @@ fn not_begun<D, O, P, M, C, J>(
     }
 }
 
-// Serves with these kits and journals.
-fn run_jobs<
-    R: Threads + Wait + Sync,
-    D: Doors + Send + Drop,
-    O: Outlet + Send + Drop,
-    P: Pacer + Send + Drop,
-    M: MuxStore + Send + Drop,
-    C: Clock + Send + Drop,
-    J: Sink + Send + Drop,
->(
+// Serves with these kits, and with journals of the desk.
+fn run_kits<R: Threads + Wait + Sync, K: Desk>(
     rt: &R,
     alloc: Global,
     config: Config,
     _accepts: u32,
-    jobs: Jobs<D, O, P, M, C>,
-    sinks: Vec<J>,
-) -> Left<D, O, P, M, C, J>
+    jobs: Jobs<K::Doors, K::Outlet, K::Pacer, K::Store, K::Clock>,
+    desk: &mut K,
+) -> Left<K::Doors, K::Outlet, K::Pacer, K::Store, K::Clock, K::Journal>
     requires served { IsServed config }
     requires workers { length jobs.workers.items ≡ config.workers }
     requires pumps { length jobs.pumps.items ≡ length config.fronts }
-    requires sinks { length sinks.items ≡ config.workers + length config.fronts + 2 }
-    requires empty { Each (λ j. J.drain j ≡ fresh_drain) sinks.items }
-    requires fresh { AreFresh _accepts (jobs_view D.hall O.outbox M.shelf C.dial jobs) }
+    requires fresh { AreFresh _accepts
+        (jobs_view K.Doors.hall K.Outlet.outbox K.Store.shelf K.Clock.dial jobs) }
+    ensures texts { (K.desk desk.new).text ≡ (K.desk desk.old).text }
+    ensures handed { (K.desk desk.new).handed ≡ (K.desk desk.old).handed }
+    ensures kits { (K.desk desk.new).given ≡ (K.desk desk.old).given }
     ensures one { IsOneOf result.last result.unused }
     ensures config { IfSome result.last (λ last. last.server.setting.config ≡ config) }
-    ensures ran { IfSome result.last (λ last. JournalRun D.Conn.tells O.tells J.tells _accepts
-        (jobs_view D.hall O.outbox M.shelf C.dial)
-        (jobs_view D.hall O.outbox M.shelf C.dial jobs) last
-        (map J.drain result.journals.items) (journal_status result.end)) }
-    ensures unused { IfSome result.unused (λ kits. ComeUnused
-        (jobs_view D.hall O.outbox M.shelf C.dial jobs)
-        (jobs_view D.hall O.outbox M.shelf C.dial kits)) }
-    ensures begun { MatchOption result.last (result.end ≡ JournalEnd.OutOfMemory)
+    ensures ran { IfSome result.last (λ last. JournalRun K.Doors.Conn.tells K.Outlet.tells
+        K.Journal.tells _accepts
+        (jobs_view K.Doors.hall K.Outlet.outbox K.Store.shelf K.Clock.dial jobs)
+        (last_view (jobs_view K.Doors.hall K.Outlet.outbox K.Store.shelf K.Clock.dial) last)
+        (journals_view K.Journal.job K.Journal.drain result.journals.items)
+        (journal_status result.end)) }
+    ensures at_limit { IfSome result.last (λ last. EndsAtLimit K.Doors.by_limit
+        (jobs_view K.Doors.hall K.Outlet.outbox K.Store.shelf K.Clock.dial last.jobs).workers
+        (status_of_jobs (journal_status result.end))) }
+    ensures unused { IfSome result.unused (λ kits. AreUntouched
+        (jobs_view K.Doors.hall K.Outlet.outbox K.Store.shelf K.Clock.dial jobs)
+        (jobs_view K.Doors.hall K.Outlet.outbox K.Store.shelf K.Clock.dial kits)) }
+    ensures begun { MatchOption result.last
+        (IsUnusedEnd (K.desk desk.old).faults (K.desk desk.new).faults result.end)
         (λ _. IsEndOfRun result.end) }
-    ensures journals { length result.journals.items ≡ length sinks.items }
+    ensures no_fault { IfSome result.last (λ _. (K.desk desk.new).faults ≡ (K.desk desk.old).faults) }
+    ensures journaled { (K.desk desk.new).journaled
+        ≡ (K.desk desk.old).journaled ++ first_jobs (length result.journals.items) }
+    ensures jobs { map K.Journal.job result.journals.items
+        ≡ first_jobs (length result.journals.items) }
+    ensures unasked { result.end ≡ JournalEnd.OutOfMemory → result.journals.items ≡ [] }
     ensures empty { IsNone result.last
-        → Each (λ j. J.drain j ≡ fresh_drain) result.journals.items }
+        → Each (λ j. K.Journal.drain j ≡ fresh_drain) result.journals.items }
 {
-    match serve_journaled(rt, alloc, config, jobs, sinks) {
+    match serve_journaled(rt, alloc, config, jobs, desk) {
         Ok((last, written, end)) => {
             keeps_laws(&last.server, &last.pass);
             Left {
@@ -107,54 +112,13 @@ fn run_jobs<
                 journals: written.sinks,
             }
         }
-        Err((jobs, sinks)) => not_begun(JournalEnd::OutOfMemory, Some(jobs), sinks),
-    }
-}
-
-// Asks the desk for the journals of all jobs, and serves with these kits.
-fn run_kits<R: Threads + Wait + Sync, K: Desk>(
-    rt: &R,
-    alloc: Global,
-    config: Config,
-    accepts: u32,
-    jobs: Jobs<K::Doors, K::Outlet, K::Pacer, K::Store, K::Clock>,
-    desk: &mut K,
-) -> Left<K::Doors, K::Outlet, K::Pacer, K::Store, K::Clock, K::Journal>
-    requires served { IsServed config }
-    requires workers { length jobs.workers.items ≡ config.workers }
-    requires pumps { length jobs.pumps.items ≡ length config.fronts }
-    requires fresh { AreFresh accepts
-        (jobs_view K.Doors.hall K.Outlet.outbox K.Store.shelf K.Clock.dial jobs) }
-    ensures texts { K.text desk.new ≡ K.text desk.old }
-    ensures handed { K.handed desk.new ≡ K.handed desk.old }
-    ensures kits { K.given desk.new ≡ K.given desk.old }
-    ensures one { IsOneOf result.last result.unused }
-    ensures config { IfSome result.last (λ last. last.server.setting.config ≡ config) }
-    ensures ran { IfSome result.last (λ last. JournalRun K.Doors.Conn.tells K.Outlet.tells
-        K.Journal.tells accepts
-        (jobs_view K.Doors.hall K.Outlet.outbox K.Store.shelf K.Clock.dial)
-        (jobs_view K.Doors.hall K.Outlet.outbox K.Store.shelf K.Clock.dial jobs) last
-        (map K.Journal.drain result.journals.items) (journal_status result.end)) }
-    ensures unused { IfSome result.unused (λ kits. AreUntouched
-        (jobs_view K.Doors.hall K.Outlet.outbox K.Store.shelf K.Clock.dial jobs)
-        (jobs_view K.Doors.hall K.Outlet.outbox K.Store.shelf K.Clock.dial kits)) }
-    ensures begun { MatchOption result.last
-        (IsUnusedEnd (K.faults desk.old) (K.faults desk.new) result.end)
-        (λ _. IsEndOfRun result.end) }
-    ensures no_fault { IfSome result.last (λ _. K.faults desk.new ≡ K.faults desk.old) }
-    ensures journaled { K.journaled desk.new
-        ≡ K.journaled desk.old ++ first_jobs (length result.journals.items) }
-    ensures empty { IsNone result.last
-        → Each (λ j. K.Journal.drain j ≡ fresh_drain) result.journals.items }
-{
-    let count = jobs.workers.len() + jobs.pumps.len() + 2;
-    let Ok(mut journals) = Vec::with_capacity(alloc, count) else {
-        return not_begun(JournalEnd::OutOfMemory, Some(jobs), Vec::new(alloc));
-    };
-    if ask_journals(&mut journals, count, desk) {
-        run_jobs(rt, alloc, config, accepts, jobs, journals)
-    } else {
-        not_begun(JournalEnd::JournalFault, Some(jobs), journals)
+        Err(back) => {
+            if back.failed {
+                not_begun(JournalEnd::JournalFault, Some(back.jobs), back.sinks)
+            } else {
+                not_begun(JournalEnd::OutOfMemory, Some(back.jobs), back.sinks)
+            }
+        }
     }
 }
 
@@ -166,27 +130,31 @@ fn run_source<R: Threads + Wait + Sync, K: Desk>(
     accepts: u32,
     desk: &mut K,
 ) -> Left<K::Doors, K::Outlet, K::Pacer, K::Store, K::Clock, K::Journal>
-    requires new { K.given desk.old ≡ None }
-    ensures texts { K.text desk.new ≡ K.text desk.old }
-    ensures handed { K.handed desk.new ≡ K.handed desk.old }
-    ensures kits { MatchOption (K.given desk.new) (IsNeitherOf result.last result.unused)
+    requires new { (K.desk desk.old).given ≡ None }
+    ensures texts { (K.desk desk.new).text ≡ (K.desk desk.old).text }
+    ensures handed { (K.desk desk.new).handed ≡ (K.desk desk.old).handed }
+    ensures kits { MatchOption (K.desk desk.new).given (IsNeitherOf result.last result.unused)
         (λ _. IsOneOf result.last result.unused) }
-    ensures fresh { IfSome (K.given desk.new) (AreFresh accepts) }
+    ensures fresh { IfSome (K.desk desk.new).given (AreFresh accepts) }
     ensures config { IfSome result.last (λ last. Configured K.Config.tells
         (K.Config.feed source.old) (K.Config.feed source.new)
         last.server.setting.config) }
-    ensures ran { IfSome result.last (λ last. IsSomeAnd (K.given desk.new)
+    ensures ran { IfSome result.last (λ last. IsSomeAnd (K.desk desk.new).given
         (λ given. JournalRun K.Doors.Conn.tells K.Outlet.tells K.Journal.tells accepts
-        (jobs_view K.Doors.hall K.Outlet.outbox K.Store.shelf K.Clock.dial)
-        given last (map K.Journal.drain result.journals.items) (journal_status result.end))) }
+        given (last_view (jobs_view K.Doors.hall K.Outlet.outbox K.Store.shelf K.Clock.dial) last)
+        (journals_view K.Journal.job K.Journal.drain result.journals.items)
+        (journal_status result.end))) }
+    ensures at_limit { IfSome result.last (λ last. EndsAtLimit K.Doors.by_limit
+        (jobs_view K.Doors.hall K.Outlet.outbox K.Store.shelf K.Clock.dial last.jobs).workers
+        (status_of_jobs (journal_status result.end))) }
     ensures unused { IfSome result.unused
-        (λ kits. IsSomeAnd (K.given desk.new) (λ given. AreUntouched given
+        (λ kits. IsSomeAnd (K.desk desk.new).given (λ given. AreUntouched given
         (jobs_view K.Doors.hall K.Outlet.outbox K.Store.shelf K.Clock.dial kits))) }
     ensures unused_end { IfSome result.unused
-        (λ _. IsUnusedEnd (K.faults desk.old) (K.faults desk.new) result.end) }
+        (λ _. IsUnusedEnd (K.desk desk.old).faults (K.desk desk.new).faults result.end) }
     ensures begun { IfSome result.last (λ _. IsEndOfRun result.end) }
     ensures not_begun { IsNone result.last → IsNone result.unused → IsUnready
-        (K.faults desk.old) (K.faults desk.new) (K.given desk.new) result.end }
+        (K.desk desk.old).faults (K.desk desk.new).faults (K.desk desk.new).given result.end }
     ensures configuration { (fault : Fault) → result.end ≡ JournalEnd.Configuration fault
         → Refused K.Config.tells
         (K.Config.feed source.old) (K.Config.feed source.new)
@@ -197,12 +165,16 @@ fn run_source<R: Threads + Wait + Sync, K: Desk>(
         → (K.Config.feed source.new).faults ≡ (K.Config.feed source.old).faults }
     ensures limit { (K.Config.feed source.new).taken
         ≤ (K.Config.feed source.old).taken + configuration_limit + 1 }
-    ensures no_fault { IfSome result.last (λ _. K.faults desk.new ≡ K.faults desk.old) }
+    ensures no_fault { IfSome result.last (λ _. (K.desk desk.new).faults ≡ (K.desk desk.old).faults) }
     ensures settled { K.Config.tells → (Rose (K.Config.feed source.old).faults
         (K.Config.feed source.new).faults → ⊥) → IsJournalOf (K.Config.feed source.old).left
         result.end }
-    ensures journaled { K.journaled desk.new
-        ≡ K.journaled desk.old ++ first_jobs (length result.journals.items) }
+    ensures journaled { (K.desk desk.new).journaled
+        ≡ (K.desk desk.old).journaled ++ first_jobs (length result.journals.items) }
+    ensures jobs { map K.Journal.job result.journals.items
+        ≡ first_jobs (length result.journals.items) }
+    ensures unasked { result.end ≡ JournalEnd.OutOfMemory → result.journals.items ≡ [] }
+    ensures none_asked { (K.desk desk.new).given ≡ None → result.journals.items ≡ [] }
     ensures empty { IsNone result.last
         → Each (λ j. K.Journal.drain j ≡ fresh_drain) result.journals.items }
 {
@@ -232,7 +204,8 @@ pub struct Journaled<K: Desk> {
 }
 
 /// Serves as `serve_by` does, with a journal for each job. Logs any end but `Served` in a line on
-/// the errors sink. The desk gives all journals before any job begins. It waits.
+/// the errors sink. All memory is taken before the desk is asked for a journal, and the desk gives
+/// all journals before any job begins. It waits.
 pub fn journal_by<R: Threads + Wait + Sync, K: Desk, E: Sink>(
     rt: &R,
     alloc: Global,
@@ -241,19 +214,21 @@ pub fn journal_by<R: Threads + Wait + Sync, K: Desk, E: Sink>(
     errors: &mut E,
     desk: &mut K,
 ) -> Journaled<K>
-    requires new { K.given desk.old ≡ None }
-    ensures texts { K.text desk.new ≡ K.text desk.old }
-    ensures handed { K.handed desk.new ≡ K.handed desk.old }
+    requires new { (K.desk desk.old).given ≡ None }
+    ensures texts { (K.desk desk.new).text ≡ (K.desk desk.old).text }
+    ensures handed { (K.desk desk.new).handed ≡ (K.desk desk.old).handed }
     ensures says { Says E.tells
         (E.drain errors.old) (E.drain errors.new)
         (journal_line result.end) }
-    ensures ends { JournalEnds K.Config.tells K.Doors.Conn.tells K.Outlet.tells K.Journal.tells
-        E.tells accepts (K.text desk.old name.now) (K.faults desk.old) (K.faults desk.new)
-        (K.journaled desk.old) (K.journaled desk.new) K.Config.feed result.config
-        (jobs_view K.Doors.hall K.Outlet.outbox K.Store.shelf K.Clock.dial)
-        (K.given desk.new) result.last result.unused (map K.Journal.drain result.journals.items)
-        (E.drain errors.old) (E.drain errors.new)
-        (journal_status result.end) }
+    ensures ends { JournalEnds (journal_tells K.Config.tells K.Doors.Conn.tells K.Outlet.tells
+        K.Journal.tells E.tells) accepts name.now (K.desk desk.old) (K.desk desk.new)
+        (E.drain errors.old) (E.drain errors.new) (journal_left (serving_left K.Config.feed
+        (jobs_view K.Doors.hall K.Outlet.outbox K.Store.shelf K.Clock.dial) result.config
+        result.last result.unused (journal_status result.end))
+        (journals_view K.Journal.job K.Journal.drain result.journals.items)) }
+    ensures at_limit { IfSome result.last (λ last. EndsAtLimit K.Doors.by_limit
+        (jobs_view K.Doors.hall K.Outlet.outbox K.Store.shelf K.Clock.dial last.jobs).workers
+        (status_of_jobs (journal_status result.end))) }
 {
     match desk.config(name) {
         Ok(mut source) => {

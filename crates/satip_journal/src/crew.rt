@@ -8,7 +8,8 @@ ghost use Rattle.satip_journal.specs.Keeping.{kept, SameJournal};
 ghost use Rattle.satip_journal.specs.Logs.{Logs};
 
 use crate::journal::{Journal, fails_to_put};
-use satip_base::{Out, Sink};
+use satip_base::Out;
+use satip_desk::JobSink;
 use satip_entry_writer::{LineRoom, write_start};
 use satip_jobs::{Crew, ServeEnd};
 use satip_plain::{Answer, Event, Service};
@@ -29,7 +30,7 @@ pub struct JournalGear<K> {
     pub failed: bool,
 }
 
-impl<K: Sink> JournalGear<K> {
+impl<K: JobSink> JournalGear<K> {
     /// Creates the journal of the job of this number, before any line.
     pub fn new(number: u64, sink: K, line: LineRoom) -> JournalGear<K>
         ensures number { result.number ≡ number }
@@ -48,6 +49,7 @@ impl<K: Sink> JournalGear<K> {
     pub fn start(&mut self, now: u64)
         requires open { self.old.failed ≡ false }
         ensures number { self.new.number ≡ self.old.number }
+        ensures job { K.job self.new.sink ≡ K.job self.old.sink }
         ensures logs { Logs K.tells (K.drain self.old.sink) (K.drain self.new.sink) false
             self.new.failed (start_line now) }
     {
@@ -56,7 +58,7 @@ impl<K: Sink> JournalGear<K> {
     }
 }
 
-impl<'a, R: Wait + Sync, K: Sink + Send + Drop> Crew for Journal<'a, R, K> {
+impl<'a, R: Wait + Sync, K: JobSink + Send + Drop> Crew for Journal<'a, R, K> {
     type Asks = Event;
 
     type Answers = Answer;
@@ -74,8 +76,8 @@ impl<'a, R: Wait + Sync, K: Sink + Send + Drop> Crew for Journal<'a, R, K> {
     ghost is_stop = { λ e. e.event ≡ Stop };
 
     ghost goes_on = { λ s t. SameJournal K.tells
-        (kept s.caller.server.now s.caller.pass s.number (K.drain s.sink) s.failed)
-        (kept t.caller.server.now t.caller.pass t.number (K.drain t.sink) t.failed) };
+        (kept s.caller.server.now s.caller.pass s.number (K.job s.sink) (K.drain s.sink) s.failed)
+        (kept t.caller.server.now t.caller.pass t.number (K.job t.sink) (K.drain t.sink) t.failed) };
 
     fn split(&mut self, given: JournalGear<K>) -> Self {
         let JournalGear {

@@ -4,7 +4,7 @@ ghost use Rattle.std.specs.Prelude.{◌≡◌, ◌+◌, ◌^◌, ◌<◌, ◌≤
 ghost use Rattle.satip_journal.specs.SinkGears.{AreOpen, HasBegun, has_failed, others_of, sinks_of};
 
 use crate::crew::JournalGear;
-use satip_base::Sink;
+use satip_desk::JobSink;
 use satip_entry_writer::LineRoom;
 use satip_jobs::{put_last, take_first};
 
@@ -19,7 +19,11 @@ pub(crate) struct Gears<K> {
 }
 
 // Takes the next sink and line, and returns the journal of the job of this number.
-fn next_gear<K: Sink>(sinks: &mut Vec<K>, lines: &mut Vec<LineRoom>, number: u64) -> JournalGear<K>
+fn next_gear<K: JobSink>(
+    sinks: &mut Vec<K>,
+    lines: &mut Vec<LineRoom>,
+    number: u64,
+) -> JournalGear<K>
     requires sinks { 0 < vec_len sinks.old }
     requires lines { 0 < vec_len lines.old }
     ensures first { sinks.old.items ≡ result.sink ∷ sinks.new.items }
@@ -35,7 +39,7 @@ fn next_gear<K: Sink>(sinks: &mut Vec<K>, lines: &mut Vec<LineRoom>, number: u64
 }
 
 // Fills `gears` with the journals of `count` jobs, numbered from `first` on, with the next sinks.
-fn next_gears<K: Sink>(
+fn next_gears<K: JobSink>(
     sinks: &mut Vec<K>,
     lines: &mut Vec<LineRoom>,
     gears: &mut Vec<JournalGear<K>>,
@@ -63,7 +67,7 @@ fn next_gears<K: Sink>(
 }
 
 // Appends the sinks of journals to `sinks`. Returns whether a put on one of them failed.
-fn give_back<K: Sink + Drop>(gears: &mut Vec<JournalGear<K>>, sinks: &mut Vec<K>) -> bool
+fn give_back<K: JobSink + Drop>(gears: &mut Vec<JournalGear<K>>, sinks: &mut Vec<K>) -> bool
     requires space { vec_len sinks.old + vec_len gears.old ≤ vec_capacity sinks.old }
     ensures sinks { sinks.new.items ≡ sinks.old.items ++ sinks_of gears.old.items }
     ensures count { vec_len sinks.new ≡ vec_len sinks.old + vec_len gears.old }
@@ -80,7 +84,7 @@ fn give_back<K: Sink + Drop>(gears: &mut Vec<JournalGear<K>>, sinks: &mut Vec<K>
 }
 
 // Appends the sink of a journal to `sinks`. Returns whether a put on it failed.
-fn give_one<K: Sink + Drop>(gear: JournalGear<K>, sinks: &mut Vec<K>) -> bool
+fn give_one<K: JobSink + Drop>(gear: JournalGear<K>, sinks: &mut Vec<K>) -> bool
     requires space { vec_len sinks.old < vec_capacity sinks.old }
     ensures sinks { sinks.new.items ≡ sinks.old.items ++ gear.sink ∷ [] }
     ensures count { vec_len sinks.new ≡ vec_len sinks.old + 1 }
@@ -104,7 +108,7 @@ fn either(first: bool, second: bool) -> bool
 }
 
 // Returns the journals of all jobs, in order, each with its sink. That of job 0 has the start line.
-pub(crate) fn begin_journals<K: Sink>(
+pub(crate) fn begin_journals<K: JobSink>(
     sinks: &mut Vec<K>,
     lines: &mut Vec<LineRoom>,
     mut worker_gears: Vec<JournalGear<K>>,
@@ -121,7 +125,8 @@ pub(crate) fn begin_journals<K: Sink>(
     requires lines { vec_len lines.old ≡ workers + pumps + 2 }
     requires few_workers { workers < 2 ^ 32 }
     requires few_pumps { pumps < 2 ^ 32 }
-    ensures begun { HasBegun K.tells K.drain start sinks.old.items result.root (others_of result) }
+    ensures begun { HasBegun K.tells K.job K.drain start sinks.old.items result.root
+        (others_of result) }
     ensures none { sinks.new.items ≡ [] }
     ensures workers { vec_len result.workers ≡ workers }
     ensures pumps { vec_len result.pumps ≡ pumps }
@@ -141,7 +146,7 @@ pub(crate) fn begin_journals<K: Sink>(
 }
 
 // Gives all sinks back, in the order of jobs. Returns whether a put on one of them failed.
-pub(crate) fn end_journals<K: Sink + Drop>(mut gears: Gears<K>, sinks: &mut Vec<K>) -> bool
+pub(crate) fn end_journals<K: JobSink + Drop>(mut gears: Gears<K>, sinks: &mut Vec<K>) -> bool
     requires none { sinks.old.items ≡ [] }
     requires space { vec_len gears.workers + vec_len gears.pumps + 2 ≤ vec_capacity sinks.old }
     ensures sinks { sinks.new.items ≡ sinks_of (gears.root ∷ others_of gears) }

@@ -4,7 +4,8 @@ ghost use Rattle.satip_journal.specs.Owning.{KnowsOwn, knows_own_prop};
 ghost use Rattle.satip_journal.specs.Logs.{Logs};
 
 use crate::typed::known_item;
-use satip_base::{Out, Put, Sink, Spent};
+use satip_base::{Out, Put, Spent};
+use satip_desk::JobSink;
 use satip_entry_writer::{LineRoom, write_entry};
 use satip_plain::{Answer, Event, Lot, Service, ServiceFault};
 use satip_shared::Caller;
@@ -14,7 +15,7 @@ use std::sync::Wait;
 /// the entry's place in the history, the number of the caller's job, and the entry's record. After
 /// a put that failed the sink gets nothing more.
 #[derive(Drop)]
-pub struct Journal<'a, R: Wait + Sync, K: Sink> {
+pub struct Journal<'a, R: Wait + Sync, K: JobSink> {
     /// The caller.
     pub caller: Caller<'a, R>,
     /// The number of the caller's job, which may differ from the caller's number.
@@ -28,13 +29,14 @@ pub struct Journal<'a, R: Wait + Sync, K: Sink> {
     pub ghost own: { KnowsOwn caller.pass } by { knows_own_prop caller.pass },
 }
 
-impl<'a, R: Wait + Sync, K: Sink> Journal<'a, R, K> {
+impl<'a, R: Wait + Sync, K: JobSink> Journal<'a, R, K> {
     /// Creates the journal of the job of this number, before any line.
     pub fn new(caller: Caller<'a, R>, number: u64, sink: K, line: LineRoom) -> Journal<'a, R, K>
         requires own { KnowsOwn caller.pass }
         ensures server { result.caller.server.now ≡ caller.entry.server.now }
         ensures pass { result.caller.pass ≡ caller.entry.pass }
         ensures number { result.number ≡ number }
+        ensures job { K.job result.sink ≡ K.job sink }
         ensures sink { K.drain result.sink ≡ K.drain sink }
         ensures open { result.failed ≡ false }
     {
@@ -49,7 +51,8 @@ impl<'a, R: Wait + Sync, K: Sink> Journal<'a, R, K> {
 }
 
 // Puts a line. Returns whether that failed.
-pub(crate) fn fails_to_put<K: Sink>(sink: &mut K, line: &[u8]) -> bool
+pub(crate) fn fails_to_put<K: JobSink>(sink: &mut K, line: &[u8]) -> bool
+    ensures job { K.job sink.new ≡ K.job sink.old }
     ensures logs { Logs K.tells (K.drain sink.old) (K.drain sink.new) false result line.now }
 {
     match sink.put(line) {
@@ -58,7 +61,7 @@ pub(crate) fn fails_to_put<K: Sink>(sink: &mut K, line: &[u8]) -> bool
     }
 }
 
-impl<'a, R: Wait + Sync, K: Sink> Service for Journal<'a, R, K> {
+impl<'a, R: Wait + Sync, K: JobSink> Service for Journal<'a, R, K> {
     ghost use Rattle.std.specs.Prelude.{[], ◌∷◌, MatchResult, refl};
     ghost use Rattle.satip_base.specs.History.{entry};
     ghost use Rattle.satip_plain.specs.Histories.{Legal};
@@ -77,20 +80,20 @@ impl<'a, R: Wait + Sync, K: Sink> Service for Journal<'a, R, K> {
     ghost may_want = { λ _. false };
 
     ghost same = { λ s t. SameJournal K.tells
-        (kept s.caller.server.now s.caller.pass s.number (K.drain s.sink) s.failed)
-        (kept t.caller.server.now t.caller.pass t.number (K.drain t.sink) t.failed) };
+        (kept s.caller.server.now s.caller.pass s.number (K.job s.sink) (K.drain s.sink) s.failed)
+        (kept t.caller.server.now t.caller.pass t.number (K.job t.sink) (K.drain t.sink) t.failed) };
 
     ghost is_legal = { λ s. s.caller.lawful };
 
     ghost is_short = { λ s. s.caller.short };
 
     ghost same_self = { λ s. same_journal K.tells
-        (kept s.caller.server.now s.caller.pass s.number (K.drain s.sink) s.failed) };
+        (kept s.caller.server.now s.caller.pass s.number (K.job s.sink) (K.drain s.sink) s.failed) };
 
     ghost same_then = { λ r s t a b. same_journal_then K.tells
-        (kept r.caller.server.now r.caller.pass r.number (K.drain r.sink) r.failed)
-        (kept s.caller.server.now s.caller.pass s.number (K.drain s.sink) s.failed)
-        (kept t.caller.server.now t.caller.pass t.number (K.drain t.sink) t.failed) a b };
+        (kept r.caller.server.now r.caller.pass r.number (K.job r.sink) (K.drain r.sink) r.failed)
+        (kept s.caller.server.now s.caller.pass s.number (K.job s.sink) (K.drain s.sink) s.failed)
+        (kept t.caller.server.now t.caller.pass t.number (K.job t.sink) (K.drain t.sink) t.failed) a b };
 
     ghost same_setting = { λ s t a. same_caller_setting s.caller.server.now s.caller.pass
         t.caller.server.now t.caller.pass a.caller };
@@ -102,9 +105,9 @@ impl<'a, R: Wait + Sync, K: Sink> Service for Journal<'a, R, K> {
     fn call(&mut self, event: &Event, out: &mut Out) -> Result<Answer, ServiceFault>
         ensures same { SameJournal K.tells
             (kept self.old.caller.server.now self.old.caller.pass self.old.number
-            (K.drain self.old.sink) self.old.failed)
+            (K.job self.old.sink) (K.drain self.old.sink) self.old.failed)
             (kept self.new.caller.server.now self.new.caller.pass self.new.number
-            (K.drain self.new.sink) self.new.failed) }
+            (K.job self.new.sink) (K.drain self.new.sink) self.new.failed) }
         ensures called { Called false (known_by self.old.caller.pass)
             (known_by self.new.caller.pass) event.now out.new result }
 

@@ -19,7 +19,7 @@ mod sink_examples;
 mod telling;
 mod typed;
 
-pub use all_jobs::{Written, serve_journaled};
+pub use all_jobs::{Unserved, Written, serve_journaled};
 pub use command::{Journaled, journal_by};
 pub use crew::JournalGear;
 pub use ends::JournalEnd;

@@ -1,11 +1,12 @@
 //! The memory of jobs with journals.
 
-ghost use Rattle.std.specs.Prelude.{◌≡◌, ◌<◌, ◌^◌, length, vec_capacity, IfOk};
-ghost use Rattle.satip_journal.specs.Memories.{IsMemory};
+ghost use Rattle.std.specs.Prelude.{◌≡◌, ◌+◌, ◌<◌, ◌^◌, length, vec_capacity, IfOk};
+ghost use Rattle.satip_journal.specs.Memories.{IsRoomFor};
 
 use crate::crew::JournalGear;
 use crate::journal::Journal;
-use satip_base::{Sink, Want, with_room};
+use satip_base::{Want, with_room};
+use satip_desk::JobSink;
 use satip_entry_writer::LineRoom;
 use satip_serve::{ServeSpace, take_space};
 use std::alloc::Global;
@@ -14,7 +15,7 @@ use std::sync::Wait;
 /// The memory of all jobs besides their kits, the room for a line of each, and lists with memory
 /// for the parts of their journals.
 #[derive(Drop)]
-pub(crate) struct Memory<'a, R: Wait + Sync, D, O, P, M, K: Sink> {
+pub(crate) struct Memory<'a, R: Wait + Sync, D, O, P, M, K: JobSink> {
     pub space: ServeSpace<Journal<'a, R, K>, D, O, P, M>,
     pub lines: Vec<LineRoom>,
     pub worker_gears: Vec<JournalGear<K>>,
@@ -32,19 +33,24 @@ fn make_lines(alloc: Global, count: usize) -> Result<Vec<LineRoom>, Want>
 }
 
 // Takes all memory for this number of workers and pumps, and for the ticker and caller 0.
-pub(crate) fn take_memory<'a, R: Wait + Sync, D: Drop, O: Drop, P: Drop, M: Drop, K: Sink + Drop>(
-    alloc: Global,
-    workers: usize,
-    pumps: usize,
-) -> Result<Memory<'a, R, D, O, P, M, K>, Want>
+pub(crate) fn take_memory<
+    'a,
+    R: Wait + Sync,
+    D: Drop,
+    O: Drop,
+    P: Drop,
+    M: Drop,
+    K: JobSink + Drop,
+>(alloc: Global, workers: usize, pumps: usize) -> Result<Memory<'a, R, D, O, P, M, K>, Want>
     requires few_workers { workers < 2 ^ 32 }
     requires few_pumps { pumps < 2 ^ 32 }
-    ensures memory { IfOk result (λ memory. IsMemory workers pumps
-        memory.space.worker_rooms.items memory.space.workers.items
-        (vec_capacity memory.space.workers) memory.space.pump_rooms.items
-        memory.space.pumps.items (vec_capacity memory.space.pumps) memory.lines.items
-        memory.worker_gears.items (vec_capacity memory.worker_gears) memory.pump_gears.items
+    ensures workers { IfOk result (λ memory. IsRoomFor workers memory.space.worker_rooms.items
+        memory.space.workers.items (vec_capacity memory.space.workers) memory.worker_gears.items
+        (vec_capacity memory.worker_gears)) }
+    ensures pumps { IfOk result (λ memory. IsRoomFor pumps memory.space.pump_rooms.items
+        memory.space.pumps.items (vec_capacity memory.space.pumps) memory.pump_gears.items
         (vec_capacity memory.pump_gears)) }
+    ensures lines { IfOk result (λ memory. length memory.lines.items ≡ workers + pumps + 2) }
 {
     Ok(Memory {
         worker_gears: with_room(alloc, workers)?,

@@ -1,34 +1,36 @@
-//! Kits over memory, and sinks for journals.
+//! Kits over memory, and a desk that gives journals.
 
 ghost use Rattle.std.specs.Prelude.{◌≡◌, [], length, IfOk};
 
 use satip_config::Config;
-use satip_desk::{Jobs, TickKit, WorkerKit};
+use satip_desk::{JobJournal, Jobs, TickKit, WorkerKit};
 use satip_fixtures::texts::OPTIONS;
 use satip_fixtures::{CLIENT, config_with};
-use satip_memory::{
-    MemoryClock, MemoryConn, MemoryDoors, MemoryOutlet, MemoryPacer, MemorySink, MemoryStore,
-};
+use satip_memory::{MemoryClock, MemoryConn, MemoryDoors, MemoryOutlet, MemoryPacer, MemorySink};
+use satip_memory_desk::{MemoryDesk, MemoryJobs};
 use satip_world::DoorKind;
 use std::alloc::{AllocError, Global};
 use std::test::Fail;
 
-pub(crate) type MemoryJobs = Jobs<MemoryDoors, MemoryOutlet, MemoryPacer, MemoryStore, MemoryClock>;
+/// The journal of a job over memory.
+pub(crate) type MemoryJournal = JobJournal<MemorySink>;
 
-// A server without front ends, with one worker.
-pub(crate) fn config(alloc: Global) -> Result<Config, AllocError>
+type MemoryWorker = WorkerKit<MemoryDoors, MemoryOutlet, MemoryPacer>;
+
+// A server without front ends, with this number of workers.
+pub(crate) fn config(alloc: Global, workers: u16) -> Result<Config, AllocError>
     ensures fronts { IfOk result (λ config. config.fronts ≡ []) }
     ensures muxes { IfOk result (λ config. config.muxes ≡ []) }
-    ensures workers { IfOk result (λ config. config.workers ≡ 1) }
+    ensures workers { IfOk result (λ config. config.workers ≡ workers) }
 {
     Ok(Config {
-        workers: 1,
+        workers,
         ..config_with(alloc, 0, &[])?
     })
 }
 
 // A worker by whose doors one connection comes, which asks for options.
-fn worker(alloc: Global) -> Result<WorkerKit<MemoryDoors, MemoryOutlet, MemoryPacer>, Fail> {
+fn worker(alloc: Global) -> Result<MemoryWorker, Fail> {
     let mut doors = MemoryDoors::make(alloc, 1, &[], &[])?;
     let conn = MemoryConn::make(alloc, &[OPTIONS], &[], &[], 0)?;
     doors.add(DoorKind::Rtsp, CLIENT, conn)?;
@@ -48,13 +50,11 @@ fn ticker(alloc: Global) -> Result<TickKit<MemoryClock, MemoryOutlet, MemoryPace
     })
 }
 
-// This worker, and a ticker.
-pub(crate) fn one_worker(alloc: Global) -> Result<MemoryJobs, Fail>
-    ensures workers { IfOk result (λ jobs. length jobs.workers.items ≡ 1) }
+// These workers, and a ticker.
+fn kits(alloc: Global, workers: Vec<MemoryWorker>) -> Result<MemoryJobs, Fail>
+    ensures workers { IfOk result (λ jobs. jobs.workers.items ≡ workers.items) }
     ensures pumps { IfOk result (λ jobs. jobs.pumps.items ≡ []) }
 {
-    let mut workers = Vec::new(alloc);
-    workers.push(worker(alloc)?)?;
     Ok(Jobs {
         workers,
         pumps: Vec::new(alloc),
@@ -62,14 +62,38 @@ pub(crate) fn one_worker(alloc: Global) -> Result<MemoryJobs, Fail>
     })
 }
 
-// Sinks for the program, the worker and the ticker. The program's fails at these puts, after six
-// bytes.
-pub(crate) fn three_sinks(alloc: Global, failing: &[u64]) -> Result<Vec<MemorySink>, Fail>
-    ensures count { IfOk result (λ sinks. length sinks.items ≡ 3) }
+// One worker, and a ticker.
+pub(crate) fn one_worker(alloc: Global) -> Result<MemoryJobs, Fail>
+    ensures workers { IfOk result (λ jobs. length jobs.workers.items ≡ 1) }
+    ensures pumps { IfOk result (λ jobs. jobs.pumps.items ≡ []) }
 {
-    let mut sinks = Vec::new(alloc);
-    sinks.push(MemorySink::make(alloc, failing, 6)?)?;
-    sinks.push(MemorySink::make(alloc, &[], 0)?)?;
-    sinks.push(MemorySink::make(alloc, &[], 0)?)?;
-    Ok(sinks)
+    let workers = Vec::from_array(alloc, [worker(alloc)?])?;
+    kits(alloc, workers)
+}
+
+// Eight workers, and a ticker.
+pub(crate) fn eight_workers(alloc: Global) -> Result<MemoryJobs, Fail>
+    ensures workers { IfOk result (λ jobs. length jobs.workers.items ≡ 8) }
+    ensures pumps { IfOk result (λ jobs. jobs.pumps.items ≡ []) }
+{
+    let workers = [
+        worker(alloc)?,
+        worker(alloc)?,
+        worker(alloc)?,
+        worker(alloc)?,
+        worker(alloc)?,
+        worker(alloc)?,
+        worker(alloc)?,
+        worker(alloc)?,
+    ];
+    let workers = Vec::from_array(alloc, workers)?;
+    kits(alloc, workers)
+}
+
+// A desk that gives journals to the jobs below `jobs`. In that of job 0 the put with this number,
+// from 1, fails and passes five bytes.
+pub(crate) fn desk_of_journals(alloc: Global, jobs: u64, failing_put: u64) -> MemoryDesk {
+    let mut desk = MemoryDesk::make(alloc, 0);
+    desk.open_journals(jobs, 0, failing_put);
+    desk
 }

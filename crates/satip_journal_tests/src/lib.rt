@@ -1,10 +1,13 @@
-//! Tests journals over memory: bursts, sinks that fail, and the verdict on a run's journals.
+//! Tests journals over memory: bursts, sinks that fail, the journals of all jobs, and the verdict on
+//! them.
 #![tactic(auto)]
 
 #[cfg(test)]
 mod journals_of_jobs;
 #[cfg(test)]
 mod kits;
+#[cfg(test)]
+mod long_journals;
 #[cfg(test)]
 mod lots;
 #[cfg(test)]

@@ -3,7 +3,9 @@ ghost use Rattle.std.specs.Prelude.{IfOk};
 ghost use Rattle.satip_plain.specs.Histories.{Legal};
 ghost use Rattle.satip_turn.specs.Shown.{IsOf, Knows};
 
+use crate::kits::MemoryJournal;
 use satip_base::Out;
+use satip_desk::JobJournal;
 use satip_entry_writer::LineRoom;
 use satip_fixtures::config_with;
 use satip_journal::Journal;
@@ -23,10 +25,10 @@ pub(crate) fn shared(alloc: Global) -> Result<(SharedServer, SharedPass), Fail>
     Ok(make(alloc, config, 1000)?)
 }
 
-// What a journal writes with: an event's output, an empty sink, and the room of a line.
-pub(crate) fn devices(alloc: Global) -> Result<(Out, MemorySink, LineRoom), Fail> {
+// The devices of a job's journal: an event's output, an empty sink, and the room of a line.
+pub(crate) fn devices(alloc: Global, job: u64) -> Result<(Out, MemoryJournal, LineRoom), Fail> {
     let out = Out::make(alloc)?;
-    let sink = MemorySink::make(alloc, &[], 0)?;
+    let sink = JobJournal::new(job, MemorySink::make(alloc, &[], 0)?);
     Ok((out, sink, LineRoom::make(alloc)?))
 }
 
@@ -35,10 +37,10 @@ fn ask_stop_ask<R: Wait + Sync>(
     rt: &R,
     server: &SharedServer,
     first: SharedPass,
-    sink: MemorySink,
+    sink: MemoryJournal,
     line: LineRoom,
     out: &mut Out,
-) -> Option<(MemorySink, Answer, Answer)>
+) -> Option<(MemoryJournal, Answer, Answer)>
     requires of { IsOf first server.now }
     requires knows { Knows (Legal server.now.setting) first }
 {
@@ -65,8 +67,8 @@ fn ask_stop_ask<R: Wait + Sync>(
 fn asked_around_a_stop<R: Wait + Sync>(
     rt: &R,
     alloc: Global,
-) -> Result<(MemorySink, [Answer; 2]), Fail> {
-    let (mut out, sink, line) = devices(alloc)?;
+) -> Result<(MemoryJournal, [Answer; 2]), Fail> {
+    let (mut out, sink, line) = devices(alloc, 7)?;
     let (server, first) = shared(alloc)?;
     let asked = ask_stop_ask(rt, &server, first, sink, line, &mut out);
     let (sink, before, after) = asked.ok_or("spent")?;
@@ -79,7 +81,7 @@ fn a_journal_has_the_places_of_its_own_entries(rt: HostRuntime) -> Result<(), Fa
     let wanted = [Answer::Work(Work::Nothing), Answer::Work(Work::Stopping)];
     assert_eq!(rt; answers, wanted);
     let lines = b"entry 0 7 0500010301000000000000\nentry 2 7 0500010302000000000000\n";
-    assert_eq!(rt; sink.sent(), lines.as_slice());
+    assert_eq!(rt; sink.sink().sent(), lines.as_slice());
     Ok(())
 }
 
@@ -88,10 +90,10 @@ fn stop_first<R: Wait + Sync>(
     rt: &R,
     server: &SharedServer,
     pass: SharedPass,
-    sink: MemorySink,
+    sink: MemoryJournal,
     line: LineRoom,
     out: &mut Out,
-) -> Option<(MemorySink, Answer)>
+) -> Option<(MemoryJournal, Answer)>
     requires of { IsOf pass server.now }
     requires knows { Knows (Legal server.now.setting) pass }
 {
@@ -101,8 +103,8 @@ fn stop_first<R: Wait + Sync>(
 }
 
 // The same on a new server.
-fn stopped<R: Wait + Sync>(rt: &R, alloc: Global) -> Result<(MemorySink, Answer), Fail> {
-    let (mut out, sink, line) = devices(alloc)?;
+fn stopped<R: Wait + Sync>(rt: &R, alloc: Global) -> Result<(MemoryJournal, Answer), Fail> {
+    let (mut out, sink, line) = devices(alloc, 0)?;
     let (server, pass) = shared(alloc)?;
     Ok(stop_first(rt, &server, pass, sink, line, &mut out).ok_or("spent")?)
 }
@@ -111,6 +113,9 @@ fn stopped<R: Wait + Sync>(rt: &R, alloc: Global) -> Result<(MemorySink, Answer)
 fn a_stop_is_one_line(rt: HostRuntime) -> Result<(), Fail> {
     let (sink, answer) = stopped(&rt, rt.alloc())?;
     assert_eq!(rt; answer, Answer::Beat(Beat::Stopping));
-    assert_eq!(rt; sink.sent(), b"entry 0 0 080201000000000000\n".as_slice());
+    assert_eq!(rt;
+        sink.sink().sent(),
+        b"entry 0 0 080201000000000000\n".as_slice()
+    );
     Ok(())
 }

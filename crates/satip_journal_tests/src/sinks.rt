@@ -2,8 +2,10 @@
 ghost use Rattle.satip_plain.specs.Histories.{Legal};
 ghost use Rattle.satip_turn.specs.Shown.{IsOf, Knows};
 
+use crate::kits::MemoryJournal;
 use crate::server::shared;
 use satip_base::Out;
+use satip_desk::JobJournal;
 use satip_entry_writer::LineRoom;
 use satip_journal::Journal;
 use satip_memory::MemorySink;
@@ -21,10 +23,10 @@ fn ask_and_stop<R: Wait + Sync>(
     rt: &R,
     server: &SharedServer,
     pass: SharedPass,
-    sink: MemorySink,
+    sink: MemoryJournal,
     line: LineRoom,
     out: &mut Out,
-) -> Option<(MemorySink, Answer, Answer)>
+) -> Option<(MemoryJournal, Answer, Answer)>
     requires of { IsOf pass server.now }
     requires knows { Knows (Legal server.now.setting) pass }
 {
@@ -40,9 +42,9 @@ fn asked_and_stopped<R: Wait + Sync>(
     rt: &R,
     alloc: Global,
     failing: &[u64],
-) -> Result<(MemorySink, [Answer; 2]), Fail> {
+) -> Result<(MemoryJournal, [Answer; 2]), Fail> {
     let mut out = Out::make(alloc)?;
-    let sink = MemorySink::make(alloc, failing, 6)?;
+    let sink = JobJournal::new(0, MemorySink::make(alloc, failing, 6)?);
     let line = LineRoom::make(alloc)?;
     let (server, pass) = shared(alloc)?;
     let answered = ask_and_stop(rt, &server, pass, sink, line, &mut out);
@@ -54,7 +56,7 @@ fn asked_and_stopped<R: Wait + Sync>(
 fn nothing_is_put_behind_a_first_put_that_fails(rt: HostRuntime) -> Result<(), Fail> {
     let (sink, answers) = asked_and_stopped(&rt, rt.alloc(), &[1])?;
     assert_eq!(rt; answers, ANSWERS);
-    assert_eq!(rt; sink.sent(), b"entry ".as_slice());
+    assert_eq!(rt; sink.sink().sent(), b"entry ".as_slice());
     Ok(())
 }
 
@@ -63,6 +65,6 @@ fn a_second_put_that_fails_leaves_its_beginning(rt: HostRuntime) -> Result<(), F
     let (sink, answers) = asked_and_stopped(&rt, rt.alloc(), &[2])?;
     assert_eq!(rt; answers, ANSWERS);
     let text = b"entry 0 0 0500010301000000000000\nentry ";
-    assert_eq!(rt; sink.sent(), text.as_slice());
+    assert_eq!(rt; sink.sink().sent(), text.as_slice());
     Ok(())
 }

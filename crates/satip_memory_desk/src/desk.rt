@@ -14,7 +14,7 @@ ghost use Rattle.satip_memory_desk.specs.Drawers.{row_of, AreNewKits, given_view
 use crate::moment::MemoryMoment;
 use satip_base::{Address, Failed, Text, Want};
 use satip_config::Config;
-use satip_desk::{Desk, Jobs, JobsFault};
+use satip_desk::{Desk, JobJournal, Jobs, JobsFault};
 use satip_memory::{
     MemoryClock, MemoryConn, MemoryDoors, MemoryInlet, MemoryOutlet, MemoryPacer, MemorySink,
     MemorySource, MemoryStore,
@@ -320,17 +320,15 @@ impl Desk for MemoryDesk {
 
     type Moment = MemoryMoment;
 
-    type Journal = MemorySink;
+    type Journal = JobJournal<MemorySink>;
 
-    ghost text = { λ d name. text_in d.texts name };
-
-    ghost faults = { λ d. d.faults };
-
-    ghost given = { λ d. option_map given_view d.given };
-
-    ghost handed = { λ d. d.handed };
-
-    ghost journaled = { λ d. d.journaled };
+    ghost desk = { λ d. record {
+      text = λ name. text_in d.texts name;
+      faults = d.faults;
+      given = option_map given_view d.given;
+      handed = d.handed;
+      journaled = d.journaled;
+    } };
 
     #[tactic(auto, using(crate::proofs::DrawerLemmas::kits_seen))]
     fn jobs(
@@ -402,9 +400,9 @@ impl Desk for MemoryDesk {
         MemoryMoment::new(self.clock.take())
     }
 
-    fn journal(&mut self, job: u64) -> Result<MemorySink, Failed> {
+    fn journal(&mut self, job: u64) -> Result<JobJournal<MemorySink>, Failed> {
         match self.make_journal(job) {
-            Some(sink) => Ok(sink),
+            Some(sink) => Ok(JobJournal::new(job, sink)),
             None => {
                 self.faults = self.faults.saturating_add(1);
                 Err(Failed)

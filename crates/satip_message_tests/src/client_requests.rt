@@ -1,55 +1,82 @@
 //! Requests as texts, and replies to them.
-use satip_client::{Grant, Page, ReplyFault, ReplyRead, accept, grant_of, read_reply};
+use satip_base::Want;
+use satip_client::{Grant, Lease, Page, ReplyFault, ReplyRead, accept, grant_of, read_reply};
 use std::alloc::Global;
+use std::test::Fail;
 
 const ADDRESS: &[u8; 15] = b"127.0.0.1:18554";
 
+fn page(alloc: Global) -> Result<Page<'static>, Want> {
+    Page::make(alloc, ADDRESS, b"src=1&freq=12402&pids=all")
+}
+
 #[test]
-fn a_setup_has_these_bytes(rt: HostRuntime) {
-    let mut page = Page::new(rt.alloc());
-    assert!(rt;
-        page.write_setup(ADDRESS, b"src=1&freq=12402&pids=all", 65534)
-            .is_ok()
-    );
+fn a_setup_has_these_bytes(rt: HostRuntime) -> Result<(), Fail> {
+    let mut page = page(rt.alloc())?;
+    page.write_setup(65534);
     let text: &[u8] = b"SETUP rtsp://127.0.0.1:18554/?src=1&freq=12402&pids=all RTSP/1.0\r\n\
         CSeq: 1\r\n\
         Transport: RTP/AVP;unicast;client_port=65534-65535\r\n\r\n";
     assert!(rt; page.bytes() == text);
+    Ok(())
 }
 
 // A page with a request, which the next one replaces.
-fn written_page(alloc: Global) -> Page {
-    let mut page = Page::new(alloc);
-    let _ = page.write_setup(ADDRESS, b"src=1&freq=12402&pids=all", 65534);
-    page
+fn written_page(alloc: Global) -> Result<Page<'static>, Want> {
+    let mut page = page(alloc)?;
+    page.write_setup(65534);
+    Ok(page)
+}
+
+// What a reply gave, with this stream.
+fn lease(session: &[u8], stream: u16) -> Option<Lease> {
+    Lease::of(&Grant {
+        session,
+        timeout: 60,
+        stream,
+    })
 }
 
 #[test]
-fn a_play_has_these_bytes(rt: HostRuntime) {
-    let mut page = written_page(rt.alloc());
-    assert!(rt; page.write_play(ADDRESS, 65535, b"1a2b").is_ok());
+fn a_play_has_these_bytes(rt: HostRuntime) -> Result<(), Fail> {
+    let mut page = written_page(rt.alloc())?;
+    page.write_play(&lease(b"1a2b", 65535).ok_or("lease")?);
     let text: &[u8] =
         b"PLAY rtsp://127.0.0.1:18554/stream=65535 RTSP/1.0\r\nCSeq: 2\r\nSession: 1a2b\r\n\r\n";
     assert!(rt; page.bytes() == text);
+    Ok(())
 }
 
 #[test]
-fn options_have_these_bytes(rt: HostRuntime) {
-    let mut page = written_page(rt.alloc());
-    assert!(rt; page.write_options(ADDRESS, 3, b"1a2b").is_ok());
+fn options_have_these_bytes(rt: HostRuntime) -> Result<(), Fail> {
+    let mut page = written_page(rt.alloc())?;
+    page.write_options(&lease(b"1a2b", 7).ok_or("lease")?, 3);
     let text: &[u8] =
         b"OPTIONS rtsp://127.0.0.1:18554/ RTSP/1.0\r\nCSeq: 3\r\nSession: 1a2b\r\n\r\n";
     assert!(rt; page.bytes() == text);
+    Ok(())
 }
 
 #[test]
-fn a_teardown_has_these_bytes(rt: HostRuntime) {
-    let mut page = written_page(rt.alloc());
-    assert!(rt; page.write_teardown(ADDRESS, 0, 4294967295, b"1a2b").is_ok());
+fn a_teardown_has_these_bytes(rt: HostRuntime) -> Result<(), Fail> {
+    let mut page = written_page(rt.alloc())?;
+    page.write_teardown(&lease(b"1a2b", 0).ok_or("lease")?, 4294967295);
     let text: &[u8] = b"TEARDOWN rtsp://127.0.0.1:18554/stream=0 RTSP/1.0\r\n\
         CSeq: 4294967295\r\n\
         Session: 1a2b\r\n\r\n";
     assert!(rt; page.bytes() == text);
+    Ok(())
+}
+
+#[test]
+fn the_longest_session_has_8192_bytes(rt: HostRuntime) -> Result<(), Fail> {
+    let longest = lease(&[b'a'; 8192], 7).ok_or("lease")?;
+    assert_eq!(rt; longest.session().len(), 8192);
+    let mut page = page(rt.alloc())?;
+    page.write_teardown(&longest, 4294967295);
+    assert_eq!(rt; page.bytes().len(), 8274);
+    assert!(rt; lease(&[b'a'; 8193], 7).is_none());
+    Ok(())
 }
 
 // What a reply to SETUP gives: the fault, or whether it is this grant.

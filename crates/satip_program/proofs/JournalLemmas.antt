@@ -55,7 +55,7 @@ journal_told Line HistoryFull status of line other = let L : ℕ → Type 0 = λ
 journal_told Line OutOfMemory status of line other = let L : ℕ → Type 0 = λ n. Line (line_of n) in subst L (sym of) line
 
 -- a fault of the configuration is the desk's or its source's
-pub input_of : {C : Type 0} (source : Option C) (feed : C → Feed) (before now : ℕ) → MatchOption source (Rises before now) (λ s. Rose 0 (feed s).faults)
-    → Rose before now ⊎ IsSomeAnd source (λ s. Rose 0 (feed s).faults)
-input_of None feed before now failed = inl failed.rose
-input_of (Some s) feed before now failed = inr failed
+pub input_of : (source : Option Feed) (before now : ℕ) → MatchOption source (Rises before now) (λ s. Rose 0 s.faults)
+    → Rose before now ⊎ IsSomeAnd source (λ s. Rose 0 s.faults)
+input_of None before now failed = inl failed.rose
+input_of (Some s) before now failed = inr failed

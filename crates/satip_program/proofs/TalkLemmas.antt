@@ -1,6 +1,6 @@
 -- The statuses of a talk, and its lines.
-use Rattle.std.proofs.Common.{◌≡◌, ℕ, ◌+◌, ◌-◌, ◌<◌, ◌≤◌, ◌↔◌, inl, inr, List, Option, Some, None, refl, ap, arith}
-use Rattle.satip_base.specs.Streams.{Feed, Drain, Rose}
+use Rattle.std.proofs.Common.{◌≡◌, ℕ, ◌+◌, ◌-◌, ◌<◌, ◌≤◌, ◌↔◌, inl, inr, List, Some, None, refl, ap, arith}
+use Rattle.satip_base.specs.Streams.{Rose}
 use Rattle.satip_base.specs.Lists.{Has}
 use Rattle.satip_talk_command.specs.Runs.{input_limit}
 use Rattle.satip_talk_command.specs.Ends.{talk_status, talk_line}
@@ -8,9 +8,12 @@ use Rattle.satip_talk_command.specs.declared.ends.TalkEnd.{TalkEnd}
 use Rattle.satip_talk_command.specs.declared.ends.TalkEnd.TheVariants.{Done, InputFault, OutputFault, TooLong, OutOfMemory}
 use Rattle.satip_talk_command.proofs.EndLemmas.{ends_input, ends_output, ends_long}
 use Rattle.satip_config.specs.Lines.{Says}
+use Rattle.satip_desk.specs.Streams.{Streams, Tells}
+use Rattle.satip_desk.specs.Views.{DeskView}
 use Rattle.satip_program.specs.Commands.{Talk, line_of}
+use Rattle.satip_program.specs.Ended.{ended_alone}
 use Rattle.satip_program.specs.Runs.{StatusTells}
-use Rattle.satip_program.proofs.RunLemmas.{input_statuses, input_tells}
+use Rattle.satip_program.proofs.RunLemmas.{alone, input_statuses, input_tells}
 
 talk_has : (end : TalkEnd) → Has (talk_status end) input_statuses
 talk_has Done = inl refl
@@ -36,13 +39,14 @@ talk_told Line TooLong line = line
 talk_told Line OutOfMemory line = line
 
 -- what the status of a talk tells
-pub talk_tells : {C : Type 0} (et : Type 0) (before now : ℕ) (view : C → Feed) (source : Option C) (i j : Feed) (o n e m : Drain) (end : TalkEnd)
-    → (end ≡ InputFault → Rose i.faults j.faults) → (end ≡ OutputFault → Rose o.faults n.faults)
-    → ((end ≡ TooLong) ↔ (input_limit < j.taken - i.taken)) → j.taken ≤ i.taken + input_limit + 1 → Says et e m (talk_line end)
-    → StatusTells et (Some Talk) None before now view source i j o n e m (talk_status end)
-talk_tells et before now view source i j o n e m end input output long limit line =
-    input_tells et Talk before now view source i j o n e m (talk_status end) (talk_has end)
+pub talk_tells : (t : Tells) (d : DeskView) (s r : Streams) (end : TalkEnd)
+    → (end ≡ InputFault → Rose s.input.faults r.input.faults) → (end ≡ OutputFault → Rose s.output.faults r.output.faults)
+    → ((end ≡ TooLong) ↔ (input_limit < r.input.taken - s.input.taken)) → r.input.taken ≤ s.input.taken + input_limit + 1
+    → Says t.errors s.errors r.errors (talk_line end)
+    → StatusTells t (alone (Some Talk)) d d s r (ended_alone None (talk_status end))
+talk_tells t d s r end input output long limit line =
+    input_tells t Talk d d s r (ended_alone None (talk_status end)) (talk_has end)
     (λ is. absurd ((no_place end).0 is)) (λ is. absurd ((no_place end).1 is))
     (λ is. inr (inr (input (ends_input end is)))) (λ is. output (ends_output end is))
     ((λ is. long.0 (ends_long end is)), λ more. ap talk_status (long.1 more)) limit
-    (λ no_fault no_number. talk_told (λ (l : List ℕ). Says et e m l) end line)
+    (λ no_fault no_number. talk_told (λ (l : List ℕ). Says t.errors s.errors r.errors l) end line)

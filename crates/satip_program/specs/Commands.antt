@@ -113,6 +113,18 @@ serving_of (word ∷ name ∷ []) = None
 serving_of (word ∷ name ∷ accepts ∷ []) = serving_named word name (number_of 4294967295 accepts)
 serving_of (word ∷ name ∷ accepts ∷ another ∷ others) = None
 
+-- the command that words ask for: one that waits for no client, or a service; neither if they are an unknown command line
+pub record Asked : Type 0 where
+  pub form : Option Form
+  pub serving : Option Serving
+
+abbrev pub asked_of : List (List ℕ) → Asked
+asked_of words = record { form = command_of words; serving = serving_of words }
+
+-- the command that words ask for, if a service is an unknown command line
+abbrev pub asked_offline : List (List ℕ) → Asked
+asked_offline words = record { form = command_of words; serving = None }
+
 -- the name of the configuration in a form, if it has one
 abbrev pub config_named : Option Form → Option (List ℕ)
 config_named (Some (Replay name)) = Some name

@@ -1,7 +1,6 @@
 pub mod Commands
 pub mod Serving
-pub mod Tunneling
-pub mod Ends
+pub mod Ended
 pub mod Runs
 pub mod Recording
 pub mod Journaling

@@ -1,18 +1,22 @@
 //! The top call: runs the program with its words, its input, its output, its errors and its desk.
 
-ghost use Rattle.std.specs.Prelude.{◌≡◌, ◌⊎◌, ℕ, List, [], Option, Some, None, IsNone, IsSomeAnd, map};
-ghost use Rattle.satip_base.specs.Streams.{Feed, Rose};
-ghost use Rattle.satip_desk.specs.Views.{jobs_view};
+ghost use Rattle.std.specs.Prelude.{◌≡◌, ◌⊎◌, ℕ, List, [], Option, Some, None, IfSome, IsSomeAnd, option_map};
+ghost use Rattle.satip_base.specs.Streams.{Rose};
+ghost use Rattle.satip_config.specs.Lines.{Says, configuration_line};
 ghost use Rattle.satip_desk.specs.Handed.{nothing_handed};
-ghost use Rattle.satip_recorder.specs.Words.{Wanted};
-ghost use Rattle.satip_journal.specs.Ends.{JournalEnds};
-ghost use Rattle.satip_config.specs.Lines.{Says};
+ghost use Rattle.satip_desk.specs.Journals.{journals_view};
+ghost use Rattle.satip_desk.specs.Views.{jobs_view};
+ghost use Rattle.satip_journal.specs.Ends.{JournalEnds, journal_tells, journal_left};
+ghost use Rattle.satip_journal.specs.Ran.{status_of_jobs};
+ghost use Rattle.satip_recorder.specs.Ends.{left_of};
+ghost use Rattle.satip_serve.specs.CommandEnds.{Serves, serve_tells, serving_left};
+ghost use Rattle.satip_serve.specs.CommandRan.{EndsAtLimit, last_view};
+ghost use Rattle.satip_tunnel_serve.specs.Ends.{Tunnels, tunnel_last_view, tunnel_left, tunnel_tells};
 ghost use Rattle.satip_tunnel_serve.specs.Silences.{no_outbox};
-ghost use Rattle.satip_program.specs.Commands.{Form, Record, Serve, Tunnel, Journal, command_of, serving_of, config_named, line_of};
-ghost use Rattle.satip_program.specs.Ends.{ServeEnds};
-ghost use Rattle.satip_program.specs.Tunneling.{TunnelEnds};
-ghost use Rattle.satip_program.specs.Runs.{GivesBack, RunEnds, Shows};
+ghost use Rattle.satip_program.specs.Commands.{Serve, Journal, asked_of, asked_offline, command_of, serving_of, config_named, recording_in, line_of};
+ghost use Rattle.satip_program.specs.Ended.{ended_alone, ended_recording};
 ghost use Rattle.satip_program.specs.Journaling.{IsOfJournal};
+ghost use Rattle.satip_program.specs.Runs.{IsShown, RunEnds};
 
 use crate::commands::{Command, Service, read_service, read_words};
 use crate::serve_end::{status_of_serving, tell_serving};
@@ -127,53 +131,66 @@ pub fn satip<R: Threads + Wait + Sync, K: Desk, I: Source, O: Sink, E: Sink>(
     errors: &mut E,
     desk: &mut K,
 ) -> Ended<K>
-    requires new { K.given desk.old ≡ None }
-    requires client { K.handed desk.old ≡ nothing_handed }
+    requires new { (K.desk desk.old).given ≡ None }
+    requires client { (K.desk desk.old).handed ≡ nothing_handed }
 
-    // For all commands: the outcome of one that waits for no client, what is asked of the desk,
-    // what comes back, and the meaning of the status.
-    ensures ends { RunEnds K.Config.tells K.Wire.tells K.Inlet.tells I.tells O.tells E.tells
-        (command_of words.now) (serving_of words.now)
-        K.text K.faults K.given K.handed K.journaled desk.old desk.new
-        (I.feed input.old) (I.feed input.new) (O.drain output.old) (O.drain output.new)
-        (E.drain errors.old) (E.drain errors.new)
-        K.Config.feed result.config result.last result.tunnel result.unused
-        K.Wire.line K.Moment.dial K.Inlet.inbox result.wire result.moment result.inlet
-        result.journals.items result.status }
+    // The outcome of a command or a service, the requests to the desk, what comes back, and the
+    // meaning of the status.
+    ensures ends { RunEnds
+        (record {
+          input = I.tells;
+          output = O.tells;
+          errors = E.tells;
+          config = K.Config.tells;
+          conn = K.Doors.Conn.tells;
+          outlet = K.Outlet.tells;
+          journal = K.Journal.tells;
+          wire = K.Wire.tells;
+          inlet = K.Inlet.tells;
+        })
+        (asked_of words.now)
+        (K.desk desk.old) (K.desk desk.new)
+        (record {
+          input = I.feed input.old;
+          output = O.drain output.old;
+          errors = E.drain errors.old;
+        })
+        (record {
+          input = I.feed input.new;
+          output = O.drain output.new;
+          errors = E.drain errors.new;
+        })
+        (record {
+          source = option_map K.Config.feed result.config;
+          last = option_map (last_view
+              (jobs_view K.Doors.hall K.Outlet.outbox K.Store.shelf K.Clock.dial)) result.last;
+          tunnel = option_map (tunnel_last_view
+              (jobs_view K.Doors.hall K.Outlet.outbox K.Store.shelf K.Clock.dial)
+              (jobs_view K.Doors.hall no_outbox K.Store.shelf K.Clock.dial)) result.tunnel;
+          unused = option_map
+              (jobs_view K.Doors.hall K.Outlet.outbox K.Store.shelf K.Clock.dial) result.unused;
+          left = left_of K.Wire.line K.Moment.dial K.Inlet.inbox
+              result.wire result.moment result.inlet;
+          journals = journals_view K.Journal.job K.Journal.drain result.journals.items;
+          status = result.status;
+        }) }
 
-    // For a service, if its jobs ran: they ran by the configuration of the desk's text, over one
-    // history. In a server it keeps four laws: of payload, owners, busy replies and recordings. The
-    // server's entries in a tunnel's history keep the first three. A server with journals keeps all
-    // four. With status 0 and sinks that expose their bytes, its journals are judged `yes` in any
-    // order.
-    ensures serve { (name : List ℕ) (accepts : ℕ)
+    // A command that asks nothing of the desk leaves the desk itself as it was.
+    ensures nothing { serving_of words.now ≡ None → config_named (command_of words.now) ≡ None
+        → recording_in (command_of words.now) ≡ None → desk.new ≡ desk.old }
+
+    // If the jobs of a server end well and doors end by their limit alone, the doors of each worker
+    // are at it, also if a journal failed.
+    ensures at_limit { (name : List ℕ) (accepts : ℕ)
         → serving_of words.now ≡ Some (Serve name accepts)
-        → ServeEnds K.Config.tells K.Doors.Conn.tells K.Outlet.tells E.tells
-        accepts (K.text desk.old name) (K.faults desk.old) (K.faults desk.new)
-        K.Config.feed result.config
-        (jobs_view K.Doors.hall K.Outlet.outbox K.Store.shelf K.Clock.dial)
-        (K.given desk.new) result.last result.unused
-        (E.drain errors.old) (E.drain errors.new)
-        result.status }
-    ensures tunnel { (name : List ℕ) (accepts : ℕ)
-        → serving_of words.now ≡ Some (Tunnel name accepts)
-        → TunnelEnds K.Config.tells K.Doors.Conn.tells E.tells
-        accepts (K.text desk.old name) (K.faults desk.old) (K.faults desk.new)
-        K.Config.feed result.config
-        (jobs_view K.Doors.hall K.Outlet.outbox K.Store.shelf K.Clock.dial)
-        (jobs_view K.Doors.hall no_outbox K.Store.shelf K.Clock.dial)
-        (K.given desk.new) result.tunnel result.unused
-        (E.drain errors.old) (E.drain errors.new)
-        result.status }
-    ensures journal { (name : List ℕ) (accepts : ℕ)
+        → IfSome result.last (λ last. EndsAtLimit K.Doors.by_limit
+        (jobs_view K.Doors.hall K.Outlet.outbox K.Store.shelf K.Clock.dial last.jobs).workers
+        result.status) }
+    ensures journals_at_limit { (name : List ℕ) (accepts : ℕ)
         → serving_of words.now ≡ Some (Journal name accepts)
-        → JournalEnds K.Config.tells K.Doors.Conn.tells K.Outlet.tells K.Journal.tells E.tells
-        accepts (K.text desk.old name) (K.faults desk.old) (K.faults desk.new)
-        (K.journaled desk.old) (K.journaled desk.new) K.Config.feed result.config
-        (jobs_view K.Doors.hall K.Outlet.outbox K.Store.shelf K.Clock.dial)
-        (K.given desk.new) result.last result.unused (map K.Journal.drain result.journals.items)
-        (E.drain errors.old) (E.drain errors.new)
-        result.status }
+        → IfSome result.last (λ last. EndsAtLimit K.Doors.by_limit
+        (jobs_view K.Doors.hall K.Outlet.outbox K.Store.shelf K.Clock.dial last.jobs).workers
+        (status_of_jobs result.status)) }
 {
     match read_service(words) {
         Some(Service::Serve { name, accepts }) => {
@@ -198,20 +215,24 @@ fn run_journal<R: Threads + Wait + Sync, K: Desk, E: Sink>(
     errors: &mut E,
     desk: &mut K,
 ) -> Ended<K>
-    requires new { K.given desk.old ≡ None }
-    ensures texts { K.text desk.new ≡ K.text desk.old }
-    ensures handed { K.handed desk.new ≡ K.handed desk.old }
-    ensures ends { JournalEnds K.Config.tells K.Doors.Conn.tells K.Outlet.tells K.Journal.tells
-        E.tells accepts (K.text desk.old name.now) (K.faults desk.old) (K.faults desk.new)
-        (K.journaled desk.old) (K.journaled desk.new) K.Config.feed result.config
-        (jobs_view K.Doors.hall K.Outlet.outbox K.Store.shelf K.Clock.dial)
-        (K.given desk.new) result.last result.unused (map K.Journal.drain result.journals.items)
+    requires new { (K.desk desk.old).given ≡ None }
+    ensures texts { (K.desk desk.new).text ≡ (K.desk desk.old).text }
+    ensures handed { (K.desk desk.new).handed ≡ (K.desk desk.old).handed }
+    ensures ends { JournalEnds
+        (journal_tells K.Config.tells K.Doors.Conn.tells K.Outlet.tells K.Journal.tells E.tells)
+        accepts name.now (K.desk desk.old) (K.desk desk.new)
         (E.drain errors.old) (E.drain errors.new)
-        result.status }
+        (journal_left (serving_left K.Config.feed
+        (jobs_view K.Doors.hall K.Outlet.outbox K.Store.shelf K.Clock.dial)
+        result.config result.last result.unused result.status)
+        (journals_view K.Journal.job K.Journal.drain result.journals.items)) }
+    ensures at_limit { IfSome result.last (λ last. EndsAtLimit K.Doors.by_limit
+        (jobs_view K.Doors.hall K.Outlet.outbox K.Store.shelf K.Clock.dial last.jobs).workers
+        (status_of_jobs result.status)) }
     ensures of_journal { IsOfJournal result.status }
     ensures no_tunnel { result.tunnel ≡ None }
-    ensures input_fault { result.status ≡ 5 → Rose (K.faults desk.old) (K.faults desk.new)
-        ⊎ IsSomeAnd result.config (λ source. Rose 0 (K.Config.feed source).faults) }
+    ensures input_fault { result.status ≡ 5 → Rose (K.desk desk.old).faults (K.desk desk.new).faults
+        ⊎ IsSomeAnd (option_map K.Config.feed result.config) (λ source. Rose 0 source.faults) }
     ensures no_client { (result.wire ≡ None) × (result.inlet ≡ None) × (result.moment ≡ None) }
     ensures errors { (result.status ≡ 3 → ⊥) → Says E.tells
         (E.drain errors.old) (E.drain errors.new)
@@ -246,17 +267,21 @@ fn run_serve<R: Threads + Wait + Sync, K: Desk, E: Sink>(
     errors: &mut E,
     desk: &mut K,
 ) -> Ended<K>
-    requires new { K.given desk.old ≡ None }
-    ensures texts { K.text desk.new ≡ K.text desk.old }
-    ensures ends { ServeEnds K.Config.tells K.Doors.Conn.tells K.Outlet.tells E.tells
-        accepts (K.text desk.old name.now) (K.faults desk.old) (K.faults desk.new)
-        K.Config.feed result.config
-        (jobs_view K.Doors.hall K.Outlet.outbox K.Store.shelf K.Clock.dial)
-        (K.given desk.new) result.last result.unused
+    requires new { (K.desk desk.old).given ≡ None }
+    ensures texts { (K.desk desk.new).text ≡ (K.desk desk.old).text }
+    ensures ends { Serves (serve_tells K.Config.tells K.Doors.Conn.tells K.Outlet.tells)
+        (λ fault. Says E.tells
         (E.drain errors.old) (E.drain errors.new)
-        result.status }
-    ensures handed { K.handed desk.new ≡ K.handed desk.old }
-    ensures journaled { K.journaled desk.new ≡ K.journaled desk.old }
+        (configuration_line fault))
+        accepts name.now (K.desk desk.old) (K.desk desk.new)
+        (serving_left K.Config.feed
+        (jobs_view K.Doors.hall K.Outlet.outbox K.Store.shelf K.Clock.dial)
+        result.config result.last result.unused result.status) }
+    ensures at_limit { IfSome result.last (λ last. EndsAtLimit K.Doors.by_limit
+        (jobs_view K.Doors.hall K.Outlet.outbox K.Store.shelf K.Clock.dial last.jobs).workers
+        result.status) }
+    ensures handed { (K.desk desk.new).handed ≡ (K.desk desk.old).handed }
+    ensures journaled { (K.desk desk.new).journaled ≡ (K.desk desk.old).journaled }
     ensures no_client { (result.wire ≡ None) × (result.inlet ≡ None) × (result.moment ≡ None) }
     ensures no_journals { result.journals.items ≡ [] }
     ensures no_tunnel { result.tunnel ≡ None }
@@ -293,18 +318,19 @@ fn run_tunnel<R: Threads + Wait + Sync, K: Desk, E: Sink>(
     errors: &mut E,
     desk: &mut K,
 ) -> Ended<K>
-    requires new { K.given desk.old ≡ None }
-    ensures texts { K.text desk.new ≡ K.text desk.old }
-    ensures ends { TunnelEnds K.Config.tells K.Doors.Conn.tells E.tells
-        accepts (K.text desk.old name.now) (K.faults desk.old) (K.faults desk.new)
-        K.Config.feed result.config
+    requires new { (K.desk desk.old).given ≡ None }
+    ensures texts { (K.desk desk.new).text ≡ (K.desk desk.old).text }
+    ensures ends { Tunnels (tunnel_tells K.Config.tells K.Doors.Conn.tells)
+        (λ fault. Says E.tells
+        (E.drain errors.old) (E.drain errors.new)
+        (configuration_line fault))
+        accepts name.now (K.desk desk.old) (K.desk desk.new)
+        (tunnel_left K.Config.feed
         (jobs_view K.Doors.hall K.Outlet.outbox K.Store.shelf K.Clock.dial)
         (jobs_view K.Doors.hall no_outbox K.Store.shelf K.Clock.dial)
-        (K.given desk.new) result.tunnel result.unused
-        (E.drain errors.old) (E.drain errors.new)
-        result.status }
-    ensures handed { K.handed desk.new ≡ K.handed desk.old }
-    ensures journaled { K.journaled desk.new ≡ K.journaled desk.old }
+        result.config result.tunnel result.unused result.status) }
+    ensures handed { (K.desk desk.new).handed ≡ (K.desk desk.old).handed }
+    ensures journaled { (K.desk desk.new).journaled ≡ (K.desk desk.old).journaled }
     ensures no_client { (result.wire ≡ None) × (result.inlet ≡ None) × (result.moment ≡ None) }
     ensures no_journals { result.journals.items ≡ [] }
     ensures no_last { result.last ≡ None }
@@ -342,17 +368,49 @@ pub fn offline<K: Desk, I: Source, O: Sink, E: Sink>(
     errors: &mut E,
     desk: &mut K,
 ) -> Ended<K>
-    requires client { K.handed desk.old ≡ nothing_handed }
+    requires client { (K.desk desk.old).handed ≡ nothing_handed }
 
     // The same as for `satip` if the words ask for no service.
-    ensures ends { RunEnds K.Config.tells K.Wire.tells K.Inlet.tells I.tells O.tells E.tells
-        (command_of words.now) None
-        K.text K.faults K.given K.handed K.journaled desk.old desk.new
-        (I.feed input.old) (I.feed input.new) (O.drain output.old) (O.drain output.new)
-        (E.drain errors.old) (E.drain errors.new)
-        K.Config.feed result.config result.last result.tunnel result.unused
-        K.Wire.line K.Moment.dial K.Inlet.inbox result.wire result.moment result.inlet
-        result.journals.items result.status }
+    ensures ends { RunEnds
+        (record {
+          input = I.tells;
+          output = O.tells;
+          errors = E.tells;
+          config = K.Config.tells;
+          conn = K.Doors.Conn.tells;
+          outlet = K.Outlet.tells;
+          journal = K.Journal.tells;
+          wire = K.Wire.tells;
+          inlet = K.Inlet.tells;
+        })
+        (asked_offline words.now)
+        (K.desk desk.old) (K.desk desk.new)
+        (record {
+          input = I.feed input.old;
+          output = O.drain output.old;
+          errors = E.drain errors.old;
+        })
+        (record {
+          input = I.feed input.new;
+          output = O.drain output.new;
+          errors = E.drain errors.new;
+        })
+        (record {
+          source = option_map K.Config.feed result.config;
+          last = option_map (last_view
+              (jobs_view K.Doors.hall K.Outlet.outbox K.Store.shelf K.Clock.dial)) result.last;
+          tunnel = option_map (tunnel_last_view
+              (jobs_view K.Doors.hall K.Outlet.outbox K.Store.shelf K.Clock.dial)
+              (jobs_view K.Doors.hall no_outbox K.Store.shelf K.Clock.dial)) result.tunnel;
+          unused = option_map
+              (jobs_view K.Doors.hall K.Outlet.outbox K.Store.shelf K.Clock.dial) result.unused;
+          left = left_of K.Wire.line K.Moment.dial K.Inlet.inbox
+              result.wire result.moment result.inlet;
+          journals = journals_view K.Journal.job K.Journal.drain result.journals.items;
+          status = result.status;
+        }) }
+    ensures nothing { config_named (command_of words.now) ≡ None
+        → recording_in (command_of words.now) ≡ None → desk.new ≡ desk.old }
 {
     match read_words(words) {
         None => {
@@ -391,12 +449,21 @@ pub fn offline<K: Desk, I: Source, O: Sink, E: Sink>(
 
 // Returns the end of a run that has no jobs and no client.
 fn without_jobs<K: Desk>(alloc: Global, status: u8, config: Option<K::Config>) -> Ended<K>
-    ensures status { result.status ≡ status }
-    ensures config { result.config ≡ config }
-    ensures back { (form : Option Form) → (config_named form ≡ None → IsNone config)
-        → GivesBack form None
-        result.config result.last result.tunnel result.unused
-        result.wire result.inlet result.moment result.journals.items }
+    ensures ended { record {
+      source = option_map K.Config.feed result.config;
+      last = option_map (last_view
+          (jobs_view K.Doors.hall K.Outlet.outbox K.Store.shelf K.Clock.dial)) result.last;
+      tunnel = option_map (tunnel_last_view
+          (jobs_view K.Doors.hall K.Outlet.outbox K.Store.shelf K.Clock.dial)
+          (jobs_view K.Doors.hall no_outbox K.Store.shelf K.Clock.dial)) result.tunnel;
+      unused = option_map
+          (jobs_view K.Doors.hall K.Outlet.outbox K.Store.shelf K.Clock.dial) result.unused;
+      left = left_of K.Wire.line K.Moment.dial K.Inlet.inbox
+          result.wire result.moment result.inlet;
+      journals = journals_view K.Journal.job K.Journal.drain result.journals.items;
+      status = result.status;
+    }
+        ≡ ended_alone (option_map K.Config.feed config) status }
 {
     Ended {
         status,
@@ -419,11 +486,22 @@ fn with_client<K: Desk>(
     inlet: Option<K::Inlet>,
     moment: Option<K::Moment>,
 ) -> Ended<K>
-    ensures status { result.status ≡ status }
-    ensures client { (result.wire ≡ wire) × (result.inlet ≡ inlet) × (result.moment ≡ moment) }
-    ensures back { (w : Wanted) → GivesBack (Some (Record w)) None
-        result.config result.last result.tunnel result.unused
-        result.wire result.inlet result.moment result.journals.items }
+    ensures ended { record {
+      source = option_map K.Config.feed result.config;
+      last = option_map (last_view
+          (jobs_view K.Doors.hall K.Outlet.outbox K.Store.shelf K.Clock.dial)) result.last;
+      tunnel = option_map (tunnel_last_view
+          (jobs_view K.Doors.hall K.Outlet.outbox K.Store.shelf K.Clock.dial)
+          (jobs_view K.Doors.hall no_outbox K.Store.shelf K.Clock.dial)) result.tunnel;
+      unused = option_map
+          (jobs_view K.Doors.hall K.Outlet.outbox K.Store.shelf K.Clock.dial) result.unused;
+      left = left_of K.Wire.line K.Moment.dial K.Inlet.inbox
+          result.wire result.moment result.inlet;
+      journals = journals_view K.Journal.job K.Journal.drain result.journals.items;
+      status = result.status;
+    }
+        ≡ ended_recording (left_of K.Wire.line K.Moment.dial K.Inlet.inbox wire moment inlet)
+        status }
 {
     Ended {
         status,
@@ -440,9 +518,7 @@ fn with_client<K: Desk>(
 
 // Writes a text, and logs if the output failed.
 fn show<O: Sink, E: Sink>(text: &[u8], output: &mut O, errors: &mut E) -> u8
-    ensures shows { (i : Feed) → Shows O.tells i i
-        (O.drain output.old) (O.drain output.new)
-        text.now result }
+    ensures shows { IsShown O.tells (O.drain output.old) (O.drain output.new) text.now result }
     ensures says { Says E.tells
         (E.drain errors.old) (E.drain errors.new)
         (line_of result) }

@@ -136,7 +136,9 @@ counted caller front tune packets work (t ∷ u ∷ us) left last gives is =
 -- a burst of packets
 pub gave_paces : (may_want : Bool) (front tune : ℕ) (work : Work) (k l : Known) (tells : Type 0) (o n : Outbox) (q r : Buffered)
     (result : Result Work ServiceFault)
-    (own : List Item) (p now since more : ℕ) → Gave may_want front tune work k l tells o n q r result → is_of tune work ≡ true
+    (own : List Item) (p now since more : ℕ)
+    → Gave may_want tells front tune work (record { known = k; outbox = o; buffered = q }) (record { known = l; outbox = n; buffered = r }) result
+    → is_of tune work ≡ true
     → length q.packets ≡ more + length r.packets
     → Paced own k.own p now since 0 → Paced own l.own p now (since + more) (owed_by result)
 gave_paces may_want front tune work k l tells o n q r (Ok next) own p now since more gave is size paced =

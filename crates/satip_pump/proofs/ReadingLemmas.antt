@@ -234,8 +234,10 @@ module _ {F : Type 0} (tells : Type 0) (feed : F → Feed) where
       subst P (sym cut.packets) (left_skipped told old.buffer.packets old.buffer.rest buffer.rest old.source owed cut.same cut.none left_is))
 
   -- one step of reading on after another
-  pub reads_then : (r s t : StoreView) (old mid new : Reading F) → ReadsOn tells feed r old s mid → ReadsOn tells feed s mid t new
-      → ReadsOn tells feed r old t new
+  pub reads_then : (r s t : StoreView) (old mid new : Reading F)
+      → ReadsOn tells feed (record { store = r; reading = old }) (record { store = s; reading = mid })
+      → ReadsOn tells feed (record { store = s; reading = mid }) (record { store = t; reading = new })
+      → ReadsOn tells feed (record { store = r; reading = old }) (record { store = t; reading = new })
   reads_then r s t old mid new one two = record {
     goes = λ first early reel stands. two.goes first early reel (one.goes first early reel stands);
     recordings = two.recordings ∙ one.recordings;
@@ -248,6 +250,7 @@ module _ {F : Type 0} (tells : Type 0) (feed : F → Feed) where
   }
 
   -- a step that leaves the store alone
-  pub buffers : (store : StoreView) (old : Reading F) (buffer : Buffered) → Goes tells feed store.faults old store.faults (record old { buffer = buffer })
-      → ReadsOn tells feed store old store (record old { buffer = buffer })
+  pub buffers : (store : StoreView) (old : Reading F) (buffer : Buffered)
+      → Goes tells feed (record { store = store; reading = old }) (record { store = store; reading = record old { buffer = buffer } })
+      → ReadsOn tells feed (record { store = store; reading = old }) (record { store = store; reading = record old { buffer = buffer } })
   buffers store old buffer goes = record { goes = goes; recordings = refl; tune = refl; lent = λ enough. refl; peak = refl }

@@ -21,6 +21,7 @@ use Rattle.satip_plain.specs.Suits.{Suits}
 use Rattle.satip_plain.proofs.Growing.{adds_nothing, adds_then, adds_one, adds_no_more}
 use Rattle.satip_world.specs.Deliveries.{Delivers}
 use Rattle.satip_world.specs.Outboxes.{Outbox}
+use Rattle.satip_world.specs.Recordings.{StoreView}
 use Rattle.satip_world.proofs.DeliveryLemmas.{delivers_none}
 use Rattle.satip_pump.specs.declared.ends.JobEnd.TheVariants.{Stopped, Spent, Want}
 use Rattle.satip_pump.specs.declared.reading.Reading.{Reading}
@@ -29,10 +30,10 @@ use Rattle.satip_pump.specs.Buffers.{Buffered}
 use Rattle.satip_pump.specs.Events.{MakesOne, MakesNone, datagrams_of}
 use Rattle.satip_pump.specs.Loads.{is_of, Gives}
 use Rattle.satip_plain.specs.Pumping.{Reel, Due, Asking, Feeding, Finished, fresh, tuned, after_work, work_told, moved, none_of, after_entry, IsFirst, IsDue, one_if_left, early_by, early_end, Pumps}
-use Rattle.satip_pump.specs.PumpRuns.{RoseBy, last_from, PumpRun}
+use Rattle.satip_pump.specs.PumpRuns.{RoseBy, last_from, PumpState, PumpRun}
 use Rattle.satip_plain.specs.Pumping.{rest_of}
-use Rattle.satip_pump.specs.Readings.{AreToldLeft, Stands, Goes, GoesTo}
-use Rattle.satip_pump.specs.Runs.{SoFar, Runs, Feeds, Fails, Answered}
+use Rattle.satip_pump.specs.Readings.{AreToldLeft, Stands, ReadsOn, GoesTo}
+use Rattle.satip_pump.specs.Runs.{SoFar, PumpNow, Runs, Feeds, Fails, Answered}
 use Rattle.satip_pump.specs.Works.{Works, Gave}
 use Rattle.satip_pump.proofs.TickLemmas.{delivers_both, delivers_entry}
 use Rattle.satip_pump.proofs.ReadingLemmas.{rose_less, rose_later, rose_none}
@@ -57,50 +58,73 @@ pub last_then : (answer : Option Answer) (es fs : List Item) → last_from answe
 last_then answer [] fs = refl
 last_then answer (e ∷ es) fs = last_then (Some e.answer) es fs
 
+-- the state of a pump
+abbrev pub shown : (ℕ → Option (List ℕ)) → Known → Outbox → ℕ → PumpState
+shown recording known outbox faults = record { recording = recording; known = known; outbox = outbox; faults = faults }
+
+-- and its reading
+abbrev pub pumping : {F : Type 0} → (ℕ → Option (List ℕ)) → Known → Outbox → ℕ → Reading F → PumpNow F
+pumping recording known outbox faults reading = record { state = shown recording known outbox faults; reading = reading }
+
 -- nothing was asked yet
-pub so_far_none : (front : ℕ) (recording : ℕ → Option (List ℕ)) (tells : Type 0) (k : Known) (o : Outbox)
-    → SoFar front recording tells k k o o (Asking None) None 0
-so_far_none front recording tells k o = record {
+pub so_far_none : (tells : Type 0) (front : ℕ) (o : PumpState) → SoFar tells front o o (Asking None) None 0
+so_far_none tells front o = record {
   entries = [];
-  adds = adds_nothing k;
+  recordings = refl;
+  adds = adds_nothing o.known;
   pumps = (refl, refl);
-  delivers = delivers_none tells o;
+  delivers = delivers_none tells o.outbox;
   answered = refl;
 }
 
 -- some entries more
-pub so_far_then : (front : ℕ) (recording : ℕ → Option (List ℕ)) (tells : Type 0) (k l m : Known) (o n p : Outbox) (due next : Due) (last last' : Option Answer)
-    (early more : ℕ) (es : List Item) → SoFar front recording tells k l o n due last early → AddsAll l m es → Pumps front recording due es next more
-    → Delivers tells n p (datagrams_of es) → last_from last es ≡ last' → SoFar front recording tells k m o p next last' (early + more)
-so_far_then front recording tells k l m o n p due next last last' early more es so_far adds pumps delivers answered = record {
+pub so_far_then : (tells : Type 0) (front : ℕ) (o n p : PumpState) (due next : Due) (last last' : Option Answer) (early more : ℕ) (es : List Item)
+    → SoFar tells front o n due last early → p.recording ≡ n.recording → AddsAll n.known p.known es → Pumps front o.recording due es next more
+    → Delivers tells n.outbox p.outbox (datagrams_of es) → last_from last es ≡ last' → SoFar tells front o p next last' (early + more)
+so_far_then tells front o n p due next last last' early more es so_far same adds pumps delivers answered = record {
   entries = so_far.entries ++ es;
-  adds = adds_then k l m so_far.entries es so_far.adds adds;
-  pumps = pumps_then front recording (Asking None) due next so_far.entries es early more so_far.pumps pumps;
-  delivers = delivers_both tells o n p so_far.entries es so_far.delivers delivers;
+  recordings = same ∙ so_far.recordings;
+  adds = adds_then o.known n.known p.known so_far.entries es so_far.adds adds;
+  pumps = pumps_then front o.recording (Asking None) due next so_far.entries es early more so_far.pumps pumps;
+  delivers = delivers_both tells o.outbox n.outbox p.outbox so_far.entries es so_far.delivers delivers;
   answered = last_then None so_far.entries es ∙ ap (λ (a : Option Answer). last_from a es) so_far.answered ∙ answered;
 }
 
 -- one entry more
-pub so_far_one : (front : ℕ) (recording : ℕ → Option (List ℕ)) (tells : Type 0) (k l m : Known) (o n p : Outbox) (due : Due) (last : Option Answer)
-    (early : ℕ) (event : Event) (work : Work) → SoFar front recording tells k l o n due last early → IsDue front due event
-    → (made : MakesOne l m tells n p event (WorkIs work))
-    → SoFar front recording tells k m o p (after_entry recording due (entry made.caller event (WorkIs work) made.out)) (Some (WorkIs work))
+pub so_far_one : (tells : Type 0) (front : ℕ) (o n p : PumpState) (due : Due) (last : Option Answer) (early : ℕ) (event : Event) (work : Work)
+    → SoFar tells front o n due last early → p.recording ≡ n.recording → IsDue front due event
+    → (made : MakesOne n.known p.known tells n.outbox p.outbox event (WorkIs work))
+    → SoFar tells front o p (after_entry o.recording due (entry made.caller event (WorkIs work) made.out)) (Some (WorkIs work))
     (early + (early_end due (entry made.caller event (WorkIs work) made.out) + 0))
-so_far_one front recording tells k l m o n p due last early event work so_far is_due made =
+so_far_one tells front o n p due last early event work so_far same is_due made =
     let e : Item = entry made.caller event (WorkIs work) made.out in
-    so_far_then front recording tells k l m o n p due (after_entry recording due e) last (Some (WorkIs work)) early (early_end due e + 0) (e ∷ [])
-    so_far (adds_one l m e made.adds) (is_due, (0, (refl, refl), refl)) (delivers_entry tells n p e made.delivers) refl
+    so_far_then tells front o n p due (after_entry o.recording due e) last (Some (WorkIs work)) early (early_end due e + 0) (e ∷ [])
+    so_far same (adds_one n.known p.known e made.adds) (is_due, (0, (refl, refl), refl)) (delivers_entry tells n.outbox p.outbox e made.delivers) refl
 
 -- no entry more
-pub so_far_unmade : (may_want : Bool) (front : ℕ) (recording : ℕ → Option (List ℕ)) (tells : Type 0) (k l m : Known) (o n p : Outbox) (due : Due)
-    (last : Option Answer) (early : ℕ) (fault : ServiceFault) → SoFar front recording tells k l o n due last early → MakesNone may_want l m n p fault
-    → SoFar front recording tells k m o p due last early
-so_far_unmade may_want front recording tells k l m o n p due last early fault so_far none = record {
+pub so_far_unmade : (may_want : Bool) (tells : Type 0) (front : ℕ) (o n p : PumpState) (due : Due) (last : Option Answer) (early : ℕ) (fault : ServiceFault)
+    → SoFar tells front o n due last early → p.recording ≡ n.recording → MakesNone may_want n.known p.known n.outbox p.outbox fault
+    → SoFar tells front o p due last early
+so_far_unmade may_want tells front o n p due last early fault so_far same none = record {
   entries = so_far.entries;
-  adds = let Q : List Item → Type 0 = λ es. AddsAll k m es in
-      subst Q (append-nil so_far.entries) (adds_then k l m so_far.entries [] so_far.adds (adds_no_more l m none.unmade.adds));
+  recordings = same ∙ so_far.recordings;
+  adds = let Q : List Item → Type 0 = λ es. AddsAll o.known p.known es in
+      subst Q (append-nil so_far.entries)
+      (adds_then o.known n.known p.known so_far.entries [] so_far.adds (adds_no_more n.known p.known none.unmade.adds));
   pumps = so_far.pumps;
-  delivers = let P : Outbox → Type 0 = λ q. Delivers tells o q (datagrams_of so_far.entries) in subst P (sym none.unsent) so_far.delivers;
+  delivers = let P : Outbox → Type 0 = λ q. Delivers tells o.outbox q (datagrams_of so_far.entries) in subst P (sym none.unsent) so_far.delivers;
+  answered = so_far.answered;
+}
+
+-- the store changed, but for its recordings
+pub so_far_kept : (tells : Type 0) (front : ℕ) (o n : PumpState) (recording : ℕ → Option (List ℕ)) (faults : ℕ) (due : Due) (last : Option Answer) (early : ℕ)
+    → SoFar tells front o n due last early → recording ≡ n.recording → SoFar tells front o (shown recording n.known n.outbox faults) due last early
+so_far_kept tells front o n recording faults due last early so_far same = record {
+  entries = so_far.entries;
+  recordings = same ∙ so_far.recordings;
+  adds = so_far.adds;
+  pumps = so_far.pumps;
+  delivers = so_far.delivers;
   answered = so_far.answered;
 }
 
@@ -227,73 +251,79 @@ module _ {F : Type 0} (reads : Type 0) (feed : F → Feed) where
       }
 
   -- the service answered a question
-  pub asked : (may_want : Bool) (front : ℕ) (recording : ℕ → Option (List ℕ)) (tells : Type 0) (k l m : Known) (o n p : Outbox) (first now : ℕ)
+  pub asked : (may_want : Bool) (front : ℕ) (tells : Type 0) (o : PumpState) (recording : ℕ → Option (List ℕ)) (l m : Known) (n p : Outbox) (now : ℕ)
       (reading : Reading F) (result : Result Work ServiceFault)
-      → Runs front recording tells reads feed k l o n first now Nothing reading → Works may_want l m tells n p (Ask front) result
-      → Answered may_want front recording tells reads feed k m o p first now reading result
-  asked may_want front recording tells k l m o n p first now reading (Ok work) runs made =
-      let P : ℕ → Type 0 = λ e. Stands reads feed first now e (runs.reel) reading in
+      → Runs tells reads feed front o (pumping recording l n now reading) Nothing → Works may_want l m tells n p (Ask front) result
+      → Answered may_want tells reads feed front o (pumping recording m p now reading) result
+  asked may_want front tells o recording l m n p now reading (Ok work) runs made =
+      let P : ℕ → Type 0 = λ e. Stands reads feed o.faults now e (runs.reel) reading in
       let none : runs.early ≡ runs.early + (0 + 0) = omega arith in
       record {
         reel = runs.reel;
         early = runs.early + (0 + 0);
-        so_far = so_far_one front recording tells k l m o n p (Asking runs.reel) (Some (WorkIs Nothing)) runs.early (Ask front) work runs.so_far refl made;
+        so_far = so_far_one tells front o (shown recording l n now) (shown recording m p now) (Asking runs.reel) (Some (WorkIs Nothing)) runs.early
+            (Ask front) work runs.so_far refl refl made;
         stands = subst P none runs.stands;
       }
-  asked may_want front recording tells k l m o n p first now reading (Err fault) runs none = record {
+  asked may_want front tells o recording l m n p now reading (Err fault) runs none = record {
     due = Asking runs.reel;
     last = Some (WorkIs Nothing);
     early = runs.early;
-    so_far = so_far_unmade may_want front recording tells k l m o n p (Asking runs.reel) (Some (WorkIs Nothing)) runs.early fault runs.so_far none;
-    few = rose_less runs.early runs.stands.owed first now runs.stands.few;
+    so_far = so_far_unmade may_want tells front o (shown recording l n now) (shown recording m p now) (Asking runs.reel) (Some (WorkIs Nothing)) runs.early
+        fault runs.so_far refl none;
+    few = rose_less runs.early runs.stands.owed o.faults now runs.stands.few;
     going = λ is. cc is;
     cause = none.unmade.cause;
   }
 
   -- so it is where the work before it was nothing
-  pub asked_after : (may_want : Bool) (front : ℕ) (recording : ℕ → Option (List ℕ)) (tells : Type 0) (k l m : Known) (o n p : Outbox) (first now : ℕ)
+  pub asked_after : (may_want : Bool) (front : ℕ) (tells : Type 0) (o : PumpState) (recording : ℕ → Option (List ℕ)) (l m : Known) (n p : Outbox) (now : ℕ)
       (work : Work) (reading : Reading F) (result : Result Work ServiceFault)
-      → work ≡ Nothing → Runs front recording tells reads feed k l o n first now work reading → Works may_want l m tells n p (Ask front) result
-      → Answered may_want front recording tells reads feed k m o p first now reading result
-  asked_after may_want front recording tells k l m o n p first now work reading result is runs works =
-      let P : Work → Type 0 = λ w. Runs front recording tells reads feed k l o n first now w reading in
-      asked may_want front recording tells k l m o n p first now reading result (subst P is runs) works
+      → work ≡ Nothing → Runs tells reads feed front o (pumping recording l n now reading) work → Works may_want l m tells n p (Ask front) result
+      → Answered may_want tells reads feed front o (pumping recording m p now reading) result
+  asked_after may_want front tells o recording l m n p now work reading result is runs works =
+      let P : Work → Type 0 = λ w. Runs tells reads feed front o (pumping recording l n now reading) w in
+      asked may_want front tells o recording l m n p now reading result (subst P is runs) works
 
   -- the service answered the first question
-  pub asked_first : (may_want : Bool) (front : ℕ) (recording : ℕ → Option (List ℕ)) (tells : Type 0) (k m : Known) (o p : Outbox) (first : ℕ)
+  pub asked_first : (may_want : Bool) (front : ℕ) (tells : Type 0) (recording : ℕ → Option (List ℕ)) (k m : Known) (o p : Outbox) (first : ℕ)
       (reading : Reading F) (result : Result Work ServiceFault)
       → reading.tune ≡ None → Works may_want k m tells o p (Ask front) result
-      → Answered may_want front recording tells reads feed k m o p first first reading result
-  asked_first may_want front recording tells k m o p first reading (Ok work) begun made = record {
+      → Answered may_want tells reads feed front (shown recording k o first) (pumping recording m p first reading) result
+  asked_first may_want front tells recording k m o p first reading (Ok work) begun made = record {
     reel = None;
     early = 0 + (0 + 0);
-    so_far = so_far_one front recording tells k k m o o p (Asking None) None 0 (Ask front) work (so_far_none front recording tells k o) refl made;
+    so_far = so_far_one tells front (shown recording k o first) (shown recording k o first) (shown recording m p first) (Asking None) None 0 (Ask front) work
+        (so_far_none tells front (shown recording k o first)) refl refl made;
     stands = record { owed = 0; is_reel = begun; few = rose_none first };
   }
-  asked_first may_want front recording tells k m o p first reading (Err fault) begun none = record {
+  asked_first may_want front tells recording k m o p first reading (Err fault) begun none = record {
     due = Asking None;
     last = None;
     early = 0;
-    so_far = so_far_unmade may_want front recording tells k k m o o p (Asking None) None 0 fault (so_far_none front recording tells k o) none;
+    so_far = so_far_unmade may_want tells front (shown recording k o first) (shown recording k o first) (shown recording m p first) (Asking None) None 0 fault
+        (so_far_none tells front (shown recording k o first)) refl none;
     few = rose_none first;
     going = λ is. cc is;
     cause = none.unmade.cause;
   }
 
   -- a tuning is read for
-  pub turned : (front : ℕ) (recording : ℕ → Option (List ℕ)) (tells : Type 0) (k l : Known) (o n : Outbox) (first a b c mux tune : ℕ)
-      (old mid new : Reading F)
-      → Runs front recording tells reads feed k l o n first a (Tune mux tune) old → GoesTo reads feed recording a old mux tune b mid
-      → Goes reads feed b mid c new
-      → Feeds front recording tells reads feed k l o n first c (Tune mux tune) tune new
-  turned front recording tells k l o n first a b c mux tune old mid new runs goes on =
-      let reel : Reel = tuned recording runs.reel mux tune in
+  pub turned : (front : ℕ) (tells : Type 0) (o : PumpState) (k : Known) (n : Outbox) (r s t : StoreView) (mux tune : ℕ) (old mid new : Reading F)
+      → Runs tells reads feed front o (pumping r.recording k n r.faults old) (Tune mux tune)
+      → GoesTo reads feed mux tune (record { store = r; reading = old }) (record { store = s; reading = mid })
+      → s.recording ≡ r.recording → ReadsOn reads feed (record { store = s; reading = mid }) (record { store = t; reading = new })
+      → Feeds tells reads feed front o (pumping t.recording k n t.faults new) (Tune mux tune) tune
+  turned front tells o k n r s t mux tune old mid new runs goes same on =
+      let reel : Reel = tuned r.recording runs.reel mux tune in
+      let R : (ℕ → Option (List ℕ)) → Type 0 = λ f. Stands reads feed o.faults t.faults runs.early (Some (tuned f runs.reel mux tune)) new in
       record {
-        reel = reel;
+        reel = tuned o.recording runs.reel mux tune;
         early = runs.early;
-        so_far = runs.so_far;
-        stands = on first runs.early (Some reel) (goes first runs.early runs.reel runs.stands);
-        same = tuned_for recording runs.reel mux tune;
+        so_far = so_far_kept tells front o (shown r.recording k n r.faults) t.recording t.faults (Feeding (tuned o.recording runs.reel mux tune))
+            (Some (WorkIs (Tune mux tune))) runs.early runs.so_far (on.recordings ∙ same);
+        stands = subst R runs.so_far.recordings (on.goes o.faults runs.early (Some reel) (goes o.faults runs.early runs.reel runs.stands));
+        same = tuned_for o.recording runs.reel mux tune;
       }
 
   -- where nothing waits and nothing is read, a fault was there for packets that are left
@@ -312,12 +342,12 @@ module _ {F : Type 0} (reads : Type 0) (feed : F → Feed) where
   over (Some ps) held owed is = ([], refl, inl refl, is.3)
 
   -- the end of a recording was answered
-  pub finished : (may_want : Bool) (front : ℕ) (recording : ℕ → Option (List ℕ)) (tells : Type 0) (k l m : Known) (o n p : Outbox) (first now : ℕ)
+  pub finished : (may_want : Bool) (front : ℕ) (tells : Type 0) (o : PumpState) (recording : ℕ → Option (List ℕ)) (l m : Known) (n p : Outbox) (now : ℕ)
       (work : Work) (tune : ℕ) (reading : Reading F) (result : Result Work ServiceFault)
-      → Feeds front recording tells reads feed k l o n first now work tune reading → is_of tune work ≡ true
+      → Feeds tells reads feed front o (pumping recording l n now reading) work tune → is_of tune work ≡ true
       → reading.buffer.packets ≡ [] → reading.source ≡ None → Works may_want l m tells n p (Ended front tune) result
-      → Answered may_want front recording tells reads feed k m o p first now reading result
-  finished may_want front recording tells k l m o n p first now work tune reading (Ok next) feeds for_it empty shut made =
+      → Answered may_want tells reads feed front o (pumping recording m p now reading) result
+  finished may_want front tells o recording l m n p now work tune reading (Ok next) feeds for_it empty shut made =
       let reel : Reel = feeds.reel in
       let ended : Reel = record reel { left = none_of reel.left } in
       let early : ℕ = one_if_left reel.left in
@@ -331,52 +361,54 @@ module _ {F : Type 0} (reads : Type 0) (feed : F → Feed) where
       record {
         reel = Some ended;
         early = feeds.early + (early + 0);
-        so_far = so_far_one front recording tells k l m o n p (Feeding reel) (Some (WorkIs work)) feeds.early (Ended front tune) next feeds.so_far
-            (inr event) made;
+        so_far = so_far_one tells front o (shown recording l n now) (shown recording m p now) (Feeding reel) (Some (WorkIs work)) feeds.early
+            (Ended front tune) next feeds.so_far refl (inr event) made;
         stands = record {
           owed = 0;
           is_reel = (feeds.stands.is_reel.0, subst S (sym empty) (subst R (sym shut) (over reel.left reading.buffer.rest feeds.stands.owed told)));
-          few = rose_fewer (feeds.early + (early + 0) + 0) (feeds.early + feeds.stands.owed) first now (omega (arith, few)) feeds.stands.few;
+          few = rose_fewer (feeds.early + (early + 0) + 0) (feeds.early + feeds.stands.owed) o.faults now (omega (arith, few)) feeds.stands.few;
         };
       }
-  finished may_want front recording tells k l m o n p first now work tune reading (Err fault) feeds for_it empty shut none = record {
+  finished may_want front tells o recording l m n p now work tune reading (Err fault) feeds for_it empty shut none = record {
     due = Feeding feeds.reel;
     last = Some (WorkIs work);
     early = feeds.early;
-    so_far = so_far_unmade may_want front recording tells k l m o n p (Feeding feeds.reel) (Some (WorkIs work)) feeds.early fault feeds.so_far none;
-    few = rose_less feeds.early feeds.stands.owed first now feeds.stands.few;
+    so_far = so_far_unmade may_want tells front o (shown recording l n now) (shown recording m p now) (Feeding feeds.reel) (Some (WorkIs work)) feeds.early
+        fault feeds.so_far refl none;
+    few = rose_less feeds.early feeds.stands.owed o.faults now feeds.stands.few;
     going = not_stopping tune work for_it;
     cause = none.unmade.cause;
   }
 
   -- what a burst gave is a part of the run
-  pub record Given (front : ℕ) (recording : ℕ → Option (List ℕ)) (tells : Type 0) (k m : Known) (o p : Outbox) (first now : ℕ) (tune : ℕ) (reading : Reading F)
-      (q : Buffered) (last : Work) : Type 0 where
+  pub record Given (tells : Type 0) (front : ℕ) (o n : PumpState) (reading : Reading F) (last : Work) : Type 0 where
     pub reel : Reel
     pub early : ℕ
-    pub so_far : SoFar front recording tells k m o p (after_work recording (Some reel) last) (Some (WorkIs last)) early
-    pub stands : Stands reads feed first now early (Some reel) (record reading { buffer = q })
+    pub so_far : SoFar tells front o n (after_work o.recording (Some reel) last) (Some (WorkIs last)) early
+    pub stands : Stands reads feed o.faults n.faults early (Some reel) reading
 
-  part_given : (may_want : Bool) (front : ℕ) (recording : ℕ → Option (List ℕ)) (tells : Type 0) (k l m : Known) (o n p : Outbox) (first now : ℕ)
+  part_given : (may_want : Bool) (front : ℕ) (tells : Type 0) (o : PumpState) (recording : ℕ → Option (List ℕ)) (l m : Known) (n p : Outbox) (now : ℕ)
       (work : Work) (tune : ℕ) (reading : Reading F) (q : Buffered) (result : Result Work ServiceFault)
-      → Feeds front recording tells reads feed k l o n first now work tune reading → is_of tune work ≡ true
-      → (gave : Gave may_want front tune work l m tells n p reading.buffer q result)
-      → Given front recording tells k m o p first now tune reading q gave.last
-  part_given may_want front recording tells k l m o n p first now work tune reading q result feeds for_it gave =
-      let part = gives_pumps front recording feeds.reel gave.caller tune reading.buffer.packets work gave.taken q.packets gave.last reading.buffer.rest
+      → Feeds tells reads feed front o (pumping recording l n now reading) work tune → is_of tune work ≡ true
+      → (gave : Gave may_want tells front tune work (record { known = l; outbox = n; buffered = reading.buffer })
+      (record { known = m; outbox = p; buffered = q }) result)
+      → Given tells front o (shown recording m p now) (record reading { buffer = q }) gave.last
+  part_given may_want front tells o recording l m n p now work tune reading q result feeds for_it gave =
+      let part = gives_pumps front o.recording feeds.reel gave.caller tune reading.buffer.packets work gave.taken q.packets gave.last reading.buffer.rest
       reading.source
       feeds.stands.owed gave.gives feeds.same feeds.stands.is_reel.1 in
-      let D : Due → Type 0 = λ d. Pumps front recording d (entries gave.caller gave.taken) (after_work recording (Some part.reel) gave.last) 0 in
+      let D : Due → Type 0 = λ d. Pumps front o.recording d (entries gave.caller gave.taken) (after_work o.recording (Some part.reel) gave.last) 0 in
       let P : List Datagram → Type 0 = λ ds. Delivers tells n p ds in
-      let S : ℕ → Type 0 = λ e. Stands reads feed first now e (Some part.reel) (record reading { buffer = q }) in
+      let S : ℕ → Type 0 = λ e. Stands reads feed o.faults now e (Some part.reel) (record reading { buffer = q }) in
       let R : List ℕ → Type 0 = λ rest. AreToldLeft reads feed part.reel.left q.packets rest reading.source feeds.stands.owed in
       let none : feeds.early ≡ feeds.early + 0 = omega arith in
       record {
         reel = part.reel;
         early = feeds.early + 0;
-        so_far = so_far_then front recording tells k l m o n p (Feeding feeds.reel) (after_work recording (Some part.reel) gave.last) (Some (WorkIs work))
-            (Some (WorkIs gave.last))
-            feeds.early 0 (entries gave.caller gave.taken) feeds.so_far gave.adds (subst D (stays recording feeds.reel tune work feeds.same for_it) part.pumps)
+        so_far = so_far_then tells front o (shown recording l n now) (shown recording m p now) (Feeding feeds.reel)
+            (after_work o.recording (Some part.reel) gave.last) (Some (WorkIs work)) (Some (WorkIs gave.last))
+            feeds.early 0 (entries gave.caller gave.taken) feeds.so_far refl gave.adds
+            (subst D (stays o.recording feeds.reel tune work feeds.same for_it) part.pumps)
             (subst P (sym (datagrams_given gave.caller gave.taken)) gave.delivers)
             (last_given front gave.caller tune reading.buffer.packets work gave.taken q.packets gave.last gave.gives gave.suit);
         stands = subst S none record {
@@ -386,52 +418,58 @@ module _ {F : Type 0} (reads : Type 0) (feed : F → Feed) where
         };
       }
 
-  pub given : (may_want : Bool) (front : ℕ) (recording : ℕ → Option (List ℕ)) (tells : Type 0) (k l m : Known) (o n p : Outbox) (first now : ℕ)
+  pub given : (may_want : Bool) (front : ℕ) (tells : Type 0) (o : PumpState) (recording : ℕ → Option (List ℕ)) (l m : Known) (n p : Outbox) (now : ℕ)
       (work : Work) (tune : ℕ) (reading : Reading F) (q : Buffered) (result : Result Work ServiceFault)
-      → Feeds front recording tells reads feed k l o n first now work tune reading → is_of tune work ≡ true
-      → Gave may_want front tune work l m tells n p reading.buffer q result
-      → Answered may_want front recording tells reads feed k m o p first now (record reading { buffer = q }) result
-  given may_want front recording tells k l m o n p first now work tune reading q (Ok next) feeds for_it gave =
-      let part = part_given may_want front recording tells k l m o n p first now work tune reading q (Ok next) feeds for_it gave in
-      let P : Work → Type 0 = λ w. Runs front recording tells reads feed k m o p first now w (record reading { buffer = q }) in
+      → Feeds tells reads feed front o (pumping recording l n now reading) work tune → is_of tune work ≡ true
+      → Gave may_want tells front tune work (record { known = l; outbox = n; buffered = reading.buffer })
+      (record { known = m; outbox = p; buffered = q }) result
+      → Answered may_want tells reads feed front o (pumping recording m p now (record reading { buffer = q })) result
+  given may_want front tells o recording l m n p now work tune reading q (Ok next) feeds for_it gave =
+      let part = part_given may_want front tells o recording l m n p now work tune reading q (Ok next) feeds for_it gave in
+      let P : Work → Type 0 = λ w. Runs tells reads feed front o (pumping recording m p now (record reading { buffer = q })) w in
       subst P (sym gave.ends) record { reel = Some part.reel; early = part.early; so_far = part.so_far; stands = part.stands }
-  given may_want front recording tells k l m o n p first now work tune reading q (Err fault) feeds for_it gave =
-      let part = part_given may_want front recording tells k l m o n p first now work tune reading q (Err fault) feeds for_it gave in
+  given may_want front tells o recording l m n p now work tune reading q (Err fault) feeds for_it gave =
+      let part = part_given may_want front tells o recording l m n p now work tune reading q (Err fault) feeds for_it gave in
       record {
-        due = after_work recording (Some part.reel) gave.last;
+        due = after_work o.recording (Some part.reel) gave.last;
         last = Some (WorkIs gave.last);
         early = part.early;
         so_far = part.so_far;
-        few = rose_less part.early part.stands.owed first now part.stands.few;
+        few = rose_less part.early part.stands.owed o.faults now part.stands.few;
         going = not_stopping tune gave.last gave.ends.0;
         cause = gave.ends.1;
       }
 
   -- the service stops
-  pub stops : (front : ℕ) (recording : ℕ → Option (List ℕ)) (tells : Type 0) (k l : Known) (o n : Outbox) (first now later : ℕ) (reading : Reading F)
-      → Runs front recording tells reads feed k l o n first now Stopping reading → now ≤ later → PumpRun front recording k l tells o n first later Stopped
-  stops front recording tells k l o n first now later reading runs more = record {
+  pub stops : (front : ℕ) (tells : Type 0) (o : PumpState) (recording recording' : ℕ → Option (List ℕ)) (l : Known) (n : Outbox) (now later : ℕ)
+      (reading : Reading F)
+      → Runs tells reads feed front o (pumping recording l n now reading) Stopping → recording' ≡ recording → now ≤ later
+      → PumpRun tells front o (shown recording' l n later) Stopped
+  stops front tells o recording recording' l n now later reading runs same more = record {
     entries = runs.so_far.entries;
     due = Finished;
     early = runs.early;
+    recordings = same ∙ runs.so_far.recordings;
     adds = runs.so_far.adds;
     pumps = runs.so_far.pumps;
-    few = rose_later runs.early first now later (rose_less runs.early runs.stands.owed first now runs.stands.few) more;
+    few = rose_later runs.early o.faults now later (rose_less runs.early runs.stands.owed o.faults now runs.stands.few) more;
     delivers = runs.so_far.delivers;
     stopped = (λ _. runs.so_far.answered, λ _. refl);
   }
 
 -- the service made no entry of an event
-pub fails : (may_want : Bool) (front : ℕ) (recording : ℕ → Option (List ℕ)) (tells : Type 0) (k l : Known) (o n : Outbox) (first now later : ℕ)
-    (fault : ServiceFault)
-    → Fails may_want front recording tells k l o n first now fault → now ≤ later → PumpRun front recording k l tells o n first later (ended_by fault)
-fails may_want front recording tells k l o n first now later fault failed more = record {
+pub fails : (may_want : Bool) (front : ℕ) (tells : Type 0) (o : PumpState) (recording recording' : ℕ → Option (List ℕ)) (l : Known) (n : Outbox)
+    (now later : ℕ) (fault : ServiceFault)
+    → Fails may_want tells front o (shown recording l n now) fault → recording' ≡ recording → now ≤ later
+    → PumpRun tells front o (shown recording' l n later) (ended_by fault)
+fails may_want front tells o recording recording' l n now later fault failed same more = record {
   entries = failed.so_far.entries;
   due = failed.due;
   early = failed.early;
+  recordings = same ∙ failed.so_far.recordings;
   adds = failed.so_far.adds;
   pumps = failed.so_far.pumps;
-  few = rose_later failed.early first now later failed.few more;
+  few = rose_later failed.early o.faults now later failed.few more;
   delivers = failed.so_far.delivers;
   stopped = (λ is. absurd (no_stop fault is), λ is. absurd (failed.going (sym failed.so_far.answered ∙ is)));
 }

@@ -47,7 +47,8 @@ given_is_of flag front tune work bundle packets some = allowed flag (may_give tu
 
 pub gave_fewer : (may_want : Bool) (front tune : ℕ) (work : Work) (k l : Known) (tells : Type 0) (o n : Outbox) (q r : Buffered)
     (result : Result Work ServiceFault)
-    → Gave may_want front tune work k l tells o n q r result → length r.packets ≤ length q.packets
+    → Gave may_want tells front tune work (record { known = k; outbox = o; buffered = q }) (record { known = l; outbox = n; buffered = r }) result
+    → length r.packets ≤ length q.packets
 gave_fewer may_want front tune work k l tells o n q r result gave = gives_fewer front tune q.packets work gave.taken r.packets gave.last gave.gives
 
 pub record Burst (may_want : Bool) (k l : Known) (tells : Type 0) (o n : Outbox) (f g : Loaded) (result : Result Work ServiceFault) : Type 0 where
@@ -61,7 +62,7 @@ pub record Burst (may_want : Bool) (k l : Known) (tells : Type 0) (o n : Outbox)
 
 pub gave_by : (may_want : Bool) (k l : Known) (tells : Type 0) (o n : Outbox) (f g : Loaded) (q r : Buffered) (result : Result Work ServiceFault)
     → r ≡ g.buffered → f.buffered ≡ q → f.datagrams ≡ [] → Burst may_want k l tells o n f g result
-    → Gave may_want f.front f.tune f.work k l tells o n q r result
+    → Gave may_want tells f.front f.tune f.work (record { known = k; outbox = o; buffered = q }) (record { known = l; outbox = n; buffered = r }) result
 gave_by may_want k l tells o n f g q r result is first none burst =
     let P : List Datagram → Type 0 = λ ds. Delivers tells o n ds in
     let sent : g.datagrams ≡ flat_map (λ (t : Taken Event Answer Output). t.out.datagrams) burst.taken =

@@ -42,24 +42,34 @@ pub record Stands {F : Type 0} (tells : Type 0) (feed : F → Feed) (first now e
   pub is_reel : IsReel tells feed reel reading owed
   pub few : RoseBy (early + owed) first now
 
+-- a store, and the reading of one of its recordings
+pub record ReadState (F : Type 0) : Type 0 where
+  pub store : StoreView
+  pub reading : Reading F
+
+-- the contract's view of a store and a reading
+abbrev pub read_state : {M F : Type 0} → (M → StoreView) → M → Reading F → ReadState F
+read_state shelf store reading = record { store = shelf store; reading = reading }
+
 -- a step keeps `Stands`, for the same recording and the same number of early ends
-abbrev pub Goes : {F : Type 0} → (tells : Type 0) → (F → Feed) → ℕ → Reading F → ℕ → Reading F → Type 0
-Goes tells feed faults old faults' new =
-    (first early : ℕ) (reel : Option Reel) → Stands tells feed first faults early reel old → Stands tells feed first faults' early reel new
+abbrev pub Goes : {F : Type 0} → (tells : Type 0) → (F → Feed) → (o n : ReadState F) → Type 0
+Goes tells feed o n =
+    (first early : ℕ) (reel : Option Reel) → Stands tells feed first o.store.faults early reel o.reading
+    → Stands tells feed first n.store.faults early reel n.reading
 
 -- a step of reading on: the recording and the tune number stay the same. The store changes only if it gets a source back
-pub record ReadsOn {F : Type 0} (tells : Type 0) (feed : F → Feed) (before : StoreView) (old : Reading F) (after : StoreView) (new : Reading F) : Type 0 where
-  pub goes : Goes tells feed before.faults old after.faults new
-  pub recordings : after.recording ≡ before.recording
-  pub tune : new.tune ≡ old.tune
-  pub lent : held old.source ≤ before.lent → after.lent + held old.source ≡ before.lent + held new.source
-  pub peak : after.peak ≡ before.peak
+pub record ReadsOn {F : Type 0} (tells : Type 0) (feed : F → Feed) (o n : ReadState F) : Type 0 where
+  pub goes : Goes tells feed o n
+  pub recordings : n.store.recording ≡ o.store.recording
+  pub tune : n.reading.tune ≡ o.reading.tune
+  pub lent : held o.reading.source ≤ o.store.lent → n.store.lent + held o.reading.source ≡ o.store.lent + held n.reading.source
+  pub peak : n.store.peak ≡ o.store.peak
 
 -- a step keeps `Stands`, for the recording of the tuning that follows
-abbrev pub GoesTo : {F : Type 0} → (tells : Type 0) → (F → Feed) → (ℕ → Option (List ℕ)) → ℕ → Reading F → ℕ → ℕ → ℕ → Reading F → Type 0
-GoesTo tells feed recording faults old mux tune faults' new =
-    (first early : ℕ) (reel : Option Reel) → Stands tells feed first faults early reel old
-    → Stands tells feed first faults' early (Some (tuned recording reel mux tune)) new
+abbrev pub GoesTo : {F : Type 0} → (tells : Type 0) → (F → Feed) → (mux tune : ℕ) → (o n : ReadState F) → Type 0
+GoesTo tells feed mux tune o n =
+    (first early : ℕ) (reel : Option Reel) → Stands tells feed first o.store.faults early reel o.reading
+    → Stands tells feed first n.store.faults early (Some (tuned o.store.recording reel mux tune)) n.reading
 
 -- the source failed at some time
 abbrev pub HasFailed : {F : Type 0} → (F → Feed) → Option F → Type 0

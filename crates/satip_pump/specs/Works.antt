@@ -36,14 +36,24 @@ abbrev pub GaveEnds : Bool → Known → ℕ → Work → Result Work ServiceFau
 GaveEnds may_want l tune last (Ok work) = work ≡ last
 GaveEnds may_want l tune last (Err fault) = (is_of tune last ≡ true) × Cause may_want l fault
 
+-- the state of a pump's service, outlet and buffer
+pub record GiveState : Type 0 where
+  pub known : Known
+  pub outbox : Outbox
+  pub buffered : Buffered
+
+-- the contract's view of a service, an outlet and a buffer
+abbrev pub give_state : {S O : Type 0} → (S → Known) → (O → Outbox) → S → O → Buffered → GiveState
+give_state known outbox service outlet buffered = record { known = known service; outbox = outbox outlet; buffered = buffered }
+
 -- waiting packets were given in order, one entry each, and the outlet was given their datagrams
-pub record Gave (may_want : Bool) (front tune : ℕ) (work : Work) (k l : Known) (tells : Type 0) (o n : Outbox) (q r : Buffered) (result : Result Work ServiceFault) : Type 0 where
+pub record Gave (may_want : Bool) (tells : Type 0) (front tune : ℕ) (work : Work) (o n : GiveState) (result : Result Work ServiceFault) : Type 0 where
   pub caller : ℕ
   pub taken : List (Taken Event Answer Output)
   pub last : Work
-  pub gives : Gives front tune q.packets work taken r.packets last
-  pub rest : r.rest ≡ q.rest
+  pub gives : Gives front tune o.buffered.packets work taken n.buffered.packets last
+  pub rest : n.buffered.rest ≡ o.buffered.rest
   pub suit : Each (λ t. Suits t.event t.answer) taken
-  pub adds : AddsAll k l (entries caller taken)
-  pub delivers : Delivers tells o n (flat_map (λ t. t.out.datagrams) taken)
-  pub ends : GaveEnds may_want l tune last result
+  pub adds : AddsAll o.known n.known (entries caller taken)
+  pub delivers : Delivers tells o.outbox n.outbox (flat_map (λ t. t.out.datagrams) taken)
+  pub ends : GaveEnds may_want n.known tune last result

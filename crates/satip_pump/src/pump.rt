@@ -1,12 +1,10 @@
 //! The pump of a front end.
 ghost use Rattle.std.specs.Prelude.{◌≡◌, ◌+◌, ◌-◌, ◌<◌, ◌≤◌, ℕ, max, List, true, false, length, None};
 ghost use Rattle.satip_plain.specs.Histories.{Item};
-ghost use Rattle.satip_plain.specs.Known.{Known};
-ghost use Rattle.satip_world.specs.Outboxes.{Outbox};
 ghost use Rattle.satip_pump.specs.Pauses.{Paced, PumpPauses, owed_by};
-ghost use Rattle.satip_pump.specs.PumpRuns.{PumpRun};
+ghost use Rattle.satip_pump.specs.PumpRuns.{PumpRun, PumpState, pump_state};
 ghost use Rattle.satip_pump.specs.Readings.{held};
-ghost use Rattle.satip_pump.specs.Runs.{Runs, Answered};
+ghost use Rattle.satip_pump.specs.Runs.{Runs, Answered, pump_now};
 ghost use Rattle.satip_pump.specs.Works.{Works};
 
 use crate::batch::Batch;
@@ -69,13 +67,12 @@ fn tune<R: Wait, S: Service, M: MuxStore, O: Outlet, P: Pacer>(
     requires free { (O.outbox kit.old.outlet).held ≡ false }
     ensures free { (O.outbox kit.new.outlet).held ≡ false }
     ensures same { S.same service.old service.new }
-    ensures answered { (k : Known) (o : Outbox) (first : ℕ)
-        → Runs pump.old.front (M.shelf kit.old.store).recording O.tells M.From.tells M.From.feed k
-        (S.known service.old) o (O.outbox kit.old.outlet)
-        first (M.shelf kit.old.store).faults (Work.Tune tuning.0 tuning.1) pump.old.reading
-        → Answered (S.may_want service.old) pump.old.front (M.shelf kit.old.store).recording O.tells
-        M.From.tells M.From.feed k (S.known service.new) o (O.outbox kit.new.outlet)
-        first (M.shelf kit.new.store).faults pump.new.reading result }
+    ensures answered { (o : PumpState)
+        → Runs O.tells M.From.tells M.From.feed pump.old.front o
+        (pump_now S.known M.shelf O.outbox service.old kit.old pump.old.reading)
+        (Work.Tune tuning.0 tuning.1)
+        → Answered (S.may_want service.old) O.tells M.From.tells M.From.feed pump.old.front o
+        (pump_now S.known M.shelf O.outbox service.new kit.new pump.new.reading) result }
     ensures paces { (own : List Item) (first : ℕ)
         → Paced own (S.known service.old).own first (P.pauses kit.old.pacer) pump.old.since 0
         → Paced own (S.known service.new).own first (P.pauses kit.new.pacer) pump.new.since
@@ -131,10 +128,8 @@ pub fn run_pump<R: Wait + Sync, S: Service, M: MuxStore, O: Outlet, P: Pacer>(
     requires free { (O.outbox kit.old.outlet).held ≡ false }
     ensures free { (O.outbox kit.new.outlet).held ≡ false }
     ensures same { S.same service.old service.new }
-    ensures run { PumpRun front (M.shelf kit.old.store).recording (S.known service.old)
-        (S.known service.new)
-        O.tells (O.outbox kit.old.outlet) (O.outbox kit.new.outlet) (M.shelf kit.old.store).faults
-        (M.shelf kit.new.store).faults result }
+    ensures run { PumpRun O.tells front (pump_state S.known M.shelf O.outbox service.old kit.old)
+        (pump_state S.known M.shelf O.outbox service.new kit.new) result }
     ensures pauses { PumpPauses (S.known service.old).own (S.known service.new).own
         (P.pauses kit.old.pacer) (P.pauses kit.new.pacer) }
     ensures spent { result ≡ JobEnd.Spent → (S.known service.new).length ≡ LONGEST_HISTORY }

@@ -2,7 +2,7 @@
 ghost use Rattle.std.specs.Prelude.{◌≡◌, ◌+◌, ◌-◌, ◌<◌, ◌≤◌, ◌↔◌, max, true, false, [], length, Some, None, IsTrue};
 ghost use Rattle.satip_ts.specs.Recording.{cut_packets};
 ghost use Rattle.satip_world.specs.Counts.{Rises};
-ghost use Rattle.satip_pump.specs.Readings.{GoesTo, ReadsOn, HasFailed, Begins, begun, held};
+ghost use Rattle.satip_pump.specs.Readings.{GoesTo, ReadsOn, HasFailed, Begins, begun, held, read_state};
 
 use crate::buffer::Buffer;
 use satip_base::Taken;
@@ -76,9 +76,8 @@ pub(crate) fn turn_to<M: MuxStore>(
     mux: u16,
     tune: u64,
 )
-    ensures goes { GoesTo M.From.tells M.From.feed (M.shelf store.old).recording
-        (M.shelf store.old).faults reading.old mux tune
-        (M.shelf store.new).faults reading.new }
+    ensures goes { GoesTo M.From.tells M.From.feed mux tune
+        (read_state M.shelf store.old reading.old) (read_state M.shelf store.new reading.new) }
     ensures recordings { (M.shelf store.new).recording ≡ (M.shelf store.old).recording }
     ensures tune { reading.new.tune ≡ Some tune }
     ensures fewer { length reading.new.buffer.packets ≤ length reading.old.buffer.packets }
@@ -104,8 +103,8 @@ fn read_more<M: MuxStore>(reading: &mut Reading<M::From>, store: &mut M, packets
     requires none { cut_packets reading.old.buffer.rest ≡ [] }
     requires some { 1 ≤ packets }
     requires most { packets ≤ 64 }
-    ensures reads_on { ReadsOn M.From.tells M.From.feed (M.shelf store.old) reading.old
-        (M.shelf store.new) reading.new }
+    ensures reads_on { ReadsOn M.From.tells M.From.feed
+        (read_state M.shelf store.old reading.old) (read_state M.shelf store.new reading.new) }
     ensures shut { result ≡ false → reading.new.buffer.packets ≡ [] → reading.new.source ≡ None }
     ensures packets { reading.new.buffer.packets ≡ reading.old.buffer.packets }
     ensures room { reading.new.buffer.room ≡ reading.old.buffer.room }
@@ -135,8 +134,8 @@ fn read_one<M: MuxStore>(reading: &mut Reading<M::From>, store: &mut M, packets:
     requires some { 1 ≤ packets }
     requires room { packets ≤ reading.old.buffer.room }
     requires most { packets ≤ 64 }
-    ensures reads_on { ReadsOn M.From.tells M.From.feed (M.shelf store.old) reading.old
-        (M.shelf store.new) reading.new }
+    ensures reads_on { ReadsOn M.From.tells M.From.feed
+        (read_state M.shelf store.old reading.old) (read_state M.shelf store.new reading.new) }
     ensures shut { result ≡ false → reading.new.buffer.packets ≡ [] → reading.new.source ≡ None }
     ensures most { length reading.new.buffer.packets ≤ length reading.old.buffer.packets + 1 }
     ensures room { reading.new.buffer.room + length reading.new.buffer.packets
@@ -159,8 +158,8 @@ pub(crate) fn fill<R: Wait, M: MuxStore>(
     requires few { length reading.old.buffer.packets ≤ most }
     requires some { 1 ≤ most }
     requires most { most ≤ 64 }
-    ensures reads_on { ReadsOn M.From.tells M.From.feed (M.shelf store.old) reading.old
-        (M.shelf store.new) reading.new }
+    ensures reads_on { ReadsOn M.From.tells M.From.feed
+        (read_state M.shelf store.old reading.old) (read_state M.shelf store.new reading.new) }
     ensures most { length reading.new.buffer.packets ≤ most }
     ensures empty { reading.new.buffer.packets ≡ [] → reading.new.source ≡ None }
 {

@@ -1,6 +1,6 @@
 //! Events that ask for work.
 ghost use Rattle.std.specs.Prelude.{◌≡◌, ◌≤◌, length, false};
-ghost use Rattle.satip_pump.specs.Works.{AsksWork, Works, Gave};
+ghost use Rattle.satip_pump.specs.Works.{AsksWork, Works, Gave, give_state};
 
 use crate::batch::Batch;
 use crate::buffer::Buffer;
@@ -45,9 +45,9 @@ pub(crate) fn give<S: Service, O: Outlet>(
     requires free { (O.outbox outlet.old).held ≡ false }
     ensures free { (O.outbox outlet.new).held ≡ false }
     ensures same { S.same service.old service.new }
-    ensures gave { Gave (S.may_want service.old) tuning.0 tuning.1 work (S.known service.old)
-        (S.known service.new)
-        O.tells (O.outbox outlet.old) (O.outbox outlet.new) buffer.old buffer.new result }
+    ensures gave { Gave (S.may_want service.old) O.tells tuning.0 tuning.1 work
+        (give_state S.known O.outbox service.old outlet.old buffer.old)
+        (give_state S.known O.outbox service.new outlet.new buffer.new) result }
     ensures fewer { length buffer.new.packets ≤ length buffer.old.packets }
 {
     outlet.lock();

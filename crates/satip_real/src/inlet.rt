@@ -3,16 +3,17 @@
 ghost use Rattle.std.specs.Prelude.{◌≡◌, ◌≤◌, ◌%◌, IfOk, IfSome, length};
 ghost use Rattle.satip_world.specs.Inboxes.{fresh_inbox};
 
-use crate::addresses::socket_addr;
+use crate::addresses::{peer_of, socket_addr};
 use crate::errors::{comes_later, is_taken};
 use crate::options::widen_input;
 use crate::readiness::has_input;
 use mio::net::UdpSocket;
-use satip_base::Address;
+use satip_base::{Address, Peer};
 use satip_world::{Inlet, Received};
 use std::io;
 use std::io::ErrorKind;
 use std::marker::Model;
+use std::net::SocketAddr;
 
 // The time for which a receive waits for a datagram, in milliseconds.
 const WAIT_MS: i32 = 1;
@@ -20,7 +21,11 @@ const WAIT_MS: i32 = 1;
 // How many ports are tried; the other port of a pair may be in use.
 const TRIES: u32 = 64;
 
-/// A UDP socket at an even port, with the largest receive buffer that the system gives.
+// The most datagrams of other hosts that a receive drops before it looks for one later.
+const OTHERS: u32 = 64;
+
+/// A UDP socket at an even port, with the largest receive buffer that the system gives. Datagrams
+/// of other hosts than its server are dropped, if it has one.
 ///
 /// The next port is bound too and never read. So no other program gets what the server sends there,
 /// and the server gets no error that the port is closed.
@@ -31,6 +36,7 @@ const TRIES: u32 = 64;
 pub struct RealInlet {
     socket: UdpSocket,
     _beside: UdpSocket,
+    server: Option<Peer>,
     port: u16,
     count: u64,
     idles: u64,
@@ -82,7 +88,7 @@ fn bind_if_free(rt: &HostRuntime, ip: u32, port: u16) -> io::Result<Option<UdpSo
 
 // Binds a port that the system chooses, and the other one of its pair; `None` if that one isn't
 // available.
-fn try_bind(rt: &HostRuntime, ip: u32) -> io::Result<Option<RealInlet>>
+fn try_bind(rt: &HostRuntime, ip: u32, server: Option<Peer>) -> io::Result<Option<RealInlet>>
     ensures fresh { IfOk result (λ found. IfSome found (λ inlet. inlet ≡ fresh_inbox inlet.port)) }
     ensures even { IfOk result (λ found. IfSome found (λ inlet. inlet.port % 2 ≡ 0)) }
 {
@@ -96,29 +102,29 @@ fn try_bind(rt: &HostRuntime, ip: u32) -> io::Result<Option<RealInlet>>
         return Ok(None);
     };
     if chosen_port == port {
-        return Ok(Some(RealInlet::over(chosen, other, port)));
+        return Ok(Some(RealInlet::over(chosen, other, port, server)));
     }
-    Ok(Some(RealInlet::over(other, chosen, port)))
+    Ok(Some(RealInlet::over(other, chosen, port, server)))
 }
 
 impl RealInlet {
     ghost use Rattle.satip_world.specs.Inboxes.{fresh_inbox};
 
     /// Binds an even port and the next one at an IPv4 address of the host, or at all its addresses
-    /// if it is 0. No datagram was received yet.
-    pub fn bind(rt: HostRuntime, ip: u32) -> io::Result<RealInlet>
+    /// if it is 0. No datagram was received yet. Drops datagrams of other hosts than `server`.
+    pub fn bind(rt: HostRuntime, ip: u32, server: Option<Peer>) -> io::Result<RealInlet>
         ensures fresh { IfOk result (λ inlet. inlet ≡ fresh_inbox inlet.port) }
         ensures even { IfOk result (λ inlet. inlet.port % 2 ≡ 0) }
     {
         for _ in 0..TRIES {
-            if let Some(inlet) = try_bind(&rt, ip)? {
+            if let Some(inlet) = try_bind(&rt, ip, server)? {
                 return Ok(inlet);
             }
         }
         Err(io::Error::from(ErrorKind::AddrInUse))
     }
 
-    fn over(socket: UdpSocket, beside: UdpSocket, port: u16) -> RealInlet
+    fn over(socket: UdpSocket, beside: UdpSocket, port: u16, server: Option<Peer>) -> RealInlet
         requires some { 1 ≤ port }
         requires next { port ≤ 65534 }
         ensures fresh { result ≡ fresh_inbox port }
@@ -127,6 +133,7 @@ impl RealInlet {
         RealInlet {
             socket,
             _beside: beside,
+            server,
             port,
             count: 0,
             idles: 0,
@@ -134,15 +141,24 @@ impl RealInlet {
         }
     }
 
-    // Takes the oldest datagram; `None` if there is none.
+    // Returns whether a datagram of this sender is received.
+    fn hears(&self, from: SocketAddr) -> bool {
+        self.server.is_none() || peer_of(from) == self.server
+    }
+
+    // Takes the oldest datagram of the server, and drops those of others; `None` if there is none.
     fn take(&self, buf: &mut [u8]) -> io::Result<Option<usize>>
         ensures within { IfOk result (λ came. IfSome came (λ size. size ≤ length buf.new)) }
     {
-        match self.socket.recv(buf) {
-            Ok(size) => Ok(Some(size)),
-            Err(error) if comes_later(&error) => Ok(None),
-            Err(error) => Err(error),
+        for _ in 0..OTHERS {
+            match self.socket.recv_from(buf) {
+                Ok((size, from)) if self.hears(from) => return Ok(Some(size)),
+                Ok(_) => {}
+                Err(error) if comes_later(&error) => return Ok(None),
+                Err(error) => return Err(error),
+            }
         }
+        Ok(None)
     }
 
     // Takes a datagram, and waits for one if there is none.

@@ -6,9 +6,9 @@ ghost use Rattle.satip_base.specs.Streams.{fresh_feed};
 
 use crate::fault::KitsFault;
 use crate::kits::{RealJobs, real_kits};
-use satip_base::{Address, Failed, ReadSource, Sink, Source, Taken, Text, WriteSink};
+use satip_base::{Address, Failed, Peer, ReadSource, Sink, Source, Taken, Text, WriteSink};
 use satip_config::Config;
-use satip_desk::{Desk, Jobs, JobsFault};
+use satip_desk::{Desk, JobJournal, Jobs, JobsFault};
 use satip_host::RealClock;
 use satip_playout::{RealPacer, RealStore};
 use satip_real::{RealConn, RealDoors, RealInlet, RealOutlet};
@@ -138,17 +138,15 @@ impl<R: Wait + Copy + Drop + Send> Desk for RealDesk<R> {
 
     type Moment = RealClock;
 
-    type Journal = WriteSink<File>;
+    type Journal = JobJournal<WriteSink<File>>;
 
-    ghost text = { λ _ _. None };
-
-    ghost faults = { λ d. d.faults };
-
-    ghost given = { λ d. option_map (λ kits. real_view kits.value) d.given };
-
-    ghost handed = { λ d. record { wire = d.dialed; inlet = d.bound; moment = d.timed } };
-
-    ghost journaled = { λ d. d.journaled.items };
+    ghost desk = { λ d. record {
+      text = λ _. None;
+      faults = d.faults;
+      given = option_map (λ kits. real_view kits.value) d.given;
+      handed = record { wire = d.dialed; inlet = d.bound; moment = d.timed };
+      journaled = d.journaled.items;
+    } };
 
     fn jobs(
         &mut self,
@@ -195,7 +193,8 @@ impl<R: Wait + Copy + Drop + Send> Desk for RealDesk<R> {
     }
 
     fn inlet(&mut self) -> Result<RealInlet, Failed> {
-        match RealInlet::bind(self.host, 0) {
+        let server = self.dialed.map(|to| Peer { ip: to.ip });
+        match RealInlet::bind(self.host, 0, server) {
             Ok(inlet) => {
                 self.bound = true;
                 Ok(inlet)
@@ -213,16 +212,17 @@ impl<R: Wait + Copy + Drop + Send> Desk for RealDesk<R> {
         RealClock::begin(self.host)
     }
 
-    fn journal(&mut self, job: u64) -> Result<WriteSink<File>, Failed> {
-        let made = make_journal(self.host, job);
-        match made {
-            Ok(file) => match self.journaled.push(job) {
-                Ok(()) => Ok(WriteSink::new(file)),
-                Err(_) => {
-                    self.faults = self.faults.saturating_add(1);
-                    Err(Failed)
-                }
-            },
+    fn journal(&mut self, job: u64) -> Result<JobJournal<WriteSink<File>>, Failed> {
+        // its memory comes first, so that a file is emptied only if there is some
+        let Ok(()) = self.journaled.reserve(1) else {
+            self.faults = self.faults.saturating_add(1);
+            return Err(Failed);
+        };
+        match make_journal(self.host, job) {
+            Ok(file) => {
+                self.journaled.push_reserved(job);
+                Ok(JobJournal::new(job, WriteSink::new(file)))
+            }
             Err(error) => {
                 tell_error(self.host, "journal", &error);
                 self.faults = self.faults.saturating_add(1);

@@ -7,12 +7,13 @@ use Rattle.satip_world.specs.Inboxes.{Inbox}
 use Rattle.satip_rtp_receiver.specs.Catching.{Catch, catching}
 use Rattle.satip_client.proofs.PulseLemmas.{grew_then, grew_none, faults_then}
 use Rattle.satip_client.specs.Leases.{Terms}
-use Rattle.satip_client.specs.Pulses.{after_reading, sent_at, Beat, NotBeat, BeatFailed, Beats}
+use Rattle.satip_client.specs.Pulses.{Talk, after_reading, sent_at, Beat, BeatFailed, Beats}
 use Rattle.satip_client.specs.declared.ending.RecordEnd.{RecordEnd}
 use Rattle.satip_client.specs.declared.ending.RecordEnd.TheVariants.{Done, OutputFault, Refused, BadReply, Silent, PeerFault, Closed, OutOfMemory}
 use Rattle.satip_client.specs.declared.pulse.Pulse.{Pulse}
 use Rattle.satip_recorder.specs.Arrivals.{TookTurns}
-use Rattle.satip_recorder.specs.Courses.{Talk, Reel, talk, ReadsAll, after_readings, options_sent, Beaten, BeatenUntil, Caught, CaughtUntil, CatchCause, Cause, Catches, Course, Stopped, Turns, TakesTurn, IsReady}
+use Rattle.satip_recorder.specs.Outsides.{DeviceTells}
+use Rattle.satip_recorder.specs.Courses.{Reel, Station, station, ReadsAll, after_readings, options_sent, Beaten, BeatenUntil, Caught, CatchCause, Cause, Catches, Course, Stopped, Turns, TakesTurn, IsReady}
 use Rattle.satip_recorder.proofs.ArrivalLemmas.{turns-then, turns-fewer, turns-none}
 use Rattle.satip_recorder.proofs.WoundLemmas.{caught-then, caught-until, wound-none, wound-all}
 
@@ -87,34 +88,23 @@ beaten-none tells a address terms = record {
 }
 
 -- one reading
-beaten-one : (tells : Type 0) (o n : Line) (d e : Dial) (p q : Pulse) (address : List ℕ) (terms : Terms) (moment : ℕ) → Reads d e moment
-    → Beat tells o n address terms p q moment → Beaten tells (talk o d p) (talk n e q) address terms (moment ∷ [])
-beaten-one tells o n d e p q address terms moment reads beat = record {
+beaten-one : (tells : Type 0) (o n : Talk) (address : List ℕ) (terms : Terms) (moment : ℕ) → Reads o.clock n.clock moment
+    → Beat tells o n address terms moment → Beaten tells o n address terms (moment ∷ [])
+beaten-one tells o n address terms moment reads beat = record {
   clock = record { told = reads.told; readings = reads.readings };
   pulse = beat.pulse;
-  asked = subst (λ (t : List ℕ). Grew tells o n [] t) (sym (append-nil (sent_at address terms p moment))) beat.content;
+  asked = subst (λ (t : List ℕ). Grew tells o.wire n.wire [] t) (sym (append-nil (sent_at address terms o.pulse moment))) beat.content;
   faults = beat.faults;
 }
 
-beaten-failed : (tells : Type 0) (o n : Line) (d e : Dial) (p q : Pulse) (address : List ℕ) (terms : Terms) (moment : ℕ) → Reads d e moment
-    → BeatFailed tells o n (sent_at address terms p moment) → BeatenUntil tells (talk o d p) (talk n e q) address terms
-beaten-failed tells o n d e p q address terms moment reads beat = record {
+beaten-failed : (tells : Type 0) (o n : Talk) (address : List ℕ) (terms : Terms) (moment : ℕ) → Reads o.clock n.clock moment
+    → BeatFailed tells o.wire n.wire (sent_at address terms o.pulse moment) → BeatenUntil tells o n address terms
+beaten-failed tells o n address terms moment reads beat = record {
   moments = moment ∷ [];
   clock = record { told = reads.told; readings = reads.readings };
   part = beat.part;
   rest = beat.rest;
-  whole = append-nil (sent_at address terms p moment) ∙ beat.whole;
-  asked = beat.content;
-}
-
-beaten-wanted : (tells : Type 0) (o n : Line) (d e : Dial) (p q : Pulse) (address : List ℕ) (terms : Terms) (moment : ℕ) → Reads d e moment
-    → NotBeat tells o n → BeatenUntil tells (talk o d p) (talk n e q) address terms
-beaten-wanted tells o n d e p q address terms moment reads beat = record {
-  moments = moment ∷ [];
-  clock = record { told = reads.told; readings = reads.readings };
-  part = [];
-  rest = sent_at address terms p moment ++ [];
-  whole = refl;
+  whole = append-nil (sent_at address terms o.pulse moment) ∙ beat.whole;
   asked = beat.content;
 }
 
@@ -126,170 +116,171 @@ caught-nothing tells tells_output tells_errors i o = record {
   given = λ _. sym (append-nil i.given);
   faults = refl;
   took = turns-none i;
+  timed = omega arith;
+  counted = omega arith;
   wound = wound-none tells_output tells_errors o;
 }
 
 rises-from : (o m n : ℕ) → m ≡ o → Rises m n → Rises o n
 rises-from o m n same rises = subst (λ (k : ℕ). Rises k n) same rises
 
-cause-of : (limit : ℕ) (a b : Line) (i j : Inbox) (end : RecordEnd) → CatchCause i j end → Cause limit a b i j end
-cause-of limit a b i j Done cause = cause
-cause-of limit a b i j OutputFault cause = cause
-cause-of limit a b i j (Refused code) cause = cause
-cause-of limit a b i j BadReply cause = cause
-cause-of limit a b i j Silent cause = absurd cause
-cause-of limit a b i j PeerFault cause = inr cause
-cause-of limit a b i j Closed cause = cause
-cause-of limit a b i j OutOfMemory cause = absurd cause
+cause-of : (limit readings : ℕ) (a b : Line) (i j : Inbox) (end : RecordEnd) → CatchCause i j end → Cause limit readings a b i j end
+cause-of limit readings a b i j Done cause = cause
+cause-of limit readings a b i j OutputFault cause = cause
+cause-of limit readings a b i j (Refused code) cause = cause
+cause-of limit readings a b i j BadReply cause = cause
+cause-of limit readings a b i j Silent cause = absurd cause
+cause-of limit readings a b i j PeerFault cause = inr cause
+cause-of limit readings a b i j Closed cause = cause
+cause-of limit readings a b i j OutOfMemory cause = cause
 
-pub cause-after : (limit rest k : ℕ) (a m b : Line) (i l j : Inbox) (end : RecordEnd) → limit ≤ k + rest → m.send_faults ≡ a.send_faults
-    → l.faults ≡ i.faults → TookTurns k i l → Cause rest m b l j end → Cause limit a b i j end
-cause-after limit rest k a m b i l j Done less sends faults took cause = cause
-cause-after limit rest k a m b i l j OutputFault less sends faults took cause = cause
-cause-after limit rest k a m b i l j (Refused code) less sends faults took cause = cause
-cause-after limit rest k a m b i l j BadReply less sends faults took cause = cause
-cause-after limit rest k a m b i l j Silent less sends faults took cause =
-    turns-fewer (k + rest) limit i j less (turns-then k rest i l j took cause)
-cause-after limit rest k a m b i l j PeerFault less sends faults took (inl rises) = inl (rises-from a.send_faults m.send_faults b.send_faults sends rises)
-cause-after limit rest k a m b i l j PeerFault less sends faults took (inr rises) = inr (rises-from i.faults l.faults j.faults faults rises)
-cause-after limit rest k a m b i l j Closed less sends faults took cause = cause
-cause-after limit rest k a m b i l j OutOfMemory less sends faults took cause = cause
+-- after `k` turns with a reading each
+pub cause-after : (limit rest k all more : ℕ) (a m b : Line) (i l j : Inbox) (end : RecordEnd) → limit ≤ k + rest → all ≡ k + more
+    → m.send_faults ≡ a.send_faults → l.faults ≡ i.faults → TookTurns k i l → Cause rest more m b l j end → Cause limit all a b i j end
+cause-after limit rest k all more a m b i l j Done less sum sends faults took cause = cause
+cause-after limit rest k all more a m b i l j OutputFault less sum sends faults took cause = cause
+cause-after limit rest k all more a m b i l j (Refused code) less sum sends faults took cause = cause
+cause-after limit rest k all more a m b i l j BadReply less sum sends faults took cause = cause
+cause-after limit rest k all more a m b i l j Silent less sum sends faults took cause =
+    (omega (arith, less, sum, cause.0), turns-fewer (k + rest) limit i j less (turns-then k rest i l j took cause.1))
+cause-after limit rest k all more a m b i l j PeerFault less sum sends faults took (inl rises) =
+    inl (rises-from a.send_faults m.send_faults b.send_faults sends rises)
+cause-after limit rest k all more a m b i l j PeerFault less sum sends faults took (inr rises) =
+    inr (rises-from i.faults l.faults j.faults faults rises)
+cause-after limit rest k all more a m b i l j Closed less sum sends faults took cause = cause
+cause-after limit rest k all more a m b i l j OutOfMemory less sum sends faults took cause = cause
 
 -- one turn after others
-pub course-then : (t ti to te : Type 0) (a m b : Talk) (i l j : Inbox) (o p n : Reel) (address : List ℕ) (terms : Terms)
-    → Course t ti to te a m i l o p address terms → 0 < p.tape.left → Course t ti to te m b l j p n address terms
-    → Course t ti to te a b i j o n address terms
-course-then t ti to te a m b i l j o p n address terms first some second = record {
+pub course-then : (k : DeviceTells) (o m n : Station) (address : List ℕ) (terms : Terms) → Course k o m address terms → 0 < m.reel.tape.left
+    → Course k m n address terms → Course k o n address terms
+course-then k o m n address terms first some second = record {
   moments = first.moments ++ second.moments;
-  talks = beaten-then t a m b address terms first.moments second.moments first.talks second.talks;
-  reels = subst (λ (k : ℕ). Caught ti to te i j o n k) (sym (length-append first.moments second.moments))
-      (caught-then ti to te i l j o p n (length first.moments) (length second.moments) first.reels some second.reels);
+  talks = beaten-then k.wire o.talk m.talk n.talk address terms first.moments second.moments first.talks second.talks;
+  reels = subst (λ (turns : ℕ). Caught k.inlet k.output k.errors o.inlet n.inlet o.reel n.reel turns) (sym (length-append first.moments second.moments))
+      (caught-then k.inlet k.output k.errors o.inlet m.inlet n.inlet o.reel m.reel n.reel (length first.moments) (length second.moments)
+      first.reels some second.reels);
 }
 
-pub course-next : (t ti to te : Type 0) (a m b : Talk) (i l j : Inbox) (o p n : Reel) (address : List ℕ) (terms : Terms)
-    → (first : Course t ti to te a m i l o p address terms) → 0 < p.tape.left
-    → (second : (c : Course t ti to te m b l j p n address terms) × (length c.moments ≡ 1))
-    → (c : Course t ti to te a b i j o n address terms) × (length c.moments ≡ length first.moments + 1)
-course-next t ti to te a m b i l j o p n address terms first some second = (
-  record {
-    moments = first.moments ++ second.0.moments;
-    talks = beaten-then t a m b address terms first.moments second.0.moments first.talks second.0.talks;
-    reels = subst (λ (k : ℕ). Caught ti to te i j o n k) (sym (length-append first.moments second.0.moments))
-        (caught-then ti to te i l j o p n (length first.moments) (length second.0.moments) first.reels some second.0.reels);
-  },
-  omega (arith, length-append first.moments second.0.moments, second.1),
-)
+pub course-next : (k : DeviceTells) (o m n : Station) (address : List ℕ) (terms : Terms) → (first : Course k o m address terms)
+    → 0 < m.reel.tape.left → (second : (c : Course k m n address terms) × (length c.moments ≡ 1))
+    → (c : Course k o n address terms) × (length c.moments ≡ length first.moments + 1)
+unfolding course-then
+course-next k o m n address terms first some second =
+    (course-then k o m n address terms first some second.0, omega (arith, length-append first.moments second.0.moments, second.1))
 
-pub stopped-after : (t ti to te : Type 0) (a m b : Talk) (i l j : Inbox) (o p n : Reel) (address : List ℕ) (terms : Terms) (limit rest : ℕ)
-    (end : RecordEnd) (result : Result (Unit {0}) RecordEnd) → (first : Course t ti to te a m i l o p address terms) → 0 < p.tape.left
-    → limit ≤ length first.moments + rest → result ≡ Err end → Stopped t ti to te m b l j p n address terms rest end
-    → Turns t ti to te a b i j o n address terms limit result
-stopped-after t ti to te a m b i l j o p n address terms limit rest end result first some less is second =
-    subst (λ (r : Result (Unit {0}) RecordEnd). Turns t ti to te a b i j o n address terms limit r) (sym is) (record {
-      talks = beaten-until t a m b address terms first.moments first.talks second.talks;
-      reels = caught-until ti to te i l j o p n (length first.moments) end first.reels some second.reels;
-      cause = cause-after limit rest (length first.moments) a.wire m.wire b.wire i l j end less first.talks.faults.send_faults
+pub stopped-after : (k : DeviceTells) (o m n : Station) (address : List ℕ) (terms : Terms) (limit rest : ℕ) (end : RecordEnd)
+    (result : Result (Unit {0}) RecordEnd) → (first : Course k o m address terms) → 0 < m.reel.tape.left
+    → limit ≤ length first.moments + rest → result ≡ Err end → Stopped k m n address terms rest end → Turns k o n address terms limit result
+unfolding beaten-until
+stopped-after k o m n address terms limit rest end result first some less is second =
+    let reels = caught-until k.inlet k.output k.errors o.inlet m.inlet n.inlet o.reel m.reel n.reel (length first.moments) end
+    first.reels some second.reels in
+    let turns = length-append first.moments second.talks.moments in
+    subst (λ (r : Result (Unit {0}) RecordEnd). Turns k o n address terms limit r) (sym is) (record {
+      talks = beaten-until k.wire o.talk m.talk n.talk address terms first.moments first.talks second.talks;
+      reels = reels.0;
+      timed = omega (arith, turns, reels.1, first.reels.timed, second.timed);
+      counted = omega (arith, turns, first.reels.counted, second.counted);
+      cause = cause-after limit rest (length first.moments) (length (first.moments ++ second.talks.moments)) (length second.talks.moments)
+          o.talk.wire m.talk.wire n.talk.wire o.inlet m.inlet n.inlet end less turns first.talks.faults.send_faults
           first.reels.faults first.reels.took second.cause;
     })
 
-pub course-begun : (t ti to te : Type 0) (a : Talk) (i : Inbox) (o : Reel) (address : List ℕ) (terms : Terms)
-    → (c : Course t ti to te a a i i o o address terms) × (length c.moments ≡ 0)
-course-begun t ti to te a i o address terms =
-    (record { moments = []; talks = beaten-none t a address terms; reels = caught-nothing ti to te i o }, refl)
+pub course-begun : (k : DeviceTells) (o : Station) (address : List ℕ) (terms : Terms)
+    → (c : Course k o o address terms) × (length c.moments ≡ 0)
+course-begun k o address terms = (
+  record {
+    moments = [];
+    talks = beaten-none k.wire o.talk address terms;
+    reels = caught-nothing k.inlet k.output k.errors o.inlet o.reel;
+  },
+  refl,
+)
 
 -- one turn
-pub stopped-catching : (t ti to te : Type 0) (w x : Line) (d e : Dial) (p q : Pulse) (i j : Inbox) (o n : Reel) (address : List ℕ)
-    (terms : Terms) (limit : ℕ) (end : RecordEnd) (moment : ℕ) → Reads d e moment → Beat t w x address terms p q moment
-    → CaughtUntil ti to te i j o n end → CatchCause i j end
-    → Stopped t ti to te (talk w d p) (talk x e q) i j o n address terms limit end
-stopped-catching t ti to te w x d e p q i j o n address terms limit end moment reads beat caught cause = record {
-  talks = beaten-all t (talk w d p) (talk x e q) address terms (moment ∷ []) (beaten-one t w x d e p q address terms moment reads beat);
-  reels = caught;
-  cause = cause-of limit w x i j end cause;
-}
-
-caught-all : (ti to te : Type 0) (i j : Inbox) (o n : Reel) (turns : ℕ) → Caught ti to te i j o n turns → CaughtUntil ti to te i j o n Silent
-caught-all ti to te i j o n turns caught = record {
-  port = caught.port;
-  datagrams = caught.datagrams;
-  given = caught.given;
-  wound = wound-all to te o n Silent caught.datagrams caught.wound (λ bytes puts. puts);
+pub stopped-catching : (k : DeviceTells) (o n : Station) (address : List ℕ) (terms : Terms) (limit : ℕ) (end : RecordEnd) (moment : ℕ)
+    → Reads o.talk.clock n.talk.clock moment → Beat k.wire o.talk n.talk address terms moment
+    → Catches k.inlet k.output k.errors o.inlet n.inlet o.reel n.reel (Err end) → Stopped k o n address terms limit end
+unfolding beaten-all
+stopped-catching k o n address terms limit end moment reads beat caught = record {
+  talks = beaten-all k.wire o.talk n.talk address terms (moment ∷ []) (beaten-one k.wire o.talk n.talk address terms moment reads beat);
+  reels = caught.0;
+  timed = caught.1;
+  counted = caught.2;
+  cause = cause-of limit (length (moment ∷ [])) o.talk.wire n.talk.wire o.inlet n.inlet end caught.3;
 }
 
 -- all turns were taken
-pub stopped-silent : (t ti to te : Type 0) (a b : Talk) (i j : Inbox) (o n : Reel) (address : List ℕ) (terms : Terms) (limit : ℕ)
-    → (course : Course t ti to te a b i j o n address terms) → limit ≤ length course.moments
-    → Stopped t ti to te a b i j o n address terms limit Silent
-stopped-silent t ti to te a b i j o n address terms limit course all = record {
-  talks = beaten-all t a b address terms course.moments course.talks;
-  reels = caught-all ti to te i j o n (length course.moments) course.reels;
-  cause = turns-fewer (length course.moments) limit i j all course.reels.took;
+pub stopped-silent : (k : DeviceTells) (o n : Station) (address : List ℕ) (terms : Terms) (limit : ℕ) → (course : Course k o n address terms)
+    → limit ≤ length course.moments → 0 < n.reel.tape.left → Stopped k o n address terms limit Silent
+unfolding beaten-all
+stopped-silent k o n address terms limit course all some = record {
+  talks = beaten-all k.wire o.talk n.talk address terms course.moments course.talks;
+  reels = record {
+    port = course.reels.port;
+    datagrams = course.reels.datagrams;
+    given = course.reels.given;
+    wound = wound-all k.output k.errors o.reel n.reel Silent course.reels.datagrams course.reels.wound some (λ bytes puts. puts);
+  };
+  timed = course.reels.timed;
+  counted = course.reels.counted;
+  cause = (all, turns-fewer (length course.moments) limit o.inlet n.inlet all course.reels.took);
 }
 
 -- the request that keeps the session alive wasn't sent whole
-pub stopped-failed : (t ti to te : Type 0) (w x : Line) (d e : Dial) (p q : Pulse) (i : Inbox) (o : Reel) (address : List ℕ) (terms : Terms)
-    (limit moment : ℕ) → Reads d e moment → BeatFailed t w x (sent_at address terms p moment)
-    → Stopped t ti to te (talk w d p) (talk x e q) i i o o address terms limit PeerFault
-stopped-failed t ti to te w x d e p q i o address terms limit moment reads beat = record {
-  talks = beaten-failed t w x d e p q address terms moment reads beat;
+pub stopped-failed : (k : DeviceTells) (o n : Talk) (i : Inbox) (r : Reel) (address : List ℕ) (terms : Terms) (limit moment : ℕ)
+    → 0 < r.tape.left → Reads o.clock n.clock moment → BeatFailed k.wire o.wire n.wire (sent_at address terms o.pulse moment)
+    → Stopped k (station o i r) (station n i r) address terms limit PeerFault
+stopped-failed k o n i r address terms limit moment some reads beat = record {
+  talks = beaten-failed k.wire o n address terms moment reads beat;
   reels = record {
     port = refl;
     datagrams = [];
     given = λ _. sym (append-nil i.given);
-    wound = wound-all to te o o PeerFault [] (wound-none to te o) (λ bytes puts. puts);
+    wound = wound-all k.output k.errors r r PeerFault [] (wound-none k.output k.errors r) some (λ bytes puts. puts);
   };
+  timed = omega arith;
+  counted = omega arith;
   cause = inl beat.rose;
 }
 
-pub stopped-wanted : (t ti to te : Type 0) (w x : Line) (d e : Dial) (p q : Pulse) (i : Inbox) (o : Reel) (address : List ℕ) (terms : Terms)
-    (limit moment : ℕ) → Reads d e moment → NotBeat t w x
-    → Stopped t ti to te (talk w d p) (talk x e q) i i o o address terms limit OutOfMemory
-stopped-wanted t ti to te w x d e p q i o address terms limit moment reads beat = record {
-  talks = beaten-wanted t w x d e p q address terms moment reads beat;
-  reels = record {
-    port = refl;
-    datagrams = [];
-    given = λ _. sym (append-nil i.given);
-    wound = wound-all to te o o OutOfMemory [] (wound-none to te o) (λ bytes puts. puts);
-  };
-  cause = tt;
-}
-
 -- one turn, by what its parts come to
-pub turn-taken : (t ti to te : Type 0) (w x : Line) (d e : Dial) (p q : Pulse) (i j : Inbox) (o n : Reel) (address : List ℕ) (terms : Terms)
-    (limit : ℕ) (result : Result (Unit {0}) RecordEnd) → (b : Beats t w x d e address terms p q (Ok tt)) → Catches ti to te i j o n result
-    → TakesTurn t ti to te (talk w d p) (talk x e q) i j o n address terms limit result
-turn-taken t ti to te w x d e p q i j o n address terms limit (Ok done) b caught = (
+pub turn-taken : (k : DeviceTells) (o n : Station) (address : List ℕ) (terms : Terms) (limit : ℕ) (result : Result (Unit {0}) RecordEnd)
+    → Beats k.wire o.talk n.talk address terms (Ok tt) → Catches k.inlet k.output k.errors o.inlet n.inlet o.reel n.reel result
+    → TakesTurn k o n address terms limit result
+turn-taken k o n address terms limit (Ok done) b caught = (
   record {
     moments = b.moment ∷ [];
-    talks = beaten-one t w x d e p q address terms b.moment b.reads b.beats;
+    talks = beaten-one k.wire o.talk n.talk address terms b.moment b.reads b.beats;
     reels = caught;
   },
   refl,
 )
-turn-taken t ti to te w x d e p q i j o n address terms limit (Err end) b caught =
-    stopped-catching t ti to te w x d e p q i j o n address terms limit end b.moment b.reads b.beats caught.0 caught.1
+turn-taken k o n address terms limit (Err end) b caught = stopped-catching k o n address terms limit end b.moment b.reads b.beats caught
 
-stopped-beat : (t ti to te : Type 0) (w x : Line) (d e : Dial) (p q : Pulse) (i : Inbox) (o : Reel) (address : List ℕ) (terms : Terms)
-    (limit : ℕ) (end : RecordEnd) → Beats t w x d e address terms p q (Err end)
-    → Stopped t ti to te (talk w d p) (talk x e q) i i o o address terms limit end
-stopped-beat t ti to te w x d e p q i o address terms limit Done b = absurd b.beats
-stopped-beat t ti to te w x d e p q i o address terms limit OutputFault b = absurd b.beats
-stopped-beat t ti to te w x d e p q i o address terms limit (Refused code) b = absurd b.beats
-stopped-beat t ti to te w x d e p q i o address terms limit BadReply b = absurd b.beats
-stopped-beat t ti to te w x d e p q i o address terms limit Silent b = absurd b.beats
-stopped-beat t ti to te w x d e p q i o address terms limit PeerFault b =
-    stopped-failed t ti to te w x d e p q i o address terms limit b.moment b.reads b.beats
-stopped-beat t ti to te w x d e p q i o address terms limit Closed b = absurd b.beats
-stopped-beat t ti to te w x d e p q i o address terms limit OutOfMemory b =
-    stopped-wanted t ti to te w x d e p q i o address terms limit b.moment b.reads b.beats
+stopped-beat : (k : DeviceTells) (o n : Talk) (i : Inbox) (r : Reel) (address : List ℕ) (terms : Terms) (limit : ℕ) (end : RecordEnd)
+    → 0 < r.tape.left → Beats k.wire o n address terms (Err end) → Stopped k (station o i r) (station n i r) address terms limit end
+stopped-beat k o n i r address terms limit Done some b = absurd b.beats
+stopped-beat k o n i r address terms limit OutputFault some b = absurd b.beats
+stopped-beat k o n i r address terms limit (Refused code) some b = absurd b.beats
+stopped-beat k o n i r address terms limit BadReply some b = absurd b.beats
+stopped-beat k o n i r address terms limit Silent some b = absurd b.beats
+stopped-beat k o n i r address terms limit PeerFault some b = stopped-failed k o n i r address terms limit b.moment some b.reads b.beats
+stopped-beat k o n i r address terms limit Closed some b = absurd b.beats
+stopped-beat k o n i r address terms limit OutOfMemory some b = absurd b.beats
 
-pub turn-failed : (t ti to te : Type 0) (w x : Line) (d e : Dial) (p q : Pulse) (i : Inbox) (o : Reel) (address : List ℕ) (terms : Terms)
-    (limit : ℕ) (end : RecordEnd) (result : Result (Unit {0}) RecordEnd) → result ≡ Err end → Beats t w x d e address terms p q (Err end)
-    → TakesTurn t ti to te (talk w d p) (talk x e q) i i o o address terms limit result
-turn-failed t ti to te w x d e p q i o address terms limit end result is b =
-    subst (λ (r : Result (Unit {0}) RecordEnd). TakesTurn t ti to te (talk w d p) (talk x e q) i i o o address terms limit r) (sym is)
-    (stopped-beat t ti to te w x d e p q i o address terms limit end b)
+pub turn-failed : (k : DeviceTells) (o n : Talk) (i : Inbox) (r : Reel) (address : List ℕ) (terms : Terms) (limit : ℕ) (end : RecordEnd)
+    (result : Result (Unit {0}) RecordEnd) → 0 < r.tape.left → result ≡ Err end → Beats k.wire o n address terms (Err end)
+    → TakesTurn k (station o i r) (station n i r) address terms limit result
+turn-failed k o n i r address terms limit end result some is b =
+    subst (λ (x : Result (Unit {0}) RecordEnd). TakesTurn k (station o i r) (station n i r) address terms limit x) (sym is)
+    (stopped-beat k o n i r address terms limit end some b)
+
+-- a turn of a page with this address
+pub turn_at : (k : DeviceTells) (o n : Station) (address other : List ℕ) (terms : Terms) (limit : ℕ) (result : Result (Unit {0}) RecordEnd)
+    → other ≡ address → TakesTurn k o n other terms limit result → TakesTurn k o n address terms limit result
+turn_at k o n address other terms limit result same turn =
+    subst (λ (x : List ℕ). TakesTurn k o n x terms limit result) same turn
 
 -- a new catcher can take a datagram
 pub ready-new : (c : Catch) → c ≡ catching → IsReady c

@@ -15,13 +15,15 @@ use Rattle.satip_client.specs.Leases.{Terms}
 use Rattle.satip_client.specs.declared.ending.RecordEnd.{RecordEnd}
 use Rattle.satip_client.specs.declared.ending.RecordEnd.TheVariants.{Done, OutputFault, Refused, BadReply, Silent, PeerFault, Closed, OutOfMemory}
 use Rattle.satip_client.specs.declared.pulse.Pulse.{Pulse}
+use Rattle.satip_client.specs.Pulses.{talk}
 use Rattle.satip_client.specs.Ends.{line_for}
-use Rattle.satip_client.proofs.PulseLemmas.{grew_then, grew_none}
+use Rattle.satip_client.proofs.PulseLemmas.{grew_then}
 use Rattle.satip_recorder.specs.Tapes.{gap_lines, packets_in, Tells}
 use Rattle.satip_recorder.specs.Arrivals.{AreRead}
-use Rattle.satip_recorder.specs.Courses.{Reel, talk, reel, ReadsAll, options_sent, Course, Stopped}
+use Rattle.satip_recorder.specs.Outsides.{DeviceTells, Link, Outside, SetupWords, Task, outside, setup_words, task}
+use Rattle.satip_recorder.specs.Courses.{Station, reel, station, ReadsAll, options_sent, Course, Stopped}
 use Rattle.satip_recorder.specs.Openings.{Opened, EndsOpening, Leaves, LeavesNot}
-use Rattle.satip_recorder.specs.Recordings.{bytes_of, turn_limit, fresh_tape, Outside, outside, first_pulse, Opening, Filled, EndedLeaving, EndedReceiving, EndedOpening, Records, Runs, Said, Ends, LeaveCause, end_for}
+use Rattle.satip_recorder.specs.Recordings.{bytes_of, turn_limit, fresh_tape, link_of, first_pulse, Opening, Filled, EndedLeaving, EndedReceiving, EndedOpening, Records, Runs, Said, Ends, LeaveCause, end_for}
 use Rattle.satip_recorder.specs.declared.tape.Tape.{Tape}
 use Rattle.satip_recorder.proofs.ArrivalLemmas.{small, turns-none}
 use Rattle.satip_recorder.proofs.CourseLemmas.{cause-after}
@@ -29,14 +31,6 @@ use Rattle.satip_recorder.proofs.TapeLemmas.{tells-none, tells-then}
 
 abbrev pub numbered : ℕ → ℕ → Pulse
 numbered mark cseq = record { mark = mark; cseq = cseq }
-
-pub pulse-first : (p : Pulse) → p.cseq ≡ 3 → p ≡ first_pulse p.mark
-pulse-first p e = ap (λ (k : ℕ). numbered p.mark k) e
-
--- what holds from a fresh recorder on
-pub from_fresh : (P : Pulse → Catch → Tape → Type 0) (p q : Pulse) (c d : Catch) (t u : Tape) → p ≡ q → c ≡ d → t ≡ u → P p c t → P q d u
-from_fresh P p q c d t u pulse catcher tape is =
-    subst (λ (x : Tape). P q d x) tape (subst (λ (x : Catch). P q x t) catcher (subst (λ (x : Pulse). P x c t) pulse is))
 
 -- what is handed up is what is caught
 catches : (xs : List (List ℕ)) (ds : List Datagram) → AreRead xs ds → handed_up catching ds ≡ caught false ds
@@ -49,15 +43,17 @@ reads-first d e f mark moments reads all = record {
       ∙ append_assoc d.readings (mark ∷ []) moments;
 }
 
-opening : (tells : Type 0) (o n : Line) (d e : Dial) (address query : List ℕ) (port mark : ℕ) (terms : Terms)
-    → (opened : Opened tells o n d e address query port mark terms) → Opening terms (opened.first ++ opened.second)
-opening tells o n d e address query port mark terms opened = record {
+opening : (tells : Type 0) (o n : Link) (words : SetupWords) (mark : ℕ) (terms : Terms) → (opened : Opened tells o n words mark terms)
+    → Opening terms (opened.first ++ opened.second)
+opening tells o n words mark terms opened = record {
   first = opened.first;
   second = opened.second;
   whole = refl;
   size = opened.size;
   granted = opened.granted;
+  setup_piece = opened.setup_piece;
   accepted = opened.accepted;
+  play_piece = opened.play_piece;
 }
 
 -- only bytes that were sent came in between
@@ -65,130 +61,145 @@ grew_sent : (tells : Type 0) (o m n : Line) (got put more : List ℕ) → Grew t
 grew_sent tells o m n got put more first second =
     subst (λ (t : List ℕ). Grew tells o n t (put ++ more)) (append-nil got) (grew_then tells o m n got put [] more first second)
 
-pub filled : (t ti to te : Type 0) (o m w x : Line) (d e f : Dial) (mark : ℕ) (q : Pulse) (i j : Inbox) (p r : Drain) (n : Reel)
-    (address query : List ℕ) (count : ℕ) (terms : Terms) (last : List ℕ) → Opened t o m d e address query i.port mark terms
-    → (course : Course t ti to te (talk m e (first_pulse mark)) (talk w f q) i j (reel catching (fresh_tape count) p r) n address terms)
-    → n.tape.left ≡ 0 → Grew t w x [] last
-    → Filled t ti to (outside o d i p) (outside x f j n.output) address query count terms q last
-    (gap_lines (bytes_of count) (handed_up catching course.reels.wound.arrivals))
-filled t ti to te o m w x d e f mark q i j p r n address query count terms last opened course full sent =
+-- the state of a recording that received nothing yet, and of one that goes on
+abbrev pub first_station : Link → (mark : ℕ) → Inbox → (count : ℕ) → (p r : Drain) → Station
+first_station m mark i count p r = station (talk m.wire m.clock (first_pulse mark)) i (reel catching (fresh_tape count) p r)
+
+abbrev pub seen_of : Station → Outside
+seen_of n = outside n.talk.wire n.talk.clock n.inlet n.reel.output
+
+-- a recording whose connection sent more
+abbrev pub seen_at : Line → Station → Outside
+seen_at x n = outside x n.talk.clock n.inlet n.reel.output
+
+pub filled : (k : DeviceTells) (o : Outside) (m : Link) (x : Line) (mark : ℕ) (r : Drain) (n : Station) (w : Task) (terms : Terms) (last : List ℕ)
+    → Opened k.wire (link_of o) m (setup_words w.address w.query o.inlet.port) mark terms
+    → (course : Course k (first_station m mark o.inlet w.count o.output r) n w.address terms)
+    → n.reel.tape.left ≡ 0 → Grew k.wire n.talk.wire x [] last
+    → Filled k o (seen_at x n) w terms n.talk.pulse last (gap_lines (bytes_of w.count) (handed_up catching course.reels.wound.arrivals))
+filled k o m x mark r n w terms last opened course full sent =
     let ds = course.reels.wound.arrivals in
     let is = catches course.reels.datagrams ds course.reels.wound.read in
     record {
       mark = mark;
       moments = course.moments;
       got = opened.first ++ opened.second;
-      opening = opening t o m d e address query i.port mark terms opened;
-      requests = grew_sent t o w x (opened.first ++ opened.second)
-          (setup_request address query i.port ++ play_request address terms.stream terms.session
-          ++ options_sent address terms (first_pulse mark) course.moments) last
-          (grew_sent t o m w (opened.first ++ opened.second)
-          (setup_request address query i.port ++ play_request address terms.stream terms.session)
-          (options_sent address terms (first_pulse mark) course.moments) opened.content course.talks.asked) sent;
+      opening = opening k.wire (link_of o) m (setup_words w.address w.query o.inlet.port) mark terms opened;
+      requests = grew_sent k.wire o.wire n.talk.wire x (opened.first ++ opened.second)
+          (setup_request w.address w.query o.inlet.port ++ play_request w.address terms.stream terms.session
+          ++ options_sent w.address terms (first_pulse mark) course.moments) last
+          (grew_sent k.wire o.wire m.wire n.talk.wire (opened.first ++ opened.second)
+          (setup_request w.address w.query o.inlet.port ++ play_request w.address terms.stream terms.session)
+          (options_sent w.address terms (first_pulse mark) course.moments) opened.content course.talks.asked) sent;
       pulse_is = course.talks.pulse;
-      clock = reads-first d e f mark course.moments opened.reads course.talks.clock;
+      clock = reads-first o.clock m.clock n.talk.clock mark course.moments opened.reads course.talks.clock;
       port = course.reels.port;
       datagrams = course.reels.datagrams;
       arrivals = ds;
       given = course.reels.given;
+      timed = course.reels.timed;
+      counted = course.reels.counted;
       read = course.reels.wound.read;
       enough = omega (arith, course.reels.wound.taped.left, full, ap (λ (items : List Item). length (packets_in items)) is);
-      written = subst (λ (items : List Item). PutAll to p n.output (take (bytes_of count) (packets_in items))) is course.reels.wound.taped.written;
-      lines_are = ap (λ (items : List Item). gap_lines (bytes_of count) items) is;
+      written = subst (λ (items : List Item). PutAll k.output o.output n.reel.output (take (bytes_of w.count) (packets_in items))) is
+          course.reels.wound.taped.written;
+      lines_are = ap (λ (items : List Item). gap_lines (bytes_of w.count) items) is;
     }
 
-pub ended_receiving : (t ti to te : Type 0) (o m x : Line) (d e f : Dial) (mark : ℕ) (q : Pulse) (i j : Inbox) (p r : Drain) (n : Reel)
-    (address query : List ℕ) (count : ℕ) (terms : Terms) (end : RecordEnd) → Opened t o m d e address query i.port mark terms
-    → (stopped : Stopped t ti to te (talk m e (first_pulse mark)) (talk x f q) i j (reel catching (fresh_tape count) p r) n address terms
-    (turn_limit count) end)
-    → EndedReceiving t ti to (outside o d i p) (outside x f j n.output) address query count
-    (gap_lines (bytes_of count) stopped.reels.wound.handed) end
-ended_receiving t ti to te o m x d e f mark q i j p r n address query count terms end opened stopped =
-    let w = stopped.reels.wound in
+pub ended_receiving : (k : DeviceTells) (o : Outside) (m : Link) (mark : ℕ) (r : Drain) (n : Station) (w : Task) (terms : Terms) (end : RecordEnd)
+    → Opened k.wire (link_of o) m (setup_words w.address w.query o.inlet.port) mark terms
+    → (stopped : Stopped k (first_station m mark o.inlet w.count o.output r) n w.address terms (turn_limit w.count) end)
+    → EndedReceiving k o (seen_of n) w (gap_lines (bytes_of w.count) stopped.reels.wound.handed) end
+ended_receiving k o m mark r n w terms end opened stopped =
+    let wound = stopped.reels.wound in
+    let limit = turn_limit w.count in
+    let readings = length stopped.talks.moments in
     record {
       terms = terms;
       mark = mark;
       moments = stopped.talks.moments;
       got = opened.first ++ opened.second;
-      opening = opening t o m d e address query i.port mark terms opened;
+      opening = opening k.wire (link_of o) m (setup_words w.address w.query o.inlet.port) mark terms opened;
       part = stopped.talks.part;
       rest = stopped.talks.rest;
       whole = stopped.talks.whole;
-      requests = grew_sent t o m x (opened.first ++ opened.second)
-          (setup_request address query i.port ++ play_request address terms.stream terms.session) stopped.talks.part
+      requests = grew_sent k.wire o.wire m.wire n.talk.wire (opened.first ++ opened.second)
+          (setup_request w.address w.query o.inlet.port ++ play_request w.address terms.stream terms.session) stopped.talks.part
           opened.content stopped.talks.asked;
-      clock = reads-first d e f mark stopped.talks.moments opened.reads stopped.talks.clock;
+      clock = reads-first o.clock m.clock n.talk.clock mark stopped.talks.moments opened.reads stopped.talks.clock;
       port = stopped.reels.port;
       datagrams = stopped.reels.datagrams;
-      arrivals = w.arrivals;
+      arrivals = wound.arrivals;
       given = stopped.reels.given;
-      read = w.read;
-      handed = w.handed;
-      left_out = w.left_out;
-      items = sym (catches stopped.reels.datagrams w.arrivals w.read) ∙ w.whole;
-      written = w.written;
+      timed = stopped.timed;
+      counted = stopped.counted;
+      read = wound.read;
+      handed = wound.handed;
+      left_out = wound.left_out;
+      items = sym (catches stopped.reels.datagrams wound.arrivals wound.read) ∙ wound.whole;
+      all = wound.all;
+      written = wound.written;
       lines_are = refl;
-      cause = cause-after (turn_limit count) (turn_limit count) 0 o m x i i j end (omega arith) opened.faults.send_faults refl (turns-none i) stopped.cause;
+      cause = cause-after limit limit 0 readings readings o.wire m.wire n.talk.wire o.inlet o.inlet n.inlet end (omega arith) (omega arith)
+          opened.faults.send_faults refl (turns-none o.inlet) stopped.cause;
     }
 
 -- what an end of each part comes to
-opening-records : (t ti to : Type 0) (o n : Outside) (address query : List ℕ) (count : ℕ) (lines : List ℕ) (end : RecordEnd)
-    → EndedOpening t o n address query lines end → Records t ti to o n address query count lines end
-opening-records t ti to o n address query count lines Done is = elim is.ends [ inl s ↦ absurd s.ends | inr s ↦ absurd s.ends ]
-opening-records t ti to o n address query count lines OutputFault is = elim is.ends [ inl s ↦ absurd s.ends | inr s ↦ absurd s.ends ]
-opening-records t ti to o n address query count lines (Refused code) is = is
-opening-records t ti to o n address query count lines BadReply is = is
-opening-records t ti to o n address query count lines Silent is = inl is
-opening-records t ti to o n address query count lines PeerFault is = inl is
-opening-records t ti to o n address query count lines Closed is = is
-opening-records t ti to o n address query count lines OutOfMemory is = inr (inl is)
+opening-records : (k : DeviceTells) (o n : Outside) (w : Task) (lines : List ℕ) (end : RecordEnd) → EndedOpening k o n w lines end
+    → Records k o n w lines end
+opening-records k o n w lines Done is = elim is.ends [ inl s ↦ absurd s.ends | inr s ↦ absurd s.ends ]
+opening-records k o n w lines OutputFault is = elim is.ends [ inl s ↦ absurd s.ends | inr s ↦ absurd s.ends ]
+opening-records k o n w lines (Refused code) is = is
+opening-records k o n w lines BadReply is = is
+opening-records k o n w lines Silent is = inl is
+opening-records k o n w lines PeerFault is = inl is
+opening-records k o n w lines Closed is = is
+opening-records k o n w lines OutOfMemory is = elim is.ends [ inl s ↦ absurd s.ends | inr s ↦ absurd s.ends ]
 
-receiving-records : (t ti to : Type 0) (o n : Outside) (address query : List ℕ) (count : ℕ) (lines : List ℕ) (end : RecordEnd)
-    → EndedReceiving t ti to o n address query count lines end → Records t ti to o n address query count lines end
-receiving-records t ti to o n address query count lines Done is = absurd is.cause
-receiving-records t ti to o n address query count lines OutputFault is = is
-receiving-records t ti to o n address query count lines (Refused code) is = absurd is.cause
-receiving-records t ti to o n address query count lines BadReply is = absurd is.cause
-receiving-records t ti to o n address query count lines Silent is = inr is
-receiving-records t ti to o n address query count lines PeerFault is = inr (inl is)
-receiving-records t ti to o n address query count lines Closed is = absurd is.cause
-receiving-records t ti to o n address query count lines OutOfMemory is = inr (inr (inl is))
+receiving-records : (k : DeviceTells) (o n : Outside) (w : Task) (lines : List ℕ) (end : RecordEnd) → EndedReceiving k o n w lines end
+    → Records k o n w lines end
+receiving-records k o n w lines Done is = absurd is.cause
+receiving-records k o n w lines OutputFault is = is
+receiving-records k o n w lines (Refused code) is = absurd is.cause
+receiving-records k o n w lines BadReply is = absurd is.cause
+receiving-records k o n w lines Silent is = inr is
+receiving-records k o n w lines PeerFault is = inr (inl is)
+receiving-records k o n w lines Closed is = absurd is.cause
+receiving-records k o n w lines OutOfMemory is = absurd is.cause
 
-leaving-records : (t ti to : Type 0) (o n : Outside) (address query : List ℕ) (count : ℕ) (lines : List ℕ) (end : RecordEnd)
-    → EndedLeaving t ti to o n address query count lines end → Records t ti to o n address query count lines end
-leaving-records t ti to o n address query count lines Done is = absurd is.cause
-leaving-records t ti to o n address query count lines OutputFault is = absurd is.cause
-leaving-records t ti to o n address query count lines (Refused code) is = absurd is.cause
-leaving-records t ti to o n address query count lines BadReply is = absurd is.cause
-leaving-records t ti to o n address query count lines Silent is = absurd is.cause
-leaving-records t ti to o n address query count lines PeerFault is = inr (inr is)
-leaving-records t ti to o n address query count lines Closed is = absurd is.cause
-leaving-records t ti to o n address query count lines OutOfMemory is = inr (inr (inr is))
+leaving-records : (k : DeviceTells) (o n : Outside) (w : Task) (lines : List ℕ) (end : RecordEnd) → EndedLeaving k o n w lines end
+    → Records k o n w lines end
+leaving-records k o n w lines Done is = absurd is.cause
+leaving-records k o n w lines OutputFault is = absurd is.cause
+leaving-records k o n w lines (Refused code) is = absurd is.cause
+leaving-records k o n w lines BadReply is = absurd is.cause
+leaving-records k o n w lines Silent is = absurd is.cause
+leaving-records k o n w lines PeerFault is = inr (inr is)
+leaving-records k o n w lines Closed is = absurd is.cause
+leaving-records k o n w lines OutOfMemory is = absurd is.cause
 
 pub said-of : (tells : Type 0) (o n : Drain) (lines : List ℕ) (muted : Bool) → Tells tells o n lines false muted → Said tells o n lines
 said-of tells o n lines false told = inl told
 said-of tells o n lines true told = inr told
 
 -- the run ended at its first requests, while it received, or at its last request
-pub runs_opening : (t ti to te : Type 0) (o n : Outside) (r s : Drain) (address query : List ℕ) (count : ℕ) (muted : Bool) (end : RecordEnd)
-    → EndsOpening t o.wire n.wire o.clock n.clock address query o.inlet.port end → n.inlet ≡ o.inlet → n.output ≡ o.output
-    → Tells te r s [] false muted → Runs t ti to te o n r s address query count muted (Err end)
-runs_opening t ti to te o n r s address query count muted end ends inlet output told = record {
+pub runs_opening : (k : DeviceTells) (o n : Outside) (r s : Drain) (w : Task) (muted : Bool) (end : RecordEnd)
+    → EndsOpening k.wire (link_of o) (link_of n) (setup_words w.address w.query o.inlet.port) end → n.inlet ≡ o.inlet → n.output ≡ o.output
+    → Tells k.errors r s [] false muted → Runs k o n r s w muted (Err end)
+runs_opening k o n r s w muted end ends inlet output told = record {
   lines = [];
-  records = opening-records t ti to o n address query count [] end (record { ends = ends; inlet = inlet; output = output; lines_are = refl });
+  records = opening-records k o n w [] end (record { ends = ends; inlet = inlet; output = output; lines_are = refl });
   told = told;
 }
 
-pub runs_receiving : (t ti to te : Type 0) (o m x : Line) (d e f : Dial) (mark : ℕ) (q : Pulse) (i j : Inbox) (p r : Drain) (n : Reel)
-    (address query : List ℕ) (count : ℕ) (terms : Terms) (end : RecordEnd) → Opened t o m d e address query i.port mark terms
-    → Stopped t ti to te (talk m e (first_pulse mark)) (talk x f q) i j (reel catching (fresh_tape count) p r) n address terms
-    (turn_limit count) end
-    → Runs t ti to te (outside o d i p) (outside x f j n.output) r n.errors address query count n.tape.muted (Err end)
-runs_receiving t ti to te o m x d e f mark q i j p r n address query count terms end opened stopped = record {
-  lines = gap_lines (bytes_of count) stopped.reels.wound.handed;
-  records = receiving-records t ti to (outside o d i p) (outside x f j n.output) address query count
-      (gap_lines (bytes_of count) stopped.reels.wound.handed) end
-      (ended_receiving t ti to te o m x d e f mark q i j p r n address query count terms end opened stopped);
+pub runs_receiving : (k : DeviceTells) (o : Outside) (m : Link) (mark : ℕ) (r : Drain) (n : Station) (w : Task) (terms : Terms) (end : RecordEnd)
+    → Opened k.wire (link_of o) m (setup_words w.address w.query o.inlet.port) mark terms
+    → Stopped k (first_station m mark o.inlet w.count o.output r) n w.address terms (turn_limit w.count) end
+    → Runs k o (seen_of n) r n.reel.errors w n.reel.tape.muted (Err end)
+runs_receiving k o m mark r n w terms end opened stopped = record {
+  lines = gap_lines (bytes_of w.count) stopped.reels.wound.handed;
+  records = receiving-records k o (seen_of n) w (gap_lines (bytes_of w.count) stopped.reels.wound.handed) end
+      (ended_receiving k o m mark r n w terms end opened stopped);
   told = stopped.reels.wound.told;
 }
 
@@ -202,7 +213,7 @@ leaves-cause t o w x request BadReply same is = is
 leaves-cause t o w x request Silent same is = is
 leaves-cause t o w x request PeerFault same is = subst (λ (k : ℕ). Rises k x.send_faults) same is.send_faults
 leaves-cause t o w x request Closed same is = is
-leaves-cause t o w x request OutOfMemory same is = tt
+leaves-cause t o w x request OutOfMemory same is = is
 
 record SentPart (t : Type 0) (w x : Line) (request : List ℕ) : Type 0 where
   part : List ℕ
@@ -218,60 +229,57 @@ sent-part t w x request BadReply is = absurd is
 sent-part t w x request Silent is = absurd is
 sent-part t w x request PeerFault is = record { part = is.part; rest = is.rest; whole = is.whole; content = is.content }
 sent-part t w x request Closed is = absurd is
-sent-part t w x request OutOfMemory is =
-    record { part = []; rest = request; whole = refl; content = subst (λ (y : Line). Grew t w y [] []) (sym is) (grew_none t w) }
+sent-part t w x request OutOfMemory is = absurd is
 
-pub runs_leaving : (t ti to te : Type 0) (o m w x : Line) (d e f : Dial) (mark : ℕ) (q : Pulse) (i j : Inbox) (p r : Drain) (n : Reel)
-    (address query : List ℕ) (count : ℕ) (terms : Terms) (result : Result (Unit {0}) RecordEnd)
-    → Opened t o m d e address query i.port mark terms
-    → Course t ti to te (talk m e (first_pulse mark)) (talk w f q) i j (reel catching (fresh_tape count) p r) n address terms
-    → n.tape.left ≡ 0 → Leaves t w x address terms q.cseq result
-    → Runs t ti to te (outside o d i p) (outside x f j n.output) r n.errors address query count n.tape.muted result
-runs_leaving t ti to te o m w x d e f mark q i j p r n address query count terms (Ok done) opened course full sent = record {
-  lines = gap_lines (bytes_of count) (handed_up catching course.reels.wound.arrivals);
+pub runs_leaving : (k : DeviceTells) (o : Outside) (m : Link) (x : Line) (mark : ℕ) (r : Drain) (n : Station) (w : Task) (terms : Terms)
+    (result : Result (Unit {0}) RecordEnd) → Opened k.wire (link_of o) m (setup_words w.address w.query o.inlet.port) mark terms
+    → Course k (first_station m mark o.inlet w.count o.output r) n w.address terms
+    → n.reel.tape.left ≡ 0 → Leaves k.wire n.talk.wire x w.address terms n.talk.pulse.cseq result
+    → Runs k o (seen_at x n) r n.reel.errors w n.reel.tape.muted result
+runs_leaving k o m x mark r n w terms (Ok done) opened course full sent = record {
+  lines = gap_lines (bytes_of w.count) (handed_up catching course.reels.wound.arrivals);
   records = record {
     terms = terms;
-    pulse = q;
-    filled = filled t ti to te o m w x d e f mark q i j p r n address query count terms
-        (teardown_request address terms.stream q.cseq terms.session) opened course full sent.content;
+    pulse = n.talk.pulse;
+    filled = filled k o m x mark r n w terms (teardown_request w.address terms.stream n.talk.pulse.cseq terms.session) opened course full sent.content;
   };
   told = course.reels.wound.taped.told;
 }
-runs_leaving t ti to te o m w x d e f mark q i j p r n address query count terms (Err end) opened course full is =
-    let request = teardown_request address terms.stream q.cseq terms.session in
-    let s = sent-part t w x request end is in
-    let lines = gap_lines (bytes_of count) (handed_up catching course.reels.wound.arrivals) in
+runs_leaving k o m x mark r n w terms (Err end) opened course full is =
+    let request = teardown_request w.address terms.stream n.talk.pulse.cseq terms.session in
+    let s = sent-part k.wire n.talk.wire x request end is in
+    let lines = gap_lines (bytes_of w.count) (handed_up catching course.reels.wound.arrivals) in
     record {
       lines = lines;
-      records = leaving-records t ti to (outside o d i p) (outside x f j n.output) address query count lines end (record {
+      records = leaving-records k o (seen_at x n) w lines end (record {
         terms = terms;
-        pulse = q;
+        pulse = n.talk.pulse;
         part = s.part;
         rest = s.rest;
         whole = s.whole;
-        filled = filled t ti to te o m w x d e f mark q i j p r n address query count terms s.part opened course full s.content;
-        cause = leaves-cause t o w x request end (course.talks.faults.send_faults ∙ opened.faults.send_faults) is;
+        filled = filled k o m x mark r n w terms s.part opened course full s.content;
+        cause = leaves-cause k.wire o.wire n.talk.wire x request end (course.talks.faults.send_faults ∙ opened.faults.send_faults) is;
       });
       told = course.reels.wound.taped.told;
     }
 
 -- the line of the end follows
-pub ends : (t ti to te : Type 0) (o n : Outside) (r m s : Drain) (address query : List ℕ) (count : ℕ) (muted silent : Bool)
-    (result : Result (Unit {0}) RecordEnd) (end : RecordEnd) → end ≡ end_for result → Runs t ti to te o n r m address query count muted result
-    → Tells te m s (line_for end) muted silent
-    → Ends te r s end (λ (lines : List ℕ). Records t ti to o n address query count lines end)
-ends t ti to te o n r m s address query count muted silent result end is run told = record {
+pub ends : (k : DeviceTells) (o n : Outside) (r m s : Drain) (w : Task) (muted silent : Bool) (result : Result (Unit {0}) RecordEnd) (end : RecordEnd)
+    → end ≡ end_for result → Runs k o n r m w muted result → Tells k.errors m s (line_for end) muted silent
+    → Ends k.errors r s end (λ (lines : List ℕ). Records k o n w lines end)
+ends k o n r m s w muted silent result end is run told = record {
   lines = run.lines;
-  comes = subst (λ (x : RecordEnd). Records t ti to o n address query count run.lines x) (sym is) run.records;
-  said = said-of te r s (run.lines ++ line_for end) silent (tells-then te r m s run.lines (line_for end) false muted silent run.told told);
+  comes = subst (λ (x : RecordEnd). Records k o n w run.lines x) (sym is) run.records;
+  said = said-of k.errors r s (run.lines ++ line_for end) silent
+      (tells-then k.errors r m s run.lines (line_for end) false muted silent run.told told);
 }
 
-pub ends_unbegun : (t ti to te : Type 0) (o : Outside) (r s : Drain) (address query : List ℕ) (count : ℕ) (end : RecordEnd) → end ≡ OutOfMemory
-    → Said te r s (line_for OutOfMemory) → Ends te r s end (λ (lines : List ℕ). Records t ti to o o address query count lines end)
-ends_unbegun t ti to te o r s address query count end is said =
-    subst (λ (x : RecordEnd). Ends te r s x (λ (lines : List ℕ). Records t ti to o o address query count lines x)) (sym is) (record {
+pub ends_unbegun : (k : DeviceTells) (o : Outside) (r s : Drain) (w : Task) (end : RecordEnd) → end ≡ OutOfMemory
+    → Said k.errors r s (line_for OutOfMemory) → Ends k.errors r s end (λ (lines : List ℕ). Records k o o w lines end)
+ends_unbegun k o r s w end is said =
+    subst (λ (x : RecordEnd). Ends k.errors r s x (λ (lines : List ℕ). Records k o o w lines x)) (sym is) (record {
       lines = [];
-      comes = inl (record { same = refl; lines_are = refl });
+      comes = record { same = refl; lines_are = refl };
       said = said;
     })
 
@@ -281,52 +289,61 @@ tape_of left muted = record { left = left; muted = muted }
 tape-fresh : (count : ℕ) (t : Tape) → t.left ≡ bytes_of count → t.muted ≡ false → t ≡ fresh_tape count
 tape-fresh count t left muted = ap (λ (k : ℕ). tape_of k t.muted) left ∙ ap (λ (b : Bool). tape_of (bytes_of count) b) muted
 
+-- the state of a fresh recorder
+abbrev pub made_station : Link → (mark cseq : ℕ) → Inbox → Catch → Tape → (p r : Drain) → Station
+made_station m mark cseq i c v p r = station (talk m.wire m.clock (numbered mark cseq)) i (reel c v p r)
+
+station-first : (m : Link) (mark cseq : ℕ) (i : Inbox) (c : Catch) (v : Tape) (p r : Drain) (count : ℕ) → cseq ≡ 3 → c ≡ catching
+    → v.left ≡ bytes_of count → v.muted ≡ false → made_station m mark cseq i c v p r ≡ first_station m mark i count p r
+station-first m mark cseq i c v p r count first new left quiet =
+    ap (λ (k : ℕ). made_station m mark k i c v p r) first ∙ ap (λ (x : Catch). made_station m mark 3 i x v p r) new
+    ∙ ap (λ (t : Tape). made_station m mark 3 i catching t p r) (tape-fresh count v left quiet)
+
 -- a run, by what its calls come to
-pub run_opening : (t ti to te : Type 0) (o x : Line) (d e : Dial) (i : Inbox) (p r : Drain) (address query : List ℕ) (port count : ℕ) (muted : Bool)
-    (end : RecordEnd) (result : Result (Unit {0}) RecordEnd) → result ≡ Err end → port ≡ i.port → muted ≡ false
-    → EndsOpening t o x d e address query port end
-    → Runs t ti to te (outside o d i p) (outside x e i p) r r address query count muted result
-run_opening t ti to te o x d e i p r address query port count muted end result is at quiet ends =
-    subst (λ (y : Result (Unit {0}) RecordEnd). Runs t ti to te (outside o d i p) (outside x e i p) r r address query count muted y) (sym is)
-    (runs_opening t ti to te (outside o d i p) (outside x e i p) r r address query count muted end
-    (subst (λ (k : ℕ). EndsOpening t o x d e address query k end) at ends) refl refl
-    (subst (λ (b : Bool). Tells te r r [] false b) (sym quiet) (tells-none te r false)))
+pub run_opening : (k : DeviceTells) (o : Outside) (n : Link) (r : Drain) (w : Task) (port : ℕ) (muted : Bool) (end : RecordEnd)
+    (result : Result (Unit {0}) RecordEnd) → result ≡ Err end → port ≡ o.inlet.port → muted ≡ false
+    → EndsOpening k.wire (link_of o) n (setup_words w.address w.query port) end
+    → Runs k o (outside n.wire n.clock o.inlet o.output) r r w muted result
+run_opening k o n r w port muted end result is at quiet ends =
+    let after = outside n.wire n.clock o.inlet o.output in
+    subst (λ (y : Result (Unit {0}) RecordEnd). Runs k o after r r w muted y) (sym is)
+    (runs_opening k o after r r w muted end
+    (subst (λ (p : ℕ). EndsOpening k.wire (link_of o) n (setup_words w.address w.query p) end) at ends) refl refl
+    (subst (λ (b : Bool). Tells k.errors r r [] false b) (sym quiet) (tells-none k.errors r false)))
 
-pub run_receiving : (t ti to te : Type 0) (o m x : Line) (d e f : Dial) (mark cseq : ℕ) (q : Pulse) (i j : Inbox) (c b : Catch) (v u : Tape)
-    (p y r s : Drain) (address query : List ℕ) (port count turns : ℕ) (terms : Terms) (end : RecordEnd) (result : Result (Unit {0}) RecordEnd)
-    → result ≡ Err end → port ≡ i.port → cseq ≡ 3 → c ≡ catching → v.left ≡ bytes_of count → v.muted ≡ false → turns ≡ turn_limit count
-    → Opened t o m d e address query port mark terms
-    → Stopped t ti to te (talk m e (numbered mark cseq)) (talk x f q) i j (reel c v p r) (reel b u y s) address terms turns end
-    → Runs t ti to te (outside o d i p) (outside x f j y) r s address query count u.muted result
-run_receiving t ti to te o m x d e f mark cseq q i j c b v u p y r s address query port count turns terms end result is at first new left quiet limit
-    opened stopped =
-    subst (λ (z : Result (Unit {0}) RecordEnd). Runs t ti to te (outside o d i p) (outside x f j y) r s address query count u.muted z) (sym is)
-    (runs_receiving t ti to te o m x d e f mark q i j p r (reel b u y s) address query count terms end
-    (subst (λ (k : ℕ). Opened t o m d e address query k mark terms) at opened)
-    (from_fresh (λ (a : Pulse) (z : Catch) (w : Tape). Stopped t ti to te (talk m e a) (talk x f q) i j (reel z w p r) (reel b u y s)
-    address terms (turn_limit count) end) (numbered mark cseq) (first_pulse mark) c catching v (fresh_tape count)
-    (ap (λ (k : ℕ). numbered mark k) first) new (tape-fresh count v left quiet)
-    (subst (λ (k : ℕ). Stopped t ti to te (talk m e (numbered mark cseq)) (talk x f q) i j (reel c v p r) (reel b u y s) address terms k end)
-    limit stopped)))
+pub run_receiving : (k : DeviceTells) (o : Outside) (m : Link) (mark cseq : ℕ) (c : Catch) (v : Tape) (r : Drain) (n : Station) (w : Task)
+    (other : List ℕ) (port turns : ℕ) (terms : Terms) (end : RecordEnd) (result : Result (Unit {0}) RecordEnd)
+    → result ≡ Err end → port ≡ o.inlet.port → cseq ≡ 3 → c ≡ catching → v.left ≡ bytes_of w.count → v.muted ≡ false → turns ≡ turn_limit w.count
+    → other ≡ w.address → Opened k.wire (link_of o) m (setup_words w.address w.query port) mark terms
+    → Stopped k (made_station m mark cseq o.inlet c v o.output r) n other terms turns end
+    → Runs k o (seen_of n) r n.reel.errors w n.reel.tape.muted result
+run_receiving k o m mark cseq c v r n w other port turns terms end result is at first new left quiet limit same opened stopped =
+    subst (λ (z : Result (Unit {0}) RecordEnd). Runs k o (seen_of n) r n.reel.errors w n.reel.tape.muted z) (sym is)
+    (runs_receiving k o m mark r n w terms end
+    (subst (λ (p : ℕ). Opened k.wire (link_of o) m (setup_words w.address w.query p) mark terms) at opened)
+    (subst (λ (x : Station). Stopped k x n w.address terms (turn_limit w.count) end)
+    (station-first m mark cseq o.inlet c v o.output r w.count first new left quiet)
+    (subst (λ (l : ℕ). Stopped k (made_station m mark cseq o.inlet c v o.output r) n w.address terms l end) limit
+    (subst (λ (a : List ℕ). Stopped k (made_station m mark cseq o.inlet c v o.output r) n a terms turns end) same stopped))))
 
-pub run_leaving : (t ti to te : Type 0) (o m w x : Line) (d e f : Dial) (mark cseq : ℕ) (q : Pulse) (i j : Inbox) (c b : Catch) (v u : Tape)
-    (p y r s : Drain) (address query : List ℕ) (port count : ℕ) (terms : Terms) (result : Result (Unit {0}) RecordEnd)
-    → port ≡ i.port → cseq ≡ 3 → c ≡ catching → v.left ≡ bytes_of count → v.muted ≡ false
-    → Opened t o m d e address query port mark terms
-    → Course t ti to te (talk m e (numbered mark cseq)) (talk w f q) i j (reel c v p r) (reel b u y s) address terms
-    → u.left ≡ 0 → Leaves t w x address terms q.cseq result
-    → Runs t ti to te (outside o d i p) (outside x f j y) r s address query count u.muted result
-run_leaving t ti to te o m w x d e f mark cseq q i j c b v u p y r s address query port count terms result at first new left quiet opened course
-    full leaves =
-    runs_leaving t ti to te o m w x d e f mark q i j p r (reel b u y s) address query count terms result
-    (subst (λ (k : ℕ). Opened t o m d e address query k mark terms) at opened)
-    (from_fresh (λ (a : Pulse) (z : Catch) (h : Tape). Course t ti to te (talk m e a) (talk w f q) i j (reel z h p r) (reel b u y s)
-    address terms) (numbered mark cseq) (first_pulse mark) c catching v (fresh_tape count)
-    (ap (λ (k : ℕ). numbered mark k) first) new (tape-fresh count v left quiet) course) full leaves
+pub run_leaving : (k : DeviceTells) (o : Outside) (m : Link) (x : Line) (mark cseq : ℕ) (c : Catch) (v : Tape) (r : Drain) (n : Station) (w : Task)
+    (other third : List ℕ) (port : ℕ) (terms : Terms) (result : Result (Unit {0}) RecordEnd) → port ≡ o.inlet.port → cseq ≡ 3 → c ≡ catching
+    → v.left ≡ bytes_of w.count → v.muted ≡ false → other ≡ w.address → third ≡ w.address
+    → Opened k.wire (link_of o) m (setup_words w.address w.query port) mark terms
+    → Course k (made_station m mark cseq o.inlet c v o.output r) n other terms
+    → n.reel.tape.left ≡ 0 → Leaves k.wire n.talk.wire x third terms n.talk.pulse.cseq result
+    → Runs k o (seen_at x n) r n.reel.errors w n.reel.tape.muted result
+run_leaving k o m x mark cseq c v r n w other third port terms result at first new left quiet same again opened course full leaves =
+    runs_leaving k o m x mark r n w terms result
+    (subst (λ (p : ℕ). Opened k.wire (link_of o) m (setup_words w.address w.query p) mark terms) at opened)
+    (subst (λ (y : Station). Course k y n w.address terms) (station-first m mark cseq o.inlet c v o.output r w.count first new left quiet)
+    (subst (λ (a : List ℕ). Course k (made_station m mark cseq o.inlet c v o.output r) n a terms) same course))
+    full (subst (λ (a : List ℕ). Leaves k.wire n.talk.wire x a terms n.talk.pulse.cseq result) again leaves)
 
--- a recording with this end
-pub ends_as : (t ti to te : Type 0) (o n : Outside) (r s : Drain) (address query : List ℕ) (count : ℕ) (end other : RecordEnd) → end ≡ other
-    → Ends te r s end (λ (lines : List ℕ). Records t ti to o n address query count lines end)
-    → Ends te r s other (λ (lines : List ℕ). Records t ti to o n address query count lines other)
-ends_as t ti to te o n r s address query count end other is e =
-    subst (λ (x : RecordEnd). Ends te r s x (λ (lines : List ℕ). Records t ti to o n address query count lines x)) is e
+-- a run by a page of this address and this query
+pub runs_at : (k : DeviceTells) (o n : Outside) (r s : Drain) (address other query another : List ℕ) (count : ℕ) (muted : Bool)
+    (result : Result (Unit {0}) RecordEnd) → other ≡ address → another ≡ query → Runs k o n r s (task other another count) muted result
+    → Runs k o n r s (task address query count) muted result
+runs_at k o n r s address other query another count muted result same again run =
+    subst (λ (x : List ℕ). Runs k o n r s (task x query count) muted result) same
+    (subst (λ (x : List ℕ). Runs k o n r s (task other x count) muted result) again run)

@@ -5,7 +5,7 @@ use Rattle.satip_base.specs.declared.streams.Put.{Put}
 use Rattle.satip_base.specs.declared.streams.Put.TheVariants.{Whole, Failed}
 use Rattle.satip_rtp_receiver.specs.declared.item.Item.{Item}
 use Rattle.satip_rtp_receiver.specs.declared.item.Item.TheVariants.{Data, Gap}
-use Rattle.satip_recorder.specs.Tapes.{packets_in, gap_line, gap_lines, Tells, PutsPackets, Taped, TapeFailed, TapesAs}
+use Rattle.satip_recorder.specs.Tapes.{Deck, deck, packets_in, gap_line, gap_lines, Tells, PutsPackets, Taped, TapeFailed, TapesAs}
 use Rattle.satip_recorder.specs.declared.tape.Tape.{Tape}
 
 take-nil : (n : ℕ) → take {A = ℕ} n [] ≡ []
@@ -23,7 +23,7 @@ take-split (suc n) (x ∷ a) b =
     let less : n - length a ≡ suc n - suc (length a) = omega arith in
     ap (λ (t : List ℕ). x ∷ t) (take-split n a b) ∙ ap (λ (k : ℕ). x ∷ (take n a ++ take k b)) less
 
-packets-split : (xs ys : List Item) → packets_in (xs ++ ys) ≡ packets_in xs ++ packets_in ys
+pub packets-split : (xs ys : List Item) → packets_in (xs ++ ys) ≡ packets_in xs ++ packets_in ys
 packets-split [] ys = refl
 packets-split (Data number packets ∷ xs) ys =
     ap (λ (t : List ℕ). packets ++ t) (packets-split xs ys) ∙ sym (append_assoc packets (packets_in xs) (packets_in ys))
@@ -117,31 +117,34 @@ pub lines-then : (p q : Tape) (xs ys : List Item) → q.left ≡ p.left - length
 lines-then p q xs ys left =
     ap (λ (k : ℕ). gap_lines p.left xs ++ gap_lines k ys) left ∙ sym (gap_lines-split p.left xs ys)
 
-pub taped-then : (tells tells_lines : Type 0) (o m n d e f : Drain) (p q r : Tape) (xs ys : List Item)
-    → Taped tells tells_lines o m d e p q xs → Taped tells tells_lines m n e f q r ys → Taped tells tells_lines o n d f p r (xs ++ ys)
-taped-then tells tells_lines o m n d e f p q r xs ys first second = record {
-  written = subst (λ (t : List ℕ). PutAll tells o n t) (bytes-then p q xs ys first.left)
-      (puts-then tells o m n (take p.left (packets_in xs)) (take q.left (packets_in ys)) first.written second.written);
+pub taped-then : (tells tells_lines : Type 0) (o m n : Deck) (xs ys : List Item) → Taped tells tells_lines o m xs → Taped tells tells_lines m n ys
+    → Taped tells tells_lines o n (xs ++ ys)
+taped-then tells tells_lines o m n xs ys first second = record {
+  written = subst (λ (t : List ℕ). PutAll tells o.output n.output t) (bytes-then o.tape m.tape xs ys first.left)
+      (puts-then tells o.output m.output n.output (take o.tape.left (packets_in xs)) (take m.tape.left (packets_in ys)) first.written second.written);
   left = omega (arith, first.left, second.left, ap (λ (t : List ℕ). length t) (packets-split xs ys), length-append (packets_in xs) (packets_in ys));
-  told = subst (λ (t : List ℕ). Tells tells_lines d f t p.muted r.muted) (lines-then p q xs ys first.left)
-      (tells-then tells_lines d e f (gap_lines p.left xs) (gap_lines q.left ys) p.muted q.muted r.muted first.told second.told);
+  told = subst (λ (t : List ℕ). Tells tells_lines o.errors n.errors t o.tape.muted n.tape.muted) (lines-then o.tape m.tape xs ys first.left)
+      (tells-then tells_lines o.errors m.errors n.errors (gap_lines o.tape.left xs) (gap_lines m.tape.left ys) o.tape.muted m.tape.muted n.tape.muted
+      first.told second.told);
 }
 
-pub tape_fails-after : (tells tells_lines : Type 0) (o m n d e f : Drain) (p q r : Tape) (xs ys : List Item)
-    → Taped tells tells_lines o m d e p q xs → TapeFailed tells tells_lines m n e f q r ys → TapeFailed tells tells_lines o n d f p r (xs ++ ys)
-tape_fails-after tells tells_lines o m n d e f p q r xs ys first second = record {
+pub tape_fails-after : (tells tells_lines : Type 0) (o m n : Deck) (xs ys : List Item) → Taped tells tells_lines o m xs
+    → TapeFailed tells tells_lines m n ys → TapeFailed tells tells_lines o n (xs ++ ys)
+tape_fails-after tells tells_lines o m n xs ys first second = record {
   handed = xs ++ second.handed;
   rest = second.rest;
   whole = ap (λ (t : List Item). xs ++ t) second.whole ∙ sym (append_assoc xs second.handed second.rest);
-  written = subst (λ (t : List ℕ). FailedToPut tells o n t) (bytes-then p q xs second.handed first.left)
-      (puts-failed tells o m n (take p.left (packets_in xs)) (take q.left (packets_in second.handed)) first.written second.written);
-  told = subst (λ (t : List ℕ). Tells tells_lines d f t p.muted r.muted) (lines-then p q xs second.handed first.left)
-      (tells-then tells_lines d e f (gap_lines p.left xs) (gap_lines q.left second.handed) p.muted q.muted r.muted first.told second.told);
+  written = subst (λ (t : List ℕ). FailedToPut tells o.output n.output t) (bytes-then o.tape m.tape xs second.handed first.left)
+      (puts-failed tells o.output m.output n.output (take o.tape.left (packets_in xs)) (take m.tape.left (packets_in second.handed))
+      first.written second.written);
+  told = subst (λ (t : List ℕ). Tells tells_lines o.errors n.errors t o.tape.muted n.tape.muted) (lines-then o.tape m.tape xs second.handed first.left)
+      (tells-then tells_lines o.errors m.errors n.errors (gap_lines o.tape.left xs) (gap_lines m.tape.left second.handed)
+      o.tape.muted m.tape.muted n.tape.muted first.told second.told);
 }
 
-pub tape_fails-more : (tells tells_lines : Type 0) (o n d e : Drain) (p q : Tape) (xs ys : List Item)
-    → TapeFailed tells tells_lines o n d e p q xs → TapeFailed tells tells_lines o n d e p q (xs ++ ys)
-tape_fails-more tells tells_lines o n d e p q xs ys failed = record {
+pub tape_fails-more : (tells tells_lines : Type 0) (o n : Deck) (xs ys : List Item) → TapeFailed tells tells_lines o n xs
+    → TapeFailed tells tells_lines o n (xs ++ ys)
+tape_fails-more tells tells_lines o n xs ys failed = record {
   handed = failed.handed;
   rest = failed.rest ++ ys;
   whole = ap (λ (t : List Item). t ++ ys) failed.whole ∙ append_assoc failed.handed failed.rest ys;
@@ -150,20 +153,20 @@ tape_fails-more tells tells_lines o n d e p q xs ys failed = record {
 }
 
 -- nothing is to be written any more, or there are no items
-pub taped-full : (tells tells_lines : Type 0) (o d : Drain) (p : Tape) (items : List Item) → p.left ≡ 0
-    → Taped tells tells_lines o o d d p p items
-taped-full tells tells_lines o d p items full = record {
-  written = subst (λ (t : List ℕ). PutAll tells o o t) (ap (λ (k : ℕ). take k (packets_in items)) (sym full)) (puts-none tells o);
+pub taped-full : (tells tells_lines : Type 0) (o : Deck) (items : List Item) → o.tape.left ≡ 0 → Taped tells tells_lines o o items
+taped-full tells tells_lines o items full = record {
+  written = subst (λ (t : List ℕ). PutAll tells o.output o.output t) (ap (λ (k : ℕ). take k (packets_in items)) (sym full)) (puts-none tells o.output);
   left = omega (arith, full);
-  told = subst (λ (t : List ℕ). Tells tells_lines d d t p.muted p.muted)
-      (sym (gap_lines-zero items) ∙ ap (λ (k : ℕ). gap_lines k items) (sym full)) (tells-none tells_lines d p.muted);
+  told = subst (λ (t : List ℕ). Tells tells_lines o.errors o.errors t o.tape.muted o.tape.muted)
+      (sym (gap_lines-zero items) ∙ ap (λ (k : ℕ). gap_lines k items) (sym full)) (tells-none tells_lines o.errors o.tape.muted);
 }
 
-pub taped-none : (tells tells_lines : Type 0) (o d : Drain) (p : Tape) → Taped tells tells_lines o o d d p p []
-taped-none tells tells_lines o d p = record {
-  written = subst (λ (t : List ℕ). PutAll tells o o t) (sym (take-nil p.left)) (puts-none tells o);
+pub taped-none : (tells tells_lines : Type 0) (o : Deck) → Taped tells tells_lines o o []
+taped-none tells tells_lines o = record {
+  written = subst (λ (t : List ℕ). PutAll tells o.output o.output t) (sym (take-nil o.tape.left)) (puts-none tells o.output);
   left = omega arith;
-  told = subst (λ (t : List ℕ). Tells tells_lines d d t p.muted p.muted) (sym (gap_lines-nil p.left)) (tells-none tells_lines d p.muted);
+  told = subst (λ (t : List ℕ). Tells tells_lines o.errors o.errors t o.tape.muted o.tape.muted) (sym (gap_lines-nil o.tape.left))
+      (tells-none tells_lines o.errors o.tape.muted);
 }
 
 gap_lines-data : (n number : ℕ) (packets : List ℕ) → gap_lines n (Data number packets ∷ []) ≡ []
@@ -176,7 +179,7 @@ gap_lines-gap (suc n) from count some = sym (append-nil (gap_line from count))
 
 -- one item with packets
 pub tapes-data : (tells tells_lines : Type 0) (o n d : Drain) (p q : Tape) (number : ℕ) (packets : List ℕ) (result : Put)
-    → PutsPackets tells o n p q packets result → TapesAs tells tells_lines o n d d p q (Data number packets ∷ []) result
+    → PutsPackets tells o n p q packets result → TapesAs tells tells_lines (deck p o d) (deck q n d) (Data number packets ∷ []) result
 tapes-data tells tells_lines o n d p q number packets Whole puts = record {
   written = subst (λ (t : List ℕ). PutAll tells o n (take p.left t)) (sym (append-nil packets)) puts.0;
   left = puts.1 ∙ ap (λ (t : List ℕ). p.left - length t) (sym (append-nil packets));
@@ -194,14 +197,14 @@ tapes-data tells tells_lines o n d p q number packets Failed puts = record {
 
 pub tapes-item : (tells tells_lines : Type 0) (o n d : Drain) (p q : Tape) (item : Item) (number : ℕ) (packets bytes : List ℕ) (result : Put)
     → item ≡ Data number packets → bytes ≡ packets → PutsPackets tells o n p q bytes result
-    → TapesAs tells tells_lines o n d d p q (item ∷ []) result
+    → TapesAs tells tells_lines (deck p o d) (deck q n d) (item ∷ []) result
 tapes-item tells tells_lines o n d p q item number packets bytes result is same puts =
-    subst (λ (x : Item). TapesAs tells tells_lines o n d d p q (x ∷ []) result) (sym is)
+    subst (λ (x : Item). TapesAs tells tells_lines (deck p o d) (deck q n d) (x ∷ []) result) (sym is)
     (tapes-data tells tells_lines o n d p q number packets result (subst (λ (b : List ℕ). PutsPackets tells o n p q b result) same puts))
 
 -- one gap
 pub taped-gap : (tells tells_lines : Type 0) (o d e : Drain) (p q : Tape) (from count : ℕ) → 0 < p.left → q.left ≡ p.left
-    → Tells tells_lines d e (gap_line from count) p.muted q.muted → Taped tells tells_lines o o d e p q (Gap from count ∷ [])
+    → Tells tells_lines d e (gap_line from count) p.muted q.muted → Taped tells tells_lines (deck p o d) (deck q o e) (Gap from count ∷ [])
 taped-gap tells tells_lines o d e p q from count some same told = record {
   written = subst (λ (t : List ℕ). PutAll tells o o t) (sym (take-nil p.left)) (puts-none tells o);
   left = omega (arith, same);
@@ -209,6 +212,7 @@ taped-gap tells tells_lines o d e p q from count some same told = record {
 }
 
 pub taped-told : (tells tells_lines : Type 0) (o d e : Drain) (p q : Tape) (item : Item) (from count : ℕ) → item ≡ Gap from count → 0 < p.left
-    → q.left ≡ p.left → Tells tells_lines d e (gap_line from count) p.muted q.muted → Taped tells tells_lines o o d e p q (item ∷ [])
+    → q.left ≡ p.left → Tells tells_lines d e (gap_line from count) p.muted q.muted → Taped tells tells_lines (deck p o d) (deck q o e) (item ∷ [])
 taped-told tells tells_lines o d e p q item from count is some same told =
-    subst (λ (x : Item). Taped tells tells_lines o o d e p q (x ∷ [])) (sym is) (taped-gap tells tells_lines o d e p q from count some same told)
+    subst (λ (x : Item). Taped tells tells_lines (deck p o d) (deck q o e) (x ∷ [])) (sym is)
+    (taped-gap tells tells_lines o d e p q from count some same told)

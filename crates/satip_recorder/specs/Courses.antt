@@ -1,5 +1,5 @@
 -- A client that keeps its session alive, receives datagrams, puts them in order and writes their packets, turn by turn.
-use Rattle.std.specs.Prelude.{◌≡◌, ℕ, ◌<◌, ◌⊎◌, true, length, List, [], ◌∷◌, ◌++◌, take, Result, Ok, Err}
+use Rattle.std.specs.Prelude.{◌≡◌, ℕ, ◌+◌, ◌<◌, ◌≤◌, ◌⊎◌, true, length, List, [], ◌∷◌, ◌++◌, take, Result, Ok, Err}
 use Rattle.satip_base.specs.Streams.{Drain, PutAll, FailedToPut}
 use Rattle.satip_base.specs.declared.streams.Put.{Put}
 use Rattle.satip_base.specs.declared.streams.Put.TheVariants.{Whole, Failed}
@@ -12,20 +12,15 @@ use Rattle.satip_rtp_receiver.specs.Catching.{Catch, Rests}
 use Rattle.satip_rtp_receiver.specs.Runs.{handed_up, after_all}
 use Rattle.satip_rtp_receiver.specs.declared.item.Item.{Item}
 use Rattle.satip_client.specs.Leases.{Terms}
-use Rattle.satip_client.specs.Pulses.{after_reading, sent_at}
+use Rattle.satip_client.specs.Pulses.{Talk, after_reading, sent_at}
 use Rattle.satip_client.specs.Waits.{SameFaults}
 use Rattle.satip_client.specs.declared.pulse.Pulse.{Pulse}
 use Rattle.satip_client.specs.declared.ending.RecordEnd.{RecordEnd}
 use Rattle.satip_client.specs.declared.ending.RecordEnd.TheVariants.{Done, OutputFault, Refused, BadReply, Silent, PeerFault, Closed, OutOfMemory}
-use Rattle.satip_recorder.specs.Tapes.{Taped, Tells, gap_lines, packets_in}
+use Rattle.satip_recorder.specs.Outsides.{DeviceTells}
+use Rattle.satip_recorder.specs.Tapes.{Deck, deck, Taped, Tells, gap_lines, packets_in}
 use Rattle.satip_recorder.specs.Arrivals.{AreRead, TookTurns}
 use Rattle.satip_recorder.specs.declared.tape.Tape.{Tape}
-
--- the state of the requests: the connection, the clock, the mark and the next number
-pub record Talk : Type 0 where
-  pub wire : Line
-  pub clock : Dial
-  pub pulse : Pulse
 
 -- the state of the datagrams: the catcher, the bytes still to be written, the output and the error sink
 pub record Reel : Type 0 where
@@ -34,11 +29,20 @@ pub record Reel : Type 0 where
   pub output : Drain
   pub errors : Drain
 
-abbrev pub talk : Line → Dial → Pulse → Talk
-talk wire clock pulse = record { wire = wire; clock = clock; pulse = pulse }
-
 abbrev pub reel : Catch → Tape → Drain → Drain → Reel
 reel catcher tape output errors = record { catcher = catcher; tape = tape; output = output; errors = errors }
+
+abbrev pub deck_of : Reel → Deck
+deck_of r = deck r.tape r.output r.errors
+
+-- the state of a recording: that of the requests, the inlet, and that of the datagrams
+pub record Station : Type 0 where
+  pub talk : Talk
+  pub inlet : Inbox
+  pub reel : Reel
+
+abbrev pub station : Talk → Inbox → Reel → Station
+station talk inlet reel = record { talk = talk; inlet = inlet; reel = reel }
 
 -- these moments were read one after another
 pub record ReadsAll (o n : Dial) (moments : List ℕ) : Type 0 where
@@ -76,16 +80,18 @@ pub record BeatenUntil (tells : Type 0) (o n : Talk) (address : List ℕ) (terms
 pub record Wound (tells_output tells_errors : Type 0) (o n : Reel) (datagrams : List (List ℕ)) : Type 0 where
   pub arrivals : List Datagram
   pub read : AreRead datagrams arrivals
-  pub taped : Taped tells_output tells_errors o.output n.output o.errors n.errors o.tape n.tape (handed_up o.catcher arrivals)
+  pub taped : Taped tells_output tells_errors (deck_of o) (deck_of n) (handed_up o.catcher arrivals)
   pub caught : 0 < n.tape.left → n.catcher ≡ after_all o.catcher arrivals
 
--- in at least `turns` turns these datagrams were received
+-- in this many turns these datagrams were received: at most one in each turn, and each turn was a receive
 pub record Caught (tells tells_output tells_errors : Type 0) (i j : Inbox) (o n : Reel) (turns : ℕ) : Type 0 where
   pub port : j.port ≡ i.port
   pub datagrams : List (List ℕ)
   pub given : tells → j.given ≡ i.given ++ datagrams
   pub faults : j.faults ≡ i.faults
   pub took : TookTurns turns i j
+  pub timed : length datagrams ≤ turns
+  pub counted : j.count ≤ i.count + turns
   pub wound : Wound tells_output tells_errors o n datagrams
 
 -- the bytes were written; with the end of an output fault only a prefix of them was, and the output failed
@@ -99,7 +105,7 @@ IsWritten PeerFault tells o n bytes = PutAll tells o n bytes
 IsWritten Closed tells o n bytes = PutAll tells o n bytes
 IsWritten OutOfMemory tells o n bytes = PutAll tells o n bytes
 
--- a prefix of the items that the catcher hands up of these datagrams was written and logged
+-- a prefix of the items that the catcher hands up of these datagrams was written and logged. Unless the output failed it is all of them, and bytes are missing
 pub record WoundUntil (tells_output tells_errors : Type 0) (o n : Reel) (end : RecordEnd) (datagrams : List (List ℕ)) : Type 0 where
   pub arrivals : List Datagram
   pub read : AreRead datagrams arrivals
@@ -108,6 +114,7 @@ pub record WoundUntil (tells_output tells_errors : Type 0) (o n : Reel) (end : R
   pub whole : handed_up o.catcher arrivals ≡ handed ++ left_out
   pub written : IsWritten end tells_output o.output n.output (take o.tape.left (packets_in handed))
   pub told : Tells tells_errors o.errors n.errors (gap_lines o.tape.left handed) o.tape.muted n.tape.muted
+  pub all : (end ≡ OutputFault → ⊥) → (left_out ≡ []) × (length (packets_in handed) < o.tape.left)
 
 -- these datagrams were received until this end
 pub record CaughtUntil (tells tells_output tells_errors : Type 0) (i j : Inbox) (o n : Reel) (end : RecordEnd) : Type 0 where
@@ -135,48 +142,44 @@ CatchCause i j OutOfMemory = ⊥
 -- one turn of the inlet
 abbrev pub Catches : (tells tells_output tells_errors : Type 0) (i j : Inbox) (o n : Reel) → Result (Unit {0}) RecordEnd → Type 0
 Catches tells tells_output tells_errors i j o n (Ok done) = Caught tells tells_output tells_errors i j o n 1
-Catches tells tells_output tells_errors i j o n (Err end) = CaughtUntil tells tells_output tells_errors i j o n end × CatchCause i j end
+Catches tells tells_output tells_errors i j o n (Err end) =
+    (caught : CaughtUntil tells tells_output tells_errors i j o n end) × (length caught.datagrams ≤ 1) × (j.count ≤ i.count + 1) × CatchCause i j end
 
--- the cause of an end while receiving: no turn left for `Silent`, and a fault for `PeerFault`; nothing is said of an output fault and of out of memory
-abbrev pub Cause : (limit : ℕ) (a b : Line) (i j : Inbox) → RecordEnd → Type 0
-Cause limit a b i j Done = ⊥
-Cause limit a b i j OutputFault = Unit {0}
-Cause limit a b i j (Refused code) = ⊥
-Cause limit a b i j BadReply = ⊥
-Cause limit a b i j Silent = TookTurns limit i j
-Cause limit a b i j PeerFault = Rises a.send_faults b.send_faults ⊎ Rises i.faults j.faults
-Cause limit a b i j Closed = ⊥
-Cause limit a b i j OutOfMemory = Unit {0}
+-- the cause of an end while receiving, after this many readings of the clock: no turn left for `Silent`, each with its reading, and a fault for `PeerFault`;
+-- nothing is said of an output fault
+abbrev pub Cause : (limit readings : ℕ) (a b : Line) (i j : Inbox) → RecordEnd → Type 0
+Cause limit readings a b i j Done = ⊥
+Cause limit readings a b i j OutputFault = Unit {0}
+Cause limit readings a b i j (Refused code) = ⊥
+Cause limit readings a b i j BadReply = ⊥
+Cause limit readings a b i j Silent = (limit ≤ readings) × TookTurns limit i j
+Cause limit readings a b i j PeerFault = Rises a.send_faults b.send_faults ⊎ Rises i.faults j.faults
+Cause limit readings a b i j Closed = ⊥
+Cause limit readings a b i j OutOfMemory = ⊥
 
 -- a number of turns of receiving
-pub record Course (tells tells_inlet tells_output tells_errors : Type 0) (a b : Talk) (i j : Inbox) (o n : Reel)
-    (address : List ℕ) (terms : Terms) : Type 0 where
+pub record Course (k : DeviceTells) (o n : Station) (address : List ℕ) (terms : Terms) : Type 0 where
   pub moments : List ℕ
-  pub talks : Beaten tells a b address terms moments
-  pub reels : Caught tells_inlet tells_output tells_errors i j o n (length moments)
+  pub talks : Beaten k.wire o.talk n.talk address terms moments
+  pub reels : Caught k.inlet k.output k.errors o.inlet n.inlet o.reel n.reel (length moments)
 
--- receiving ended with this end and its cause
-pub record Stopped (tells tells_inlet tells_output tells_errors : Type 0) (a b : Talk) (i j : Inbox) (o n : Reel)
-    (address : List ℕ) (terms : Terms) (limit : ℕ) (end : RecordEnd) : Type 0 where
-  pub talks : BeatenUntil tells a b address terms
-  pub reels : CaughtUntil tells_inlet tells_output tells_errors i j o n end
-  pub cause : Cause limit a.wire b.wire i j end
+-- receiving ended with this end and its cause; the clock was read for each datagram
+pub record Stopped (k : DeviceTells) (o n : Station) (address : List ℕ) (terms : Terms) (limit : ℕ) (end : RecordEnd) : Type 0 where
+  pub talks : BeatenUntil k.wire o.talk n.talk address terms
+  pub reels : CaughtUntil k.inlet k.output k.errors o.inlet n.inlet o.reel n.reel end
+  pub timed : length reels.datagrams ≤ length talks.moments
+  pub counted : n.inlet.count ≤ o.inlet.count + length talks.moments
+  pub cause : Cause limit (length talks.moments) o.talk.wire n.talk.wire o.inlet n.inlet end
 
 -- the outcome of receiving
-abbrev pub Turns : (tells tells_inlet tells_output tells_errors : Type 0) (a b : Talk) (i j : Inbox) (o n : Reel)
-    (address : List ℕ) (terms : Terms) (limit : ℕ) → Result (Unit {0}) RecordEnd → Type 0
-Turns tells tells_inlet tells_output tells_errors a b i j o n address terms limit (Ok done) =
-    Course tells tells_inlet tells_output tells_errors a b i j o n address terms
-Turns tells tells_inlet tells_output tells_errors a b i j o n address terms limit (Err end) =
-    Stopped tells tells_inlet tells_output tells_errors a b i j o n address terms limit end
+abbrev pub Turns : (k : DeviceTells) (o n : Station) (address : List ℕ) (terms : Terms) (limit : ℕ) → Result (Unit {0}) RecordEnd → Type 0
+Turns k o n address terms limit (Ok done) = Course k o n address terms
+Turns k o n address terms limit (Err end) = Stopped k o n address terms limit end
 
 -- one turn of receiving
-abbrev pub TakesTurn : (tells tells_inlet tells_output tells_errors : Type 0) (a b : Talk) (i j : Inbox) (o n : Reel)
-    (address : List ℕ) (terms : Terms) (limit : ℕ) → Result (Unit {0}) RecordEnd → Type 0
-TakesTurn tells tells_inlet tells_output tells_errors a b i j o n address terms limit (Ok done) =
-    (course : Course tells tells_inlet tells_output tells_errors a b i j o n address terms) × (length course.moments ≡ 1)
-TakesTurn tells tells_inlet tells_output tells_errors a b i j o n address terms limit (Err end) =
-    Stopped tells tells_inlet tells_output tells_errors a b i j o n address terms limit end
+abbrev pub TakesTurn : (k : DeviceTells) (o n : Station) (address : List ℕ) (terms : Terms) (limit : ℕ) → Result (Unit {0}) RecordEnd → Type 0
+TakesTurn k o n address terms limit (Ok done) = (course : Course k o n address terms) × (length course.moments ≡ 1)
+TakesTurn k o n address terms limit (Err end) = Stopped k o n address terms limit end
 
 -- a catcher that can take a datagram
 pub record IsReady (c : Catch) : Type 0 where

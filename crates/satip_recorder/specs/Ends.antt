@@ -1,6 +1,6 @@
 -- The outcome of a recording, by its status.
 use Rattle.std.specs.Prelude.{◌≡◌, ℕ, ◌⊎◌, Bool, true, List, [], ◌∷◌, Option, Some, None, option_map, is_some, IsSome, IsNone, IfSome, IsSomeAnd, MatchOption}
-use Rattle.satip_base.specs.Streams.{Feed, Drain, Rose}
+use Rattle.satip_base.specs.Streams.{Drain, Rose}
 use Rattle.satip_base.specs.Lists.{Has}
 use Rattle.satip_world.specs.Counts.{Rises}
 use Rattle.satip_world.specs.Dials.{Dial, fresh_dial}
@@ -9,8 +9,10 @@ use Rattle.satip_world.specs.Inboxes.{Inbox, fresh_inbox}
 use Rattle.satip_client.specs.Ends.{line_for}
 use Rattle.satip_client.specs.declared.ending.RecordEnd.{RecordEnd}
 use Rattle.satip_client.specs.declared.ending.RecordEnd.TheVariants.{Done, OutputFault, Refused, BadReply, Silent, PeerFault, Closed, OutOfMemory}
-use Rattle.satip_recorder.specs.Recordings.{Outside, outside, Records, Said, Ends}
-use Rattle.satip_desk.specs.Handed.{Handed}
+use Rattle.satip_desk.specs.Streams.{Streams, Tells}
+use Rattle.satip_desk.specs.Views.{DeskView}
+use Rattle.satip_recorder.specs.Outsides.{DeviceTells, Outside, device_tells, outside, task}
+use Rattle.satip_recorder.specs.Recordings.{Records, Said, Ends}
 use Rattle.satip_recorder.specs.Words.{Wanted}
 
 -- the statuses of a recording
@@ -45,40 +47,44 @@ pub record FromNew (port : ℕ) (output : Drain) (Says : Outside → Type 0) : T
   pub said : Says (outside fresh_line (fresh_dial told) (fresh_inbox port) output)
 
 -- a recording with these three ended so; the inlet's port before is the one after
-abbrev pub Ran : (wire_tells inlet_tells out_tells error_tells : Type 0) → Wanted → Option Outside → (o e m : Drain) → RecordEnd → Type 0
-Ran wire_tells inlet_tells out_tells error_tells w left o e m end = IsSomeAnd left (λ b. FromNew b.inlet.port o (λ a.
-    Ends error_tells e m end (λ lines. Records wire_tells inlet_tells out_tells a b w.address w.query w.count lines end)))
+abbrev pub Ran : (k : DeviceTells) → Wanted → Option Outside → (s r : Streams) → RecordEnd → Type 0
+Ran k w left s r end = IsSomeAnd left (λ b. FromNew b.inlet.port s.output (λ a.
+    Ends k.errors s.errors r.errors end (λ lines. Records k a b (task w.address w.query w.count) lines end)))
 
 -- the desk failed to give the connection or the inlet, and nothing was done but to log the line of the end
-pub record NotGiven (error_tells : Type 0) (before now : ℕ) (left : Left) (o n e m : Drain) (status : ℕ) : Type 0 where
-  pub rises : Rises before now
+pub record NotGiven (error_tells : Type 0) (d f : DeskView) (s r : Streams) (left : Left) (status : ℕ) : Type 0 where
+  pub rises : Rises d.faults f.faults
   pub status_is : status ≡ 13
   pub wire : IfSome left.wire (λ line. line ≡ fresh_line)
   pub clock : IsSomeAnd left.clock (λ dial. dial.readings ≡ [])
-  pub output : n ≡ o
-  pub said : Said error_tells e m (line_for PeerFault)
+  pub output : r.output ≡ s.output
+  pub said : Said error_tells s.errors r.errors (line_for PeerFault)
 
--- the outcome of a recording: the wanted stream, the kinds that the desk gave (`handed`), the desk's fault count before and after, and what is left. Then the
--- input, the output and the error sink, each before and after, and the status
-pub record RecordEnds (wire_tells inlet_tells out_tells error_tells : Type 0) (w : Wanted) (handed : Handed) (before now : ℕ) (left : Left)
-    (i j : Feed) (o n e m : Drain) (status : ℕ) : Type 0 where
+-- the outcome of a recording: the wanted stream, the desk before and after, the input, the output and the error sink before and after, what is left of the
+-- devices that the desk gave, and the status
+pub record RecordingEnds (k : DeviceTells) (w : Wanted) (d f : DeskView) (s r : Streams) (left : Left) (status : ℕ) : Type 0 where
   pub status_is : Has status record_statuses
   -- nothing is read of the input
-  pub input : j ≡ i
+  pub input : r.input ≡ s.input
   -- the connection to the wanted address and the inlet come back exactly if the desk gave them; the clock always does
-  pub wire_given : handed.wire ≡ option_map (λ _. w.to) left.wire
-  pub clock_given : (handed.moment ≡ true) × IsSome left.clock
-  pub inlet_given : handed.inlet ≡ is_some left.inlet
+  pub wire_given : f.handed.wire ≡ option_map (λ _. w.to) left.wire
+  pub clock_given : (f.handed.moment ≡ true) × IsSome left.clock
+  pub inlet_given : f.handed.inlet ≡ is_some left.inlet
   -- the desk gave the inlet and its fault count stayed; or it failed, and nothing was done
-  pub desk : MatchOption left.inlet (NotGiven error_tells before now left o n e m status) (λ _. now ≡ before)
+  pub desk : MatchOption left.inlet (NotGiven k.errors d f s r left status) (λ _. f.faults ≡ d.faults)
   -- with status 0 SETUP, PLAY, each due OPTIONS and TEARDOWN were sent, and the first packets caught were written. With any other status a prefix of that was
-  -- done; each of these but 70 has its cause. A line was logged for each gap, and then that of the end; only a prefix of these lines if the sink failed
-  pub recorded : status ≡ 0 → Ran wire_tells inlet_tells out_tells error_tells w (outside_left left n) o e m Done
-  pub output_rose : status ≡ 6 → Rose o.faults n.faults
-  pub output_fault : status ≡ 6 → Ran wire_tells inlet_tells out_tells error_tells w (outside_left left n) o e m OutputFault
-  pub refused : status ≡ 10 → (code : ℕ) × Ran wire_tells inlet_tells out_tells error_tells w (outside_left left n) o e m (Refused code)
-  pub bad_reply : status ≡ 11 → Ran wire_tells inlet_tells out_tells error_tells w (outside_left left n) o e m BadReply
-  pub silent : status ≡ 12 → Ran wire_tells inlet_tells out_tells error_tells w (outside_left left n) o e m Silent
-  pub peer_fault : status ≡ 13 → IsNone left.inlet ⊎ Ran wire_tells inlet_tells out_tells error_tells w (outside_left left n) o e m PeerFault
-  pub closed : status ≡ 14 → Ran wire_tells inlet_tells out_tells error_tells w (outside_left left n) o e m Closed
-  pub wants : status ≡ 70 → Ran wire_tells inlet_tells out_tells error_tells w (outside_left left n) o e m OutOfMemory
+  -- done; each of these but 70 has its cause, and with 70 nothing was done. A line was logged for each gap, and then that of the end; only a prefix of these
+  -- lines if the sink failed
+  pub recorded : status ≡ 0 → Ran k w (outside_left left r.output) s r Done
+  pub output_rose : status ≡ 6 → Rose s.output.faults r.output.faults
+  pub output_fault : status ≡ 6 → Ran k w (outside_left left r.output) s r OutputFault
+  pub refused : status ≡ 10 → (code : ℕ) × Ran k w (outside_left left r.output) s r (Refused code)
+  pub bad_reply : status ≡ 11 → Ran k w (outside_left left r.output) s r BadReply
+  pub silent : status ≡ 12 → Ran k w (outside_left left r.output) s r Silent
+  pub peer_fault : status ≡ 13 → IsNone left.inlet ⊎ Ran k w (outside_left left r.output) s r PeerFault
+  pub closed : status ≡ 14 → Ran k w (outside_left left r.output) s r Closed
+  pub wants : status ≡ 70 → Ran k w (outside_left left r.output) s r OutOfMemory
+
+-- the same, by what is known of all devices
+abbrev pub RecordEnds : (t : Tells) (w : Wanted) (d f : DeskView) (s r : Streams) (left : Left) (status : ℕ) → Type 0
+RecordEnds t w d f s r left status = RecordingEnds (device_tells t.wire t.inlet t.output t.errors) w d f s r left status

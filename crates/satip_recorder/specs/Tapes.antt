@@ -42,21 +42,30 @@ PutsPackets tells o n before now bytes Whole =
     PutAll tells o n (take before.left bytes) × (now.left ≡ before.left - length bytes) × (now.muted ≡ before.muted)
 PutsPackets tells o n before now bytes Failed = FailedToPut tells o n (take before.left bytes) × (now.muted ≡ before.muted)
 
+-- the bytes still to be written, the output and the error sink
+pub record Deck : Type 0 where
+  pub tape : Tape
+  pub output : Drain
+  pub errors : Drain
+
+abbrev pub deck : Tape → Drain → Drain → Deck
+deck tape output errors = record { tape = tape; output = output; errors = errors }
+
 -- the packets of these items were written, up to the number of bytes still to be written, and their gaps were logged
-pub record Taped (tells tells_lines : Type 0) (o n : Drain) (d e : Drain) (before now : Tape) (items : List Item) : Type 0 where
-  pub written : PutAll tells o n (take before.left (packets_in items))
-  pub left : now.left ≡ before.left - length (packets_in items)
-  pub told : Tells tells_lines d e (gap_lines before.left items) before.muted now.muted
+pub record Taped (tells tells_lines : Type 0) (o n : Deck) (items : List Item) : Type 0 where
+  pub written : PutAll tells o.output n.output (take o.tape.left (packets_in items))
+  pub left : n.tape.left ≡ o.tape.left - length (packets_in items)
+  pub told : Tells tells_lines o.errors n.errors (gap_lines o.tape.left items) o.tape.muted n.tape.muted
 
 -- the output failed while a prefix of these items was written
-pub record TapeFailed (tells tells_lines : Type 0) (o n : Drain) (d e : Drain) (before now : Tape) (items : List Item) : Type 0 where
+pub record TapeFailed (tells tells_lines : Type 0) (o n : Deck) (items : List Item) : Type 0 where
   pub handed : List Item
   pub rest : List Item
   pub whole : items ≡ handed ++ rest
-  pub written : FailedToPut tells o n (take before.left (packets_in handed))
-  pub told : Tells tells_lines d e (gap_lines before.left handed) before.muted now.muted
+  pub written : FailedToPut tells o.output n.output (take o.tape.left (packets_in handed))
+  pub told : Tells tells_lines o.errors n.errors (gap_lines o.tape.left handed) o.tape.muted n.tape.muted
 
 -- the outcome of writing items
-abbrev pub TapesAs : (tells tells_lines : Type 0) (o n : Drain) (d e : Drain) (before now : Tape) (items : List Item) → Put → Type 0
-TapesAs tells tells_lines o n d e before now items Whole = Taped tells tells_lines o n d e before now items
-TapesAs tells tells_lines o n d e before now items Failed = TapeFailed tells tells_lines o n d e before now items
+abbrev pub TapesAs : (tells tells_lines : Type 0) (o n : Deck) (items : List Item) → Put → Type 0
+TapesAs tells tells_lines o n items Whole = Taped tells tells_lines o n items
+TapesAs tells tells_lines o n items Failed = TapeFailed tells tells_lines o n items

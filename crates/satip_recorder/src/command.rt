@@ -4,7 +4,8 @@ ghost use Rattle.std.specs.Prelude.{◌≡◌, ◌≤◌};
 ghost use Rattle.satip_base.specs.Streams.{Feed};
 ghost use Rattle.satip_client.specs.Ends.{line_for, status_of};
 ghost use Rattle.satip_recorder.specs.Recordings.{Said};
-ghost use Rattle.satip_recorder.specs.Ends.{RecordEnds, left_of};
+ghost use Rattle.satip_recorder.specs.Ends.{RecordingEnds, left_of};
+ghost use Rattle.satip_recorder.specs.Outsides.{device_tells};
 ghost use Rattle.satip_recorder.specs.Words.{wanted};
 ghost use Rattle.satip_desk.specs.Handed.{nothing_handed};
 
@@ -36,14 +37,16 @@ pub fn record<K: Desk, O: Sink, E: Sink>(
 ) -> Recorded<K>
     requires some { 1 ≤ recording.now.count }
     requires few { recording.now.count ≤ 1000000 }
-    requires new { K.handed desk.old ≡ nothing_handed }
-    ensures texts { K.text desk.new ≡ K.text desk.old }
-    ensures kits { K.given desk.new ≡ K.given desk.old }
-    ensures journaled { K.journaled desk.new ≡ K.journaled desk.old }
-    ensures ends { (i : Feed) → RecordEnds K.Wire.tells K.Inlet.tells O.tells E.tells
-        (wanted recording.now) (K.handed desk.new) (K.faults desk.old) (K.faults desk.new)
+    requires new { (K.desk desk.old).handed ≡ nothing_handed }
+    ensures texts { (K.desk desk.new).text ≡ (K.desk desk.old).text }
+    ensures kits { (K.desk desk.new).given ≡ (K.desk desk.old).given }
+    ensures journaled { (K.desk desk.new).journaled ≡ (K.desk desk.old).journaled }
+    ensures ends { (input : Feed)
+        → RecordingEnds (device_tells K.Wire.tells K.Inlet.tells O.tells E.tells)
+        (wanted recording.now) (K.desk desk.old) (K.desk desk.new)
+        (record { input = input; output = O.drain output.old; errors = E.drain errors.old })
+        (record { input = input; output = O.drain output.new; errors = E.drain errors.new })
         (left_of K.Wire.line K.Moment.dial K.Inlet.inbox result.wire result.moment result.inlet)
-        i i (O.drain output.old) (O.drain output.new) (E.drain errors.old) (E.drain errors.new)
         (status_of result.end) }
 {
     let moment = desk.moment();

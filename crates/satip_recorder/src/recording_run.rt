@@ -1,8 +1,10 @@
 //! A recording, from its first request to its last.
 
-ghost use Rattle.std.specs.Prelude.{◌≡◌, ℕ, ◌≤◌, ◌⊎◌, false, List};
+ghost use Rattle.std.specs.Prelude.{◌≡◌, ℕ, ◌+◌, ◌<◌, ◌≤◌, false, List};
+ghost use Rattle.satip_rtp_receiver.specs.Catching.{catching};
 ghost use Rattle.satip_client.specs.Ends.{line_for};
-ghost use Rattle.satip_recorder.specs.Recordings.{Completed, EndedLeaving, EndedOpening, EndedReceiving, Ends, IsFresh, NotBegun, Records, Runs, Said, end_for, outside};
+ghost use Rattle.satip_recorder.specs.Outsides.{device_tells, outside, task};
+ghost use Rattle.satip_recorder.specs.Recordings.{Ends, IsFresh, Records, Runs, Said, end_for};
 ghost use Rattle.satip_recorder.specs.Tapes.{Tells};
 
 use crate::opening::{leave, open};
@@ -26,45 +28,34 @@ pub struct Recorded<W, I, M> {
 
 // Sets the stream up, receives it and gives it back.
 fn run<W: Conn, I: Inlet, M: Clock, O: Sink, E: Sink>(
-    alloc: Global,
     wire: &mut W,
     inlet: &mut I,
     moment: &mut M,
-    wish: &Wish,
     recorder: &mut Recorder,
     output: &mut O,
     errors: &mut E,
 ) -> Result<(), RecordEnd>
-    requires some { 1 ≤ wish.now.count }
-    requires few { wish.now.count ≤ 1000000 }
-    requires fresh { IsFresh wish.now.count recorder.old }
-    ensures runs { Runs W.tells I.tells O.tells E.tells
+    requires few { recorder.old.pulse.cseq + recorder.old.turns < 4294967295 }
+    requires some { 0 < recorder.old.tape.left }
+    requires catcher { recorder.old.catcher ≡ catching }
+    ensures runs { (count : ℕ) → IsFresh count recorder.old
+        → Runs (device_tells W.tells I.tells O.tells E.tells)
         (outside (W.line wire.old) (M.dial moment.old) (I.inbox inlet.old) (O.drain output.old))
         (outside (W.line wire.new) (M.dial moment.new) (I.inbox inlet.new) (O.drain output.new))
-        (E.drain errors.old) (E.drain errors.new) wish.now.address.now wish.now.query.now
-        wish.now.count recorder.new.tape.muted result }
+        (E.drain errors.old) (E.drain errors.new)
+        (task recorder.old.page.address recorder.old.page.query count)
+        recorder.new.tape.muted result }
 {
     let lease = open(
-        alloc,
         wire,
         moment,
-        wish,
         inlet.port(),
         &mut recorder.page,
         &mut recorder.pulse.mark,
     )?;
-    receive(
-        wire,
-        inlet,
-        moment,
-        wish.address,
-        &lease,
-        recorder,
-        output,
-        errors,
-    )?;
+    receive(wire, inlet, moment, &lease, recorder, output, errors)?;
     let cseq = recorder.pulse.cseq;
-    leave(wire, wish.address, &lease, cseq, &mut recorder.page)
+    leave(wire, &lease, cseq, &mut recorder.page)
 }
 
 fn end_of(outcome: Result<(), RecordEnd>) -> RecordEnd
@@ -116,24 +107,15 @@ fn record<W: Conn, I: Inlet, M: Clock, O: Sink, E: Sink>(
     requires some { 1 ≤ wish.now.count }
     requires few { wish.now.count ≤ 1000000 }
     ensures ends { Ends E.tells (E.drain errors.old) (E.drain errors.new) result
-        (λ (lines : List ℕ). Records W.tells I.tells O.tells
+        (λ (lines : List ℕ). Records (device_tells W.tells I.tells O.tells E.tells)
         (outside (W.line wire.old) (M.dial moment.old) (I.inbox inlet.old) (O.drain output.old))
         (outside (W.line wire.new) (M.dial moment.new) (I.inbox inlet.new) (O.drain output.new))
-        wish.now.address.now wish.now.query.now wish.now.count lines result) }
+        (task wish.now.address.now wish.now.query.now wish.now.count) lines result) }
 {
-    let Ok(mut recorder) = Recorder::make(alloc, wish.count) else {
+    let Ok(mut recorder) = Recorder::make(alloc, wish) else {
         return say_want(errors);
     };
-    let end = end_of(run(
-        alloc,
-        wire,
-        inlet,
-        moment,
-        wish,
-        &mut recorder,
-        output,
-        errors,
-    ));
+    let end = end_of(run(wire, inlet, moment, &mut recorder, output, errors));
     say(end, &mut recorder.tape, errors);
     end
 }
@@ -144,7 +126,8 @@ fn record<W: Conn, I: Inlet, M: Clock, O: Sink, E: Sink>(
 /// Sends SETUP with the query and the inlet's port and, after it is accepted, PLAY. Then receives
 /// datagrams, puts them in order, and writes their packets. Before each receive it reads the clock,
 /// and sends OPTIONS if half of the session's time is over since the mark. Sends TEARDOWN after all
-/// packets are written. Replies to OPTIONS and TEARDOWN aren't read.
+/// packets are written. Replies to OPTIONS and TEARDOWN aren't read. Takes all its memory before the
+/// first request.
 ///
 /// Logs a line for each gap, and then the line of the end, unless it is `Done`. After a line that
 /// couldn't be logged it logs none.
@@ -160,94 +143,14 @@ pub fn record_by<W: Conn, I: Inlet, M: Clock, O: Sink, E: Sink>(
     requires some { 1 ≤ wish.now.count }
     requires few { wish.now.count ≤ 1000000 }
 
-    // With `Done` these requests were sent, and the first packets caught were written.
-    ensures done { result.end ≡ RecordEnd.Done → Ends E.tells
-        (E.drain errors.old) (E.drain errors.new) RecordEnd.Done (λ (lines : List ℕ).
-        Completed W.tells I.tells O.tells
+    // With `Done` the requests were sent, and the first packets caught were written. With any other
+    // end a prefix of that was done, for the cause of this end; with `OutOfMemory` nothing was.
+    ensures ends { Ends E.tells (E.drain errors.old) (E.drain errors.new) result.end
+        (λ (lines : List ℕ). Records (device_tells W.tells I.tells O.tells E.tells)
         (outside (W.line wire) (M.dial moment) (I.inbox inlet) (O.drain output.old))
         (outside (W.line result.wire) (M.dial result.moment) (I.inbox result.inlet)
         (O.drain output.new))
-        wish.now.address.now wish.now.query.now wish.now.count lines) }
-
-    // With any other end a prefix of that was done; the cause of each end but out of memory.
-    ensures output_fault { result.end ≡ RecordEnd.OutputFault → Ends E.tells
-        (E.drain errors.old) (E.drain errors.new) RecordEnd.OutputFault (λ (lines : List ℕ).
-        EndedReceiving W.tells I.tells O.tells
-        (outside (W.line wire) (M.dial moment) (I.inbox inlet) (O.drain output.old))
-        (outside (W.line result.wire) (M.dial result.moment) (I.inbox result.inlet)
-        (O.drain output.new))
-        wish.now.address.now wish.now.query.now wish.now.count lines RecordEnd.OutputFault) }
-    ensures refused { (code : ℕ) → result.end ≡ RecordEnd.Refused code → Ends E.tells
-        (E.drain errors.old) (E.drain errors.new) (RecordEnd.Refused code) (λ (lines : List ℕ).
-        EndedOpening W.tells
-        (outside (W.line wire) (M.dial moment) (I.inbox inlet) (O.drain output.old))
-        (outside (W.line result.wire) (M.dial result.moment) (I.inbox result.inlet)
-        (O.drain output.new))
-        wish.now.address.now wish.now.query.now lines (RecordEnd.Refused code)) }
-    ensures bad_reply { result.end ≡ RecordEnd.BadReply → Ends E.tells
-        (E.drain errors.old) (E.drain errors.new) RecordEnd.BadReply (λ (lines : List ℕ).
-        EndedOpening W.tells
-        (outside (W.line wire) (M.dial moment) (I.inbox inlet) (O.drain output.old))
-        (outside (W.line result.wire) (M.dial result.moment) (I.inbox result.inlet)
-        (O.drain output.new))
-        wish.now.address.now wish.now.query.now lines RecordEnd.BadReply) }
-    ensures silent { result.end ≡ RecordEnd.Silent → Ends E.tells
-        (E.drain errors.old) (E.drain errors.new) RecordEnd.Silent (λ (lines : List ℕ).
-        EndedOpening W.tells
-        (outside (W.line wire) (M.dial moment) (I.inbox inlet) (O.drain output.old))
-        (outside (W.line result.wire) (M.dial result.moment) (I.inbox result.inlet)
-        (O.drain output.new))
-        wish.now.address.now wish.now.query.now lines RecordEnd.Silent
-        ⊎ EndedReceiving W.tells I.tells O.tells
-        (outside (W.line wire) (M.dial moment) (I.inbox inlet) (O.drain output.old))
-        (outside (W.line result.wire) (M.dial result.moment) (I.inbox result.inlet)
-        (O.drain output.new))
-        wish.now.address.now wish.now.query.now wish.now.count lines RecordEnd.Silent) }
-    ensures peer_fault { result.end ≡ RecordEnd.PeerFault → Ends E.tells
-        (E.drain errors.old) (E.drain errors.new) RecordEnd.PeerFault (λ (lines : List ℕ).
-        EndedOpening W.tells
-        (outside (W.line wire) (M.dial moment) (I.inbox inlet) (O.drain output.old))
-        (outside (W.line result.wire) (M.dial result.moment) (I.inbox result.inlet)
-        (O.drain output.new))
-        wish.now.address.now wish.now.query.now lines RecordEnd.PeerFault
-        ⊎ (EndedReceiving W.tells I.tells O.tells
-        (outside (W.line wire) (M.dial moment) (I.inbox inlet) (O.drain output.old))
-        (outside (W.line result.wire) (M.dial result.moment) (I.inbox result.inlet)
-        (O.drain output.new))
-        wish.now.address.now wish.now.query.now wish.now.count lines RecordEnd.PeerFault
-        ⊎ EndedLeaving W.tells I.tells O.tells
-        (outside (W.line wire) (M.dial moment) (I.inbox inlet) (O.drain output.old))
-        (outside (W.line result.wire) (M.dial result.moment) (I.inbox result.inlet)
-        (O.drain output.new))
-        wish.now.address.now wish.now.query.now wish.now.count lines RecordEnd.PeerFault)) }
-    ensures closed { result.end ≡ RecordEnd.Closed → Ends E.tells
-        (E.drain errors.old) (E.drain errors.new) RecordEnd.Closed (λ (lines : List ℕ).
-        EndedOpening W.tells
-        (outside (W.line wire) (M.dial moment) (I.inbox inlet) (O.drain output.old))
-        (outside (W.line result.wire) (M.dial result.moment) (I.inbox result.inlet)
-        (O.drain output.new))
-        wish.now.address.now wish.now.query.now lines RecordEnd.Closed) }
-    ensures out_of_memory { result.end ≡ RecordEnd.OutOfMemory → Ends E.tells
-        (E.drain errors.old) (E.drain errors.new) RecordEnd.OutOfMemory (λ (lines : List ℕ).
-        NotBegun
-        (outside (W.line wire) (M.dial moment) (I.inbox inlet) (O.drain output.old))
-        (outside (W.line result.wire) (M.dial result.moment) (I.inbox result.inlet)
-        (O.drain output.new)) lines
-        ⊎ (EndedOpening W.tells
-        (outside (W.line wire) (M.dial moment) (I.inbox inlet) (O.drain output.old))
-        (outside (W.line result.wire) (M.dial result.moment) (I.inbox result.inlet)
-        (O.drain output.new))
-        wish.now.address.now wish.now.query.now lines RecordEnd.OutOfMemory
-        ⊎ (EndedReceiving W.tells I.tells O.tells
-        (outside (W.line wire) (M.dial moment) (I.inbox inlet) (O.drain output.old))
-        (outside (W.line result.wire) (M.dial result.moment) (I.inbox result.inlet)
-        (O.drain output.new))
-        wish.now.address.now wish.now.query.now wish.now.count lines RecordEnd.OutOfMemory
-        ⊎ EndedLeaving W.tells I.tells O.tells
-        (outside (W.line wire) (M.dial moment) (I.inbox inlet) (O.drain output.old))
-        (outside (W.line result.wire) (M.dial result.moment) (I.inbox result.inlet)
-        (O.drain output.new))
-        wish.now.address.now wish.now.query.now wish.now.count lines RecordEnd.OutOfMemory))) }
+        (task wish.now.address.now wish.now.query.now wish.now.count) lines result.end) }
 {
     let mut wire = wire;
     let mut inlet = inlet;

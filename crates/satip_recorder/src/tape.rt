@@ -4,7 +4,7 @@ ghost use Rattle.std.specs.Prelude.{◌≡◌, ◌+◌, ◌<◌, ◌≤◌, ◌�
 ghost use Rattle.satip_base.specs.Streams.{Puts};
 ghost use Rattle.satip_rtp_receiver.specs.Runs.{all_items, drained};
 ghost use Rattle.satip_rtp_receiver.specs.Catching.{Rests};
-ghost use Rattle.satip_recorder.specs.Tapes.{PutsPackets, TapesAs, Tells, gap_line, is_muted};
+ghost use Rattle.satip_recorder.specs.Tapes.{PutsPackets, TapesAs, Tells, deck, gap_line, is_muted};
 
 use satip_base::{Put, Sink, Strip};
 use satip_rtp_receiver::{Catcher, Item};
@@ -26,8 +26,9 @@ pub(crate) fn put_items<O: Sink, E: Sink>(
 ) -> Put
     requires number { catcher.old.next < 65536 }
     requires unfinished { catcher.old.finished ≡ false }
-    ensures tapes { TapesAs O.tells E.tells (O.drain output.old) (O.drain output.new)
-        (E.drain errors.old) (E.drain errors.new) tape.old tape.new
+    ensures tapes { TapesAs O.tells E.tells
+        (deck tape.old (O.drain output.old) (E.drain errors.old))
+        (deck tape.new (O.drain output.new) (E.drain errors.new))
         (all_items catcher.old) result }
     ensures drained { result ≡ Put.Whole → 0 < tape.new.left
         → catcher.new ≡ drained catcher.old }
@@ -48,8 +49,9 @@ pub(crate) fn put_items<O: Sink, E: Sink>(
 // Writes packets, or logs a gap.
 fn put_item<O: Sink, E: Sink>(item: &Item, tape: &mut Tape, output: &mut O, errors: &mut E) -> Put
     requires some { 0 < tape.old.left }
-    ensures tapes { TapesAs O.tells E.tells (O.drain output.old) (O.drain output.new)
-        (E.drain errors.old) (E.drain errors.new) tape.old tape.new
+    ensures tapes { TapesAs O.tells E.tells
+        (deck tape.old (O.drain output.old) (E.drain errors.old))
+        (deck tape.new (O.drain output.new) (E.drain errors.new))
         (item.now ∷ []) result }
 {
     match item {

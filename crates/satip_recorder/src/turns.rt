@@ -2,7 +2,9 @@
 
 ghost use Rattle.std.specs.Prelude.{◌≡◌, ◌+◌, ◌<◌, ◌≤◌, IfOk, false, length};
 ghost use Rattle.satip_rtp_receiver.specs.Catching.{catching};
-ghost use Rattle.satip_recorder.specs.Courses.{Catches, IsReady, TakesTurn, Turns, Winds, reel, talk};
+ghost use Rattle.satip_client.specs.Pulses.{talk};
+ghost use Rattle.satip_recorder.specs.Courses.{Catches, IsReady, TakesTurn, Turns, Winds, reel, station};
+ghost use Rattle.satip_recorder.specs.Outsides.{device_tells};
 
 use crate::recorder::Recorder;
 use crate::tape::{Tape, put_items};
@@ -20,7 +22,6 @@ pub(crate) fn receive<W: Conn, I: Inlet, M: Clock, O: Sink, E: Sink>(
     wire: &mut W,
     inlet: &mut I,
     moment: &mut M,
-    address: &[u8],
     lease: &Lease,
     recorder: &mut Recorder,
     output: &mut O,
@@ -29,20 +30,18 @@ pub(crate) fn receive<W: Conn, I: Inlet, M: Clock, O: Sink, E: Sink>(
     requires few { recorder.old.pulse.cseq + recorder.old.turns < 4294967295 }
     requires some { 0 < recorder.old.tape.left }
     requires fresh { recorder.old.catcher ≡ catching }
-    ensures turns { Turns W.tells I.tells O.tells E.tells
-        (talk (W.line wire.old) (M.dial moment.old) recorder.old.pulse)
-        (talk (W.line wire.new) (M.dial moment.new) recorder.new.pulse)
-        (I.inbox inlet.old) (I.inbox inlet.new)
-        (reel recorder.old.catcher recorder.old.tape (O.drain output.old) (E.drain errors.old))
-        (reel recorder.new.catcher recorder.new.tape (O.drain output.new) (E.drain errors.new))
-        address.now lease.now recorder.old.turns result }
+    ensures turns { Turns (device_tells W.tells I.tells O.tells E.tells)
+        (station (talk (W.line wire.old) (M.dial moment.old) recorder.old.pulse) (I.inbox inlet.old)
+        (reel recorder.old.catcher recorder.old.tape (O.drain output.old) (E.drain errors.old)))
+        (station (talk (W.line wire.new) (M.dial moment.new) recorder.new.pulse) (I.inbox inlet.new)
+        (reel recorder.new.catcher recorder.new.tape (O.drain output.new) (E.drain errors.new)))
+        recorder.old.page.address lease.now recorder.old.turns result }
+    ensures address { recorder.new.page.address ≡ recorder.old.page.address }
     ensures whole { IfOk result (λ _. recorder.new.tape.left ≡ 0) }
     ensures few { recorder.new.pulse.cseq < 4294967295 }
 {
     'turns: while recorder.turns > 0 {
-        take_turn(
-            wire, inlet, moment, address, lease, recorder, output, errors,
-        )?;
+        take_turn(wire, inlet, moment, lease, recorder, output, errors)?;
         if recorder.tape.left == 0 {
             return Ok(());
         }
@@ -56,34 +55,27 @@ fn take_turn<W: Conn, I: Inlet, M: Clock, O: Sink, E: Sink>(
     wire: &mut W,
     inlet: &mut I,
     moment: &mut M,
-    address: &[u8],
     lease: &Lease,
     recorder: &mut Recorder,
     output: &mut O,
     errors: &mut E,
 ) -> Result<(), RecordEnd>
     requires few { recorder.old.pulse.cseq < 4294967295 }
+    requires some { 0 < recorder.old.tape.left }
     requires ready { IsReady recorder.old.catcher }
-    ensures turns { TakesTurn W.tells I.tells O.tells E.tells
-        (talk (W.line wire.old) (M.dial moment.old) recorder.old.pulse)
-        (talk (W.line wire.new) (M.dial moment.new) recorder.new.pulse)
-        (I.inbox inlet.old) (I.inbox inlet.new)
-        (reel recorder.old.catcher recorder.old.tape (O.drain output.old) (E.drain errors.old))
-        (reel recorder.new.catcher recorder.new.tape (O.drain output.new) (E.drain errors.new))
-        address.now lease.now recorder.old.turns result }
+    ensures turns { TakesTurn (device_tells W.tells I.tells O.tells E.tells)
+        (station (talk (W.line wire.old) (M.dial moment.old) recorder.old.pulse) (I.inbox inlet.old)
+        (reel recorder.old.catcher recorder.old.tape (O.drain output.old) (E.drain errors.old)))
+        (station (talk (W.line wire.new) (M.dial moment.new) recorder.new.pulse) (I.inbox inlet.new)
+        (reel recorder.new.catcher recorder.new.tape (O.drain output.new) (E.drain errors.new)))
+        recorder.old.page.address lease.now recorder.old.turns result }
+    ensures address { recorder.new.page.address ≡ recorder.old.page.address }
     ensures ready { IfOk result (λ _. 0 < recorder.new.tape.left
         → IsReady recorder.new.catcher) }
     ensures counted { recorder.new.pulse.cseq ≤ recorder.old.pulse.cseq + 1 }
     ensures same { recorder.new.turns ≡ recorder.old.turns }
 {
-    keep_alive(
-        wire,
-        moment,
-        address,
-        lease,
-        &mut recorder.pulse,
-        &mut recorder.page,
-    )?;
+    keep_alive(wire, moment, lease, &mut recorder.pulse, &mut recorder.page)?;
     take_in(
         inlet,
         &mut recorder.catcher,
@@ -101,6 +93,7 @@ fn take_in<I: Inlet, O: Sink, E: Sink>(
     output: &mut O,
     errors: &mut E,
 ) -> Result<(), RecordEnd>
+    requires some { 0 < tape.old.left }
     requires ready { IsReady catcher.old }
     ensures catches { Catches I.tells O.tells E.tells (I.inbox inlet.old) (I.inbox inlet.new)
         (reel catcher.old tape.old (O.drain output.old) (E.drain errors.old))

@@ -1,3 +1,4 @@
-mod EndLemmas
+pub mod BatchLemmas
+pub mod EndLemmas
 mod RunLemmas
 pub mod CommandEndLemmas

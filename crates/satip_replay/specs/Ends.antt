@@ -10,57 +10,58 @@ use Rattle.satip_config.specs.declared.reading.ConfigurationEnd.{ConfigurationEn
 use Rattle.satip_config.specs.declared.reading.ConfigurationEnd.TheVariants as reading
 use Rattle.satip_config.specs.Reading.{EndsTooLong}
 pub use Rattle.satip_config.specs.Configurations.{Configured, IsConfiguration, Refused}
+use Rattle.satip_replay.specs.BatchStreams.{BatchStreams}
 use Rattle.satip_replay.specs.declared.ends.ReplayEnd.{ReplayEnd}
 use Rattle.satip_replay.specs.declared.ends.ReplayEnd.TheVariants.{Done, Configuration as OfConfiguration, Script, InputFault, OutputFault, TooLong, OutOfMemory}
 use Rattle.satip_replay.specs.Replays.{script_limit, Scripted, Replayed, PartlyReplayed}
 
 -- the configuration is refused; nothing was taken of the input or written
-pub record EndsByConfiguration (tells : Type 0) (a b i j : Feed) (o n : Drain) (fault : ConfigFault) : Type 0 where
-  pub refused : Refused tells a b fault
-  pub input : j ≡ i
-  pub output : n ≡ o
+pub record EndsByConfiguration (tells : Type 0) (o n : BatchStreams) (fault : ConfigFault) : Type 0 where
+  pub refused : Refused tells o.config n.config fault
+  pub input : n.input ≡ o.input
+  pub output : n.output ≡ o.output
 
 -- the first wrong line of the whole input has this number; nothing was written
-pub record EndsByScript (config_tells in_tells : Type 0) (a b i j : Feed) (o n : Drain) (number : ℕ) : Type 0 where
+pub record EndsByScript (config_tells in_tells : Type 0) (o n : BatchStreams) (number : ℕ) : Type 0 where
   pub configuration : Configuration
-  pub configured : Configured config_tells a b configuration
-  pub scripted : Scripted in_tells i j (Err number)
-  pub output : n ≡ o
+  pub configured : Configured config_tells o.config n.config configuration
+  pub scripted : Scripted in_tells o.input n.input (Err number)
+  pub output : n.output ≡ o.output
 
 -- the configuration's source failed, and nothing was taken of the input
-pub record ConfigurationFails (a b i j : Feed) : Type 0 where
-  pub rose : Rose a.faults b.faults
-  pub input : j ≡ i
+pub record ConfigurationFails (o n : BatchStreams) : Type 0 where
+  pub rose : Rose o.config.faults n.config.faults
+  pub input : n.input ≡ o.input
 
 -- the input failed after a valid configuration
-pub record InputFails (config_tells : Type 0) (a b i j : Feed) : Type 0 where
+pub record InputFails (config_tells : Type 0) (o n : BatchStreams) : Type 0 where
   pub configuration : Configuration
-  pub configured : Configured config_tells a b configuration
-  pub rose : Rose i.faults j.faults
+  pub configured : Configured config_tells o.config n.config configuration
+  pub rose : Rose o.input.faults n.input.faults
 
 -- one of the two sources failed; nothing was written
-pub record EndsByInput (config_tells : Type 0) (a b i j : Feed) (o n : Drain) : Type 0 where
-  pub cause : ConfigurationFails a b i j ⊎ InputFails config_tells a b i j
-  pub output : n ≡ o
+pub record EndsByInput (config_tells : Type 0) (o n : BatchStreams) : Type 0 where
+  pub cause : ConfigurationFails o n ⊎ InputFails config_tells o n
+  pub output : n.output ≡ o.output
 
 -- one byte of input too many was taken; nothing was written
-pub record EndsByLength (config_tells in_tells : Type 0) (a b i j : Feed) (o n : Drain) : Type 0 where
+pub record EndsByLength (config_tells in_tells : Type 0) (o n : BatchStreams) : Type 0 where
   pub configuration : Configuration
-  pub configured : Configured config_tells a b configuration
-  pub long : EndsTooLong in_tells i j script_limit
-  pub output : n ≡ o
+  pub configured : Configured config_tells o.config n.config configuration
+  pub long : EndsTooLong in_tells o.input n.input script_limit
+  pub output : n.output ≡ o.output
 
 -- the output failed after a prefix of the printed run
-pub record EndsByOutput (config_tells in_tells out_tells : Type 0) (a b i j : Feed) (o n : Drain) : Type 0 where
-  pub part : PartlyReplayed config_tells in_tells out_tells a b i j o n
-  pub rose : Rose o.faults n.faults
+pub record EndsByOutput (config_tells in_tells out_tells : Type 0) (o n : BatchStreams) : Type 0 where
+  pub part : PartlyReplayed config_tells in_tells out_tells o n
+  pub rose : Rose o.output.faults n.output.faults
 
 -- out of memory: nothing was written yet, or a prefix of the printed run
-pub record EndsByWant (config_tells in_tells out_tells : Type 0) (a b i j : Feed) (o n : Drain) : Type 0 where
-  pub config_faults : b.faults ≡ a.faults
-  pub in_faults : j.faults ≡ i.faults
-  pub out_faults : n.faults ≡ o.faults
-  pub written : (n ≡ o) ⊎ PartlyReplayed config_tells in_tells out_tells a b i j o n
+pub record EndsByWant (config_tells in_tells out_tells : Type 0) (o n : BatchStreams) : Type 0 where
+  pub config_faults : n.config.faults ≡ o.config.faults
+  pub in_faults : n.input.faults ≡ o.input.faults
+  pub out_faults : n.output.faults ≡ o.output.faults
+  pub written : (n.output ≡ o.output) ⊎ PartlyReplayed config_tells in_tells out_tells o n
 
 -- the end of a replay whose configuration isn't read
 abbrev pub end_of_reading : ConfigurationEnd → ReplayEnd
@@ -93,15 +94,15 @@ RunEnds tells o n text OutputFault = FailedToPut tells o n text
 RunEnds tells o n text TooLong = ⊥
 RunEnds tells o n text OutOfMemory = StopsWanting tells o n text
 
--- the contract of each end
-abbrev pub ReplayEnds : (config_tells in_tells out_tells : Type 0) (a b i j : Feed) (o n : Drain) → ReplayEnd → Type 0
-ReplayEnds ct it ot a b i j o n Done = Replayed ct it ot a b i j o n
-ReplayEnds ct it ot a b i j o n (OfConfiguration fault) = EndsByConfiguration ct a b i j o n fault
-ReplayEnds ct it ot a b i j o n (Script number) = EndsByScript ct it a b i j o n number
-ReplayEnds ct it ot a b i j o n InputFault = EndsByInput ct a b i j o n
-ReplayEnds ct it ot a b i j o n OutputFault = EndsByOutput ct it ot a b i j o n
-ReplayEnds ct it ot a b i j o n TooLong = EndsByLength ct it a b i j o n
-ReplayEnds ct it ot a b i j o n OutOfMemory = EndsByWant ct it ot a b i j o n
+-- the outcome of each end: the printed run was written, or a prefix of it, or nothing
+abbrev pub ReplayOutcome : (config_tells in_tells out_tells : Type 0) (o n : BatchStreams) → ReplayEnd → Type 0
+ReplayOutcome ct it ot o n Done = Replayed ct it ot o n
+ReplayOutcome ct it ot o n (OfConfiguration fault) = EndsByConfiguration ct o n fault
+ReplayOutcome ct it ot o n (Script number) = EndsByScript ct it o n number
+ReplayOutcome ct it ot o n InputFault = EndsByInput ct o n
+ReplayOutcome ct it ot o n OutputFault = EndsByOutput ct it ot o n
+ReplayOutcome ct it ot o n TooLong = EndsByLength ct it o n
+ReplayOutcome ct it ot o n OutOfMemory = EndsByWant ct it ot o n
 
 -- the text is a script within the limit
 pub record IsRightScript (text : List ℕ) : Type 0 where

@@ -1,6 +1,6 @@
 -- A replay: a configuration and a script, read as a whole, and the printed run.
 use Rattle.std.specs.Prelude.{ℕ, ◌≤◌, List, length, Result, Ok}
-use Rattle.satip_base.specs.Streams.{Feed, Drain, PutAll, Began}
+use Rattle.satip_base.specs.Streams.{Feed, PutAll, Began}
 use Rattle.satip_config.specs.Configuration.{Configuration}
 use Rattle.satip_plain.specs.declared.events.Event.{Event}
 use Rattle.satip_plain.specs.declared.setting.Setting.{Setting}
@@ -8,6 +8,7 @@ use Rattle.satip_script.specs.Scripts.{IsScript}
 use Rattle.satip_script.specs.Runs.{run}
 use Rattle.satip_script.specs.Printed.{printed}
 use Rattle.satip_config.specs.Reading.{ReadWhole}
+use Rattle.satip_replay.specs.BatchStreams.{BatchStreams}
 pub use Rattle.satip_config.specs.Configurations.{configuration_limit, Configured}
 
 -- the most bytes of a script
@@ -37,18 +38,18 @@ pub record HasScript (tells : Type 0) (i j : Feed) (text : List ℕ) : Type 0 wh
   pub script : IsScript text (Ok events)
 
 -- both were read, and both are right
-pub record Checked (config_tells in_tells : Type 0) (a b i j : Feed) : Type 0 where
+pub record Checked (config_tells in_tells : Type 0) (o n : BatchStreams) : Type 0 where
   pub configuration : Configuration
-  pub configured : Configured config_tells a b configuration
+  pub configured : Configured config_tells o.config n.config configuration
   pub events : List Event
-  pub scripted : Scripted in_tells i j (Ok events)
+  pub scripted : Scripted in_tells o.input n.input (Ok events)
 
 -- the printed run was written
-pub record Replayed (config_tells in_tells out_tells : Type 0) (a b i j : Feed) (o n : Drain) : Type 0 where
-  pub checked : Checked config_tells in_tells a b i j
-  pub put : PutAll out_tells o n (replayed checked.configuration checked.events)
+pub record Replayed (config_tells in_tells out_tells : Type 0) (o n : BatchStreams) : Type 0 where
+  pub checked : Checked config_tells in_tells o n
+  pub put : PutAll out_tells o.output n.output (replayed checked.configuration checked.events)
 
 -- a prefix of the printed run was written
-pub record PartlyReplayed (config_tells in_tells out_tells : Type 0) (a b i j : Feed) (o n : Drain) : Type 0 where
-  pub checked : Checked config_tells in_tells a b i j
-  pub sent : out_tells → Began o.sent n.sent (replayed checked.configuration checked.events)
+pub record PartlyReplayed (config_tells in_tells out_tells : Type 0) (o n : BatchStreams) : Type 0 where
+  pub checked : Checked config_tells in_tells o n
+  pub sent : out_tells → Began o.output.sent n.output.sent (replayed checked.configuration checked.events)

@@ -1,6 +1,6 @@
 //! `replay`: opens the configuration by the desk, and runs the script on the input.
 
-ghost use Rattle.std.specs.Prelude.{◌≡◌, ◌↔◌, ◌⊎◌, ◌+◌, ◌-◌, ◌<◌, ◌≤◌, IsSomeAnd};
+ghost use Rattle.std.specs.Prelude.{◌≡◌, ◌↔◌, ◌⊎◌, ◌+◌, ◌-◌, ◌<◌, ◌≤◌, IsSomeAnd, option_map};
 ghost use Rattle.satip_base.specs.Streams.{Rose};
 ghost use Rattle.satip_replay.specs.Replays.{script_limit};
 ghost use Rattle.satip_config.specs.Lines.{Says};
@@ -21,9 +21,9 @@ pub struct Replayed<K: Desk> {
     pub config: Option<K::Config>,
 }
 
-/// Runs the script on the input by the configuration of this name, and writes the printed run. Ends
-/// with `InputFault` if the desk doesn't open the configuration. Any end but `Done` is logged in a
-/// line on the errors sink.
+/// Runs the script on the input by the configuration of this name, and writes the printed run. If
+/// the desk doesn't open the configuration, nothing is taken of the input, and the end is
+/// `InputFault`. Any end but `Done` is logged in a line on the errors sink.
 pub fn replay_by<K: Desk, I: Source, O: Sink, E: Sink>(
     alloc: Global,
     name: &Text,
@@ -32,26 +32,43 @@ pub fn replay_by<K: Desk, I: Source, O: Sink, E: Sink>(
     errors: &mut E,
     desk: &mut K,
 ) -> Replayed<K>
-    ensures texts { K.text desk.new ≡ K.text desk.old }
-    ensures kits { K.given desk.new ≡ K.given desk.old }
-    ensures handed { K.handed desk.new ≡ K.handed desk.old }
-    ensures journaled { K.journaled desk.new ≡ K.journaled desk.old }
+    ensures texts { (K.desk desk.new).text ≡ (K.desk desk.old).text }
+    ensures kits { (K.desk desk.new).given ≡ (K.desk desk.old).given }
+    ensures handed { (K.desk desk.new).handed ≡ (K.desk desk.old).handed }
+    ensures journaled { (K.desk desk.new).journaled ≡ (K.desk desk.old).journaled }
 
     // The outcome of the replay by its status, and the line of its end.
-    ensures ends { ReplayEnds K.Config.tells I.tells O.tells E.tells
-        (K.text desk.old name.now) (K.faults desk.old) (K.faults desk.new)
-        K.Config.feed result.config
-        (I.feed input.old) (I.feed input.new)
-        (O.drain output.old) (O.drain output.new)
-        (E.drain errors.old) (E.drain errors.new)
-        (replay_status result.end) }
+    ensures ends { ReplayEnds
+        (record {
+          input = I.tells;
+          output = O.tells;
+          errors = E.tells;
+          config = K.Config.tells;
+          conn = K.Doors.Conn.tells;
+          outlet = K.Outlet.tells;
+          journal = K.Journal.tells;
+          wire = K.Wire.tells;
+          inlet = K.Inlet.tells;
+        })
+        name.now (K.desk desk.old) (K.desk desk.new)
+        (record {
+          input = I.feed input.old;
+          output = O.drain output.old;
+          errors = E.drain errors.old;
+        })
+        (record {
+          input = I.feed input.new;
+          output = O.drain output.new;
+          errors = E.drain errors.new;
+        })
+        (option_map K.Config.feed result.config) (replay_status result.end) }
     ensures says { Says E.tells
         (E.drain errors.old) (E.drain errors.new)
         (replay_line result.end) }
 
     // The causes of the faults, and a limit for the bytes taken of the input.
     ensures input_fault { result.end ≡ ReplayEnd.InputFault
-        → Rose (K.faults desk.old) (K.faults desk.new)
+        → Rose (K.desk desk.old).faults (K.desk desk.new).faults
         ⊎ IsSomeAnd result.config (λ source. Rose 0 (K.Config.feed source).faults)
         ⊎ Rose (I.feed input.old).faults (I.feed input.new).faults }
     ensures output_fault { result.end ≡ ReplayEnd.OutputFault

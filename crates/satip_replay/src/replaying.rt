@@ -1,11 +1,10 @@
 //! `replay`: checks a configuration and a script, then runs the script and prints the run.
 
-ghost use Rattle.std.specs.Prelude.{◌≡◌, ◌↔◌, ℕ, ◌+◌, ◌-◌, ◌<◌, ◌≤◌, Err, IfOk, IfErr};
+ghost use Rattle.std.specs.Prelude.{◌≡◌, ◌↔◌, ◌+◌, ◌-◌, ◌<◌, ◌≤◌, Err, IfOk, IfErr};
 ghost use Rattle.satip_base.specs.Streams.{Rose};
-ghost use Rattle.satip_config.specs.declared.fault.ConfigFault.{ConfigFault as Fault};
 ghost use Rattle.satip_config.specs.Configurations.{configuration_limit};
-ghost use Rattle.satip_replay.specs.Replays.{script_limit, HasScript, Replayed};
-ghost use Rattle.satip_replay.specs.Ends.{EndsByConfiguration, EndsByScript, EndsByInput, EndsByOutput, EndsByLength, EndsByWant, ScriptEnds, IsEndOf};
+ghost use Rattle.satip_replay.specs.Replays.{script_limit, HasScript};
+ghost use Rattle.satip_replay.specs.Ends.{IsEndOf, ReplayOutcome, ScriptEnds};
 
 use crate::ends::ReplayEnd;
 use crate::running::run_script;
@@ -26,44 +25,23 @@ pub fn replay<C: Source, I: Source, O: Sink>(
     input: &mut I,
     output: &mut O,
 ) -> ReplayEnd
-    // With `Done` the whole printed run was written.
-    ensures done { result ≡ ReplayEnd.Done → Replayed C.tells I.tells O.tells
-        (C.feed config.old) (C.feed config.new)
-        (I.feed input.old) (I.feed input.new)
-        (O.drain output.old) (O.drain output.new) }
-
-    // With these a prefix of it was written. Out of memory may also end it before that.
-    ensures output_fault { result ≡ ReplayEnd.OutputFault → EndsByOutput C.tells I.tells O.tells
-        (C.feed config.old) (C.feed config.new)
-        (I.feed input.old) (I.feed input.new)
-        (O.drain output.old) (O.drain output.new) }
-    ensures out_of_memory { result ≡ ReplayEnd.OutOfMemory → EndsByWant C.tells I.tells O.tells
-        (C.feed config.old) (C.feed config.new)
-        (I.feed input.old) (I.feed input.new)
-        (O.drain output.old) (O.drain output.new) }
-
-    // With the others nothing was written. Each has its cause.
-    ensures configuration { (fault : Fault) → result ≡ ReplayEnd.Configuration fault
-        → EndsByConfiguration C.tells
-        (C.feed config.old) (C.feed config.new)
-        (I.feed input.old) (I.feed input.new)
-        (O.drain output.old) (O.drain output.new) fault }
-    ensures script { (number : ℕ) → result ≡ ReplayEnd.Script number → EndsByScript C.tells I.tells
-        (C.feed config.old) (C.feed config.new)
-        (I.feed input.old) (I.feed input.new)
-        (O.drain output.old) (O.drain output.new) number }
-    ensures input_fault { result ≡ ReplayEnd.InputFault → EndsByInput C.tells
-        (C.feed config.old) (C.feed config.new)
-        (I.feed input.old) (I.feed input.new)
-        (O.drain output.old) (O.drain output.new) }
-    ensures long { result ≡ ReplayEnd.TooLong → EndsByLength C.tells I.tells
-        (C.feed config.old) (C.feed config.new)
-        (I.feed input.old) (I.feed input.new)
-        (O.drain output.old) (O.drain output.new) }
-    ensures too_long { (result ≡ ReplayEnd.TooLong)
-        ↔ (script_limit < (I.feed input.new).taken - (I.feed input.old).taken) }
+    // The outcome of each end.
+    ensures ends { ReplayOutcome C.tells I.tells O.tells
+        (record {
+          config = C.feed config.old;
+          input = I.feed input.old;
+          output = O.drain output.old;
+        })
+        (record {
+          config = C.feed config.new;
+          input = I.feed input.new;
+          output = O.drain output.new;
+        })
+        result }
 
     // How much is taken, and which ends the two texts allow if no source fails.
+    ensures too_long { (result ≡ ReplayEnd.TooLong)
+        ↔ (script_limit < (I.feed input.new).taken - (I.feed input.old).taken) }
     ensures configuration_taken { (C.feed config.new).taken
         ≤ (C.feed config.old).taken + configuration_limit + 1 }
     ensures input_taken { (I.feed input.new).taken ≤ (I.feed input.old).taken + script_limit + 1 }

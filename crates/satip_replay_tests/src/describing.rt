@@ -2,7 +2,7 @@
 
 use crate::clients::{Client, FIRST_SESSION};
 use crate::steps::Step::*;
-use crate::steps::{Step, is_replayed};
+use crate::steps::{Step, replays};
 use std::test::Fail;
 
 const DESCRIBE: &[&str] = &["DESCRIBE rtsp://192.168.1.10/ RTSP/1.0", "CSeq: 1"];
@@ -15,8 +15,7 @@ const UNTUNED: &[Step] = &[
 
 #[test]
 fn a_stream_without_tuning_is_described(rt: HostRuntime) -> Result<(), Fail> {
-    assert!(rt; is_replayed(rt.alloc(), UNTUNED)?);
-    Ok(())
+    replays(&rt, rt.alloc(), UNTUNED)
 }
 
 const TUNED: &[Step] = &[
@@ -34,8 +33,7 @@ const TUNED: &[Step] = &[
 
 #[test]
 fn a_tuned_stream_is_described(rt: HostRuntime) -> Result<(), Fail> {
-    assert!(rt; is_replayed(rt.alloc(), TUNED)?);
-    Ok(())
+    replays(&rt, rt.alloc(), TUNED)
 }
 
 // The query of the first multiplex, with pilots that are left to the server.
@@ -54,6 +52,5 @@ const LEFT_TO_THE_SERVER: &[Step] = &[
 
 #[test]
 fn a_parameter_left_to_the_server_is_not_given(rt: HostRuntime) -> Result<(), Fail> {
-    assert!(rt; is_replayed(rt.alloc(), LEFT_TO_THE_SERVER)?);
-    Ok(())
+    replays(&rt, rt.alloc(), LEFT_TO_THE_SERVER)
 }

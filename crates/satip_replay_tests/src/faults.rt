@@ -1,7 +1,6 @@
-//! Faults of the words, the configuration, the script, the input and the output, with their exit
-//! statuses.
+//! Faults of the configuration, the script, the input and the output, with their exit statuses.
 
-use crate::runs::run;
+use crate::runs::{check, run};
 use satip_base::{ReadSource, Source};
 use satip_fixtures::texts::CONFIGURATION;
 use satip_memory::MemorySource;
@@ -10,7 +9,7 @@ use std::alloc::Global;
 use std::io::{Read, repeat};
 use std::test::Fail;
 
-const WORDS: [&str; 2] = ["replay", "c1.toml"];
+const NAME: &str = "c1.toml";
 
 const STOP: &[u8] = b"stop\n";
 
@@ -22,23 +21,13 @@ fn replay<I: Source + Drop>(
     failing: &[u64],
 ) -> Result<Ran, Fail> {
     let mut desk = desk_with(alloc, configuration.as_bytes(), &[])?;
-    run(alloc, &WORDS, input, failing, 9, &mut desk)
+    run(alloc, NAME, input, failing, 9, &mut desk)
 }
 
-// A replay of a stop with these words.
-fn stopped(alloc: Global, words: &[&str], desk: &mut MemoryDesk) -> Result<Ran, Fail> {
+// A replay of a stop by the configuration of this name.
+fn stopped(alloc: Global, name: &str, desk: &mut MemoryDesk) -> Result<Ran, Fail> {
     let input = MemorySource::make(alloc, STOP, &[], &[])?;
-    run(alloc, words, input, &[], 0, desk)
-}
-
-#[test]
-fn a_replay_names_one_configuration(rt: HostRuntime) -> Result<(), Fail> {
-    let wrong: [&[&str]; 2] = [&["replay", ""], &["replay", "c1.toml", "c2.toml"]];
-    for words in wrong {
-        let mut desk = MemoryDesk::make(rt.alloc(), 0);
-        assert_eq!(rt; stopped(rt.alloc(), words, &mut desk)?.status, 2);
-    }
-    Ok(())
+    run(alloc, name, input, &[], 0, desk)
 }
 
 #[test]
@@ -55,7 +44,8 @@ fn the_first_fault_of_a_configuration_is_told(rt: HostRuntime) -> Result<(), Fai
     for (configuration, told) in wrong {
         let input = MemorySource::make(alloc, STOP, &[], &[])?;
         let ran = replay(alloc, configuration, input, &[])?;
-        assert!(rt; ran.is(3, b"", told) && ran.config, "{configuration}");
+        check(&rt, configuration, &ran, 3, b"", told);
+        assert!(rt; ran.config, "{configuration}");
     }
     Ok(())
 }
@@ -65,7 +55,7 @@ fn the_first_wrong_line_of_a_script_is_told(rt: HostRuntime) -> Result<(), Fail>
     let alloc = rt.alloc();
     let input = MemorySource::make(alloc, b"tick 1\ntik 5\ntok 5\n", &[], &[])?;
     let ran = replay(alloc, CONFIGURATION, input, &[])?;
-    assert!(rt; ran.is(4, b"", b"script: line 2\n"));
+    check(&rt, "the second line", &ran, 4, b"", b"script: line 2\n");
     Ok(())
 }
 
@@ -74,17 +64,18 @@ fn a_configuration_that_cannot_be_opened_is_an_input_fault(rt: HostRuntime) -> R
     let alloc = rt.alloc();
     let mut desk = MemoryDesk::make(alloc, 1);
     desk.add("c1.toml", CONFIGURATION.as_bytes(), &[])?;
-    let unopened = stopped(alloc, &WORDS, &mut desk)?;
-    assert!(rt; unopened.is(5, b"", b"input fault\n") && !unopened.config);
-    assert_eq!(rt; stopped(alloc, &WORDS, &mut desk)?.status, 0);
+    let unopened = stopped(alloc, NAME, &mut desk)?;
+    check(&rt, "unopened", &unopened, 5, b"", b"input fault\n");
+    assert!(rt; !unopened.config);
+    assert_eq!(rt; stopped(alloc, NAME, &mut desk)?.status, 0);
     Ok(())
 }
 
 #[test]
 fn a_configuration_that_is_not_there_is_an_input_fault(rt: HostRuntime) -> Result<(), Fail> {
     let mut desk = desk_with(rt.alloc(), CONFIGURATION.as_bytes(), &[])?;
-    let unnamed = stopped(rt.alloc(), &["replay", "c2.toml"], &mut desk)?;
-    assert!(rt; unnamed.is(5, b"", b"input fault\n"));
+    let unnamed = stopped(rt.alloc(), "c2.toml", &mut desk)?;
+    check(&rt, "another name", &unnamed, 5, b"", b"input fault\n");
     Ok(())
 }
 
@@ -92,11 +83,9 @@ fn a_configuration_that_is_not_there_is_an_input_fault(rt: HostRuntime) -> Resul
 fn a_take_of_a_configuration_that_fails_is_an_input_fault(rt: HostRuntime) -> Result<(), Fail> {
     for failing in [1, 2] {
         let mut desk = desk_with(rt.alloc(), CONFIGURATION.as_bytes(), &[failing])?;
-        let unread = stopped(rt.alloc(), &WORDS, &mut desk)?;
-        assert!(rt;
-            unread.is(5, b"", b"input fault\n") && unread.config,
-            "{failing}"
-        );
+        let unread = stopped(rt.alloc(), NAME, &mut desk)?;
+        check(&rt, "a take", &unread, 5, b"", b"input fault\n");
+        assert!(rt; unread.config, "{failing}");
     }
     Ok(())
 }
@@ -106,10 +95,8 @@ fn a_take_of_a_script_that_fails_is_an_input_fault(rt: HostRuntime) -> Result<()
     for failing in [1, 2] {
         let input = MemorySource::make(rt.alloc(), STOP, &[3], &[failing])?;
         let unread = replay(rt.alloc(), CONFIGURATION, input, &[])?;
-        assert!(rt;
-            unread.is(5, b"", b"input fault\n") && unread.config,
-            "{failing}"
-        );
+        check(&rt, "a take", &unread, 5, b"", b"input fault\n");
+        assert!(rt; unread.config, "{failing}");
     }
     Ok(())
 }
@@ -119,7 +106,14 @@ fn an_output_that_fails_has_a_beginning_of_the_printed_run(rt: HostRuntime) -> R
     let alloc = rt.alloc();
     let input = MemorySource::make(alloc, b"tick 1\nask 1\n", &[], &[])?;
     let ran = replay(alloc, CONFIGURATION, input, &[1])?;
-    assert!(rt; ran.is(6, b"going\nnot", b"output fault\n"));
+    check(
+        &rt,
+        "the first put",
+        &ran,
+        6,
+        b"going\nnot",
+        b"output fault\n",
+    );
     Ok(())
 }
 
@@ -128,7 +122,7 @@ fn an_input_of_67108865_bytes_is_too_long(rt: HostRuntime) -> Result<(), Fail> {
     for byte in [b'\n', b'#'] {
         let input = ReadSource::new(repeat(byte).take(67108865));
         let ran = replay(rt.alloc(), CONFIGURATION, input, &[])?;
-        assert!(rt; ran.is(8, b"", b"input too long\n"));
+        check(&rt, "a byte more", &ran, 8, b"", b"input too long\n");
     }
     Ok(())
 }

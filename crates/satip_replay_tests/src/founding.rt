@@ -3,7 +3,7 @@
 use crate::clients::{Client, FIRST_SESSION, Session};
 use crate::row::FIRST_MUX;
 use crate::steps::Step::*;
-use crate::steps::{Step, is_replayed};
+use crate::steps::{Step, replays};
 use std::test::Fail;
 
 // The reply to OPTIONS in a session that lives.
@@ -17,8 +17,7 @@ const ALIVE: &[&str] = &[
 #[test]
 fn a_session_is_founded(rt: HostRuntime) -> Result<(), Fail> {
     let steps = [Founds(FIRST_SESSION, FIRST_MUX, 1)];
-    assert!(rt; is_replayed(rt.alloc(), &steps)?);
-    Ok(())
+    replays(&rt, rt.alloc(), &steps)
 }
 
 const ENDED: &[Step] = &[
@@ -30,8 +29,7 @@ const ENDED: &[Step] = &[
 
 #[test]
 fn a_session_ends_at_its_timeout(rt: HostRuntime) -> Result<(), Fail> {
-    assert!(rt; is_replayed(rt.alloc(), ENDED)?);
-    Ok(())
+    replays(&rt, rt.alloc(), ENDED)
 }
 
 const LIVING: &[Step] = &[
@@ -43,8 +41,7 @@ const LIVING: &[Step] = &[
 
 #[test]
 fn a_session_lives_a_millisecond_before_its_timeout(rt: HostRuntime) -> Result<(), Fail> {
-    assert!(rt; is_replayed(rt.alloc(), LIVING)?);
-    Ok(())
+    replays(&rt, rt.alloc(), LIVING)
 }
 
 // The session that the first client founds next.
@@ -63,6 +60,5 @@ const STALE: &[Step] = &[
 
 #[test]
 fn a_packet_of_an_ended_stream_is_stale(rt: HostRuntime) -> Result<(), Fail> {
-    assert!(rt; is_replayed(rt.alloc(), STALE)?);
-    Ok(())
+    replays(&rt, rt.alloc(), STALE)
 }

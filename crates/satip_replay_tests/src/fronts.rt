@@ -3,7 +3,7 @@
 use crate::clients::{Client, FIRST_SESSION, SECOND_SESSION, Session};
 use crate::row::{FIRST_MUX, FIRST_MUX_TEXT, NO_MUX, SECOND_MUX};
 use crate::steps::Step::*;
-use crate::steps::{Step, is_replayed};
+use crate::steps::{Step, replays};
 use std::test::Fail;
 
 // A tuning to the first multiplex, and one that no multiplex has, at the second front end.
@@ -38,8 +38,7 @@ const THIRD_TUNING: &[Step] = &[
 
 #[test]
 fn a_third_tuning_waits_for_one_of_two_front_ends(rt: HostRuntime) -> Result<(), Fail> {
-    assert!(rt; is_replayed(rt.alloc(), THIRD_TUNING)?);
-    Ok(())
+    replays(&rt, rt.alloc(), THIRD_TUNING)
 }
 
 const NAMED: &[Step] = &[
@@ -52,8 +51,7 @@ const NAMED: &[Step] = &[
 
 #[test]
 fn a_named_front_end_is_taken_or_refused(rt: HostRuntime) -> Result<(), Fail> {
-    assert!(rt; is_replayed(rt.alloc(), NAMED)?);
-    Ok(())
+    replays(&rt, rt.alloc(), NAMED)
 }
 
 const SHARED: &[Step] = &[
@@ -76,8 +74,7 @@ const SHARED: &[Step] = &[
 
 #[test]
 fn two_streams_of_one_multiplex_share_a_front_end(rt: HostRuntime) -> Result<(), Fail> {
-    assert!(rt; is_replayed(rt.alloc(), SHARED)?);
-    Ok(())
+    replays(&rt, rt.alloc(), SHARED)
 }
 
 // The SES1 text of the first stream, at the second multiplex.
@@ -106,6 +103,5 @@ const LEAVING: &[Step] = &[
 
 #[test]
 fn a_stream_leaves_a_shared_front_end_for_a_free_one(rt: HostRuntime) -> Result<(), Fail> {
-    assert!(rt; is_replayed(rt.alloc(), LEAVING)?);
-    Ok(())
+    replays(&rt, rt.alloc(), LEAVING)
 }

@@ -78,6 +78,5 @@ fn a_queue_of_4096_packets_is_full_and_one_more_ends_the_session(
     fill(alloc, &mut row)?;
     receive(&mut row, 4160, 1, "nothing")?;
     row.event(PULL, "gone")?;
-    assert!(rt; row.is_replayed()?);
-    Ok(())
+    row.check(&rt)
 }

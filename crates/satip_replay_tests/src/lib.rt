@@ -1,4 +1,4 @@
-//! Tests `replay` by the top call: each status, and output byte for byte.
+//! Tests `replay` over memory: each status, and output byte for byte.
 #![tactic(auto)]
 
 #[cfg(test)]

@@ -3,7 +3,7 @@
 use crate::clients::{Client, FIRST_SESSION, SECOND_SESSION, Session};
 use crate::row::{FIRST_MUX, FIRST_MUX_TEXT};
 use crate::steps::Step::*;
-use crate::steps::{Step, is_replayed};
+use crate::steps::{Step, replays};
 use std::test::Fail;
 
 const OWNER: Session = FIRST_SESSION;
@@ -27,8 +27,7 @@ const JOINING: &[Step] = &[
 
 #[test]
 fn a_joined_session_plays_and_changes_no_pids(rt: HostRuntime) -> Result<(), Fail> {
-    assert!(rt; is_replayed(rt.alloc(), JOINING)?);
-    Ok(())
+    replays(&rt, rt.alloc(), JOINING)
 }
 
 // The SES1 text of the stream with a PID that the joined session adds.
@@ -49,8 +48,7 @@ const TORN_DOWN: &[Step] = &[
 
 #[test]
 fn teardown_hands_the_stream_to_the_joined_session(rt: HostRuntime) -> Result<(), Fail> {
-    assert!(rt; is_replayed(rt.alloc(), TORN_DOWN)?);
-    Ok(())
+    replays(&rt, rt.alloc(), TORN_DOWN)
 }
 
 const TIMED_OUT: &[Step] = &[
@@ -69,6 +67,5 @@ const TIMED_OUT: &[Step] = &[
 fn a_timeout_hands_the_stream_over_and_the_last_one_frees_the_front_end(
     rt: HostRuntime,
 ) -> Result<(), Fail> {
-    assert!(rt; is_replayed(rt.alloc(), TIMED_OUT)?);
-    Ok(())
+    replays(&rt, rt.alloc(), TIMED_OUT)
 }

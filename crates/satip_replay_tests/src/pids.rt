@@ -3,8 +3,9 @@
 use crate::clients::{Client, FIRST_SESSION};
 use crate::row::FIRST_MUX;
 use crate::steps::Step::*;
-use crate::steps::{Step, is_replayed};
+use crate::steps::{Step, replays};
 use std::alloc::Global;
+use std::process::Abort;
 use std::test::Fail;
 
 // The SES1 text of the stream with an added PID.
@@ -24,8 +25,7 @@ const ADDED: &[Step] = &[
 
 #[test]
 fn an_added_pid_is_sent_from_then_on(rt: HostRuntime) -> Result<(), Fail> {
-    assert!(rt; is_replayed(rt.alloc(), ADDED)?);
-    Ok(())
+    replays(&rt, rt.alloc(), ADDED)
 }
 
 const OUT_OF_RANGE: &[Step] = &[
@@ -38,8 +38,7 @@ const OUT_OF_RANGE: &[Step] = &[
 
 #[test]
 fn a_pid_is_at_most_8191(rt: HostRuntime) -> Result<(), Fail> {
-    assert!(rt; is_replayed(rt.alloc(), OUT_OF_RANGE)?);
-    Ok(())
+    replays(&rt, rt.alloc(), OUT_OF_RANGE)
 }
 
 const DESCRIBE: &[&str] = &["DESCRIBE rtsp://192.168.1.10/ RTSP/1.0", "CSeq: 1"];
@@ -56,13 +55,14 @@ fn with_numbers(alloc: Global, front: &str, count: u16) -> Result<String, Fail> 
     Ok(text)
 }
 
-// Whether a stream of the first query is described by this text after the second one is refused.
+// Asserts that a stream of the first query is described by this text after the second is refused.
 fn keeps_pids<'t>(
+    rt: &impl Abort,
     alloc: Global,
     most: &'t str,
     more: &'t str,
     text: &'t str,
-) -> Result<bool, Fail> {
+) -> Result<(), Fail> {
     let steps = [
         Founds(FIRST_SESSION, most, 1),
         AsksIn(FIRST_SESSION, "PLAY", more),
@@ -70,7 +70,7 @@ fn keeps_pids<'t>(
         Asks(Client::First, DESCRIBE),
         Describes(text, 1098),
     ];
-    is_replayed(alloc, &steps)
+    replays(rt, alloc, &steps)
 }
 
 #[test]
@@ -81,6 +81,5 @@ fn a_stream_has_at_most_256_pids_and_keeps_them_when_more_are_refused(
     let most = with_numbers(alloc, "?pids=", 256)?;
     let more = with_numbers(alloc, "?pids=", 257)?;
     let text = with_numbers(alloc, "ver=1.0;src=1;tuner=0,0,0,0,,,,,,,,;pids=", 256)?;
-    assert!(rt; keeps_pids(alloc, &most, &more, &text)?);
-    Ok(())
+    keeps_pids(&rt, alloc, &most, &more, &text)
 }

@@ -3,7 +3,7 @@
 use crate::clients::{Client, FIRST_SESSION};
 use crate::row::{FIRST_MUX, FIRST_MUX_TEXT};
 use crate::steps::Step::*;
-use crate::steps::{Step, is_replayed};
+use crate::steps::{Step, replays};
 use std::test::Fail;
 
 // PLAY, after which the first datagram has the number 65535.
@@ -33,8 +33,7 @@ const SIX_PACKETS: &[Step] = &[
 
 #[test]
 fn six_packets_leave_at_a_tick_before_the_report(rt: HostRuntime) -> Result<(), Fail> {
-    assert!(rt; is_replayed(rt.alloc(), SIX_PACKETS)?);
-    Ok(())
+    replays(&rt, rt.alloc(), SIX_PACKETS)
 }
 
 const EIGHT_PACKETS: &[Step] = &[
@@ -53,6 +52,5 @@ const EIGHT_PACKETS: &[Step] = &[
 fn seven_packets_fill_a_datagram_and_the_eighth_leaves_under_number_0(
     rt: HostRuntime,
 ) -> Result<(), Fail> {
-    assert!(rt; is_replayed(rt.alloc(), EIGHT_PACKETS)?);
-    Ok(())
+    replays(&rt, rt.alloc(), EIGHT_PACKETS)
 }

@@ -3,7 +3,7 @@
 use crate::clients::{Client, FIRST_SESSION};
 use crate::row::FIRST_MUX;
 use crate::steps::Step::*;
-use crate::steps::{Step, is_replayed};
+use crate::steps::{Step, replays};
 use std::test::Fail;
 
 const SETUP: &str = "SETUP rtsp://192.168.1.10/ RTSP/1.0";
@@ -26,8 +26,7 @@ const QUERIES: &[Step] = &[
 
 #[test]
 fn queries_are_refused_with_the_key_at_fault(rt: HostRuntime) -> Result<(), Fail> {
-    assert!(rt; is_replayed(rt.alloc(), QUERIES)?);
-    Ok(())
+    replays(&rt, rt.alloc(), QUERIES)
 }
 
 const FIRST_LINES_AND_HEADERS: &[Step] = &[
@@ -61,8 +60,7 @@ const FIRST_LINES_AND_HEADERS: &[Step] = &[
 
 #[test]
 fn requests_are_refused_for_their_first_line_and_headers(rt: HostRuntime) -> Result<(), Fail> {
-    assert!(rt; is_replayed(rt.alloc(), FIRST_LINES_AND_HEADERS)?);
-    Ok(())
+    replays(&rt, rt.alloc(), FIRST_LINES_AND_HEADERS)
 }
 
 const STATES: &[Step] = &[
@@ -87,8 +85,7 @@ const STATES: &[Step] = &[
 
 #[test]
 fn requests_are_refused_for_their_state(rt: HostRuntime) -> Result<(), Fail> {
-    assert!(rt; is_replayed(rt.alloc(), STATES)?);
-    Ok(())
+    replays(&rt, rt.alloc(), STATES)
 }
 
 const TOO_LARGE: &[Step] = &[
@@ -104,6 +101,5 @@ const TOO_LARGE: &[Step] = &[
 
 #[test]
 fn a_body_of_4097_bytes_is_refused_and_closes(rt: HostRuntime) -> Result<(), Fail> {
-    assert!(rt; is_replayed(rt.alloc(), TOO_LARGE)?);
-    Ok(())
+    replays(&rt, rt.alloc(), TOO_LARGE)
 }

@@ -3,7 +3,7 @@
 use crate::clients::{Client, FIRST_SESSION};
 use crate::row::{FIRST_MUX, SECOND_MUX};
 use crate::steps::Step::*;
-use crate::steps::{Step, is_replayed};
+use crate::steps::{Step, replays};
 use std::test::Fail;
 
 // The SES1 text of the second multiplex, with what the first one's query gave.
@@ -22,6 +22,5 @@ const STALE: &[Step] = &[
 
 #[test]
 fn a_packet_of_the_tuning_before_is_stale(rt: HostRuntime) -> Result<(), Fail> {
-    assert!(rt; is_replayed(rt.alloc(), STALE)?);
-    Ok(())
+    replays(&rt, rt.alloc(), STALE)
 }

@@ -5,6 +5,7 @@ use crate::clients::{Client, Session};
 use crate::runs::replay;
 use satip_fixtures::texts::CONFIGURATION;
 use std::alloc::Global;
+use std::process::Abort;
 use std::test::Fail;
 
 /// The first multiplex, with three PIDs and a key that the server doesn't know.
@@ -209,10 +210,13 @@ impl Row {
         Ok(())
     }
 
-    /// Whether a replay of the script ends well, and prints what it is to print.
-    pub fn is_replayed(&self) -> Result<bool, Fail> {
+    /// Asserts that a replay of the script ends well, and prints these lines.
+    pub fn check(&self, rt: &impl Abort) -> Result<(), Fail> {
         let ran = replay(self.alloc, CONFIGURATION, self.script.as_bytes())?;
-        Ok(ran.is(0, self.printed.as_bytes(), b""))
+        assert_eq!(rt; (ran.status, ran.errors.sent()), (0, b"".as_slice()));
+        let printed = std::str::from_utf8(ran.output.sent())?;
+        assert_eq!(rt; printed, self.printed.as_str());
+        Ok(())
     }
 }
 

@@ -3,10 +3,11 @@
 use crate::clients::{Client, Session};
 use crate::row::Row;
 use std::alloc::Global;
+use std::process::Abort;
 use std::test::Fail;
 
-/// What happens in a row, or what is to be printed of it: a call of the row by its arguments. So a
-/// test is one list, and its proof has one call.
+/// A step of a row, or a line that it prints: a call of the row by its arguments. So a test is one
+/// list, and its proof has one call.
 #[derive(Clone, Copy)]
 pub enum Step<'t> {
     /// A message of a client over RTSP, with these lines.
@@ -75,11 +76,11 @@ fn receive(row: &mut Row, tune: u64, pid: u16, fillings: &[u8], work: &str) -> R
     Ok(())
 }
 
-/// Whether a replay of these steps ends well, and prints what it is to print.
-pub fn is_replayed(alloc: Global, steps: &[Step]) -> Result<bool, Fail> {
+/// Asserts that a replay of these steps ends well, and prints their lines.
+pub fn replays(rt: &impl Abort, alloc: Global, steps: &[Step]) -> Result<(), Fail> {
     let mut row = Row::new(alloc);
     for step in steps {
         take(&mut row, step)?;
     }
-    row.is_replayed()
+    row.check(rt)
 }

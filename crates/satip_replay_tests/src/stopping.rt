@@ -1,6 +1,6 @@
 //! A script with what is skipped and a stop.
 
-use crate::runs::replay;
+use crate::runs::{check, replay};
 use satip_fixtures::texts::CONFIGURATION;
 use std::test::Fail;
 
@@ -13,7 +13,8 @@ const PRINTED: &[u8] = b"going\nnothing\nstopping\nstopping\n";
 fn behind_the_stop_of_a_script_pumps_are_to_stop(rt: HostRuntime) -> Result<(), Fail> {
     for script in [SCRIPT, &SCRIPT[..SCRIPT.len() - 1]] {
         let ran = replay(rt.alloc(), CONFIGURATION, script)?;
-        assert!(rt; ran.is(0, PRINTED, b"") && ran.config);
+        check(&rt, "a stop", &ran, 0, PRINTED, b"");
+        assert!(rt; ran.config);
     }
     Ok(())
 }

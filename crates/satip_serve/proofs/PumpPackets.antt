@@ -14,7 +14,8 @@ use Rattle.satip_plain.specs.Histories.{Item}
 use Rattle.satip_plain.specs.Pumping.{Due, Asking, Feeding, Finished, IsFirst, IsDue, Pumps, after_entry}
 use Rattle.satip_turn.specs.Views.{numbers_of}
 use Rattle.satip_worker.specs.Drawing.{draw_at}
-use Rattle.satip_desk.specs.Views.{WorkerView, PumpView, TickView}
+use Rattle.satip_shared.specs.Calling.{ServerPass}
+use Rattle.satip_desk.specs.Views.{WorkerView, PumpView, JobsView}
 use Rattle.satip_serve.specs.Done.{Caller, IsFull, WorkerDone, PumpDone}
 use Rattle.satip_serve.specs.ServeRuns.{Along, StopsOnce, HasNoStop, ServeRun}
 use Rattle.satip_serve.specs.Laws.{GivesRecordings, EachAt, PlaysAt, PlaysRecordings}
@@ -37,10 +38,10 @@ pump_packets front recording due (e ∷ es) next early pumps =
     (due_packet front due e.event pumps.0, pump_packets front recording (after_entry recording due e) es next pumps.1.0 pumps.1.1)
 
 -- a caller with packets of this front end has this number
-record GivesAs (front number : ℕ) (r : Caller) : Type 0 where
-  gives : Each (λ e. is_packet_on front e.event ≡ true → r.number ≡ number) r.own
+pub record GivesAs (front number : ℕ) (r : Caller) : Type 0 where
+  pub gives : Each (λ e. is_packet_on front e.event ≡ true → r.number ≡ number) r.own
 
-quiet_gives : (front number : ℕ) (r : Caller) → Each IsQuiet r.own → GivesAs front number r
+pub quiet_gives : (front number : ℕ) (r : Caller) → Each IsQuiet r.own → GivesAs front number r
 quiet_gives front number r quiet = record {
   gives = each_follows IsQuiet (λ e. is_packet_on front e.event ≡ true → r.number ≡ number)
       (λ e is on. absurd (false≢true (sym (is.quiet front) ∙ on))) r.own quiet;
@@ -58,7 +59,7 @@ workers_give ct ot full accepts front number from (w ∷ ws) (r ∷ rs) along =
     )
 
 -- the caller at a place, of those from this one on, has this number
-HasAt : (place number from : ℕ) → List Caller → Type 0
+pub HasAt : (place number from : ℕ) → List Caller → Type 0
 HasAt place number from [] = Unit {0}
 HasAt place number from (r ∷ rs) = (from ≡ place → r.number ≡ number) × HasAt place number (from + 1) rs
 
@@ -73,7 +74,7 @@ unfolding HasAt
 at_place [] r behind from place at = ((λ _. refl), behind_place place r.number (from + 1) behind (omega (arith, at)))
 at_place (b ∷ bs) r behind from place at = ((λ is. absurd (omega (arith, is, at))), at_place bs r behind (from + 1) place (omega (arith, at)))
 
-pumps_give : (outlet_tells full : Type 0) (front number from : ℕ) (pumps : List PumpView) (rows : List Caller)
+pub pumps_give : (outlet_tells full : Type 0) (front number from : ℕ) (pumps : List PumpView) (rows : List Caller)
     → Along (PumpDone outlet_tells full) from pumps rows
     → HasAt front number from rows → Each (GivesAs front number) rows
 unfolding HasAt
@@ -111,7 +112,7 @@ caller_gives front number h e (r ∷ rs) own gives there has on =
     same ∙ each_at (λ f. is_packet_on front f.event ≡ true → r.number ≡ number) r.own e gives.0.gives (subst (Has e) mine (has_own e h has)) on)
     (λ (later : Has e.caller (numbers_of rs)). caller_gives front number h e rs own.1 gives.1 later has on) there
 
-packets_are_of : (front number : ℕ) (h : List Item) (kept : List Caller) → Each IsQuiet (own_of 0 h) → Each (λ r. own_of r.number h ≡ r.own) kept
+pub packets_are_of : (front number : ℕ) (h : List Item) (kept : List Caller) → Each IsQuiet (own_of 0 h) → Each (λ r. own_of r.number h ≡ r.own) kept
     → Each (λ e. Has e.caller (0 ∷ numbers_of kept)) h → Each (GivesAs front number) kept → PacketsAreOf number front h
 packets_are_of front number h kept quiet own covered gives =
     each_has (λ e. is_packet_on front e.event ≡ true → e.caller ≡ number) h (λ e has on.
@@ -122,13 +123,13 @@ packets_are_of front number h kept quiet own covered gives =
     (each_at (λ f. Has f.caller (0 ∷ numbers_of kept)) h e covered has))
 
 -- caller 0 gives no packet
-stop_quiet : (h : List Item) (callers : List Caller) → StopsOnce h callers ⊎ HasNoStop h → Each IsQuiet (own_of 0 h)
-stop_quiet h callers stopped =
+stop_quiet : (full : Type 0) (h : List Item) (callers : List Caller) → StopsOnce h callers ⊎ HasNoStop full h → Each IsQuiet (own_of 0 h)
+stop_quiet full h callers stopped =
     ⊎_elim (λ (once : StopsOnce h callers). subst (Each IsQuiet) (sym once.own) (quiet_event once.stop Stop once.event (λ front. refl), tt))
-    (λ (none : HasNoStop h). subst (Each IsQuiet) (sym none.own) tt) stopped
+    (λ (none : HasNoStop full h). subst (Each IsQuiet) (sym none.own) tt) stopped
 
 -- the pumps from a place on
-each_plays : (c : Setting) (h : List Item) (outlet_tells full : Type 0) (all : List Caller) → GivesRecordings c h
+pub each_plays : (c : Setting) (h : List Item) (outlet_tells full : Type 0) (all : List Caller) → GivesRecordings c h
     → ((front number : ℕ) → HasAt front number 1 all → PacketsAreOf number front h)
     → (before : List Caller) (from : ℕ) (pumps : List PumpView) (rows : List Caller)
     → all ≡ before ++ rows → from ≡ 1 + length before → Each (λ r. own_of r.number h ≡ r.own) rows → Along (PumpDone outlet_tells full) from pumps rows
@@ -146,24 +147,24 @@ each_plays c h ot full all gives owner before from (p ∷ ps) (r ∷ rs) are at 
       each_plays c h ot full all gives owner (before ++ r ∷ []) (from + 1) ps rs (are ∙ sym (append_assoc before (r ∷ []) rs)) longer own.1 along.1,
     )
 
-pub plays_recordings : (conn_tells outlet_tells : Type 0) (c : Setting) (accepts : ℕ) (seen : List Item) (kept : List Caller)
-    (workers : List WorkerView) (pumps : List PumpView) (ticker : TickView) → ServeRun conn_tells outlet_tells c accepts seen kept workers pumps ticker
-    → GivesRecordings c seen → PlaysRecordings c seen pumps
-plays_recordings conn_tells outlet_tells c accepts seen kept workers pumps ticker run gives =
+pub plays_recordings : (conn_tells outlet_tells full : Type 0) (c : Setting) (accepts : ℕ) (pass : ServerPass) (jobs : JobsView)
+    → ServeRun conn_tells outlet_tells full c accepts pass jobs → GivesRecordings c pass.seen → PlaysRecordings c pass.seen jobs.pumps
+plays_recordings conn_tells outlet_tells full c accepts pass jobs run gives =
+    let seen : List Item = pass.seen in
     let ours : List Caller = run.of_workers ++ run.of_pumps in
     let all : List Caller = ours ++ run.of_ticker ∷ [] in
     let ticked = run.ticked in
     let owner : (front number : ℕ) → HasAt front number 1 run.of_pumps → PacketsAreOf number front seen = λ front number at.
-    packets_are_of front number seen kept (stop_quiet seen run.of_workers run.stopped) run.entries run.covered
+    packets_are_of front number seen pass.kept (stop_quiet full seen run.of_workers run.stopped) run.entries run.covered
     (subst (Each (GivesAs front number)) (sym run.callers)
     (Each-append (GivesAs front number) ours (run.of_ticker ∷ [])
     (Each-append (GivesAs front number) run.of_workers run.of_pumps
-    (workers_give conn_tells outlet_tells (IsFull seen) accepts front number 1 workers run.of_workers run.worked)
-    (pumps_give outlet_tells (IsFull seen) front number 1 pumps run.of_pumps run.pumped at))
+    (workers_give conn_tells outlet_tells full accepts front number 1 jobs.workers run.of_workers run.worked)
+    (pumps_give outlet_tells full front number 1 jobs.pumps run.of_pumps run.pumped at))
     (quiet_gives front number run.of_ticker (ticks_quiet run.of_ticker.own ticked.moments ticked.events), tt))) in
     let own : Each (λ (r : Caller). own_of r.number seen ≡ r.own) all =
     subst (Each (λ (r : Caller). own_of r.number seen ≡ r.own)) run.callers run.entries in
     let own_pumps : Each (λ (r : Caller). own_of r.number seen ≡ r.own) run.of_pumps =
     Each-append_right (λ (r : Caller). own_of r.number seen ≡ r.own) run.of_workers run.of_pumps
     (Each-append_left (λ (r : Caller). own_of r.number seen ≡ r.own) ours (run.of_ticker ∷ []) own) in
-    each_plays c seen outlet_tells (IsFull seen) run.of_pumps gives owner [] 1 pumps run.of_pumps refl (omega arith) own_pumps run.pumped
+    each_plays c seen outlet_tells full run.of_pumps gives owner [] 1 jobs.pumps run.of_pumps refl (omega arith) own_pumps run.pumped

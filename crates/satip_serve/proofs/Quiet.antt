@@ -21,6 +21,7 @@ use Rattle.satip_world.specs.declared.doors.DoorKind.{DoorKind}
 use Rattle.satip_world.specs.declared.doors.DoorKind.TheVariants.{Rtsp, Http}
 use Rattle.satip_world.specs.Halls.{Return}
 use Rattle.satip_worker.specs.Answers.{events_of}
+use Rattle.satip_worker.specs.Drawing.{DrawRange}
 use Rattle.satip_worker.specs.HttpRun.{asked_first, Closes, SentWhole, SentCut, Follows, FollowsEmpty, FollowsPull, Pulls, FollowsGet, Gets, HttpEntries}
 use Rattle.satip_worker.specs.Requests.{request_events}
 use Rattle.satip_worker.specs.Served.{ConnRun}
@@ -107,16 +108,16 @@ gets_quiet peer draw request end (e ∷ es) sent gets = (
   get_quiet end e.answer e.out.reply sent es gets.1,
 )
 
-http_quiet : (peer : Peer) (drawn : ℕ → Draw) (from to : ℕ) (end : ConnEnd) (entries : List Item) (sent : List ℕ) (asked : Option HttpRequest)
+pub http_quiet : (peer : Peer) (drawn : ℕ → Draw) (from to : ℕ) (end : ConnEnd) (entries : List Item) (sent : List ℕ) (asked : Option HttpRequest)
     → HttpEntries peer drawn from to end entries sent asked → Each IsQuiet entries
 http_quiet peer drawn from to end entries sent None run = none_of entries run.0
 http_quiet peer drawn from to end entries sent (Some request) run = gets_quiet peer (drawn from) request end entries sent run.0
 
-conn_quiet : (kind : DoorKind) (peer : Peer) (drawn : ℕ → Draw) (from to : ℕ) (received sent : List ℕ) (end : ConnEnd) (entries : List Item)
-    → ConnRun kind peer drawn from to received sent end entries → Each IsQuiet entries
-conn_quiet Rtsp peer drawn from to received sent end entries run = requests_quiet peer drawn from run.requests entries run.rest run.events
-conn_quiet Http peer drawn from to received sent end entries run =
-    http_quiet peer drawn from to end entries sent (asked_first run.messages run.tail) run.entries_are
+conn_quiet : (kind : DoorKind) (peer : Peer) (draws : DrawRange) (received sent : List ℕ) (end : ConnEnd) (entries : List Item)
+    → ConnRun kind peer draws received sent end entries → Each IsQuiet entries
+conn_quiet Rtsp peer draws received sent end entries run = requests_quiet peer draws.drawn draws.from run.requests entries run.rest run.events
+conn_quiet Http peer draws received sent end entries run =
+    http_quiet peer draws.drawn draws.from draws.to end entries sent (asked_first run.messages run.tail) run.entries_are
 
 -- of all connections of a worker
 pub serves_quiet : (tells : Type 0) (drawn : ℕ → Draw) (from to : ℕ) (returns : List Return) (entries : List Item)
@@ -126,7 +127,7 @@ serves_quiet tells drawn from to [] entries serves = none_of entries serves.1
 serves_quiet tells drawn from to (r ∷ rs) entries serves =
     let one = serves.4 in
     subst (Each IsQuiet) (sym serves.3)
-    (Each-append IsQuiet serves.1 serves.2 (conn_quiet r.kind r.peer drawn from serves.0 one.received one.sent r.end serves.1 one.run)
+    (Each-append IsQuiet serves.1 serves.2 (conn_quiet r.kind r.peer (record { drawn = drawn; from = from; to = serves.0 }) one.received one.sent r.end serves.1 one.run)
     (serves_quiet tells drawn serves.0 to rs serves.2 serves.5))
 
 -- of the ticker

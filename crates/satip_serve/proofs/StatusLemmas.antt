@@ -1,5 +1,5 @@
 -- What serving comes to, by its status, from how it ended.
-use Rattle.std.proofs.Common.{◌≡◌, ◌∙◌, ℕ, ◌+◌, ◌<◌, ◌≤◌, ◌⊎◌, ◌↔◌, inl, inr, true, List, Option, Some, None, IfSome, IsNone, IsSome, IsSomeAnd, MatchOption, refl}
+use Rattle.std.proofs.Common.{◌≡◌, ◌∙◌, ℕ, ◌+◌, ◌<◌, ◌≤◌, ◌⊎◌, ◌↔◌, inl, inr, true, List, Option, Some, None, option_map, IfSome, IsNone, IsSome, IsSomeAnd, MatchOption, refl}
 use Rattle.std.proofs.Common.{sym, ap, subst, ⊎_elim, arith}
 use Rattle.satip_base.specs.Streams.{Feed, Rose}
 use Rattle.satip_world.specs.Counts.{Rises}
@@ -11,13 +11,14 @@ use Rattle.satip_config.specs.Configurations.{configuration_limit, Configured, R
 use Rattle.satip_jobs.specs.declared.end.ServeEnd.{ServeEnd}
 use Rattle.satip_jobs.specs.declared.end.ServeEnd.TheVariants as serves
 use Rattle.satip_serve.specs.ServeRuns.{HasFault, MatchEnd}
-use Rattle.satip_desk.specs.Views.{WorkerView, JobsView}
+use Rattle.satip_desk.specs.Views.{DeskView, WorkerView, JobsView}
 use Rattle.satip_serve.specs.declared.command.ServingEnd.{ServingEnd}
 use Rattle.satip_serve.specs.declared.command.ServingEnd.TheVariants.{Served, Configuration as OfConfiguration, InputFault, DoorsFault, HistoryFull}
 use Rattle.satip_serve.specs.declared.command.ServingEnd.TheVariants.{OutOfMemory}
-use Rattle.satip_serve.specs.CommandEnds.{ServingEnds}
+use Rattle.satip_serve.specs.CommandEnds.{RanBy, ServingEnds, ServingLeft}
 use Rattle.satip_desk.specs.Given.{ComeUnused}
-use Rattle.satip_serve.specs.CommandRan.{JobsEnd}
+use Rattle.satip_serve.specs.CommandRan.{EndsAtLimit, JobsEnd}
+use Rattle.satip_serve.specs.Ran.{AreAtLimit}
 use Rattle.satip_desk.specs.Desks.{GivenFrom}
 use Rattle.satip_serve.specs.Servings.{end_of_run, IsServingOf, IsEndOfRun, IsOneOf, IsNeitherOf}
 use Rattle.satip_desk.specs.Fresh.{AreUnused}
@@ -45,6 +46,13 @@ jobs_end serves.HistoryFull workers full tells = record {
   doors_fault = λ is. absurd (omega (arith, is));
   history_full = λ is. tells;
 }
+
+-- doors at their limit, by the status
+pub limit_told : (by_limit : Type 0) (end : ServeEnd) (workers : List WorkerView) → AreAtLimit by_limit end workers
+    → EndsAtLimit by_limit workers (serving_status (end_of_run end))
+limit_told by_limit serves.Served workers limits is limited = limits refl limited
+limit_told by_limit serves.DoorsFault workers limits is limited = absurd (omega (arith, is))
+limit_told by_limit serves.HistoryFull workers limits is limited = absurd (omega (arith, is))
 
 -- the statuses of a serve
 has_end : (end : ServingEnd) → Has (serving_status end) serve_statuses
@@ -181,38 +189,37 @@ settled_told ct text a b end started read told is still =
     subst Q begun.holds.1 (read.settled begun.holds.0 (λ rose. still (subst R begun.faults rose)))
 
 -- all of it, where the desk opened the configuration
-ends_by : {S L J : Type 0} (ct : Type 0) (accepts : ℕ) (text : Option (List ℕ)) (before now : ℕ) (seen : S → Feed) (s : S) (view : J → JobsView)
-    (given : Option JobsView) (config_of : L → Configuration) (Ran : JobsView → L → Type 0) (last : Option L) (unused : Option J) (end : ServingEnd)
-    (a : Feed) → IsStarted ct a text → a.taken ≡ 0 → (seen s).taken ≤ a.taken + configuration_limit + 1
-    → IsRead ct a (seen s) end → IsLeft before now given last unused end
-    → IfSome last (λ l. IsSomeAnd given (λ g. Ran g l)) → IfSome last (λ l. GivenFrom ct text (λ from. Configured ct from (seen s) (config_of l)))
-    → MatchOption given (IsNeitherOf last unused) (λ _. IsOneOf last unused) → IfSome unused (λ k. IsSomeAnd given (λ g. ComeUnused g (view k)))
-    → IfSome unused (λ k. AreUnused accepts (view k))
-    → ServingEnds ct (λ fault. end ≡ OfConfiguration fault) accepts text before now seen (Some s) view given config_of Ran last unused (serving_status end)
-ends_by ct accepts text before now seen s view given config_of Ran last unused end a started untaken limit read left ran served_by kits kits_unused
-    unused_kits = record {
-      status_is = has_end end;
-      ran = ran;
-      served_by = served_by;
-      config =
-          ⊎_elim (λ (same : now ≡ before). inl same) (λ (none : (end ≡ DoorsFault) × IsNone last). inr (ap serving_status none.0, none.1)) left.config;
-      config_limit = omega (arith, limit, untaken);
-      read = λ other. read.faults (λ is. other (ap serving_status is)) ∙ started.faults;
-      kits = kits;
-      kits_unused = kits_unused;
-      unused_kits = unused_kits;
-      unused_status = unused_told unused end left.unused_end;
-      served = λ is. left.served (ends_by_serving end is);
-      configuration = λ is.
-          refused_at (λ fault. GivenFrom ct text (λ from. Refused ct from (seen s) fault)) end
-          (λ fault same. record { source = a; started = started; untaken = untaken; said = read.refused fault same }) is;
-      input = input_told ct a (seen s) end started.faults read;
-      doors_fault = λ is none. left.doors_fault (ends_by_doors end is) none;
-      settled = λ told is still. record { ending = end; told = refl; ends = settled_told ct text a (seen s) end started read told is still };
-    } where
-      unused_told : {J : Type 0} (unused : Option J) (end : ServingEnd) → IfSome unused (λ _. end ≡ OutOfMemory) → IfSome unused (λ _. serving_status end ≡ 70)
-      unused_told None end none = none
-      unused_told (Some kits) end none = ap serving_status none
+ends_by : {L : Type 0} (ct : Type 0) (accepts : ℕ) (name : List ℕ) (d f : DeskView) (Ran : JobsView → Configuration → L → Type 0) (last : Option L)
+    (unused : Option JobsView) (end : ServingEnd) (a b : Feed)
+    → IsStarted ct a (d.text name) → a.taken ≡ 0 → b.taken ≤ a.taken + configuration_limit + 1
+    → IsRead ct a b end → IsLeft d.faults f.faults f.given last unused end
+    → IfSome last (λ l. IsSomeAnd f.given (λ g. RanBy ct (d.text name) b (λ c. Ran g c l)))
+    → MatchOption f.given (IsNeitherOf last unused) (λ _. IsOneOf last unused) → IfSome unused (λ k. IsSomeAnd f.given (λ g. ComeUnused g k))
+    → IfSome unused (AreUnused accepts)
+    → ServingEnds ct (λ fault. end ≡ OfConfiguration fault) accepts name d f Ran
+    (record { source = Some b; last = last; unused = unused; status = serving_status end })
+ends_by ct accepts name d f Ran last unused end a b started untaken limit read left ran kits kits_unused unused_kits = record {
+  status_is = has_end end;
+  ran = ran;
+  config =
+      ⊎_elim (λ (same : f.faults ≡ d.faults). inl same) (λ (none : (end ≡ DoorsFault) × IsNone last). inr (ap serving_status none.0, none.1)) left.config;
+  config_limit = omega (arith, limit, untaken);
+  read = λ other. read.faults (λ is. other (ap serving_status is)) ∙ started.faults;
+  kits = kits;
+  kits_unused = kits_unused;
+  unused_kits = unused_kits;
+  unused_status = unused_told unused end left.unused_end;
+  served = λ is. left.served (ends_by_serving end is);
+  configuration = λ is.
+      refused_at (λ fault. GivenFrom ct (d.text name) (λ from. Refused ct from b fault)) end
+      (λ fault same. record { source = a; started = started; untaken = untaken; said = read.refused fault same }) is;
+  input = input_told ct a b end started.faults read;
+  doors_fault = λ is none. left.doors_fault (ends_by_doors end is) none;
+  settled = λ told is still. record { ending = end; told = refl; ends = settled_told ct (d.text name) a b end started read told is still };
+} where
+  unused_told : {J : Type 0} (unused : Option J) (end : ServingEnd) → IfSome unused (λ _. end ≡ OutOfMemory) → IfSome unused (λ _. serving_status end ≡ 70)
+  unused_told None end none = none
+  unused_told (Some kits) end none = ap serving_status none
 
 -- the desk gave kits
 left_by : {L J : Type 0} (before now : ℕ) (given : Option JobsView) (last : Option L) (unused : Option J) (end : ServingEnd) → now ≡ before
@@ -242,39 +249,66 @@ with_given : {T G : Type 0} (x : Option T) (given : Option G) (g : G) (P : G →
 with_given None given g P is each = tt
 with_given (Some t) given g P is each = rw is each
 
-served_from : {L : Type 0} (ct : Type 0) (text : Option (List ℕ)) (a b : Feed) (c : Configuration) (last : Option L) (config_of : L → Configuration)
-    → IsStarted ct a text → a.taken ≡ 0 → Configured ct a b c → IfSome last (λ l. config_of l ≡ c)
-    → IfSome last (λ l. GivenFrom ct text (λ from. Configured ct from b (config_of l)))
-served_from ct text a b c None config_of started untaken well same = tt
-served_from ct text a b c (Some l) config_of started untaken well same =
-    let P : Configuration → Type 0 = λ d. Configured ct a b d in
-    record { source = a; started = started; untaken = untaken; said = subst P (sym same) well }
+-- as contracts see it
+some_seen : {S T : Type 0} (see : S → T) (P : T → Type 0) (x : Option S) → IfSome x (λ s. P (see s)) → IfSome (option_map see x) P
+some_seen see P None is = tt
+some_seen see P (Some s) is = is
 
-pub kits_ends : {S L J ct : Type 0} {accepts : ℕ} {text : Option (List ℕ)} {before now : ℕ} {seen : S → Feed} {s : S} {view : J → JobsView}
-    {given : Option JobsView} {config_of : L → Configuration} {Ran : JobsView → L → Type 0} {last : Option L} {unused : Option J} (end : ServingEnd)
-    {a : Feed} (c : Configuration) (jobs : J) → IsStarted ct a text → a.taken ≡ 0 → (seen s).taken ≤ a.taken + configuration_limit + 1
-    → Configured ct a (seen s) c → given ≡ Some (view jobs) → now ≡ before
-    → IsOneOf last unused → IfSome last (λ l. config_of l ≡ c) → IfSome last (λ l. Ran (view jobs) l)
-    → MatchOption last (end ≡ OutOfMemory) (λ _. IsEndOfRun end) → IfSome unused (λ k. ComeUnused (view jobs) (view k))
+one_seen : {S T U V : Type 0} (see : S → U) (view : T → V) (x : Option S) (y : Option T) → IsOneOf x y → IsOneOf (option_map see x) (option_map view y)
+one_seen see view (Some s) None one = inl (refl, refl)
+one_seen see view None (Some t) one = inr (refl, refl)
+one_seen see view (Some s) (Some t) (inl one) = absurd (cc one.1)
+one_seen see view (Some s) (Some t) (inr one) = absurd (cc one.0)
+one_seen see view None None (inl one) = absurd (cc one.0)
+one_seen see view None None (inr one) = absurd (cc one.1)
+
+begun_seen : {S T : Type 0} (see : S → T) (A B : Type 0) (x : Option S) → MatchOption x A (λ _. B) → MatchOption (option_map see x) A (λ _. B)
+begun_seen see A B None is = is
+begun_seen see A B (Some s) is = is
+
+ran_seen : {S L : Type 0} (ct : Type 0) (text : Option (List ℕ)) (a b : Feed) (c : Configuration) (see : S → L) (Ran : Configuration → L → Type 0)
+    (x : Option S) → GivenFrom ct text (λ from. Configured ct from b c) → IfSome x (λ s. Ran c (see s))
+    → IfSome (option_map see x) (λ l. RanBy ct text b (λ d. Ran d l))
+ran_seen ct text a b c see Ran None from ran = tt
+ran_seen ct text a b c see Ran (Some s) from ran = record { config = c; configured = from; ran = ran }
+
+pub pair_each : {T : Type 0} (x : Option T) (P Q : T → Type 0) → IfSome x P → IfSome x Q → IfSome x (λ t. P t × Q t)
+pair_each None P Q p q = tt
+pair_each (Some t) P Q p q = (p, q)
+
+-- the desk gave these kits for the configuration that was read, and jobs ran with them or are to run no more. `see` and `view` are how contracts see what jobs
+-- leave, and kits
+pub kits_ends : {S L J ct : Type 0} {accepts : ℕ} {name : List ℕ} {d f : DeskView} {Ran : JobsView → Configuration → L → Type 0} (see : S → L)
+    (view : J → JobsView) (last : Option S) (unused : Option J) (end : ServingEnd) (a b : Feed) (c : Configuration) (given : JobsView)
+    → IsStarted ct a (d.text name) → a.taken ≡ 0 → b.taken ≤ a.taken + configuration_limit + 1
+    → Configured ct a b c → f.given ≡ Some given → f.faults ≡ d.faults
+    → IsOneOf last unused → IfSome last (λ l. Ran given c (see l))
+    → MatchOption last (end ≡ OutOfMemory) (λ _. IsEndOfRun end) → IfSome unused (λ k. ComeUnused given (view k))
     → IfSome unused (λ k. AreUnused accepts (view k))
-    → ServingEnds ct (λ fault. end ≡ OfConfiguration fault) accepts text before now seen (Some s) view given config_of Ran last unused (serving_status end)
-kits_ends {ct = ct} {accepts = accepts} {text = text} {before = before} {now = now} {seen = seen} {s = s} {view = view} {given = given}
-    {config_of = config_of} {Ran = Ran} {last = last} {unused = unused} end {a = a} c jobs started untaken limit well is same one config ran begun kits_unused
-    unused_kits =
-    ends_by ct accepts text before now seen s view given config_of Ran last unused end a started untaken limit
-    (read_well ct a (seen s) c end well (behind last end begun))
-    (left_by before now given last unused end same one begun)
-    (with_given last given (view jobs) Ran is ran) (served_from ct text a (seen s) c last config_of started untaken well config) (rw is one)
-    (with_given unused given (view jobs) (λ g k. ComeUnused g (view k)) is kits_unused) unused_kits
+    → ServingEnds ct (λ fault. end ≡ OfConfiguration fault) accepts name d f Ran
+    (record { source = Some b; last = option_map see last; unused = option_map view unused; status = serving_status end })
+kits_ends {L = L} {ct = ct} {accepts = accepts} {name = name} {d = d} {f = f} {Ran = Ran} see view last unused end a b c given started untaken limit well is same
+    one ran begun kits_unused unused_kits =
+    let seen : Option L = option_map see last in
+    let left : Option JobsView = option_map view unused in
+    let one_is : IsOneOf seen left = one_seen see view last unused one in
+    let begun_is : MatchOption seen (end ≡ OutOfMemory) (λ _. IsEndOfRun end) = begun_seen see (end ≡ OutOfMemory) (IsEndOfRun end) last begun in
+    ends_by ct accepts name d f Ran seen left end a b started untaken limit
+    (read_well ct a b c end well (behind seen end begun_is))
+    (left_by d.faults f.faults f.given seen left end same one_is begun_is)
+    (with_given seen f.given given (λ g l. RanBy ct (d.text name) b (λ k. Ran g k l)) is
+    (ran_seen ct (d.text name) a b c see (Ran given) last (record { source = a; started = started; untaken = untaken; said = well }) ran))
+    (rw is one_is)
+    (with_given left f.given given (λ g k. ComeUnused g k) is (some_seen view (ComeUnused given) unused kits_unused))
+    (some_seen view (AreUnused accepts) unused unused_kits)
 
 -- the desk failed to open the configuration
-pub unopened_ends : {S L J ct : Type 0} {accepts : ℕ} {text : Option (List ℕ)} {before now : ℕ} {seen : S → Feed} {view : J → JobsView}
-    {given : Option JobsView} {config_of : L → Configuration} {Ran : JobsView → L → Type 0} → given ≡ None → Rises before now
-    → ServingEnds ct (λ fault. InputFault ≡ OfConfiguration fault) accepts text before now seen None view given config_of Ran None None 5
+pub unopened_ends : {L ct : Type 0} {accepts : ℕ} {name : List ℕ} {d f : DeskView} {Ran : JobsView → Configuration → L → Type 0} → f.given ≡ None
+    → Rises d.faults f.faults
+    → ServingEnds ct (λ fault. InputFault ≡ OfConfiguration fault) accepts name d f Ran (record { source = None; last = None; unused = None; status = 5 })
 unopened_ends none rises = record {
   status_is = has_end InputFault;
   ran = tt;
-  served_by = tt;
   config = rises;
   config_limit = tt;
   read = λ other. absurd (other refl);
@@ -290,15 +324,12 @@ unopened_ends none rises = record {
 }
 
 -- the configuration's fault is told in another way
-pub told_otherwise : {S L J ct : Type 0} {Told Tells : ConfigFault → Type 0} {accepts : ℕ} {text : Option (List ℕ)} {before now : ℕ} {seen : S → Feed}
-    {source : Option S} {view : J → JobsView} {given : Option JobsView} {config_of : L → Configuration} {Ran : JobsView → L → Type 0} {last : Option L}
-    {unused : Option J} {status : ℕ} → ((fault : ConfigFault) → Told fault → Tells fault)
-    → ServingEnds ct Told accepts text before now seen source view given config_of Ran last unused status
-    → ServingEnds ct Tells accepts text before now seen source view given config_of Ran last unused status
+pub told_otherwise : {L ct : Type 0} {Told Tells : ConfigFault → Type 0} {accepts : ℕ} {name : List ℕ} {d f : DeskView}
+    {Ran : JobsView → Configuration → L → Type 0} {left : ServingLeft L} → ((fault : ConfigFault) → Told fault → Tells fault)
+    → ServingEnds ct Told accepts name d f Ran left → ServingEnds ct Tells accepts name d f Ran left
 told_otherwise tells ends = record {
   status_is = ends.status_is;
   ran = ends.ran;
-  served_by = ends.served_by;
   config = ends.config;
   config_limit = ends.config_limit;
   read = ends.read;

@@ -8,6 +8,7 @@ use Rattle.satip_turn.specs.Shown.{Cell, Keeps, Shown}
 use Rattle.satip_shared.specs.Calling.{ServerPass, known_by}
 use Rattle.satip_jobs.specs.declared.end.ServeEnd.{ServeEnd}
 use Rattle.satip_jobs.specs.declared.seat.Seat.{Seat}
+use Rattle.satip_serve.specs.Deeds.{JobState, job_state}
 
 -- the service never returns out of memory
 abbrev pub NeverWants : {X : Type 0} → (X → Bool) → Type 0
@@ -31,8 +32,9 @@ pub record IsFirst {E A O C : Type 0} (p : Shown E A O C) : Type 0 where
   pub kept : p.kept ≡ []
   pub made : p.made ≡ []
 
--- a job was done at its seat, over the same service
-pub record SeatDid {X K M : Type 0} (same : X → X → Type 0) (known : X → Known) (did : ℕ → K → Known → K → Known → ServeEnd → Type 0) (before after : Seat X K M) : Type 0 where
+-- a job was done at its seat, over the same service: `did` says so of its number, and of its kit, as contracts see it, before and after
+pub record SeatDid {X K V M : Type 0} (same : X → X → Type 0) (known : X → Known) (view : K → V)
+    (did : ℕ → JobState V → JobState V → ServeEnd → Type 0) (before after : Seat X K M) : Type 0 where
   pub same_is : same before.caller after.caller
   pub number : after.number ≡ before.number
-  pub deed : did before.number before.kit (known before.caller) after.kit (known after.caller) after.end
+  pub deed : did before.number (job_state (view before.kit) (known before.caller)) (job_state (view after.kit) (known after.caller)) after.end

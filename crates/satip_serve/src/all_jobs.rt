@@ -4,7 +4,7 @@ ghost use Rattle.std.specs.Prelude.{◌≡◌, ◌≤◌, length, vec_capacity, 
 ghost use Rattle.satip_fronts.specs.FrontEnds.{IsNumbered};
 ghost use Rattle.satip_plain.specs.Histories.{Legal};
 ghost use Rattle.satip_desk.specs.Fresh.{AreFresh, FreshJobs, Unused};
-ghost use Rattle.satip_serve.specs.Ran.{CanRun, HaveRun};
+ghost use Rattle.satip_serve.specs.Ran.{AreAtLimit, CanRun, HaveRun};
 ghost use Rattle.satip_serve.specs.Spaces.{IsSpaceFor};
 ghost use Rattle.satip_desk.specs.Views.{jobs_view};
 
@@ -77,6 +77,8 @@ fn serve_all<
         (FreshJobs server.now.setting.start) server.now
         (jobs_view D.hall O.outbox M.shelf C.dial jobs) served.0
         (jobs_view D.hall O.outbox M.shelf C.dial served.1) served.2) }
+    ensures at_limit { IfOk result (λ served. AreAtLimit D.by_limit served.2
+        (jobs_view D.hall O.outbox M.shelf C.dial served.1).workers) }
     ensures unused { IfErr result (λ back. back ≡ jobs) }
 {
     match take_memory(alloc, jobs.workers.len(), jobs.pumps.len()) {
@@ -144,6 +146,8 @@ pub fn serve<
     ensures ran { IfOk result (λ served. HaveRun D.Conn.tells O.tells AreFresh served.0.server
         (jobs_view D.hall O.outbox M.shelf C.dial jobs) served.0.pass
         (jobs_view D.hall O.outbox M.shelf C.dial served.0.jobs) served.1) }
+    ensures at_limit { IfOk result (λ served. AreAtLimit D.by_limit served.1
+        (jobs_view D.hall O.outbox M.shelf C.dial served.0.jobs).workers) }
     ensures unused { IfErr result (Unused C.dial jobs) }
 {
     let start = jobs.tick.clock.now();

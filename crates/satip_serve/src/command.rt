@@ -1,14 +1,14 @@
 //! `serve`: reads a configuration, takes the kits of all jobs from the desk, and serves.
 
-ghost use Rattle.std.specs.Prelude.{◌≡◌, ℕ, List, Option, Some, None, length, IfSome, MatchOption};
+ghost use Rattle.std.specs.Prelude.{◌≡◌, ℕ, List, Some, None, length, IfSome, MatchOption};
 ghost use Rattle.satip_fronts.specs.FrontEnds.{IsNumbered};
 ghost use Rattle.satip_config.specs.Configurations.{IsServed};
 ghost use Rattle.satip_desk.specs.Fresh.{AreFresh};
-ghost use Rattle.satip_desk.specs.Views.{jobs_view};
+ghost use Rattle.satip_desk.specs.Views.{DeskView, jobs_view};
 ghost use Rattle.satip_world.specs.Recordings.{IsStarted};
-ghost use Rattle.satip_serve.specs.CommandEnds.{Serves};
+ghost use Rattle.satip_serve.specs.CommandEnds.{Serves, serve_tells, serving_left};
 ghost use Rattle.satip_desk.specs.Given.{ComeUnused};
-ghost use Rattle.satip_serve.specs.CommandRan.{ServingRun};
+ghost use Rattle.satip_serve.specs.CommandRan.{EndsAtLimit, ServingRun, last_view};
 ghost use Rattle.satip_serve.specs.Servings.{end_of_reading, end_of_run, IsEndOfRun, IsOneOf};
 ghost use Rattle.satip_desk.specs.Fresh.{AreUnused};
 ghost use Rattle.satip_serve.specs.Statuses.{serving_status};
@@ -113,8 +113,10 @@ fn serve_jobs<
     ensures one { IsOneOf result.last result.unused }
     ensures config { IfSome result.last (λ last. last.server.setting.config ≡ config) }
     ensures ran { IfSome result.last (λ last. ServingRun D.Conn.tells O.tells _accepts
-        (jobs_view D.hall O.outbox M.shelf C.dial)
-        (jobs_view D.hall O.outbox M.shelf C.dial jobs) last (serving_status result.end)) }
+        (jobs_view D.hall O.outbox M.shelf C.dial jobs)
+        (last_view (jobs_view D.hall O.outbox M.shelf C.dial) last) (serving_status result.end)) }
+    ensures at_limit { IfSome result.last (λ last. EndsAtLimit D.by_limit
+        (jobs_view D.hall O.outbox M.shelf C.dial last.jobs).workers (serving_status result.end)) }
     ensures begun { MatchOption result.last (result.end ≡ ServingEnd.OutOfMemory)
         (λ _. IsEndOfRun result.end) }
     ensures kits_unused { IfSome result.unused (λ kits. ComeUnused
@@ -151,18 +153,22 @@ fn serve_source<R: Threads + Wait + Sync, K: Desk>(
     Last<K::Doors, K::Outlet, K::Pacer, K::Store, K::Clock>,
     Jobs<K::Doors, K::Outlet, K::Pacer, K::Store, K::Clock>,
 >
-    requires new { K.given desk.old ≡ None }
-    ensures texts { K.text desk.new ≡ K.text desk.old }
-    ensures handed { K.handed desk.new ≡ K.handed desk.old }
-    ensures journaled { K.journaled desk.new ≡ K.journaled desk.old }
-    ensures ends { (text : Option (List ℕ))
-        → IsStarted K.Config.tells (K.Config.feed source.old) text
+    requires new { (K.desk desk.old).given ≡ None }
+    ensures texts { (K.desk desk.new).text ≡ (K.desk desk.old).text }
+    ensures handed { (K.desk desk.new).handed ≡ (K.desk desk.old).handed }
+    ensures journaled { (K.desk desk.new).journaled ≡ (K.desk desk.old).journaled }
+    ensures ends { (name : List ℕ) (d : DeskView)
+        → IsStarted K.Config.tells (K.Config.feed source.old) (d.text name)
         → (K.Config.feed source.old).taken ≡ 0
-        → Serves K.Config.tells K.Doors.Conn.tells K.Outlet.tells
-        (λ fault. result.end ≡ ServingEnd.Configuration fault) accepts
-        text (K.faults desk.old) (K.faults desk.new) K.Config.feed (Some source.new)
-        (jobs_view K.Doors.hall K.Outlet.outbox K.Store.shelf K.Clock.dial)
-        (K.given desk.new) result.last result.unused (serving_status result.end) }
+        → (K.desk desk.old).faults ≡ d.faults
+        → Serves (serve_tells K.Config.tells K.Doors.Conn.tells K.Outlet.tells)
+        (λ fault. result.end ≡ ServingEnd.Configuration fault) accepts name d (K.desk desk.new)
+        (serving_left K.Config.feed
+        (jobs_view K.Doors.hall K.Outlet.outbox K.Store.shelf K.Clock.dial) (Some source.new)
+        result.last result.unused (serving_status result.end)) }
+    ensures at_limit { IfSome result.last (λ last. EndsAtLimit K.Doors.by_limit
+        (jobs_view K.Doors.hall K.Outlet.outbox K.Store.shelf K.Clock.dial last.jobs).workers
+        (serving_status result.end)) }
 {
     let config = match read_configuration(alloc, source) {
         Ok(config) => config,
@@ -196,16 +202,18 @@ pub fn serve_by<R: Threads + Wait + Sync, K: Desk>(
     accepts: u32,
     desk: &mut K,
 ) -> Served<K>
-    requires new { K.given desk.old ≡ None }
-    ensures texts { K.text desk.new ≡ K.text desk.old }
-    ensures handed { K.handed desk.new ≡ K.handed desk.old }
-    ensures journaled { K.journaled desk.new ≡ K.journaled desk.old }
-    ensures ends { Serves K.Config.tells K.Doors.Conn.tells K.Outlet.tells
-        (λ fault. result.end ≡ ServingEnd.Configuration fault) accepts
-        (K.text desk.old name.now) (K.faults desk.old) (K.faults desk.new)
-        K.Config.feed result.config
-        (jobs_view K.Doors.hall K.Outlet.outbox K.Store.shelf K.Clock.dial)
-        (K.given desk.new) result.last result.unused (serving_status result.end) }
+    requires new { (K.desk desk.old).given ≡ None }
+    ensures texts { (K.desk desk.new).text ≡ (K.desk desk.old).text }
+    ensures handed { (K.desk desk.new).handed ≡ (K.desk desk.old).handed }
+    ensures journaled { (K.desk desk.new).journaled ≡ (K.desk desk.old).journaled }
+    ensures ends { Serves (serve_tells K.Config.tells K.Doors.Conn.tells K.Outlet.tells)
+        (λ fault. result.end ≡ ServingEnd.Configuration fault) accepts name.now
+        (K.desk desk.old) (K.desk desk.new) (serving_left K.Config.feed
+        (jobs_view K.Doors.hall K.Outlet.outbox K.Store.shelf K.Clock.dial) result.config
+        result.last result.unused (serving_status result.end)) }
+    ensures at_limit { IfSome result.last (λ last. EndsAtLimit K.Doors.by_limit
+        (jobs_view K.Doors.hall K.Outlet.outbox K.Store.shelf K.Clock.dial last.jobs).workers
+        (serving_status result.end)) }
 {
     match desk.config(name) {
         Ok(mut source) => {

@@ -8,9 +8,10 @@ ghost use Rattle.satip_worker.specs.declared.room.Room.{Room};
 ghost use Rattle.satip_jobs.specs.Crewed.{RunDid};
 ghost use Rattle.satip_jobs.specs.Crews.{IsSpace};
 ghost use Rattle.satip_serve.specs.declared.seat.PumpRoom.{PumpRoom};
-ghost use Rattle.satip_serve.specs.Deeds.{worker_deed, pump_deed, ticker_deed};
+ghost use Rattle.satip_desk.specs.Views.{worker_view, pump_view, tick_view};
+ghost use Rattle.satip_serve.specs.Deeds.{WorkerDid, PumpDid, TickerDid};
 ghost use Rattle.satip_desk.specs.Fresh.{FreshJobs};
-ghost use Rattle.satip_serve.specs.Ran.{JobsRan};
+ghost use Rattle.satip_serve.specs.Ran.{AreAtLimit, JobsRan};
 ghost use Rattle.satip_serve.specs.Services.{Serves, NeverWants, SeatDid, IsFirst};
 ghost use Rattle.satip_serve.specs.JobViews.{posts_view};
 
@@ -63,9 +64,10 @@ pub fn run_services<
     // the work of each job, and the callers and gears that came back
     ensures did { RunDid X.cell X.pass X.gear X.Crew.legal X.is_stop X.goes_on
         {L = Room} {M = PumpRoom} {N = Output}
-        (SeatDid X.same X.known (worker_deed D.Conn.tells O.tells D.hall O.outbox))
-        (SeatDid X.same X.known (pump_deed O.tells M.shelf O.outbox))
-        (SeatDid X.same X.known (ticker_deed O.tells C.dial O.outbox))
+        (SeatDid X.same X.known (worker_view D.hall O.outbox)
+        (WorkerDid D.Conn.tells O.tells D.by_limit))
+        (SeatDid X.same X.known (pump_view M.shelf O.outbox) (PumpDid O.tells))
+        (SeatDid X.same X.known (tick_view C.dial O.outbox) (λ _. TickerDid O.tells))
         root posts result.0 result.1 result.2 }
 
     // the workers' keys and the pumps' recordings come back in order; it was a serve run if the
@@ -73,6 +75,8 @@ pub fn run_services<
     ensures ran { JobsRan D.Conn.tells O.tells (FreshJobs (X.cell root).setting.start)
         (X.cell root).setting (posts_view D.hall O.outbox M.shelf C.dial posts)
         (X.pass result.0) (posts_view D.hall O.outbox M.shelf C.dial result.1) result.2 }
+    ensures at_limit { AreAtLimit D.by_limit result.2
+        (posts_view D.hall O.outbox M.shelf C.dial result.1).workers }
 {
     run_jobs(
         rt,
@@ -81,17 +85,17 @@ pub fn run_services<
         space,
         &|seat: &mut Seat<X, WorkerKit<D, O, P>, Room>|
             requires { IsSync R.row × NeverWants X.may_want }
-            ensures { SeatDid X.same X.known (worker_deed D.Conn.tells O.tells D.hall O.outbox)
-                seat.old seat.new }
+            ensures { SeatDid X.same X.known (worker_view D.hall O.outbox)
+                (WorkerDid D.Conn.tells O.tells D.by_limit) seat.old seat.new }
         { work_seat(rt, seat) },
         &|seat: &mut Seat<X, PumpKit<M, O, P>, PumpRoom>|
             requires { IsSync R.row × NeverWants X.may_want }
-            ensures { SeatDid X.same X.known (pump_deed O.tells M.shelf O.outbox)
+            ensures { SeatDid X.same X.known (pump_view M.shelf O.outbox) (PumpDid O.tells)
                 seat.old seat.new }
         { pump_seat(rt, seat) },
         &|seat: &mut Seat<X, TickKit<C, O, P>, Out>|
             requires { IsSync R.row × NeverWants X.may_want }
-            ensures { SeatDid X.same X.known (ticker_deed O.tells C.dial O.outbox)
+            ensures { SeatDid X.same X.known (tick_view C.dial O.outbox) (λ _. TickerDid O.tells)
                 seat.old seat.new }
         { tick_seat(rt, seat) },
     )

@@ -2,7 +2,7 @@
 
 ghost use Rattle.std.specs.Prelude.{◌≡◌, false};
 ghost use Rattle.satip_desk.specs.Views.{worker_view, pump_view, tick_view};
-ghost use Rattle.satip_serve.specs.Deeds.{WorkerDid, PumpDid, TickerDid};
+ghost use Rattle.satip_serve.specs.Deeds.{job_state, WorkerDid, PumpDid, TickerDid};
 
 use crate::work::{pump, tick, work};
 use satip_base::Out;
@@ -29,9 +29,10 @@ pub fn work_seat<R: Wait + Sync, X: Service, D: Doors, O: Outlet, P: Pacer>(
     ensures same { X.same seat.old.caller seat.new.caller }
     ensures number { seat.new.number ≡ seat.old.number }
     ensures did { X.may_want seat.old.caller ≡ false
-        → WorkerDid D.Conn.tells O.tells seat.old.number
-        (worker_view D.hall O.outbox seat.old.kit) (X.known seat.old.caller)
-        (worker_view D.hall O.outbox seat.new.kit) (X.known seat.new.caller) seat.new.end }
+        → WorkerDid D.Conn.tells O.tells D.by_limit seat.old.number
+        (job_state (worker_view D.hall O.outbox seat.old.kit) (X.known seat.old.caller))
+        (job_state (worker_view D.hall O.outbox seat.new.kit) (X.known seat.new.caller))
+        seat.new.end }
 {
     // The job begins with the outlet's lock free.
     seat.kit.outlet.unlock();
@@ -54,8 +55,9 @@ pub fn pump_seat<R: Wait + Sync, X: Service, M: MuxStore, O: Outlet, P: Pacer>(
     ensures number { seat.new.number ≡ seat.old.number }
     ensures did { X.may_want seat.old.caller ≡ false
         → PumpDid O.tells seat.old.number
-        (pump_view M.shelf O.outbox seat.old.kit) (X.known seat.old.caller)
-        (pump_view M.shelf O.outbox seat.new.kit) (X.known seat.new.caller) seat.new.end }
+        (job_state (pump_view M.shelf O.outbox seat.old.kit) (X.known seat.old.caller))
+        (job_state (pump_view M.shelf O.outbox seat.new.kit) (X.known seat.new.caller))
+        seat.new.end }
 {
     // The job begins with the outlet's lock free.
     seat.kit.outlet.unlock();
@@ -79,8 +81,9 @@ pub fn tick_seat<R: Wait + Sync, X: Service, C: Clock, O: Outlet, P: Pacer>(
     ensures number { seat.new.number ≡ seat.old.number }
     ensures did { X.may_want seat.old.caller ≡ false
         → TickerDid O.tells
-        (tick_view C.dial O.outbox seat.old.kit) (X.known seat.old.caller)
-        (tick_view C.dial O.outbox seat.new.kit) (X.known seat.new.caller) seat.new.end }
+        (job_state (tick_view C.dial O.outbox seat.old.kit) (X.known seat.old.caller))
+        (job_state (tick_view C.dial O.outbox seat.new.kit) (X.known seat.new.caller))
+        seat.new.end }
 {
     // The job begins with the outlet's lock free.
     seat.kit.outlet.unlock();

@@ -2,7 +2,7 @@
 
 ghost use Rattle.std.specs.Prelude.{◌≡◌, false};
 ghost use Rattle.satip_desk.specs.Views.{worker_view, pump_view, tick_view};
-ghost use Rattle.satip_serve.specs.Deeds.{WorkerDid, PumpDid, TickerDid};
+ghost use Rattle.satip_serve.specs.Deeds.{job_state, WorkerDid, PumpDid, TickerDid};
 
 use crate::end::{tell_job, tell_worker};
 use satip_base::Out;
@@ -25,9 +25,9 @@ pub(crate) fn work<R: Wait + Sync, S: Service, D: Doors, O: Outlet, P: Pacer>(
     requires free { (O.outbox kit.old.outlet).held ≡ false }
     ensures same { S.same service.old service.new }
     ensures did { S.may_want service.old ≡ false
-        → WorkerDid D.Conn.tells O.tells number (worker_view D.hall O.outbox kit.old)
-        (S.known service.old)
-        (worker_view D.hall O.outbox kit.new) (S.known service.new) result }
+        → WorkerDid D.Conn.tells O.tells D.by_limit number
+        (job_state (worker_view D.hall O.outbox kit.old) (S.known service.old))
+        (job_state (worker_view D.hall O.outbox kit.new) (S.known service.new)) result }
 {
     let end = run_worker(rt, service, kit, number as u64, room);
     tell_worker(end)
@@ -45,8 +45,9 @@ pub(crate) fn pump<R: Wait + Sync, S: Service, M: MuxStore, O: Outlet, P: Pacer>
     requires free { (O.outbox kit.old.outlet).held ≡ false }
     ensures same { S.same service.old service.new }
     ensures did { S.may_want service.old ≡ false
-        → PumpDid O.tells number (pump_view M.shelf O.outbox kit.old) (S.known service.old)
-        (pump_view M.shelf O.outbox kit.new) (S.known service.new) result }
+        → PumpDid O.tells number
+        (job_state (pump_view M.shelf O.outbox kit.old) (S.known service.old))
+        (job_state (pump_view M.shelf O.outbox kit.new) (S.known service.new)) result }
 {
     let end = run_pump(rt, service, number, kit, out, batch);
     tell_job(end)
@@ -62,8 +63,8 @@ pub(crate) fn tick<R: Wait + Sync, S: Service, C: Clock, O: Outlet, P: Pacer>(
     requires free { (O.outbox kit.old.outlet).held ≡ false }
     ensures same { S.same service.old service.new }
     ensures did { S.may_want service.old ≡ false
-        → TickerDid O.tells (tick_view C.dial O.outbox kit.old) (S.known service.old)
-        (tick_view C.dial O.outbox kit.new) (S.known service.new) result }
+        → TickerDid O.tells (job_state (tick_view C.dial O.outbox kit.old) (S.known service.old))
+        (job_state (tick_view C.dial O.outbox kit.new) (S.known service.new)) result }
 {
     let end = run_ticker(rt, service, kit, out);
     tell_job(end)

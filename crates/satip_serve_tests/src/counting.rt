@@ -1,10 +1,11 @@
-//! An outlet, a clock and a pacer that note what they do, and take no memory.
+//! An outlet, a clock and a pacer that count their calls. They take no memory once a run begins.
 
-ghost use Rattle.std.specs.Prelude.{◌≡◌};
+ghost use Rattle.std.specs.Prelude.{◌≡◌, IfOk, true};
 
 use crate::deeds::{Deeds, Gate, TRIES};
-use satip_base::{Address, Put};
+use satip_base::{Address, Put, Want};
 use satip_world::{Clock, Outlet, Pacer};
+use std::alloc::Global;
 use std::marker::Model;
 use std::thread;
 
@@ -66,38 +67,75 @@ impl<'a> Outlet for CountingOutlet<'a> {
     }
 }
 
-/// A clock that stays 0, and doesn't tell its readings.
+// The moments of a clock, more than any run of these tests reads.
+const MOMENTS: u64 = 1000;
+
+/// A clock that shows moments from 0 on, each `step` after the one before. Once they are used up it
+/// shows 0, and no longer exposes its readings.
 #[derive(Drop)]
-pub struct StillClock<'a> {
+pub struct SteppedClock<'a> {
     deeds: &'a Deeds,
+    moments: Vec<u64>,
+    next: usize,
+    told: bool,
 }
 
-impl<'a> Model for StillClock<'a> {
-    ghost use Rattle.std.specs.Prelude.{[], false};
+impl<'a> Model for SteppedClock<'a> {
+    ghost use Rattle.std.specs.Prelude.{◌≤◌, take, length};
     ghost use Rattle.satip_world.specs.Dials.{Dial};
 
     ghost Value = { Dial };
 
-    ghost view = { λ _. record { readings = []; told = false } };
+    ghost view = { λ c. record { readings = take c.next c.moments.items; told = c.told } };
+
+    ghost invariant = { λ c. c.next ≤ length c.moments.items };
 }
 
-impl<'a> StillClock<'a> {
-    ghost use Rattle.std.specs.Prelude.{false};
+impl<'a> SteppedClock<'a> {
     ghost use Rattle.satip_world.specs.Dials.{fresh_dial};
 
-    pub fn new(deeds: &'a Deeds) -> StillClock<'a>
-        ensures fresh { result ≡ fresh_dial false }
+    pub fn make(alloc: Global, deeds: &'a Deeds, step: u64) -> Result<SteppedClock<'a>, Want>
+        ensures fresh { IfOk result (λ clock. clock ≡ fresh_dial true) }
     {
-        StillClock { deeds }
+        let mut moments = Vec::new(alloc);
+        let mut moment: u64 = 0;
+        for _ in 0..MOMENTS {
+            if moments.push(moment).is_err() {
+                return Err(Want);
+            }
+            moment = moment.saturating_add(step);
+        }
+        Ok(SteppedClock {
+            deeds,
+            moments,
+            next: 0,
+            told: true,
+        })
+    }
+
+    /// Tells whether all its readings are exposed.
+    pub fn is_told(&self) -> bool
+        ensures told { result ≡ self.now.told }
+    {
+        self.told
     }
 }
 
-impl<'a> Clock for StillClock<'a> {
+impl<'a> Clock for SteppedClock<'a> {
     ghost dial = { λ c. c };
 
     fn now(&mut self) -> u64 {
         self.deeds.read();
-        0
+        match self.moments.get(self.next).copied() {
+            Some(moment) => {
+                self.next += 1;
+                moment
+            }
+            None => {
+                self.told = false;
+                0
+            }
+        }
     }
 }
 

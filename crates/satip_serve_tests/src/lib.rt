@@ -6,17 +6,13 @@ mod counting;
 #[cfg(test)]
 mod deeds;
 #[cfg(test)]
-mod faults;
+mod journals;
 #[cfg(test)]
 mod outcomes;
 #[cfg(test)]
 mod reel;
 #[cfg(test)]
-mod refused;
-#[cfg(test)]
-mod serve_and_journal;
-#[cfg(test)]
-mod shared;
+mod runs;
 #[cfg(test)]
 mod together;
 #[cfg(test)]

@@ -2,12 +2,11 @@
 
 use crate::deeds::{Deeds, Gate, OPEN};
 use crate::outcomes::Outcome;
-use crate::shared::{Ran, TUNNEL, desk_for_one, have_served, run};
-use crate::together::{PLAY, SECOND, TEARDOWN};
+use crate::runs::{Ran, TUNNEL, TUNNEL_ALL};
+use crate::together::{OTHERS, PLAY, TEARDOWN};
 use crate::waiting::{Piece, Served};
 use crate::waiting_desk::{Plan, WaitingDesk, WaitingWorker, run_plan};
-use satip_fixtures::texts::{OPTIONS, OPTIONS_REPLY, SETUP_INTERLEAVED};
-use satip_memory_desk::MemoryDesk;
+use satip_fixtures::texts::{OPTIONS_REPLY, SETUP_INTERLEAVED};
 use satip_world::ConnEnd;
 use std::test::Fail;
 
@@ -24,9 +23,6 @@ const BEGUN: &[u8] = b"RTSP/1.0 200 OK\r\n\
 
 // The reply to TEARDOWN.
 const OVER: &[u8] = b"RTSP/1.0 200 OK\r\nCSeq: 1\r\n\r\n";
-
-// A report of a client to channel 1, which is passed over.
-const REPORT: &[u8] = &[0x24, 0x01, 0x00, 0x04, 0x00, 0x00, 0x00, 0x00];
 
 // The first client plays once the second was answered, and tears down once it was idle behind the
 // PLAY, and frames were sent to it behind that.
@@ -51,14 +47,16 @@ const FIRST: &[Piece] = &[
 
 // The pumps wait until the first client was idle behind the PLAY.
 const PLAN: Plan = Plan {
+    workers: 2,
     first: FIRST,
-    second: SECOND,
+    others: OTHERS,
     port: 1,
     pumps: Gate { idles: 1, ..OPEN },
+    step: 0,
 };
 
-// What stands behind the frame of channel 0 or 1 that these bytes begin with; None where they begin
-// with no such frame.
+// The bytes after the frame of channel 0 or 1 that these bytes begin with; None if they begin with
+// no such frame.
 fn after_frame(bytes: &[u8]) -> Option<&[u8]> {
     if bytes.len() < 4 || bytes[0] != 0x24 || bytes[1] > 1 {
         return None;
@@ -102,8 +100,8 @@ fn has_played(served: Option<&Served>) -> bool {
     }
 }
 
-// What is told of the kits of workers, the first of which played.
-fn told_of(workers: &[WaitingWorker]) -> Outcome {
+// The outcome for the kits of workers, the first of which played.
+fn outcome_of(workers: &[WaitingWorker]) -> Outcome {
     match workers {
         [first, second] => {
             if has_played(first.doors.served()) && second.doors.have_sent(OPTIONS_REPLY) {
@@ -116,42 +114,26 @@ fn told_of(workers: &[WaitingWorker]) -> Outcome {
     }
 }
 
-// What is told of a run.
-fn told(ran: &Ran<WaitingDesk>) -> Outcome {
-    ran.told(match &ran.ended.tunnel {
-        Some(left) => Some(told_of(&left.jobs.workers)),
-        None => None,
-    })
+// The outcome of a run.
+fn outcome(ran: &Ran<WaitingDesk>) -> Outcome {
+    ran.outcome(
+        2,
+        match &ran.ended.tunnel {
+            Some(left) => Some(outcome_of(&left.jobs.workers)),
+            None => None,
+        },
+    )
 }
 
-// A connection that doesn't send frames while nothing comes in would never be torn down.
+// A connection that doesn't send frames while nothing comes in would never be torn down. Without a
+// limit the doors of each worker end by themselves, after their connection.
 #[test]
 fn frames_are_sent_while_a_connection_is_idle(rt: HostRuntime) -> Result<(), Fail> {
-    let deeds = Deeds::new();
-    let ran = run_plan(&rt, rt.alloc(), TUNNEL, PLAN, &deeds)?;
-    let told = told(&ran);
-    println!(rt; "{told}")?;
-    assert!(rt; !deeds.gave_up());
-    assert!(rt; ran.ended.last.is_none());
-    assert_eq!(rt; told, Outcome::Served);
-    Ok(())
-}
-
-// Whether jobs ran, and the one connection of the one worker was served to its end.
-fn has_served(ran: &Ran<MemoryDesk>) -> bool {
-    match &ran.ended.tunnel {
-        Some(left) => have_served(&left.jobs.workers),
-        None => false,
+    for words in [TUNNEL, TUNNEL_ALL] {
+        let deeds = Deeds::new();
+        let ran = run_plan(&rt, rt.alloc(), words, PLAN, &deeds)?;
+        assert!(rt; ran.ended.last.is_none());
+        assert_eq!(rt; (deeds.gave_up(), outcome(&ran)), (false, Outcome::Served));
     }
-}
-
-// A report comes, and one message behind it.
-#[test]
-fn a_clients_report_is_passed_over(rt: HostRuntime) -> Result<(), Fail> {
-    let mut desk = desk_for_one(rt.alloc(), &[REPORT, OPTIONS])?;
-    let ran = run(&rt, rt.alloc(), TUNNEL, b"", &mut desk)?;
-    ran.ends(&rt, 0, b"");
-    assert!(rt; ran.ended.last.is_none() && ran.ended.unused.is_none());
-    assert!(rt; has_served(&ran));
     Ok(())
 }

@@ -1,20 +1,23 @@
-//! A desk over devices that wait for each other: two workers with one connection each, a pump for
-//! each of two front ends, and the ticker.
+//! A desk over devices that wait for each other: workers with one connection each, a pump for each
+//! of two front ends, and the ticker.
 
-ghost use Rattle.std.specs.Prelude.{◌≡◌, length, false, IfOk};
+ghost use Rattle.std.specs.Prelude.{◌≡◌, length, false, map, IfOk};
+ghost use Rattle.satip_base.specs.Lists.{Each};
+ghost use Rattle.satip_desk.specs.Fresh.{FreshWorker};
+ghost use Rattle.satip_desk.specs.Views.{worker_view};
 ghost use Rattle.satip_memory_desk.specs.Drawers.{AreNewKits};
-ghost use Rattle.satip_world.specs.Halls.{fresh_hall};
-ghost use Rattle.satip_world.specs.Outboxes.{fresh_outbox};
+ghost use Rattle.satip_world.specs.Halls.{Hall, fresh_hall};
+ghost use Rattle.satip_world.specs.Outboxes.{Outbox, fresh_outbox};
 ghost use Rattle.satip_memory.specs.Shelves.{empty_shelf};
 
-use crate::counting::{CountingOutlet, LookingPacer, StillClock};
+use crate::counting::{CountingOutlet, LookingPacer, SteppedClock};
 use crate::deeds::{Deeds, Gate, OPEN, Place};
 use crate::reel::ReelStore;
-use crate::shared::{Ran, run};
+use crate::runs::{Ran, run};
 use crate::waiting::{Piece, WaitingDoors};
 use satip_base::{Address, Failed, Text, Want};
 use satip_config::Config;
-use satip_desk::{Desk, Jobs, JobsFault, PumpKit, TickKit, WorkerKit};
+use satip_desk::{Desk, JobJournal, Jobs, JobsFault, PumpKit, TickKit, WorkerKit};
 use satip_fixtures::texts::CONFIGURATION;
 use satip_memory::{MemoryConn, MemoryInlet, MemorySink, MemorySource};
 use satip_memory_desk::MemoryMoment;
@@ -30,13 +33,17 @@ const LOOKS: u64 = 100_000;
 /// The packets of the first multiplex's recording.
 const PACKETS: u64 = 200;
 
-/// What two clients do, the port to which datagrams of RTP go, and what the pumps wait for.
+/// A plan of a run: the number of workers, the pieces of the first worker's client and those of each
+/// other one's, the port to which datagrams of RTP go, the gate that the pumps wait for, and the step
+/// of the ticker's clock.
 #[derive(Clone, Copy)]
 pub struct Plan {
+    pub workers: u16,
     pub first: &'static [Piece],
-    pub second: &'static [Piece],
+    pub others: &'static [Piece],
     pub port: u16,
     pub pumps: Gate,
+    pub step: u64,
 }
 
 type WaitingJobs<'a> = Jobs<
@@ -44,7 +51,7 @@ type WaitingJobs<'a> = Jobs<
     CountingOutlet<'a>,
     LookingPacer<'a>,
     ReelStore,
-    StillClock<'a>,
+    SteppedClock<'a>,
 >;
 
 /// The kit of a worker of such a desk.
@@ -62,7 +69,7 @@ fn worker<'a>(
 {
     let pieces = match place {
         Place::First => plan.first,
-        Place::Second => plan.second,
+        Place::Second => plan.others,
     };
     Ok(WorkerKit {
         doors: WaitingDoors::make(alloc, deeds, place, pieces, accepts)?,
@@ -86,28 +93,52 @@ fn pump<'a>(
     }
 }
 
+// The kits of all workers. The first one serves the first client.
+fn worker_kits<'a>(
+    alloc: Global,
+    deeds: &'a Deeds,
+    plan: Plan,
+    accepts: u32,
+) -> Result<Vec<WaitingWorker<'a>>, Want>
+    ensures count { IfOk result (λ kits. length kits.items ≡ plan.workers) }
+    ensures fresh { IfOk result (λ kits. Each (FreshWorker accepts)
+        (map (worker_view (λ (h : Hall). h) (λ (o : Outbox). o)) kits.items)) }
+{
+    let mut kits = Vec::new(alloc);
+    for count in 0..plan.workers {
+        let kit = worker(alloc, deeds, plan, place_of(count), accepts)?;
+        match kits.push(kit) {
+            Ok(()) => {}
+            Err(_) => return Err(Want),
+        }
+    }
+    Ok(kits)
+}
+
+fn place_of(count: u16) -> Place {
+    if count == 0 {
+        Place::First
+    } else {
+        Place::Second
+    }
+}
+
 fn kits<'a>(
     alloc: Global,
     deeds: &'a Deeds,
     plan: Plan,
     accepts: u32,
 ) -> Result<WaitingJobs<'a>, Want>
-    ensures workers { IfOk result (λ jobs. length jobs.workers.items ≡ 2) }
+    ensures workers { IfOk result (λ jobs. length jobs.workers.items ≡ plan.workers) }
     ensures pumps { IfOk result (λ jobs. length jobs.pumps.items ≡ 2) }
     ensures new { IfOk result (AreNewKits accepts) }
 {
-    let workers = [
-        worker(alloc, deeds, plan, Place::First, accepts)?,
-        worker(alloc, deeds, plan, Place::Second, accepts)?,
-    ];
-    let Ok(workers) = Vec::from_array(alloc, workers) else {
-        return Err(Want);
-    };
+    let workers = worker_kits(alloc, deeds, plan, accepts)?;
     let Ok(pumps) = Vec::from_array(alloc, [pump(deeds, plan), pump(deeds, plan)]) else {
         return Err(Want);
     };
     let tick = TickKit {
-        clock: StillClock::new(deeds),
+        clock: SteppedClock::make(alloc, deeds, plan.step)?,
         outlet: CountingOutlet::new(deeds, plan.port),
         pacer: LookingPacer::new(deeds, LOOKS, OPEN),
     };
@@ -163,7 +194,7 @@ impl<'a> Desk for WaitingDesk<'a> {
 
     type Store = ReelStore;
 
-    type Clock = StillClock<'a>;
+    type Clock = SteppedClock<'a>;
 
     type Wire = MemoryConn;
 
@@ -171,17 +202,15 @@ impl<'a> Desk for WaitingDesk<'a> {
 
     type Moment = MemoryMoment;
 
-    type Journal = MemorySink;
+    type Journal = JobJournal<MemorySink>;
 
-    ghost text = { λ _ _. None };
-
-    ghost faults = { λ d. d.faults };
-
-    ghost given = { λ d. option_map (λ kits. memory_view kits.value) d.given };
-
-    ghost handed = { λ d. record { wire = None; inlet = false; moment = d.timed } };
-
-    ghost journaled = { λ d. d.journaled.items };
+    ghost desk = { λ d. record {
+      text = λ _. None;
+      faults = d.faults;
+      given = option_map (λ kits. memory_view kits.value) d.given;
+      handed = record { wire = None; inlet = false; moment = d.timed };
+      journaled = d.journaled.items;
+    } };
 
     fn jobs(
         &mut self,
@@ -189,7 +218,7 @@ impl<'a> Desk for WaitingDesk<'a> {
         config: &Config,
         accepts: u32,
     ) -> Result<WaitingJobs<'a>, JobsFault> {
-        if config.workers != 2 || config.fronts.len() != 2 {
+        if config.workers != self.plan.workers || config.fronts.len() != 2 {
             self.faults = self.faults.saturating_add(1);
             return Err(JobsFault::Failed);
         }
@@ -203,7 +232,8 @@ impl<'a> Desk for WaitingDesk<'a> {
     }
 
     fn config(&mut self, _name: &Text) -> Result<MemorySource, Failed> {
-        let Ok(text) = format!(in self.alloc; "workers = 2\n{CONFIGURATION}") else {
+        let workers = self.plan.workers;
+        let Ok(text) = format!(in self.alloc; "workers = {workers}\n{CONFIGURATION}") else {
             self.faults = self.faults.saturating_add(1);
             return Err(Failed);
         };
@@ -231,10 +261,10 @@ impl<'a> Desk for WaitingDesk<'a> {
         MemoryMoment::new(None)
     }
 
-    fn journal(&mut self, job: u64) -> Result<MemorySink, Failed> {
+    fn journal(&mut self, job: u64) -> Result<JobJournal<MemorySink>, Failed> {
         if let Ok(sink) = MemorySink::make(self.alloc, &[], 0) {
             if self.journaled.push(job).is_ok() {
-                return Ok(sink);
+                return Ok(JobJournal::new(job, sink));
             }
         }
         self.faults = self.faults.saturating_add(1);

@@ -1,5 +1,5 @@
 -- Worked runs of one worker and the ticker, without front ends or with one.
-use Rattle.std.specs.Prelude.{◌≡◌, ℕ, ◌+◌, Bool, true, List, [], ◌∷◌, None}
+use Rattle.std.specs.Prelude.{◌≡◌, ℕ, ◌+◌, Bool, true, false, List, [], ◌∷◌, None}
 use Rattle.satip_base.specs.Output.{empty}
 use Rattle.satip_base.specs.History.{entry}
 use Rattle.satip_plain.specs.declared.answers.Answer.TheVariants.{Beat as BeatIs, Closed, Work as WorkIs}
@@ -13,8 +13,9 @@ use Rattle.satip_plain.specs.Examples.{front_end}
 use Rattle.satip_plain.specs.Histories.{Item}
 use Rattle.satip_plain.specs.Types.{Config}
 use Rattle.satip_turn.specs.Views.{row}
+use Rattle.satip_shared.specs.Calling.{ServerPass}
 use Rattle.satip_world.specs.Outboxes.{fresh_outbox}
-use Rattle.satip_serve.specs.Done.{Caller}
+use Rattle.satip_serve.specs.Done.{Caller, IsFull}
 use Rattle.satip_serve.specs.ServeRuns.{ServeRun}
 use Rattle.satip_desk.specs.Views.{WorkerView, PumpView, TickView}
 
@@ -81,10 +82,27 @@ small_ticker = caller_of 2 (tick_by 2 1020 Going ∷ tick_by 2 1040 Stopping ∷
 abbrev pub ticker_at : List ℕ → TickView
 ticker_at moments = record { dial = record { readings = moments; told = true }; outbox = fresh_outbox }
 
+-- a pass of caller 0 that has seen this history, and into which these callers were joined
+abbrev pub pass_of : List Item → List Caller → ServerPass
+pass_of seen kept = record {
+  cell = record { words = 2; slots = 1; views_name = 0; atom = 0; block = 0; offset = 0; slot_names = [] };
+  setting = None;
+  turn = false;
+  number = 0;
+  seen = seen;
+  own = [];
+  kept = kept;
+  made = [];
+  met = 0;
+  looks = 0;
+  looked = [];
+}
+
 -- the small run, with this limit of connections, this history, these callers, workers and readings of the clock
 abbrev pub SmallRun : ℕ → List Item → List Caller → List WorkerView → List ℕ → Type 0
 SmallRun accepts seen kept workers moments =
-    ServeRun (Unit {0}) (Unit {0}) small_setting accepts seen kept workers [] (ticker_at moments)
+    ServeRun (Unit {0}) (Unit {0}) (IsFull seen) small_setting accepts (pass_of seen kept)
+    (record { workers = workers; pumps = []; ticker = ticker_at moments })
 
 -- one worker and one front end
 abbrev pub front_setting : Setting
@@ -110,5 +128,6 @@ told_ticker = caller_of 3 (tick_by 3 1020 Stopping ∷ [])
 
 -- the run with the front end, whose pump shows this when it has ended
 abbrev pub AskedRun : PumpView → Type 0
-AskedRun pump = ServeRun (Unit {0}) (Unit {0}) front_setting 1 asked_history (caller_of 1 [] ∷ asking_pump ∷ told_ticker ∷ [])
-    (worker_with true 1 0 ∷ []) (pump ∷ []) (ticker_at (1000 ∷ 1020 ∷ []))
+AskedRun pump = ServeRun (Unit {0}) (Unit {0}) (IsFull asked_history) front_setting 1
+    (pass_of asked_history (caller_of 1 [] ∷ asking_pump ∷ told_ticker ∷ []))
+    (record { workers = worker_with true 1 0 ∷ []; pumps = pump ∷ []; ticker = ticker_at (1000 ∷ 1020 ∷ []) })

@@ -18,10 +18,11 @@ use Rattle.satip_world.specs.Counts.{Rises}
 use Rattle.satip_world.specs.Lines.{Line}
 use Rattle.satip_worker.specs.Answers.{ends_with_last}
 use Rattle.satip_worker.specs.Ends.{IsOver, ReadFailed}
+use Rattle.satip_worker.specs.Progress.{SameFaults}
 use Rattle.satip_tunnel.specs.declared.ends.TunnelEnd.{TunnelEnd}
 use Rattle.satip_tunnel.specs.declared.ends.TunnelEnd.TheVariants.{Full, Broken, Done, ReadFault, WriteFault, Spent}
 use Rattle.satip_tunnel.specs.Walk.{Stance, Free, Draining, Over, Walk, Follows, FollowsAsked, DrainsTo, IsReplied}
-use Rattle.satip_tunnel.specs.Seats.{Seat, made_since, IsAnsweredBy}
+use Rattle.satip_tunnel.specs.Seats.{Seat, SeesFull, made_since, IsAnsweredBy}
 use Rattle.satip_tunnel.specs.Ends.{StopsAt, IsLeave, IsGivenUp, IsUnleft, Leaves, LineEnds}
 use Rattle.satip_tunnel.specs.TunnelRun.{LaneRun, TunnelRun, EnteredRun}
 use Rattle.satip_tunnel.specs.Served.{ServesTunnel}
@@ -199,21 +200,21 @@ leave_plain lane (t ∷ []) leave = (
 )
 leave_plain lane (t ∷ u ∷ ts) leave = absurd leave
 
-unleft_plain : (seen : ℕ) (last : List TunnelItem) → IsUnleft seen last → IsPlain last
+unleft_plain : (full : Type 0) (last : List TunnelItem) → IsUnleft full last → IsPlain last
 unfolding IsPlain
-unleft_plain seen last unleft =
+unleft_plain full last unleft =
     let P : List TunnelItem → Type 0 = λ es. (Has no_lane (answers es) → ⊥) × (Has lane_broken (answers es) → ⊥) in
     subst P (sym unleft.0) (λ none. none, λ none. none)
 
-last_plain : (lane seen : ℕ) (end : TunnelEnd) (last : List TunnelItem) → Leaves lane seen end last → IsPlain last
-last_plain lane seen Full last leaves = absurd leaves
-last_plain lane seen Broken last (inl leave) = leave_plain lane last leave
-last_plain lane seen Broken last (inr unleft) = unleft_plain seen last unleft
-last_plain lane seen Done last leaves = leave_plain lane last leaves
-last_plain lane seen ReadFault last leaves = leave_plain lane last leaves
-last_plain lane seen WriteFault last (inl leave) = leave_plain lane last leave
-last_plain lane seen WriteFault last (inr unleft) = unleft_plain seen last unleft
-last_plain lane seen Spent last leaves = unleft_plain seen last leaves
+last_plain : (lane : ℕ) (full : Type 0) (end : TunnelEnd) (last : List TunnelItem) → Leaves lane full end last → IsPlain last
+last_plain lane full Full last leaves = absurd leaves
+last_plain lane full Broken last (inl leave) = leave_plain lane last leave
+last_plain lane full Broken last (inr unleft) = unleft_plain full last unleft
+last_plain lane full Done last leaves = leave_plain lane last leaves
+last_plain lane full ReadFault last leaves = leave_plain lane last leaves
+last_plain lane full WriteFault last (inl leave) = leave_plain lane last leave
+last_plain lane full WriteFault last (inr unleft) = unleft_plain full last unleft
+last_plain lane full Spent last leaves = unleft_plain full last leaves
 
 -- ---- the run
 
@@ -241,11 +242,11 @@ broken_stops ReadFault stance e stops = cc e
 broken_stops WriteFault stance e stops = cc e
 broken_stops Spent stance e stops = cc e
 
-spent_leaves : (lane seen : ℕ) (end : TunnelEnd) (last : List TunnelItem) → end ≡ Spent → Leaves lane seen end last → IsUnleft seen last
-spent_leaves lane seen end last e leaves = subst (λ (x : TunnelEnd). Leaves lane seen x last) e leaves
+spent_leaves : (lane : ℕ) (full : Type 0) (end : TunnelEnd) (last : List TunnelItem) → end ≡ Spent → Leaves lane full end last → IsUnleft full last
+spent_leaves lane full end last e leaves = subst (λ (x : TunnelEnd). Leaves lane full x last) e leaves
 
-module _ (lane : ℕ) (draws : List Draw) (received sent : List ℕ) (seen : ℕ) (end : TunnelEnd) (entries : List TunnelItem)
-    (run : LaneRun lane draws received sent seen end entries) where
+module _ (lane : ℕ) (draws : List Draw) (received sent : List ℕ) (full : Type 0) (end : TunnelEnd) (entries : List TunnelItem)
+    (run : LaneRun lane draws received sent full end entries) where
   -- the answers of a lane's connection
   told : answers entries ≡ answers run.body ++ answers run.last
   told =
@@ -254,7 +255,7 @@ module _ (lane : ℕ) (draws : List Draw) (received sent : List ℕ) (seen : ℕ
   lane_not_full : Has no_lane (answers entries) → ⊥
   unfolding IsPlain
   lane_not_full has =
-      let plain = last_plain lane seen end run.last run.leaves in
+      let plain = last_plain lane full end run.last run.leaves in
       let split = has_split no_lane (answers run.body) (answers run.last) (subst (λ (xs : List TunnelAnswer). Has no_lane xs) told has) in
       ⊎_elim (λ (h : Has no_lane (answers run.body)). walk_not_full lane Free run.stance run.body run.walk h)
       (λ (h : Has no_lane (answers run.last)). plain.0 h) split
@@ -262,7 +263,7 @@ module _ (lane : ℕ) (draws : List Draw) (received sent : List ℕ) (seen : ℕ
   lane_broke : Has lane_broken (answers entries) → end ≡ Broken
   unfolding IsPlain
   lane_broke has =
-      let plain = last_plain lane seen end run.last run.leaves in
+      let plain = last_plain lane full end run.last run.leaves in
       let split = has_split lane_broken (answers run.body) (answers run.last) (subst (λ (xs : List TunnelAnswer). Has lane_broken xs) told has) in
       let P : Stance → Type 0 = λ s. StopsAt end s in
       ⊎_elim (λ (h : Has lane_broken (answers run.body)).
@@ -276,14 +277,14 @@ module _ (lane : ℕ) (draws : List Draw) (received sent : List ℕ) (seen : ℕ
       let has = over_was_broken lane Free run.body (λ e. cc e) (subst P over run.walk) in
       subst (λ (xs : List TunnelAnswer). Has lane_broken xs) (sym told) (Has-append_left lane_broken (answers run.body) (answers run.last) has)
 
-module _ (draws : List Draw) (received sent : List ℕ) (seen : ℕ) (end : TunnelEnd) where
+module _ (draws : List Draw) (received sent : List ℕ) (full : Type 0) (end : TunnelEnd) where
   -- a connection is turned away exactly where an event was answered so
-  entered_full : (answer : TunnelAnswer) (entries : List TunnelItem) → EnteredRun answer draws received sent seen end entries
+  entered_full : (answer : TunnelAnswer) (entries : List TunnelItem) → EnteredRun answer draws received sent full end entries
       → (end ≡ Full) ↔ Has no_lane (answer ∷ answers entries)
   entered_full (Lane lane) entries run = (
     λ e. absurd (lane_end end run.stance run.stops e),
     λ has. ⊎_elim (λ (e : no_lane ≡ Lane lane). absurd (cc e)) (λ (h : Has no_lane (answers entries)).
-        absurd (lane_not_full lane draws received sent seen end entries run h)) has,
+        absurd (lane_not_full lane draws received sent full end entries run h)) has,
   )
   entered_full no_lane entries run = (λ e. inl refl, λ has. run.1.end_is)
   entered_full (InnerAnswer answer) entries run = absurd run
@@ -293,17 +294,17 @@ module _ (draws : List Draw) (received sent : List ℕ) (seen : ℕ) (end : Tunn
   entered_full Gone entries run = absurd run
   entered_full Left entries run = absurd run
 
-  run_full : (entries : List TunnelItem) → TunnelRun draws received sent seen end entries → (end ≡ Full) ↔ IsAnsweredBy no_lane entries
+  run_full : (entries : List TunnelItem) → TunnelRun draws received sent full end entries → (end ≡ Full) ↔ IsAnsweredBy no_lane entries
   run_full [] run = (λ e. absurd (let is = run.1.end_is in cc (e, is)), λ has. absurd has)
   run_full (t ∷ ts) run = entered_full t.answer ts run.1
 
   -- its lane broke exactly where an event was answered so
-  entered_broken : (answer : TunnelAnswer) (entries : List TunnelItem) → EnteredRun answer draws received sent seen end entries
+  entered_broken : (answer : TunnelAnswer) (entries : List TunnelItem) → EnteredRun answer draws received sent full end entries
       → (end ≡ Broken) ↔ Has lane_broken (answer ∷ answers entries)
   entered_broken (Lane lane) entries run = (
-    λ e. inr (lane_has_broken lane draws received sent seen end entries run e),
+    λ e. inr (lane_has_broken lane draws received sent full end entries run e),
     λ has. ⊎_elim (λ (e : lane_broken ≡ Lane lane). absurd (cc e)) (λ (h : Has lane_broken (answers entries)).
-        lane_broke lane draws received sent seen end entries run h) has,
+        lane_broke lane draws received sent full end entries run h) has,
   )
   entered_broken no_lane entries run = (
     λ e. absurd (let is = run.1.end_is in cc (e, is)),
@@ -318,14 +319,14 @@ module _ (draws : List Draw) (received sent : List ℕ) (seen : ℕ) (end : Tunn
   entered_broken Gone entries run = absurd run
   entered_broken Left entries run = absurd run
 
-  pub run_broken : (entries : List TunnelItem) → TunnelRun draws received sent seen end entries → (end ≡ Broken) ↔ IsAnsweredBy lane_broken entries
+  pub run_broken : (entries : List TunnelItem) → TunnelRun draws received sent full end entries → (end ≡ Broken) ↔ IsAnsweredBy lane_broken entries
   run_broken [] run = (λ e. absurd (let is = run.1.end_is in cc (e, is)), λ has. absurd has)
   run_broken (t ∷ ts) run = entered_broken t.answer ts run.1
 
   -- the history is full at a stop
-  entered_spent : (answer : TunnelAnswer) (entries : List TunnelItem) → EnteredRun answer draws received sent seen end entries → end ≡ Spent
-      → seen ≡ 18446744073709551615
-  entered_spent (Lane lane) entries run e = (spent_leaves lane seen end run.last e run.leaves).1
+  entered_spent : (answer : TunnelAnswer) (entries : List TunnelItem) → EnteredRun answer draws received sent full end entries → end ≡ Spent
+      → full
+  entered_spent (Lane lane) entries run e = (spent_leaves lane full end run.last e run.leaves).1
   entered_spent no_lane entries run e = absurd (let is = run.1.end_is in cc (e, is))
   entered_spent (InnerAnswer answer) entries run e = absurd run
   entered_spent (Frames count) entries run e = absurd run
@@ -334,8 +335,8 @@ module _ (draws : List Draw) (received sent : List ℕ) (seen : ℕ) (end : Tunn
   entered_spent Gone entries run e = absurd run
   entered_spent Left entries run e = absurd run
 
-  run_spent : (entries : List TunnelItem) → TunnelRun draws received sent seen end entries → end ≡ Spent → seen ≡ 18446744073709551615
-  run_spent [] run e = run.1.full
+  run_spent : (entries : List TunnelItem) → TunnelRun draws received sent full end entries → end ≡ Spent → full
+  run_spent [] run e = run.1.filled
   run_spent (t ∷ ts) run e = entered_spent t.answer ts run.1 e
 
 -- ---- what is shown
@@ -351,18 +352,23 @@ module _ (tells : Type 0) (before after : ChaCha) (o n : Seat) (l m : Line) (end
   pub full_cause : (end ≡ Full) ↔ IsAnsweredBy no_lane (made_since o.pass n.pass)
   full_cause =
       let P : List TunnelItem → Type 0 = λ es. (end ≡ Full) ↔ IsAnsweredBy no_lane es in
-      subst P (sym since) (run_full s.draws s.received s.sent (length n.pass.seen) end s.entries s.run)
+      subst P (sym since) (run_full s.draws s.received s.sent (SeesFull n) end s.entries s.run)
 
   pub broken_cause : (end ≡ Broken) ↔ IsAnsweredBy lane_broken (made_since o.pass n.pass)
   broken_cause =
       let P : List TunnelItem → Type 0 = λ es. (end ≡ Broken) ↔ IsAnsweredBy lane_broken es in
-      subst P (sym since) (run_broken s.draws s.received s.sent (length n.pass.seen) end s.entries s.run)
+      subst P (sym since) (run_broken s.draws s.received s.sent (SeesFull n) end s.entries s.run)
 
   pub done_cause : end ≡ Done → IsOver m.ended (ends_with_last (inners (made_since o.pass n.pass)))
   done_cause is =
       let E : TunnelEnd → Type 0 = λ e. LineEnds e l m (ends_with_last (inners s.entries)) in
       let P : List TunnelItem → Type 0 = λ es. IsOver m.ended (ends_with_last (inners es)) in
-      subst P (sym since) (subst E is s.line_ends)
+      subst P (sym since) (subst E is s.line_ends).is_over
+
+  pub calm_cause : end ≡ Done → SameFaults l m
+  calm_cause is =
+      let E : TunnelEnd → Type 0 = λ e. LineEnds e l m (ends_with_last (inners s.entries)) in
+      (subst E is s.line_ends).calm
 
   read_failed : end ≡ ReadFault → ReadFailed l m (ends_with_last (inners s.entries))
   read_failed is =
@@ -383,4 +389,4 @@ module _ (tells : Type 0) (before after : ChaCha) (o n : Seat) (l m : Line) (end
       (subst E is s.line_ends).faults
 
   pub spent_cause : end ≡ Spent → length n.pass.seen ≡ 18446744073709551615
-  spent_cause is = run_spent s.draws s.received s.sent (length n.pass.seen) end s.entries s.run is
+  spent_cause is = run_spent s.draws s.received s.sent (SeesFull n) end s.entries s.run is

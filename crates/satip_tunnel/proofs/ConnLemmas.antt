@@ -29,7 +29,8 @@ use Rattle.satip_tunnel.proofs.ListLemmas.{same_behind, none_behind}
 -- an RTSP connection
 pub rtsp_served : (tells : Type 0) (before after : ChaCha) (o n : Seat) (l m : Line) (end : TunnelEnd) (back : ConnEnd) (peer : Peer)
     (key : List ℕ) (stream from : ℕ) → back ≡ conn_end end → before ≡ before_draw key stream from → ServesTunnel tells before after o n l m end
-    → (to : ℕ) × (after ≡ before_draw key stream to) × ServesConn tells Rtsp peer (draw_at key stream) from to o n l m back
+    → (to : ℕ) × (after ≡ before_draw key stream to)
+    × ServesConn tells (draw_at key stream) from to o n l (record { kind = Rtsp; peer = peer; line = m; end = back })
 rtsp_served tells before after o n l m end back peer key stream from is are s =
     let taken = s.takes key stream from are in (
       from + length s.draws,
@@ -73,9 +74,10 @@ never_wants tunnel_spent e = cc e
 -- an HTTP connection, all of whose entries are the server's
 pub http_served : (tells : Type 0) (outlet_tells : Type 0) (k k' : Cell Setting) (p q : ShownPass) (a b : Outbox) (l m : Line) (end : ConnEnd) (peer : Peer)
     (drawn : ℕ → Draw) (from to : ℕ) → SameCaller k p k' q
-    → ServesAny tells outlet_tells Http peer drawn from to (record { may_want = false; known = known_by p; outbox = a })
-    (record { may_want = false; known = known_by q; outbox = b }) l m end
-    → ServesConn tells Http peer drawn from to (seated k p) (seated k' q) l m end
+    → ServesAny tells outlet_tells Http peer (record { drawn = drawn; from = from; to = to })
+    (record { stage = record { may_want = false; known = known_by p; outbox = a }; line = l })
+    (record { stage = record { may_want = false; known = known_by q; outbox = b }; line = m }) end
+    → ServesConn tells drawn from to (seated k p) (seated k' q) l (record { kind = Http; peer = peer; line = m; end = end })
 http_served tells outlet_tells k k' p q a b l m end peer drawn from to same s =
     let more : List TunnelItem = same.own.rest in
     let new : inners more ≡ s.entries =

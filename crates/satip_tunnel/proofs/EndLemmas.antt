@@ -17,10 +17,10 @@ use Rattle.satip_tunnel.specs.declared.ends.TunnelEnd.{TunnelEnd}
 use Rattle.satip_tunnel.specs.declared.ends.TunnelEnd.TheVariants.{Full, Broken, Done, ReadFault, WriteFault, Spent}
 use Rattle.satip_tunnel.specs.Walk.{Stance, Free, MayDrain}
 use Rattle.satip_tunnel.specs.Requests.{TakesDraws}
-use Rattle.satip_tunnel.specs.Seats.{Seat, Grows}
+use Rattle.satip_tunnel.specs.Seats.{Seat, Grows, SeesFull}
 use Rattle.satip_tunnel.specs.Ends.{StopsAt, IsLeave, Leaves, LeftOver, DrawsTaken, WireSent, LineEnds}
 use Rattle.satip_tunnel.specs.Events.{MadeOne, UnmadeEvent}
-use Rattle.satip_tunnel.specs.Hearing.{Course, Talked, Left, Unleft, Finishes}
+use Rattle.satip_tunnel.specs.Hearing.{Course, Talked, Left, Unleft, Finishes, talk_at}
 use Rattle.satip_tunnel.specs.TunnelRun.{LaneRun, EnteredRun}
 use Rattle.satip_tunnel.specs.Served.{ServesTunnel}
 use Rattle.satip_tunnel.proofs.SeatLemmas.{grows_none, grows_then}
@@ -43,15 +43,15 @@ pub record ServesLane (tells : Type 0) (lane : ℕ) (before after : ChaCha) (o n
   pub draws : List Draw
   pub received : List ℕ
   pub sent : List ℕ
-  pub run : LaneRun lane draws received sent (length n.pass.seen) end entries
+  pub run : LaneRun lane draws received sent (SeesFull n) end entries
   pub grows : Grows o n entries
   pub takes : TakesDraws before draws after
   pub carries : Carries tells l m received sent
   pub line_ends : LineEnds end l m (ends_with_last (inners entries))
 
 module _ (tells : Type 0) (course : Course) (p n : Seat) (m : Line) (c : ChaCha) (before after : TunnelEnd)
-    (talked : Talked tells course p m c before) (last : List TunnelItem) (grows : Grows p n last) (none_asked : inners last ≡ [])
-    (leaves : Leaves course.lane (length n.pass.seen) after last)
+    (talked : Talked tells course (talk_at p m c) before) (last : List TunnelItem) (grows : Grows p n last) (none_asked : inners last ≡ [])
+    (leaves : Leaves course.lane (SeesFull n) after last)
     (stops : StopsAt before talked.first.stance → StopsAt after talked.first.stance)
     (left_over : LeftOver before talked.first.left → LeftOver after talked.first.left)
     (drawn : DrawsTaken before (length talked.first.draws) (length talked.first.made) talked.first.left
@@ -98,8 +98,8 @@ free_may_drain stance is = subst MayDrain (sym is) tt
 
 module _ (tells : Type 0) (course : Course) (p n : Seat) (m : Line) (c : ChaCha) where
   -- the lane was given up
-  left_as : (before : TunnelEnd) (after : TunnelEnd) (talked : Talked tells course p m c before) (left : Left course.lane p n before after)
-      → (IsLeave course.lane left.last → Leaves course.lane (length n.pass.seen) before left.last)
+  left_as : (before : TunnelEnd) (after : TunnelEnd) (talked : Talked tells course (talk_at p m c) before) (left : Left course.lane p n before after)
+      → (IsLeave course.lane left.last → Leaves course.lane (SeesFull n) before left.last)
       → ServesLane tells course.lane course.draws c course.seat n course.line m after
   left_as before after talked left leaves =
       let P : TunnelEnd → Type 0 = λ e. ServesLane tells course.lane course.draws c course.seat n course.line m e in
@@ -107,28 +107,28 @@ module _ (tells : Type 0) (course : Course) (p n : Seat) (m : Line) (c : ChaCha)
       (leave_not_asked course.lane left.last left.leave) (leaves left.leave) (λ x. x) (λ x. x) (λ x. x) (λ x. x) (λ x. x))
 
   -- a full history met the Leave, and that is how it ended
-  unleft_spent : (after : TunnelEnd) (unleft : Unleft p n Done after) → Talked tells course p m c Done
+  unleft_spent : (after : TunnelEnd) (unleft : Unleft p n Done after) → Talked tells course (talk_at p m c) Done
       → ServesLane tells course.lane course.draws c course.seat n course.line m after
   unleft_spent after unleft talked =
       let P : TunnelEnd → Type 0 = λ e. ServesLane tells course.lane course.draws c course.seat n course.line m e in
       subst P (sym unleft.end) (finished tells course p n m c Done Spent talked [] unleft.grows refl (refl, unleft.full)
       (λ x. free_may_drain talked.first.stance x) (λ x. tt) (λ x. inl x) (λ x. x) (λ x. tt))
 
-  unleft_unread : (after : TunnelEnd) (unleft : Unleft p n ReadFault after) → Talked tells course p m c ReadFault
+  unleft_unread : (after : TunnelEnd) (unleft : Unleft p n ReadFault after) → Talked tells course (talk_at p m c) ReadFault
       → ServesLane tells course.lane course.draws c course.seat n course.line m after
   unleft_unread after unleft talked =
       let P : TunnelEnd → Type 0 = λ e. ServesLane tells course.lane course.draws c course.seat n course.line m e in
       subst P (sym unleft.end) (finished tells course p n m c ReadFault Spent talked [] unleft.grows refl (refl, unleft.full)
       (λ x. free_may_drain talked.first.stance x) (λ x. tt) (λ x. inl x) (λ x. x) (λ x. tt))
 
-  unleft_broken : (after : TunnelEnd) (unleft : Unleft p n Broken after) → Talked tells course p m c Broken
+  unleft_broken : (after : TunnelEnd) (unleft : Unleft p n Broken after) → Talked tells course (talk_at p m c) Broken
       → ServesLane tells course.lane course.draws c course.seat n course.line m after
   unleft_broken after unleft talked =
       let P : TunnelEnd → Type 0 = λ e. ServesLane tells course.lane course.draws c course.seat n course.line m e in
       subst P (sym unleft.end) (finished tells course p n m c Broken Broken talked [] unleft.grows refl (inr (refl, unleft.full))
       (λ x. x) (λ x. x) (λ x. x) (λ x. x) (λ x. x))
 
-  unleft_lost : (after : TunnelEnd) (unleft : Unleft p n WriteFault after) → Talked tells course p m c WriteFault
+  unleft_lost : (after : TunnelEnd) (unleft : Unleft p n WriteFault after) → Talked tells course (talk_at p m c) WriteFault
       → ServesLane tells course.lane course.draws c course.seat n course.line m after
   unleft_lost after unleft talked =
       let P : TunnelEnd → Type 0 = λ e. ServesLane tells course.lane course.draws c course.seat n course.line m e in
@@ -136,7 +136,7 @@ module _ (tells : Type 0) (course : Course) (p n : Seat) (m : Line) (c : ChaCha)
       (λ x. x) (λ x. x) (λ x. x) (λ x. x) (λ x. x))
 
   -- nothing was made where the history was full
-  stopped_as : (after : TunnelEnd) → Talked tells course p m c Spent → after ≡ Spent → n ≡ p
+  stopped_as : (after : TunnelEnd) → Talked tells course (talk_at p m c) Spent → after ≡ Spent → n ≡ p
       → ServesLane tells course.lane course.draws c course.seat n course.line m after
   stopped_as after talked is same =
       let P : TunnelEnd → Type 0 = λ e. ServesLane tells course.lane course.draws c course.seat n course.line m e in
@@ -145,7 +145,7 @@ module _ (tells : Type 0) (course : Course) (p n : Seat) (m : Line) (c : ChaCha)
       (λ x. x) (λ x. x) (λ x. x) (λ x. x) (λ x. x)))
 
   -- how a lane's connection was served
-  pub lane_served : (before after : TunnelEnd) → Talked tells course p m c before → Finishes course.lane p n before after
+  pub lane_served : (before after : TunnelEnd) → Talked tells course (talk_at p m c) before → Finishes course.lane p n before after
       → ServesLane tells course.lane course.draws c course.seat n course.line m after
   lane_served Full after talked finishes = absurd talked.first.stops
   lane_served Broken after talked (inl left) = left_as Broken after talked left (λ x. inl x)
@@ -169,7 +169,7 @@ module _ (tells : Type 0) (o p n : Seat) (l m : Line) (c d : ChaCha) where
   pub entered : (lane : ℕ) (end : TunnelEnd) → MadeOne o p Enter (Lane lane) → ServesLane tells lane c d p n l m end
       → ServesTunnel tells c d o n l m end
   entered lane end one served =
-      let A : TunnelAnswer → Type 0 = λ a. EnteredRun a served.draws served.received served.sent (length n.pass.seen) end served.entries in
+      let A : TunnelAnswer → Type 0 = λ a. EnteredRun a served.draws served.received served.sent (SeesFull n) end served.entries in
       let L : List Item → Type 0 = λ h. LineEnds end l m (ends_with_last (h ++ inners served.entries)) in
       record {
         entries = one.item ∷ served.entries;
@@ -187,7 +187,7 @@ module _ (tells : Type 0) (o n : Seat) (l : Line) (c : ChaCha) where
   -- no lane was given
   pub turned_away : MadeOne o n Enter no_lane → ServesTunnel tells c c o n l l Full
   turned_away one =
-      let A : TunnelAnswer → Type 0 = λ a. EnteredRun a [] [] [] (length n.pass.seen) Full [] in
+      let A : TunnelAnswer → Type 0 = λ a. EnteredRun a [] [] [] (SeesFull n) Full [] in
       record {
         entries = one.item ∷ [];
         draws = [];
@@ -210,7 +210,7 @@ module _ (tells : Type 0) (o n : Seat) (l : Line) (c : ChaCha) where
     draws = [];
     received = [];
     sent = [];
-    run = (record { undrawn = refl; unheard = refl; unsent = refl }, record { end_is = refl; full = unmade.full });
+    run = (record { undrawn = refl; unheard = refl; unsent = refl }, record { end_is = refl; filled = unmade.full });
     grows = unmade.grows;
     takes = takes_none c;
     carries = carries_nothing tells l;

@@ -1,5 +1,5 @@
 -- A connection of a tunnel goes on with one message more.
-use Rattle.std.proofs.Common.{◌≡◌, ◌≢◌, ◌∙◌, ℕ, ◌+◌, Bool, true, false, List, [], ◌∷◌, ◌++◌, append_assoc, append-nil, length, length-append, map, arith, refl, sym, ap, subst, inl, inr, take, drop}
+use Rattle.std.proofs.Common.{◌≡◌, ◌≢◌, ◌∙◌, ℕ, ◌+◌, ◌≤◌, Bool, true, false, List, [], ◌∷◌, ◌++◌, append_assoc, append-nil, length, length-append, map, arith, refl, sym, ap, subst, inl, inr, take, drop}
 use Rattle.std.proofs.lemmas.List.{map-append, map_push, take-append-drop}
 use Rattle.rand_chacha.specs.ChaCha.{ChaCha}
 use Rattle.satip_base.specs.declared.identity.Draw.{Draw}
@@ -22,16 +22,18 @@ use Rattle.satip_world.specs.Lines.{Line}
 use Rattle.satip_worker.specs.Answers.{events_of, ends_with, ends_with_last}
 use Rattle.satip_worker.specs.Requests.{asked_by_tail}
 use Rattle.satip_worker.proofs.EventLemmas.{ends_with_last_push}
-use Rattle.satip_worker.proofs.ProgressLemmas.{carries_sent, rises_from}
+use Rattle.satip_worker.proofs.ProgressLemmas.{calm_then, carries_sent, rises_from}
 use Rattle.satip_tunnel.specs.declared.ends.TunnelEnd.{TunnelEnd}
 use Rattle.satip_tunnel.specs.declared.ends.TunnelEnd.TheVariants.{Full as end_full, Broken as end_broken, Done as end_done, ReadFault as end_unread, WriteFault as end_lost, Spent as end_spent}
 use Rattle.satip_tunnel.specs.Ends.{LeftOver, DrawsTaken}
 use Rattle.satip_tunnel.specs.Walk.{Stance, Free, Draining, Over, lane_peer}
+use Rattle.satip_tunnel.specs.Pauses.{dry_at, dry_in}
 use Rattle.satip_tunnel.specs.Wire.{wire}
 use Rattle.satip_tunnel.specs.Requests.{AsksInParts, TakesDraws, asked_events, drawn_events}
-use Rattle.satip_tunnel.specs.Seats.{Seat}
+use Rattle.satip_tunnel.specs.Seats.{Seat, conn_at}
 use Rattle.satip_tunnel.specs.Exchanges.{Talks, Answers, AnswersInPart, AnswersToStop, StopsUnasked}
-use Rattle.satip_tunnel.specs.Hearing.{Course, SoFar, Stands, Listens, HasClosed, MadeFirst, HasLost, HasStopped}
+use Rattle.satip_tunnel.specs.Hearing.{Course, SoFar, Stands, Listens, HasClosed, MadeFirst, HasLost, HasStopped, talk_at}
+use Rattle.satip_tunnel.proofs.PauseLemmas.{dry_behind}
 use Rattle.satip_tunnel.proofs.SeatLemmas.{grows_then}
 use Rattle.satip_tunnel.proofs.WalkLemmas.{walk_then, wire-append, in_part_behind}
 use Rattle.satip_tunnel.proofs.DrawLemmas.{takes_then, drawn_next, drawn_over, length_push}
@@ -128,12 +130,13 @@ asks_more text more all asks =
 -- ---- entries behind others
 
 module _ (tells : Type 0) (course : Course) (o n : Seat) (l m : Line) (before after : ChaCha) (received sent : List ℕ)
-    (body : List TunnelItem) (draws : List Draw) (so_far : SoFar tells course o l before received sent Free body draws) where
+    (body : List TunnelItem) (draws : List Draw) (so_far : SoFar tells course (talk_at o l before) received sent Free body draws) where
   pub so_far_then : (to : Stance) (entries : List TunnelItem) (more : List ℕ) (taken : List Draw)
-      → Talks tells course.lane o n l m Free to entries more → TakesDraws before taken after
-      → SoFar tells course n m after received (sent ++ more) to (body ++ entries) (draws ++ taken)
-  so_far_then to entries more taken talks takes = record {
+      → Talks tells course.lane (conn_at o l) (conn_at n m) Free to entries more → dry_in entries ≤ length (inners entries) → TakesDraws before taken after
+      → SoFar tells course (talk_at n m after) received (sent ++ more) to (body ++ entries) (draws ++ taken)
+  so_far_then to entries more taken talks dry takes = record {
     walk = walk_then course.lane Free Free to body entries so_far.walk talks.walk;
+    dry = dry_behind body entries course.idles 0 course.idles so_far.dry (omega (arith, dry)) (omega arith);
     grows = grows_then course.seat o n body entries so_far.grows talks.grows;
     takes = takes_then course.draws before after draws taken so_far.takes takes;
     carries = carries_sent tells course.line l m received sent more so_far.carries talks.carries;
@@ -141,11 +144,28 @@ module _ (tells : Type 0) (course : Course) (o n : Seat) (l m : Line) (before af
 
 -- no draw was taken behind these
 pub so_far_drained : (tells : Type 0) (course : Course) (o n : Seat) (l m : Line) (c : ChaCha) (received sent : List ℕ)
-    (body : List TunnelItem) (draws : List Draw) → SoFar tells course o l c received sent Free body draws
-    → (to : Stance) (entries : List TunnelItem) (more : List ℕ) → Talks tells course.lane o n l m Free to entries more
-    → SoFar tells course n m c received (sent ++ more) to (body ++ entries) draws
-so_far_drained tells course o n l m c received sent body draws so_far to entries more talks = record {
+    (body : List TunnelItem) (draws : List Draw) → SoFar tells course (talk_at o l c) received sent Free body draws
+    → (to : Stance) (entries : List TunnelItem) (more : List ℕ) → Talks tells course.lane (conn_at o l) (conn_at n m) Free to entries more
+    → dry_in entries ≤ length (inners entries) → SoFar tells course (talk_at n m c) received (sent ++ more) to (body ++ entries) draws
+so_far_drained tells course o n l m c received sent body draws so_far to entries more talks dry = record {
   walk = walk_then course.lane Free Free to body entries so_far.walk talks.walk;
+  dry = dry_behind body entries course.idles 0 course.idles so_far.dry (omega (arith, dry)) (omega arith);
+  grows = grows_then course.seat o n body entries so_far.grows talks.grows;
+  takes = so_far.takes;
+  carries = carries_sent tells course.line l m received sent more so_far.carries talks.carries;
+}
+
+-- the connection paused once more
+abbrev pub paused : Course → Course
+paused course = record course { idles = course.idles + 1 }
+
+pub so_far_paused : (tells : Type 0) (course : Course) (o n : Seat) (l m : Line) (c : ChaCha) (received sent : List ℕ)
+    (body : List TunnelItem) (draws : List Draw) → SoFar tells course (talk_at o l c) received sent Free body draws
+    → (to : Stance) (entries : List TunnelItem) (more : List ℕ) → Talks tells course.lane (conn_at o l) (conn_at n m) Free to entries more
+    → dry_in entries ≤ 1 → SoFar tells (paused course) (talk_at n m c) received (sent ++ more) to (body ++ entries) draws
+so_far_paused tells course o n l m c received sent body draws so_far to entries more talks dry = record {
+  walk = walk_then course.lane Free Free to body entries so_far.walk talks.walk;
+  dry = dry_behind body entries course.idles 1 (course.idles + 1) so_far.dry (omega (arith, dry)) refl;
   grows = grows_then course.seat o n body entries so_far.grows talks.grows;
   takes = so_far.takes;
   carries = carries_sent tells course.line l m received sent more so_far.carries talks.carries;
@@ -193,7 +213,7 @@ over_drained body entries none =
 -- ---- one request more
 
 module _ (tells : Type 0) (course : Course) (o n : Seat) (l m : Line) (before after : ChaCha) (received text : List ℕ) (messages : List Said)
-    (parter : Held) (stands : Stands tells course o l before received text messages parter)
+    (parter : Held) (stands : Stands tells course (talk_at o l before) received text messages parter)
     (draw : Draw) (takes : TakesDraws before (draw ∷ []) after) (request : Request) where
   abbrev event : Event
   event = Asks (lane_peer course.lane) draw request
@@ -202,21 +222,31 @@ module _ (tells : Type 0) (course : Course) (o n : Seat) (l m : Line) (before af
   made = map asked_by_tunnel messages
 
   -- what was made then
-  so_far_next : (to : Stance) (entries : List TunnelItem) (more : List ℕ) → Talks tells course.lane o n l m Free to entries more
-      → SoFar tells course n m after received (wire stands.body ++ more) to (stands.body ++ entries) (stands.draws ++ draw ∷ [])
-  so_far_next to entries more talks =
-      so_far_then tells course o n l m before after received (wire stands.body) stands.body stands.draws stands.so_far to entries more (draw ∷ []) talks takes
+  so_far_next : (to : Stance) (entries : List TunnelItem) (more : List ℕ) → Talks tells course.lane (conn_at o l) (conn_at n m) Free to entries more
+      → dry_in entries ≤ length (inners entries)
+      → SoFar tells course (talk_at n m after) received (wire stands.body ++ more) to (stands.body ++ entries) (stands.draws ++ draw ∷ [])
+  so_far_next to entries more talks dry =
+      so_far_then tells course o n l m before after received (wire stands.body) stands.body stands.draws stands.so_far to entries more (draw ∷ []) talks dry
+      takes
 
-  so_far_whole : (to : Stance) (entries : List TunnelItem) → Talks tells course.lane o n l m Free to entries (wire entries)
-      → SoFar tells course n m after received (wire (stands.body ++ entries)) to (stands.body ++ entries) (stands.draws ++ draw ∷ [])
-  so_far_whole to entries talks =
-      let P : List ℕ → Type 0 = λ s. SoFar tells course n m after received s to (stands.body ++ entries) (stands.draws ++ draw ∷ []) in
-      subst P (sym (wire-append stands.body entries)) (so_far_next to entries (wire entries) talks)
+  so_far_whole : (to : Stance) (entries : List TunnelItem) → Talks tells course.lane (conn_at o l) (conn_at n m) Free to entries (wire entries)
+      → dry_in entries ≤ length (inners entries)
+      → SoFar tells course (talk_at n m after) received (wire (stands.body ++ entries)) to (stands.body ++ entries) (stands.draws ++ draw ∷ [])
+  so_far_whole to entries talks dry =
+      let P : List ℕ → Type 0 = λ s. SoFar tells course (talk_at n m after) received s to (stands.body ++ entries) (stands.draws ++ draw ∷ []) in
+      subst P (sym (wire-append stands.body entries)) (so_far_next to entries (wire entries) talks dry)
+
+  -- at most one drain behind a request found no frame
+  dry_once : (to : Stance) (entries : List TunnelItem) (item : Item) → inners entries ≡ item ∷ [] → dry_in entries ≤ dry_at to
+      → dry_in entries ≤ length (inners entries)
+  dry_once Free entries item asked dry = let one : length (inners entries) ≡ 1 = ap (λ (h : List Item). length h) asked in omega (arith, one, dry)
+  dry_once Draining entries item asked dry = omega (arith, dry)
+  dry_once Over entries item asked dry = omega (arith, dry)
 
   -- it was answered, and the text goes on
   pub stands_next : (said : Said) (next : Held) → request ≡ asked_by_tunnel said → IsReadUpTo text (messages ++ said ∷ []) next
-      → Answers tells course.lane o n l m event false Free
-      → Stands tells course n m after received text (messages ++ said ∷ []) next
+      → Answers tells course.lane (conn_at o l) (conn_at n m) event false Free
+      → Stands tells course (talk_at n m after) received text (messages ++ said ∷ []) next
   stands_next said next is leads a =
       let whole : made ++ request ∷ [] ≡ map asked_by_tunnel (messages ++ said ∷ []) =
       ap (λ (r : Request). made ++ r ∷ []) is ∙ sym (map_push asked_by_tunnel messages said) in
@@ -228,12 +258,13 @@ module _ (tells : Type 0) (course : Course) (o n : Seat) (l m : Line) (before af
         events = events_next course.lane stands.body a.entries a.item stands.draws draw made request stands.counted stands.events a.asked a.event_is
             ∙ ap (λ (rs : List Request). drawn_events (lane_peer course.lane) (stands.draws ++ draw ∷ []) rs) whole;
         unended = over_next stands.body a.entries a.item a.asked ∙ a.answer_is;
-        so_far = so_far_whole Free a.entries a.talks;
+        so_far = so_far_whole Free a.entries a.talks (dry_once Free a.entries a.item a.asked a.dry);
+        calm = calm_then course.line l m stands.calm a.calm;
       }
 
   -- what is no message was answered
   pub closes_text : (cause : Break) → request ≡ broken_request cause → Parts text messages (broken_tail cause)
-      → Answers tells course.lane o n l m event true Free → HasClosed tells course n m after received text
+      → Answers tells course.lane (conn_at o l) (conn_at n m) event true Free → HasClosed tells course (talk_at n m after) received text
   closes_text cause is read a =
       let whole : made ++ request ∷ [] ≡ made ++ broken_request cause ∷ [] = ap (λ (r : Request). made ++ r ∷ []) is in
       record {
@@ -246,12 +277,13 @@ module _ (tells : Type 0) (course : Course) (o n : Seat) (l m : Line) (before af
         events = events_next course.lane stands.body a.entries a.item stands.draws draw made request stands.counted stands.events a.asked a.event_is
             ∙ ap (λ (rs : List Request). drawn_events (lane_peer course.lane) (stands.draws ++ draw ∷ []) rs) whole;
         ended = over_next stands.body a.entries a.item a.asked ∙ a.answer_is;
-        so_far = so_far_whole Free a.entries a.talks;
+        so_far = so_far_whole Free a.entries a.talks (dry_once Free a.entries a.item a.asked a.dry);
+        calm = calm_then course.line l m stands.calm a.calm;
       }
 
   -- the lane is broken
-  pub breaks : (over : Bool) → AsksBehind text (made ++ request ∷ []) → Answers tells course.lane o n l m event over Over
-      → MadeFirst tells course n m after received text end_broken
+  pub breaks : (over : Bool) → AsksBehind text (made ++ request ∷ []) → Answers tells course.lane (conn_at o l) (conn_at n m) event over Over
+      → MadeFirst tells course (talk_at n m after) received text end_broken
   breaks over behind a = record {
     body = stands.body ++ a.entries;
     draws = stands.draws ++ draw ∷ [];
@@ -265,11 +297,11 @@ module _ (tells : Type 0) (course : Course) (o n : Seat) (l m : Line) (before af
     drawn = counted_next stands.draws draw made request stands.counted;
     stops = refl;
     sent_is = refl;
-    so_far = so_far_whole Over a.entries a.talks;
+    so_far = so_far_whole Over a.entries a.talks (dry_once Over a.entries a.item a.asked a.dry);
   }
 
   -- a send failed
-  pub loses : AsksBehind text (made ++ request ∷ []) → AnswersInPart tells course.lane o n l m event → HasLost tells course n m after received text
+  pub loses : AsksBehind text (made ++ request ∷ []) → AnswersInPart tells course.lane (conn_at o l) (conn_at n m) event → HasLost tells course (talk_at n m after) received text
   loses behind a = record {
     first = record {
       body = stands.body ++ a.entries;
@@ -284,14 +316,15 @@ module _ (tells : Type 0) (course : Course) (o n : Seat) (l m : Line) (before af
       drawn = counted_next stands.draws draw made request stands.counted;
       stops = refl;
       sent_is = in_part_behind stands.body a.entries a.sent a.in_part;
-      so_far = so_far_next Draining a.entries a.sent a.talks;
+      so_far = so_far_next Draining a.entries a.sent a.talks (let none = a.dry in omega (arith, none));
     };
     faults = rises_from course.line.send_faults l.send_faults m.send_faults stands.so_far.carries.send_faults a.faults;
+    receives = a.receives ∙ stands.calm.receive_faults;
   }
 
   -- the history was full behind it
-  pub stops_behind : (over : Bool) → AsksBehind text (made ++ request ∷ []) → AnswersToStop tells course.lane o n l m event over
-      → HasStopped tells course n m after received text
+  pub stops_behind : (over : Bool) → AsksBehind text (made ++ request ∷ []) → AnswersToStop tells course.lane (conn_at o l) (conn_at n m) event over
+      → HasStopped tells course (talk_at n m after) received text
   stops_behind over behind stop =
       let a = stop.answers in
       record {
@@ -308,19 +341,19 @@ module _ (tells : Type 0) (course : Course) (o n : Seat) (l m : Line) (before af
           drawn = inl (counted_next stands.draws draw made request stands.counted);
           stops = stop.going;
           sent_is = refl;
-          so_far = so_far_whole stop.to a.entries a.talks;
+          so_far = so_far_whole stop.to a.entries a.talks (dry_once stop.to a.entries a.item a.asked a.dry);
         };
         full = stop.full;
       }
 
   -- the history was full before it
-  pub stops_before : (behind : AsksBehind text made) → behind.left ≢ [] → StopsUnasked tells course.lane o n l m
-      → HasStopped tells course n m after received text
+  pub stops_before : (behind : AsksBehind text made) → behind.left ≢ [] → StopsUnasked tells course.lane (conn_at o l) (conn_at n m)
+      → HasStopped tells course (talk_at n m after) received text
   stops_before behind more stop =
       let none : stands.body ++ [] ≡ stands.body = append-nil stands.body in
       let quiet : wire stands.body ++ [] ≡ wire stands.body = append-nil (wire stands.body) in
-      let P : List TunnelItem → Type 0 = λ es. SoFar tells course n m after received (wire stands.body ++ []) Free es (stands.draws ++ draw ∷ []) in
-      let Q : List ℕ → Type 0 = λ s. SoFar tells course n m after received s Free stands.body (stands.draws ++ draw ∷ []) in
+      let P : List TunnelItem → Type 0 = λ es. SoFar tells course (talk_at n m after) received (wire stands.body ++ []) Free es (stands.draws ++ draw ∷ []) in
+      let Q : List ℕ → Type 0 = λ s. SoFar tells course (talk_at n m after) received s Free stands.body (stands.draws ++ draw ∷ []) in
       record {
         first = record {
           body = stands.body;
@@ -335,7 +368,7 @@ module _ (tells : Type 0) (course : Course) (o n : Seat) (l m : Line) (before af
           drawn = inr (length_push stands.draws draw ∙ ap (λ (k : ℕ). k + 1) stands.counted, more);
           stops = tt;
           sent_is = refl;
-          so_far = subst Q quiet (subst P none (so_far_next Free [] [] stop.talks));
+          so_far = subst Q quiet (subst P none (so_far_next Free [] [] stop.talks (omega arith)));
         };
         full = stop.full;
       }
@@ -343,8 +376,8 @@ module _ (tells : Type 0) (course : Course) (o n : Seat) (l m : Line) (before af
 -- ---- a longer text
 
 pub stands_at : (tells : Type 0) (course : Course) (n : Seat) (m : Line) (c : ChaCha) (received text : List ℕ) (messages : List Said) (parter next : Held)
-    → Stands tells course n m c received text messages parter → IsReadUpTo text messages next
-    → Stands tells course n m c received text messages next
+    → Stands tells course (talk_at n m c) received text messages parter → IsReadUpTo text messages next
+    → Stands tells course (talk_at n m c) received text messages next
 stands_at tells course n m c received text messages parter next stands leads = record {
   leads = leads;
   body = stands.body;
@@ -353,11 +386,12 @@ stands_at tells course n m c received text messages parter next stands leads = r
   events = stands.events;
   unended = stands.unended;
   so_far = stands.so_far;
+  calm = stands.calm;
 }
 
 pub stands_fed : (tells : Type 0) (course : Course) (n : Seat) (m : Line) (c : ChaCha) (received text piece : List ℕ) (messages : List Said)
-    (parter fed : Held) → Stands tells course n m c received text messages parter → IsReadUpTo (text ++ piece) messages fed
-    → Stands tells course n m c received (text ++ piece) messages fed
+    (parter fed : Held) → Stands tells course (talk_at n m c) received text messages parter → IsReadUpTo (text ++ piece) messages fed
+    → Stands tells course (talk_at n m c) received (text ++ piece) messages fed
 stands_fed tells course n m c received text piece messages parter fed stands leads = record {
   leads = leads;
   body = stands.body;
@@ -366,10 +400,11 @@ stands_fed tells course n m c received text piece messages parter fed stands lea
   events = stands.events;
   unended = stands.unended;
   so_far = stands.so_far;
+  calm = stands.calm;
 }
 
 pub closed_stays : (tells : Type 0) (course : Course) (n : Seat) (m : Line) (c : ChaCha) (received text more : List ℕ)
-    → HasClosed tells course n m c received text → HasClosed tells course n m c received (text ++ more)
+    → HasClosed tells course (talk_at n m c) received text → HasClosed tells course (talk_at n m c) received (text ++ more)
 closed_stays tells course n m c received text more closed = record {
   messages = closed.messages;
   cause = closed.cause;
@@ -380,6 +415,7 @@ closed_stays tells course n m c received text more closed = record {
   events = closed.events;
   ended = closed.ended;
   so_far = closed.so_far;
+  calm = closed.calm;
 }
 
 -- more behind what is there leaves it there
@@ -415,7 +451,7 @@ drawn_longer end_spent taken made left others may (inl same) = inl same
 drawn_longer end_spent taken made left others may (inr one) = inr (one.0, more_behind left others one.1)
 
 pub first_stays : (tells : Type 0) (course : Course) (n : Seat) (m : Line) (c : ChaCha) (received text more : List ℕ) (end : TunnelEnd) → MayLeave end
-    → MadeFirst tells course n m c received text end → MadeFirst tells course n m c received (text ++ more) end
+    → MadeFirst tells course (talk_at n m c) received text end → MadeFirst tells course (talk_at n m c) received (text ++ more) end
 first_stays tells course n m c received text more end may first =
     let longer = asks_more text more (first.made ++ first.left) first.asks in
     let A : List Request → Type 0 = λ rs. AsksInParts (text ++ more) rs in
@@ -436,14 +472,15 @@ first_stays tells course n m c received text more end may first =
     }
 
 pub lost_stays : (tells : Type 0) (course : Course) (n : Seat) (m : Line) (c : ChaCha) (received text more : List ℕ)
-    → HasLost tells course n m c received text → HasLost tells course n m c received (text ++ more)
+    → HasLost tells course (talk_at n m c) received text → HasLost tells course (talk_at n m c) received (text ++ more)
 lost_stays tells course n m c received text more lost = record {
   first = first_stays tells course n m c received text more end_lost tt lost.first;
   faults = lost.faults;
+  receives = lost.receives;
 }
 
 pub stopped_stays : (tells : Type 0) (course : Course) (n : Seat) (m : Line) (c : ChaCha) (received text more : List ℕ)
-    → HasStopped tells course n m c received text → HasStopped tells course n m c received (text ++ more)
+    → HasStopped tells course (talk_at n m c) received text → HasStopped tells course (talk_at n m c) received (text ++ more)
 stopped_stays tells course n m c received text more stopped = record {
   first = first_stays tells course n m c received text more end_spent tt stopped.first;
   full = stopped.full;
@@ -465,8 +502,8 @@ text_parts text heard rest piece count whole =
 
 -- none of a piece was heard
 pub heard_none : (tells : Type 0) (course : Course) (n : Seat) (m : Line) (c : ChaCha) (received text piece : List ℕ) (parter : Held)
-    → Listens tells course n m c received text parter
-    → (heard : List ℕ) × (piece ≡ heard ++ piece) × Listens tells course n m c received (text ++ heard) parter
+    → Listens tells course (talk_at n m c) received text parter
+    → (heard : List ℕ) × (piece ≡ heard ++ piece) × Listens tells course (talk_at n m c) received (text ++ heard) parter
 heard_none tells course n m c received text piece parter listens =
-    let P : List ℕ → Type 0 = λ t. Listens tells course n m c received t parter in
+    let P : List ℕ → Type 0 = λ t. Listens tells course (talk_at n m c) received t parter in
     ([], refl, subst P (sym (append-nil text)) listens)

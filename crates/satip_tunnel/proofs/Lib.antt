@@ -1,6 +1,7 @@
 pub mod SeatLemmas
 pub mod SuitLemmas
 pub mod WalkLemmas
+pub mod PauseLemmas
 pub mod DrawLemmas
 pub mod ExchangeLemmas
 pub mod AskLemmas
@@ -10,5 +11,6 @@ pub mod EndLemmas
 pub mod CauseLemmas
 pub mod TurnLemmas
 pub mod ListLemmas
+pub mod FullLemmas
 pub mod ConnLemmas
 pub mod WorkerLemmas

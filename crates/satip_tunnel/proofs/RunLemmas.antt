@@ -8,23 +8,23 @@ use Rattle.satip_rtsp_interleaved.proofs.PartLemmas.{empty_ends}
 use Rattle.satip_rtsp.specs.declared.requests.Request.{Request}
 use Rattle.satip_rtsp.specs.Asked.{broken_request}
 use Rattle.satip_world.specs.Lines.{Line, GotBytes, WasIdle, InputEnded, ReceiveFailed}
-use Rattle.satip_worker.specs.Progress.{Carries}
-use Rattle.satip_worker.proofs.ProgressLemmas.{carries_nothing, carries_received, carries_on, rises_from}
+use Rattle.satip_worker.specs.Progress.{Carries, SameFaults}
+use Rattle.satip_worker.proofs.ProgressLemmas.{calm_counts, calm_from, calm_idle, calm_then, carries_nothing, carries_received, carries_on, rises_from}
 use Rattle.satip_tunnel.specs.declared.ends.TunnelEnd.TheVariants.{Broken, Done, ReadFault, WriteFault, Spent}
 use Rattle.satip_tunnel.specs.Walk.{Free, Draining, Over}
 use Rattle.satip_tunnel.specs.Wire.{wire}
 use Rattle.satip_tunnel.specs.Requests.{AsksInParts}
-use Rattle.satip_tunnel.specs.Seats.{Seat}
+use Rattle.satip_tunnel.specs.Seats.{Seat, conn_at}
 use Rattle.satip_tunnel.specs.Exchanges.{Drains, DrainsInPart, DrainsToStop}
-use Rattle.satip_tunnel.specs.Hearing.{Course, SoFar, Listens, HasClosed, MadeFirst, HasLost, HasStopped, Talked}
+use Rattle.satip_tunnel.specs.Hearing.{Course, SoFar, Listens, HasClosed, MadeFirst, HasLost, HasStopped, Talked, talk_at}
 use Rattle.satip_tunnel.proofs.SeatLemmas.{grows_none}
 use Rattle.satip_tunnel.proofs.DrawLemmas.{takes_none}
 use Rattle.satip_tunnel.proofs.WalkLemmas.{wire-append, in_part_behind}
-use Rattle.satip_tunnel.proofs.HearingLemmas.{asks_all, so_far_drained, events_drained, over_drained}
+use Rattle.satip_tunnel.proofs.HearingLemmas.{asks_all, so_far_drained, so_far_paused, paused, events_drained, over_drained}
 
 -- nothing came in yet
 pub listens_from : (tells : Type 0) (course : Course) (parter : Held) → parter ≡ new_parter
-    → Listens tells course course.seat course.line course.draws [] [] parter
+    → Listens tells course (talk_at course.seat course.line course.draws) [] [] parter
 listens_from tells course parter new = record {
   messages = [];
   read = empty_ends;
@@ -37,18 +37,20 @@ listens_from tells course parter new = record {
     unended = refl;
     so_far = record {
       walk = refl;
+      dry = omega arith;
       grows = grows_none course.seat;
       takes = takes_none course.draws;
       carries = carries_nothing tells course.line;
     };
+    calm = calm_from course.line;
   };
 }
 
 module _ (tells : Type 0) (course : Course) (n : Seat) (m m' : Line) (c : ChaCha) (text : List ℕ) (parter : Held)
-    (listens : Listens tells course n m c text text parter) where
+    (listens : Listens tells course (talk_at n m c) text text parter) where
   -- the line went on
-  listens_line : (received : List ℕ) → Carries tells m m' received [] → Listens tells course n m' c (text ++ received) text parter
-  listens_line received carries =
+  listens_line : (received : List ℕ) → Carries tells m m' received [] → SameFaults m m' → Listens tells course (talk_at n m' c) (text ++ received) text parter
+  listens_line received carries calm =
       let s = listens.stands in
       record {
         messages = listens.messages;
@@ -62,50 +64,53 @@ module _ (tells : Type 0) (course : Course) (n : Seat) (m m' : Line) (c : ChaCha
           unended = s.unended;
           so_far = record {
             walk = s.so_far.walk;
+            dry = s.so_far.dry;
             grows = s.so_far.grows;
             takes = s.so_far.takes;
             carries = carries_received tells course.line m m' text _ received s.so_far.carries carries;
           };
+          calm = calm_then course.line m m' s.calm calm;
         };
       }
 
   -- some bytes came in
-  pub listens_got : (buf : List ℕ) (count : ℕ) → GotBytes tells m m' buf count → Listens tells course n m' c (text ++ take count buf) text parter
+  pub listens_got : (buf : List ℕ) (count : ℕ) → GotBytes tells m m' buf count → Listens tells course (talk_at n m' c) (text ++ take count buf) text parter
   listens_got buf count got = listens_line (take count buf) (record {
     content = got.content;
     idles = omega (arith, got.counts.idles);
     receive_faults = omega (arith, got.counts.receive_faults);
     send_faults = omega (arith, got.counts.send_faults);
-  })
+  }) (calm_counts m m' got.counts)
 
   -- nothing came in
-  pub listens_idle : WasIdle tells m m' → Listens tells course n m' c text text parter
+  pub listens_idle : WasIdle tells m m' → Listens tells course (talk_at n m' c) text text parter
   listens_idle idle =
-      let P : List ℕ → Type 0 = λ t. Listens tells course n m' c t text parter in
+      let P : List ℕ → Type 0 = λ t. Listens tells course (talk_at n m' c) t text parter in
       subst P (append-nil text) (listens_line [] (record {
         content = idle.content;
         idles = idle.idles.kept;
         receive_faults = omega (arith, idle.receive_faults);
         send_faults = omega (arith, idle.send_faults);
-      }))
+      }) (calm_idle tells m m' idle))
 
   -- the requests of what was received
   all_asked : AsksInParts text (map asked_by_tunnel listens.messages ++ [])
   all_asked = asks_all text listens.messages Unfinished listens.read
 
   -- what was made, where the line went on
-  so_far_on : Carries tells m m' [] [] → SoFar tells course n m' c text (wire listens.stands.body) Free listens.stands.body listens.stands.draws
+  so_far_on : Carries tells m m' [] [] → SoFar tells course (talk_at n m' c) text (wire listens.stands.body) Free listens.stands.body listens.stands.draws
   so_far_on carries =
       let s = listens.stands in
       record {
         walk = s.so_far.walk;
+        dry = s.so_far.dry;
         grows = s.so_far.grows;
         takes = s.so_far.takes;
         carries = carries_on tells course.line m m' text (wire s.body) s.so_far.carries carries;
       }
 
   -- the input ended
-  pub talked_to_end : InputEnded tells m m' → Talked tells course n m' c Done
+  pub talked_to_end : InputEnded tells m m' → Talked tells course (talk_at n m' c) Done
   talked_to_end ended =
       let s = listens.stands in
       record {
@@ -130,12 +135,15 @@ module _ (tells : Type 0) (course : Course) (n : Seat) (m m' : Line) (c : ChaCha
             send_faults = omega (arith, ended.counts.send_faults);
           });
         };
-        line_ends = inl (ended.after, s.unended);
+        line_ends = record {
+          is_over = inl (ended.after, s.unended);
+          calm = calm_then course.line m m' s.calm (calm_counts m m' ended.counts);
+        };
         full = tt;
       }
 
   -- a receive failed
-  pub talked_to_read_fault : ReceiveFailed tells m m' → Talked tells course n m' c ReadFault
+  pub talked_to_read_fault : ReceiveFailed tells m m' → Talked tells course (talk_at n m' c) ReadFault
   talked_to_read_fault failed =
       let s = listens.stands in
       record {
@@ -164,6 +172,7 @@ module _ (tells : Type 0) (course : Course) (n : Seat) (m m' : Line) (c : ChaCha
           goes_on = failed.after;
           unanswered = s.unended;
           faults = rises_from course.line.receive_faults m.receive_faults m'.receive_faults s.so_far.carries.receive_faults failed.receive_faults;
+          sends = failed.send_faults ∙ s.calm.send_faults;
         };
         full = tt;
       }
@@ -171,12 +180,12 @@ module _ (tells : Type 0) (course : Course) (n : Seat) (m m' : Line) (c : ChaCha
 -- ---- drains where nothing came in
 
 module _ (tells : Type 0) (course : Course) (o n : Seat) (l m : Line) (c : ChaCha) (text : List ℕ) (parter : Held)
-    (listens : Listens tells course o l c text text parter) where
-  -- all frames were sent
-  pub listens_drained : Drains tells course.lane o n l m Free Free → Listens tells course n m c text text parter
+    (listens : Listens tells course (talk_at o l c) text text parter) where
+  -- all frames were sent, and the connection paused
+  pub listens_drained : Drains tells course.lane (conn_at o l) (conn_at n m) Free Free → Listens tells (paused course) (talk_at n m c) text text parter
   listens_drained d =
       let s = listens.stands in
-      let P : List ℕ → Type 0 = λ w. SoFar tells course n m c text w Free (s.body ++ d.entries) s.draws in
+      let P : List ℕ → Type 0 = λ w. SoFar tells (paused course) (talk_at n m c) text w Free (s.body ++ d.entries) s.draws in
       record {
         messages = listens.messages;
         read = listens.read;
@@ -188,15 +197,16 @@ module _ (tells : Type 0) (course : Course) (o n : Seat) (l m : Line) (c : ChaCh
           events = events_drained s.body d.entries _ s.events d.none_asked;
           unended = over_drained s.body d.entries d.none_asked ∙ s.unended;
           so_far = subst P (sym (wire-append s.body d.entries))
-              (so_far_drained tells course o n l m c text (wire s.body) s.body s.draws s.so_far Free d.entries (wire d.entries) d.talks);
+              (so_far_paused tells course o n l m c text (wire s.body) s.body s.draws s.so_far Free d.entries (wire d.entries) d.talks d.dry);
+          calm = calm_then course.line l m s.calm d.calm;
         };
       }
 
   -- the lane is broken
-  pub drains_to_break : Drains tells course.lane o n l m Free Over → MadeFirst tells course n m c text text Broken
+  pub drains_to_break : Drains tells course.lane (conn_at o l) (conn_at n m) Free Over → MadeFirst tells course (talk_at n m c) text text Broken
   drains_to_break d =
       let s = listens.stands in
-      let P : List ℕ → Type 0 = λ w. SoFar tells course n m c text w Over (s.body ++ d.entries) s.draws in
+      let P : List ℕ → Type 0 = λ w. SoFar tells course (talk_at n m c) text w Over (s.body ++ d.entries) s.draws in
       record {
         body = s.body ++ d.entries;
         draws = s.draws;
@@ -211,11 +221,12 @@ module _ (tells : Type 0) (course : Course) (o n : Seat) (l m : Line) (c : ChaCh
         stops = refl;
         sent_is = refl;
         so_far = subst P (sym (wire-append s.body d.entries))
-            (so_far_drained tells course o n l m c text (wire s.body) s.body s.draws s.so_far Over d.entries (wire d.entries) d.talks);
+            (so_far_drained tells course o n l m c text (wire s.body) s.body s.draws s.so_far Over d.entries (wire d.entries) d.talks
+            (let none = d.dry in omega (arith, none)));
       }
 
   -- a send failed
-  pub drains_to_lose : DrainsInPart tells course.lane o n l m Free → HasLost tells course n m c text text
+  pub drains_to_lose : DrainsInPart tells course.lane (conn_at o l) (conn_at n m) Free → HasLost tells course (talk_at n m c) text text
   drains_to_lose d =
       let s = listens.stands in
       record {
@@ -232,17 +243,19 @@ module _ (tells : Type 0) (course : Course) (o n : Seat) (l m : Line) (c : ChaCh
           drawn = s.counted;
           stops = refl;
           sent_is = in_part_behind s.body d.entries d.sent d.in_part;
-          so_far = so_far_drained tells course o n l m c text (wire s.body) s.body s.draws s.so_far Draining d.entries d.sent d.talks;
+          so_far = so_far_drained tells course o n l m c text (wire s.body) s.body s.draws s.so_far Draining d.entries d.sent d.talks
+              (let none = d.dry in omega (arith, none));
         };
         faults = rises_from course.line.send_faults l.send_faults m.send_faults s.so_far.carries.send_faults d.faults;
+        receives = d.receives ∙ s.calm.receive_faults;
       }
 
   -- the history was full
-  pub drains_to_stop : DrainsToStop tells course.lane o n l m Free → HasStopped tells course n m c text text
+  pub drains_to_stop : DrainsToStop tells course.lane (conn_at o l) (conn_at n m) Free → HasStopped tells course (talk_at n m c) text text
   drains_to_stop stop =
       let s = listens.stands in
       let d = stop.drains in
-      let P : List ℕ → Type 0 = λ w. SoFar tells course n m c text w stop.to (s.body ++ d.entries) s.draws in
+      let P : List ℕ → Type 0 = λ w. SoFar tells course (talk_at n m c) text w stop.to (s.body ++ d.entries) s.draws in
       record {
         first = record {
           body = s.body ++ d.entries;
@@ -258,7 +271,8 @@ module _ (tells : Type 0) (course : Course) (o n : Seat) (l m : Line) (c : ChaCh
           stops = stop.going;
           sent_is = refl;
           so_far = subst P (sym (wire-append s.body d.entries))
-              (so_far_drained tells course o n l m c text (wire s.body) s.body s.draws s.so_far stop.to d.entries (wire d.entries) d.talks);
+              (so_far_drained tells course o n l m c text (wire s.body) s.body s.draws s.so_far stop.to d.entries (wire d.entries) d.talks
+              (let none = stop.dry in omega (arith, none)));
         };
         full = stop.full;
       }
@@ -267,7 +281,7 @@ module _ (tells : Type 0) (course : Course) (o n : Seat) (l m : Line) (c : ChaCh
 
 module _ (tells : Type 0) (course : Course) (n : Seat) (m : Line) (c : ChaCha) (text : List ℕ) where
   -- a closing reply was sent
-  pub talked_to_closing : m.ended ≡ false → HasClosed tells course n m c text text → Talked tells course n m c Done
+  pub talked_to_closing : m.ended ≡ false → HasClosed tells course (talk_at n m c) text text → Talked tells course (talk_at n m c) Done
   talked_to_closing goes_on closed =
       let all : List Request = map asked_by_tunnel closed.messages ++ broken_request closed.cause ∷ [] in
       let A : List Request → Type 0 = λ rs. AsksInParts text rs in
@@ -288,23 +302,23 @@ module _ (tells : Type 0) (course : Course) (n : Seat) (m : Line) (c : ChaCha) (
           sent_is = refl;
           so_far = closed.so_far;
         };
-        line_ends = inr (goes_on, closed.ended);
+        line_ends = record { is_over = inr (goes_on, closed.ended); calm = closed.calm };
         full = tt;
       }
 
   -- the lane is broken
-  pub talked_to_break : MadeFirst tells course n m c text text Broken → Talked tells course n m c Broken
+  pub talked_to_break : MadeFirst tells course (talk_at n m c) text text Broken → Talked tells course (talk_at n m c) Broken
   talked_to_break first = record { received = text; first = first; line_ends = tt; full = tt }
 
   -- a send failed
-  pub talked_to_write_fault : m.ended ≡ false → HasLost tells course n m c text text → Talked tells course n m c WriteFault
+  pub talked_to_write_fault : m.ended ≡ false → HasLost tells course (talk_at n m c) text text → Talked tells course (talk_at n m c) WriteFault
   talked_to_write_fault goes_on lost = record {
     received = text;
     first = lost.first;
-    line_ends = record { goes_on = goes_on; faults = lost.faults };
+    line_ends = record { goes_on = goes_on; faults = lost.faults; receives = lost.receives };
     full = tt;
   }
 
   -- the history was full
-  pub talked_to_stop : HasStopped tells course n m c text text → Talked tells course n m c Spent
+  pub talked_to_stop : HasStopped tells course (talk_at n m c) text text → Talked tells course (talk_at n m c) Spent
   talked_to_stop stopped = record { received = text; first = stopped.first; line_ends = tt; full = stopped.full }

@@ -22,9 +22,9 @@ use Rattle.satip_tunnel.specs.declared.ends.Way.{Way}
 use Rattle.satip_tunnel.specs.declared.ends.Way.TheVariants.{On, Broken, Lost, Spent}
 use Rattle.satip_tunnel.specs.Walk.{Free, lane_peer}
 use Rattle.satip_tunnel.specs.Requests.{AsksInParts}
-use Rattle.satip_tunnel.specs.Seats.{Seat}
+use Rattle.satip_tunnel.specs.Seats.{Seat, conn_at}
 use Rattle.satip_tunnel.specs.Exchanges.{Answers, Exchanges}
-use Rattle.satip_tunnel.specs.Hearing.{Course, Stands, HasClosed, MadeFirst, HasLost, HasStopped}
+use Rattle.satip_tunnel.specs.Hearing.{Course, Stands, HasClosed, MadeFirst, HasLost, HasStopped, talk_at}
 use Rattle.satip_tunnel.proofs.SuitLemmas.{broken_closes}
 use Rattle.satip_tunnel.proofs.HearingLemmas.{AsksBehind, asks_first, asks_next, asks_all, stands_next, closes_text, breaks, loses, stops_behind, stops_before}
 
@@ -69,27 +69,27 @@ asks_closing text messages cause request is read =
 
 module _ (tells : Type 0) (course : Course) (o n : Seat) (l m : Line) (before after : ChaCha) (received text : List ℕ) (messages : List Said)
     (parter : Held) (lane : ℕ) (request : Request) (same : course.lane ≡ lane)
-    (stands : Stands tells course o l before received text messages parter) where
+    (stands : Stands tells course (talk_at o l before) received text messages parter) where
   -- on this course
-  exchange_here : (way : Way) → Exchanges tells lane before after o n l m request way → Exchanges tells course.lane before after o n l m request way
+  exchange_here : (way : Way) → Exchanges tells lane before after (conn_at o l) (conn_at n m) request way → Exchanges tells course.lane before after (conn_at o l) (conn_at n m) request way
   exchange_here way e =
-      let P : ℕ → Type 0 = λ x. Exchanges tells x before after o n l m request way in
+      let P : ℕ → Type 0 = λ x. Exchanges tells x before after (conn_at o l) (conn_at n m) request way in
       subst P (sym same) e
 
-  next_broken : AsksNext text (map asked_by_tunnel messages) request → Exchanges tells lane before after o n l m request Broken
-      → MadeFirst tells course n m after received text end_broken
+  next_broken : AsksNext text (map asked_by_tunnel messages) request → Exchanges tells lane before after (conn_at o l) (conn_at n m) request Broken
+      → MadeFirst tells course (talk_at n m after) received text end_broken
   next_broken asks x =
       let e = exchange_here Broken x in
       breaks tells course o n l m before after received text messages parter stands e.draw e.takes request (closes request.refusal) asks.behind e.comes
 
-  next_lost : AsksNext text (map asked_by_tunnel messages) request → Exchanges tells lane before after o n l m request Lost
-      → HasLost tells course n m after received text
+  next_lost : AsksNext text (map asked_by_tunnel messages) request → Exchanges tells lane before after (conn_at o l) (conn_at n m) request Lost
+      → HasLost tells course (talk_at n m after) received text
   next_lost asks x =
       let e = exchange_here Lost x in
       loses tells course o n l m before after received text messages parter stands e.draw e.takes request asks.behind e.comes
 
-  next_stopped : AsksNext text (map asked_by_tunnel messages) request → Exchanges tells lane before after o n l m request Spent
-      → HasStopped tells course n m after received text
+  next_stopped : AsksNext text (map asked_by_tunnel messages) request → Exchanges tells lane before after (conn_at o l) (conn_at n m) request Spent
+      → HasStopped tells course (talk_at n m after) received text
   next_stopped asks x =
       let e = exchange_here Spent x in
       elim e.comes [
@@ -101,32 +101,32 @@ module _ (tells : Type 0) (course : Course) (o n : Seat) (l m : Line) (before af
   -- ---- what is no message
 
   module _ (cause : Break) (is : request ≡ broken_request cause) (read : Parts text messages (broken_tail cause)) where
-    pub closing_on : Exchanges tells lane before after o n l m request On → HasClosed tells course n m after received text
+    pub closing_on : Exchanges tells lane before after (conn_at o l) (conn_at n m) request On → HasClosed tells course (talk_at n m after) received text
     closing_on x =
         let e = exchange_here On x in
-        let B : Bool → Type 0 = λ b. Answers tells course.lane o n l m (Asks (lane_peer course.lane) e.draw request) b Free in
+        let B : Bool → Type 0 = λ b. Answers tells course.lane (conn_at o l) (conn_at n m) (Asks (lane_peer course.lane) e.draw request) b Free in
         let over : closes request.refusal ≡ true = ap (λ (r : Request). closes r.refusal) is ∙ broken_closes cause in
         closes_text tells course o n l m before after received text messages parter stands e.draw e.takes request cause is read (subst B over e.comes)
 
-    pub closing_broken : Exchanges tells lane before after o n l m request Broken → MadeFirst tells course n m after received text end_broken
+    pub closing_broken : Exchanges tells lane before after (conn_at o l) (conn_at n m) request Broken → MadeFirst tells course (talk_at n m after) received text end_broken
     closing_broken x = next_broken (asks_closing text messages cause request is read) x
 
-    pub closing_lost : Exchanges tells lane before after o n l m request Lost → HasLost tells course n m after received text
+    pub closing_lost : Exchanges tells lane before after (conn_at o l) (conn_at n m) request Lost → HasLost tells course (talk_at n m after) received text
     closing_lost x = next_lost (asks_closing text messages cause request is read) x
 
-    pub closing_stopped : Exchanges tells lane before after o n l m request Spent → HasStopped tells course n m after received text
+    pub closing_stopped : Exchanges tells lane before after (conn_at o l) (conn_at n m) request Spent → HasStopped tells course (talk_at n m after) received text
     closing_stopped x = next_stopped (asks_closing text messages cause request is read) x
 
   -- ---- a message that was found
 
   module _ (next : Held) (leads : IsSomeAnd next.found (λ said. IsReadUpTo text (messages ++ said ∷ []) next))
       (is : IsSomeAnd next.found (λ said. request ≡ asked_by_tunnel said)) where
-    pub message_on : closes request.refusal ≡ false → Exchanges tells lane before after o n l m request On
-        → (answered : List Said) × Stands tells course n m after received text answered next
+    pub message_on : closes request.refusal ≡ false → Exchanges tells lane before after (conn_at o l) (conn_at n m) request On
+        → (answered : List Said) × Stands tells course (talk_at n m after) received text answered next
     message_on whole x =
         let e = exchange_here On x in
         let found = some_both next.found _ _ leads is in
-        let B : Bool → Type 0 = λ b. Answers tells course.lane o n l m (Asks (lane_peer course.lane) e.draw request) b Free in (
+        let B : Bool → Type 0 = λ b. Answers tells course.lane (conn_at o l) (conn_at n m) (Asks (lane_peer course.lane) e.draw request) b Free in (
           messages ++ found.0 ∷ [],
           stands_next tells course o n l m before after received text messages parter stands e.draw e.takes request found.0 next found.2 found.1
               (subst B whole e.comes),
@@ -137,13 +137,13 @@ module _ (tells : Type 0) (course : Course) (o n : Seat) (l m : Line) (before af
         let found = some_both next.found _ _ leads is in
         asks_message text messages found.0 next request found.2 found.1
 
-    pub message_broken : Exchanges tells lane before after o n l m request Broken → MadeFirst tells course n m after received text end_broken
+    pub message_broken : Exchanges tells lane before after (conn_at o l) (conn_at n m) request Broken → MadeFirst tells course (talk_at n m after) received text end_broken
     message_broken x = next_broken asks_found x
 
-    pub message_lost : Exchanges tells lane before after o n l m request Lost → HasLost tells course n m after received text
+    pub message_lost : Exchanges tells lane before after (conn_at o l) (conn_at n m) request Lost → HasLost tells course (talk_at n m after) received text
     message_lost x = next_lost asks_found x
 
-    pub message_stopped : Exchanges tells lane before after o n l m request Spent → HasStopped tells course n m after received text
+    pub message_stopped : Exchanges tells lane before after (conn_at o l) (conn_at n m) request Spent → HasStopped tells course (talk_at n m after) received text
     message_stopped x = next_stopped asks_found x
 
 -- a message takes some of what the parter holds

@@ -1,13 +1,12 @@
 -- The reasons why the service of a connection of a tunnel ends, and the state at each end.
 use Rattle.std.specs.Prelude.{◌≡◌, ◌≢◌, ◌⊎◌, ℕ, ◌+◌, Bool, List, [], ◌∷◌}
-use Rattle.satip_base.specs.declared.limits.TheConstants.{LONGEST_HISTORY}
 use Rattle.satip_rtsp.specs.declared.requests.Request.{Request}
 use Rattle.satip_interleave.specs.declared.events.TunnelEvent.TheVariants.{Leave}
 use Rattle.satip_interleave.specs.declared.events.TunnelAnswer.{TunnelAnswer}
 use Rattle.satip_interleave.specs.declared.events.TunnelAnswer.TheVariants.{Gone, Left}
 use Rattle.satip_interleave.specs.Histories.{TunnelItem}
 use Rattle.satip_world.specs.Lines.{Line}
-use Rattle.satip_worker.specs.Ends.{IsOver, ReadFailed, WriteFailed}
+use Rattle.satip_worker.specs.Ends.{EndedWell, ReadFailed, WriteFailed}
 use Rattle.satip_tunnel.specs.declared.ends.TunnelEnd.{TunnelEnd}
 use Rattle.satip_tunnel.specs.declared.ends.TunnelEnd.TheVariants.{Full, Broken, Done, ReadFault, WriteFault, Spent}
 use Rattle.satip_tunnel.specs.Walk.{Stance, Free, Draining, Over, MayDrain}
@@ -34,18 +33,18 @@ IsLeave lane [] = ⊥
 IsLeave lane (t ∷ []) = (t.event ≡ Leave lane) × IsGivenUp t.answer
 IsLeave lane (t ∷ u ∷ ts) = ⊥
 
--- no Leave, since the history is full
-abbrev pub IsUnleft : (seen : ℕ) → List TunnelItem → Type 0
-IsUnleft seen last = (last ≡ []) × (seen ≡ LONGEST_HISTORY)
+-- no Leave, since the history is full: `full` says that
+abbrev pub IsUnleft : (full : Type 0) → List TunnelItem → Type 0
+IsUnleft full last = (last ≡ []) × full
 
--- the last entry is a Leave, unless the history was full; `seen` is the length of the history seen then
-abbrev pub Leaves : ℕ → (seen : ℕ) → TunnelEnd → List TunnelItem → Type 0
-Leaves lane seen Full last = ⊥
-Leaves lane seen Broken last = IsLeave lane last ⊎ IsUnleft seen last
-Leaves lane seen Done last = IsLeave lane last
-Leaves lane seen ReadFault last = IsLeave lane last
-Leaves lane seen WriteFault last = IsLeave lane last ⊎ IsUnleft seen last
-Leaves lane seen Spent last = IsUnleft seen last
+-- the last entry is a Leave, unless the history is full
+abbrev pub Leaves : ℕ → (full : Type 0) → TunnelEnd → List TunnelItem → Type 0
+Leaves lane full Full last = ⊥
+Leaves lane full Broken last = IsLeave lane last ⊎ IsUnleft full last
+Leaves lane full Done last = IsLeave lane last
+Leaves lane full ReadFault last = IsLeave lane last
+Leaves lane full WriteFault last = IsLeave lane last ⊎ IsUnleft full last
+Leaves lane full Spent last = IsUnleft full last
 
 -- the requests that have no entry: none after `Done` or a failed receive
 abbrev pub LeftOver : TunnelEnd → List Request → Type 0
@@ -78,7 +77,7 @@ WireSent Spent entries sent = sent ≡ wire entries
 abbrev pub LineEnds : TunnelEnd → (o n : Line) (over : Bool) → Type 0
 LineEnds Full o n over = Unit {0}
 LineEnds Broken o n over = Unit {0}
-LineEnds Done o n over = IsOver n.ended over
+LineEnds Done o n over = EndedWell o n over
 LineEnds ReadFault o n over = ReadFailed o n over
 LineEnds WriteFault o n over = WriteFailed o n
 LineEnds Spent o n over = Unit {0}

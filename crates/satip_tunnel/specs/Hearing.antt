@@ -1,5 +1,5 @@
 -- A connection of a tunnel in the middle of its text.
-use Rattle.std.specs.Prelude.{◌≡◌, ◌⊎◌, ℕ, true, false, List, [], ◌∷◌, ◌++◌, map, length}
+use Rattle.std.specs.Prelude.{◌≡◌, ◌⊎◌, ℕ, ◌+◌, ◌≤◌, true, false, List, [], ◌∷◌, ◌++◌, map, length}
 use Rattle.rand_chacha.specs.ChaCha.{ChaCha}
 use Rattle.satip_base.specs.declared.identity.Draw.{Draw}
 use Rattle.satip_base.specs.declared.limits.TheConstants.{LONGEST_HISTORY}
@@ -15,34 +15,46 @@ use Rattle.satip_interleave.specs.Histories.{TunnelItem, inners}
 use Rattle.satip_world.specs.Counts.{Rises}
 use Rattle.satip_world.specs.Lines.{Line}
 use Rattle.satip_worker.specs.Answers.{ends_with_last}
-use Rattle.satip_worker.specs.Progress.{Carries}
+use Rattle.satip_worker.specs.Progress.{Carries, SameFaults}
 use Rattle.satip_tunnel.specs.declared.ends.Heard.{Heard}
 use Rattle.satip_tunnel.specs.declared.ends.Heard.TheVariants.{All, Closed, Broken, Lost, Spent}
 use Rattle.satip_tunnel.specs.declared.ends.TunnelEnd.{TunnelEnd}
 use Rattle.satip_tunnel.specs.declared.ends.TunnelEnd.TheVariants.{Full as end_full, Broken as end_broken, Done as end_done, ReadFault as end_unread, WriteFault as end_lost, Spent as end_spent}
 use Rattle.satip_tunnel.specs.Ends.{StopsAt, LeftOver, DrawsTaken, WireSent, LineEnds, IsLeave, unleft_end}
+use Rattle.satip_tunnel.specs.Pauses.{dry_in}
 use Rattle.satip_tunnel.specs.Walk.{Stance, Free, Walk, lane_peer}
 use Rattle.satip_tunnel.specs.Wire.{wire}
 use Rattle.satip_tunnel.specs.Requests.{AsksInParts, TakesDraws, asked_events, drawn_events}
-use Rattle.satip_tunnel.specs.Seats.{Seat, Grows}
+use Rattle.satip_tunnel.specs.Seats.{ConnState, Seat, Grows, SeesFull, conn_at}
 
--- the start of a connection after its Enter: its lane, and the states of the draws, the caller and the connection
+-- the start of a connection after its Enter: its lane, and the states of the draws, the caller and the connection; and the number of pauses since
 pub record Course : Type 0 where
   pub lane : ℕ
   pub draws : ChaCha
   pub seat : Seat
   pub line : Line
+  pub idles : ℕ
 
--- since the start these entries were made, with these draws, and these bytes received and sent
-pub record SoFar (tells : Type 0) (course : Course) (n : Seat) (m : Line) (after : ChaCha) (received sent : List ℕ)
+-- a connection: its caller and its line, and the state of the draws
+pub record TalkState : Type 0 where
+  pub conn : ConnState
+  pub draws : ChaCha
+
+abbrev pub talk_at : Seat → Line → ChaCha → TalkState
+talk_at seat line draws = record { conn = conn_at seat line; draws = draws }
+
+-- since the start these entries were made, with these draws, and these bytes received and sent. Drains that found no frame followed a request or were followed
+-- by a pause
+pub record SoFar (tells : Type 0) (course : Course) (n : TalkState) (received sent : List ℕ)
     (stance : Stance) (body : List TunnelItem) (draws : List Draw) : Type 0 where
   pub walk : Walk course.lane Free body stance
-  pub grows : Grows course.seat n body
-  pub takes : TakesDraws course.draws draws after
-  pub carries : Carries tells course.line m received sent
+  pub dry : dry_in body ≤ length (inners body) + course.idles
+  pub grows : Grows course.seat n.conn.seat body
+  pub takes : TakesDraws course.draws draws n.draws
+  pub carries : Carries tells course.line n.conn.line received sent
 
--- these first messages of the text were answered, and the parter holds the bytes after them
-pub record Stands (tells : Type 0) (course : Course) (n : Seat) (m : Line) (after : ChaCha) (received text : List ℕ)
+-- these first messages of the text were answered, and the parter holds the bytes after them; no receive and no send failed
+pub record Stands (tells : Type 0) (course : Course) (n : TalkState) (received text : List ℕ)
     (messages : List Said) (parter : Held) : Type 0 where
   pub leads : IsReadUpTo text messages parter
   pub body : List TunnelItem
@@ -50,16 +62,17 @@ pub record Stands (tells : Type 0) (course : Course) (n : Seat) (m : Line) (afte
   pub counted : length draws ≡ length (map asked_by_tunnel messages)
   pub events : asked_events body ≡ drawn_events (lane_peer course.lane) draws (map asked_by_tunnel messages)
   pub unended : ends_with_last (inners body) ≡ false
-  pub so_far : SoFar tells course n m after received (wire body) Free body draws
+  pub so_far : SoFar tells course n received (wire body) Free body draws
+  pub calm : SameFaults course.line n.conn.line
 
 -- all messages of the text were answered, and more may follow
-pub record Listens (tells : Type 0) (course : Course) (n : Seat) (m : Line) (after : ChaCha) (received text : List ℕ) (parter : Held) : Type 0 where
+pub record Listens (tells : Type 0) (course : Course) (n : TalkState) (received text : List ℕ) (parter : Held) : Type 0 where
   pub messages : List Said
   pub read : Parts text messages Unfinished
-  pub stands : Stands tells course n m after received text messages parter
+  pub stands : Stands tells course n received text messages parter
 
--- the text is broken, and all its requests were answered
-pub record HasClosed (tells : Type 0) (course : Course) (n : Seat) (m : Line) (after : ChaCha) (received text : List ℕ) : Type 0 where
+-- the text is broken, and all its requests were answered; no receive and no send failed
+pub record HasClosed (tells : Type 0) (course : Course) (n : TalkState) (received text : List ℕ) : Type 0 where
   pub messages : List Said
   pub cause : Break
   pub read : Parts text messages (broken_tail cause)
@@ -68,10 +81,11 @@ pub record HasClosed (tells : Type 0) (course : Course) (n : Seat) (m : Line) (a
   pub counted : length draws ≡ length (map asked_by_tunnel messages ++ broken_request cause ∷ [])
   pub events : asked_events body ≡ drawn_events (lane_peer course.lane) draws (map asked_by_tunnel messages ++ broken_request cause ∷ [])
   pub ended : ends_with_last (inners body) ≡ true
-  pub so_far : SoFar tells course n m after received (wire body) Free body draws
+  pub so_far : SoFar tells course n received (wire body) Free body draws
+  pub calm : SameFaults course.line n.conn.line
 
 -- the first requests of the text were executed, up to this end of the connection
-pub record MadeFirst (tells : Type 0) (course : Course) (n : Seat) (m : Line) (after : ChaCha) (received text : List ℕ) (end : TunnelEnd) : Type 0 where
+pub record MadeFirst (tells : Type 0) (course : Course) (n : TalkState) (received text : List ℕ) (end : TunnelEnd) : Type 0 where
   pub body : List TunnelItem
   pub draws : List Draw
   pub sent : List ℕ
@@ -84,25 +98,26 @@ pub record MadeFirst (tells : Type 0) (course : Course) (n : Seat) (m : Line) (a
   pub drawn : DrawsTaken end (length draws) (length made) left
   pub stops : StopsAt end stance
   pub sent_is : WireSent end body sent
-  pub so_far : SoFar tells course n m after received sent stance body draws
+  pub so_far : SoFar tells course n received sent stance body draws
 
--- a send failed
-pub record HasLost (tells : Type 0) (course : Course) (n : Seat) (m : Line) (after : ChaCha) (received text : List ℕ) : Type 0 where
-  pub first : MadeFirst tells course n m after received text end_lost
-  pub faults : Rises course.line.send_faults m.send_faults
+-- a send failed, but no receive
+pub record HasLost (tells : Type 0) (course : Course) (n : TalkState) (received text : List ℕ) : Type 0 where
+  pub first : MadeFirst tells course n received text end_lost
+  pub faults : Rises course.line.send_faults n.conn.line.send_faults
+  pub receives : n.conn.line.receive_faults ≡ course.line.receive_faults
 
 -- the history was full
-pub record HasStopped (tells : Type 0) (course : Course) (n : Seat) (m : Line) (after : ChaCha) (received text : List ℕ) : Type 0 where
-  pub first : MadeFirst tells course n m after received text end_spent
-  pub full : length n.pass.seen ≡ LONGEST_HISTORY
+pub record HasStopped (tells : Type 0) (course : Course) (n : TalkState) (received text : List ℕ) : Type 0 where
+  pub first : MadeFirst tells course n received text end_spent
+  pub full : SeesFull n.conn.seat
 
 -- the outcome of hearing a text
-abbrev pub Hears : (tells : Type 0) (course : Course) (n : Seat) (m : Line) (after : ChaCha) (received text : List ℕ) (parter : Held) → Heard → Type 0
-Hears tells course n m after received text parter All = Listens tells course n m after received text parter
-Hears tells course n m after received text parter Closed = HasClosed tells course n m after received text
-Hears tells course n m after received text parter Broken = MadeFirst tells course n m after received text end_broken
-Hears tells course n m after received text parter Lost = HasLost tells course n m after received text
-Hears tells course n m after received text parter Spent = HasStopped tells course n m after received text
+abbrev pub Hears : (tells : Type 0) (course : Course) (n : TalkState) (received text : List ℕ) (parter : Held) → Heard → Type 0
+Hears tells course n received text parter All = Listens tells course n received text parter
+Hears tells course n received text parter Closed = HasClosed tells course n received text
+Hears tells course n received text parter Broken = MadeFirst tells course n received text end_broken
+Hears tells course n received text parter Lost = HasLost tells course n received text
+Hears tells course n received text parter Spent = HasStopped tells course n received text
 
 -- the history is full, if the connection ends by a full history
 abbrev pub IsFullAt : TunnelEnd → (seen : ℕ) → Type 0
@@ -114,11 +129,11 @@ IsFullAt end_lost seen = Unit {0}
 IsFullAt end_spent seen = seen ≡ LONGEST_HISTORY
 
 -- a connection ended so, and its lane wasn't given up yet
-pub record Talked (tells : Type 0) (course : Course) (n : Seat) (m : Line) (after : ChaCha) (end : TunnelEnd) : Type 0 where
+pub record Talked (tells : Type 0) (course : Course) (n : TalkState) (end : TunnelEnd) : Type 0 where
   pub received : List ℕ
-  pub first : MadeFirst tells course n m after received received end
-  pub line_ends : LineEnds end course.line m (ends_with_last (inners first.body))
-  pub full : IsFullAt end (length n.pass.seen)
+  pub first : MadeFirst tells course n received received end
+  pub line_ends : LineEnds end course.line n.conn.line (ends_with_last (inners first.body))
+  pub full : IsFullAt end (length n.conn.seat.pass.seen)
 
 -- the lane was given up
 pub record Left (lane : ℕ) (o n : Seat) (before after : TunnelEnd) : Type 0 where

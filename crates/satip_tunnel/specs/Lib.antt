@@ -1,4 +1,5 @@
 pub mod Walk
+pub mod Pauses
 pub mod Wire
 pub mod Requests
 pub mod Seats

@@ -1,7 +1,6 @@
 -- The run of a connection of a tunnel: its entries, by the bytes that it received.
 use Rattle.std.specs.Prelude.{◌≡◌, ℕ, List, [], ◌∷◌, ◌++◌, length}
 use Rattle.satip_base.specs.declared.identity.Draw.{Draw}
-use Rattle.satip_base.specs.declared.limits.TheConstants.{LONGEST_HISTORY}
 use Rattle.satip_rtsp.specs.declared.requests.Request.{Request}
 use Rattle.satip_interleave.specs.declared.events.TunnelEvent.TheVariants.{Enter}
 use Rattle.satip_interleave.specs.declared.events.TunnelAnswer.{TunnelAnswer}
@@ -14,8 +13,8 @@ use Rattle.satip_tunnel.specs.Requests.{AsksInParts, drawn_events, asked_events}
 use Rattle.satip_tunnel.specs.Ends.{StopsAt, Leaves, LeftOver, DrawsTaken, WireSent}
 
 -- the entries of a connection after its Enter, which was answered with the lane: requests and drains, and last a Leave. It took these draws, and received and
--- sent these bytes; `seen` is the length of the history seen at its end
-pub record LaneRun (lane : ℕ) (draws : List Draw) (received sent : List ℕ) (seen : ℕ) (end : TunnelEnd) (entries : List TunnelItem) : Type 0 where
+-- sent these bytes; `full` says that the history is full
+pub record LaneRun (lane : ℕ) (draws : List Draw) (received sent : List ℕ) (full : Type 0) (end : TunnelEnd) (entries : List TunnelItem) : Type 0 where
   pub body : List TunnelItem
   pub last : List TunnelItem
   pub entries_are : entries ≡ body ++ last
@@ -23,7 +22,7 @@ pub record LaneRun (lane : ℕ) (draws : List Draw) (received sent : List ℕ) (
   pub stance : Stance
   pub walk : Walk lane Free body stance
   pub stops : StopsAt end stance
-  pub leaves : Leaves lane seen end last
+  pub leaves : Leaves lane full end last
   -- the executed requests and those left over are all requests of the bytes received
   pub made : List Request
   pub left : List Request
@@ -42,9 +41,9 @@ pub record HadNone (draws : List Draw) (received sent : List ℕ) : Type 0 where
   pub unsent : sent ≡ []
 
 -- the history was full before the connection entered
-pub record NotEntered (seen : ℕ) (end : TunnelEnd) : Type 0 where
+pub record NotEntered (full : Type 0) (end : TunnelEnd) : Type 0 where
   pub end_is : end ≡ Spent
-  pub full : seen ≡ LONGEST_HISTORY
+  pub filled : full
 
 -- no lane was given, and no entry follows
 pub record TurnedAway (end : TunnelEnd) (entries : List TunnelItem) : Type 0 where
@@ -52,12 +51,12 @@ pub record TurnedAway (end : TunnelEnd) (entries : List TunnelItem) : Type 0 whe
   pub none : entries ≡ []
 
 -- the entries after an Enter with this answer
-abbrev pub EnteredRun : TunnelAnswer → (draws : List Draw) (received sent : List ℕ) (seen : ℕ) → TunnelEnd → List TunnelItem → Type 0
-EnteredRun (Lane lane) draws received sent seen end entries = LaneRun lane draws received sent seen end entries
-EnteredRun no_lane draws received sent seen end entries = HadNone draws received sent × TurnedAway end entries
-EnteredRun _ draws received sent seen end entries = ⊥
+abbrev pub EnteredRun : TunnelAnswer → (draws : List Draw) (received sent : List ℕ) (full : Type 0) → TunnelEnd → List TunnelItem → Type 0
+EnteredRun (Lane lane) draws received sent full end entries = LaneRun lane draws received sent full end entries
+EnteredRun no_lane draws received sent full end entries = HadNone draws received sent × TurnedAway end entries
+EnteredRun _ draws received sent full end entries = ⊥
 
 -- all entries of a connection; the first is its Enter
-abbrev pub TunnelRun : (draws : List Draw) (received sent : List ℕ) (seen : ℕ) → TunnelEnd → List TunnelItem → Type 0
-TunnelRun draws received sent seen end [] = HadNone draws received sent × NotEntered seen end
-TunnelRun draws received sent seen end (t ∷ ts) = (t.event ≡ Enter) × EnteredRun t.answer draws received sent seen end ts
+abbrev pub TunnelRun : (draws : List Draw) (received sent : List ℕ) (full : Type 0) → TunnelEnd → List TunnelItem → Type 0
+TunnelRun draws received sent full end [] = HadNone draws received sent × NotEntered full end
+TunnelRun draws received sent full end (t ∷ ts) = (t.event ≡ Enter) × EnteredRun t.answer draws received sent full end ts

@@ -1,15 +1,18 @@
 //! One RTSP connection of a tunnel.
-ghost use Rattle.std.specs.Prelude.{◌≡◌, ◌≢◌, ◌↔◌, ◌⊎◌, length};
+ghost use Rattle.std.specs.Prelude.{◌≡◌, ◌≢◌, ◌↔◌, ◌⊎◌, ℕ, length};
 ghost use Rattle.satip_base.specs.Lists.{Begins};
 ghost use Rattle.satip_rtsp_interleaved.specs.Held.{new_parter};
 ghost use Rattle.satip_interleave.specs.declared.events.TunnelAnswer.{TunnelAnswer};
 ghost use Rattle.satip_interleave.specs.Histories.{inners};
 ghost use Rattle.satip_turn.specs.Shown.{Keeps};
 ghost use Rattle.satip_world.specs.Counts.{Rises};
+ghost use Rattle.satip_pump.specs.PumpRuns.{RoseBy};
 ghost use Rattle.satip_worker.specs.Answers.{ends_with_last};
 ghost use Rattle.satip_worker.specs.Ends.{IsOver};
+ghost use Rattle.satip_worker.specs.Progress.{SameFaults};
 ghost use Rattle.satip_tunnel.specs.Ends.{unleft_end};
-ghost use Rattle.satip_tunnel.specs.Hearing.{Talked, Left, Unleft, Finishes};
+ghost use Rattle.satip_tunnel.specs.Hearing.{Talked, Left, Unleft, Finishes, talk_at};
+ghost use Rattle.satip_tunnel.specs.Pauses.{PausesIdle};
 ghost use Rattle.satip_tunnel.specs.Seats.{seated, made_since, IsAnsweredBy};
 ghost use Rattle.satip_tunnel.specs.Served.{ServesTunnel};
 
@@ -34,12 +37,15 @@ fn talk<R: Wait + Sync, C: Conn, P: Pacer>(
     room: &mut TunnelRoom,
 ) -> TunnelEnd
     requires new { room.old.parter ≡ new_parter }
-    ensures talked { Talked C.tells (record {
-      lane = lane;
-      draws = draws.old;
-      seat = seated caller.old.server.now caller.old.pass;
-      line = C.line conn.old;
-    }) (seated caller.new.server.now caller.new.pass) (C.line conn.new) draws.new result }
+    ensures talked { (idles : ℕ) × RoseBy idles (P.pauses pacer.old) (P.pauses pacer.new)
+        × Talked C.tells (record {
+          lane = lane;
+          draws = draws.old;
+          seat = seated caller.old.server.now caller.old.pass;
+          line = C.line conn.old;
+          idles = idles;
+        }) (talk_at (seated caller.new.server.now caller.new.pass) (C.line conn.new) draws.new)
+        result }
 {
     let rt = caller.rt;
     let mut buf = [0; PIECE];
@@ -143,16 +149,21 @@ pub fn serve_tunnel<R: Wait + Sync, C: Conn, P: Pacer>(
         (seated caller.new.server.now caller.new.pass)
         (C.line conn.old) (C.line conn.new) result }
 
+    // The pauses: one for each drain that found no frame, except after a request.
+    ensures pauses { PausesIdle caller.old.pass.own caller.new.pass.own (P.pauses pacer.old)
+        (P.pauses pacer.new) }
+
     // The cause of `Full` and of `Broken`.
     ensures full { (result ≡ TunnelEnd.Full)
         ↔ IsAnsweredBy TunnelAnswer.Full (made_since caller.old.pass caller.new.pass) }
     ensures broken { (result ≡ TunnelEnd.Broken)
         ↔ IsAnsweredBy TunnelAnswer.Broken (made_since caller.old.pass caller.new.pass) }
 
-    // After `Done`, either the input ended or a closing reply was sent. If one of both is so, the
-    // end isn't `ReadFault`.
+    // After `Done`, either the input ended or a closing reply was sent, and no receive and no send
+    // failed. If the connection is over so, the end isn't `ReadFault`.
     ensures done { result ≡ TunnelEnd.Done → IsOver (C.line conn.new).ended
         (ends_with_last (inners (made_since caller.old.pass caller.new.pass))) }
+    ensures calm { result ≡ TunnelEnd.Done → SameFaults (C.line conn.old) (C.line conn.new) }
     ensures over { IsOver (C.line conn.new).ended
         (ends_with_last (inners (made_since caller.old.pass caller.new.pass)))
         → result ≢ TunnelEnd.ReadFault }
@@ -167,7 +178,7 @@ pub fn serve_tunnel<R: Wait + Sync, C: Conn, P: Pacer>(
     serve(caller, conn, pacer, draws, room)
 }
 
-// Does the same, with one clause about entries, bytes and the end.
+// Does the same, with one clause about entries, bytes and the end, and one about pauses.
 fn serve<R: Wait + Sync, C: Conn, P: Pacer>(
     caller: &mut TunnelCaller<R>,
     conn: &mut C,
@@ -179,6 +190,8 @@ fn serve<R: Wait + Sync, C: Conn, P: Pacer>(
         (seated caller.old.server.now caller.old.pass)
         (seated caller.new.server.now caller.new.pass)
         (C.line conn.old) (C.line conn.new) result }
+    ensures pauses { PausesIdle caller.old.pass.own caller.new.pass.own (P.pauses pacer.old)
+        (P.pauses pacer.new) }
 {
     match enter(caller, &mut room.out) {
         Entered::Lane(lane) => {

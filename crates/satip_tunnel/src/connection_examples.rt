@@ -35,18 +35,24 @@ pub fn worked_rows()
     ensures not_in_part { ¬ (SentInPart [] (1 ∷ [])) }
 
     // The connection enters, and leaves its lane.
-    ensures silent { TunnelRun [] [] [] 2 Done (enters (Lane 3) ∷ leaves 3 ∷ []) }
-    ensures unread { TunnelRun [] [] [] 2 ReadFault (enters (Lane 3) ∷ leaves 3 ∷ []) }
-    ensures left_out { ¬ (TunnelRun [] [] [] 1 ReadFault (enters (Lane 3) ∷ [])) }
-    ensures other_left { ¬ (TunnelRun [] [] [] 2 Done (enters (Lane 3) ∷ leaves 4 ∷ [])) }
-    ensures lost { TunnelRun [] [] (36 ∷ []) 3 WriteFault (enters (Lane 3)
+    ensures silent { TunnelRun [] [] [] ⊥ Done (enters (Lane 3) ∷ leaves 3 ∷ []) }
+    ensures unread { TunnelRun [] [] [] ⊥ ReadFault (enters (Lane 3) ∷ leaves 3 ∷ []) }
+    ensures left_out { ¬ (TunnelRun [] [] [] ⊥ ReadFault (enters (Lane 3) ∷ [])) }
+    ensures other_left { ¬ (TunnelRun [] [] [] ⊥ Done (enters (Lane 3) ∷ leaves 4 ∷ [])) }
+    ensures lost { TunnelRun [] [] (36 ∷ []) ⊥ WriteFault (enters (Lane 3)
         ∷ drains 3 (Frames 5) (36 ∷ 0 ∷ 0 ∷ 1 ∷ 71 ∷ []) ∷ leaves 3 ∷ []) }
-    ensures turned_away { TunnelRun [] [] [] 1 Full (enters NoLane ∷ []) }
-    ensures entry_behind { ¬ (TunnelRun [] [] [] 2 Full (enters NoLane ∷ leaves 3 ∷ [])) }
-    ensures broke { TunnelRun [] [] [] 3 Broken
+    ensures turned_away { TunnelRun [] [] [] ⊥ Full (enters NoLane ∷ []) }
+    ensures entry_behind { ¬ (TunnelRun [] [] [] ⊥ Full (enters NoLane ∷ leaves 3 ∷ [])) }
+    ensures broke { TunnelRun [] [] [] ⊥ Broken
         (enters (Lane 3) ∷ drains 3 LaneBroken [] ∷ leaves 3 ∷ []) }
-    ensures not_done { ¬ (TunnelRun [] [] [] 3 Done
+    ensures not_done { ¬ (TunnelRun [] [] [] ⊥ Done
         (enters (Lane 3) ∷ drains 3 LaneBroken [] ∷ leaves 3 ∷ [])) }
-    ensures spent { TunnelRun [] [] [] 18446744073709551615 Spent (enters (Lane 3) ∷ []) }
-    ensures not_spent { ¬ (TunnelRun [] [] [] 1 Spent (enters (Lane 3) ∷ [])) }
+
+    // It keeps its lane only if the history is full.
+    ensures kept_lane { ¬ (TunnelRun [] [] [] ⊥ Broken
+        (enters (Lane 3) ∷ drains 3 LaneBroken [] ∷ [])) }
+    ensures unleft { TunnelRun [] [] [] (Unit {0}) Broken
+        (enters (Lane 3) ∷ drains 3 LaneBroken [] ∷ []) }
+    ensures spent { TunnelRun [] [] [] (Unit {0}) Spent (enters (Lane 3) ∷ []) }
+    ensures not_spent { ¬ (TunnelRun [] [] [] ⊥ Spent (enters (Lane 3) ∷ [])) }
 {}

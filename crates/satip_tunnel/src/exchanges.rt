@@ -5,7 +5,7 @@ ghost use Rattle.satip_rtsp_interleaved.specs.Turned.{turned};
 ghost use Rattle.satip_world.specs.Lines.{Sends};
 ghost use Rattle.satip_tunnel.specs.Walk.{Stance, MayDrain};
 ghost use Rattle.satip_tunnel.specs.Exchanges.{DrainsOnce, DrainsAll, Exchanges};
-ghost use Rattle.satip_tunnel.specs.Seats.{seated};
+ghost use Rattle.satip_tunnel.specs.Seats.{conn_at, seated};
 
 use crate::ends::{Drained, Way};
 use crate::events::make;
@@ -26,9 +26,8 @@ fn drain_once<R: Wait + Sync, C: Conn>(
     conn: &mut C,
 ) -> Drained
     ensures drains { (stance : Stance) → MayDrain stance → DrainsOnce C.tells lane
-        (seated caller.old.server.now caller.old.pass)
-        (seated caller.new.server.now caller.new.pass)
-        (C.line conn.old) (C.line conn.new) stance result }
+        (conn_at (seated caller.old.server.now caller.old.pass) (C.line conn.old))
+        (conn_at (seated caller.new.server.now caller.new.pass) (C.line conn.new)) stance result }
 {
     match make(caller, &TunnelEvent::Drain { lane }, out) {
         Ok(TunnelAnswer::Frames(_count)) => match conn.send(out.reply()) {
@@ -54,9 +53,8 @@ pub(crate) fn drain_all<R: Wait + Sync, C: Conn>(
     conn: &mut C,
 ) -> Way
     ensures drains { (stance : Stance) → MayDrain stance → DrainsAll C.tells lane
-        (seated caller.old.server.now caller.old.pass)
-        (seated caller.new.server.now caller.new.pass)
-        (C.line conn.old) (C.line conn.new) stance result }
+        (conn_at (seated caller.old.server.now caller.old.pass) (C.line conn.old))
+        (conn_at (seated caller.new.server.now caller.new.pass) (C.line conn.new)) stance result }
 {
     let rt = caller.rt;
     for _ in rt.forever() {
@@ -101,9 +99,8 @@ pub(crate) fn exchange<R: Wait + Sync, C: Conn>(
     conn: &mut C,
 ) -> Way
     ensures exchanges { Exchanges C.tells lane draws.old draws.new
-        (seated caller.old.server.now caller.old.pass)
-        (seated caller.new.server.now caller.new.pass)
-        (C.line conn.old) (C.line conn.new) request result }
+        (conn_at (seated caller.old.server.now caller.old.pass) (C.line conn.old))
+        (conn_at (seated caller.new.server.now caller.new.pass) (C.line conn.new)) request result }
 {
     let draw = draws.next();
     let peer = Peer { ip: lane };

@@ -7,7 +7,7 @@ ghost use Rattle.satip_frame.specs.Held.{capacity};
 ghost use Rattle.satip_rtsp_interleaved.specs.Parts.{Parts};
 ghost use Rattle.satip_rtsp_interleaved.specs.Held.{Held};
 ghost use Rattle.satip_plain.specs.Suits.{closes};
-ghost use Rattle.satip_tunnel.specs.Hearing.{Course, Stands, Listens, Hears};
+ghost use Rattle.satip_tunnel.specs.Hearing.{Course, Stands, Listens, Hears, talk_at};
 ghost use Rattle.satip_tunnel.specs.Seats.{seated};
 
 use crate::ends::{Heard, Way};
@@ -34,11 +34,11 @@ fn close<R: Wait + Sync, C: Conn>(
     ensures hears { (course : Course) (received text : List ℕ) (messages : List Said)
         (parter : Held)
         → course.lane ≡ lane
-        → Stands C.tells course (seated caller.old.server.now caller.old.pass)
-        (C.line conn.old) draws.old received text messages parter
+        → Stands C.tells course (talk_at (seated caller.old.server.now caller.old.pass)
+        (C.line conn.old) draws.old) received text messages parter
         → Parts text messages (Broken cause)
-        → Hears C.tells course (seated caller.new.server.now caller.new.pass)
-        (C.line conn.new) draws.new received text parter result }
+        → Hears C.tells course (talk_at (seated caller.new.server.now caller.new.pass)
+        (C.line conn.new) draws.new) received text parter result }
     ensures input { (C.line conn.new).ended ≡ (C.line conn.old).ended }
     ensures over { result ≢ Heard.All }
 {
@@ -80,10 +80,10 @@ fn answer<R: Wait + Sync, C: Conn>(
 ) -> Heard
     ensures hears { (course : Course) (received text : List ℕ) (messages : List Said)
         → course.lane ≡ lane
-        → Stands C.tells course (seated caller.old.server.now caller.old.pass)
-        (C.line conn.old) draws.old received text messages room.old.parter
-        → Hears C.tells course (seated caller.new.server.now caller.new.pass)
-        (C.line conn.new) draws.new received text room.new.parter result }
+        → Stands C.tells course (talk_at (seated caller.old.server.now caller.old.pass)
+        (C.line conn.old) draws.old) received text messages room.old.parter
+        → Hears C.tells course (talk_at (seated caller.new.server.now caller.new.pass)
+        (C.line conn.new) draws.new) received text room.new.parter result }
     ensures input { (C.line conn.new).ended ≡ (C.line conn.old).ended }
     ensures goes_on { result ≡ Heard.All → room.new.parter.ended ≡ None }
     ensures space { result ≡ Heard.All → length room.new.parter.bytes < capacity }
@@ -147,10 +147,10 @@ pub(crate) fn hear<R: Wait + Sync, C: Conn>(
     requires space { length room.old.parter.bytes < capacity }
     ensures hears { (course : Course) (received text : List ℕ)
         → course.lane ≡ lane
-        → Listens C.tells course (seated caller.old.server.now caller.old.pass)
-        (C.line conn.old) draws.old received text room.old.parter
-        → Hears C.tells course (seated caller.new.server.now caller.new.pass)
-        (C.line conn.new) draws.new received (text ++ piece.now) room.new.parter result }
+        → Listens C.tells course (talk_at (seated caller.old.server.now caller.old.pass)
+        (C.line conn.old) draws.old) received text room.old.parter
+        → Hears C.tells course (talk_at (seated caller.new.server.now caller.new.pass)
+        (C.line conn.new) draws.new) received (text ++ piece.now) room.new.parter result }
     ensures input { (C.line conn.new).ended ≡ (C.line conn.old).ended }
     ensures goes_on { result ≡ Heard.All → room.new.parter.ended ≡ None }
     ensures space { result ≡ Heard.All → length room.new.parter.bytes < capacity }

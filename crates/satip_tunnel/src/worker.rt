@@ -32,10 +32,16 @@ fn serve_one<R: Wait + Sync, D: Doors, O, P: Pacer>(
     ensures key { kit.new.key ≡ kit.old.key }
     ensures serves { (key : List ℕ) (stream from : ℕ) → draws.old ≡ before_draw key stream from
         → (to : ℕ) × (draws.new ≡ before_draw key stream to)
-        × ServesOne D.Conn.tells kind peer (draw_at key stream) from to
-        (seated caller.old.server.now caller.old.pass)
-        (seated caller.new.server.now caller.new.pass)
-        (D.hall kit.old.doors) (D.hall kit.new.doors) (D.Conn.line conn) result }
+        × ServesOne D.Conn.tells (draw_at key stream) from to
+        (record {
+          seat = seated caller.old.server.now caller.old.pass;
+          hall = D.hall kit.old.doors;
+        })
+        (record {
+          seat = seated caller.new.server.now caller.new.pass;
+          hall = D.hall kit.new.doors;
+        })
+        (record { kind = kind; peer = peer; line = D.Conn.line conn }) result }
     ensures spent { result ≡ ConnEnd.Spent → length caller.new.pass.seen ≡ LONGEST_HISTORY }
     ensures no_want { result ≢ ConnEnd.Want }
 {
@@ -67,9 +73,14 @@ pub fn run_tunnel_worker<R: Wait + Sync, D: Doors, O, P: Pacer>(
 
     // The entries, the connections that arrived and were handed back, and the reason of the end.
     ensures serves { ServesDoors D.Conn.tells kit.old.key number
-        (seated caller.old.server.now caller.old.pass)
-        (seated caller.new.server.now caller.new.pass)
-        (D.hall kit.old.doors) (D.hall kit.new.doors) result }
+        (record {
+          seat = seated caller.old.server.now caller.old.pass;
+          hall = D.hall kit.old.doors;
+        })
+        (record {
+          seat = seated caller.new.server.now caller.new.pass;
+          hall = D.hall kit.new.doors;
+        }) result }
 
     // The cause of each end.
     ensures closed { (result ≡ WorkerEnd.Closed) ↔ ((D.hall kit.new.doors).ended ≡ true) }

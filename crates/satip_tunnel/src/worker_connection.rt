@@ -41,10 +41,10 @@ fn serve_rtsp<R: Wait + Sync, C: Conn, P: Pacer>(
     ensures serves { (peer : Peer) (key : List ℕ) (stream from : ℕ)
         → draws.old ≡ before_draw key stream from
         → (to : ℕ) × (draws.new ≡ before_draw key stream to)
-        × ServesConn C.tells DoorKind.Rtsp peer (draw_at key stream) from to
+        × ServesConn C.tells (draw_at key stream) from to
         (seated caller.old.server.now caller.old.pass)
-        (seated caller.new.server.now caller.new.pass)
-        (C.line conn.old) (C.line conn.new) result }
+        (seated caller.new.server.now caller.new.pass) (C.line conn.old)
+        (record { kind = DoorKind.Rtsp; peer = peer; line = C.line conn.new; end = result }) }
     ensures spent { result ≡ ConnEnd.Spent → length caller.new.pass.seen ≡ LONGEST_HISTORY }
     ensures no_want { result ≢ ConnEnd.Want }
 {
@@ -62,10 +62,10 @@ fn serve_http<R: Wait + Sync, C: Conn, P: Pacer>(
 ) -> ConnEnd
     ensures serves { (key : List ℕ) (stream from : ℕ) → draws.old ≡ before_draw key stream from
         → (to : ℕ) × (draws.new ≡ before_draw key stream to)
-        × ServesConn C.tells DoorKind.Http peer (draw_at key stream) from to
+        × ServesConn C.tells (draw_at key stream) from to
         (seated caller.old.server.now caller.old.pass)
-        (seated caller.new.server.now caller.new.pass)
-        (C.line conn.old) (C.line conn.new) result }
+        (seated caller.new.server.now caller.new.pass) (C.line conn.old)
+        (record { kind = DoorKind.Http; peer = peer; line = C.line conn.new; end = result }) }
     ensures spent { result ≡ ConnEnd.Spent → length caller.new.pass.seen ≡ LONGEST_HISTORY }
     ensures no_want { result ≢ ConnEnd.Want }
 {
@@ -96,10 +96,10 @@ pub(crate) fn serve_kind<R: Wait + Sync, C: Conn, P: Pacer>(
 ) -> ConnEnd
     ensures serves { (key : List ℕ) (stream from : ℕ) → draws.old ≡ before_draw key stream from
         → (to : ℕ) × (draws.new ≡ before_draw key stream to)
-        × ServesConn C.tells kind peer (draw_at key stream) from to
+        × ServesConn C.tells (draw_at key stream) from to
         (seated caller.old.server.now caller.old.pass)
-        (seated caller.new.server.now caller.new.pass)
-        (C.line conn.old) (C.line conn.new) result }
+        (seated caller.new.server.now caller.new.pass) (C.line conn.old)
+        (record { kind = kind; peer = peer; line = C.line conn.new; end = result }) }
     ensures spent { result ≡ ConnEnd.Spent → length caller.new.pass.seen ≡ LONGEST_HISTORY }
     ensures no_want { result ≢ ConnEnd.Want }
 {

@@ -144,6 +144,8 @@ connections_take_first rise lanes c h before entries numbers caller x legal call
           ∙ ap (λ es. before ++ es) (append_assoc some (ends.last ∷ ends.later) part.after)
           ∙ sym (append_assoc before some (ends.last ∷ (ends.later ++ part.after))) in
           let at = stands_in caller h (before ++ some) (ends.later ++ part.after) ends.last split in
+          let drained_by_it = among_own caller h ends.last (subst (Has ends.last) (sym split)
+          (Has-append_right ends.last (before ++ some) (ends.last ∷ (ends.later ++ part.after)) (inl refl))) in
           let no_drain : Each (λ (t : TunnelItem). drains x t.event ≡ false) (own_of caller at.later) =
           subst (Each (λ (t : TunnelItem). drains x t.event ≡ false)) (sym at.rest)
           (Each-append (λ (t : TunnelItem). drains x t.event ≡ false) ends.later part.after ends.no_more
@@ -151,7 +153,9 @@ connections_take_first rise lanes c h before entries numbers caller x legal call
           (λ (t : TunnelItem) never. touched_if x t.event never) part.after none_after)) in
           record {
             earlier = at.before;
-            begins = record { rest = ends.last ∷ at.later; whole = at.whole };
+            later = at.later;
+            whole = at.whole;
+            is_of = drained_by_it.is_of;
             is_own = at.first;
             all = own.all at.before (record {
               last = ends.last;
@@ -184,7 +188,7 @@ drains_more (t ∷ ts) given more within own = (
   drains_more ts (given_by t.event t.answer ++ given) (given_by t.event t.answer ++ more) (within_both (given_by t.event t.answer) given more within) own.1,
 )
 
-drains_both : (es rest : List TunnelItem) (given : List ℕ) → DrainsGiven given es → DrainsOwn rest → DrainsGiven given (es ++ rest)
+pub drains_both : (es rest : List TunnelItem) (given : List ℕ) → DrainsGiven given es → DrainsOwn rest → DrainsGiven given (es ++ rest)
 drains_both [] rest given own more = drains_more rest [] given (λ n none. absurd none) more
 drains_both (t ∷ ts) rest given own more = (own.0, drains_both ts rest (given_by t.event t.answer ++ given) own.1 more)
 

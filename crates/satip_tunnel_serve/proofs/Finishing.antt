@@ -6,23 +6,23 @@ use Rattle.satip_base.proofs.Elements.{Each-append, each_follows}
 use Rattle.satip_interleave.specs.Calling.{known_by, outers}
 use Rattle.satip_plain.specs.Known.{Known}
 use Rattle.satip_interleave.specs.Histories.{TunnelItem, inners}
-use Rattle.satip_tunnel.specs.Seats.{Seat}
+use Rattle.satip_tunnel.specs.Seats.{Seat, SeesFull}
 use Rattle.satip_turn.specs.Views.{row}
 use Rattle.satip_world.specs.declared.doors.ConnEnd.TheVariants.{Spent as ConnSpent}
-use Rattle.satip_world.specs.Dials.{Reads, fresh_dial}
 use Rattle.satip_world.specs.Halls.{Hall, Return, fresh_hall}
-use Rattle.satip_world.specs.Outboxes.{fresh_outbox}
 use Rattle.satip_worker.specs.declared.worker.WorkerEnd.{WorkerEnd}
 use Rattle.satip_worker.specs.declared.worker.WorkerEnd.TheVariants.{Closed, DoorsFault, Spent, Want}
 use Rattle.satip_worker.specs.Drawing.{draw_at}
 use Rattle.satip_worker.specs.Ends.{is_unmade}
 use Rattle.satip_worker.specs.WorkerRun.{WorkerEnds}
 use Rattle.satip_jobs.specs.declared.end.ServeEnd.{ServeEnd}
+use Rattle.satip_serve.specs.Deeds.{job_state}
 use Rattle.satip_serve.specs.Done.{EndsInTime}
-use Rattle.satip_desk.specs.Fresh.{FreshPump}
+use Rattle.satip_desk.specs.Fresh.{FreshPump, ReadOnce}
 use Rattle.satip_desk.specs.Views.{WorkerView, PumpView, TickView}
 use Rattle.satip_serve.proofs.Finishing.{not_zero, pump_done, ticker_done}
 use Rattle.satip_tunnel.specs.WorkerRun.{ServesAll}
+use Rattle.satip_tunnel.proofs.FullLemmas.{all_also}
 use Rattle.satip_tunnel_serve.specs.Deeds.{TunnelWorkerDid, TunnelPumpDid, TunnelTickerDid}
 use Rattle.satip_tunnel_serve.specs.Done.{TunnelWorkerDone, TunnelPumpDone, TunnelTickerDone}
 
@@ -64,9 +64,9 @@ worker_done conn_tells full accepts number caller told o n s t end did hall none
     let own : run.entries ≡ t.pass.own = sym (run.grows.own ∙ ap (λ (es : List TunnelItem). es ++ run.entries) none) in
     let ends = worker_ended full did.ended accepts told n.hall (known_by t.pass) run.returns
     (subst (λ (h : Hall). WorkerEnds did.ended h n.hall false (known_by t.pass) run.returns) hall run.ends) fills in
-    let served : ServesAll conn_tells (draw_at n.key number) 0 run.draws (length s.pass.seen) (length t.pass.seen) run.returns run.entries =
-    subst (λ (key : List ℕ). ServesAll conn_tells (draw_at key number) 0 run.draws (length s.pass.seen) (length t.pass.seen) run.returns run.entries)
-    (sym did.key) run.serves in
+    let served : ServesAll conn_tells full (draw_at n.key number) 0 run.draws run.returns run.entries =
+    subst (λ (key : List ℕ). ServesAll conn_tells full (draw_at key number) 0 run.draws run.returns run.entries) (sym did.key)
+    (all_also (SeesFull t) full fills conn_tells (draw_at o.key number) 0 run.draws run.returns run.entries run.serves) in
     record {
       limit = run.limit ∙ ap (λ (h : Hall). h.limit) hall;
       ended = ends.ended;
@@ -74,11 +74,7 @@ worker_done conn_tells full accepts number caller told o n s t end did hall none
       draws = run.draws;
       came = λ still. run.moved.given still ∙ ap (λ (h : Hall). h.given ++ map (λ (r : Return). record { kind = r.kind; peer = r.peer }) run.returns) hall;
       handed_back = λ still. run.moved.returned still ∙ ap (λ (h : Hall). h.returned ++ run.returns) hall;
-      first = length s.pass.seen;
-      last = length t.pass.seen;
-      served = subst (λ (es : List TunnelItem). ServesAll conn_tells (draw_at n.key number) 0 run.draws (length s.pass.seen) (length t.pass.seen) run.returns
-          es) own served;
-      filled = fills;
+      served = subst (λ (es : List TunnelItem). ServesAll conn_tells full (draw_at n.key number) 0 run.draws run.returns es) own served;
       in_time = ends.in_time;
     }
 
@@ -87,17 +83,18 @@ pub tunnel_pump_done : (full : Type 0) (number caller : ℕ) (o n : PumpView) (s
     → TunnelPumpDid number o s n t end → FreshPump o → s.pass.own ≡ [] → (length t.pass.seen ≡ 18446744073709551615 → full)
     → TunnelPumpDone full number n (row caller t.pass.own)
 tunnel_pump_done full number caller o n s t end did fresh none fills = record {
-  done = pump_done ⊥ full number caller o n (known_by s.pass) (known_by t.pass) end did.pumped fresh (ap (λ (es : List TunnelItem). inners es) none) fills;
+  done = pump_done ⊥ full number caller (job_state o (known_by s.pass)) (job_state n (known_by t.pass)) end did.pumped fresh
+      (ap (λ (es : List TunnelItem). inners es) none) (λ is. fills);
   none = did.others ∙ ap (λ (es : List TunnelItem). outers es) none;
 }
 
 -- the ticker with a clock that was read once
-pub tunnel_ticker_done : (full : Type 0) (start caller : ℕ) (told : Bool) (o n : TickView) (s t : Seat) (end : ServeEnd)
-    → TunnelTickerDid o s n t end → Reads (fresh_dial told) o.dial start → o.outbox ≡ fresh_outbox → s.pass.own ≡ []
+pub tunnel_ticker_done : (full : Type 0) (start caller : ℕ) (o n : TickView) (s t : Seat) (end : ServeEnd)
+    → TunnelTickerDid o s n t end → ReadOnce start o → s.pass.own ≡ []
     → (length t.pass.seen ≡ 18446744073709551615 → full)
     → TunnelTickerDone full start n (row caller t.pass.own)
-tunnel_ticker_done full start caller told o n s t end did reads outbox none fills = record {
-  done = ticker_done ⊥ full start caller told o n (known_by s.pass) (known_by t.pass) end did.ticked reads outbox
-      (ap (λ (es : List TunnelItem). inners es) none) fills;
+tunnel_ticker_done full start caller o n s t end did fresh none fills = record {
+  done = ticker_done ⊥ full start caller (job_state o (known_by s.pass)) (job_state n (known_by t.pass)) end did.ticked fresh
+      (ap (λ (es : List TunnelItem). inners es) none) (λ is. fills);
   none = did.others ∙ ap (λ (es : List TunnelItem). outers es) none;
 }

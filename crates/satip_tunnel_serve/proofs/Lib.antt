@@ -21,4 +21,8 @@ pub mod Wiring
 pub mod Framing
 pub mod Parting
 mod RunOwning
+mod Recorded
+mod Parsing
+mod AskedOn
+mod Channelling
 mod EndLemmas

@@ -109,8 +109,8 @@ begins_frames : (taken all : List (List ℕ)) → Begins taken all → AreFrames
 begins_frames taken all begins are = Each-append_left IsFrame taken begins.rest (subst AreFrames begins.whole are)
 
 pub wires_split_one_way : SplitOneWay → WiresHaveLanes → WiresSplitOneWay
-wires_split_one_way one lanes c h before entries numbers caller x draws received sent seen end legal callers part run given replies =
-    let has : WireHasLane h before entries caller x = lanes c h before entries numbers caller x draws received sent seen end legal callers part run given in
+wires_split_one_way one lanes c h before entries numbers caller x draws received sent end legal callers part run given replies =
+    let has : WireHasLane h before entries caller x = lanes c h before entries numbers caller x draws received sent end legal callers part run given in
     let D : TunnelItem → Type 0 = λ t. DrainGives t.event t in
     let own : Each D (before ++ (entries ++ part.after)) = subst (Each D) part.whole (own_each D caller h (all_give h no_lanes tt legal.lanes)) in
     let mine : Each D entries = Each-append_left D entries part.after (Each-append_right D before (entries ++ part.after) own) in
@@ -128,5 +128,12 @@ wires_split_one_way one lanes c h before entries numbers caller x draws received
       first = subst (λ (fs : List (List ℕ)). Begins fs (lane h x)) same has.first;
       all = λ some ends.
           let then_all = has.all some ends in
-          record { earlier = then_all.earlier; begins = then_all.begins; is_own = then_all.is_own; all = sym same ∙ then_all.all };
+          record {
+            earlier = then_all.earlier;
+            later = then_all.later;
+            whole = then_all.whole;
+            is_of = then_all.is_of;
+            is_own = then_all.is_own;
+            all = sym same ∙ then_all.all;
+          };
     }

@@ -11,7 +11,7 @@ use Rattle.satip_world.specs.Dials.{Dial}
 use Rattle.satip_world.specs.Recordings.{StoreView}
 use Rattle.satip_jobs.specs.declared.seat.Seat.{Seat}
 use Rattle.satip_jobs.specs.Works.{IsSameSeat}
-use Rattle.satip_serve.specs.Deeds.{PumpDid, TickerDid}
+use Rattle.satip_serve.specs.Deeds.{PumpDid, TickerDid, job_state}
 use Rattle.satip_desk.specs.Views.{pump_view, tick_view}
 use Rattle.satip_tunnel_serve.specs.Deeds.{SeatDid, pump_deed, ticker_deed}
 use Rattle.satip_tunnel.specs.declared.silent.Silent.{Silent}
@@ -33,10 +33,11 @@ module _ {X : Type 0} (known : X → Known) (may_want : X → Bool) (same : X �
     deed = record {
       pumped = pump_unheard x.number (pump_view shelf silent_outbox x.kit) (pump_view shelf silent_outbox y.kit) (known_by (pass x.caller))
           (known_by (pass y.caller)) y.end
-          (subst (λ (l : Known). PumpDid ⊥ x.number (pump_view shelf silent_outbox x.kit) (known_by (pass x.caller))
-          (pump_view shelf silent_outbox y.kit) l y.end)
+          (subst (λ (l : Known). PumpDid ⊥ x.number (job_state (pump_view shelf silent_outbox x.kit) (known_by (pass x.caller)))
+          (job_state (pump_view shelf silent_outbox y.kit) l) y.end)
           (serves.known_is y.caller)
-          (subst (λ (k : Known). PumpDid ⊥ x.number (pump_view shelf silent_outbox x.kit) k (pump_view shelf silent_outbox y.kit) (known y.caller) y.end)
+          (subst (λ (k : Known). PumpDid ⊥ x.number (job_state (pump_view shelf silent_outbox x.kit) k)
+          (job_state (pump_view shelf silent_outbox y.kit) (known y.caller)) y.end)
           (serves.known_is x.caller) did.deed));
       others = (serves.same_caller x.caller y.caller did.same_is).others;
     };
@@ -49,9 +50,11 @@ module _ {X : Type 0} (known : X → Known) (may_want : X → Bool) (same : X �
     deed = record {
       ticked = ticker_unheard (tick_view dial silent_outbox x.kit) (tick_view dial silent_outbox y.kit) (known_by (pass x.caller))
           (known_by (pass y.caller)) y.end
-          (subst (λ (l : Known). TickerDid ⊥ (tick_view dial silent_outbox x.kit) (known_by (pass x.caller)) (tick_view dial silent_outbox y.kit) l y.end)
+          (subst (λ (l : Known). TickerDid ⊥ (job_state (tick_view dial silent_outbox x.kit) (known_by (pass x.caller)))
+          (job_state (tick_view dial silent_outbox y.kit) l) y.end)
           (serves.known_is y.caller)
-          (subst (λ (k : Known). TickerDid ⊥ (tick_view dial silent_outbox x.kit) k (tick_view dial silent_outbox y.kit) (known y.caller) y.end)
+          (subst (λ (k : Known). TickerDid ⊥ (job_state (tick_view dial silent_outbox x.kit) k)
+          (job_state (tick_view dial silent_outbox y.kit) (known y.caller)) y.end)
           (serves.known_is x.caller) did.deed));
       others = (serves.same_caller x.caller y.caller did.same_is).others;
     };

@@ -16,6 +16,8 @@ pub from_start : (conn_tells : Type 0) (c : Setting) (start : ℕ) (given now : 
 from_start conn_tells c start given now pass left end is workers pumps reads outbox ran =
     let at_start : Reads given.ticker.dial now.ticker.dial c.start = subst (λ (s : ℕ). Reads given.ticker.dial now.ticker.dial s) (sym is) reads in
     record {
+      number = ran.number;
+      joined = ran.joined;
       kits_left = record {
         keys = ran.kits_left.keys ∙ ap (λ (ws : List WorkerView). map (λ (w : WorkerView). w.key) ws) workers;
         recordings = ran.kits_left.recordings ∙ ap (λ (ps : List PumpView). map (λ (p : PumpView). p.recording) ps) pumps;

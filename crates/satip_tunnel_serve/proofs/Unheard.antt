@@ -6,7 +6,7 @@ use Rattle.satip_world.specs.Deliveries.{Delivers, LeavesOut}
 use Rattle.satip_world.specs.Deliveries.LeavesOut.{no_more, went}
 use Rattle.satip_world.specs.Outboxes.{fresh_outbox}
 use Rattle.satip_jobs.specs.declared.end.ServeEnd.{ServeEnd}
-use Rattle.satip_serve.specs.Deeds.{PumpDid, TickerDid}
+use Rattle.satip_serve.specs.Deeds.{PumpDid, TickerDid, job_state}
 use Rattle.satip_desk.specs.Views.{PumpView, TickView}
 
 all_went : (ds : List Datagram) → LeavesOut ds ds 0
@@ -17,14 +17,14 @@ all_went (d ∷ ds) = went (all_went ds)
 unheard : (ds : List Datagram) → Delivers ⊥ fresh_outbox fresh_outbox ds
 unheard ds = record { sent = ds; missing = 0; leaves_out = all_went ds; content = λ no. absurd no; faults = inl (omega arith); kept = omega arith }
 
-pub pump_unheard : (number : ℕ) (o n : PumpView) (k l : Known) (end : ServeEnd) → PumpDid ⊥ number o k n l end
-    → PumpDid ⊥ number (record o { outbox = fresh_outbox }) k (record n { outbox = fresh_outbox }) l end
+pub pump_unheard : (number : ℕ) (o n : PumpView) (k l : Known) (end : ServeEnd) → PumpDid ⊥ number (job_state o k) (job_state n l) end
+    → PumpDid ⊥ number (job_state (record o { outbox = fresh_outbox }) k) (job_state (record n { outbox = fresh_outbox }) l) end
 pump_unheard number o n k l end did = record {
   ended = did.ended;
   end_is = did.end_is;
-  recordings = did.recordings;
   run = record {
     entries = did.run.entries;
+    recordings = did.run.recordings;
     due = did.run.due;
     early = did.run.early;
     adds = did.run.adds;
@@ -39,8 +39,8 @@ pump_unheard number o n k l end did = record {
   memory = did.memory;
 }
 
-pub ticker_unheard : (o n : TickView) (k l : Known) (end : ServeEnd) → TickerDid ⊥ o k n l end
-    → TickerDid ⊥ (record o { outbox = fresh_outbox }) k (record n { outbox = fresh_outbox }) l end
+pub ticker_unheard : (o n : TickView) (k l : Known) (end : ServeEnd) → TickerDid ⊥ (job_state o k) (job_state n l) end
+    → TickerDid ⊥ (job_state (record o { outbox = fresh_outbox }) k) (job_state (record n { outbox = fresh_outbox }) l) end
 ticker_unheard o n k l end did = record {
   ended = did.ended;
   end_is = did.end_is;

@@ -1,5 +1,5 @@
 -- What all jobs of a tunnel did is a run of it.
-use Rattle.std.proofs.Common.{◌≡◌, ◌≢◌, ℕ, ◌⊎◌, inl, inr, true, List, map, sym, ap, ◌∙◌, subst, length}
+use Rattle.std.proofs.Common.{◌≡◌, ◌≢◌, ℕ, true, List, map, sym, ap, ◌∙◌, subst, length}
 use Rattle.std.proofs.lemmas.List.{length-map}
 use Rattle.satip_base.specs.Lists.{Each}
 use Rattle.satip_plain.specs.declared.setting.Setting.{Setting}
@@ -12,54 +12,17 @@ use Rattle.satip_jobs.specs.declared.posts.Posts.{Posts}
 use Rattle.satip_jobs.specs.declared.seat.Seat.{Seat}
 use Rattle.satip_jobs.specs.Crewed.{RunDid}
 use Rattle.satip_jobs.specs.Passes.{IsFull}
-use Rattle.satip_jobs.specs.Runs.{HasOne, HasNoStop, MatchEnd, Run, StopsOnce}
+use Rattle.satip_jobs.specs.Runs.{HasOne, MatchEnd}
 use Rattle.satip_jobs.proofs.Ended.{end_over}
-use Rattle.satip_jobs.proofs.WholeRuns.{run_over}
+use Rattle.satip_jobs.proofs.WholeRuns.{run_by}
 use Rattle.satip_desk.specs.Fresh.{FreshWorker, FreshPump, FreshJobs, ReadOnce}
 use Rattle.satip_serve.specs.Services.{IsFirst}
 use Rattle.satip_desk.specs.Views.{WorkerView, PumpView, TickView}
 use Rattle.satip_serve.proofs.WholeRuns.{each_map, map_twice}
 use Rattle.satip_tunnel_serve.specs.Deeds.{SeatDid, TunnelWorkerDid, TunnelPumpDid, TunnelTickerDid}
-use Rattle.satip_tunnel_serve.specs.Done.{TunnelRow, TunnelWorkerDone, TunnelPumpDone, TunnelTickerDone}
-use Rattle.satip_tunnel_serve.specs.TunnelRuns.{IsTunnelStop, TunnelEndTells, TunnelServeRun}
+use Rattle.satip_tunnel_serve.specs.TunnelRuns.{IsTunnelStop, TunnelEndTells, TunnelServeRun, tunnel_terms}
 use Rattle.satip_tunnel_serve.proofs.Ended.{one_worker_tells, one_pump_tells, one_ticker_tells}
 use Rattle.satip_tunnel_serve.proofs.Finishing.{worker_done, tunnel_pump_done, tunnel_ticker_done}
-
-stops_once : (is_stop : TunnelItem → Type 0) → ((t : TunnelItem) → is_stop t → IsTunnelStop t) → (h : List TunnelItem) (callers : List TunnelRow)
-    → StopsOnce is_stop h callers ⊎ HasNoStop h → StopsOnce IsTunnelStop h callers ⊎ HasNoStop h
-stops_once is_stop stops h callers (inl once) = inl (record {
-  before = once.before;
-  stop = once.stop;
-  after = once.after;
-  are = once.are;
-  is_stop = stops once.stop once.is_stop;
-  own = once.own;
-  last = once.last;
-})
-stops_once is_stop stops h callers (inr never) = inr never
-
-run_is_tunnels : (is_stop : TunnelItem → Type 0) (legal : Setting → List TunnelItem → Type 0) → ((t : TunnelItem) → is_stop t → IsTunnelStop t)
-    → ((c : Setting) (h : List TunnelItem) → legal c h → TunnelLegal c h)
-    → (conn_tells : Type 0) (c : Setting) (accepts : ℕ) (seen : List TunnelItem) (kept : List TunnelRow)
-    (workers : List WorkerView) (pumps : List PumpView) (ticker : TickView)
-    → Run c legal is_stop (TunnelWorkerDone conn_tells (IsFull seen) accepts) (TunnelPumpDone (IsFull seen)) (TunnelTickerDone (IsFull seen) c.start)
-    seen kept workers pumps ticker
-    → TunnelServeRun conn_tells c accepts seen kept workers pumps ticker
-run_is_tunnels is_stop legal stops lawful conn_tells c accepts seen kept workers pumps ticker run = record {
-  of_workers = run.of_workers;
-  of_pumps = run.of_pumps;
-  of_ticker = run.of_ticker;
-  callers = run.callers;
-  worker_count = run.worker_count;
-  pump_count = run.pump_count;
-  entries = run.entries;
-  lawful = lawful c seen run.lawful;
-  worked = run.worked;
-  pumped = run.pumped;
-  ticked = run.ticked;
-  stopped = stops_once is_stop stops seen run.of_workers run.stopped;
-  covered = run.covered;
-}
 
 -- kits of which a part is seen to be the same are as many
 pub as_many : {K V U : Type 0} (see : K → V) (part : V → U) (xs ys : List K) → map part (map see xs) ≡ map part (map see ys) → length xs ≡ length ys
@@ -113,41 +76,37 @@ module _ {X G W L P M T N : Type 0} (cell : X → Cell Setting) (pass : X → Sh
       → FreshJobs (cell o).setting.start accepts
       (record { workers = map worker_of before.workers.items; pumps = map pump_of before.pumps.items; ticker = tick_of before.ticker })
       → length before.workers.items ≡ (cell o).setting.config.workers → length before.pumps.items ≡ length (cell o).setting.config.fronts
-      → TunnelServeRun conn_tells (cell o).setting accepts (pass n).seen (pass n).kept (map worker_of after.workers.items) (map pump_of after.pumps.items)
-      (tick_of after.ticker)
+      → TunnelServeRun conn_tells (cell o).setting accepts (pass n)
+      (record { workers = map worker_of after.workers.items; pumps = map pump_of after.pumps.items; ticker = tick_of after.ticker })
   tunnel_run stops lawful accepts first knows fresh worker_count pump_count =
       let c : Setting = (cell o).setting in
       let full : Type 0 = IsFull (pass n).seen in
       let worked = works conn_tells worker_of in
       let pumped = pumps_so pump_of in
       let ticked = ticks tick_of in
-      let whole : Run c legal is_stop (TunnelWorkerDone conn_tells full accepts) (TunnelPumpDone full) (TunnelTickerDone full c.start)
-      (pass n).seen (pass n).kept (map (λ (s : Seat X W L). worker_of s.kit) run.front.ended) (map (λ (s : Seat X P M). pump_of s.kit) run.second_ended)
+      let R : List WorkerView → List PumpView → TickView → Type 0 = λ ws ps t.
+      TunnelServeRun conn_tells c accepts (pass n) (record { workers = ws; pumps = ps; ticker = t }) in
+      let whole : R (map (λ (s : Seat X W L). worker_of s.kit) run.front.ended) (map (λ (s : Seat X P M). pump_of s.kit) run.second_ended)
       (tick_of run.third_ended.kit) =
-      run_over cell pass gear legal is_stop goes_on (SeatDid cell pass worked) (SeatDid cell pass pumped) (SeatDid cell pass ticked) o before n after end run
+      run_by cell pass gear legal is_stop goes_on (SeatDid cell pass worked) (SeatDid cell pass pumped) (SeatDid cell pass ticked) o before n after end run
       (λ (s : Seat X W L). worker_of s.kit) (λ (s : Seat X P M). pump_of s.kit) (λ (s : Seat X T N). tick_of s.kit)
       (λ (s : Seat X W L). FreshWorker accepts (worker_of s.kit)) (λ (s : Seat X P M). FreshPump (pump_of s.kit))
       (λ (s : Seat X T N). ReadOnce c.start (tick_of s.kit))
-      (TunnelWorkerDone conn_tells full accepts) (TunnelPumpDone full) (TunnelTickerDone full c.start)
-      (λ (x y : Seat X W L) did kit none filled. worker_done conn_tells full accepts x.number (pass y.caller).number kit.told (worker_of x.kit)
+      (tunnel_terms conn_tells full c accepts) lawful stops (λ is whole. whole)
+      (λ (x y : Seat X W L) did kit none filled ends. worker_done conn_tells full accepts x.number (pass y.caller).number kit.told (worker_of x.kit)
       (worker_of y.kit)
       (at x) (at y) y.end did.deed kit.hall none filled)
-      (λ (x y : Seat X P M) did kit none filled. tunnel_pump_done full x.number (pass y.caller).number (pump_of x.kit) (pump_of y.kit) (at x) (at y) y.end
+      (λ (x y : Seat X P M) did kit none filled ends. tunnel_pump_done full x.number (pass y.caller).number (pump_of x.kit) (pump_of y.kit) (at x) (at y) y.end
       did.deed kit none filled)
-      (λ (x y : Seat X T N) did kit none filled. tunnel_ticker_done full c.start (pass y.caller).number kit.told (tick_of x.kit) (tick_of y.kit)
+      (λ (x y : Seat X T N) did kit none filled ends. tunnel_ticker_done full c.start (pass y.caller).number (tick_of x.kit) (tick_of y.kit)
       (at x) (at y) y.end
-      did.deed kit.reads kit.outbox none filled)
+      did.deed kit none filled)
       (λ (x y : Seat X W L) did. did.still) (λ (x y : Seat X P M) did. did.still) (λ (x y : Seat X T N) did. did.still)
       first.number first.own first.kept first.made knows (workers_fresh accepts fresh.workers_are) (pumps_fresh fresh.pumps_are) (ticker_fresh fresh.ticker_is)
       worker_count pump_count in
-      run_is_tunnels is_stop legal stops lawful conn_tells c accepts (pass n).seen (pass n).kept (map worker_of after.workers.items)
-      (map pump_of after.pumps.items) (tick_of after.ticker)
-      (subst (λ (t : T). Run c legal is_stop (TunnelWorkerDone conn_tells full accepts) (TunnelPumpDone full) (TunnelTickerDone full c.start)
-      (pass n).seen (pass n).kept (map worker_of after.workers.items) (map pump_of after.pumps.items) (tick_of t)) (sym run.ticker_is)
-      (subst (λ (ps : List PumpView). Run c legal is_stop (TunnelWorkerDone conn_tells full accepts) (TunnelPumpDone full) (TunnelTickerDone full c.start)
-      (pass n).seen (pass n).kept (map worker_of after.workers.items) ps (tick_of run.third_ended.kit)) pumps_seen
-      (subst (λ (ws : List WorkerView). Run c legal is_stop (TunnelWorkerDone conn_tells full accepts) (TunnelPumpDone full) (TunnelTickerDone full c.start)
-      (pass n).seen (pass n).kept ws (map (λ (s : Seat X P M). pump_of s.kit) run.second_ended) (tick_of run.third_ended.kit)) workers_seen whole)))
+      subst (λ (t : T). R (map worker_of after.workers.items) (map pump_of after.pumps.items) (tick_of t)) (sym run.ticker_is)
+      (subst (λ (ps : List PumpView). R (map worker_of after.workers.items) ps (tick_of run.third_ended.kit)) pumps_seen
+      (subst (λ (ws : List WorkerView). R ws (map (λ (s : Seat X P M). pump_of s.kit) run.second_ended) (tick_of run.third_ended.kit)) workers_seen whole))
 
   pub end_tells : (accepts : ℕ) → Knows (legal (cell o).setting) (pass n) → Each (FreshWorker accepts) (map worker_of before.workers.items)
       → TunnelEndTells end (pass n).seen (map worker_of after.workers.items)

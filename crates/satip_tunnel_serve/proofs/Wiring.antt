@@ -44,32 +44,32 @@ leave_own x (t ∷ u ∷ ts) leave = absurd leave
 none_own : (x : ℕ) (es : List TunnelItem) → es ≡ [] → AreOf x es
 none_own x es none = subst (AreOf x) (sym none) tt
 
-leaves_own : (x seen : ℕ) (end : TunnelEnd) (es : List TunnelItem) → Leaves x seen end es → AreOf x es
-leaves_own x seen end_full es leaves = absurd leaves
-leaves_own x seen end_broken es leaves = ⊎_elim (λ is. leave_own x es is) (λ is. none_own x es is.0) leaves
-leaves_own x seen end_done es leaves = leave_own x es leaves
-leaves_own x seen end_unread es leaves = leave_own x es leaves
-leaves_own x seen end_lost es leaves = ⊎_elim (λ is. leave_own x es is) (λ is. none_own x es is.0) leaves
-leaves_own x seen end_spent es leaves = none_own x es leaves.0
+leaves_own : (x : ℕ) (full : Type 0) (end : TunnelEnd) (es : List TunnelItem) → Leaves x full end es → AreOf x es
+leaves_own x full end_full es leaves = absurd leaves
+leaves_own x full end_broken es leaves = ⊎_elim (λ is. leave_own x es is) (λ is. none_own x es is.0) leaves
+leaves_own x full end_done es leaves = leave_own x es leaves
+leaves_own x full end_unread es leaves = leave_own x es leaves
+leaves_own x full end_lost es leaves = ⊎_elim (λ is. leave_own x es is) (λ is. none_own x es is.0) leaves
+leaves_own x full end_spent es leaves = none_own x es leaves.0
 
-lane_own : (x : ℕ) (draws : List Draw) (received sent : List ℕ) (seen : ℕ) (end : TunnelEnd) (es : List TunnelItem)
-    → LaneRun x draws received sent seen end es → AreOf x es
-lane_own x draws received sent seen end es run =
+lane_own : (x : ℕ) (draws : List Draw) (received sent : List ℕ) (full : Type 0) (end : TunnelEnd) (es : List TunnelItem)
+    → LaneRun x draws received sent full end es → AreOf x es
+lane_own x draws received sent full end es run =
     subst (AreOf x) (sym run.entries_are)
     (Each-append (λ (u : TunnelItem). IsOfGiven (x ∷ []) u.event) run.body run.last
-    (walk_own x run.body _ run.stance run.walk) (leaves_own x seen end run.last run.leaves))
+    (walk_own x run.body _ run.stance run.walk) (leaves_own x full end run.last run.leaves))
 
 -- behind an Enter
-entered_own : (event : TunnelEvent) (answer : TunnelAnswer) (draws : List Draw) (received sent : List ℕ) (seen : ℕ) (end : TunnelEnd) (es : List TunnelItem)
-    → event ≡ Enter → EnteredRun answer draws received sent seen end es → Each (λ (u : TunnelItem). IsOfGiven (given_by event answer) u.event) es
-entered_own event answer draws received sent seen end es is run =
+entered_own : (event : TunnelEvent) (answer : TunnelAnswer) (draws : List Draw) (received sent : List ℕ) (full : Type 0) (end : TunnelEnd) (es : List TunnelItem)
+    → event ≡ Enter → EnteredRun answer draws received sent full end es → Each (λ (u : TunnelItem). IsOfGiven (given_by event answer) u.event) es
+entered_own event answer draws received sent full end es is run =
     subst (λ e. Each (λ (u : TunnelItem). IsOfGiven (given_by e answer) u.event) es) (sym is) (by answer run)
   where
     none : (given : List ℕ) → es ≡ [] → Each (λ (u : TunnelItem). IsOfGiven given u.event) es
     none given e = subst (Each (λ (u : TunnelItem). IsOfGiven given u.event)) (sym e) tt
 
-    by : (answer : TunnelAnswer) → EnteredRun answer draws received sent seen end es → Each (λ (u : TunnelItem). IsOfGiven (given_by Enter answer) u.event) es
-    by (Lane number) run = lane_own number draws received sent seen end es run
+    by : (answer : TunnelAnswer) → EnteredRun answer draws received sent full end es → Each (λ (u : TunnelItem). IsOfGiven (given_by Enter answer) u.event) es
+    by (Lane number) run = lane_own number draws received sent full end es run
     by Full run = none [] run.1.none
     by (InnerAnswer a) run = absurd run
     by (Frames count) run = absurd run
@@ -79,9 +79,9 @@ entered_own event answer draws received sent seen end es is run =
     by Left run = absurd run
 
 pub runs_drain_own : EntersDrainOwn → RunsDrainOwn
-runs_drain_own own draws received sent seen end [] run = tt
-runs_drain_own own draws received sent seen end (t ∷ ts) run =
-    own t ts run.0 (entered_own t.event t.answer draws received sent seen end ts run.0 run.1)
+runs_drain_own own draws received sent end [] run = tt
+runs_drain_own own draws received sent end (t ∷ ts) run =
+    own t ts run.0 (entered_own t.event t.answer draws received sent (Unit {0}) end ts run.0 run.1)
 
 -- pieces
 
@@ -149,18 +149,18 @@ record IsOwnRun (x : ℕ) (t : TunnelItem) (ts : List TunnelItem) : Type 0 where
   event : t.event ≡ Enter
   rest : AreOf x ts
 
-run_of : (x : ℕ) (draws : List Draw) (received sent : List ℕ) (seen : ℕ) (end : TunnelEnd) (t : TunnelItem) (ts : List TunnelItem) → t.answer ≡ Lane x
-    → TunnelRun draws received sent seen end (t ∷ ts) → IsOwnRun x t ts
-run_of x draws received sent seen end t ts given run = record {
+run_of : (x : ℕ) (draws : List Draw) (received sent : List ℕ) (full : Type 0) (end : TunnelEnd) (t : TunnelItem) (ts : List TunnelItem) → t.answer ≡ Lane x
+    → TunnelRun draws received sent full end (t ∷ ts) → IsOwnRun x t ts
+run_of x draws received sent full end t ts given run = record {
   event = run.0;
-  rest = lane_own x draws received sent seen end ts (subst (λ a. EnteredRun a draws received sent seen end ts) given run.1);
+  rest = lane_own x draws received sent full end ts (subst (λ a. EnteredRun a draws received sent full end ts) given run.1);
 }
 
 pub wires_have_lanes : ConnectionsTakeFirst → WiresHaveLanes
-wires_have_lanes takes c h before entries numbers caller x draws received sent seen end legal callers part run given =
+wires_have_lanes takes c h before entries numbers caller x draws received sent end legal callers part run given =
     let t : TunnelItem = given.first in
     let ts : List TunnelItem = given.rest in
-    let own = run_of x draws received sent seen end t ts given.given (subst (TunnelRun draws received sent seen end) given.whole run) in
+    let own = run_of x draws received sent (Unit {0}) end t ts given.given (subst (TunnelRun draws received sent (Unit {0}) end) given.whole run) in
     let gives : enters x t.event t.answer ≡ true =
     ap (λ e. enters x e t.answer) own.event ∙ ap (enters x Enter) given.given ∙ same_numbers x x refl in
     let in_entries : Has t entries = subst (Has t) (sym given.whole) (inl refl) in

@@ -39,10 +39,25 @@ pub record HasChannels (c : Setting) (h : List TunnelItem) (s : SessionId) (x : 
   pub channel : is_channel_port ports.rtp ≡ true
   pub two : ports.rtcp ≢ ports.rtp
 
+-- the session was set up on the lane, with one pair of channels: it has an accepted SETUP, and all of them came from the lane's connection with these channels.
+-- No accepted SETUP of another session asks for the first of them there
+pub record OwnsChannels (c : Setting) (h : List TunnelItem) (s : SessionId) (x : ℕ) (ports : Ports) : Type 0 where
+  pub setup : SetUp
+  pub has : Has setup (set_ups c (inners h))
+  pub of : same_id setup.session s ≡ true
+  pub its_own : Each (λ u. same_id u.session s ≡ true → (u.peer.ip ≡ x) × (u.ports ≡ ports)) (set_ups c (inners h))
+  pub others : Each (λ u. same_id u.session s ≡ false → LeavesPort x ports.rtp u) (set_ups c (inners h))
+
 -- the packets in these frames on the first channel are a prefix of the session's payload, and of the packets that are selected for it
 pub record CarryPayload (c : Setting) (h : List TunnelItem) (s : SessionId) (ports : Ports) (frames : List (List ℕ)) : Type 0 where
   pub payload : Begins (packets_on (ports.rtp - 1) frames) (payload c (inners h) s)
   pub selected : Begins (packets_on (ports.rtp - 1) frames) ((readings c (inners h)).selected s)
+
+-- the same for each RTSP session of a history that alone has its channels on a lane
+abbrev pub CarriesOnChannels : Setting → List TunnelItem → Type 0
+CarriesOnChannels c h =
+    (m : Made) (x : ℕ) (ports : Ports) (frames : List (List ℕ)) → Has m (readings c (inners h)).made → m.http ≡ false
+    → HasChannels c h m.id x ports → Begins frames (lane h x) → CarryPayload c h m.id ports frames
 
 -- the same for each prefix of the lane's frames, and each RTSP session that alone has its channels there
 abbrev pub ChannelsCarryPayload : Type 0

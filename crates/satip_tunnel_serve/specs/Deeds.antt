@@ -14,7 +14,7 @@ use Rattle.satip_tunnel.specs.Seats.{seated, Seat as CallerSeat}
 use Rattle.satip_jobs.specs.declared.end.ServeEnd.{ServeEnd}
 use Rattle.satip_jobs.specs.declared.seat.Seat.{Seat}
 use Rattle.satip_jobs.specs.Works.{IsSameSeat}
-use Rattle.satip_serve.specs.Deeds.{PumpDid, TickerDid}
+use Rattle.satip_serve.specs.Deeds.{PumpDid, TickerDid, job_state}
 use Rattle.satip_serve.specs.Ends.{end_of_worker}
 use Rattle.satip_desk.specs.Views.{WorkerView, PumpView, TickView}
 use Rattle.satip_tunnel.specs.WorkerRun.{ServesDoors}
@@ -25,7 +25,7 @@ pub record TunnelWorkerDid (conn_tells : Type 0) (number : ℕ) (o : WorkerView)
   pub ended : WorkerEnd
   pub end_is : end ≡ end_of_worker ended
   pub key : n.key ≡ o.key
-  pub serves : ServesDoors conn_tells o.key number s t o.hall n.hall ended
+  pub serves : ServesDoors conn_tells o.key number (record { seat = s; hall = o.hall }) (record { seat = t; hall = n.hall }) ended
 
 -- the same at its seat: the job has the same number, its caller the same tunnel, and its pass the same number, kept rows and numbers of passes made
 pub record WorkedAtSeat (conn_tells : Type 0) (before after : ℕ) (o : WorkerView) (s : CallerSeat) (n : WorkerView) (t : CallerSeat) (end : ServeEnd) : Type 0 where
@@ -36,12 +36,12 @@ pub record WorkedAtSeat (conn_tells : Type 0) (before after : ℕ) (o : WorkerVi
 
 -- a pump did what a pump of the server does, and made no entry of the lanes
 pub record TunnelPumpDid (number : ℕ) (o : PumpView) (s : CallerSeat) (n : PumpView) (t : CallerSeat) (end : ServeEnd) : Type 0 where
-  pub pumped : PumpDid ⊥ number o (known_by s.pass) n (known_by t.pass) end
+  pub pumped : PumpDid ⊥ number (job_state o (known_by s.pass)) (job_state n (known_by t.pass)) end
   pub others : outers t.pass.own ≡ outers s.pass.own
 
 -- the ticker did what that of the server does, and made no entry of the lanes
 pub record TunnelTickerDid (o : TickView) (s : CallerSeat) (n : TickView) (t : CallerSeat) (end : ServeEnd) : Type 0 where
-  pub ticked : TickerDid ⊥ o (known_by s.pass) n (known_by t.pass) end
+  pub ticked : TickerDid ⊥ (job_state o (known_by s.pass)) (job_state n (known_by t.pass)) end
   pub others : outers t.pass.own ≡ outers s.pass.own
 
 -- these effects as relations of kits

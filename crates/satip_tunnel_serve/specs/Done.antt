@@ -1,6 +1,5 @@
 -- The work of each job of a tunnel when all have ended.
 use Rattle.std.specs.Prelude.{◌≡◌, ◌≢◌, ℕ, ◌⊎◌, true, List, [], map}
-use Rattle.satip_base.specs.declared.limits.TheConstants.{LONGEST_HISTORY}
 use Rattle.satip_base.specs.Output.{Output}
 use Rattle.satip_base.specs.Lists.{Each}
 use Rattle.satip_turn.specs.declared.view.Row.{Row}
@@ -24,8 +23,9 @@ TunnelRow = Row TunnelEvent TunnelAnswer Output
 abbrev pub inner_row : TunnelRow → Caller
 inner_row r = row r.number (inners r.own)
 
--- a worker: its doors have this limit, and they ended or failed, or the history is full. Each connection that arrived was handed back, in order. The worker's
--- entries are those of these connections, with the draws of its key and its number
+-- a worker: its doors have this limit, and they ended or failed, or the history is full: `full` says that. Each connection that arrived was handed back, in
+-- order. The worker's entries are those of these connections, with the draws of its key and its number. A connection that was given a lane gave it up, unless
+-- the history is full
 pub record TunnelWorkerDone (conn_tells full : Type 0) (accepts number : ℕ) (worker : WorkerView) (caller : TunnelRow) : Type 0 where
   pub limit : worker.hall.limit ≡ accepts
   pub ended : (worker.hall.ended ≡ true) ⊎ ((worker.hall.faults ≢ 0) ⊎ full)
@@ -33,11 +33,7 @@ pub record TunnelWorkerDone (conn_tells full : Type 0) (accepts number : ℕ) (w
   pub draws : ℕ
   pub came : worker.hall.told ≡ true → worker.hall.given ≡ map arrival_of connections
   pub handed_back : worker.hall.told ≡ true → worker.hall.returned ≡ connections
-  -- some numbers between which the lengths of the history seen at the ends of the connections are; `last` is the largest length only if the history is full
-  pub first : ℕ
-  pub last : ℕ
-  pub served : ServesAll conn_tells (draw_at worker.key number) 0 draws first last connections caller.own
-  pub filled : last ≡ LONGEST_HISTORY → full
+  pub served : ServesAll conn_tells full (draw_at worker.key number) 0 draws connections caller.own
   pub in_time : Each (EndsInTime full) connections
 
 -- the pump of a front end did what a pump of the server does, and has no entry of the lanes. Nothing is said of its outlet

@@ -14,8 +14,8 @@ pub mod Pieces
 pub mod Replies
 pub mod Wires
 pub mod Splits
-pub mod Runs
 pub mod Outlets
 pub mod Sent
+pub mod Runs
 pub mod Ends
 pub use Rattle.satip_tunnel.specs.Silences

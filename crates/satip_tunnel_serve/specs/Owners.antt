@@ -82,20 +82,22 @@ pub record IsConnectionOf (h before entries : List TunnelItem) (caller : ℕ) : 
   pub own : DrainsOwn entries
   pub after_own : DrainsOwn after
 
--- these frames are all that the lane had at some moment of the history, at which the caller had made these entries
-pub record AreAllThen (h own : List TunnelItem) (caller x : ℕ) (taken : List (List ℕ)) : Type 0 where
+-- these frames are all that the lane had directly before this entry of the history. It is the caller's next entry after these
+pub record AreAllBefore (h own : List TunnelItem) (entry : TunnelItem) (caller x : ℕ) (taken : List (List ℕ)) : Type 0 where
   pub earlier : List TunnelItem
-  pub begins : Begins earlier h
+  pub later : List TunnelItem
+  pub whole : h ≡ earlier ++ entry ∷ later
+  pub is_of : entry.caller ≡ caller
   pub is_own : own_of caller earlier ≡ own
   pub all : taken ≡ lane earlier x
 
 -- a connection's drains of its lane took a prefix of the lane's frames, each of them whole. If the last of these drains was answered that no frame waits, they
--- took all frames that the lane had at some earlier moment, at which the caller had made the entries before that drain
+-- took all frames that the lane had before that drain
 pub record IsLaneOfConnection (h before entries : List TunnelItem) (caller x : ℕ) : Type 0 where
   pub taken : List (List ℕ)
   pub joined : concat taken ≡ drained entries x
   pub first : Begins taken (lane h x)
-  pub all : (part : List TunnelItem) → EndsEmpty entries part x → AreAllThen h (before ++ part) caller x taken
+  pub all : (part : List TunnelItem) → (ends : EndsEmpty entries part x) → AreAllBefore h (before ++ part) ends.last caller x taken
 
 -- the same for each connection that is given a lane, if callers drain only lanes that they were given
 abbrev pub ConnectionsTakeFirst : Type 0

@@ -7,16 +7,19 @@ use Rattle.satip_interleave.specs.Calling.{ShownPass}
 use Rattle.satip_jobs.specs.declared.end.ServeEnd.{ServeEnd}
 use Rattle.satip_desk.specs.declared.kits.Jobs.{Jobs}
 use Rattle.satip_serve.specs.Ran.{ComeBack}
+use Rattle.satip_turn.specs.Views.{numbers_of}
 use Rattle.satip_desk.specs.Views.{JobsView}
 use Rattle.satip_tunnel_serve.specs.TunnelRuns.{TunnelServeRun, TunnelEndTells}
 
--- jobs ran in this setting with the given kits, up to this pass, and left these kits, all seen without their outlets. The workers' keys and the pumps'
--- recordings come back in order. If the given kits were new (`AreNew`), it was a run of the tunnel, and all doors ended, those of a worker failed, or the
--- history is full
+-- jobs ran in this setting with the given kits, up to this pass, and left these kits, all seen without their outlets. The pass is that of caller 0; each pass
+-- that was split off was joined into it, in order. The workers' keys and the pumps' recordings come back in order. If the given kits were new (`AreNew`), it
+-- was a run of the tunnel, and all doors ended, those of a worker failed, or the history is full
 pub record TunnelJobsRan (conn_tells : Type 0) (AreNew : ℕ → JobsView → Type 0) (c : Setting) (given : JobsView) (pass : ShownPass) (left : JobsView)
     (end : ServeEnd) : Type 0 where
+  pub number : pass.number ≡ 0
+  pub joined : pass.made ≡ numbers_of pass.kept
   pub kits_left : ComeBack given left
-  pub run : (accepts : ℕ) → AreNew accepts given → TunnelServeRun conn_tells c accepts pass.seen pass.kept left.workers left.pumps left.ticker
+  pub run : (accepts : ℕ) → AreNew accepts given → TunnelServeRun conn_tells c accepts pass left
   pub ended : (accepts : ℕ) → AreNew accepts given → TunnelEndTells end pass.seen left.workers
 
 -- jobs ran so over this tunnel, and `pass` is a pass of it

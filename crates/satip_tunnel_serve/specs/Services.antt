@@ -14,7 +14,8 @@ use Rattle.satip_interleave.specs.Calling.{ShownPass, SameCaller, known_by}
 use Rattle.satip_tunnel.specs.Seats.{Seat as CallerSeat}
 use Rattle.satip_jobs.specs.declared.end.ServeEnd.{ServeEnd}
 use Rattle.satip_jobs.specs.declared.seat.Seat.{Seat}
-use Rattle.satip_serve.specs.Deeds.{pump_deed as pumps_by, ticker_deed as ticks_by}
+use Rattle.satip_desk.specs.Views.{pump_view, tick_view}
+use Rattle.satip_serve.specs.Deeds.{PumpDid, TickerDid}
 use Rattle.satip_serve.specs.Services.{NeverWants, SeatDid as ServesAtSeat}
 use Rattle.satip_tunnel.specs.declared.silent.Silent.{Silent}
 use Rattle.satip_tunnel.specs.Kits.{silent_outbox}
@@ -33,10 +34,10 @@ pub record ServesInTunnel {X : Type 0} (known : X → Known) (may_want : X → B
 
 -- a pump or the ticker ran at its seat, over the same service, with an outlet that sends nothing
 abbrev pub PumpedAtSeat : {X M P L : Type 0} → (same : X → X → Type 0) → (X → Known) → (M → StoreView) → Seat X (PumpKit M Silent P) L → Seat X (PumpKit M Silent P) L → Type 0
-PumpedAtSeat same known shelf before after = ServesAtSeat same known (pumps_by ⊥ shelf silent_outbox) before after
+PumpedAtSeat same known shelf before after = ServesAtSeat same known (pump_view shelf silent_outbox) (PumpDid ⊥) before after
 
 abbrev pub TickedAtSeat : {X C P L : Type 0} → (same : X → X → Type 0) → (X → Known) → (C → Dial) → Seat X (TickKit C Silent P) L → Seat X (TickKit C Silent P) L → Type 0
-TickedAtSeat same known dial before after = ServesAtSeat same known (ticks_by ⊥ dial silent_outbox) before after
+TickedAtSeat same known dial before after = ServesAtSeat same known (tick_view dial silent_outbox) (λ _. TickerDid ⊥) before after
 
 -- this work may be done on any job, and has this effect at its seat
 pub record WorksSo {X K M F : Type 0} (cell : X → Cell Setting) (pass : X → ShownPass) (did : ℕ → K → CallerSeat → K → CallerSeat → ServeEnd → Type 0)

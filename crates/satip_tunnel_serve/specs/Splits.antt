@@ -7,7 +7,7 @@ use Rattle.satip_tunnel_serve.specs.Pieces.{IsPiece, IsReply}
 use Rattle.satip_plain.specs.declared.setting.Setting.{Setting}
 use Rattle.satip_interleave.specs.Histories.{TunnelItem, TunnelLegal}
 use Rattle.satip_tunnel_serve.specs.LaneFrames.{EndsEmpty, lane}
-use Rattle.satip_tunnel_serve.specs.Owners.{AreAllThen, CallersDrainOwn, IsConnectionOf}
+use Rattle.satip_tunnel_serve.specs.Owners.{AreAllBefore, CallersDrainOwn, IsConnectionOf}
 use Rattle.satip_tunnel.specs.declared.ends.TunnelEnd.{TunnelEnd}
 use Rattle.satip_tunnel.specs.TunnelRun.{TunnelRun}
 use Rattle.satip_tunnel.specs.Wire.{wire}
@@ -24,20 +24,20 @@ abbrev pub is_framed : List ℕ → Bool
 is_framed part = slice_index part 0 == 36
 
 -- the wire is replies and frames, in this way and in no other. The frames among its parts are a prefix of the lane's. If the last drain was answered that no
--- frame waits, they are all frames that the lane had at some earlier moment: one at which the caller had made the entries before that drain
+-- frame waits, they are all frames that the lane had before that drain
 pub record WireSplits (h before entries : List TunnelItem) (caller x : ℕ) : Type 0 where
   pub parts : List (List ℕ)
   pub each : Each IsPiece parts
   pub joined : flat_map (λ part. part) parts ≡ wire entries
   pub only : (others : List (List ℕ)) → Each IsPiece others → flat_map (λ part. part) others ≡ wire entries → others ≡ parts
   pub first : Begins (filter is_framed parts) (lane h x)
-  pub all : (part : List TunnelItem) → EndsEmpty entries part x → AreAllThen h (before ++ part) caller x (filter is_framed parts)
+  pub all : (part : List TunnelItem) → (ends : EndsEmpty entries part x) → AreAllBefore h (before ++ part) ends.last caller x (filter is_framed parts)
 
 -- the same for each run of a connection that was given a lane, if callers drain only lanes that they were given and the connection's replies have the form of
 -- replies
 abbrev pub WiresSplitOneWay : Type 0
 WiresSplitOneWay =
     (c : Setting) (h before entries : List TunnelItem) (numbers : List ℕ) (caller x : ℕ)
-    (draws : List Draw) (received sent : List ℕ) (seen : ℕ) (end : TunnelEnd)
-    → TunnelLegal c h → CallersDrainOwn numbers h → IsConnectionOf h before entries caller → TunnelRun draws received sent seen end entries
+    (draws : List Draw) (received sent : List ℕ) (end : TunnelEnd)
+    → TunnelLegal c h → CallersDrainOwn numbers h → IsConnectionOf h before entries caller → TunnelRun draws received sent (Unit {0}) end entries
     → IsGivenAtFirst x entries → AreReplies (pieces entries) → WireSplits h before entries caller x

@@ -3,25 +3,37 @@ use Rattle.std.specs.Prelude.{◌≡◌, ◌≢◌, ℕ, true, List}
 use Rattle.satip_base.specs.Lists.{Each}
 use Rattle.satip_plain.specs.declared.events.Event.TheVariants.{Stop}
 use Rattle.satip_plain.specs.declared.setting.Setting.{Setting}
+use Rattle.satip_interleave.specs.Calling.{ShownPass}
+use Rattle.satip_interleave.specs.declared.events.TunnelAnswer.{TunnelAnswer}
+use Rattle.satip_interleave.specs.declared.events.TunnelEvent.{TunnelEvent}
 use Rattle.satip_interleave.specs.declared.events.TunnelEvent.TheVariants.{Inner}
 use Rattle.satip_interleave.specs.Histories.{TunnelItem, TunnelLegal}
 use Rattle.satip_jobs.specs.declared.end.ServeEnd.{ServeEnd}
 use Rattle.satip_jobs.specs.Passes.{IsFull}
-use Rattle.satip_jobs.specs.Runs.{HasOne, MatchEnd, Run}
-use Rattle.satip_desk.specs.Views.{WorkerView, PumpView, TickView}
-use Rattle.satip_tunnel_serve.specs.Done.{TunnelRow, TunnelWorkerDone, TunnelPumpDone, TunnelTickerDone}
+use Rattle.satip_jobs.specs.Runs.{HasOne, MatchEnd, Run, Terms}
+use Rattle.satip_desk.specs.Views.{WorkerView, PumpView, TickView, JobsView}
+use Rattle.satip_tunnel_serve.specs.Done.{TunnelWorkerDone, TunnelPumpDone, TunnelTickerDone}
 
 -- the server's event Stop
 abbrev pub IsTunnelStop : TunnelItem → Type 0
 IsTunnelStop t = t.event ≡ Inner Stop
 
--- all jobs ran over one history of the tunnel, which is legal in the setting and of which `seen` was seen. Each entry, of the server or of the lanes, has the
+-- the terms of a tunnel's run; `full` says that the history is full
+abbrev pub tunnel_terms : (conn_tells full : Type 0) (c : Setting) (accepts : ℕ) → Terms TunnelEvent TunnelAnswer WorkerView PumpView TickView
+tunnel_terms conn_tells full c accepts = record {
+  legal = λ d h. TunnelLegal d h;
+  is_stop = λ t. IsTunnelStop t;
+  full = full;
+  worked = λ number worker caller. TunnelWorkerDone conn_tells full accepts number worker caller;
+  pumped = λ number pump caller. TunnelPumpDone full number pump caller;
+  ticked = λ ticker caller. TunnelTickerDone full c.start ticker caller;
+}
+
+-- all jobs ran over one history of the tunnel, which is legal in the setting and which `pass` has seen. Each entry, of the server or of the lanes, has the
 -- number of a job's caller or is the one stop; a full history counts both kinds
-abbrev pub TunnelServeRun : (conn_tells : Type 0) (c : Setting) (accepts : ℕ) (seen : List TunnelItem) (kept : List TunnelRow) → List WorkerView → List PumpView
-    → TickView → Type 0
-TunnelServeRun conn_tells c accepts seen kept workers pumps ticker =
-    Run c TunnelLegal IsTunnelStop (TunnelWorkerDone conn_tells (IsFull seen) accepts) (TunnelPumpDone (IsFull seen)) (TunnelTickerDone (IsFull seen) c.start)
-    seen kept workers pumps ticker
+abbrev pub TunnelServeRun : (conn_tells : Type 0) (c : Setting) (accepts : ℕ) (pass : ShownPass) → JobsView → Type 0
+TunnelServeRun conn_tells c accepts pass jobs =
+    Run c (tunnel_terms conn_tells (IsFull pass.seen) c accepts) pass (record { workers = jobs.workers; pumps = jobs.pumps; ticker = jobs.ticker })
 
 -- all doors ended, those of one worker failed, or the history is full
 abbrev pub TunnelEndTells : ServeEnd → List TunnelItem → List WorkerView → Type 0

@@ -12,7 +12,7 @@ use Rattle.satip_interleave.specs.declared.events.TunnelAnswer.{TunnelAnswer}
 use Rattle.satip_interleave.specs.declared.events.TunnelAnswer.TheVariants.{Lane, Frames}
 use Rattle.satip_interleave.specs.Histories.{TunnelItem, TunnelLegal}
 use Rattle.satip_tunnel_serve.specs.LaneFrames.{EndsEmpty, lane}
-use Rattle.satip_tunnel_serve.specs.Owners.{AreAllThen, CallersDrainOwn, DrainsOwn, IsConnectionOf}
+use Rattle.satip_tunnel_serve.specs.Owners.{AreAllBefore, CallersDrainOwn, DrainsOwn, IsConnectionOf}
 use Rattle.satip_tunnel.specs.declared.ends.TunnelEnd.{TunnelEnd}
 use Rattle.satip_tunnel.specs.TunnelRun.{TunnelRun}
 use Rattle.satip_tunnel.specs.Wire.{wire}
@@ -52,24 +52,24 @@ pub record IsGivenAtFirst (x : ℕ) (entries : List TunnelItem) : Type 0 where
   pub given : first.answer ≡ Lane x
 
 -- the wire of a connection is its pieces, and the frames among them are a prefix of its lane's, each of them whole. If the last drain was answered that no
--- frame waits, they are all frames that the lane had at some earlier moment: one at which the caller had made the entries before that drain
+-- frame waits, they are all frames that the lane had before that drain
 pub record WireHasLane (h before entries : List TunnelItem) (caller x : ℕ) : Type 0 where
   pub split : bytes_of (pieces entries) ≡ wire entries
   pub taken : List (List ℕ)
   pub joined : concat taken ≡ frames_of (pieces entries)
   pub first : Begins taken (lane h x)
-  pub all : (part : List TunnelItem) → EndsEmpty entries part x → AreAllThen h (before ++ part) caller x taken
+  pub all : (part : List TunnelItem) → (ends : EndsEmpty entries part x) → AreAllBefore h (before ++ part) ends.last caller x taken
 
--- the run of a connection drains and gives up only the lane that it was given
+-- the run of a connection drains and gives up only the lane that it was given, full history or not
 abbrev pub RunsDrainOwn : Type 0
 RunsDrainOwn =
-    (draws : List Draw) (received sent : List ℕ) (seen : ℕ) (end : TunnelEnd) (entries : List TunnelItem) → TunnelRun draws received sent seen end entries
+    (draws : List Draw) (received sent : List ℕ) (end : TunnelEnd) (entries : List TunnelItem) → TunnelRun draws received sent (Unit {0}) end entries
     → DrainsOwn entries
 
 -- the same for each run of a connection that was given a lane, if callers drain only lanes that they were given
 abbrev pub WiresHaveLanes : Type 0
 WiresHaveLanes =
     (c : Setting) (h before entries : List TunnelItem) (numbers : List ℕ) (caller x : ℕ)
-    (draws : List Draw) (received sent : List ℕ) (seen : ℕ) (end : TunnelEnd)
-    → TunnelLegal c h → CallersDrainOwn numbers h → IsConnectionOf h before entries caller → TunnelRun draws received sent seen end entries
+    (draws : List Draw) (received sent : List ℕ) (end : TunnelEnd)
+    → TunnelLegal c h → CallersDrainOwn numbers h → IsConnectionOf h before entries caller → TunnelRun draws received sent (Unit {0}) end entries
     → IsGivenAtFirst x entries → WireHasLane h before entries caller x

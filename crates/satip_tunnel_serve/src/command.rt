@@ -1,17 +1,17 @@
 //! `tunnel`: reads a configuration, takes the kits of all jobs from the desk, and serves.
 
-ghost use Rattle.std.specs.Prelude.{◌≡◌, ℕ, List, Option, Some, None, length, IfSome, MatchOption};
+ghost use Rattle.std.specs.Prelude.{◌≡◌, ℕ, List, Some, None, length, IfSome, MatchOption};
 ghost use Rattle.satip_fronts.specs.FrontEnds.{IsNumbered};
 ghost use Rattle.satip_config.specs.Configurations.{IsServed};
 ghost use Rattle.satip_desk.specs.Fresh.{AreFresh};
-ghost use Rattle.satip_desk.specs.Views.{jobs_view};
+ghost use Rattle.satip_desk.specs.Views.{DeskView, jobs_view};
 ghost use Rattle.satip_tunnel.specs.Silences.{no_outbox};
 ghost use Rattle.satip_world.specs.Recordings.{IsStarted};
 ghost use Rattle.satip_desk.specs.Given.{ComeUnused};
 ghost use Rattle.satip_serve.specs.Servings.{IsEndOfRun, IsOneOf};
 ghost use Rattle.satip_desk.specs.Fresh.{AreUnused};
 ghost use Rattle.satip_serve.specs.Statuses.{serving_status};
-ghost use Rattle.satip_tunnel_serve.specs.Ends.{TunnelServingRun, Tunnels};
+ghost use Rattle.satip_tunnel_serve.specs.Ends.{TunnelServingRun, Tunnels, tunnel_last_view, tunnel_left, tunnel_tells};
 
 use crate::all_jobs::{TunnelLast, serve_through_tunnel};
 use crate::command_laws::keeps_laws;
@@ -47,9 +47,9 @@ fn run_kits<
     ensures one { IsOneOf result.last result.unused }
     ensures config { IfSome result.last (λ last. last.server.setting.config ≡ config) }
     ensures ran { IfSome result.last (λ last. TunnelServingRun D.Conn.tells _accepts
-        (jobs_view D.hall O.outbox M.shelf C.dial)
-        (jobs_view D.hall no_outbox M.shelf C.dial)
-        (jobs_view D.hall O.outbox M.shelf C.dial jobs) last (serving_status result.end)) }
+        (jobs_view D.hall O.outbox M.shelf C.dial jobs)
+        (tunnel_last_view (jobs_view D.hall O.outbox M.shelf C.dial)
+        (jobs_view D.hall no_outbox M.shelf C.dial) last) (serving_status result.end)) }
     ensures begun { MatchOption result.last (result.end ≡ ServingEnd.OutOfMemory)
         (λ _. IsEndOfRun result.end) }
     ensures kits_unused { IfSome result.unused (λ kits. ComeUnused
@@ -87,19 +87,20 @@ fn run_source<R: Threads + Wait + Sync, K: Desk>(
     TunnelLast<K::Doors, K::Outlet, K::Pacer, K::Store, K::Clock>,
     Jobs<K::Doors, K::Outlet, K::Pacer, K::Store, K::Clock>,
 >
-    requires new { K.given desk.old ≡ None }
-    ensures texts { K.text desk.new ≡ K.text desk.old }
-    ensures handed { K.handed desk.new ≡ K.handed desk.old }
-    ensures journaled { K.journaled desk.new ≡ K.journaled desk.old }
-    ensures ends { (text : Option (List ℕ))
-        → IsStarted K.Config.tells (K.Config.feed source.old) text
+    requires new { (K.desk desk.old).given ≡ None }
+    ensures texts { (K.desk desk.new).text ≡ (K.desk desk.old).text }
+    ensures handed { (K.desk desk.new).handed ≡ (K.desk desk.old).handed }
+    ensures journaled { (K.desk desk.new).journaled ≡ (K.desk desk.old).journaled }
+    ensures ends { (name : List ℕ) (d : DeskView)
+        → IsStarted K.Config.tells (K.Config.feed source.old) (d.text name)
         → (K.Config.feed source.old).taken ≡ 0
-        → Tunnels K.Config.tells K.Doors.Conn.tells
-        (λ fault. result.end ≡ ServingEnd.Configuration fault) accepts
-        text (K.faults desk.old) (K.faults desk.new) K.Config.feed (Some source.new)
+        → (K.desk desk.old).faults ≡ d.faults
+        → Tunnels (tunnel_tells K.Config.tells K.Doors.Conn.tells)
+        (λ fault. result.end ≡ ServingEnd.Configuration fault) accepts name d (K.desk desk.new)
+        (tunnel_left K.Config.feed
         (jobs_view K.Doors.hall K.Outlet.outbox K.Store.shelf K.Clock.dial)
-        (jobs_view K.Doors.hall no_outbox K.Store.shelf K.Clock.dial)
-        (K.given desk.new) result.last result.unused (serving_status result.end) }
+        (jobs_view K.Doors.hall no_outbox K.Store.shelf K.Clock.dial) (Some source.new)
+        result.last result.unused (serving_status result.end)) }
 {
     let config = match read_configuration(alloc, source) {
         Ok(config) => config,
@@ -134,17 +135,16 @@ pub fn tunnel_by<R: Threads + Wait + Sync, K: Desk>(
     accepts: u32,
     desk: &mut K,
 ) -> Tunneled<K>
-    requires new { K.given desk.old ≡ None }
-    ensures texts { K.text desk.new ≡ K.text desk.old }
-    ensures handed { K.handed desk.new ≡ K.handed desk.old }
-    ensures journaled { K.journaled desk.new ≡ K.journaled desk.old }
-    ensures ends { Tunnels K.Config.tells K.Doors.Conn.tells
-        (λ fault. result.end ≡ ServingEnd.Configuration fault) accepts
-        (K.text desk.old name.now) (K.faults desk.old) (K.faults desk.new)
-        K.Config.feed result.config
+    requires new { (K.desk desk.old).given ≡ None }
+    ensures texts { (K.desk desk.new).text ≡ (K.desk desk.old).text }
+    ensures handed { (K.desk desk.new).handed ≡ (K.desk desk.old).handed }
+    ensures journaled { (K.desk desk.new).journaled ≡ (K.desk desk.old).journaled }
+    ensures ends { Tunnels (tunnel_tells K.Config.tells K.Doors.Conn.tells)
+        (λ fault. result.end ≡ ServingEnd.Configuration fault) accepts name.now
+        (K.desk desk.old) (K.desk desk.new) (tunnel_left K.Config.feed
         (jobs_view K.Doors.hall K.Outlet.outbox K.Store.shelf K.Clock.dial)
-        (jobs_view K.Doors.hall no_outbox K.Store.shelf K.Clock.dial)
-        (K.given desk.new) result.last result.unused (serving_status result.end) }
+        (jobs_view K.Doors.hall no_outbox K.Store.shelf K.Clock.dial) result.config
+        result.last result.unused (serving_status result.end)) }
 {
     match desk.config(name) {
         Ok(mut source) => {

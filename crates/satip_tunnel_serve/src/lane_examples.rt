@@ -5,8 +5,8 @@ ghost use Rattle.satip_base.specs.History.{own_of};
 ghost use Rattle.satip_interleave.specs.Lanes.{no_lanes};
 ghost use Rattle.satip_interleave.specs.Histories.{LanesFrom};
 ghost use Rattle.satip_tunnel_serve.specs.LaneFrames.{drained, lane};
-ghost use Rattle.satip_tunnel_serve.specs.Owners.{CallersDrainOwn, DrainsOwn};
-ghost use Rattle.satip_tunnel_serve.specs.Rows.{drain_none, enter, framed, leave, visit};
+ghost use Rattle.satip_tunnel_serve.specs.Owners.{AreAllBefore, CallersDrainOwn, DrainsOwn};
+ghost use Rattle.satip_tunnel_serve.specs.Rows.{drain, drain_none, enter, framed, leave, visit};
 
 /// Shows the frames of a lane: those sent to its channels while it is held. They are one byte to
 /// channel 0, one to channel 1, and one more after a drain that took the first two.
@@ -29,4 +29,9 @@ pub fn worked_owners()
     ensures not_of_another { ¬ (DrainsOwn (own_of 5 (enter 4 1 ∷ drain_none 5 1 ∷ []))) }
     ensures not_before { ¬ (DrainsOwn (drain_none 4 1 ∷ enter 4 1 ∷ [])) }
     ensures not_left_by_another { ¬ (DrainsOwn (enter 4 1 ∷ leave 4 2 ∷ [])) }
+
+    // Its second drain finds no frame behind the two that the first one took.
+    ensures all_before { AreAllBefore visit
+        (enter 4 1 ∷ drain 4 1 (36 ∷ 0 ∷ 0 ∷ 1 ∷ 11 ∷ 36 ∷ 1 ∷ 0 ∷ 1 ∷ 13 ∷ []) ∷ [])
+        (drain_none 4 1) 4 1 (framed 0 11 ∷ framed 1 13 ∷ []) }
 {}

@@ -25,7 +25,7 @@ pub fn lanes_are_own()
 }
 
 /// Proves that the drains of a connection took a prefix of its lane's frames. They took all that
-/// the lane had at some earlier moment, if the last of them was answered that no frame waits.
+/// the lane had before the last of them, if that was answered that no frame waits.
 pub fn connections_take_first()
     ensures law { ConnectionsTakeFirst }
 {

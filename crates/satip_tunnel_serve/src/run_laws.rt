@@ -14,12 +14,14 @@ pub fn jobs_drain_own<D: Doors>()
     runs_drain_own();
 }
 
-/// Proves that in a run the frames on the wire of a connection are a prefix of its lane's, each of
-/// them whole. They are all that the lane had at some earlier moment, if the last drain was
-/// answered that no frame waits. All else on the wire is rewritten replies.
+/// Proves that in a run the frames on the wire of each connection are a prefix of its lane's, each
+/// of them whole. They are all that the lane had before the last drain, if that was answered that no
+/// frame waits. All else on the wire is rewritten replies.
 pub fn connections_have_lanes<D: Doors>()
     ensures law { ConnectionsHaveLanes D.Conn.tells }
 {
+    connections_drain_own();
+    runs_drain_own();
     jobs_drain_own::<D>();
     wires_have_lanes();
 }

@@ -15,9 +15,9 @@ pub fn runs_drain_own()
 }
 
 /// Proves that the frames on the wire of a connection are a prefix of its lane's, each of them
-/// whole, if callers drain only lanes that they were given. They are all that the lane had at some
-/// earlier moment, if the last drain was answered that no frame waits. All else on the wire is
-/// rewritten replies.
+/// whole, if callers drain only lanes that they were given. They are all that the lane had before
+/// the last drain, if that was answered that no frame waits. All else on the wire is rewritten
+/// replies.
 pub fn wires_have_lanes()
     ensures law { WiresHaveLanes }
 {

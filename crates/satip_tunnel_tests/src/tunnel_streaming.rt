@@ -40,8 +40,27 @@ const REPORT: &[u8] =
     \x00\x80\xcc\x00\x18\x90\x3d\xf1\xa0SES1\x00\x00\x00\x52ver=1.0;\
     src=1;tuner=1,240,1,15,11361.75,h,dvbs2,8psk,on,0.35,22000,23;pids=0,16,17\x00\x00";
 
-/// A connection over memory. Before its second receive a tick comes, before its third six packets
-/// and one more.
+/// A connection: the pieces that it receives, and which of its sends fail. Before the receive of
+/// this number these packets come, and a tick behind them if there is one.
+#[derive(Clone, Copy)]
+struct Row<'a> {
+    pieces: &'a [&'a [u8]],
+    failing_sends: &'a [u64],
+    receive: u32,
+    packets: u32,
+    tick: bool,
+}
+
+// Six packets and a tick come before the only receive that finds nothing.
+const STREAM: Row<'static> = Row {
+    pieces: &[SETUP_INTERLEAVED, PLAY, b""],
+    failing_sends: &[],
+    receive: 3,
+    packets: 6,
+    tick: true,
+};
+
+/// A connection over memory. A tick comes before its second receive, and packets before a later one.
 #[derive(Drop)]
 struct Fed<S: Service + Drop> {
     conn: MemoryConn,
@@ -49,6 +68,9 @@ struct Fed<S: Service + Drop> {
     packet: Packet,
     out: Out,
     receives: u32,
+    fed_at: u32,
+    packets: u32,
+    tick: bool,
 }
 
 // Makes an event, whatever it is answered.
@@ -56,21 +78,40 @@ fn feed<S: Service>(feeder: &mut S, event: &Event, out: &mut Out) {
     let _answer = feeder.call(event, out);
 }
 
-// Makes what comes before a receive, by its number from 1.
-fn feed_before<S: Service>(feeder: &mut S, receive: u32, packet: &Packet, out: &mut Out) {
-    if receive == 2 {
-        feed(feeder, &Event::Tick { now: 1000 }, out);
+// Makes so many packets, and a tick behind them if there is one.
+fn feed_packets<S: Service>(
+    feeder: &mut S,
+    packet: &Packet,
+    packets: u32,
+    tick: bool,
+    out: &mut Out,
+) {
+    let event = Event::Packet {
+        front: 1,
+        tune: 1,
+        packet: *packet,
+    };
+    for _packet in 0..packets {
+        feed(feeder, &event, out);
     }
-    if receive == 3 {
-        let event = Event::Packet {
-            front: 1,
-            tune: 1,
-            packet: *packet,
-        };
-        for _packet in 0..6 {
-            feed(feeder, &event, out);
-        }
+    if tick {
         feed(feeder, &Event::Tick { now: 1040 }, out);
+    }
+}
+
+// Makes what comes before the next receive.
+fn feed_before<S: Service + Drop>(fed: &mut Fed<S>) {
+    if fed.receives == 2 {
+        feed(&mut fed.feeder, &Event::Tick { now: 1000 }, &mut fed.out);
+    }
+    if fed.receives == fed.fed_at {
+        feed_packets(
+            &mut fed.feeder,
+            &fed.packet,
+            fed.packets,
+            fed.tick,
+            &mut fed.out,
+        );
     }
 }
 
@@ -81,7 +122,7 @@ impl<S: Service + Drop> Conn for Fed<S> {
 
     fn receive(&mut self, buf: &mut [u8]) -> Received {
         self.receives = self.receives.saturating_add(1);
-        feed_before(&mut self.feeder, self.receives, &self.packet, &mut self.out);
+        feed_before(self);
         self.conn.receive(buf)
     }
 
@@ -90,14 +131,18 @@ impl<S: Service + Drop> Conn for Fed<S> {
     }
 }
 
-// A connection that sets up and plays, which is fed by this service.
-fn fed_by<S: Service + Drop>(alloc: Global, feeder: S) -> Result<Fed<S>, Fail> {
+// A connection that sets up and plays, which is fed by this service. A send that fails passes ten
+// bytes.
+fn fed_by<S: Service + Drop>(alloc: Global, feeder: S, row: &Row<'_>) -> Result<Fed<S>, Fail> {
     Ok(Fed {
-        conn: MemoryConn::make(alloc, &[SETUP_INTERLEAVED, PLAY, b""], &[], &[], 0)?,
+        conn: MemoryConn::make(alloc, row.pieces, &[], row.failing_sends, 10)?,
         feeder,
         packet: packet(16)?,
         out: Out::make(alloc)?,
         receives: 0,
+        fed_at: row.receive,
+        packets: row.packets,
+        tick: row.tick,
     })
 }
 
@@ -115,37 +160,26 @@ fn wanted(alloc: Global) -> Result<Vec<u8>, Fail> {
     )
 }
 
-// What a connection came to: how it ended, what it was sent, and how many entries of its caller
-// there were with those of the other.
+// The outcome of a connection: how it ended, what it was sent, how many entries of its caller there
+// were with those of the other, and how often it paused.
 #[derive(Drop)]
 struct Streamed {
     end: TunnelEnd,
     sent: Vec<u8>,
     entries: u64,
+    pauses: u64,
 }
 
-fn outcome(
-    alloc: Global,
-    conn: &MemoryConn,
-    end: TunnelEnd,
-    entries: u64,
-) -> Result<Streamed, Fail> {
-    Ok(Streamed {
-        end,
-        sent: Vec::from_slice(alloc, conn.sent())?,
-        entries,
-    })
-}
-
-// Serves the connection: how it ended.
+// Serves the connection: how it ended, and how often it paused.
 fn serve<R: Wait + Sync, S: Service + Drop>(
     caller: &mut TunnelCaller<R>,
     conn: &mut Fed<S>,
     room: &mut TunnelRoom,
-) -> TunnelEnd {
+) -> (TunnelEnd, u64) {
     let mut pacer = MemoryPacer::new();
     let mut draws = Draws::make(&KEY, 0);
-    serve_tunnel(caller, conn, &mut pacer, &mut draws, room)
+    let end = serve_tunnel(caller, conn, &mut pacer, &mut draws, room);
+    (end, pacer.pauses())
 }
 
 // Serves the connection of one caller, which another caller feeds.
@@ -154,6 +188,7 @@ fn stream<R: Wait + Sync>(
     alloc: Global,
     server: &SharedTunnel,
     pass: TunnelPass,
+    row: &Row<'_>,
 ) -> Result<Streamed, Fail>
     requires of { IsOf pass server.now }
     requires knows { Knows (TunnelLegal server.now.setting) pass }
@@ -166,10 +201,15 @@ fn stream<R: Wait + Sync>(
         server,
         pass: other,
     };
-    let mut conn = fed_by(alloc, feeder)?;
+    let mut conn = fed_by(alloc, feeder, row)?;
     let mut caller = TunnelCaller { rt, server, pass };
-    let end = serve(&mut caller, &mut conn, &mut room);
-    outcome(alloc, &conn.conn, end, caller.pass.place())
+    let (end, pauses) = serve(&mut caller, &mut conn, &mut room);
+    Ok(Streamed {
+        end,
+        sent: Vec::from_slice(alloc, conn.conn.sent())?,
+        entries: caller.pass.place(),
+        pauses,
+    })
 }
 
 #[test]
@@ -177,9 +217,65 @@ fn frames_are_sent_where_nothing_comes_in(rt: HostRuntime) -> Result<(), Fail> {
     let alloc = rt.alloc();
     let bytes = wanted(alloc)?;
     let (server, pass) = shared(alloc)?;
-    let seen = stream(&rt, alloc, &server, pass)?;
+    let seen = stream(&rt, alloc, &server, pass, &STREAM)?;
     assert_eq!(rt; seen.end, TunnelEnd::Done);
     assert_eq!(rt; seen.sent.as_slice(), bytes.as_slice());
     assert_eq!(rt; seen.entries, 16);
+    assert_eq!(rt; seen.pauses, 1);
+    Ok(())
+}
+
+#[test]
+fn each_receive_that_finds_nothing_drains(rt: HostRuntime) -> Result<(), Fail> {
+    let alloc = rt.alloc();
+    let bytes = wanted(alloc)?;
+    let (server, pass) = shared(alloc)?;
+    let row = Row {
+        pieces: &[SETUP_INTERLEAVED, PLAY, b"", b""],
+        receive: 4,
+        ..STREAM
+    };
+    let seen = stream(&rt, alloc, &server, pass, &row)?;
+    assert_eq!(rt; seen.end, TunnelEnd::Done);
+    assert_eq!(rt; seen.sent.as_slice(), bytes.as_slice());
+    assert_eq!(rt; seen.entries, 17);
+    assert_eq!(rt; seen.pauses, 2);
+    Ok(())
+}
+
+#[test]
+fn failed_send_of_frames_is_a_write_fault(rt: HostRuntime) -> Result<(), Fail> {
+    let alloc = rt.alloc();
+    let bytes = wanted(alloc)?;
+    let (server, pass) = shared(alloc)?;
+    let row = Row {
+        failing_sends: &[3],
+        ..STREAM
+    };
+    let seen = stream(&rt, alloc, &server, pass, &row)?;
+    assert_eq!(rt; seen.end, TunnelEnd::WriteFault);
+    assert_eq!(rt; seen.sent.len(), 254);
+    assert!(rt; bytes.as_slice().starts_with(seen.sent.as_slice()));
+    assert_eq!(rt; seen.entries, 15);
+    assert_eq!(rt; seen.pauses, 0);
+    Ok(())
+}
+
+// The lane has room for 393 datagrams of seven packets, each a frame of 1332 bytes. The connection
+// is sent them all behind 244 bytes of replies, and gives its lane up.
+#[test]
+fn broken_lane_ends_its_connection(rt: HostRuntime) -> Result<(), Fail> {
+    let alloc = rt.alloc();
+    let (server, pass) = shared(alloc)?;
+    let row = Row {
+        packets: 2758,
+        tick: false,
+        ..STREAM
+    };
+    let seen = stream(&rt, alloc, &server, pass, &row)?;
+    assert_eq!(rt; seen.end, TunnelEnd::Broken);
+    assert_eq!(rt; seen.sent.len(), 523720);
+    assert_eq!(rt; seen.entries, 2775);
+    assert_eq!(rt; seen.pauses, 0);
     Ok(())
 }

@@ -8,10 +8,10 @@ use Rattle.satip_http.specs.declared.requests.HttpRequest.{HttpRequest}
 use Rattle.satip_http.specs.Gets.{asked_get, broken_get}
 use Rattle.satip_frame.specs.Asking.{AsksSoFar, AsksNext, AsksLast}
 use Rattle.satip_world.specs.Lines.{Line, GotBytes, InputEnded, ReceiveFailed}
-use Rattle.satip_worker.specs.Progress.{Carries}
+use Rattle.satip_worker.specs.Progress.{Carries, SameFaults}
 use Rattle.satip_worker.specs.HttpRun.{asked_first}
 use Rattle.satip_worker.specs.FirstAsked.{AsksFirst, ReadAsked, ReadNothing, ReadFailed}
-use Rattle.satip_worker.proofs.ProgressLemmas.{carries_got, carries_on, carries_ended, carries_failed, rises_from}
+use Rattle.satip_worker.proofs.ProgressLemmas.{calm_counts, calm_then, carries_got, carries_on, carries_ended, carries_failed, rises_from}
 
 -- what is asked first stays when more bytes come
 pub first_longer : (text more : List ℕ) (request : HttpRequest) → AsksFirst text request → AsksFirst (text ++ more) request
@@ -78,15 +78,17 @@ first_broken text request last = inr (record {
 
 -- something was asked
 pub read_asked : (ct : Type 0) (l m m' : Line) (text buf : List ℕ) (count : ℕ) (request : HttpRequest) → Carries ct l m text []
-    → GotBytes ct m m' buf count → AsksFirst (text ++ take count buf) request → ReadAsked ct l m' request
-read_asked ct l m m' text buf count request before got first = record {
+    → SameFaults l m → GotBytes ct m m' buf count → AsksFirst (text ++ take count buf) request → ReadAsked ct l m' request
+read_asked ct l m m' text buf count request before calm got first = record {
   received = text ++ take count buf;
   first = first;
   goes_on = got.after;
   carries = carries_got ct l m m' text [] buf count before got;
+  calm = calm_then l m m' calm (calm_counts m m' got.counts);
 }
 
-module _ (ct : Type 0) (l m m' : Line) (text rest : List ℕ) (heard : AsksSoFar asked_get text [] rest) (before : Carries ct l m text []) where
+module _ (ct : Type 0) (l m m' : Line) (text rest : List ℕ) (heard : AsksSoFar asked_get text [] rest) (before : Carries ct l m text [])
+    (calm : SameFaults l m) where
   -- the input ended
   pub read_nothing : InputEnded ct m m' → ReadNothing ct l m'
   read_nothing ended = record {
@@ -94,6 +96,7 @@ module _ (ct : Type 0) (l m m' : Line) (text rest : List ℕ) (heard : AsksSoFar
     nothing = nothing_read text rest heard;
     ended = ended.after;
     carries = carries_on ct l m m' text [] before (carries_ended ct m m' ended);
+    calm = calm_then l m m' calm (calm_counts m m' ended.counts);
   }
 
   -- a receive failed
@@ -104,4 +107,5 @@ module _ (ct : Type 0) (l m m' : Line) (text rest : List ℕ) (heard : AsksSoFar
     goes_on = failed.after;
     carries = carries_on ct l m m' text [] before (carries_failed ct m m' failed);
     faults = rises_from l.receive_faults m.receive_faults m'.receive_faults before.receive_faults failed.receive_faults;
+    sends = failed.send_faults ∙ calm.send_faults;
   }

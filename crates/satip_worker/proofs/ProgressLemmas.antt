@@ -8,7 +8,7 @@ use Rattle.satip_plain.specs.Histories.{Item}
 use Rattle.satip_plain.specs.declared.answers.Answer.{Answer}
 use Rattle.satip_plain.specs.declared.events.Event.{Event}
 use Rattle.satip_world.specs.Counts.{Rises}
-use Rattle.satip_world.specs.Lines.{Line, GotBytes, WasIdle, InputEnded, ReceiveFailed}
+use Rattle.satip_world.specs.Lines.{Line, SameCounts, GotBytes, WasIdle, InputEnded, ReceiveFailed}
 use Rattle.satip_world.specs.Outboxes.{Outbox, locked, unlocked}
 use Rattle.satip_world.specs.Deliveries.{Delivers}
 use Rattle.satip_world.proofs.DeliveryLemmas.{delivers_none, delivers_then, delivers_within}
@@ -17,7 +17,7 @@ use Rattle.satip_plain.specs.Calls.{Made, Unmade}
 use Rattle.satip_plain.specs.declared.fault.ServiceFault.{ServiceFault}
 use Rattle.satip_plain.proofs.Growing.{adds_nothing, adds_then, adds_one, adds_no_more}
 use Rattle.satip_worker.specs.Answers.{datagrams_of}
-use Rattle.satip_worker.specs.Progress.{Stage, Makes, Carries}
+use Rattle.satip_worker.specs.Progress.{Stage, Makes, Carries, SameFaults}
 use Rattle.satip_worker.specs.Making.{MadeEvent, UnmadeEvent, MakesEvent}
 
 -- nothing was made yet
@@ -86,6 +86,25 @@ event_locked tells may_want may_want' k l o p m n event out (Err fault) into fre
   makes = makes_within tells may_want may_want' k l o p m n [] into freed unmade.makes;
   cause = unmade.cause;
 }
+
+-- no receive and no send failed yet
+pub calm_from : (l : Line) → SameFaults l l
+calm_from l = record { receive_faults = refl; send_faults = refl }
+
+-- and none later
+pub calm_then : (l m n : Line) → SameFaults l m → SameFaults m n → SameFaults l n
+calm_then l m n first second = record {
+  receive_faults = second.receive_faults ∙ first.receive_faults;
+  send_faults = second.send_faults ∙ first.send_faults;
+}
+
+-- no count rose
+pub calm_counts : (m n : Line) → SameCounts m n → SameFaults m n
+calm_counts m n counts = record { receive_faults = counts.receive_faults; send_faults = counts.send_faults }
+
+-- nothing came in
+pub calm_idle : (tells : Type 0) (m n : Line) → WasIdle tells m n → SameFaults m n
+calm_idle tells m n idle = record { receive_faults = idle.receive_faults; send_faults = idle.send_faults }
 
 -- nothing was received or sent yet
 pub carries_nothing : (tells : Type 0) (l : Line) → Carries tells l l [] []

@@ -15,10 +15,10 @@ use Rattle.satip_worker.specs.Answers.{ends_with, ends_with_last}
 use Rattle.satip_worker.specs.Ends.{LineEnds, ServiceEnds, is_unmade, end_of}
 use Rattle.satip_worker.specs.HttpRun.{Closes, FollowsPull, Pulls}
 use Rattle.satip_worker.specs.HttpTurns.{IsSome, IsNone, IsGone, ClosesSession}
-use Rattle.satip_worker.specs.Progress.{Stage, Makes, Carries}
+use Rattle.satip_worker.specs.Progress.{Stage, Makes, Carries, SameFaults}
 use Rattle.satip_worker.specs.Streaming.{Streams}
 use Rattle.satip_worker.specs.Turns.{ReplySent, ReplyLost, EntryMade, TurnUnmade}
-use Rattle.satip_worker.proofs.ProgressLemmas.{makes_nothing, makes_then, carries_nothing, carries_sent, carries_received, carries_on, rises_from}
+use Rattle.satip_worker.proofs.ProgressLemmas.{makes_nothing, makes_then, calm_counts, calm_from, calm_idle, calm_then, carries_nothing, carries_sent, carries_received, carries_on, rises_from}
 use Rattle.satip_worker.proofs.EventLemmas.{ends_with_last_push}
 
 -- the service made no entry
@@ -72,7 +72,7 @@ abbrev pub GoesOn : SessionId → List Item → List ℕ → Type 0
 GoesOn id entries sent =
     (end : ConnEnd) (further : List Item) (more : List ℕ) → Pulls id end further more → Pulls id end (entries ++ further) (sent ++ more)
 
--- the session was pulled so far
+-- the session was pulled so far, and nothing failed
 pub record StreamsOn (ct ot : Type 0) (id : SessionId) (o n : Stage) (l m : Line) : Type 0 where
   pub entries : List Item
   pub received : List ℕ
@@ -80,6 +80,7 @@ pub record StreamsOn (ct ot : Type 0) (id : SessionId) (o n : Stage) (l m : Line
   pub goes_on : GoesOn id entries sent
   pub makes : Makes ot o n entries
   pub carries : Carries ct l m received sent
+  pub calm : SameFaults l m
 
 -- no pull yet
 pub streams_from : (ct ot : Type 0) (id : SessionId) (o : Stage) (l : Line) → StreamsOn ct ot id o o l l
@@ -90,6 +91,7 @@ streams_from ct ot id o l = record {
   goes_on = λ end further more pulls. pulls;
   makes = makes_nothing ot o;
   carries = carries_nothing ct l;
+  calm = calm_from l;
 }
 
 -- one entry more, behind which the session goes on
@@ -118,7 +120,7 @@ after_empty id e event answer end further more pulls =
 
 module _ (ct ot : Type 0) (id : SessionId) (o n n' : Stage) (l m m' : Line) (on : StreamsOn ct ot id o n l m) where
   -- packets were sent
-  pub streams_sent : ReplySent ct ot n n' m m' (Pull id) IsSome → StreamsOn ct ot id o n' l m'
+  pub streams_sent : ReplySent ct ot (record { stage = n; line = m }) (record { stage = n'; line = m' }) (Pull id) IsSome → StreamsOn ct ot id o n' l m'
   streams_sent turn = record {
     entries = on.entries ++ turn.entry ∷ [];
     received = on.received;
@@ -126,10 +128,11 @@ module _ (ct ot : Type 0) (id : SessionId) (o n n' : Stage) (l m m' : Line) (on 
     goes_on = goes_further id on.entries on.sent turn.entry turn.entry.out.reply on.goes_on (after_sent id turn.entry turn.event_is turn.answer_is);
     makes = makes_then ot o n n' on.entries (turn.entry ∷ []) on.makes turn.makes;
     carries = carries_sent ct l m m' on.received on.sent turn.entry.out.reply on.carries turn.carries;
+    calm = calm_then l m m' on.calm turn.calm;
   }
 
   -- a pull found nothing
-  pub streams_empty : EntryMade ct ot n n' m m' (Pull id) IsNone → StreamsOn ct ot id o n' l m'
+  pub streams_empty : EntryMade ct ot (record { stage = n; line = m }) (record { stage = n'; line = m' }) (Pull id) IsNone → StreamsOn ct ot id o n' l m'
   streams_empty turn = record {
     entries = on.entries ++ turn.entry ∷ [];
     received = on.received;
@@ -137,10 +140,11 @@ module _ (ct ot : Type 0) (id : SessionId) (o n n' : Stage) (l m m' : Line) (on 
     goes_on = goes_further id on.entries on.sent turn.entry [] on.goes_on (after_empty id turn.entry turn.event_is turn.answer_is);
     makes = makes_then ot o n n' on.entries (turn.entry ∷ []) on.makes turn.makes;
     carries = carries_sent ct l m m' on.received on.sent [] on.carries turn.carries;
+    calm = calm_then l m m' on.calm turn.calm;
   }
 
   -- no further entry was made
-  pub streams_unmade : (fault : ServiceFault) → TurnUnmade ct ot n n' m m' fault → Streams ct ot id o n' l m' (end_of fault)
+  pub streams_unmade : (fault : ServiceFault) → TurnUnmade ct ot (record { stage = n; line = m }) (record { stage = n'; line = m' }) fault → Streams ct ot id (record { stage = o; line = l }) (record { stage = n'; line = m' }) (end_of fault)
   streams_unmade fault turn =
       let E : List Item → Type 0 = λ es. Makes ot o n' es in
       let W : Bool → Type 0 = λ w. Cause w n'.known fault in
@@ -156,7 +160,7 @@ module _ (ct ot : Type 0) (id : SessionId) (o n n' : Stage) (l m m' : Line) (on 
       }
 
   -- the session is gone
-  pub streams_gone : m'.ended ≡ false → EntryMade ct ot n n' m m' (Pull id) IsGone → Streams ct ot id o n' l m' Done
+  pub streams_gone : m'.ended ≡ false → EntryMade ct ot (record { stage = n; line = m }) (record { stage = n'; line = m' }) (Pull id) IsGone → Streams ct ot id (record { stage = o; line = l }) (record { stage = n'; line = m' }) Done
   streams_gone goes_on turn =
       let e = turn.entry in
       let P : Answer → Type 0 = λ a. FollowsPull id Done a e.out.reply [] [] (Pulls id Done []) in
@@ -167,7 +171,10 @@ module _ (ct ot : Type 0) (id : SessionId) (o n n' : Stage) (l m m' : Line) (on 
         pulls = on.goes_on Done (e ∷ []) [] (turn.event_is, subst P (sym turn.answer_is) (refl, refl, refl));
         makes = makes_then ot o n n' on.entries (e ∷ []) on.makes turn.makes;
         carries = carries_sent ct l m m' on.received on.sent [] on.carries turn.carries;
-        line_ends = inr (goes_on, ends_with_last_push on.entries e ∙ ap (λ (a : Answer). ends_with a) turn.answer_is);
+        line_ends = record {
+          is_over = inr (goes_on, ends_with_last_push on.entries e ∙ ap (λ (a : Answer). ends_with a) turn.answer_is);
+          calm = calm_then l m m' on.calm turn.calm;
+        };
         service_ends = tt;
       }
 
@@ -175,7 +182,7 @@ module _ (ct ot : Type 0) (id : SessionId) (o n n' n'' : Stage) (l m m' m'' : Li
   -- the session was closed behind an entry
   closed_behind : (e : Item) (cause : ConnEnd) (part : List ℕ) (received : List ℕ) → Makes ot n n' (e ∷ [])
       → (closed : ClosesSession ot n' n'' id cause end) → Pulls id end (e ∷ closed.entries) part
-      → Carries ct l m'' received (on.sent ++ part) → LineEnds cause l m'' false → Streams ct ot id o n'' l m'' end
+      → Carries ct l m'' received (on.sent ++ part) → LineEnds cause l m'' false → Streams ct ot id (record { stage = o; line = l }) (record { stage = n''; line = m'' }) end
   closed_behind e cause part received makes closed pulls carries ends =
       let L : List Item → Type 0 = λ es. LineEnds end l m'' (ends_with_last es) in
       let W : Bool → Type 0 = λ w. ServiceEnds end w n''.known in
@@ -193,30 +200,37 @@ module _ (ct ot : Type 0) (id : SessionId) (o n n' n'' : Stage) (l m m' m'' : Li
       }
 
   -- a send failed
-  pub streams_cut : m''.ended ≡ false → ReplyLost ct ot n n' m m'' (Pull id) IsSome
-      → ClosesSession ot n' n'' id WriteFault end → Streams ct ot id o n'' l m'' end
+  pub streams_cut : m''.ended ≡ false → ReplyLost ct ot (record { stage = n; line = m }) (record { stage = n'; line = m'' }) (Pull id) IsSome
+      → ClosesSession ot n' n'' id WriteFault end → Streams ct ot id (record { stage = o; line = l }) (record { stage = n''; line = m'' }) end
   streams_cut goes_on turn closed =
       let e = turn.entry in
       let P : Answer → Type 0 = λ a. FollowsPull id end a e.out.reply turn.part closed.entries (Pulls id end closed.entries) in
       closed_behind e WriteFault turn.part on.received turn.makes closed
       (turn.event_is, subst P (sym turn.answer_is.1) (inr (record { rest = turn.rest; part = turn.reply; closes = closed.closes })))
       (carries_sent ct l m m'' on.received on.sent turn.part on.carries turn.carries)
-      (record { goes_on = goes_on; faults = rises_from l.send_faults m.send_faults m''.send_faults on.carries.send_faults turn.faults })
+      (record {
+        goes_on = goes_on;
+        faults = rises_from l.send_faults m.send_faults m''.send_faults on.carries.send_faults turn.faults;
+        receives = turn.receives ∙ on.calm.receive_faults;
+      })
 
   -- nothing was queued, and the input ended
-  pub streams_ended : EntryMade ct ot n n' m m' (Pull id) IsNone → InputEnded ct m' m'' → ClosesSession ot n' n'' id Done end
-      → Streams ct ot id o n'' l m'' end
+  pub streams_ended : EntryMade ct ot (record { stage = n; line = m }) (record { stage = n'; line = m' }) (Pull id) IsNone → InputEnded ct m' m'' → ClosesSession ot n' n'' id Done end
+      → Streams ct ot id (record { stage = o; line = l }) (record { stage = n''; line = m'' }) end
   streams_ended turn ended closed =
       let e = turn.entry in
       let P : Answer → Type 0 = λ a. FollowsPull id end a e.out.reply [] closed.entries (Pulls id end closed.entries) in
       closed_behind e Done [] on.received turn.makes closed
       (turn.event_is, subst P (sym turn.answer_is) (inr (refl, inl closed.closes)))
       (carries_sent ct l m m'' on.received on.sent [] on.carries (carries_on ct m m' m'' [] [] turn.carries (ended_carries ct m' m'' ended)))
-      (inl (ended.after, refl))
+      (record {
+        is_over = inl (ended.after, refl);
+        calm = calm_then l m' m'' (calm_then l m m' on.calm turn.calm) (calm_counts m' m'' ended.counts);
+      })
 
   -- nothing was queued, and a receive failed
-  pub streams_failed : EntryMade ct ot n n' m m' (Pull id) IsNone → ReceiveFailed ct m' m'' → ClosesSession ot n' n'' id ReadFault end
-      → Streams ct ot id o n'' l m'' end
+  pub streams_failed : EntryMade ct ot (record { stage = n; line = m }) (record { stage = n'; line = m' }) (Pull id) IsNone → ReceiveFailed ct m' m'' → ClosesSession ot n' n'' id ReadFault end
+      → Streams ct ot id (record { stage = o; line = l }) (record { stage = n''; line = m'' }) end
   streams_failed turn failed closed =
       let e = turn.entry in
       let P : Answer → Type 0 = λ a. FollowsPull id end a e.out.reply [] closed.entries (Pulls id end closed.entries) in
@@ -229,6 +243,7 @@ module _ (ct ot : Type 0) (id : SessionId) (o n n' n'' : Stage) (l m m' m'' : Li
         unanswered = refl;
         faults = rises_from l.receive_faults m'.receive_faults m''.receive_faults
             (omega (arith, on.carries.receive_faults, turn.carries.receive_faults)) failed.receive_faults;
+        sends = failed.send_faults ∙ turn.calm.send_faults ∙ on.calm.send_faults;
       })
 
 -- the line went on by some bytes that were dropped
@@ -246,6 +261,7 @@ streams_got ct ot id o n l m m' buf count on got = record {
     receive_faults = omega (arith, got.counts.receive_faults);
     send_faults = omega (arith, got.counts.send_faults);
   });
+  calm = calm_then l m m' on.calm (calm_counts m m' got.counts);
 }
 
 -- nothing came in
@@ -263,4 +279,5 @@ streams_idle ct ot id o n l m m' on idle = record {
     receive_faults = omega (arith, idle.receive_faults);
     send_faults = omega (arith, idle.send_faults);
   });
+  calm = calm_then l m m' on.calm (calm_idle ct m m' idle);
 }

@@ -13,7 +13,7 @@ use Rattle.satip_world.specs.Halls.{Hall, Arrival, Return, Moved, LetIn, HadNone
 use Rattle.satip_world.specs.Lines.{Line}
 use Rattle.satip_worker.specs.declared.worker.WorkerEnd.TheVariants.{Closed, DoorsFault, Spent, Want}
 use Rattle.satip_worker.specs.Answers.{ends_with_last}
-use Rattle.satip_worker.specs.Drawing.{draw_at, before_draw}
+use Rattle.satip_worker.specs.Drawing.{draw_at, draws_at, before_draw}
 use Rattle.satip_worker.specs.Ends.{LineEnds, ServiceEnds, is_unmade}
 use Rattle.satip_worker.specs.Progress.{Stage, Makes}
 use Rattle.satip_worker.specs.WorkerRun.{arrival_of, ServesOne, ServedReturn, ServesAll, AreMade, LastUnmade, ServesDoors}
@@ -118,7 +118,7 @@ module _ (ct ot : Type 0) (key : List ℕ) (stream : ℕ) (o n : Stage) (before 
   calm_end shut = shut.faults ∙ on.some.faults
 
   -- the doors ended
-  pub serves_to_end : {by_limit : Type 0} → Shut by_limit hall hall' → ServesDoors ct ot key stream o n before hall' Closed
+  pub serves_to_end : {by_limit : Type 0} → Shut by_limit hall hall' → ServesDoors ct ot key stream (record { stage = o; hall = before }) (record { stage = n; hall = hall' }) Closed
   serves_to_end shut = record {
     returns = on.some.returns;
     entries = on.some.entries;
@@ -131,7 +131,7 @@ module _ (ct ot : Type 0) (key : List ℕ) (stream : ℕ) (o n : Stage) (before 
   }
 
   -- the doors failed
-  pub serves_to_fault : FailedToOpen hall hall' → ServesDoors ct ot key stream o n before hall' DoorsFault
+  pub serves_to_fault : FailedToOpen hall hall' → ServesDoors ct ot key stream (record { stage = o; hall = before }) (record { stage = n; hall = hall' }) DoorsFault
   serves_to_fault failed = record {
     returns = on.some.returns;
     entries = on.some.entries;
@@ -150,7 +150,8 @@ module _ (ct ot : Type 0) (key : List ℕ) (stream : ℕ) (o n : Stage) (before 
 module _ (ct ot : Type 0) (key : List ℕ) (stream : ℕ) (o n n' : Stage) (before hall opened closed : Hall) (draws draws' : ChaCha)
     (on : ServesOn ct ot key stream o n before hall draws) (kind : DoorKind) (peer : Peer) (line : Line) (end : ConnEnd) (to : ℕ)
     (let_in : LetIn hall opened kind peer line) (taken : draws' ≡ before_draw key stream to)
-    (one : ServesOne ct ot kind peer (draw_at key stream) on.some.count to n n' opened closed line end) where
+    (one : ServesOne ct ot (record { kind = kind; peer = peer }) (draws_at key stream on.some.count to) (record { stage = n; hall = opened })
+    (record { stage = n'; hall = closed }) line end) where
   -- what was handed back
   abbrev pub handed : Return
   handed = record { kind = kind; peer = peer; line = one.later; end = end }
@@ -219,7 +220,7 @@ module _ (ct ot : Type 0) (key : List ℕ) (stream : ℕ) (o n n' : Stage) (befo
       let P : ConnEnd → Type 0 = λ e. ServiceEnds e n.may_want n'.known in
       sym on.some.makes.may_want ∙ subst P is one.serves.service_ends
 
-  pub serves_to_spent : end ≡ conn_spent → ServesDoors ct ot key stream o n' before closed Spent
+  pub serves_to_spent : end ≡ conn_spent → ServesDoors ct ot key stream (record { stage = o; hall = before }) (record { stage = n'; hall = closed }) Spent
   serves_to_spent is =
       let P : ConnEnd → Type 0 = λ e. LastUnmade e (on.some.returns ++ handed ∷ []) in
       record {
@@ -234,7 +235,7 @@ module _ (ct ot : Type 0) (key : List ℕ) (stream : ℕ) (o n n' : Stage) (befo
         ends = record { goes_on = handed_goes_on; calm = handed_calm; full = full_history is; last = subst P is last_unmade };
       }
 
-  pub serves_to_want : end ≡ conn_wants → ServesDoors ct ot key stream o n' before closed Want
+  pub serves_to_want : end ≡ conn_wants → ServesDoors ct ot key stream (record { stage = o; hall = before }) (record { stage = n'; hall = closed }) Want
   serves_to_want is =
       let P : ConnEnd → Type 0 = λ e. LastUnmade e (on.some.returns ++ handed ∷ []) in
       record {

@@ -15,6 +15,16 @@ draw_at key stream number = record {
   first = word key stream (3 * number + 2) % 65536;
 }
 
+-- consecutive draws: the draw of each number, the number of the first of them, and the number after the last
+pub record DrawRange : Type 0 where
+  pub drawn : ℕ → Draw
+  pub from : ℕ
+  pub to : ℕ
+
+-- the draws of a stream from this number up to that
+abbrev pub draws_at : List ℕ → ℕ → (from to : ℕ) → DrawRange
+draws_at key stream from to = record { drawn = draw_at key stream; from = from; to = to }
+
 -- the generator before the draw of this number
 abbrev pub before_draw : List ℕ → ℕ → ℕ → ChaCha
 before_draw key stream number = record { key = key_of key; stream = stream; word_pos = (3 * number) % 2 ^ 68 }

@@ -8,25 +8,33 @@ use Rattle.satip_world.specs.Lines.{Line}
 use Rattle.satip_plain.specs.Known.{Known}
 use Rattle.satip_plain.specs.declared.fault.ServiceFault.{ServiceFault}
 use Rattle.satip_plain.specs.declared.fault.ServiceFault.TheVariants.{Spent as service_spent, Want as service_wants}
+use Rattle.satip_worker.specs.Progress.{SameFaults}
 
--- a receive failed, before the input ended and before the connection ended with an answer
+-- a receive failed, before the input ended and before the connection ended with an answer; no send failed
 pub record ReadFailed (o n : Line) (over : Bool) : Type 0 where
   pub goes_on : n.ended ≡ false
   pub unanswered : over ≡ false
   pub faults : Rises o.receive_faults n.receive_faults
+  pub sends : n.send_faults ≡ o.send_faults
 
--- a send failed, before the input ended
+-- a send failed, before the input ended; no receive failed
 pub record WriteFailed (o n : Line) : Type 0 where
   pub goes_on : n.ended ≡ false
   pub faults : Rises o.send_faults n.send_faults
+  pub receives : n.receive_faults ≡ o.receive_faults
 
 -- either the input ended, or the connection ended with the last answer before its input did
 abbrev pub IsOver : (ended over : Bool) → Type 0
 IsOver ended over = ((ended ≡ true) × (over ≡ false)) ⊎ ((ended ≡ false) × (over ≡ true))
 
+-- the connection is over, and no receive and no send failed
+pub record EndedWell (o n : Line) (over : Bool) : Type 0 where
+  pub is_over : IsOver n.ended over
+  pub calm : SameFaults o n
+
 -- the connection's state at each end; `over` says whether it ended with the last answer
 abbrev pub LineEnds : ConnEnd → (o n : Line) (over : Bool) → Type 0
-LineEnds Done o n over = IsOver n.ended over
+LineEnds Done o n over = EndedWell o n over
 LineEnds ReadFault o n over = ReadFailed o n over
 LineEnds WriteFault o n over = WriteFailed o n
 LineEnds Spent o n over = Unit {0}

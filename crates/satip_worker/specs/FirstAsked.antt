@@ -9,7 +9,7 @@ use Rattle.satip_world.specs.Counts.{Rises}
 use Rattle.satip_world.specs.Lines.{Line}
 use Rattle.satip_worker.specs.declared.first.First.{First}
 use Rattle.satip_worker.specs.declared.first.First.TheVariants.{Asked, Ended, Failed}
-use Rattle.satip_worker.specs.Progress.{Carries}
+use Rattle.satip_worker.specs.Progress.{Carries, SameFaults}
 
 -- the first message of the text is this request
 pub record AsksByMessage (text : List ℕ) (request : HttpRequest) : Type 0 where
@@ -27,27 +27,30 @@ pub record AsksByBreak (text : List ℕ) (request : HttpRequest) : Type 0 where
 abbrev pub AsksFirst : List ℕ → HttpRequest → Type 0
 AsksFirst text request = AsksByMessage text request ⊎ AsksByBreak text request
 
--- a request was read
+-- a request was read, and no receive and no send failed
 pub record ReadAsked (tells : Type 0) (l m : Line) (request : HttpRequest) : Type 0 where
   pub received : List ℕ
   pub first : AsksFirst received request
   pub goes_on : m.ended ≡ false
   pub carries : Carries tells l m received []
+  pub calm : SameFaults l m
 
--- the input ended before any request
+-- the input ended before any request, and no receive and no send failed
 pub record ReadNothing (tells : Type 0) (l m : Line) : Type 0 where
   pub received : List ℕ
   pub nothing : Messages received [] Unfinished
   pub ended : m.ended ≡ true
   pub carries : Carries tells l m received []
+  pub calm : SameFaults l m
 
--- a receive failed before any request
+-- a receive failed before any request, and no send failed
 pub record ReadFailed (tells : Type 0) (l m : Line) : Type 0 where
   pub received : List ℕ
   pub nothing : Messages received [] Unfinished
   pub goes_on : m.ended ≡ false
   pub carries : Carries tells l m received []
   pub faults : Rises l.receive_faults m.receive_faults
+  pub sends : m.send_faults ≡ l.send_faults
 
 -- the outcome of reading up to the first request
 abbrev pub ReadsFirst : (tells : Type 0) (l m : Line) → First → Type 0

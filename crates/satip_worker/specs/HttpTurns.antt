@@ -8,7 +8,6 @@ use Rattle.satip_plain.specs.declared.answers.Pulled.TheVariants.{Bytes, Empty a
 use Rattle.satip_plain.specs.declared.events.Event.{Event}
 use Rattle.satip_plain.specs.Histories.{Item}
 use Rattle.satip_world.specs.declared.doors.ConnEnd.{ConnEnd}
-use Rattle.satip_world.specs.Lines.{Line}
 use Rattle.satip_worker.specs.declared.http_turns.Getting.{Getting}
 use Rattle.satip_worker.specs.declared.http_turns.Getting.TheVariants.{Started, StartCut, Refused, RefusalCut, Unmade as get_unmade}
 use Rattle.satip_worker.specs.declared.http_turns.Pulling.{Pulling}
@@ -16,7 +15,7 @@ use Rattle.satip_worker.specs.declared.http_turns.Pulling.TheVariants.{Sent, Cut
 use Rattle.satip_worker.specs.Answers.{ends_with_last}
 use Rattle.satip_worker.specs.Ends.{ServiceEnds}
 use Rattle.satip_worker.specs.HttpRun.{Closes}
-use Rattle.satip_worker.specs.Progress.{Stage, Makes}
+use Rattle.satip_worker.specs.Progress.{Stage, ConnState, Makes}
 use Rattle.satip_worker.specs.Turns.{ReplySent, ReplyLost, EntryMade, TurnUnmade}
 
 -- the GET started this session
@@ -40,20 +39,20 @@ abbrev pub IsGone : Answer → Type 0
 IsGone answer = answer ≡ Pulled session_gone
 
 -- the outcome of a GET
-abbrev pub GetTurns : (ct ot : Type 0) (o n : Stage) (l m : Line) → Event → Getting → Type 0
-GetTurns ct ot o n l m event (Started id) = ReplySent ct ot o n l m event (IsStart id)
-GetTurns ct ot o n l m event (StartCut id) = ReplyLost ct ot o n l m event (IsStart id)
-GetTurns ct ot o n l m event Refused = ReplySent ct ot o n l m event IsRefusal
-GetTurns ct ot o n l m event RefusalCut = ReplyLost ct ot o n l m event IsRefusal
-GetTurns ct ot o n l m event (get_unmade fault) = TurnUnmade ct ot o n l m fault
+abbrev pub GetTurns : (ct ot : Type 0) (o n : ConnState) → Event → Getting → Type 0
+GetTurns ct ot o n event (Started id) = ReplySent ct ot o n event (IsStart id)
+GetTurns ct ot o n event (StartCut id) = ReplyLost ct ot o n event (IsStart id)
+GetTurns ct ot o n event Refused = ReplySent ct ot o n event IsRefusal
+GetTurns ct ot o n event RefusalCut = ReplyLost ct ot o n event IsRefusal
+GetTurns ct ot o n event (get_unmade fault) = TurnUnmade ct ot o n fault
 
 -- the outcome of a pull
-abbrev pub PullTurns : (ct ot : Type 0) (o n : Stage) (l m : Line) → Event → Pulling → Type 0
-PullTurns ct ot o n l m event Sent = ReplySent ct ot o n l m event IsSome
-PullTurns ct ot o n l m event Cut = ReplyLost ct ot o n l m event IsSome
-PullTurns ct ot o n l m event Empty = EntryMade ct ot o n l m event IsNone
-PullTurns ct ot o n l m event Gone = EntryMade ct ot o n l m event IsGone
-PullTurns ct ot o n l m event (pull_unmade fault) = TurnUnmade ct ot o n l m fault
+abbrev pub PullTurns : (ct ot : Type 0) (o n : ConnState) → Event → Pulling → Type 0
+PullTurns ct ot o n event Sent = ReplySent ct ot o n event IsSome
+PullTurns ct ot o n event Cut = ReplyLost ct ot o n event IsSome
+PullTurns ct ot o n event Empty = EntryMade ct ot o n event IsNone
+PullTurns ct ot o n event Gone = EntryMade ct ot o n event IsGone
+PullTurns ct ot o n event (pull_unmade fault) = TurnUnmade ct ot o n fault
 
 -- a session was closed for this cause, or the service made no entry of the close
 pub record ClosesSession (ot : Type 0) (o n : Stage) (id : SessionId) (cause end : ConnEnd) : Type 0 where

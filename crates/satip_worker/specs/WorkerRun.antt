@@ -1,41 +1,50 @@
 -- The run of a worker: connections one after another.
 use Rattle.std.specs.Prelude.{◌≡◌, ℕ, Bool, true, false, List, [], ◌∷◌, ◌++◌, map}
 use Rattle.satip_base.specs.declared.limits.TheConstants.{LONGEST_HISTORY}
-use Rattle.satip_base.specs.declared.network.Peer.{Peer}
 use Rattle.satip_base.specs.declared.identity.Draw.{Draw}
 use Rattle.satip_base.specs.Lists.{Each}
 use Rattle.satip_plain.specs.Histories.{Item}
 use Rattle.satip_world.specs.declared.doors.ConnEnd.{ConnEnd}
 use Rattle.satip_world.specs.declared.doors.ConnEnd.TheVariants.{Spent as conn_spent, Want as conn_wants}
-use Rattle.satip_world.specs.declared.doors.DoorKind.{DoorKind}
 use Rattle.satip_world.specs.Counts.{Rises}
 use Rattle.satip_world.specs.Halls.{Hall, Arrival, Return, Moved, HandsBack}
 use Rattle.satip_world.specs.Lines.{Line, fresh_line}
+use Rattle.satip_world.specs.Outboxes.{Outbox}
+use Rattle.satip_desk.specs.declared.kits.WorkerKit.{WorkerKit}
 use Rattle.satip_plain.specs.Known.{Known}
 use Rattle.satip_worker.specs.declared.worker.WorkerEnd.{WorkerEnd}
 use Rattle.satip_worker.specs.declared.worker.WorkerEnd.TheVariants.{Closed, DoorsFault, Spent, Want}
 use Rattle.satip_worker.specs.Answers.{ends_with_last}
-use Rattle.satip_worker.specs.Drawing.{draw_at}
+use Rattle.satip_worker.specs.Drawing.{DrawRange, draw_at}
 use Rattle.satip_worker.specs.Ends.{LineEnds, is_unmade}
-use Rattle.satip_worker.specs.Progress.{Stage, Makes}
+use Rattle.satip_worker.specs.Progress.{Stage, Makes, staged}
 use Rattle.satip_worker.specs.Served.{ConnRun, ServesConn}
 
 -- the arrival of a connection that was handed back
 abbrev pub arrival_of : Return → Arrival
 arrival_of r = record { kind = r.kind; peer = r.peer }
 
--- a connection was served and handed back
-pub record ServesOne (conn_tells outlet_tells : Type 0) (kind : DoorKind) (peer : Peer) (drawn : ℕ → Draw) (from to : ℕ)
-    (o n : Stage) (before after : Hall) (line : Line) (end : ConnEnd) : Type 0 where
+-- a worker's service, outlet and doors
+pub record DoorsState : Type 0 where
+  pub stage : Stage
+  pub hall : Hall
+
+-- the contract's view of a worker's service and kit
+abbrev pub doors_state : {S D O P : Type 0} → (S → Bool) → (S → Known) → (D → Hall) → (O → Outbox) → S → WorkerKit D O P → DoorsState
+doors_state may_want known hall outbox service kit = record { stage = staged may_want known outbox service kit.outlet; hall = hall kit.doors }
+
+-- a connection was served and handed back; `line` is its state at the start
+pub record ServesOne (conn_tells outlet_tells : Type 0) (came : Arrival) (draws : DrawRange) (o n : DoorsState) (line : Line) (end : ConnEnd) : Type 0 where
   pub later : Line
-  pub serves : ServesConn conn_tells outlet_tells kind peer drawn from to o n line later end
-  pub back : HandsBack before after kind peer later end
+  pub serves : ServesConn conn_tells outlet_tells came.kind came.peer draws (record { stage = o.stage; line = line })
+      (record { stage = n.stage; line = later }) end
+  pub back : HandsBack o.hall n.hall came.kind came.peer later end
 
 -- a connection arrived with no byte received or sent, and was served and handed back; these are the entries of its run
 pub record ServedReturn (tells : Type 0) (drawn : ℕ → Draw) (from to : ℕ) (r : Return) (entries : List Item) : Type 0 where
   pub received : List ℕ
   pub sent : List ℕ
-  pub run : ConnRun r.kind r.peer drawn from to received sent r.end entries
+  pub run : ConnRun r.kind r.peer (record { drawn = drawn; from = from; to = to }) received sent r.end entries
   pub received_is : tells → r.line.received ≡ received
   pub sent_is : tells → r.line.sent ≡ sent
   pub line_ends : LineEnds r.end fresh_line r.line (ends_with_last entries)
@@ -92,13 +101,12 @@ WorkerEnds Spent o n may_want known returns = HistoryFull o n known returns
 WorkerEnds Want o n may_want known returns = MemoryRefused o n may_want returns
 
 -- the connections that arrived at the doors were served, each handed back before the next arrived
-pub record ServesDoors (conn_tells outlet_tells : Type 0) (key : List ℕ) (stream : ℕ) (o n : Stage) (before after : Hall)
-    (end : WorkerEnd) : Type 0 where
+pub record ServesDoors (conn_tells outlet_tells : Type 0) (key : List ℕ) (number : ℕ) (o n : DoorsState) (end : WorkerEnd) : Type 0 where
   pub returns : List Return
   pub entries : List Item
   pub draws : ℕ
-  pub serves : ServesAll conn_tells (draw_at key stream) 0 draws returns entries
-  pub makes : Makes outlet_tells o n entries
-  pub moved : Moved before after (map arrival_of returns) returns
-  pub limit : after.limit ≡ before.limit
-  pub ends : WorkerEnds end before after o.may_want n.known returns
+  pub serves : ServesAll conn_tells (draw_at key number) 0 draws returns entries
+  pub makes : Makes outlet_tells o.stage n.stage entries
+  pub moved : Moved o.hall n.hall (map arrival_of returns) returns
+  pub limit : n.hall.limit ≡ o.hall.limit
+  pub ends : WorkerEnds end o.hall n.hall o.stage.may_want n.stage.known returns

@@ -2,9 +2,9 @@
 
 ghost use Rattle.std.specs.Prelude.{◌≡◌, ℕ, List, true, false};
 ghost use Rattle.satip_world.specs.Counts.{Rises};
-ghost use Rattle.satip_worker.specs.Drawing.{draw_at, before_draw};
+ghost use Rattle.satip_worker.specs.Drawing.{draws_at, before_draw};
 ghost use Rattle.satip_worker.specs.Served.{ServesConn};
-ghost use Rattle.satip_worker.specs.Progress.{staged};
+ghost use Rattle.satip_worker.specs.Progress.{conn_state, SameFaults};
 
 use crate::draws::Draws;
 use crate::http::serve_http;
@@ -41,14 +41,12 @@ pub fn serve_connection<R: Wait + Sync, S: Service, C: Conn, O: Outlet, P: Pacer
     // The entries, the bytes received and sent, and the reason of the end.
     ensures serves { (key : List ℕ) (stream from : ℕ) → draws.old ≡ before_draw key stream from
         → (to : ℕ) × (draws.new ≡ before_draw key stream to)
-        × ServesConn C.tells O.tells kind peer (draw_at key stream) from to
-        (staged S.may_want S.known O.outbox service.old outlet.old)
-        (staged S.may_want S.known O.outbox service.new outlet.new)
-        (C.line conn.old) (C.line conn.new) result }
+        × ServesConn C.tells O.tells kind peer (draws_at key stream from to)
+        (conn_state S.may_want S.known O.outbox C.line service.old outlet.old conn.old)
+        (conn_state S.may_want S.known O.outbox C.line service.new outlet.new conn.new) result }
 
-    // After `Done`, no receive had failed.
-    ensures calm { result ≡ ConnEnd.Done → (C.line conn.new).receive_faults
-        ≡ (C.line conn.old).receive_faults }
+    // After `Done`, no receive and no send had failed.
+    ensures calm { result ≡ ConnEnd.Done → SameFaults (C.line conn.old) (C.line conn.new) }
 
     // The causes of the other ends.
     ensures read_fault { result ≡ ConnEnd.ReadFault

@@ -1,6 +1,6 @@
 //! The first request of an HTTP connection (RFC 9112, section 2).
 
-ghost use Rattle.std.specs.Prelude.{◌≡◌, ◌≢◌};
+ghost use Rattle.std.specs.Prelude.{◌≡◌};
 ghost use Rattle.satip_frame.specs.Held.{new_framer};
 ghost use Rattle.satip_worker.specs.FirstAsked.{ReadsFirst};
 
@@ -30,8 +30,6 @@ pub(crate) fn read_first<R: Wait + Sync, C: Conn, P: Pacer>(
 ) -> First
     requires new { framer.old ≡ new_framer }
     ensures reads { ReadsFirst C.tells (C.line conn.old) (C.line conn.new) result }
-    ensures calm { result ≢ First.Failed → (C.line conn.new).receive_faults
-        ≡ (C.line conn.old).receive_faults }
 {
     let mut buf = [0; PIECE];
     let mut request = HttpRequest::broken(Break::Bad);

@@ -3,10 +3,10 @@
 
 ghost use Rattle.std.specs.Prelude.{◌≡◌, ℕ, List, false};
 ghost use Rattle.satip_frame.specs.Held.{new_framer};
-ghost use Rattle.satip_worker.specs.Drawing.{draw_at, before_draw};
+ghost use Rattle.satip_worker.specs.Drawing.{draws_at, before_draw};
 ghost use Rattle.satip_worker.specs.Served.{ServesConn};
 ghost use Rattle.satip_worker.specs.Streaming.{Streams};
-ghost use Rattle.satip_worker.specs.Progress.{staged};
+ghost use Rattle.satip_worker.specs.Progress.{conn_state};
 
 use crate::draws::Draws;
 use crate::first::{First, read_first};
@@ -35,11 +35,8 @@ fn stream<R: Wait + Sync, S: Service, C: Conn, O: Outlet, P: Pacer>(
     ensures free { (O.outbox outlet.new).held ≡ false }
     ensures same { S.same service.old service.new }
     ensures streams { Streams C.tells O.tells session
-        (staged S.may_want S.known O.outbox service.old outlet.old)
-        (staged S.may_want S.known O.outbox service.new outlet.new)
-        (C.line conn.old) (C.line conn.new) result }
-    ensures calm { result ≡ ConnEnd.Done → (C.line conn.new).receive_faults
-        ≡ (C.line conn.old).receive_faults }
+        (conn_state S.may_want S.known O.outbox C.line service.old outlet.old conn.old)
+        (conn_state S.may_want S.known O.outbox C.line service.new outlet.new conn.new) result }
 {
     let mut buf = [0; PIECE];
     for _ in rt.forever() {
@@ -78,12 +75,9 @@ pub(crate) fn serve_http<R: Wait + Sync, S: Service, C: Conn, O: Outlet, P: Pace
     ensures same { S.same service.old service.new }
     ensures serves { (key : List ℕ) (stream from : ℕ) → draws.old ≡ before_draw key stream from
         → (to : ℕ) × (draws.new ≡ before_draw key stream to)
-        × ServesConn C.tells O.tells DoorKind.Http peer (draw_at key stream) from to
-        (staged S.may_want S.known O.outbox service.old outlet.old)
-        (staged S.may_want S.known O.outbox service.new outlet.new)
-        (C.line conn.old) (C.line conn.new) result }
-    ensures calm { result ≡ ConnEnd.Done → (C.line conn.new).receive_faults
-        ≡ (C.line conn.old).receive_faults }
+        × ServesConn C.tells O.tells DoorKind.Http peer (draws_at key stream from to)
+        (conn_state S.may_want S.known O.outbox C.line service.old outlet.old conn.old)
+        (conn_state S.may_want S.known O.outbox C.line service.new outlet.new conn.new) result }
 {
     match read_first(rt, conn, pacer, &mut room.framer) {
         First::Ended => ConnEnd::Done,

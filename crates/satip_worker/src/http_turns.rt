@@ -5,7 +5,7 @@ ghost use Rattle.satip_plain.specs.declared.events.Event.{Event};
 ghost use Rattle.satip_worker.specs.Drawing.{draw_at, before_draw};
 ghost use Rattle.satip_worker.specs.Ends.{is_unmade};
 ghost use Rattle.satip_worker.specs.HttpTurns.{GetTurns, PullTurns, ClosesSession};
-ghost use Rattle.satip_worker.specs.Progress.{staged};
+ghost use Rattle.satip_worker.specs.Progress.{conn_state, staged};
 
 use crate::draws::Draws;
 use crate::turns::{end_of, make};
@@ -58,15 +58,13 @@ pub(crate) fn get<S: Service, C: Conn, O: Outlet>(
     ensures free { (O.outbox outlet.new).held ≡ false }
     ensures same { S.same service.old service.new }
     ensures input { (C.line conn.new).ended ≡ (C.line conn.old).ended }
-    ensures calm { (C.line conn.new).receive_faults ≡ (C.line conn.old).receive_faults }
     ensures draws { (key : List ℕ) (stream number : ℕ) → draws.old ≡ before_draw key stream number
         → draws.new ≡ before_draw key stream (number + 1) }
     ensures turns { (key : List ℕ) (stream number : ℕ) → draws.old ≡ before_draw key stream number
         → GetTurns C.tells O.tells
-        (staged S.may_want S.known O.outbox service.old outlet.old)
-        (staged S.may_want S.known O.outbox service.new outlet.new)
-        (C.line conn.old) (C.line conn.new) (Event.Get peer (draw_at key stream number) request)
-        result }
+        (conn_state S.may_want S.known O.outbox C.line service.old outlet.old conn.old)
+        (conn_state S.may_want S.known O.outbox C.line service.new outlet.new conn.new)
+        (Event.Get peer (draw_at key stream number) request) result }
 {
     let draw = draws.next();
     let event = Event::Get {
@@ -100,11 +98,10 @@ pub(crate) fn pull<S: Service, C: Conn, O: Outlet>(
     ensures free { (O.outbox outlet.new).held ≡ false }
     ensures same { S.same service.old service.new }
     ensures input { (C.line conn.new).ended ≡ (C.line conn.old).ended }
-    ensures calm { (C.line conn.new).receive_faults ≡ (C.line conn.old).receive_faults }
     ensures turns { PullTurns C.tells O.tells
-        (staged S.may_want S.known O.outbox service.old outlet.old)
-        (staged S.may_want S.known O.outbox service.new outlet.new)
-        (C.line conn.old) (C.line conn.new) (Event.Pull session) result }
+        (conn_state S.may_want S.known O.outbox C.line service.old outlet.old conn.old)
+        (conn_state S.may_want S.known O.outbox C.line service.new outlet.new conn.new)
+        (Event.Pull session) result }
 {
     match make(service, &Event::Pull { session }, out, outlet) {
         Err(fault) => Pulling::Unmade(fault),

@@ -4,11 +4,11 @@ ghost use Rattle.std.specs.Prelude.{◌≡◌, ◌+◌, ℕ, List, ◌++◌, Non
 ghost use Rattle.satip_frame.specs.Held.{new_framer};
 ghost use Rattle.satip_plain.specs.declared.events.Event.{Event};
 ghost use Rattle.satip_plain.specs.Suits.{closes};
-ghost use Rattle.satip_worker.specs.Drawing.{draw_at, before_draw};
+ghost use Rattle.satip_worker.specs.Drawing.{draw_at, draws_at, before_draw};
 ghost use Rattle.satip_worker.specs.Turns.{Turns};
 ghost use Rattle.satip_worker.specs.Hearing.{Course, Stands, Hears};
 ghost use Rattle.satip_worker.specs.Served.{ServesConn};
-ghost use Rattle.satip_worker.specs.Progress.{staged};
+ghost use Rattle.satip_worker.specs.Progress.{conn_state};
 
 use crate::draws::Draws;
 use crate::room::Room;
@@ -35,14 +35,12 @@ fn turn<S: Service, C: Conn, O: Outlet>(
     ensures free { (O.outbox outlet.new).held ≡ false }
     ensures same { S.same service.old service.new }
     ensures input { (C.line conn.new).ended ≡ (C.line conn.old).ended }
-    ensures calm { (C.line conn.new).receive_faults ≡ (C.line conn.old).receive_faults }
     ensures draws { (key : List ℕ) (stream number : ℕ) → draws.old ≡ before_draw key stream number
         → draws.new ≡ before_draw key stream (number + 1) }
     ensures turns { (key : List ℕ) (stream number : ℕ) → draws.old ≡ before_draw key stream number
         → Turns C.tells O.tells
-        (staged S.may_want S.known O.outbox service.old outlet.old)
-        (staged S.may_want S.known O.outbox service.new outlet.new)
-        (C.line conn.old) (C.line conn.new)
+        (conn_state S.may_want S.known O.outbox C.line service.old outlet.old conn.old)
+        (conn_state S.may_want S.known O.outbox C.line service.new outlet.new conn.new)
         (Event.Request peer (draw_at key stream number) request.now)
         (closes request.now.refusal) result }
 {
@@ -76,15 +74,14 @@ fn hear<S: Service, C: Conn, O: Outlet>(
     ensures free { (O.outbox outlet.new).held ≡ false }
     ensures same { S.same service.old service.new }
     ensures input { (C.line conn.new).ended ≡ (C.line conn.old).ended }
-    ensures calm { (C.line conn.new).receive_faults ≡ (C.line conn.old).receive_faults }
     ensures hears { (course : Course) (text : List ℕ)
         → course.peer ≡ peer
         → Stands C.tells O.tells course
-        (staged S.may_want S.known O.outbox service.old outlet.old)
-        (C.line conn.old) draws.old text (room.old.framer.bytes ++ piece.now)
+        (conn_state S.may_want S.known O.outbox C.line service.old outlet.old conn.old)
+        draws.old text (room.old.framer.bytes ++ piece.now)
         → Hears C.tells O.tells course
-        (staged S.may_want S.known O.outbox service.new outlet.new)
-        (C.line conn.new) draws.new text room.new.framer.bytes result }
+        (conn_state S.may_want S.known O.outbox C.line service.new outlet.new conn.new)
+        draws.new text room.new.framer.bytes result }
     ensures goes_on { result ≡ Heard.All → room.new.framer.ended ≡ None }
 {
     let mut rest = Piece::new(piece);
@@ -124,12 +121,9 @@ pub(crate) fn serve_rtsp<R: Wait + Sync, S: Service, C: Conn, O: Outlet, P: Pace
     ensures same { S.same service.old service.new }
     ensures serves { (key : List ℕ) (stream from : ℕ) → draws.old ≡ before_draw key stream from
         → (to : ℕ) × (draws.new ≡ before_draw key stream to)
-        × ServesConn C.tells O.tells DoorKind.Rtsp peer (draw_at key stream) from to
-        (staged S.may_want S.known O.outbox service.old outlet.old)
-        (staged S.may_want S.known O.outbox service.new outlet.new)
-        (C.line conn.old) (C.line conn.new) result }
-    ensures calm { result ≡ ConnEnd.Done → (C.line conn.new).receive_faults
-        ≡ (C.line conn.old).receive_faults }
+        × ServesConn C.tells O.tells DoorKind.Rtsp peer (draws_at key stream from to)
+        (conn_state S.may_want S.known O.outbox C.line service.old outlet.old conn.old)
+        (conn_state S.may_want S.known O.outbox C.line service.new outlet.new conn.new) result }
 {
     let mut buf = [0; PIECE];
     for _ in rt.forever() {

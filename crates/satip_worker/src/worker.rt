@@ -3,9 +3,8 @@
 ghost use Rattle.std.specs.Prelude.{◌≡◌, ◌≢◌, ◌↔◌, ℕ, List, true, false};
 ghost use Rattle.satip_world.specs.Counts.{Rises};
 ghost use Rattle.satip_world.specs.Halls.{IsAtLimit};
-ghost use Rattle.satip_worker.specs.Drawing.{draw_at, before_draw};
-ghost use Rattle.satip_worker.specs.WorkerRun.{ServesOne, ServesDoors};
-ghost use Rattle.satip_worker.specs.Progress.{staged};
+ghost use Rattle.satip_worker.specs.Drawing.{draws_at, before_draw};
+ghost use Rattle.satip_worker.specs.WorkerRun.{ServesOne, ServesDoors, doors_state};
 
 use crate::connection::serve_connection;
 use crate::draws::Draws;
@@ -47,10 +46,11 @@ fn serve_one<R: Wait + Sync, S: Service, D: Doors, O: Outlet, P: Pacer>(
     ensures key { kit.new.key ≡ kit.old.key }
     ensures serves { (key : List ℕ) (stream from : ℕ) → draws.old ≡ before_draw key stream from
         → (to : ℕ) × (draws.new ≡ before_draw key stream to)
-        × ServesOne D.Conn.tells O.tells kind peer (draw_at key stream) from to
-        (staged S.may_want S.known O.outbox service.old kit.old.outlet)
-        (staged S.may_want S.known O.outbox service.new kit.new.outlet)
-        (D.hall kit.old.doors) (D.hall kit.new.doors) (D.Conn.line conn) result }
+        × ServesOne D.Conn.tells O.tells (record { kind = kind; peer = peer })
+        (draws_at key stream from to)
+        (doors_state S.may_want S.known D.hall O.outbox service.old kit.old)
+        (doors_state S.may_want S.known D.hall O.outbox service.new kit.new)
+        (D.Conn.line conn) result }
 {
     let end = serve_connection(
         rt,
@@ -84,9 +84,8 @@ pub fn run_worker<R: Wait + Sync, S: Service, D: Doors, O: Outlet, P: Pacer>(
 
     // The entries, the connections that arrived and were handed back, and the reason of the end.
     ensures serves { ServesDoors D.Conn.tells O.tells kit.old.key number
-        (staged S.may_want S.known O.outbox service.old kit.old.outlet)
-        (staged S.may_want S.known O.outbox service.new kit.new.outlet)
-        (D.hall kit.old.doors) (D.hall kit.new.doors) result }
+        (doors_state S.may_want S.known D.hall O.outbox service.old kit.old)
+        (doors_state S.may_want S.known D.hall O.outbox service.new kit.new) result }
 
     // The cause of each end.
     ensures closed { (result ≡ WorkerEnd.Closed) ↔ ((D.hall kit.new.doors).ended ≡ true) }

@@ -7,7 +7,7 @@ ghost use Rattle.satip_jobs.specs.declared.end.ServeEnd.TheVariants.{Served, Doo
 ghost use Rattle.satip_serve.specs.Done.{IsFull};
 ghost use Rattle.satip_sharing_tests.specs.Examples.{AskedRun, IsApart, SmallRun, busy_worker, caller_of, close_by, idle_worker, pump_with, small_history, small_ticker, stop_by, stopped_well, tick_by, worker_with};
 ghost use Rattle.satip_desk.specs.Fresh.{FreshPump};
-ghost use Rattle.satip_serve.specs.ServeRuns.{Along, EndTells, MatchEnd, StopsOnce};
+ghost use Rattle.satip_serve.specs.ServeRuns.{Along, EndTells, EndsFull, MatchEnd, StopsOnce};
 
 // Caller 0 makes one entry, which is the stop, and no worker makes one behind it.
 fn stop_rows()
@@ -52,6 +52,14 @@ fn end_rows()
         (worker_with true 1 0 ∷ worker_with false 1 0 ∷ [])) }
     ensures full { (h : List Item) → length h ≡ 18446744073709551615 → EndTells HistoryFull h [] }
     ensures not_full { ¬ (EndTells HistoryFull (stop_by 0 ∷ []) (worker_with false 1 1 ∷ [])) }
+{}
+
+// Only with status 9 jobs may have ended because the history is full.
+fn full_rows()
+    ensures nine { (h : List Item) → length h ≡ 18446744073709551615 → EndsFull 9 h }
+    ensures served { (h : List Item) → ¬ (EndsFull 0 h) }
+    ensures failed { (h : List Item) → ¬ (EndsFull 7 h) }
+    ensures not_full { ¬ (EndsFull 9 (stop_by 0 ∷ [])) }
 {}
 
 // The run of one worker by whose doors nobody came, and what it can't be taken for.

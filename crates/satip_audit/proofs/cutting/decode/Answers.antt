@@ -1,4 +1,4 @@
-use Rattle.std.proofs.Common.{◌≡◌, ℕ, ◌/◌, length, Some, take, ap, refl, arith, length-take, Err, Ok}
+use Rattle.std.proofs.Common.{◌≡◌, ℕ, ◌/◌, length, Some, ap, refl, arith, length-take}
 use Rattle.satip_audit.proofs.CutLemmas.{decoded, front_decoded, length-digits, ok_not_err}
 use Rattle.satip_audit.proofs.cutting.decode.Goals as goal
 

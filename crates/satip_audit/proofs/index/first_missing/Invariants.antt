@@ -1,4 +1,4 @@
-use Rattle.std.proofs.Common.{◌≡◌, ◌-◌, drop}
+use Rattle.std.proofs.Common.{◌≡◌, drop}
 use Rattle.satip_audit.specs.Spots.{places_of}
 use Rattle.satip_audit.proofs.PlaceLemmas.{gap_in}
 use Rattle.satip_audit.proofs.index.first_missing.Given as goal

@@ -4,6 +4,7 @@ use Rattle.satip_audit.specs.declared.index.Spot.{Spot}
 use Rattle.satip_audit.specs.Places.{Counts, HasTwice, IsLeast, IsMissing, Rises}
 use Rattle.satip_audit.specs.Spots.{places_of}
 use Rattle.satip_audit.specs.Replaying.{AreLed, IsInside}
+use Rattle.satip_audit.proofs.LegalLemmas.{legal_by}
 use Rattle.satip_audit.proofs.VerdictLemmas.{inside, judged_differs, judged_missing, judged_no_start, judged_repeated, judged_yes}
 use Rattle.satip_audit.proofs.judging.verdict.Goals as goal
 
@@ -40,6 +41,11 @@ returns-in-Ok-None-clause-verdict c =
     c.sort_spots.ensures.permutation (subst Q c.deref-2.ensures.value (c.in_default-first_missing.ensures.counts refl))
     (λ h led. finds h (subst (λ (ss : List Spot). AreLed c.args.text.now h ss) (sym c.deref-3.ensures.value) led)) c.len.result
     (omega (arith, c.len.ensures, c.deref-3.ensures.len, ap (λ (ss : List Spot). length ss) c.deref-3.ensures.value))
+
+pub returns-in-Ok-None-clause-legal : goal.returns-in-Ok-None-clause-legal
+returns-in-Ok-None-clause-legal c =
+    let opens = c.in-Ok-None.ensures.opens in
+    legal_by c.args.config c.args.text.now c.len.result c.in-One.start opens.servable opens.setting (returns-in-Ok-None-clause-verdict c)
 
 pub returns-in-Ok-Some-clause-verdict : goal.returns-in-Ok-Some-clause-verdict
 returns-in-Ok-Some-clause-verdict c =

@@ -1,13 +1,14 @@
 use Rattle.std.proofs.Common.{◌+◌, ◌-◌, ◌*◌, ◌<◌, length}
-use Rattle.satip_client.specs.Waits.{TookIn, WasIdleFor}
+use Rattle.satip_client.specs.Waits.{IsUpToPiece, TookIn, WasIdleFor}
 use Rattle.satip_client.proofs.asking.await_reply.Given as goal
 
--- what came in is held, and nothing came in so often
+-- what was received is held, up to one piece, and nothing came in this many times
 abbrev pub invariant-turns : goal.invariant-turns
 invariant-turns g l =
-    (l.idles < 10000)
-    × TookIn g.W.Conn.tells (g.W.Conn.line l.initial.wire) (g.W.Conn.line l.wire) l.initial.heard l.heard
+    (took : TookIn g.W.Conn.tells (g.W.Conn.line l.initial.wire) (g.W.Conn.line l.wire) l.initial.heard l.heard)
+    × IsUpToPiece l.initial.heard took.got
     × WasIdleFor l.idles (g.W.Conn.line l.initial.wire) (g.W.Conn.line l.wire)
+    × (l.idles < 10000)
 
 -- bytes come in, or nothing does
 abbrev pub decreases-turns : goal.decreases-turns

@@ -2,7 +2,7 @@
 use Rattle.std.proofs.Common.{rules, ◌+◌, ◌≤◌, ◌^◌, List, [], ◌∷◌, ◌++◌, length, length-append, arith}
 use Rattle.satip_journal.specs.declared.crew.JournalGear.{JournalGear}
 use Rattle.satip_journal.proofs.Crossing.{crossing}
-use Rattle.satip_journal.proofs.Runs.{all_are_typed, all_logged, callers_are, pump_gears, worker_gears}
+use Rattle.satip_journal.proofs.Runs.{all_are_typed, all_logged, callers_are, jobs_kept, pump_gears, worker_gears}
 use Rattle.satip_journal.proofs.all_jobs.run_gears.Goals as goal
 
 pub run_services-journal-requires-send-X : goal.run_services-journal-requires-send-X
@@ -15,21 +15,27 @@ returns-clause-ran g c =
 
 pub returns-clause-went_on : goal.returns-clause-went_on
 returns-clause-went_on g c =
-    all_logged c.run_services-journal.ensures.did g.K.Sink.tells g.K.Sink.drain (λ x. x.own) (λ x y went. went) (λ s t did. (did.same_is, did.number))
-    (λ s t did. (did.same_is, did.number)) (λ s t did. (did.same_is, did.number)) c.run_services-journal.ensures.knows c.requires.ready.first
-    c.requires.ready.workers c.requires.ready.pumps
+    all_logged c.run_services-journal.ensures.did g.K.JobSink.tells g.K.JobSink.job g.K.JobSink.drain (λ x. x.own) (λ x y went. went)
+    (λ s t did. (did.same_is, did.number)) (λ s t did. (did.same_is, did.number)) (λ s t did. (did.same_is, did.number))
+    c.run_services-journal.ensures.knows c.requires.ready.first
+
+pub returns-clause-jobs : goal.returns-clause-jobs
+returns-clause-jobs g c =
+    jobs_kept c.run_services-journal.ensures.did g.K.JobSink.tells g.K.JobSink.job g.K.JobSink.drain (λ x. x.own) (λ x y went. went)
+    (λ s t did. (did.same_is, did.number)) (λ s t did. (did.same_is, did.number)) (λ s t did. (did.same_is, did.number))
+    c.run_services-journal.ensures.knows c.requires.ready.first
 
 pub returns-clause-worker_gears : goal.returns-clause-worker_gears
 returns-clause-worker_gears g c =
-    worker_gears c.run_services-journal.ensures.did g.K.Sink.tells g.K.Sink.drain (λ x. x.own) (λ x y went. went) (λ s t did. (did.same_is, did.number))
-    (λ s t did. (did.same_is, did.number)) (λ s t did. (did.same_is, did.number)) c.run_services-journal.ensures.knows c.requires.ready.first
-    c.requires.ready.workers c.requires.ready.pumps
+    worker_gears c.run_services-journal.ensures.did g.K.JobSink.tells g.K.JobSink.job g.K.JobSink.drain (λ x. x.own) (λ x y went. went)
+    (λ s t did. (did.same_is, did.number)) (λ s t did. (did.same_is, did.number)) (λ s t did. (did.same_is, did.number))
+    c.run_services-journal.ensures.knows c.requires.ready.first
 
 pub returns-clause-pump_gears : goal.returns-clause-pump_gears
 returns-clause-pump_gears g c =
-    pump_gears c.run_services-journal.ensures.did g.K.Sink.tells g.K.Sink.drain (λ x. x.own) (λ x y went. went) (λ s t did. (did.same_is, did.number))
-    (λ s t did. (did.same_is, did.number)) (λ s t did. (did.same_is, did.number)) c.run_services-journal.ensures.knows c.requires.ready.first
-    c.requires.ready.workers c.requires.ready.pumps
+    pump_gears c.run_services-journal.ensures.did g.K.JobSink.tells g.K.JobSink.job g.K.JobSink.drain (λ x. x.own) (λ x y went. went)
+    (λ s t did. (did.same_is, did.number)) (λ s t did. (did.same_is, did.number)) (λ s t did. (did.same_is, did.number))
+    c.run_services-journal.ensures.knows c.requires.ready.first
 
 pub returns-clause-callers : goal.returns-clause-callers
 returns-clause-callers g c =
@@ -40,12 +46,12 @@ returns-clause-callers g c =
     let pumps = c.requires.pump_space in
     let few : 1 + length (ws ++ (ps ++ last)) ≤ 2 ^ 64 =
     omega (arith, length-append ws (ps ++ last), length-append ps last, workers.few, workers.gears_are, pumps.few, pumps.gears_are) in
-    callers_are c.run_services-journal.ensures.did g.K.Sink.tells g.K.Sink.drain (λ x. x.own) (λ x y went. went) (λ s t did. (did.same_is, did.number))
-    (λ s t did. (did.same_is, did.number)) (λ s t did. (did.same_is, did.number)) c.run_services-journal.ensures.knows c.requires.ready.first
-    c.requires.ready.workers c.requires.ready.pumps few
+    callers_are c.run_services-journal.ensures.did g.K.JobSink.tells g.K.JobSink.job g.K.JobSink.drain (λ x. x.own) (λ x y went. went)
+    (λ s t did. (did.same_is, did.number)) (λ s t did. (did.same_is, did.number)) (λ s t did. (did.same_is, did.number))
+    c.run_services-journal.ensures.knows c.requires.ready.first few
 
 pub returns-clause-typed : goal.returns-clause-typed
 returns-clause-typed g c =
-    all_are_typed c.run_services-journal.ensures.did g.K.Sink.tells g.K.Sink.drain (λ x. x.own) (λ x y went. went) (λ s t did. (did.same_is, did.number))
-    (λ s t did. (did.same_is, did.number)) (λ s t did. (did.same_is, did.number)) c.run_services-journal.ensures.knows c.requires.ready.first
-    c.requires.ready.workers c.requires.ready.pumps
+    all_are_typed c.run_services-journal.ensures.did g.K.JobSink.tells g.K.JobSink.job g.K.JobSink.drain (λ x. x.own) (λ x y went. went)
+    (λ s t did. (did.same_is, did.number)) (λ s t did. (did.same_is, did.number)) (λ s t did. (did.same_is, did.number))
+    c.run_services-journal.ensures.knows c.requires.ready.first

@@ -1,9 +1,13 @@
 -- Each sink came back with its job's journal.
-use Rattle.std.proofs.Common.{arith}
+use Rattle.std.proofs.Common.{◌≡◌, ◌∙◌, ℕ, List, length, map, sym, ap, subst, arith}
+use Rattle.satip_base.specs.Streams.{Drain, fresh_drain}
 use Rattle.satip_turn.specs.Views.{numbers_of}
+use Rattle.satip_journal.specs.Journals.{journals as journals_of}
+use Rattle.satip_journal.specs.Sent.{AreWritten, new_journals}
 use Rattle.satip_journal.specs.SinkGears.{others_of}
 use Rattle.satip_journal.proofs.Judging.{judged_yes}
-use Rattle.satip_journal.proofs.Logging.{journals_written}
+use Rattle.satip_journal.proofs.Logging.{jobs_back, journals_written}
+use Rattle.satip_journal.proofs.Sending.{each_map, length_map, were_new, written_sent}
 use Rattle.satip_journal.proofs.all_jobs.run_journaled.Goals as goal
 
 pub end_journals-failed-requires-clause-space : goal.end_journals-failed-requires-clause-space
@@ -29,19 +33,48 @@ end_journals-failed-requires-clause-space g c =
       c.len-pumps.ensures,
     )
 
+pub returns-clause-jobs : goal.returns-clause-jobs
+returns-clause-jobs g c =
+    let before = c.begin_journals-gears.result in
+    let after = c.run_gears-ran.result.journals in
+    jobs_back g.K.JobSink.tells g.K.JobSink.job g.K.JobSink.drain c.args.start c.args.sinks.items _ before.root after.root (others_of before)
+    (others_of after) c.begin_journals-gears.ensures.begun c.run_gears-ran.ensures.jobs c.end_journals-failed.ensures.sinks
+
+pub returns-clause-count : goal.returns-clause-count
+returns-clause-count g c =
+    let before = c.begin_journals-gears.result in
+    let after = c.run_gears-ran.result.journals in
+    let back = c.end_journals-failed.new.sinks.items in
+    let J : g.row.K.Denot → ℕ = g.K.JobSink.job in
+    let jobs : map J back ≡ map J c.args.sinks.items =
+    jobs_back g.K.JobSink.tells g.K.JobSink.job g.K.JobSink.drain c.args.start c.args.sinks.items back before.root after.root (others_of before)
+    (others_of after) c.begin_journals-gears.ensures.begun c.run_gears-ran.ensures.jobs c.end_journals-failed.ensures.sinks in
+    sym (length_map J back) ∙ ap (λ (js : List ℕ). length js) jobs ∙ length_map J c.args.sinks.items
+
 pub returns-clause-journaled : goal.returns-clause-journaled
 returns-clause-journaled g c =
     let ran = c.run_gears-ran.ensures in
     let before = c.begin_journals-gears.result in
     let after = c.run_gears-ran.result.journals in
     let pass = c.run_gears-ran.result.pass in
-    let journals = journals_written g.K.Sink.tells g.K.Sink.drain c.args.start c.args.server.now.setting.start c.args.sinks.items _ before.root after.root
-    (others_of before) (others_of after) (numbers_of pass.kept) pass.seen _
+    let failed = c.end_journals-failed.result in
+    let drain : g.row.K.Denot → Drain = g.K.JobSink.drain in
+    let os : List Drain = map drain c.args.sinks.items in
+    let ns : List Drain = map drain c.end_journals-failed.new.sinks.items in
+    let texts : List (List ℕ) = journals_of c.args.server.now.setting.start 0 (numbers_of pass.kept) pass.seen in
+    let on_sinks : AreWritten g.K.JobSink.tells failed os ns texts =
+    journals_written g.K.JobSink.tells g.K.JobSink.job drain c.args.start c.args.server.now.setting.start c.args.sinks.items
+    c.end_journals-failed.new.sinks.items before.root after.root (others_of before) (others_of after) (numbers_of pass.kept) pass.seen failed
     c.begin_journals-gears.ensures.begun ran.went_on c.end_journals-failed.ensures.sinks c.end_journals-failed.ensures.failed c.requires.start in
+    let were : os ≡ new_journals ns =
+    were_new g.K.JobSink.tells os ns texts (each_map drain (λ d. d ≡ fresh_drain) c.args.sinks.items c.requires.empty)
+    (written_sent g.K.JobSink.tells failed os ns texts on_sinks) in
+    let on_new : AreWritten g.K.JobSink.tells failed (new_journals ns) ns texts =
+    subst (λ (ds : List Drain). AreWritten g.K.JobSink.tells failed ds ns texts) were on_sinks in
     record {
-      journals = journals;
+      journals = on_new;
       callers = ran.callers;
       typed = ran.typed;
-      yes = λ unfailed. judged_yes g.K.Sink.tells c.args.server.now.setting pass.seen (numbers_of pass.kept) _ _ _ ran.ran.knows.lawful
-          ran.typed ran.callers journals unfailed;
+      yes = λ unfailed. judged_yes g.K.JobSink.tells c.args.server.now.setting pass.seen (numbers_of pass.kept) failed ns ran.ran.knows.lawful
+          ran.typed ran.callers on_new unfailed;
     }

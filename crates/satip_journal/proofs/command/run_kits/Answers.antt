@@ -1,19 +1,23 @@
-use Rattle.std.proofs.Common.{◌≡◌}
+use Rattle.std.proofs.Common.{ap}
 use Rattle.satip_desk.specs.Views.{jobs_view}
-use Rattle.satip_desk.specs.Given.{ComeUnused}
-use Rattle.satip_journal.proofs.Endings.{always, begun_of, right_of}
+use Rattle.satip_serve.specs.CommandRan.{LastView, last_view}
+use Rattle.satip_serve.proofs.ServingRuns.{serving_run}
+use Rattle.satip_journal.specs.Statuses.{journal_status}
+use Rattle.satip_journal.proofs.CommandRuns.{jobs_limit, journal_run}
 use Rattle.satip_journal.proofs.command.run_kits.Goals as goal
 
-pub returns-then-ask_journals-clause-unused : goal.returns-then-ask_journals-clause-unused
-returns-then-ask_journals-clause-unused g c =
+pub returns-in-Ok-clause-ran : goal.returns-in-Ok-clause-ran
+returns-in-Ok-clause-ran g c =
     let view = jobs_view g.K.Doors.Doors.hall g.K.Outlet.Outlet.outbox g.K.Store.MuxStore.shelf g.K.Clock.Clock.dial in
-    right_of (λ kits. view kits ≡ view c.args.jobs) (λ kits. ComeUnused (view c.args.jobs) (view kits)) c.run_jobs.result.unused c.run_jobs.ensures.unused
+    let last : LastView = last_view view c.in-Ok.last in
+    let laws = c.keeps_laws.ensures in
+    rw (ap journal_status c.of_run.ensures.end)
+    (journal_run g.K.Doors.Conn.Conn.tells g.K.Outlet.Outlet.tells g.K.Journal.JobSink.tells g.K.Journal.JobSink.job g.K.Journal.JobSink.drain
+    c.args._accepts (view c.args.jobs) last c.in-Ok.written c.in-Ok.end
+    (serving_run g.K.Doors.Conn.Conn.tells g.K.Outlet.Outlet.tells c.args._accepts (view c.args.jobs) last c.in-Ok.end c.requires.fresh
+    c.in-Ok.ensures.ran laws.payload laws.owners laws.busy laws.recordings) c.in-Ok.ensures.journaled)
 
-pub returns-then-ask_journals-clause-begun : goal.returns-then-ask_journals-clause-begun
-returns-then-ask_journals-clause-begun g c = begun_of c.run_jobs.result.last _ _ c.run_jobs.result.end c.run_jobs.ensures.begun c.if-ask_journals.ensures.faults
-
-pub returns-then-ask_journals-clause-no_fault : goal.returns-then-ask_journals-clause-no_fault
-returns-then-ask_journals-clause-no_fault g c = always c.run_jobs.result.last c.if-ask_journals.ensures.faults
-
-pub returns-else-ask_journals-clause-empty : goal.returns-else-ask_journals-clause-empty
-returns-else-ask_journals-clause-empty g c = λ none. rw c.not_begun-else-ask_journals.ensures.journals c.ask_journals.ensures.fresh
+pub returns-in-Ok-clause-at_limit : goal.returns-in-Ok-clause-at_limit
+returns-in-Ok-clause-at_limit g c =
+    rw (ap journal_status c.of_run.ensures.end)
+    (jobs_limit g.K.Doors.Doors.by_limit c.in-Ok.end c.in-Ok.written.failed _ c.in-Ok.ensures.at_limit)

@@ -24,6 +24,7 @@ returns-clause-begun g c =
       sinks_are = all_sinks c.args.sinks.now.items c.next_gear-root.new.sinks.items c.next_gears.new.sinks.items c.next_gears-2.new.sinks.items left.items
           c.next_gear-root.result.sink ws ps ticker root.first workers.sinks pumps.sinks last.first none;
       number = c.start.ensures.number ∙ root.number;
+      same_job = c.start.ensures.job;
       started = c.start.ensures.logs;
       are_open = are_append 1 (1 + c.args.workers) ws (ps ++ ticker ∷ []) workers.open
           (are_append (1 + c.args.workers) (1 + c.args.workers + c.args.pumps) ps (ticker ∷ []) pumps.open (last.number, last.open, tt) (omega (arith, more)))

@@ -1,8 +1,9 @@
 -- What the pump did so far, as its last answer told.
 use Rattle.std.proofs.Common.{◌≡◌, ◌+◌, ◌<◌, ◌≤◌, max, false, length}
 use Rattle.satip_pump.specs.Pauses.{Paced, owed_by}
+use Rattle.satip_pump.specs.PumpRuns.{pump_state}
 use Rattle.satip_pump.specs.Readings.{held}
-use Rattle.satip_pump.specs.Runs.{Answered}
+use Rattle.satip_pump.specs.Runs.{Answered, pump_now}
 use Rattle.satip_pump.proofs.pump.run_pump.Given as goal
 
 abbrev pub invariant-loop : goal.invariant-loop
@@ -13,10 +14,9 @@ invariant-loop g l =
     × (l.pump.front ≡ l.fn.front)
     × (l.pump.since < 64)
     × (l.pump.since + length l.pump.reading.buffer.packets ≤ 64)
-    × Answered (g.S.Service.may_want l.fn.service) l.fn.front (g.M.MuxStore.shelf l.fn.kit.store).recording g.O.Outlet.tells g.M.From.Source.tells
-    g.M.From.Source.feed
-    (g.S.Service.known l.fn.service) (g.S.Service.known l.service) (g.O.Outlet.outbox l.fn.kit.outlet) (g.O.Outlet.outbox l.kit.outlet)
-    (g.M.MuxStore.shelf l.fn.kit.store).faults (g.M.MuxStore.shelf l.kit.store).faults l.pump.reading l.answer
+    × Answered (g.S.Service.may_want l.fn.service) g.O.Outlet.tells g.M.From.Source.tells g.M.From.Source.feed l.fn.front
+    (pump_state g.S.Service.known g.M.MuxStore.shelf g.O.Outlet.outbox l.fn.service l.fn.kit)
+    (pump_now g.S.Service.known g.M.MuxStore.shelf g.O.Outlet.outbox l.service l.kit l.pump.reading) l.answer
     × Paced (g.S.Service.known l.fn.service).own (g.S.Service.known l.service).own (g.P.Pacer.pauses l.fn.kit.pacer) (g.P.Pacer.pauses l.kit.pacer)
     l.pump.since (owed_by l.answer)
     × ((g.M.MuxStore.shelf l.kit.store).lent ≡ (g.M.MuxStore.shelf l.fn.kit.store).lent + held l.pump.reading.source)

@@ -1,8 +1,13 @@
-use Rattle.satip_serve.proofs.StatusLemmas.{kits_ends}
+use Rattle.std.proofs.Common.{◌∙◌}
+use Rattle.satip_desk.specs.Views.{jobs_view}
+use Rattle.satip_serve.specs.CommandRan.{last_view}
+use Rattle.satip_serve.proofs.StatusLemmas.{kits_ends, pair_each}
 use Rattle.satip_serve.proofs.command.serve_source.Goals as goal
 
 pub returns-in-Ok-jobs-clause-ends : goal.returns-in-Ok-jobs-clause-ends
-returns-in-Ok-jobs-clause-ends g c = λ text started untaken.
-    kits_ends c.serve_jobs.result.end c.in-Ok.config c.in-Ok-jobs.jobs started untaken c.in-Ok.ensures.limit c.in-Ok.ensures.ok c.in-Ok-jobs.ensures.kits
-    c.in-Ok-jobs.ensures.no_fault c.serve_jobs.ensures.one c.serve_jobs.ensures.config c.serve_jobs.ensures.ran c.serve_jobs.ensures.begun
-    c.serve_jobs.ensures.kits_unused c.serve_jobs.ensures.unused_kits
+returns-in-Ok-jobs-clause-ends g c = λ name d started untaken same.
+    let view = jobs_view g.K.Doors.Doors.hall g.K.Outlet.Outlet.outbox g.K.Store.MuxStore.shelf g.K.Clock.Clock.dial in
+    let ran = c.serve_jobs.ensures in
+    kits_ends (last_view view) view c.serve_jobs.result.last c.serve_jobs.result.unused c.serve_jobs.result.end _ _ c.in-Ok.config (view c.in-Ok-jobs.jobs)
+    started untaken c.in-Ok.ensures.limit c.in-Ok.ensures.ok c.in-Ok-jobs.ensures.kits (c.in-Ok-jobs.ensures.no_fault ∙ same) ran.one
+    (pair_each c.serve_jobs.result.last _ _ ran.config ran.ran) ran.begun ran.kits_unused ran.unused_kits

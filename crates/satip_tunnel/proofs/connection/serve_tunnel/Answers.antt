@@ -1,4 +1,4 @@
-use Rattle.satip_tunnel.proofs.CauseLemmas.{full_cause, broken_cause, done_cause, over_cause, read_cause, write_cause, spent_cause}
+use Rattle.satip_tunnel.proofs.CauseLemmas.{full_cause, broken_cause, done_cause, calm_cause, over_cause, read_cause, write_cause, spent_cause}
 use Rattle.satip_tunnel.proofs.connection.serve_tunnel.Goals as goal
 
 pub returns-clause-tunnel : goal.returns-clause-tunnel
@@ -21,6 +21,9 @@ returns-clause-broken g c = broken_cause _ _ _ _ _ _ _ _ c.serve.ensures.serves
 
 pub returns-clause-done : goal.returns-clause-done
 returns-clause-done g c = done_cause _ _ _ _ _ _ _ _ c.serve.ensures.serves
+
+pub returns-clause-calm : goal.returns-clause-calm
+returns-clause-calm g c = calm_cause _ _ _ _ _ _ _ _ c.serve.ensures.serves
 
 pub returns-clause-over : goal.returns-clause-over
 returns-clause-over g c = over_cause _ _ _ _ _ _ _ _ c.serve.ensures.serves

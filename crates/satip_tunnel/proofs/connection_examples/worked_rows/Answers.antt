@@ -1,12 +1,12 @@
 use Rattle.std.specs.Fmt.{digits}
 use Rattle.satip_base.specs.Numbers.{number_of}
-use Rattle.std.proofs.Common.{◌≡◌, ◌∙◌, ℕ, List, [], ◌∷◌, ◌++◌, arith, refl, ap, subst, inl, inr}
+use Rattle.std.proofs.Common.{◌≡◌, ◌∙◌, ℕ, List, [], ◌∷◌, ◌++◌, arith, refl, ap, subst, inl, inr, ⊎_elim}
 use Rattle.satip_base.specs.declared.network.Peer.{Peer}
 use Rattle.satip_rtsp_interleaved.specs.Turned.{turned, told_ports, channel_line}
 use Rattle.satip_frame.specs.Stream.{Unfinished}
 use Rattle.satip_rtsp_interleaved.proofs.PartLemmas.{empty_ends}
 use Rattle.satip_interleave.specs.Histories.{TunnelItem}
-use Rattle.satip_interleave.specs.declared.events.TunnelEvent.TheVariants.{Leave}
+use Rattle.satip_interleave.specs.declared.events.TunnelEvent.TheVariants.{Drain, Leave}
 use Rattle.satip_interleave.specs.declared.events.TunnelAnswer.TheVariants.{Lane, Frames, Broken as LaneBroken}
 use Rattle.satip_tunnel.specs.declared.ends.TunnelEnd.TheVariants.{Broken, Done}
 use Rattle.satip_tunnel.specs.Ends.{IsLeave}
@@ -49,10 +49,15 @@ other_lane : (body last : List TunnelItem) → leaves 4 ∷ [] ≡ body ++ last 
 other_lane [] last e leave = let is : Leave 4 ≡ Leave 3 = leave_is 3 (leaves 4) last e leave in absurd (lanes_differ is)
 other_lane (t ∷ body) last e leave = none_left 3 body last (cc e) leave
 
+-- a drain alone has no Leave behind it
+drain_is_kept : (body last : List TunnelItem) → drains 3 LaneBroken [] ∷ [] ≡ body ++ last → IsLeave 3 last → ⊥
+drain_is_kept [] last e leave = let is : Drain 3 ≡ Leave 3 = leave_is 3 (drains 3 LaneBroken []) last e leave in cc is
+drain_is_kept (t ∷ body) last e leave = none_left 3 body last (cc e) leave
+
 -- a run of a broken lane isn't done
-not_broken : TunnelRun [] [] [] 3 Done (enters (Lane 3) ∷ drains 3 LaneBroken [] ∷ leaves 3 ∷ []) → ⊥
+not_broken : TunnelRun [] [] [] ⊥ Done (enters (Lane 3) ∷ drains 3 LaneBroken [] ∷ leaves 3 ∷ []) → ⊥
 not_broken run =
-    let broke = run_broken [] [] [] 3 Done (enters (Lane 3) ∷ drains 3 LaneBroken [] ∷ leaves 3 ∷ []) run in
+    let broke = run_broken [] [] [] ⊥ Done (enters (Lane 3) ∷ drains 3 LaneBroken [] ∷ leaves 3 ∷ []) run in
     let e : Done ≡ Broken = broke.1 (inr (inl refl)) in
     cc e
 
@@ -211,6 +216,32 @@ returns-clause-broke c = (
 pub returns-clause-not_done : goal.returns-clause-not_done
 returns-clause-not_done c = λ run. absurd (not_broken run)
 
+pub returns-clause-kept_lane : goal.returns-clause-kept_lane
+returns-clause-kept_lane c = λ run.
+    let r = run.1 in
+    ⊎_elim (λ (leave : IsLeave 3 r.last). drain_is_kept r.body r.last r.entries_are leave) (λ unleft. unleft.1) r.leaves
+
+pub returns-clause-unleft : goal.returns-clause-unleft
+returns-clause-unleft c = (
+  refl,
+  record {
+    body = drains 3 LaneBroken [] ∷ [];
+    last = [];
+    entries_are = refl;
+    stance = Over;
+    walk = (Over, (refl, tt, refl), refl);
+    stops = refl;
+    leaves = inr (refl, tt);
+    made = [];
+    left = [];
+    asks = nothing_asked;
+    left_over = tt;
+    events = refl;
+    drawn = refl;
+    sent_is = refl;
+  },
+)
+
 pub returns-clause-spent : goal.returns-clause-spent
 returns-clause-spent c = (
   refl,
@@ -221,7 +252,7 @@ returns-clause-spent c = (
     stance = Free;
     walk = refl;
     stops = tt;
-    leaves = (refl, refl);
+    leaves = (refl, tt);
     made = [];
     left = [];
     asks = nothing_asked;
@@ -233,7 +264,7 @@ returns-clause-spent c = (
 )
 
 pub returns-clause-not_spent : goal.returns-clause-not_spent
-returns-clause-not_spent c = λ run. let e : 1 ≡ 18446744073709551615 = run.1.leaves.1 in absurd (omega (arith, e))
+returns-clause-not_spent c = λ run. run.1.leaves.1
 
 pub returns-clause-wired : goal.returns-clause-wired
 unfolding turned told_ports channel_line number_of digits

@@ -1,7 +1,7 @@
 use Rattle.std.proofs.Common.{◌≡◌, ℕ, List, length}
 use Rattle.satip_frame.specs.Said.{Said}
 use Rattle.satip_rtsp_interleaved.specs.Frames.{inside, behind}
-use Rattle.satip_tunnel.specs.Hearing.{Course, Stands}
+use Rattle.satip_tunnel.specs.Hearing.{Course, Stands, talk_at}
 use Rattle.satip_tunnel.specs.Seats.{seated}
 use Rattle.satip_tunnel.proofs.hearing.answer.Given as goal
 
@@ -10,11 +10,11 @@ abbrev pub invariant-messages : goal.invariant-messages
 invariant-messages g l =
     ((course : Course) (received text : List ℕ) (messages : List Said)
     → course.lane ≡ l.lane
-    → Stands g.C.Conn.tells course (seated l.initial.caller.server.now l.initial.caller.pass)
-    (g.C.Conn.line l.initial.conn) l.initial.draws received text messages l.initial.room.parter
+    → Stands g.C.Conn.tells course (talk_at (seated l.initial.caller.server.now l.initial.caller.pass)
+    (g.C.Conn.line l.initial.conn) l.initial.draws) received text messages l.initial.room.parter
     → (answered : List Said)
-    × Stands g.C.Conn.tells course (seated l.caller.server.now l.caller.pass)
-    (g.C.Conn.line l.conn) l.draws received text answered l.room.parter)
+    × Stands g.C.Conn.tells course (talk_at (seated l.caller.server.now l.caller.pass)
+    (g.C.Conn.line l.conn) l.draws) received text answered l.room.parter)
     × ((g.C.Conn.line l.conn).ended ≡ (g.C.Conn.line l.initial.conn).ended)
 
 -- each message takes some of the bytes

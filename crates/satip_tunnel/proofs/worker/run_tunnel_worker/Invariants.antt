@@ -9,5 +9,5 @@ invariant-loop g l =
     (l.kit.key ≡ l.initial.kit.key)
     × (l.kit.outlet ≡ l.initial.kit.outlet)
     × ServesOn g.D.Conn.Conn.tells l.initial.kit.key l.number
-    (seated l.initial.caller.server.now l.initial.caller.pass) (seated l.caller.server.now l.caller.pass)
-    (g.D.Doors.hall l.initial.kit.doors) (g.D.Doors.hall l.kit.doors) l.draws
+    (record { seat = seated l.initial.caller.server.now l.initial.caller.pass; hall = g.D.Doors.hall l.initial.kit.doors })
+    (record { seat = seated l.caller.server.now l.caller.pass; hall = g.D.Doors.hall l.kit.doors }) l.draws

@@ -4,6 +4,9 @@ use Rattle.satip_serve.proofs.LeftKits.{come_back_as}
 use Rattle.satip_serve.specs.Statuses.{serving_status}
 use Rattle.satip_serve.proofs.EndLemmas.{come_unused, unused_of}
 use Rattle.satip_tunnel_serve.proofs.EndLemmas.{fresh_seen, outlets_stay, tunnel_end}
+use Rattle.satip_tunnel_serve.proofs.AskedOn.{run_asks}
+use Rattle.satip_tunnel_serve.proofs.Channelling.{payloads_sent}
+use Rattle.satip_tunnel_serve.proofs.Recorded.{tunnel_plays}
 use Rattle.satip_tunnel_serve.proofs.command.run_kits.Goals as goal
 
 pub returns-in-Ok-clause-ran : goal.returns-in-Ok-clause-ran
@@ -14,12 +17,16 @@ returns-in-Ok-clause-ran g c =
     let laws = c.keeps_laws.ensures in
     rw (ap serving_status c.of_run.ensures.end) (record {
       pass = ran.of;
+      number = ran.jobs.number;
+      knows = ran.knows;
+      joined = ran.jobs.joined;
       run = run;
       payload = laws.payload;
       owners = laws.owners;
       busy = laws.busy;
-      frames = c.connections_have_lanes.ensures.law _ _ _ _ _ _ _ run;
-      channels = laws.channels;
+      recordings = tunnel_plays _ _ _ _ _ run laws.recordings;
+      frames = c.connections_have_lanes.ensures.law _ _ _ _ run;
+      channels = payloads_sent _ _ (run_asks _ _ _ _ _ run) ran.knows.lawful laws.numbers laws.channels;
       kits_left = come_back_as g.D.Doors.hall no_outbox g.O.Outlet.outbox g.M.MuxStore.shelf g.C.Clock.dial c.args.jobs c.in-Ok.last.jobs ran.jobs.kits_left;
       outlets = outlets_stay g.D.Doors.hall g.O.Outlet.outbox g.M.MuxStore.shelf g.C.Clock.dial c.args.jobs c.in-Ok.last.jobs c.in-Ok.ensures.outlets;
       ends = tunnel_end c.in-Ok.end _ _ (ran.jobs.ended c.args._accepts fresh);

@@ -1,10 +1,12 @@
 -- The jobs work over the tunnel, and what they did is a run of it.
+use Rattle.std.proofs.Common.{◌∙◌}
 use Rattle.std.proofs.iter.Serving.{serving}
 use Rattle.satip_desk.specs.declared.kits.PumpKit.{PumpKit}
 use Rattle.satip_tunnel.specs.declared.silent.Silent.{Silent}
 use Rattle.satip_desk.specs.declared.kits.WorkerKit.{WorkerKit}
 use Rattle.satip_jobs.proofs.Beside.{worked_as}
 use Rattle.satip_jobs.proofs.Following.{pumps_keep, run_as, workers_keep}
+use Rattle.satip_jobs.proofs.WholeRuns.{made_is, number_is}
 use Rattle.satip_serve.proofs.LeftKits.{come_back}
 use Rattle.satip_tunnel.specs.Silences.{no_outbox}
 use Rattle.satip_tunnel_serve.specs.Deeds.{SeatDid, worker_deed, pump_deed, ticker_deed}
@@ -57,13 +59,17 @@ returns-clause-ran g c =
     c.requires.serves
     g.C.Clock.dial a.now b.now call) x y work) in
     record {
+      number = number_is g.X.Crew.cell g.X.Crew.pass g.X.Crew.gear g.X.Crew.legal g.X.Crew.is_stop g.X.Crew.goes_on _ _ _ c.args.root c.args.posts root posts
+          c.run_jobs.result.2 did ∙ c.requires.first.number;
+      joined = made_is g.X.Crew.cell g.X.Crew.pass g.X.Crew.gear g.X.Crew.legal g.X.Crew.is_stop g.X.Crew.goes_on _ _ _ c.args.root c.args.posts root posts
+          c.run_jobs.result.2 did (λ x y d. d.still) (λ x y d. d.still) (λ x y d. d.still) c.requires.first.kept c.requires.first.made;
       kits_left = come_back g.D.Doors.hall no_outbox g.M.MuxStore.shelf c.args.posts.workers.items posts.workers.items
           c.args.posts.pumps.items posts.pumps.items (tick_of c.args.posts.ticker) (tick_of posts.ticker)
           (workers_keep g.X.Crew.cell g.X.Crew.pass g.X.Crew.gear g.X.Crew.legal g.X.Crew.is_stop g.X.Crew.goes_on _ _ _ c.args.root c.args.posts root posts
           c.run_jobs.result.2 did (λ (kit : WorkerKit g.row.D.Denot Silent g.row.P.Denot). kit.key) (λ x y did. did.deed.key))
           (pumps_keep g.X.Crew.cell g.X.Crew.pass g.X.Crew.gear g.X.Crew.legal g.X.Crew.is_stop g.X.Crew.goes_on _ _ _ c.args.root c.args.posts root posts
           c.run_jobs.result.2 did (λ (kit : PumpKit g.row.M.Denot Silent g.row.P.Denot). (g.M.MuxStore.shelf kit.store).recording)
-          (λ x y did. did.deed.pumped.recordings));
+          (λ x y did. did.deed.pumped.run.recordings));
       run = λ accepts fresh.
           tunnel_run g.X.Crew.cell g.X.Crew.pass g.X.Crew.gear g.X.Crew.legal g.X.Crew.is_stop g.X.Crew.goes_on g.D.Conn.Conn.tells worker_of pump_of tick_of
           c.args.root c.args.posts root posts c.run_jobs.result.2 did c.requires.serves.stops c.requires.serves.lawful accepts c.requires.first

@@ -1,14 +1,14 @@
 use Rattle.std.proofs.Common.{◌≡◌, ℕ, List, [], None, length}
 use Rattle.satip_http.specs.Gets.{asked_get}
 use Rattle.satip_frame.specs.Asking.{AsksSoFar}
-use Rattle.satip_worker.specs.Progress.{Carries}
+use Rattle.satip_worker.specs.Progress.{Carries, SameFaults}
 use Rattle.satip_worker.proofs.first.read_first.Given as goal
 
--- all that came in asks nothing
+-- all that came in asks nothing, and nothing failed
 abbrev pub invariant-loop : goal.invariant-loop
 invariant-loop g l =
     (l.framer.ended ≡ None)
     × (length l.buf ≡ 4096)
     × ((text : List ℕ) × AsksSoFar asked_get text [] l.framer.bytes
     × Carries g.C.Conn.tells (g.C.Conn.line l.initial.conn) (g.C.Conn.line l.conn) text [])
-    × ((g.C.Conn.line l.conn).receive_faults ≡ (g.C.Conn.line l.initial.conn).receive_faults)
+    × SameFaults (g.C.Conn.line l.initial.conn) (g.C.Conn.line l.conn)

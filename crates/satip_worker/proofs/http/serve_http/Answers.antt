@@ -1,4 +1,3 @@
-use Rattle.std.proofs.Common.{◌∙◌}
 use Rattle.satip_worker.proofs.HttpLemmas.{ran_to_nothing, ran_to_failure, ran_to_refusal, ran_to_cut_refusal, ran_to_unmade, ran_to_cut_start, ran_to_stream}
 use Rattle.satip_worker.proofs.http.serve_http.Goals as goal
 
@@ -34,21 +33,3 @@ pub returns-in-Unmade-clause-serves : goal.returns-in-Unmade-clause-serves
 returns-in-Unmade-clause-serves g c = λ key stream from are.
     rw c.end_of.ensures.end (ran_to_unmade _ _ _ key stream from _ _ _ _ _ _ _ c.in-Asked.ensures.reads (c.get.ensures.draws key stream from are) _
     (c.in-Unmade.ensures.turns key stream from are))
-
-pub returns-in-Ended-clause-calm : goal.returns-in-Ended-clause-calm
-returns-in-Ended-clause-calm g c = λ _. c.in-Ended.ensures.calm (λ is. cc is)
-
-pub returns-in-Started-clause-calm : goal.returns-in-Started-clause-calm
-returns-in-Started-clause-calm g c = λ done. c.stream.ensures.calm done ∙ c.get.ensures.calm ∙ c.in-Asked.ensures.calm (λ is. cc is)
-
-pub returns-in-StartCut-clause-calm : goal.returns-in-StartCut-clause-calm
-returns-in-StartCut-clause-calm g c = λ _. c.get.ensures.calm ∙ c.in-Asked.ensures.calm (λ is. cc is)
-
-pub returns-in-Refused-clause-calm : goal.returns-in-Refused-clause-calm
-returns-in-Refused-clause-calm g c = λ _. c.get.ensures.calm ∙ c.in-Asked.ensures.calm (λ is. cc is)
-
-pub returns-in-RefusalCut-clause-calm : goal.returns-in-RefusalCut-clause-calm
-returns-in-RefusalCut-clause-calm g c = λ _. c.get.ensures.calm ∙ c.in-Asked.ensures.calm (λ is. cc is)
-
-pub returns-in-Unmade-clause-calm : goal.returns-in-Unmade-clause-calm
-returns-in-Unmade-clause-calm g c = λ _. c.get.ensures.calm ∙ c.in-Asked.ensures.calm (λ is. cc is)

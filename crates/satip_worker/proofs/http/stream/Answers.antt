@@ -1,10 +1,9 @@
 use Rattle.std.proofs.Common.{refl, ◌∙◌}
-use Rattle.satip_worker.proofs.CauseLemmas.{not_done}
 use Rattle.satip_worker.proofs.StreamLemmas.{streams_from, streams_sent, streams_empty, streams_got, streams_idle, streams_cut, streams_gone, streams_unmade, streams_ended, streams_failed}
 use Rattle.satip_worker.proofs.http.stream.Goals as goal
 
 pub loop-init : goal.loop-init
-loop-init g c = (refl, c.requires.open, g.met.S.Service.same_self _, streams_from _ _ _ _ _, refl, c.requires.free)
+loop-init g c = (refl, c.requires.open, g.met.S.Service.same_self _, streams_from _ _ _ _ _, c.requires.free)
 
 pub loop-preserved-in-Sent : goal.loop-preserved-in-Sent
 loop-preserved-in-Sent g c = (
@@ -12,7 +11,6 @@ loop-preserved-in-Sent g c = (
   c.pull.ensures.input ∙ c.loop.invariant.1,
   g.met.S.Service.same_then _ _ _ c.loop.invariant.2 c.pull.ensures.same,
   streams_sent _ _ _ _ _ _ _ _ _ c.loop.invariant.3 c.in-Sent.ensures.turns,
-  c.pull.ensures.calm ∙ c.loop.invariant.4,
   c.pull.ensures.free,
 )
 
@@ -34,7 +32,6 @@ loop-preserved-in-Got g c = (
   c.in-Got.ensures.receives.after,
   g.met.S.Service.same_then _ _ _ c.loop.invariant.2 c.pull.ensures.same,
   streams_got _ _ _ _ _ _ _ _ _ _ (streams_empty _ _ _ _ _ _ _ _ _ c.loop.invariant.3 c.in-Empty.ensures.turns) c.in-Got.ensures.receives,
-  c.in-Got.ensures.receives.counts.receive_faults ∙ c.pull.ensures.calm ∙ c.loop.invariant.4,
   c.pull.ensures.free,
 )
 
@@ -44,7 +41,6 @@ loop-preserved g c = (
   c.in-Idle.ensures.receives.after,
   g.met.S.Service.same_then _ _ _ c.loop.invariant.2 c.pull.ensures.same,
   streams_idle _ _ _ _ _ _ _ _ (streams_empty _ _ _ _ _ _ _ _ _ c.loop.invariant.3 c.in-Empty.ensures.turns) c.in-Idle.ensures.receives,
-  c.in-Idle.ensures.receives.receive_faults ∙ c.pull.ensures.calm ∙ c.loop.invariant.4,
   c.pull.ensures.free,
 )
 
@@ -55,18 +51,3 @@ returns-in-End-clause-streams g c =
 pub returns-in-Failed-clause-streams : goal.returns-in-Failed-clause-streams
 returns-in-Failed-clause-streams g c =
     streams_failed _ _ _ _ _ _ _ _ _ _ _ c.loop.invariant.3 _ c.in-Empty.ensures.turns c.in-Failed.ensures.receives c.close-in-Failed.ensures.closes
-
-pub returns-in-Cut-clause-calm : goal.returns-in-Cut-clause-calm
-returns-in-Cut-clause-calm g c = λ _. c.pull.ensures.calm ∙ c.loop.invariant.4
-
-pub returns-in-Gone-clause-calm : goal.returns-in-Gone-clause-calm
-returns-in-Gone-clause-calm g c = λ _. c.pull.ensures.calm ∙ c.loop.invariant.4
-
-pub returns-in-Unmade-clause-calm : goal.returns-in-Unmade-clause-calm
-returns-in-Unmade-clause-calm g c = λ _. c.pull.ensures.calm ∙ c.loop.invariant.4
-
-pub returns-in-End-clause-calm : goal.returns-in-End-clause-calm
-returns-in-End-clause-calm g c = λ _. c.in-End.ensures.receives.counts.receive_faults ∙ c.pull.ensures.calm ∙ c.loop.invariant.4
-
-pub returns-in-Failed-clause-calm : goal.returns-in-Failed-clause-calm
-returns-in-Failed-clause-calm g c = λ is. absurd (not_done _ _ c.close-in-Failed.ensures.closes.entries c.close-in-Failed.ensures.closes.closes is)

@@ -13,5 +13,4 @@ invariant-loop g l =
     (staged g.S.Service.may_want g.S.Service.known g.O.Outlet.outbox l.initial.service l.initial.outlet)
     (staged g.S.Service.may_want g.S.Service.known g.O.Outlet.outbox l.service l.outlet)
     (g.C.Conn.line l.initial.conn) (g.C.Conn.line l.conn)
-    × ((g.C.Conn.line l.conn).receive_faults ≡ (g.C.Conn.line l.initial.conn).receive_faults)
     × ((g.O.Outlet.outbox l.outlet).held ≡ false)

@@ -10,8 +10,7 @@ requests-init g c = (
   c.requires.goes_on,
   g.met.S.Service.same_self _,
   refl,
-  λ course text same stands. stands_whole _ _ course _ _ _ text c.args.room.now.framer.bytes _ _ c.new-rest.ensures.whole stands,
-  refl,
+  λ course text same stands. stands_whole _ _ course _ _ text c.args.room.now.framer.bytes _ _ c.new-rest.ensures.whole stands,
   c.requires.free,
 )
 
@@ -26,23 +25,22 @@ requests-preserved g c = (
       record {
         requests = before.requests ++ c.next_asked.new.request ∷ [];
         first = next.first;
-        answered = message_turns _ _ course _ _ _ _ _ _ text before.requests c.next_asked.new.request before.answered _ same
+        answered = message_turns _ _ course _ _ _ _ text before.requests c.next_asked.new.request before.answered _ same
             c.turn.ensures.draws Sent c.in-Sent.ensures.turns _ next;
       },
-  c.turn.ensures.calm ∙ c.requests.invariant.4,
   c.turn.ensures.free,
 )
 
 pub returns-in-Lost-clause-hears : goal.returns-in-Lost-clause-hears
 returns-in-Lost-clause-hears g c = λ course text same stands.
     let before = c.requests.invariant.3 course text same stands in
-    message_turns _ _ course _ _ _ _ _ _ text before.requests c.next_asked.new.request before.answered _ same
+    message_turns _ _ course _ _ _ _ text before.requests c.next_asked.new.request before.answered _ same
     c.turn.ensures.draws Lost c.in-Lost.ensures.turns _ (c.in-Asked.ensures.hears text before.requests before.first)
 
 pub returns-in-Unmade-clause-hears : goal.returns-in-Unmade-clause-hears
 returns-in-Unmade-clause-hears g c = λ course text same stands.
     let before = c.requests.invariant.3 course text same stands in
-    message_turns _ _ course _ _ _ _ _ _ text before.requests c.next_asked.new.request before.answered _ same
+    message_turns _ _ course _ _ _ _ text before.requests c.next_asked.new.request before.answered _ same
     c.turn.ensures.draws (Unmade c.in-Unmade.fault) c.in-Unmade.ensures.turns _ (c.in-Asked.ensures.hears text before.requests before.first)
 
 pub returns-in-Sent-turn-clause-hears : goal.returns-in-Sent-turn-clause-hears
@@ -52,20 +50,20 @@ returns-in-Sent-turn-clause-hears g c = λ course text same stands.
     record {
       requests = before.requests ++ c.next_asked.new.request ∷ [];
       asks = all_with_last asked broken_request text before.requests c.next_asked.new.request last;
-      answered = last_turns _ _ course _ _ _ _ _ _ text before.requests c.next_asked.new.request before.answered _ same
+      answered = last_turns _ _ course _ _ _ _ text before.requests c.next_asked.new.request before.answered _ same
           c.turn-in-Last.ensures.draws Sent c.in-Sent-turn.ensures.turns last;
     }
 
 pub returns-in-Lost-turn-clause-hears : goal.returns-in-Lost-turn-clause-hears
 returns-in-Lost-turn-clause-hears g c = λ course text same stands.
     let before = c.requests.invariant.3 course text same stands in
-    last_turns _ _ course _ _ _ _ _ _ text before.requests c.next_asked.new.request before.answered _ same
+    last_turns _ _ course _ _ _ _ text before.requests c.next_asked.new.request before.answered _ same
     c.turn-in-Last.ensures.draws Lost c.in-Lost-turn.ensures.turns (c.in-Last.ensures.hears text before.requests before.first)
 
 pub returns-in-Unmade-turn-clause-hears : goal.returns-in-Unmade-turn-clause-hears
 returns-in-Unmade-turn-clause-hears g c = λ course text same stands.
     let before = c.requests.invariant.3 course text same stands in
-    last_turns _ _ course _ _ _ _ _ _ text before.requests c.next_asked.new.request before.answered _ same
+    last_turns _ _ course _ _ _ _ text before.requests c.next_asked.new.request before.answered _ same
     c.turn-in-Last.ensures.draws (Unmade c.in-Unmade-turn.fault) c.in-Unmade-turn.ensures.turns
     (c.in-Last.ensures.hears text before.requests before.first)
 

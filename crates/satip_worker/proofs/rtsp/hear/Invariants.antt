@@ -1,6 +1,6 @@
 use Rattle.std.proofs.Common.{◌≡◌, ℕ, List, ◌++◌, None, false, length}
 use Rattle.satip_frame.specs.Stream.{skip_newlines}
-use Rattle.satip_worker.specs.Progress.{staged}
+use Rattle.satip_worker.specs.Progress.{conn_state}
 use Rattle.satip_worker.specs.Hearing.{Course, Stands}
 use Rattle.satip_worker.proofs.rtsp.hear.Given as goal
 
@@ -13,12 +13,11 @@ invariant-requests g l =
     × ((course : Course) (text : List ℕ)
     → course.peer ≡ l.peer
     → Stands g.C.Conn.tells g.O.Outlet.tells course
-    (staged g.S.Service.may_want g.S.Service.known g.O.Outlet.outbox l.initial.service l.initial.outlet)
-    (g.C.Conn.line l.initial.conn) l.initial.draws text (l.initial.room.framer.bytes ++ l.piece)
+    (conn_state g.S.Service.may_want g.S.Service.known g.O.Outlet.outbox g.C.Conn.line l.initial.service l.initial.outlet l.initial.conn)
+    l.initial.draws text (l.initial.room.framer.bytes ++ l.piece)
     → Stands g.C.Conn.tells g.O.Outlet.tells course
-    (staged g.S.Service.may_want g.S.Service.known g.O.Outlet.outbox l.service l.outlet)
-    (g.C.Conn.line l.conn) l.draws text (l.room.framer.bytes ++ l.rest))
-    × ((g.C.Conn.line l.conn).receive_faults ≡ (g.C.Conn.line l.initial.conn).receive_faults)
+    (conn_state g.S.Service.may_want g.S.Service.known g.O.Outlet.outbox g.C.Conn.line l.service l.outlet l.conn)
+    l.draws text (l.room.framer.bytes ++ l.rest))
     × ((g.O.Outlet.outbox l.outlet).held ≡ false)
 
 -- each message takes some of the bytes

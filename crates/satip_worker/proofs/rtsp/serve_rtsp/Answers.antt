@@ -8,7 +8,6 @@ loop-init g c = (
   refl,
   g.met.S.Service.same_self _,
   λ key stream from are. ([], listens_from _ _ _ _ _ c.requires.new are),
-  refl,
   c.requires.free,
 )
 
@@ -20,26 +19,25 @@ loop-preserved-in-All g c = (
   λ key stream from are.
       let before = c.loop.invariant.3 key stream from are in
       (_, c.in-All.ensures.hears _ _ refl (stands_got _ _ _ _ _ _ _ before.0 _ before.1 _ _ c.in-Got.ensures.receives)),
-  c.hear.ensures.calm ∙ c.in-Got.ensures.receives.counts.receive_faults ∙ c.loop.invariant.4,
   c.hear.ensures.free,
 )
 
 pub returns-in-Closed-clause-serves : goal.returns-in-Closed-clause-serves
 returns-in-Closed-clause-serves g c = λ key stream from are.
     let before = c.loop.invariant.3 key stream from are in
-    ran_to_closing _ _ _ _ _ _ _ (c.hear.ensures.input ∙ c.in-Got.ensures.receives.after)
+    ran_to_closing _ _ _ _ _ _ (c.hear.ensures.input ∙ c.in-Got.ensures.receives.after)
     (c.in-Closed.ensures.hears _ _ refl (stands_got _ _ _ _ _ _ _ before.0 _ before.1 _ _ c.in-Got.ensures.receives))
 
 pub returns-in-Lost-clause-serves : goal.returns-in-Lost-clause-serves
 returns-in-Lost-clause-serves g c = λ key stream from are.
     let before = c.loop.invariant.3 key stream from are in
-    ran_to_write_fault _ _ _ _ _ _ _ (c.hear.ensures.input ∙ c.in-Got.ensures.receives.after)
+    ran_to_write_fault _ _ _ _ _ _ (c.hear.ensures.input ∙ c.in-Got.ensures.receives.after)
     (c.in-Lost.ensures.hears _ _ refl (stands_got _ _ _ _ _ _ _ before.0 _ before.1 _ _ c.in-Got.ensures.receives))
 
 pub returns-in-Unmade-clause-serves : goal.returns-in-Unmade-clause-serves
 returns-in-Unmade-clause-serves g c = λ key stream from are.
     let before = c.loop.invariant.3 key stream from are in
-    rw c.end_of.ensures.end (ran_to_stop _ _ _ _ _ _ _ _
+    rw c.end_of.ensures.end (ran_to_stop _ _ _ _ _ _ _
     (c.in-Unmade.ensures.hears _ _ refl (stands_got _ _ _ _ _ _ _ before.0 _ before.1 _ _ c.in-Got.ensures.receives)))
 
 pub loop-preserved : goal.loop-preserved
@@ -50,8 +48,7 @@ loop-preserved g c = (
   λ key stream from are.
       let before = c.loop.invariant.3 key stream from are in
       (before.0, listens_idle _ _ _ _ _ _ _ before.0 _ before.1 c.in-Idle.ensures.receives),
-  c.in-Idle.ensures.receives.receive_faults ∙ c.loop.invariant.4,
-  c.loop.invariant.5,
+  c.loop.invariant.4,
 )
 
 pub returns-in-End-clause-serves : goal.returns-in-End-clause-serves
@@ -63,15 +60,3 @@ pub returns-in-Failed-clause-serves : goal.returns-in-Failed-clause-serves
 returns-in-Failed-clause-serves g c = λ key stream from are.
     let before = c.loop.invariant.3 key stream from are in
     ran_to_read_fault _ _ _ _ _ _ _ before.0 _ before.1 c.in-Failed.ensures.receives
-
-pub returns-in-Closed-clause-calm : goal.returns-in-Closed-clause-calm
-returns-in-Closed-clause-calm g c = λ _. c.hear.ensures.calm ∙ c.in-Got.ensures.receives.counts.receive_faults ∙ c.loop.invariant.4
-
-pub returns-in-Lost-clause-calm : goal.returns-in-Lost-clause-calm
-returns-in-Lost-clause-calm g c = λ _. c.hear.ensures.calm ∙ c.in-Got.ensures.receives.counts.receive_faults ∙ c.loop.invariant.4
-
-pub returns-in-Unmade-clause-calm : goal.returns-in-Unmade-clause-calm
-returns-in-Unmade-clause-calm g c = λ _. c.hear.ensures.calm ∙ c.in-Got.ensures.receives.counts.receive_faults ∙ c.loop.invariant.4
-
-pub returns-in-End-clause-calm : goal.returns-in-End-clause-calm
-returns-in-End-clause-calm g c = λ _. c.in-End.ensures.receives.counts.receive_faults ∙ c.loop.invariant.4

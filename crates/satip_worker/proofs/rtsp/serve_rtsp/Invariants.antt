@@ -1,5 +1,5 @@
 use Rattle.std.proofs.Common.{◌≡◌, ℕ, List, None, false, length}
-use Rattle.satip_worker.specs.Progress.{staged}
+use Rattle.satip_worker.specs.Progress.{conn_state}
 use Rattle.satip_worker.specs.Drawing.{before_draw}
 use Rattle.satip_worker.specs.Hearing.{Listens}
 use Rattle.satip_worker.proofs.rtsp.serve_rtsp.Given as goal
@@ -16,10 +16,8 @@ invariant-loop g l =
       key = key;
       stream = stream;
       from = from;
-      stage = staged g.S.Service.may_want g.S.Service.known g.O.Outlet.outbox l.initial.service l.initial.outlet;
-      line = g.C.Conn.line l.initial.conn;
+      start = conn_state g.S.Service.may_want g.S.Service.known g.O.Outlet.outbox g.C.Conn.line l.initial.service l.initial.outlet l.initial.conn;
     })
-    (staged g.S.Service.may_want g.S.Service.known g.O.Outlet.outbox l.service l.outlet)
-    (g.C.Conn.line l.conn) l.draws text l.room.framer.bytes)
-    × ((g.C.Conn.line l.conn).receive_faults ≡ (g.C.Conn.line l.initial.conn).receive_faults)
+    (conn_state g.S.Service.may_want g.S.Service.known g.O.Outlet.outbox g.C.Conn.line l.service l.outlet l.conn)
+    l.draws text l.room.framer.bytes)
     × ((g.O.Outlet.outbox l.outlet).held ≡ false)

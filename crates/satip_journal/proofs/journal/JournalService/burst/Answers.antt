@@ -12,7 +12,7 @@ use Rattle.satip_journal.proofs.journal.JournalService.burst.Goals as goal
 pub loop-made-init : goal.loop-made-init
 loop-made-init g c = (
   under_way_none c.args.self.now.caller.pass.number _ _ (g.met.L.Lot.none_taken c.args.lot.now),
-  same_journal g.K.Sink.tells _,
+  same_journal g.K.JobSink.tells _,
   c.requires.open,
   c.requires.none,
 )
@@ -27,13 +27,13 @@ loop-made-preserved g c =
     → g.L.Lot.has_taken c.args.lot.now c.took.new.self (ts ++ taken c.in-Some.event c.in-Ok.answer c.call.new.out ∷ []) =
     λ ts has. c.took.ensures.taken c.args.lot.now ts c.in-Some.event c.in-Some.ensures.given (c.next.ensures.taken c.args.lot.now ts has) in (
       under_way_more c.args.self.now.caller.pass.number _ _ _ _ _ _ c.in-Some.event c.in-Ok.answer c.call.new.out i.0 own called.suits takes,
-      same_journal_then g.K.Sink.tells _ _ _ i.1 c.call.ensures.same,
+      same_journal_then g.K.JobSink.tells _ _ _ i.1 c.call.ensures.same,
       c.took.ensures.ended ∙ c.in-Some.ensures.ended,
       c.took.ensures.given,
     )
 
 pub returns-in-Err-clause-same : goal.returns-in-Err-clause-same
-returns-in-Err-clause-same g c = same_journal_then g.K.Sink.tells _ _ _ c.loop-made.invariant.1 c.call.ensures.same
+returns-in-Err-clause-same g c = same_journal_then g.K.JobSink.tells _ _ _ c.loop-made.invariant.1 c.call.ensures.same
 
 pub returns-in-Err-clause-bursts : goal.returns-in-Err-clause-bursts
 returns-in-Err-clause-bursts g c =

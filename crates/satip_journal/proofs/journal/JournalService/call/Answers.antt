@@ -9,12 +9,12 @@ use Rattle.satip_journal.proofs.journal.JournalService.call.Goals as goal
 
 pub returns-then-self-clause-same : goal.returns-then-self-clause-same
 returns-then-self-clause-same g c =
-    let drain = g.K.Sink.drain c.args.self.now.sink in
+    let drain = g.K.JobSink.drain c.args.self.now.sink in
     let place = length c.call.new.pass.seen - 1 in
     let out = c.call.new.out in
     let text = entry_line place c.args.self.now.number c.args.event.now c.in-Ok.answer out.reply out.datagrams in
-    let P : Bool → Type 0 = λ failed. Logs g.K.Sink.tells drain drain failed failed text in
-    entered g.K.Sink.tells _ _ place c.args.event.now c.in-Ok.answer out (record { server = refl; pass = c.call.ensures.keeps }) refl
+    let P : Bool → Type 0 = λ failed. Logs g.K.JobSink.tells drain drain failed failed text in
+    entered g.K.JobSink.tells _ _ place c.args.event.now c.in-Ok.answer out (record { server = refl; pass = c.call.ensures.keeps }) refl refl
     c.args.self.now.own c.call.ensures.knows.own_is c.in-Ok.ensures.history refl (subst P (sym c.if-self.true) refl)
     (c.known_item.ensures.typed c.args.self.now.caller.pass.number)
 
@@ -25,16 +25,16 @@ returns-then-self-clause-called g c =
 
 pub returns-else-self-clause-same : goal.returns-else-self-clause-same
 returns-else-self-clause-same g c =
-    let before = g.K.Sink.drain c.args.self.now.sink in
-    let after = g.K.Sink.drain c.fails_to_put-self.new.sink in
+    let before = g.K.JobSink.drain c.args.self.now.sink in
+    let after = g.K.JobSink.drain c.fails_to_put-self.new.sink in
     let failed = c.fails_to_put-self.result in
     let place = c.place-place.result - 1 in
     let out = c.call.new.out in
     let text = entry_line place c.args.self.now.number c.args.event.now c.in-Ok.answer out.reply out.datagrams in
-    let P : List ℕ → Type 0 = λ t. Logs g.K.Sink.tells before after c.args.self.now.failed failed t in
-    let Q : Bool → Type 0 = λ b. Logs g.K.Sink.tells before after b failed c.bytes.result.now in
-    entered g.K.Sink.tells _ _ place c.args.event.now c.in-Ok.answer out (record { server = refl; pass = c.call.ensures.keeps }) refl
-    c.args.self.now.own c.call.ensures.knows.own_is c.in-Ok.ensures.history (ap (λ (n : ℕ). n - 1) c.place-place.ensures)
+    let P : List ℕ → Type 0 = λ t. Logs g.K.JobSink.tells before after c.args.self.now.failed failed t in
+    let Q : Bool → Type 0 = λ b. Logs g.K.JobSink.tells before after b failed c.bytes.result.now in
+    entered g.K.JobSink.tells _ _ place c.args.event.now c.in-Ok.answer out (record { server = refl; pass = c.call.ensures.keeps }) refl
+    c.fails_to_put-self.ensures.job c.args.self.now.own c.call.ensures.knows.own_is c.in-Ok.ensures.history (ap (λ (n : ℕ). n - 1) c.place-place.ensures)
     (subst P c.write_entry.ensures.line (subst P c.bytes.ensures.bytes (subst Q (sym c.if-self.false) c.fails_to_put-self.ensures.logs)))
     (c.known_item.ensures.typed c.args.self.now.caller.pass.number)
 
@@ -45,6 +45,6 @@ returns-else-self-clause-called g c =
 
 pub returns-in-Err-clause-same : goal.returns-in-Err-clause-same
 returns-in-Err-clause-same g c =
-    not_entered g.K.Sink.tells _ _ (record { server = refl; pass = c.call.ensures.keeps }) refl
+    not_entered g.K.JobSink.tells _ _ (record { server = refl; pass = c.call.ensures.keeps }) refl refl
     c.args.self.now.own c.call.ensures.knows.own_is c.in-Err.ensures.history
-    (logs_none g.K.Sink.tells (g.K.Sink.drain c.args.self.now.sink) c.args.self.now.failed)
+    (logs_none g.K.JobSink.tells (g.K.JobSink.drain c.args.self.now.sink) c.args.self.now.failed)

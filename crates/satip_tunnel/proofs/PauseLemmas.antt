@@ -1,0 +1,122 @@
+-- Drains that found no frame, and the pauses after them.
+use Rattle.std.proofs.Common.{◌≡◌, ◌∙◌, ℕ, ◌+◌, ◌≤◌, List, [], ◌∷◌, ◌++◌, append_assoc, append-nil, length, length-append, arith, refl, sym, ap, inl, inr}
+use Rattle.rand_chacha.specs.ChaCha.{ChaCha}
+use Rattle.satip_interleave.proofs.Entries.{inners-append}
+use Rattle.satip_interleave.specs.declared.events.TunnelEvent.{TunnelEvent}
+use Rattle.satip_interleave.specs.declared.events.TunnelEvent.TheVariants.{Enter}
+use Rattle.satip_interleave.specs.declared.events.TunnelAnswer.{TunnelAnswer}
+use Rattle.satip_interleave.specs.Histories.{TunnelItem, inner_by, inners}
+use Rattle.satip_plain.specs.Histories.{Item}
+use Rattle.satip_pump.specs.PumpRuns.{RoseBy}
+use Rattle.satip_pump.proofs.ReadingLemmas.{rose_none}
+use Rattle.satip_tunnel.specs.declared.ends.TunnelEnd.{TunnelEnd}
+use Rattle.satip_tunnel.specs.declared.ends.TunnelEnd.TheVariants.{Full, Broken, Done, ReadFault, WriteFault, Spent}
+use Rattle.satip_tunnel.specs.Ends.{IsLeave}
+use Rattle.satip_tunnel.specs.Events.{MadeOne, UnmadeEvent}
+use Rattle.satip_tunnel.specs.Hearing.{Course, Finishes, Left, Talked, Unleft, talk_at}
+use Rattle.satip_tunnel.specs.Pauses.{PausesIdle, dry_in, one_if_dry}
+use Rattle.satip_tunnel.specs.Seats.{Seat}
+use Rattle.satip_world.specs.Lines.{Line}
+
+pub dry-append : (xs ys : List TunnelItem) → dry_in (xs ++ ys) ≡ dry_in xs + dry_in ys
+dry-append [] ys = omega arith
+dry-append (t ∷ xs) ys = let rest = dry-append xs ys in omega (arith, rest)
+
+-- drains that followed a request, or were followed by so many pauses, behind others
+pub dry_behind : (body entries : List TunnelItem) (before more all : ℕ) → dry_in body ≤ length (inners body) + before
+    → dry_in entries ≤ length (inners entries) + more → all ≡ before + more → dry_in (body ++ entries) ≤ length (inners (body ++ entries)) + all
+dry_behind body entries before more all first second is =
+    let sum : length (inners (body ++ entries)) ≡ length (inners body ++ inners entries) = ap (λ (h : List Item). length h) (inners-append body entries) in
+    omega (arith, first, second, is, sum, dry-append body entries, length-append (inners body) (inners entries))
+
+-- ---- the Enter and the Leave
+
+-- the entries that give a lane up are no drains, and none of the server
+record IsLast (own own' : List TunnelItem) : Type 0 where
+  last : List TunnelItem
+  made : own' ≡ own ++ last
+  dry : dry_in last ≡ 0
+  none_asked : inners last ≡ []
+
+leave_dry : (lane : ℕ) (last : List TunnelItem) → IsLeave lane last → dry_in last ≡ 0
+leave_dry lane [] leave = absurd leave
+leave_dry lane (t ∷ []) leave =
+    let none : one_if_dry t.event t.answer ≡ 0 = ap (λ (e : TunnelEvent). one_if_dry e t.answer) leave.0 in
+    omega (arith, none)
+leave_dry lane (t ∷ u ∷ ts) leave = absurd leave
+
+leave_inner : (lane : ℕ) (last : List TunnelItem) → IsLeave lane last → inners last ≡ []
+leave_inner lane [] leave = absurd leave
+leave_inner lane (t ∷ []) leave = ap (λ (e : TunnelEvent). inner_by t.caller e t.answer t.out ++ []) leave.0
+leave_inner lane (t ∷ u ∷ ts) leave = absurd leave
+
+module _ (lane : ℕ) (o n : Seat) where
+  left_last : (before after : TunnelEnd) → Left lane o n before after → IsLast o.pass.own n.pass.own
+  left_last before after left = record {
+    last = left.last;
+    made = left.grows.own;
+    dry = leave_dry lane left.last left.leave;
+    none_asked = leave_inner lane left.last left.leave;
+  }
+
+  unleft_last : (before after : TunnelEnd) → Unleft o n before after → IsLast o.pass.own n.pass.own
+  unleft_last before after unleft = record { last = []; made = unleft.grows.own; dry = refl; none_asked = refl }
+
+  finish_last : (before after : TunnelEnd) → Finishes lane o n before after → IsLast o.pass.own n.pass.own
+  finish_last Full after (inl left) = left_last Full after left
+  finish_last Full after (inr unleft) = unleft_last Full after unleft
+  finish_last Broken after (inl left) = left_last Broken after left
+  finish_last Broken after (inr unleft) = unleft_last Broken after unleft
+  finish_last Done after (inl left) = left_last Done after left
+  finish_last Done after (inr unleft) = unleft_last Done after unleft
+  finish_last ReadFault after (inl left) = left_last ReadFault after left
+  finish_last ReadFault after (inr unleft) = unleft_last ReadFault after unleft
+  finish_last WriteFault after (inl left) = left_last WriteFault after left
+  finish_last WriteFault after (inr unleft) = unleft_last WriteFault after unleft
+  finish_last Spent after same = record {
+    last = [];
+    made = ap (λ (s : Seat). s.pass.own) same.1 ∙ sym (append-nil o.pass.own);
+    dry = refl;
+    none_asked = refl;
+  }
+
+enter_dry : (t : TunnelItem) → t.event ≡ Enter → one_if_dry t.event t.answer ≡ 0
+enter_dry t is = ap (λ (e : TunnelEvent). one_if_dry e t.answer) is
+
+enter_inner : (t : TunnelItem) → t.event ≡ Enter → inner_by t.caller t.event t.answer t.out ≡ []
+enter_inner t is = ap (λ (e : TunnelEvent). inner_by t.caller e t.answer t.out) is
+
+-- a connection that was given a lane
+module _ (tells : Type 0) (course : Course) (o q n : Seat) (m : Line) (c : ChaCha) (answer : TunnelAnswer) (before after : TunnelEnd) (p r : ℕ) where
+  pub lane_pauses : MadeOne o course.seat Enter answer → Talked tells course (talk_at q m c) before → Finishes course.lane q n before after → RoseBy course.idles p r
+      → PausesIdle o.pass.own n.pass.own p r
+  lane_pauses one talked finishes rose =
+      let t : TunnelItem = one.item in
+      let body : List TunnelItem = talked.first.body in
+      let dry = talked.first.so_far.dry in
+      let end = finish_last course.lane q n before after finishes in
+      let first = enter_dry t one.event_is in
+      let none_dry = end.dry in
+      let sum : length (inners (t ∷ (body ++ end.last))) ≡ length (inners body) =
+      ap (λ (h : List Item). length h)
+      (ap (λ (h : List Item). h ++ inners (body ++ end.last)) (enter_inner t one.event_is)
+      ∙ inners-append body end.last ∙ ap (λ (h : List Item). inners body ++ h) end.none_asked ∙ append-nil (inners body)) in
+      record {
+        entries = t ∷ (body ++ end.last);
+        made = end.made
+            ∙ ap (λ (h : List TunnelItem). h ++ end.last) (talked.first.so_far.grows.own ∙ ap (λ (h : List TunnelItem). h ++ body) one.grows.own)
+            ∙ append_assoc (o.pass.own ++ t ∷ []) body end.last
+            ∙ append_assoc o.pass.own (t ∷ []) (body ++ end.last);
+        idles = course.idles;
+        dry = omega (arith, first, dry, none_dry, sum, dry-append body end.last);
+        pauses = rose;
+      }
+
+-- one that was given none
+pub turned_away_pauses : (o n : Seat) (answer : TunnelAnswer) (p : ℕ) → MadeOne o n Enter answer → PausesIdle o.pass.own n.pass.own p p
+turned_away_pauses o n answer p one =
+    let first = enter_dry one.item one.event_is in
+    record { entries = one.item ∷ []; made = one.grows.own; idles = 0; dry = omega (arith, first); pauses = rose_none p }
+
+pub unentered_pauses : (o n : Seat) (p : ℕ) → UnmadeEvent o n → PausesIdle o.pass.own n.pass.own p p
+unentered_pauses o n p unmade = record { entries = []; made = unmade.grows.own; idles = 0; dry = omega arith; pauses = rose_none p }
