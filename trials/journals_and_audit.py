@@ -4,17 +4,20 @@
     trials/journals_and_audit.py
 
 Each journal has to have whole lines alone, and the verdict is `yes` with the number of entries if
-nothing was lost. If a digit of a place or of what was answered is changed, it is never `yes`.
-strace(1) makes the calls that create and write a journal fail. Ends with status 1 if something
-doesn't hold. Needs the built program (trials/lib/server.py).
+nothing was lost. Each line of journal.N has the number N of its job. If a digit of a place or of
+what was answered is changed, it is never `yes`. strace(1) makes the calls that create and write a
+journal fail. A server that can't begin leaves the files of an earlier run as they are. Ends with
+status 1 if something doesn't hold. Needs the built program (trials/lib/server.py).
 
 Packages: strace
 Limit: 180 s
 """
 
+import contextlib
 import glob
 import os
 import signal
+import socket
 import subprocess
 import sys
 
@@ -79,6 +82,11 @@ def changed(text):
         begin += len(line) + 1
 
 
+def callers(text):
+    """The numbers of the jobs that a journal's lines name."""
+    return {int(line.split(b" ")[2]) for line in text.splitlines() if line.startswith(b"entry ")}
+
+
 def ask(server, count):
     """Sends some requests, on a connection each; none if the server has ended."""
     for _ in range(count):
@@ -92,6 +100,9 @@ def try_ended(checks):
         checks.check(server.status(20) == 0, "a server whose doors end has status 0")
         texts = journals(server)
         checks.check(is_yes(server, texts), "its journals are one history")
+        named = {int(it.rsplit(".", 1)[1]): open(it, "rb").read() for it in glob.glob(server.path("journal.*"))}
+        own = all(callers(text) <= {job} for job, text in named.items()) and len(named) > WORKERS
+        checks.check(own, f"each line of journal.N is of job N, in {len(named)} journals")
         told = [verdict(server, [text]) for text in changed(b"".join(texts))]
         never = told and not any(text.startswith("yes") for text in told)
         checks.check(never, f"{len(told)} digits of them changed in turn: never yes")
@@ -123,12 +134,41 @@ def try_fault(checks, name, fault, status, kept):
         checks.check(is_yes(server, journals(server)) == kept, f"{name}: {text}")
 
 
+def try_unable(checks, name, status, spoil):
+    """A server that can't begin, in the folder of an earlier run."""
+    with serve(1) as server:
+        ask(server, WORKERS)
+        server.status(20)
+        texts = journals(server)
+        with spoil(server):
+            words = [program(), "journal", "satip.toml", "1"]
+            ran = subprocess.run(words, cwd=server.folder.name, capture_output=True, timeout=20, check=False)
+        checks.check(ran.returncode == status, f"{name}: status {ran.returncode}")
+        checks.check(journals(server) == texts, f"{name}: the journals of the earlier run stay")
+
+
+@contextlib.contextmanager
+def wrong_configuration(server):
+    with open(server.config, "r+", encoding="ascii") as file:
+        text = file.read().replace(f"workers = {WORKERS}", "workers = 0")
+        file.seek(0)
+        file.write(text)
+        file.truncate()
+    yield
+
+
+def taken_port(server):
+    return socket.create_server((ADDRESS, server.ports[0]))
+
+
 def main():
     checks = Checks()
     try_ended(checks)
     try_killed(checks)
     for fault in FAULTS:
         try_fault(checks, *fault)
+    try_unable(checks, "a wrong configuration", 3, wrong_configuration)
+    try_unable(checks, "a port that is taken", 7, taken_port)
     checks.end()
 
 

@@ -6,9 +6,10 @@
 The recording's packets are numbered, so what was written is seen to be its packets in order, each
 at most once and unchanged, with none missing but where a line `gap FROM COUNT` tells it. PACKETS are
 recorded each time: 20000 without the word, 6 seconds of the stream. First over loopback, then
-through a relay that repeats, delays and loses datagrams, and at last from servers that are not
-there, take no connection or don't answer. Ends with status 1 if something doesn't hold. Needs the
-built program (trials/lib/server.py).
+through a relay that repeats, delays and loses datagrams, then while a host with another address
+sends RTP to the same port, and at last from servers that are not there, take no connection or don't
+answer. Ends with status 1 if something doesn't hold. Needs the built program
+(trials/lib/server.py).
 
 Packages: none
 Limit: 180 s
@@ -25,10 +26,10 @@ import threading
 sys.dont_write_bytecode = True
 from lib.checks import Checks
 from lib.recorded import Recorded, check_recorded
-from lib.rtp import numbered, port_of, receiver
-from lib.server import PACKETS_A_SECOND, Server, free_ports
+from lib.rtp import PACKETS_A_DATAGRAM, numbered, port_of, receiver
+from lib.server import PACKETS_A_SECOND, PLAIN_PACKET, Server, free_ports
 
-ADDRESS = "127.0.0.1"
+ADDRESS, STRANGER = "127.0.0.1", "127.0.0.2"
 SECONDS = 60
 # What the relay does, and whether datagrams are missing then: one that comes late is put in its
 # place as long as none is 64 or more ahead of it.
@@ -99,6 +100,32 @@ class Relay:
                 self.sock.sendto(datagram, (ADDRESS, self.client_port))
 
 
+class StrangersRelay(Relay):
+    """A relay next to which a host with another address sends datagrams, the first ones before any
+    of the server."""
+
+    def __init__(self, server_port):
+        self.stranger, self.sent = receiver(STRANGER), 0
+        super().__init__(server_port, Disturbance())
+
+    def send_strange(self, count):
+        for number in range(self.sent, self.sent + count):
+            head = bytes((0x80, 33)) + number.to_bytes(2, "big") + bytes(4) + b"odd!"
+            datagram = head + PLAIN_PACKET * PACKETS_A_DATAGRAM
+            self.stranger.sendto(datagram, (ADDRESS, self.client_port))
+        self.sent += count
+
+    def own_ports(self, told):
+        ports = super().own_ports(told)
+        self.send_strange(100)
+        return ports
+
+    def hand_on_datagrams(self):
+        while True:
+            self.sock.sendto(self.sock.recv(2048), (ADDRESS, self.client_port))
+            self.send_strange(1)
+
+
 def try_relays(checks, count):
     recording = numbered(PACKETS_A_SECOND * max(SECONDS, 3 * count // PACKETS_A_SECOND))
     with Server(ADDRESS, recording=recording) as server:
@@ -108,6 +135,11 @@ def try_relays(checks, count):
             relay = Relay(server.ports[0], Disturbance(**rule))
             recorded = Recorded(relay.address, count)
             check_recorded(checks, f"a relay that {where}", recorded, recording, count, may_miss)
+        relay = StrangersRelay(server.ports[0])
+        recorded = Recorded(relay.address, count)
+        where = f"{relay.sent} datagrams of another host"
+        check_recorded(checks, where, recorded, recording, count, False)
+        checks.check(relay.sent > 100, f"{where}: they came before and between the server's")
 
 
 def ended_well(recorded, status, lines, shortest, longest):
