@@ -60,17 +60,23 @@ const STREAM: Row<'static> = Row {
     tick: true,
 };
 
+/// The service that feeds a connection, and what comes before the receive of number `fed_at`.
+#[derive(Drop)]
+struct Feeder<S: Service + Drop> {
+    service: S,
+    packet: Packet,
+    out: Out,
+    fed_at: u32,
+    packets: u32,
+    tick: bool,
+}
+
 /// A connection over memory. A tick comes before its second receive, and packets before a later one.
 #[derive(Drop)]
 struct Fed<S: Service + Drop> {
     conn: MemoryConn,
-    feeder: S,
-    packet: Packet,
-    out: Out,
+    feeder: Feeder<S>,
     receives: u32,
-    fed_at: u32,
-    packets: u32,
-    tick: bool,
 }
 
 // Makes an event, whatever it is answered.
@@ -99,18 +105,18 @@ fn feed_packets<S: Service>(
     }
 }
 
-// Makes what comes before the next receive.
-fn feed_before<S: Service + Drop>(fed: &mut Fed<S>) {
-    if fed.receives == 2 {
-        feed(&mut fed.feeder, &Event::Tick { now: 1000 }, &mut fed.out);
+// Makes what comes before a receive, by its number from 1.
+fn feed_before<S: Service + Drop>(by: &mut Feeder<S>, receive: u32) {
+    if receive == 2 {
+        feed(&mut by.service, &Event::Tick { now: 1000 }, &mut by.out);
     }
-    if fed.receives == fed.fed_at {
+    if receive == by.fed_at {
         feed_packets(
-            &mut fed.feeder,
-            &fed.packet,
-            fed.packets,
-            fed.tick,
-            &mut fed.out,
+            &mut by.service,
+            &by.packet,
+            by.packets,
+            by.tick,
+            &mut by.out,
         );
     }
 }
@@ -122,7 +128,7 @@ impl<S: Service + Drop> Conn for Fed<S> {
 
     fn receive(&mut self, buf: &mut [u8]) -> Received {
         self.receives = self.receives.saturating_add(1);
-        feed_before(self);
+        feed_before(&mut self.feeder, self.receives);
         self.conn.receive(buf)
     }
 
@@ -136,13 +142,15 @@ impl<S: Service + Drop> Conn for Fed<S> {
 fn fed_by<S: Service + Drop>(alloc: Global, feeder: S, row: &Row<'_>) -> Result<Fed<S>, Fail> {
     Ok(Fed {
         conn: MemoryConn::make(alloc, row.pieces, &[], row.failing_sends, 10)?,
-        feeder,
-        packet: packet(16)?,
-        out: Out::make(alloc)?,
+        feeder: Feeder {
+            service: feeder,
+            packet: packet(16)?,
+            out: Out::make(alloc)?,
+            fed_at: row.receive,
+            packets: row.packets,
+            tick: row.tick,
+        },
         receives: 0,
-        fed_at: row.receive,
-        packets: row.packets,
-        tick: row.tick,
     })
 }
 
