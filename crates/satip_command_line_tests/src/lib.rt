@@ -1,4 +1,4 @@
-//! Tests command lines, `stress`, `audit` and `record` by the top call; `serve` over loopback.
+//! Tests `stress`, `audit`, `record` and words by the top call; `serve` over loopback.
 #![tactic(auto)]
 
 #[cfg(test)]

@@ -1,5 +1,4 @@
-//! Tests journals over memory: bursts, sinks that fail, the journals of all jobs, and the verdict on
-//! them.
+//! Tests journals over memory: bursts, sinks that fail, the journals of all jobs, their verdict.
 #![tactic(auto)]
 
 #[cfg(test)]
