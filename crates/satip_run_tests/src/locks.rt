@@ -6,6 +6,7 @@ use satip_desk::{PumpKit, TickKit, WorkerKit};
 use satip_fixtures::texts::{SETUP, joined, repeated};
 use satip_fixtures::{CLIENT, packet_bytes};
 use satip_memory::{MemoryClock, MemoryConn, MemoryDoors, MemoryOutlet, MemoryPacer, MemoryStore};
+use satip_plain::{Answer, Event, Lot, Service, ServiceFault};
 use satip_pump::{Batch, JobEnd, run_pump, run_ticker};
 use satip_solo::Solo;
 use satip_solo::connections::{KEY, PLAY};
@@ -22,13 +23,15 @@ const TEARDOWN: &[u8] = b"TEARDOWN rtsp://192.168.1.10/stream=1 RTSP/1.0\r\n\
     Session: 000000010000000a\r\n\r\n";
 
 // How often the outlets of one socket were locked and unlocked, how many datagrams they were given,
-// and how many of them while not exactly one lock was held.
+// and how many of them while not exactly one lock was held. And the same of the calls of a service.
 #[derive(Drop)]
 struct Tally {
     locks: AtomicU64,
     unlocks: AtomicU64,
     sent: AtomicU64,
     astray: AtomicU64,
+    calls: AtomicU64,
+    unlocked_calls: AtomicU64,
 }
 
 impl Tally {
@@ -38,6 +41,8 @@ impl Tally {
             unlocks: AtomicU64::new(0),
             sent: AtomicU64::new(0),
             astray: AtomicU64::new(0),
+            calls: AtomicU64::new(0),
+            unlocked_calls: AtomicU64::new(0),
         }
     }
 
@@ -60,6 +65,68 @@ impl Tally {
     // The locks, the unlocks, the datagrams, and those that were sent without one lock.
     fn counts(&self) -> [u64; 4] {
         [self.locks(), self.unlocks(), self.sent(), self.astray()]
+    }
+
+    // Whether exactly one lock is held.
+    fn is_locked(&self) -> bool {
+        self.locks() == self.unlocks().wrapping_add(1)
+    }
+
+    // Counts a call of the service.
+    fn count_call(&self) {
+        self.calls.fetch_add(1, Ordering::SeqCst);
+        if !self.is_locked() {
+            self.unlocked_calls.fetch_add(1, Ordering::SeqCst);
+        }
+    }
+
+    // The calls of the service, and those that were made without one lock.
+    fn call_counts(&self) -> [u64; 2] {
+        [
+            self.calls.load(Ordering::SeqCst),
+            self.unlocked_calls.load(Ordering::SeqCst),
+        ]
+    }
+}
+
+// A service whose calls and bursts are counted.
+#[derive(Drop)]
+struct Counted<'a, S: Service + Drop> {
+    service: S,
+    tally: &'a Tally,
+}
+
+impl<'a, S: Service + Drop> Service for Counted<'a, S> {
+    ghost setting = { λ c. S.setting c.service };
+
+    ghost legal = { λ c h. S.legal c h };
+
+    ghost known = { λ c. S.known c.service };
+
+    ghost may_want = { λ c. S.may_want c.service };
+
+    ghost same = { λ c d. S.same c.service d.service };
+
+    ghost is_legal = { λ c. S.is_legal c.service };
+
+    ghost is_short = { λ c. S.is_short c.service };
+
+    ghost same_self = { λ c. S.same_self c.service };
+
+    ghost same_then = { λ c d e a b. S.same_then c.service d.service e.service a b };
+
+    ghost same_setting = { λ c d a. S.same_setting c.service d.service a };
+
+    ghost same_want = { λ c d a. S.same_want c.service d.service a };
+
+    fn call(&mut self, event: &Event, out: &mut Out) -> Result<Answer, ServiceFault> {
+        self.tally.count_call();
+        self.service.call(event, out)
+    }
+
+    fn burst<L: Lot>(&mut self, lot: &mut L, out: &mut Out) -> Result<(), ServiceFault> {
+        self.tally.count_call();
+        self.service.burst(lot, out)
     }
 }
 
@@ -85,7 +152,7 @@ impl<'a> Outlet for CountedOutlet<'a> {
     }
 
     fn send(&mut self, to: Address, bytes: &[u8]) -> Put {
-        if self.tally.locks() != self.tally.unlocks().wrapping_add(1) {
+        if !self.tally.is_locked() {
             self.tally.astray.fetch_add(1, Ordering::SeqCst);
         }
         self.tally.sent.fetch_add(1, Ordering::SeqCst);
@@ -115,7 +182,7 @@ fn doors(alloc: Global) -> Result<MemoryDoors, Fail> {
 fn work<R: Wait + Sync>(
     rt: &R,
     alloc: Global,
-    solo: &mut Solo,
+    solo: &mut Counted<'_, Solo>,
     tally: &Tally,
 ) -> Result<WorkerEnd, Fail> {
     let mut room = Room::make(alloc)?;
@@ -152,7 +219,7 @@ fn pump_kit<'a>(alloc: Global, tally: &'a Tally) -> Result<CountedPump<'a>, Fail
 fn pump<R: Wait + Sync>(
     rt: &R,
     alloc: Global,
-    solo: &mut Solo,
+    solo: &mut Counted<'_, Solo>,
     tally: &Tally,
 ) -> Result<JobEnd, Fail> {
     let mut out = Out::make(alloc)?;
@@ -165,7 +232,7 @@ fn pump<R: Wait + Sync>(
 fn tick<R: Wait + Sync>(
     rt: &R,
     alloc: Global,
-    solo: &mut Solo,
+    solo: &mut Counted<'_, Solo>,
     tally: &Tally,
 ) -> Result<JobEnd, Fail> {
     let mut out = Out::make(alloc)?;
@@ -181,7 +248,7 @@ fn tick<R: Wait + Sync>(
 fn run_jobs<R: Wait + Sync>(
     rt: &R,
     alloc: Global,
-    solo: &mut Solo,
+    solo: &mut Counted<'_, Solo>,
     tally: &Tally,
 ) -> Result<(WorkerEnd, JobEnd, JobEnd), Fail> {
     let worked = work(rt, alloc, solo, tally)?;
@@ -190,18 +257,22 @@ fn run_jobs<R: Wait + Sync>(
     Ok((worked, pumped, ticked))
 }
 
-// Two requests, four calls of the pump and a tick, each under a lock of its own; the seven packets
-// leave as one datagram, and the tick sends a report.
+// Two requests, four calls of the pump and a tick, each executed under a separate lock; the seven
+// packets leave as one datagram, and the tick sends a report.
 #[test]
 fn three_jobs_lock_for_each_event(rt: HostRuntime) -> Result<(), Fail> {
     let alloc = rt.alloc();
     let tally = Tally::new();
-    let mut solo = solo(alloc, Some(11))?;
-    let ends = run_jobs(&rt, alloc, &mut solo, &tally)?;
-    let kinds = letters(alloc, &solo)?;
+    let mut counted = Counted {
+        service: solo(alloc, Some(11))?,
+        tally: &tally,
+    };
+    let ends = run_jobs(&rt, alloc, &mut counted, &tally)?;
+    let kinds = letters(alloc, &counted.service)?;
     assert!(rt; ends == (WorkerEnd::Closed, JobEnd::Stopped, JobEnd::Stopped));
     assert_eq!(rt; kinds.as_slice(), b"RRAPPPPPPPESAT".as_slice());
     assert_eq!(rt; tally.counts(), [7, 7, 2, 0]);
+    assert_eq!(rt; tally.call_counts(), [7, 0]);
     Ok(())
 }
 
