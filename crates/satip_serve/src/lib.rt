@@ -1,7 +1,7 @@
 //! Runs the server: workers, pumps and the ticker in parallel, over one history.
 //! Contract: a serve run: each job has a separate caller, all entries are in one legal history,
-//! which keeps the laws, and caller 0 makes the one stop after the last worker. Kits come back,
-//! each at its place.
+//! which keeps the laws, and caller 0 makes the one stop after the last worker. The workers' keys
+//! and the pumps' recordings come back in order.
 //! Only tested: that jobs which wait for each other come to their ends.
 #![tactic(auto)]
 
