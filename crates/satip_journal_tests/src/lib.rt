@@ -4,12 +4,14 @@
 #[cfg(test)]
 mod journals_of_jobs;
 #[cfg(test)]
+mod judging;
+#[cfg(test)]
 mod kits;
 #[cfg(test)]
-mod long_journals;
+mod one_journal;
 #[cfg(test)]
-mod lots;
+mod questions;
 #[cfg(test)]
-mod server;
+mod runs;
 #[cfg(test)]
-mod sinks;
+mod serving;
