@@ -1,8 +1,10 @@
 //! The changes that a query makes to a stream's tuning and PIDs.
 
-ghost use Rattle.std.specs.Prelude.{◌≡◌, false, Ok, Err, MatchOption};
+ghost use Rattle.std.specs.Prelude.{◌≡◌, ◌||◌, false, Ok, Err, MatchOption};
 ghost use Rattle.std.specs.Result.{result_err};
 ghost use Rattle.satip_pids.specs.Pids.{Pids, add_pids, choose_pids, if_given, remove_pids};
+ghost use Rattle.satip_query.specs.Queries.{is_given};
+ghost use Rattle.satip_tune.specs.declared.keys.Key.TheVariants.{Addpids, Delpids, Pids as PidsKey};
 ghost use Rattle.satip_plain.specs.Streams.{asked_pids as pids_asked, changed_tuning as tuning_changed, choice_of, other_than as tuning_other_than, to_set as tuning_to_set};
 
 use satip_pids::{PidFault, PidList, PidSet};
@@ -71,6 +73,8 @@ pub fn pids_fault(pids: &PidSet, query: &Query) -> Option<PidFault>
 
 /// Returns whether a query gives a list of PIDs; without one the PIDs stay as they are.
 pub fn asks_pids(query: &Query) -> bool
+    ensures asks { result ≡ (is_given query.now PidsKey || is_given query.now Addpids
+        || is_given query.now Delpids) }
     ensures stay { result ≡ false → (old : Pids) → pids_asked old query.now ≡ Ok old }
 {
     query.pids.are_given() || query.addpids.is_some() || query.delpids.is_some()

@@ -43,6 +43,7 @@ impl Parts {
 
     /// Ends a session without sending what it holds. Returns false if the session isn't alive.
     pub(crate) fn drop_session(&mut self, id: SessionId) -> bool
+        ensures found { result ≡ list_any (has_id_of id) self.old.table.seats }
         ensures ended { (c : Config) (st : State) → StandsFor c self.old st
             → StandsFor c self.new (end_where (is_session id) st).state }
         ensures seats { self.new.table.seats ≡ without id self.old.table.seats }

@@ -1,5 +1,5 @@
 -- Doors as contracts see them, and the effect of one call.
-use Rattle.std.specs.Prelude.{◌≡◌, ◌≢◌, ℕ, ◌<◌, ◌≤◌, ◌⊎◌, Bool, true, false, List, [], ◌∷◌, ◌++◌}
+use Rattle.std.specs.Prelude.{◌≡◌, ◌≢◌, ℕ, suc, ◌<◌, ◌≤◌, ◌⊎◌, Bool, true, false, List, [], ◌∷◌, ◌++◌}
 use Rattle.satip_base.specs.declared.network.Peer.{Peer}
 use Rattle.satip_world.specs.declared.doors.DoorKind.{DoorKind}
 use Rattle.satip_world.specs.declared.doors.ConnEnd.{ConnEnd}
@@ -62,6 +62,7 @@ pub record HadNone (o n : Hall) : Type 0 where
   pub limit : n.limit ≡ o.limit
   pub count : n.count ≡ o.count
   pub idles : Rises o.idles n.idles
+  pub one_idle : n.idles ≤ suc o.idles
   pub faults : n.faults ≡ o.faults
   pub content : Moved o n [] []
 

@@ -1,5 +1,5 @@
 -- An inlet of datagrams as contracts see it, and the effect of one call.
-use Rattle.std.specs.Prelude.{◌≡◌, ℕ, ◌≤◌, List, [], ◌∷◌, ◌++◌, length, take}
+use Rattle.std.specs.Prelude.{◌≡◌, ℕ, suc, ◌≤◌, List, [], ◌∷◌, ◌++◌, length, take}
 use Rattle.satip_world.specs.declared.connections.Received.{Received}
 use Rattle.satip_world.specs.declared.connections.Received.TheVariants.{Got, Idle, End, Failed}
 use Rattle.satip_world.specs.Counts.{Rises, RisesByOne}
@@ -30,6 +30,7 @@ pub record GotNone (tells : Type 0) (o n : Inbox) : Type 0 where
   pub port : n.port ≡ o.port
   pub count : n.count ≡ o.count
   pub idles : Rises o.idles n.idles
+  pub one_idle : n.idles ≤ suc o.idles
   pub faults : n.faults ≡ o.faults
   pub content : tells → n.given ≡ o.given
 

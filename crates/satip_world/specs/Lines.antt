@@ -1,5 +1,5 @@
 -- A connection as contracts see it, and the effect of one call.
-use Rattle.std.specs.Prelude.{◌≡◌, ℕ, ◌≤◌, Bool, true, false, List, [], ◌++◌, length, take}
+use Rattle.std.specs.Prelude.{◌≡◌, ℕ, suc, ◌≤◌, Bool, true, false, List, [], ◌++◌, length, take}
 use Rattle.satip_base.specs.declared.streams.Put.{Put}
 use Rattle.satip_base.specs.declared.streams.Put.TheVariants.{Whole, Failed as send_failed}
 use Rattle.satip_world.specs.declared.connections.Received.{Received}
@@ -44,6 +44,7 @@ pub record WasIdle (tells : Type 0) (o n : Line) : Type 0 where
   pub before : o.ended ≡ false
   pub after : n.ended ≡ false
   pub idles : Rises o.idles n.idles
+  pub one_idle : n.idles ≤ suc o.idles
   pub receive_faults : n.receive_faults ≡ o.receive_faults
   pub send_faults : n.send_faults ≡ o.send_faults
   pub content : Grew tells o n [] []

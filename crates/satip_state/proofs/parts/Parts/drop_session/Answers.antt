@@ -12,6 +12,11 @@ returns-in_default-clause-ended c config st stands =
     nobody_gone config c.args.self.now st stands c.in_default.ensures.table c.in_default.ensures.fronts c.args.id
     (sym (found_lives config c.args.self.now st stands c.args.id None none))
 
+pub returns-in_default-clause-found : goal.returns-in_default-clause-found
+returns-in_default-clause-found c =
+    let none : None ≡ find (has_id_of c.args.id) c.args.self.now.table.seats = search rules in
+    ap is_some none ∙ find_any (has_id_of c.args.id) c.args.self.now.table.seats
+
 pub returns-in_default-clause-seats : goal.returns-in_default-clause-seats
 returns-in_default-clause-seats c =
     let none : None ≡ find (has_id_of c.args.id) c.args.self.now.table.seats = search rules in
@@ -28,6 +33,11 @@ returns-clause-ended c config st stands =
     let found : find (has_id_of c.args.id) c.args.self.now.table.seats ≡ Some c.in-Some.seat = search rules in
     seat_gone config c.args.self.now c.remove.new.self st stands c.in-Some.ensures.table c.in-Some.ensures.fronts c.args.id c.in-Some.seat found
     c.remove.ensures.removed
+
+pub returns-clause-found : goal.returns-clause-found
+returns-clause-found c =
+    let found : Some c.in-Some.seat ≡ find (has_id_of c.args.id) c.args.self.now.table.seats = search rules in
+    ap is_some found ∙ find_any (has_id_of c.args.id) c.args.self.now.table.seats
 
 pub returns-clause-fewer : goal.returns-clause-fewer
 returns-clause-fewer c lives =
