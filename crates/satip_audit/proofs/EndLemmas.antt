@@ -3,7 +3,7 @@ use Rattle.std.proofs.Common.{◌≡◌, ℕ, ◌⊎◌, inl, inr, List, Option,
 use Rattle.satip_base.specs.Lists.{Has}
 use Rattle.satip_base.specs.Streams.{Feed, Drain, Rose}
 use Rattle.satip_world.specs.Recordings.{IsStarted}
-use Rattle.satip_config.specs.Configuration.{Configuration}
+use Rattle.satip_tune.specs.Configuration.{Configuration}
 use Rattle.satip_config.specs.Configurations.{Configured, ConfigurationEnds}
 use Rattle.satip_config.specs.Reading.{EndsWhole}
 use Rattle.satip_config.specs.declared.reading.ConfigurationEnd.{ConfigurationEnd}

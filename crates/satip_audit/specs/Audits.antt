@@ -1,7 +1,7 @@
 -- An audit: a configuration and journals, read as a whole, and the verdict.
 use Rattle.std.specs.Prelude.{ℕ, ◌≤◌, List, length, Result, Ok}
 use Rattle.satip_base.specs.Streams.{Feed, PutAll}
-use Rattle.satip_config.specs.Configuration.{Configuration}
+use Rattle.satip_tune.specs.Configuration.{Configuration}
 use Rattle.satip_audit.specs.declared.verdicts.Verdict.{Verdict}
 use Rattle.satip_audit.specs.Journals.{IsJournal, Note}
 use Rattle.satip_audit.specs.Verdicts.{IsVerdict}

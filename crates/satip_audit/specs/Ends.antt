@@ -1,7 +1,7 @@
 -- The ends of an audit.
 use Rattle.std.specs.Prelude.{◌≡◌, ℕ, ◌<◌, ◌≤◌, List, length, Ok, Err}
 use Rattle.satip_base.specs.Streams.{Feed, Drain, Rose, PutAll, FailedToPut}
-use Rattle.satip_config.specs.Configuration.{Configuration}
+use Rattle.satip_tune.specs.Configuration.{Configuration}
 use Rattle.satip_config.specs.Config.{config}
 use Rattle.satip_audit.specs.declared.verdicts.Verdict.{Verdict}
 use Rattle.satip_audit.specs.Journals.{IsJournal, Note}

@@ -1,6 +1,6 @@
 //! Replays over memory, and their ends.
 ghost use Rattle.std.specs.Prelude.{◌≡◌, [], ◌∷◌, codes};
-ghost use Rattle.satip_config.specs.Configuration.{Configuration};
+ghost use Rattle.satip_tune.specs.Configuration.{Configuration};
 ghost use Rattle.satip_plain.specs.declared.events.Event.TheVariants.{Ask, Stop};
 ghost use Rattle.satip_replay.specs.Replays.{replayed};
 

@@ -11,7 +11,7 @@ use Rattle.satip_config.specs.declared.fault.ConfigFault.TheVariants.{Long, NotT
 use Rattle.satip_config.specs.Keys.{top_key, front_key, mux_key}
 use Rattle.satip_config.specs.Steps.{Reading, Reads, ◌>>=◌, of_kind, allowed, counted, whole}
 use Rattle.satip_config.specs.Values.{value_at, required, within, number, number_at, number_unless_missing, number_or, text_at, word_at, khz_of, array, array_at, all_of, list_in, tables_in}
-use Rattle.satip_config.specs.Configuration.{Configuration}
+use Rattle.satip_tune.specs.Configuration.{Configuration}
 use Rattle.satip_config.specs.Entries.{sources_in, systems_in, front_at, mux_at, entries, recordings}
 use Rattle.satip_config.specs.Config.{fronts_in, fronts_of, recordings_in, recordings_unless_missing, recordings_of, configuration_of, document_of}
 

@@ -15,7 +15,7 @@ use Rattle.satip_config.specs.declared.key.ConfigName.TheVariants as names
 use Rattle.satip_config.specs.Keys.{top_key, front_key, mux_key}
 use Rattle.satip_config.specs.Steps.{Reading, Reads, ◌>>=◌, counted}
 use Rattle.satip_config.specs.Values.{within, khz_of, value_at, number_at, number_or, word_at, array, array_at, list_in, tables_in}
-use Rattle.satip_config.specs.Configuration.{Configuration}
+use Rattle.satip_tune.specs.Configuration.{Configuration}
 use Rattle.satip_config.specs.Limits.{IsWithin, HasPlaces, IsReceivable, IsFileName, IsWithinRanges}
 use Rattle.satip_config.specs.Entries.{source_places, system_places, sources_in, systems_in, front_at, mux_at, entries, recordings, apart}
 use Rattle.satip_config.specs.Config.{fronts_in, fronts_of, recordings_in, recordings_unless_missing, recordings_of, configuration_of}

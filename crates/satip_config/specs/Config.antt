@@ -9,7 +9,7 @@ use Rattle.satip_tune.specs.declared.frontends.Mux.{Mux}
 use Rattle.satip_base.specs.Numbers.{ip_of}
 use Rattle.satip_config.specs.declared.key.ConfigName.TheVariants as names
 use Rattle.satip_config.specs.declared.fault.ConfigFault.TheVariants as faults
-use Rattle.satip_config.specs.Configuration.{Configuration}
+use Rattle.satip_tune.specs.Configuration.{Configuration}
 use Rattle.satip_config.specs.Keys.{top_key}
 use Rattle.satip_config.specs.Steps.{Reading, ◌>>=◌}
 use Rattle.satip_config.specs.Values.{value_at, number_or, word_at, array, array_at, tables_in}

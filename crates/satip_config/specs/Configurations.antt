@@ -1,7 +1,7 @@
 -- Configurations that are read from a source.
 use Rattle.std.specs.Prelude.{◌≡◌, ◌≢◌, ℕ, ◌≤◌, ◌⊎◌, true, List, length, Ok, Err}
 use Rattle.satip_base.specs.Streams.{Feed, Rose}
-use Rattle.satip_config.specs.Configuration.{Configuration}
+use Rattle.satip_tune.specs.Configuration.{Configuration}
 use Rattle.satip_config.specs.Config.{config}
 use Rattle.satip_config.specs.declared.fault.ConfigFault.{ConfigFault}
 use Rattle.satip_config.specs.declared.fault.ConfigFault.TheVariants as faults

@@ -1,6 +1,5 @@
 pub mod Keys
 pub mod FaultText
-pub mod Configuration
 pub mod Limits
 pub mod Steps
 pub mod Values

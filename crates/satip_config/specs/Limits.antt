@@ -2,7 +2,7 @@
 use Rattle.std.specs.Prelude.{◌≡◌, ℕ, ◌≤◌, ◌<◌, ◌^◌, List, length, All}
 use Rattle.satip_tune.specs.declared.frontends.Front.{Front}
 use Rattle.satip_tune.specs.declared.frontends.Mux.{Mux}
-use Rattle.satip_config.specs.Configuration.{Configuration}
+use Rattle.satip_tune.specs.Configuration.{Configuration}
 
 -- a number from `least` to `most`
 abbrev pub IsWithin : ℕ → ℕ → ℕ → Type 0

@@ -4,7 +4,6 @@
 //! Trusted: that the grammar of `toml` is the standard's.
 #![tactic(auto)]
 
-mod configuration;
 mod fault;
 mod fronts;
 mod key;
@@ -16,10 +15,10 @@ mod values;
 mod whole;
 mod words;
 
-pub use configuration::Config;
 pub use fault::ConfigFault;
 pub use key::{ConfigKey, ConfigName, ConfigTable};
 pub use lines::{print_fault, say};
 pub use read::read_config;
 pub use reading::{ConfigurationEnd, read_configuration};
+pub use satip_tune::Config;
 pub use whole::{ReadFault, read_whole, take_some};

@@ -7,7 +7,6 @@ ghost use Rattle.satip_config.specs.Steps.{Reads};
 ghost use Rattle.satip_config.specs.Limits.{IsWithin, IsWithinRanges};
 ghost use Rattle.satip_config.specs.Config.{fronts_of, recordings_of, configuration_of, document, document_of, config};
 
-use crate::configuration::Config;
 use crate::fault::ConfigFault;
 use crate::fronts::fronts_in;
 use crate::key::{ConfigKey, ConfigName};
@@ -16,7 +15,7 @@ use crate::values::{array, array_at, number_or, value_at};
 use crate::words::address_at;
 use satip_base::Text;
 use satip_base::limits::CONFIGURATION;
-use satip_tune::{Front, Mux};
+use satip_tune::{Config, Front, Mux};
 use std::alloc::Global;
 use toml::Table;
 

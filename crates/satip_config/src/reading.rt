@@ -3,12 +3,12 @@
 ghost use Rattle.std.specs.Prelude.{◌+◌, ◌≤◌, IfOk, IfErr};
 ghost use Rattle.satip_config.specs.Configurations.{Configured, IsServed, ConfigurationEnds, configuration_limit};
 
-use crate::configuration::Config;
 use crate::fault::ConfigFault;
 use crate::read::read_config;
 use crate::whole::{ReadFault, read_whole};
 use satip_base::Source;
 use satip_base::limits::CONFIGURATION;
+use satip_tune::Config;
 use std::alloc::Global;
 
 /// The reason that no configuration is read.

@@ -11,12 +11,12 @@ ghost use Rattle.satip_core.specs.Describing.{if_wanted, is_wanted_stream, views
 
 use satip_base::Out;
 use satip_base::limits::SESSIONS;
-use satip_config::Config;
 use satip_pids::PidSet;
 use satip_rtcp::StreamView;
 use satip_rtsp::write_describe;
 use satip_sdp::{sdp_length, write_sdp};
 use satip_state::Parts;
+use satip_tune::Config;
 use std::array;
 
 /// Appends the reply to DESCRIBE: its head, and the SDP of the named stream or of all (RFC 2326,

@@ -11,10 +11,10 @@ ghost use Rattle.satip_state.specs.Standing.{StandsFor};
 ghost use Rattle.satip_core.specs.Doing.{Did};
 
 use satip_base::{Out, SessionId};
-use satip_config::Config;
 use satip_plain::{Beat, Closed, Pulled, Work};
 use satip_state::Parts;
 use satip_ts::Packet;
+use satip_tune::Config;
 
 // Returns whether the server goes on.
 fn beat_of(stopped: bool) -> Beat

@@ -16,11 +16,11 @@ use crate::deciding::decide_get;
 use crate::refusals::{Refused, telling};
 use crate::replies::{write_http_refusal, write_http_start};
 use satip_base::{Draw, Out, Peer, Ports};
-use satip_config::Config;
 use satip_http::HttpRequest;
 use satip_plain::GetAnswer;
 use satip_query::RefusalBody;
 use satip_state::Parts;
+use satip_tune::Config;
 
 // The ports of an HTTP session, which has none.
 const NO_PORTS: Ports = Ports { rtp: 0, rtcp: 0 };

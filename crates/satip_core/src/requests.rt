@@ -23,11 +23,11 @@ use crate::places::session_named;
 use crate::refusals::Refused;
 use crate::replies::{is_closing, write_full, write_playing, write_refusal, write_set_up};
 use satip_base::{Draw, Out, Peer, Ports, SessionId};
-use satip_config::Config;
 use satip_plain::Replied;
 use satip_rtsp::{Method, Request, SessionName, write_options, write_plain};
 use satip_state::Parts;
 use satip_table::Session;
+use satip_tune::Config;
 
 // The ports of a session that asks for none.
 const NO_PORTS: Ports = Ports { rtp: 0, rtcp: 0 };

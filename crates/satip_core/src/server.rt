@@ -15,7 +15,6 @@ use crate::events;
 use crate::gets::answer_get;
 use crate::requests::answer_request;
 use satip_base::{Draw, Out, Peer, SessionId, Want};
-use satip_config::Config;
 use satip_http::HttpRequest;
 use satip_plain::{
     Answer, Beat, Closed, Event, GetAnswer, Pulled, Replied, Setting, Work, empty_only_hears,
@@ -25,6 +24,7 @@ use satip_plain::{
 use satip_rtsp::Request;
 use satip_state::Parts;
 use satip_ts::Packet;
+use satip_tune::Config;
 use std::alloc::Global;
 use std::marker::Model;
 

@@ -12,7 +12,7 @@ ghost use Rattle.satip_world.specs.Lines.{fresh_line};
 use crate::journals::JobSink;
 use crate::kits::Jobs;
 use satip_base::{Address, Failed, Source, Text};
-use satip_config::Config;
+use satip_tune::Config;
 use satip_world::{Clock, Conn, Doors, Inlet, MuxStore, Outlet, Pacer};
 use std::alloc::Global;
 

@@ -3,8 +3,7 @@
 ghost use Rattle.std.specs.Prelude.{◌≡◌, length, IfOk};
 ghost use Rattle.satip_fronts.specs.FrontEnds.{IsNumbered};
 
-use satip_config::Config;
-use satip_tune::{Fec, Front, Modulation, Mux, Pol, RollOff, System, Tuning};
+use satip_tune::{Config, Fec, Front, Modulation, Mux, Pol, RollOff, System, Tuning};
 use std::alloc::{AllocError, Global};
 
 /// The multiplex 11361.75 MHz, horizontal, DVB-S2.

@@ -13,9 +13,9 @@ use crate::lane::Drained;
 use crate::lanes::Lanes;
 use crate::sending::bring_all;
 use satip_base::{Out, Want};
-use satip_config::Config;
 use satip_core::Server;
 use satip_plain::{Answer, Event, known_event};
+use satip_tune::Config;
 use std::alloc::Global;
 use std::marker::Model;
 

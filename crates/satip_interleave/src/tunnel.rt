@@ -6,7 +6,7 @@ ghost use Rattle.satip_turn.specs.Shown.{IsOf, Knows, first_pass};
 
 use crate::one_tunnel::Tunnel;
 use satip_base::Want;
-use satip_config::Config;
+use satip_tune::Config;
 use satip_turn::{Pass, TurnCell};
 use std::alloc::Global;
 

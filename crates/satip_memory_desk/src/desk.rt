@@ -13,12 +13,12 @@ ghost use Rattle.satip_memory_desk.specs.Drawers.{row_of, AreNewKits, given_view
 
 use crate::moment::MemoryMoment;
 use satip_base::{Address, Failed, Text, Want};
-use satip_config::Config;
 use satip_desk::{Desk, JobJournal, Jobs, JobsFault};
 use satip_memory::{
     MemoryClock, MemoryConn, MemoryDoors, MemoryInlet, MemoryOutlet, MemoryPacer, MemorySink,
     MemorySource, MemoryStore,
 };
+use satip_tune::Config;
 use std::alloc::Global;
 use std::marker::Model;
 use std::snapshot::Snapshot;

@@ -14,4 +14,4 @@ pub use Rattle.satip_query.specs.declared.bodies.RefusalBody.{RefusalBody}
 pub use Rattle.satip_rtsp.specs.declared.requests.Request.{Request}
 pub use Rattle.satip_http.specs.declared.requests.HttpRequest.{HttpRequest}
 pub use Rattle.satip_pids.specs.Pids.{Pids}
-pub use Rattle.satip_config.specs.Configuration.{Configuration as Config}
+pub use Rattle.satip_tune.specs.Configuration.{Configuration as Config}

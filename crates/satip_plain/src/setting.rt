@@ -1,6 +1,6 @@
 //! The setting that a server is created with.
 
-use satip_config::Config;
+use satip_tune::Config;
 
 /// A configuration, and the time at which the server starts, in milliseconds of Unix time.
 #[derive(Drop)]

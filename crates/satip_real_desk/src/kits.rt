@@ -7,11 +7,11 @@ ghost use Rattle.satip_real_desk.specs.Unused.{IsUnusedWorker, IsUnusedPump, IsU
 use crate::fault::KitsFault;
 use crate::ready::{recording_lengths, report_ready};
 use crate::shared::Shared;
-use satip_config::Config;
 use satip_desk::{Jobs, PumpKit, TickKit, WorkerKit};
 use satip_host::{RealClock, read_key};
 use satip_playout::{RealPacer, RealStore};
 use satip_real::{RealDoors, RealOutlet};
+use satip_tune::Config;
 use std::alloc::Global;
 use std::sync::Wait;
 

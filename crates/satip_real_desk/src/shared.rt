@@ -5,10 +5,10 @@ ghost use Rattle.std.specs.Prelude.{◌≡◌, IfOk};
 use crate::fault::KitsFault;
 use crate::settings::Settings;
 use satip_base::Text;
-use satip_config::Config;
 use satip_host::{ClockStart, RealClock, Start, Starts};
 use satip_playout::{Playing, Progress, RealPacer, RealStore};
 use satip_real::{Listeners, RealDoors, RealOutlet, SharedSocket};
+use satip_tune::Config;
 use std::alloc::Global;
 use std::sync::{Arc, Wait};
 

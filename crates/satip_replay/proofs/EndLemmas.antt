@@ -1,7 +1,7 @@
 -- The outcome of a replay, by what was read and run.
 use Rattle.std.proofs.Common.{◌≡◌, ℕ, List, Ok, refl, subst, sym, inl, inr}
 use Rattle.satip_base.specs.Streams.{Feed, Drain}
-use Rattle.satip_config.specs.Configuration.{Configuration}
+use Rattle.satip_plain.specs.Types.{Config as Configuration}
 use Rattle.satip_config.specs.Configurations.{Configured, ConfigurationEnds}
 use Rattle.satip_config.specs.declared.reading.ConfigurationEnd.{ConfigurationEnd}
 use Rattle.satip_config.specs.declared.reading.ConfigurationEnd.TheVariants as reading

@@ -1,7 +1,7 @@
 -- The ends of a replay.
 use Rattle.std.specs.Prelude.{◌≡◌, ℕ, ◌<◌, ◌≤◌, ◌⊎◌, List, length, Ok, Err}
 use Rattle.satip_base.specs.Streams.{Feed, Drain, Rose, Began, PutAll, FailedToPut}
-use Rattle.satip_config.specs.Configuration.{Configuration}
+use Rattle.satip_plain.specs.Types.{Config as Configuration}
 use Rattle.satip_config.specs.Config.{config}
 use Rattle.satip_config.specs.declared.fault.ConfigFault.{ConfigFault}
 use Rattle.satip_plain.specs.declared.events.Event.{Event}

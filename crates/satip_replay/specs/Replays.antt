@@ -1,7 +1,7 @@
 -- A replay: a configuration and a script, read as a whole, and the printed run.
 use Rattle.std.specs.Prelude.{ℕ, ◌≤◌, List, length, Result, Ok}
 use Rattle.satip_base.specs.Streams.{Feed, PutAll, Began}
-use Rattle.satip_config.specs.Configuration.{Configuration}
+use Rattle.satip_plain.specs.Types.{Config as Configuration}
 use Rattle.satip_plain.specs.declared.events.Event.{Event}
 use Rattle.satip_plain.specs.declared.setting.Setting.{Setting}
 use Rattle.satip_script.specs.Scripts.{IsScript}

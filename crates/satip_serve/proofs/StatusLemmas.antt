@@ -4,7 +4,7 @@ use Rattle.std.proofs.Common.{sym, ap, subst, ⊎_elim, arith}
 use Rattle.satip_base.specs.Streams.{Feed, Rose}
 use Rattle.satip_world.specs.Counts.{Rises}
 use Rattle.satip_world.specs.Recordings.{IsStarted}
-use Rattle.satip_config.specs.Configuration.{Configuration}
+use Rattle.satip_plain.specs.Types.{Config as Configuration}
 use Rattle.satip_config.specs.declared.fault.ConfigFault.{ConfigFault}
 use Rattle.satip_base.specs.Lists.{Each, Has}
 use Rattle.satip_config.specs.Configurations.{configuration_limit, Configured, Refused}

@@ -2,7 +2,7 @@
 use Rattle.std.specs.Prelude.{◌≡◌, ℕ, ◌+◌, ◌≤◌, ◌⊎◌, ◌↔◌, List, Option, Some, None, option_map, IsSome, IsNone, IfSome, IsSomeAnd, MatchOption}
 use Rattle.satip_base.specs.Streams.{Feed, Rose}
 use Rattle.satip_world.specs.Counts.{Rises}
-use Rattle.satip_config.specs.Configuration.{Configuration}
+use Rattle.satip_plain.specs.Types.{Config as Configuration}
 use Rattle.satip_config.specs.declared.fault.ConfigFault.{ConfigFault}
 use Rattle.satip_base.specs.Lists.{Has}
 use Rattle.satip_config.specs.Configurations.{configuration_limit, Configured, Refused}

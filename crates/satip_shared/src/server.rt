@@ -5,8 +5,8 @@ ghost use Rattle.satip_plain.specs.Histories.{Legal};
 ghost use Rattle.satip_turn.specs.Shown.{IsOf, Knows, first_pass};
 
 use satip_base::Want;
-use satip_config::Config;
 use satip_core::Server;
+use satip_tune::Config;
 use satip_turn::{Pass, TurnCell};
 use std::alloc::Global;
 

@@ -7,7 +7,7 @@ use Rattle.satip_frame.specs.Stream.{Tail, Messages}
 use Rattle.satip_rtsp.specs.declared.requests.Request.{Request}
 use Rattle.satip_rtsp.specs.Asked.{asked, broken_request}
 use Rattle.satip_frame.specs.Asking.{asked_by_tail}
-use Rattle.satip_config.specs.Configuration.{Configuration}
+use Rattle.satip_plain.specs.Types.{Config as Configuration}
 use Rattle.satip_plain.specs.declared.events.Event.{Event}
 use Rattle.satip_plain.specs.declared.events.Event.TheVariants.{Request as Asked}
 use Rattle.satip_plain.specs.declared.setting.Setting.{Setting}

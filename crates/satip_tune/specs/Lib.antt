@@ -4,3 +4,4 @@ pub mod Frontends
 pub mod Words
 pub mod Pieces
 pub mod Frequency
+pub mod Configuration

@@ -3,6 +3,7 @@
 //! read back as its value.
 #![tactic(auto)]
 
+mod configuration;
 mod faults;
 mod frequency;
 mod frequency_text;
@@ -12,6 +13,7 @@ mod pieces;
 mod signal;
 mod tunings;
 
+pub use configuration::Config;
 pub use faults::ValueFault;
 pub use frequency::{is_fraction, read_frequency};
 pub use frequency_text::FrequencyText;

@@ -3,7 +3,7 @@ use Rattle.satip_base.specs.Output.{Wrote}
 use Rattle.satip_base.proofs.Writing.{◌then◌}
 use Rattle.satip_rtsp.specs.Replies.{describe_head}
 use Rattle.satip_sdp.specs.Sdp.{sdp}
-use Rattle.satip_config.specs.Configuration.{Configuration}
+use Rattle.satip_tune.specs.Configuration.{Configuration}
 use Rattle.satip_rtcp.specs.declared.views.StreamView.{StreamView}
 use Rattle.satip_core.proofs.describing.write_description.Goals as goal
 

@@ -1,7 +1,7 @@
 use Rattle.std.proofs.Common.{◌∙◌, [], Option, ap, arith, subst, sym}
 use Rattle.std.specs.Option.{option_map_or}
 use Rattle.satip_base.specs.Output.{Output}
-use Rattle.satip_config.specs.Configuration.{Configuration}
+use Rattle.satip_tune.specs.Configuration.{Configuration}
 use Rattle.satip_plain.specs.declared.answers.Answer.TheVariants.{Replied}
 use Rattle.satip_plain.specs.State.{Session}
 use Rattle.satip_plain.specs.Sending.{settle}

@@ -1,5 +1,5 @@
 use Rattle.std.proofs.Common.{◌≡◌, ◌∙◌, ℕ, is_some, true, ap, subst}
-use Rattle.satip_config.specs.Configuration.{Configuration}
+use Rattle.satip_tune.specs.Configuration.{Configuration}
 use Rattle.satip_plain.specs.declared.answers.Answer.TheVariants.{Replied}
 use Rattle.satip_plain.specs.State.{stream_of}
 use Rattle.satip_plain.specs.Steps.{set_up, setup_number, setup_session}

@@ -1,6 +1,7 @@
-//! Configurations.
+//! The configuration of a server.
+
+use crate::frontends::{Front, Mux};
 use satip_base::Text;
-use satip_tune::{Front, Mux};
 use std::marker::Model;
 
 /// The server's configuration. In contracts each of its vectors is a list.
@@ -25,7 +26,7 @@ pub struct Config {
 }
 
 impl Model for Config {
-    ghost use Rattle.satip_config.specs.Configuration.{Configuration};
+    ghost use Rattle.satip_tune.specs.Configuration.{Configuration};
 
     ghost Value = { Configuration };
 
