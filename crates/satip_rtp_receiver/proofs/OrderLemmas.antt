@@ -4,8 +4,8 @@ use Rattle.std.specs.List.{All}
 use Rattle.std.proofs.lemmas.Bool.{cases_lt}
 use Rattle.std.proofs.lemmas.Bool.Decides.{nat_tests}
 use Rattle.std.proofs.lemmas.List.Elements.{All-map}
-use Rattle.satip_rtp_receiver.specs.Caught.{Placed, index_ahead, index_of, greater, place_from, placed, greatest, is_index, has_arrived, passed, packets_of, with_item, items_from, items_by, last_items, caught}
-use Rattle.satip_rtp_receiver.specs.Order.{sent, AreNear, newest, StandFor, AlwaysCatchesInOrder}
+use Rattle.satip_rtp_receiver.specs.Caught.{Datagram, Placed, arrivals, index_ahead, index_of, greater, place_from, placed, greatest, is_index, has_arrived, passed, packets_of, with_item, items_from, items_by, last_items, caught, caught_from}
+use Rattle.satip_rtp_receiver.specs.Order.{sent, AreNear, newest, StandFor, AlwaysCatchesInOrder, AlwaysCatchesSent}
 use Rattle.satip_rtp_receiver.specs.declared.item.Item.{Item}
 use Rattle.satip_rtp_receiver.specs.declared.item.Item.TheVariants.{Data, Gap}
 use Rattle.satip_rtp_receiver.proofs.AllLemmas.{always_catches_all, last_items-cons}
@@ -269,3 +269,21 @@ always_catches_in_order start ssrc packets j js near =
     subst (λ items. StandFor start packets j (newest (j ∷ js) + 1) items) (sym (all ∙ items-sent start ssrc packets j js near))
     (subst (λ e. StandFor start packets j e (items_by ((start + j) % 65536) [] ps ++ last_items ((start + j) % 65536) ps)) last
     (stand-placed start j packets ps (omega arith) (arrivals-sent packets j (j ∷ js))))
+
+-- the items without the end are the first of those with it
+begun : (ds : List Datagram) → (later : List Item) × (caught_from true ds ≡ caught_from false ds ++ later)
+begun [] = ([], refl)
+begun (d ∷ ds) =
+    let items = items_by d.number [] (placed (d ∷ ds)) in
+    (last_items d.number (placed (d ∷ ds)), ap (λ (is : List Item). is ++ last_items d.number (placed (d ∷ ds))) (sym (append-nil items)))
+
+pub always_catches_sent : AlwaysCatchesSent
+always_catches_sent start ssrc packets j js near =
+    let ds = map (sent start ssrc packets) (j ∷ js) in
+    let all = (always_catches_all ds (numbers-sent start ssrc packets (j ∷ js))).with_end in
+    let later = begun (arrivals ds) in
+    record {
+      with_end = subst (λ items. StandFor start packets j (newest (j ∷ js) + 1) items) all (always_catches_in_order start ssrc packets j js near);
+      later = later.0;
+      before_end = later.1;
+    }

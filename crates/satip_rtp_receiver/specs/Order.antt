@@ -1,6 +1,6 @@
 -- Datagrams of one sender that arrive out of order.
-use Rattle.std.specs.Prelude.{ℕ, ◌≡◌, ◌+◌, ◌%◌, ◌<◌, max, List, [], ◌∷◌, map}
-use Rattle.satip_rtp_receiver.specs.Caught.{Datagram}
+use Rattle.std.specs.Prelude.{ℕ, ◌≡◌, ◌+◌, ◌%◌, ◌<◌, max, true, false, List, [], ◌∷◌, ◌++◌, map}
+use Rattle.satip_rtp_receiver.specs.Caught.{Datagram, caught}
 use Rattle.satip_rtp_receiver.specs.Runs.{all_handed_up}
 use Rattle.satip_rtp_receiver.specs.declared.item.Item.{Item}
 use Rattle.satip_rtp_receiver.specs.declared.item.Item.TheVariants.{Data, Gap}
@@ -32,3 +32,13 @@ abbrev pub AlwaysCatchesInOrder : Type 0
 AlwaysCatchesInOrder =
     (start ssrc : ℕ) (packets : ℕ → List ℕ) (j : ℕ) (js : List ℕ) → AreNear j js
     → StandFor start packets j (newest (j ∷ js) + 1) (all_handed_up (map (sent start ssrc packets) (j ∷ js)))
+
+-- the items caught of a sender's datagrams: with the end known, those of all indices from the first arrival's up to the newest; without it, the first of these
+pub record CatchesSent (start ssrc : ℕ) (packets : ℕ → List ℕ) (j : ℕ) (js : List ℕ) : Type 0 where
+  pub with_end : StandFor start packets j (newest (j ∷ js) + 1) (caught true (map (sent start ssrc packets) (j ∷ js)))
+  pub later : List Item
+  pub before_end : caught true (map (sent start ssrc packets) (j ∷ js)) ≡ caught false (map (sent start ssrc packets) (j ∷ js)) ++ later
+
+-- the same for near indices in any order, each any number of times
+abbrev pub AlwaysCatchesSent : Type 0
+AlwaysCatchesSent = (start ssrc : ℕ) (packets : ℕ → List ℕ) (j : ℕ) (js : List ℕ) → AreNear j js → CatchesSent start ssrc packets j js

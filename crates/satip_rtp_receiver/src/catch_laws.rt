@@ -1,7 +1,7 @@
 //! The laws of a catcher and worked examples, as contracts of functions with an empty body.
 ghost use Rattle.std.specs.Prelude.{◌≡◌, true, false, [], ◌∷◌};
 ghost use Rattle.satip_rtp_receiver.specs.Caught.{caught};
-ghost use Rattle.satip_rtp_receiver.specs.Order.{AlwaysCatchesInOrder};
+ghost use Rattle.satip_rtp_receiver.specs.Order.{AlwaysCatchesInOrder, AlwaysCatchesSent};
 ghost use Rattle.satip_rtp_receiver.specs.Rows.{datagrams, data_of, gap_of};
 ghost use Rattle.satip_rtp_receiver.specs.Runs.{AlwaysCatchesAll};
 
@@ -26,4 +26,10 @@ pub fn always_catches_all()
 /// as part of a gap, and packets are unchanged.
 pub fn always_catches_in_order()
     ensures caught { AlwaysCatchesInOrder }
+{}
+
+/// Proves the same of the items that are caught of the whole list of arrivals. Without the end,
+/// they are the first of those with it.
+pub fn always_catches_sent()
+    ensures caught { AlwaysCatchesSent }
 {}

@@ -12,7 +12,9 @@ mod rtp;
 mod tail;
 mod view;
 
-pub use catch_laws::{always_catches_all, always_catches_in_order, worked_rows};
+pub use catch_laws::{
+    always_catches_all, always_catches_in_order, always_catches_sent, worked_rows,
+};
 pub use catcher::Catcher;
 pub use item::Item;
 pub use packets::Packets;
