@@ -1,38 +1,52 @@
 #!/usr/bin/env python3
-"""Tries the edits of trials/edits, wrong bodies that the prover must refuse, and writes a page.
+"""Tries the edits, wrong bodies that the prover must refuse, and writes a page of the results.
 
-    python3 trials/try_edits.py [--jobs N] [--page FILE] [CRATE..]
+    python3 trials/try_edits.py [--gate | --outside] [--jobs N] [--page FILE] [--anew] [--table]
+                                [--kept FOLDER] [--libraries FOLDER] [CRATE..]
     python3 trials/try_edits.py --read [CRATE..]
 
-trials/edits/CRATE/NAME.edit is an edit of the crate, as those of crates/CRATE/must-fail are. `rt ci`
-tries only the latter. This script copies the crates into a scratch folder, builds each library that
-is needed once, with its statements alone, and tries the edits as `rt must-fail` does: those of a
-crate in turn, over one another's work. N checks run side by side, each with one job; without --jobs
-it is as many as the processors and the memory allow.
+crates/CRATE/must-fail/NAME.edit is an edit of the gate, which `rt ci` tries. trials/edits/CRATE has
+those outside the gate. The script tries both, with --gate the first alone, with --outside the
+second. It copies the crates into a scratch folder, builds each library that is needed once, with
+its statements alone, and goes from crate to crate: it proves the crate as it is, and tries each
+edit over a copy of that work. What isn't refused there is tried again from nothing. N checks run
+side by side, each with one job; without --jobs it is as many as the processors and the memory
+allow.
 
 It prints a row for each edit: the crate, the edit, the function and the clause that the prover
-refuses first, seconds, and a mark. The clause has the name that the prover gives its goal. Marks:
+refuses first, seconds by the clock, and a mark. The clause has the name that the prover gives its
+goal. Marks:
 
     NOT REFUSED      the crate is proved with the edit: the contract is too weak
-    NOT TRIED        the edit can't be applied or read, or a library below isn't proved
+    NOT TRIED        the edit can't be applied or read, its check was killed, or the crate or a
+                     library below isn't proved
     name             it is refused only for a name that the edit took away
     prover limit     the prover met a limit of its own, which says nothing of the edit
     search limit     the search for a proof reached its limit in each goal that it left open
 
-The rows are written to docs/EDITS.md if no crate is named, and to FILE by --page. --read only
-applies each edit, has `rattle fmt` read the result, compares the bodies, and proves nothing.
+A run that was stopped goes on where it was. The folder --kept has the result of each edit, by the
+content of the edit, of its crate and of all crates below, and by the kit; the libraries, by their
+content, in another folder with --libraries; and the proved crate whose edits are being tried. It is
+satip-edits-KIT in the folder of temporary files. A result NOT TRIED isn't kept. --anew takes no
+kept result. --table tries nothing, and prints and writes what is kept.
+
+The rows are written to docs/EDITS.md if no crate is named and neither --gate nor --outside is
+given, and to FILE by --page. --read only applies each edit, has `rattle fmt` read the result,
+compares the bodies, and proves nothing.
 
 It loads `rt` as a module, of whose functions it uses those that try edits; another kit may need
 other names. It isn't executable, so that trials/run.py doesn't take it for a trial. Ends with
-status 0 if each edit is refused (with --read: can be applied), 1 if not, and 2 if there is no such
-crate. Needs python3, git, and the kit's `rt` in PATH."""
+status 0 if each edit is refused (with --read: can be applied), 1 if not, 2 if there is no such
+crate, and 130 if it was stopped. Needs python3, git, and the kit's `rt` in PATH."""
 
 import argparse
 import collections
-import copy
+import contextlib
 import datetime
+import hashlib
 import importlib.machinery
 import importlib.util
+import json
 import os
 import re
 import shutil
@@ -44,16 +58,19 @@ import time
 
 sys.dont_write_bytecode = True
 TOP = os.path.dirname(os.path.dirname(os.path.abspath(__file__)))
+CRATES = os.path.join(TOP, "crates")
 EDITS = os.path.join(TOP, "trials", "edits")
 PAGE = os.path.join(TOP, "docs", "EDITS.md")
 ONE_JOB = ["--jobs", "1"]
 FAILED, UNTRIED = "NOT REFUSED", "NOT TRIED"
-WIDTH = 150
+# The columns of a printed row, those of a line of the page, and the memory of a check over kept
+# work, as a part of what a check from nothing takes.
+WIDTH, COLUMNS, OVER = 150, 160, 0.7
 HEAD = """\
-# Edits outside the gate
+# Edits
 
-`trials/try_edits.py` tries the edits of `trials/edits` and writes this page. Each is a wrong body, which the prover must refuse.
-The gate tries the edits of `crates/NAME/must-fail` alone. A mark says where a refusal says little of the contract; the script explains each.
+`trials/try_edits.py` tries the edits and writes this page. Each is a wrong body, which the prover must refuse.
+The gate tries those with a *yes*. The others are in `trials/edits`. A mark says where a refusal says little of the contract; the script explains each.
 """
 # What the prover prints: a goal without a proof, a failed term of a proof file, and its own limits.
 OPEN = re.compile(r"(?:fn|struct|impl|trait) (\S+): no proof: .*did not prove `([^`]+)`")
@@ -63,7 +80,8 @@ GOAL = re.compile(r"note: \S+:\d+:\d+: it is not proved that")
 SEARCH_LIMIT = "gave up at one of its limits"
 PROVER_LIMIT = re.compile(r"(resource|step) limit|a limit of (this|rattle|antt)|no verdict, since")
 
-Row = collections.namedtuple("Row", "crate edit refused seconds mark")
+Edit = collections.namedtuple("Edit", "crate name file gate")
+Row = collections.namedtuple("Row", "crate edit gate refused seconds mark")
 said = threading.local()
 
 
@@ -88,35 +106,42 @@ def load_rt():
     return rt
 
 
-def edits_by_crate(names):
-    """The files of the edits by crate, of all crates without names."""
-    every = sorted(os.listdir(EDITS))
-    for name in names:
-        if name not in every:
-            print(f"try_edits.py: there is no folder trials/edits/{name}", file=sys.stderr)
-            sys.exit(2)
+def edits_in(folder, crate, is_gate):
+    """The edits of a folder, in the order of their names."""
+    names = sorted(os.listdir(folder)) if os.path.isdir(folder) else []
+    names = [it.removesuffix(".edit") for it in names if it.endswith(".edit")]
+    return [Edit(crate, it, f"{folder}/{it}.edit", is_gate) for it in names]
+
+
+def edits_by_crate(given):
+    """The edits by crate, of all crates if none is named."""
     found = {}
-    for crate in names or every:
-        folder = os.path.join(EDITS, crate)
-        found[crate] = [os.path.join(folder, it) for it in sorted(os.listdir(folder))]
-    return found
+    for crate in sorted({*os.listdir(CRATES), *os.listdir(EDITS)}):
+        gate = [] if given.outside else edits_in(f"{CRATES}/{crate}/must-fail", crate, True)
+        outside = [] if given.gate else edits_in(f"{EDITS}/{crate}", crate, False)
+        if gate or outside:
+            found[crate] = gate + outside
+    for name in given.crates:
+        if name not in found:
+            print(f"try_edits.py: there is no edit of a crate {name}", file=sys.stderr)
+            sys.exit(2)
+    return {crate: found[crate] for crate in given.crates or found}
 
 
 def copy_crates(room):
     """Copies what a check reads of the repository, without edits and what was built."""
-    crates = f"{TOP}/crates"
 
     def left_out(folder, names):
         # A folder proofs/out is of the module `out`.
-        return {"out", "must-fail"} & {*names} if os.path.dirname(folder) == crates else ()
+        return {"out", "must-fail"} & {*names} if os.path.dirname(folder) == CRATES else ()
 
-    shutil.copytree(crates, f"{room}/crates", ignore=left_out)
+    shutil.copytree(CRATES, f"{room}/crates", ignore=left_out)
     for name in ("crates.txt", "HANDLES"):
         shutil.copy(f"{TOP}/{name}", room)
 
 
 def crates_in(rt, room):
-    """The crates of the copy, lowest first, as `rt ci` takes them."""
+    """The crates of the copy by name, lowest first, as `rt ci` takes them."""
     os.chdir(room)
     os.environ.pop("RT_SECONDS", None)
     # The first call sets a signal's handler, which only the main thread may.
@@ -126,36 +151,186 @@ def crates_in(rt, room):
     # Nothing of the copy is kept, so no stamp is compared.
     rt.Crate.stamp = lambda crate: ""
     rt.rtlib.Crate = rt.Crate
-    return sorted(rt.rtlib.crates_below(room), key=lambda it: len(it.below()))
+    crates = sorted(rt.rtlib.crates_below(room), key=lambda it: len(it.below()))
+    return {it.name: it for it in crates}
 
 
-def build(crate):
-    """Builds a library with its statements alone; says whether it is proved."""
-    crate = copy.copy(crate)
-    with tempfile.TemporaryFile("a+", errors="replace") as crate.out:
-        try:
-            os.makedirs(f"{crate.folder}/out", exist_ok=True)
-            status = crate.build_rlib(ONE_JOB, anew=True)
-        except SystemExit:
-            status = 2
-        if status:
-            crate.out.seek(0)
-            print(f"{crate.name}: NOT PROVED\n{crate.out.read()[-2000:]}", file=sys.stderr)
-    return not status
+def own_sum(crate):
+    """A sum of what the crate itself has."""
+    found = hashlib.sha256()
+    for part in ("src", "specs", "proofs"):
+        for at, folders, names in os.walk(f"{crate.folder}/{part}"):
+            folders.sort()
+            for path in (f"{at}/{it}" for it in sorted(names)):
+                found.update(os.path.relpath(path, crate.folder).encode() + b"\0")
+                with open(path, "rb") as file:
+                    found.update(file.read())
+    found.update(repr(sorted(crate.of_kit)).encode())
+    return found.hexdigest()
 
 
-def try_one(rt, crate, edit, kept):
-    """The row of an edit: rt says whether it is refused, and what the prover printed says where."""
-    said.text, said.seconds = "", 0
-    refused, told = rt.must_fail(crate, edit, ONE_JOB, kept)
-    name = os.path.basename(edit).removesuffix(".edit")
-    if refused:
-        where = refusal_in(crate.name, said.text)
-        mark = mark_of(said.text, told)
-    else:
+def sums_of(crates):
+    """A sum of each crate with all crates below. The crates come lowest first."""
+    sums = {}
+    for crate in crates.values():
+        text = own_sum(crate) + "".join(sorted(it.name + sums[it.name] for it in crate.deps))
+        sums[crate.name] = hashlib.sha256(text.encode()).hexdigest()[:24]
+    return sums
+
+
+class Results:
+    """The rows that earlier runs kept, by what they were tried on. A new one is kept at once."""
+
+    def __init__(self, folder, kit):
+        os.makedirs(folder, exist_ok=True)
+        self.file, self.kit, self.rows = f"{folder}/results.jsonl", kit, {}
+        self.alone = threading.Lock()
+        if os.path.exists(self.file):
+            with open(self.file, encoding="utf-8") as lines:
+                for line in lines:
+                    # The last line may be cut.
+                    with contextlib.suppress(ValueError, KeyError, TypeError):
+                        row = json.loads(line)
+                        self.rows[row["on"]] = row["refused"], row["seconds"], row["mark"]
+
+    def name_of(self, edit, crate_sum):
+        with open(edit.file, "rb") as file:
+            text = f"{self.kit}\n{crate_sum}\n".encode() + file.read()
+        return hashlib.sha256(text).hexdigest()[:24]
+
+    def find(self, edit, crate_sum):
+        """The row of an edit, or None."""
+        found = self.rows.get(self.name_of(edit, crate_sum))
+        return found and Row(edit.crate, edit.name, edit.gate, *found)
+
+    def keep(self, edit, crate_sum, row):
+        line = {"on": self.name_of(edit, crate_sum), **row._asdict()}
+        with self.alone, open(self.file, "a", encoding="utf-8") as file:
+            file.write(json.dumps(line) + "\n")
+
+
+class Run:
+    """A run over a copy of the crates: its libraries, its kept work and its rows."""
+
+    def __init__(self, rt, crates, results, kept, libraries):
+        self.rt, self.crates, self.sums = rt, crates, sums_of(crates)
+        self.results, self.kept, self.rows = results, kept, {}
+        self.printing = threading.Lock()
+        for crate in crates.values():
+            if crate.makes_rlib():
+                folder = f"{libraries}/{crate.name}.{self.sums[crate.name]}"
+                crate.rlib = f"{folder}/{crate.name}.rlib"
+
+    def library(self, crate, given):
+        """Builds a library that isn't there; says whether it is proved."""
+        if os.path.isfile(f"{crate.rlib}/format"):
+            return True
+        if not all(given[it.name, "library"] for it in crate.below()):
+            return False
+        to = os.path.dirname(crate.rlib)
+        os.makedirs(os.path.dirname(to), exist_ok=True)
+        with tempfile.TemporaryDirectory(prefix=".new-", dir=os.path.dirname(to)) as room:
+            words = [*crate.words(ONE_JOB, keeps=False), "--statements"]
+            words = [self.rt.rtlib.RATTLE, "build", *words, "-o", f"{room}/{crate.name}.rlib"]
+            how = {"stdin": subprocess.DEVNULL, "stdout": subprocess.PIPE, "errors": "replace"}
+            how = {**how, "stderr": subprocess.STDOUT, "cwd": crate.folder}
+            ran = subprocess.run([*self.rt.rtlib.guarded(), *words], check=False, **how)
+            if ran.returncode:
+                print(f"{crate.name}: NOT PROVED\n{ran.stdout[-2000:]}", file=sys.stderr)
+                return False
+            # Another run may have built it meanwhile.
+            with contextlib.suppress(OSError):
+                os.rename(room, to)
+                os.mkdir(room)
+        return True
+
+    def seed(self, crate, given):
+        """The folder with the work of the crate as it is, which it proves if it isn't there, or
+        why there is none."""
+        lacking = [it.name for it in crate.below() if not given[it.name, "library"]]
+        if lacking:
+            return None, f"{lacking[0]} isn't proved"
+        folder = f"{self.kept}/seeds/{crate.name}.{self.sums[crate.name]}"
+        if not os.path.isdir(folder):
+            os.makedirs(os.path.dirname(folder), exist_ok=True)
+            room = tempfile.mkdtemp(prefix=".new-", dir=os.path.dirname(folder))
+            if self.rt.checked(crate, {}, ONE_JOB, room).returncode:
+                shutil.rmtree(room, ignore_errors=True)
+                return None, f"{crate.name} itself isn't proved"
+            os.rename(room, folder)
+        return folder, ""
+
+    def try_edit(self, crate, edit, given):
+        """Tries an edit over the crate's own work, and from nothing if that doesn't refuse it."""
+        seed, why = given[crate.name, "seed"]
+        end, row = None, Row(crate.name, edit.name, edit.gate, why, 0, UNTRIED)
+        if seed:
+            over = tempfile.mkdtemp(prefix=".over-", dir=self.kept)
+            try:
+                self.rt.linked(seed, f"{over}/seed")
+                end, row = self.tried(crate, edit, f"{over}/seed")
+            finally:
+                shutil.rmtree(over, ignore_errors=True)
+        if end in (self.rt.MISSED, self.rt.UNSURE):
+            _, row = self.tried(crate, edit, None)
+        if row.mark != UNTRIED:
+            self.results.keep(edit, self.sums[crate.name], row)
+        self.show(row, edit)
+
+    def tried(self, crate, edit, over):
+        """What an edit's try came to, in rt's word, and its row, whose place is by what the prover
+        printed."""
+        rt = self.rt
+        said.text, said.seconds = "", 0
+        end, told = rt.must_fail(crate, edit.file, ONE_JOB, over)
         where = told.partition(": ")[2].split("\n")[0]
-        mark = FAILED if ": NOT REFUSED" in told else UNTRIED
-    return Row(crate.name, name, where, round(said.seconds), mark)
+        mark = FAILED if end == rt.MISSED else UNTRIED
+        if end in (rt.REFUSED, rt.AT_LIMIT):
+            where = refusal_in(crate.name, said.text) or where
+            mark = "prover limit" if end == rt.AT_LIMIT else mark_of(said.text, told)
+        return end, Row(crate.name, edit.name, edit.gate, where, round(said.seconds), mark)
+
+    def show(self, row, edit):
+        """Prints a row and keeps it for the page."""
+        self.rows[edit] = row
+        end = f"{row.mark or 'refused'}, {row.seconds} s: {row.refused}"
+        with self.printing:
+            print(f"{row.crate} {row.edit}: {end}"[:WIDTH], flush=True)
+
+    def end(self, crate, given):
+        """Removes the kept work of a crate whose edits were tried."""
+        seed, _ = given[crate.name, "seed"]
+        if seed:
+            shutil.rmtree(seed, ignore_errors=True)
+
+    def tasks(self, edits):
+        """The tasks for rt's lanes: each library that is needed, and for each crate its own proof,
+        its edits, and the end."""
+        chosen = [it for it in self.crates.values() if edits.get(it.name)]
+        needed = {below.name for it in chosen for below in it.below()}
+        tasks = {}
+        for crate in self.crates.values():
+            if crate.name in needed:
+                waits = [(it.name, "library") for it in crate.below()]
+                call = lambda given, jobs, it=crate: self.library(it, given)
+                tasks[crate.name, "library"] = waits, crate.count(rb"\n"), self.rt.need(crate), call
+        for crate in chosen:
+            tasks.update(self.tasks_of(crate, edits[crate.name]))
+        return tasks
+
+    def tasks_of(self, crate, edits):
+        """The tasks of a crate's edits."""
+        lines, need, tasks = crate.count(rb"\n"), self.rt.need(crate), {}
+        waits = [(it.name, "library") for it in crate.below()]
+        # No line of its own: it comes right before its edits.
+        tasks[crate.name, "seed"] = waits, 0, need, lambda given, jobs: self.seed(crate, given)
+        for edit in edits:
+            call = lambda given, jobs, it=edit: self.try_edit(crate, it, given)
+            first = [(crate.name, "seed")]
+            tasks[crate.name, "edits", edit.name, edit.gate] = first, lines, OVER * need, call
+        end = lambda given, jobs: self.end(crate, given)
+        tasks[crate.name, "end"] = [*tasks], 0, 0, end
+        return tasks
 
 
 def refusal_in(crate, text):
@@ -187,67 +362,29 @@ def mark_of(text, told):
     return "search limit" if goals else ""
 
 
-def try_crate(rt, crate, edits):
-    """The rows of a crate's edits. What isn't refused over the others' work is tried from nothing,
-    and so is each edit if the crate itself isn't proved over that work."""
-    if len(edits) == 1:
-        return [try_one(rt, crate, edits[0], None)]
-    with tempfile.TemporaryDirectory(prefix="rt-edits-") as kept:
-        rows = [try_one(rt, crate, it, kept) for it in edits]
-        is_sound = not rt.checked(crate, {}, ONE_JOB, kept).returncode
-    for at, row in enumerate(rows):
-        if not is_sound or row.mark in (FAILED, UNTRIED):
-            rows[at] = try_one(rt, crate, edits[at], None)
-    return rows
-
-
-def tasks_of(rt, crates, edits, show):
-    """The tasks for rt's lanes: each library that is needed, and the edits of each crate."""
-    tasks, chosen = {}, [it for it in crates if it.name in edits]
-    needed = {below.name for it in chosen for below in it.below()}
-
-    def library(crate, given):
-        return all(given[it.name, "library"] for it in crate.below()) and build(crate)
-
-    def tries(crate, given):
-        lacking = [it.name for it in crate.below() if not given[it.name, "library"]]
-        if lacking:
-            names = [os.path.basename(it).removesuffix(".edit") for it in edits[crate.name]]
-            rows = [Row(crate.name, it, f"{lacking[0]} isn't proved", 0, UNTRIED) for it in names]
-        else:
-            rows = try_crate(rt, crate, edits[crate.name])
-        show(rows)
-        return rows
-
-    for crate in crates:
-        waits = [(it.name, "library") for it in crate.below()]
-        lines, need = crate.count(rb"\n"), rt.need(crate)
-        if crate.name in needed:
-            call = lambda given, jobs, it=crate: library(it, given)
-            tasks[crate.name, "library"] = (waits, lines, need, call)
-        if crate in chosen:
-            call = lambda given, jobs, it=crate: tries(it, given)
-            tasks[crate.name, "edits"] = (waits, lines * len(edits[crate.name]), need, call)
-    return tasks
-
-
 def line_of(row):
     """A row as the table has it."""
-    cells = (f"`{row.edit}`", f"`{row.refused}`" if row.refused else "", row.seconds, row.mark)
-    return "| " + " | ".join(map(str, cells)) + " |"
+    gate, mark = "yes" if row.gate else "", f" {row.mark} |" if row.mark else " |"
+    begin, end = f"| `{row.edit}` | {gate} | ", f" | {row.seconds} |{mark}"
+    # A cell has no bar, and a line of a document has an end.
+    where = row.refused.replace("|", "/")
+    room = COLUMNS - len(begin) - len(end) - 2
+    where = where if len(where) <= room else where[: room - 2] + ".."
+    return begin + (f"`{where}`" if where else "") + end
 
 
-def write_page(file, rows, minutes):
+def write_page(file, rows, kit):
     """Writes the page: when and with what it ran, the counts, and a table for each crate."""
     marks = collections.Counter(row.mark for row in rows if row.mark)
     counts = ", ".join(f"{count} {mark}" for mark, count in sorted(marks.items())) or "none"
-    today = datetime.date.today().isoformat()
-    head = (today, commit(), output_of("rt", "version"), len(rows), counts, minutes)
-    text = [HEAD, "| date | commit | kit | edits | marks | minutes |", "|---|---|---|---|---|---|"]
-    text.append("| " + " | ".join(map(str, head)) + " |")
+    today, gate = datetime.date.today().isoformat(), sum(row.gate for row in rows)
+    seconds = sum(row.seconds for row in rows)
+    head = (today, commit(), kit, len(rows), gate, counts, round(seconds / 60))
+    text = [HEAD, "| date | commit | kit | edits | of the gate | marks | minutes of their checks |"]
+    text += ["|---|---|---|---|---|---|---|", "| " + " | ".join(map(str, head)) + " |"]
     for crate in sorted({row.crate for row in rows}):
-        text += ["", f"## {crate}", "", "| edit | refused at | seconds | mark |"]
-        text += ["|---|---|---|---|", *(line_of(row) for row in rows if row.crate == crate)]
+        text += ["", f"## {crate}", "", "| edit | gate | refused at | seconds | mark |"]
+        text += ["|---|---|---|---|---|", *(line_of(row) for row in rows if row.crate == crate)]
     with open(file, "w", encoding="utf-8") as page:
         page.write("\n".join(text) + "\n")
 
@@ -264,23 +401,37 @@ def commit():
     return output_of("git", "rev-parse", "--short=8", "HEAD") + ("+" if changed else "")
 
 
-def try_all(rt, edits, page):
+def rows_of(run, edits, given):
+    """The rows of all edits, in their order: those that are kept, and those tried now."""
+    left = {}
+    for edit in (it for crate in edits for it in edits[crate]):
+        if edit.crate not in run.crates:
+            run.show(Row(*edit[:2], edit.gate, "there is no such crate", 0, UNTRIED), edit)
+            continue
+        row = None if given.anew else run.results.find(edit, run.sums[edit.crate])
+        if row or given.table:
+            run.show(row or Row(*edit[:2], edit.gate, "not tried yet", 0, UNTRIED), edit)
+        else:
+            left.setdefault(edit.crate, []).append(edit)
+    if left:
+        run.rt.in_lanes(run.tasks(left))
+    return [run.rows[it] for crate in edits for it in edits[crate]]
+
+
+def try_all(rt, edits, given):
     """Tries the edits, prints their rows, and writes the page."""
-    printing, begun = threading.Lock(), time.monotonic()
-
-    def show(rows):
-        with printing:
-            for row in rows:
-                end = f"{row.mark or 'refused'}, {row.seconds} s: {row.refused}"
-                print(f"{row.crate} {row.edit}: {end}"[:WIDTH], flush=True)
-
+    kit = output_of("rt", "version")
+    usual = os.path.join(tempfile.gettempdir(), f"satip-edits-{(kit.split() or ['kit'])[0]}")
+    kept = os.path.abspath(given.kept or usual)
+    libraries = os.path.abspath(given.libraries or f"{kept}/libraries")
+    results = Results(kept, kit)
     with tempfile.TemporaryDirectory(prefix="satip-edits-") as room:
         copy_crates(room)
-        given = rt.in_lanes(tasks_of(rt, crates_in(rt, room), edits, show))
+        run = Run(rt, crates_in(rt, room), results, kept, libraries)
+        rows = rows_of(run, edits, given)
         os.chdir(TOP)
-    rows = [row for crate in edits for row in given[crate, "edits"]]
-    if page:
-        write_page(page, rows, round((time.monotonic() - begun) / 60))
+    if given.page:
+        write_page(given.page, rows, kit)
     bad = [row for row in rows if row.mark in (FAILED, UNTRIED)]
     print(f"{len(rows) - len(bad)} refused, {len(bad)} not; {sum(bool(it.mark) for it in rows)} marked")
     return 1 if bad else 0
@@ -321,36 +472,42 @@ def fault_of(rt, folder, edit, bodies):
 
 
 def read_all(rt, edits):
-    """Says which edits can't be tried, those of the gate first; proves nothing."""
+    """Says which edits can't be tried; proves nothing."""
     bodies, bad, count = {}, 0, 0
-    for crate in edits:
-        folder = f"{TOP}/crates/{crate}"
-        gate = f"{folder}/must-fail"
-        gated = sorted(os.listdir(gate)) if os.path.isdir(gate) else []
-        for edit in [*(f"{gate}/{it}" for it in gated if it.endswith(".edit")), *edits[crate]]:
-            why = fault_of(rt, folder, edit, bodies)
-            count += 1
-            if why:
-                bad += 1
-                print(f"{os.path.relpath(edit, TOP)}: {why}")
-    print(f"{count} edits read, those of the gate counted; {bad} can't be tried")
+    for edit in (it for crate in edits for it in edits[crate]):
+        why = fault_of(rt, f"{CRATES}/{edit.crate}", edit.file, bodies)
+        count += 1
+        if why:
+            bad += 1
+            print(f"{os.path.relpath(edit.file, TOP)}: {why}")
+    print(f"{count} edits read; {bad} can't be tried")
     return 1 if bad else 0
 
 
 def main():
     parser = argparse.ArgumentParser(description=__doc__.partition("\n")[0])
     parser.add_argument("crates", nargs="*", metavar="CRATE")
+    which = parser.add_mutually_exclusive_group()
+    which.add_argument("--gate", action="store_true")
+    which.add_argument("--outside", action="store_true")
     parser.add_argument("--jobs", type=int, metavar="N")
-    parser.add_argument("--page", metavar="FILE")
-    parser.add_argument("--read", action="store_true")
+    for name, what in (("--page", "FILE"), ("--kept", "FOLDER"), ("--libraries", "FOLDER")):
+        parser.add_argument(name, metavar=what)
+    for name in ("--anew", "--table", "--read"):
+        parser.add_argument(name, action="store_true")
     given = parser.parse_args()
-    rt, edits = load_rt(), edits_by_crate(given.crates)
+    rt, edits = load_rt(), edits_by_crate(given)
     if given.read:
         return read_all(rt, edits)
     if given.jobs:
         os.environ["RT_JOBS"] = str(given.jobs)
-    page = os.path.abspath(given.page) if given.page else None if given.crates else PAGE
-    return try_all(rt, edits, page)
+    is_whole = not (given.crates or given.gate or given.outside)
+    given.page = os.path.abspath(given.page) if given.page else PAGE if is_whole else None
+    try:
+        return try_all(rt, edits, given)
+    except KeyboardInterrupt:
+        print("try_edits.py: stopped. What was tried is kept", file=sys.stderr)
+        return 130
 
 
 if __name__ == "__main__":
