@@ -178,20 +178,25 @@ def sums_of(crates):
     return sums
 
 
+def kept_rows(file):
+    """What a file says of edits, by what they were tried on. Its last line may be cut."""
+    rows = {}
+    with open(file, encoding="utf-8") as lines:
+        for line in lines:
+            with contextlib.suppress(ValueError, KeyError, TypeError):
+                row = json.loads(line)
+                rows[row["on"]] = row["refused"], row["seconds"], row["mark"]
+    return rows
+
+
 class Results:
     """The rows that earlier runs kept, by what they were tried on. A new one is kept at once."""
 
     def __init__(self, folder, kit):
         os.makedirs(folder, exist_ok=True)
-        self.file, self.kit, self.rows = f"{folder}/results.jsonl", kit, {}
+        self.file, self.kit = f"{folder}/results.jsonl", kit
+        self.rows = kept_rows(self.file) if os.path.exists(self.file) else {}
         self.alone = threading.Lock()
-        if os.path.exists(self.file):
-            with open(self.file, encoding="utf-8") as lines:
-                for line in lines:
-                    # The last line may be cut.
-                    with contextlib.suppress(ValueError, KeyError, TypeError):
-                        row = json.loads(line)
-                        self.rows[row["on"]] = row["refused"], row["seconds"], row["mark"]
 
     def name_of(self, edit, crate_sum):
         with open(edit.file, "rb") as file:
