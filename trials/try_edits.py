@@ -211,7 +211,8 @@ class Results:
     def keep(self, edit, crate_sum, row):
         line = {"on": self.name_of(edit, crate_sum), **row._asdict()}
         with self.alone, open(self.file, "a", encoding="utf-8") as file:
-            file.write(json.dumps(line) + "\n")
+            # A line that a stopped run cut stays alone.
+            file.write("\n" + json.dumps(line))
 
 
 class Run:
