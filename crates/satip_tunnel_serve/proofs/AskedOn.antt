@@ -196,7 +196,7 @@ walk_peer lane from to (u ∷ us) t peer draw request walk has is =
     (subst F (ap (λ (v : TunnelItem). v.event) (sym same) ∙ is) walk.1).0)
     (λ (later : Has t us). walk_peer lane walk.0 to us t peer draw request walk.2 later is) has
 
-last_no_request : (lane : ℕ) (full : Type 0) (end : TunnelEnd) (last : List TunnelItem) (t : TunnelItem) (event : Event) → Leaves lane full end last
+pub last_no_request : (lane : ℕ) (full : Type 0) (end : TunnelEnd) (last : List TunnelItem) (t : TunnelItem) (event : Event) → Leaves lane full end last
     → Has t last → t.event ≡ Inner event → ⊥
 last_no_request lane full end last t event leaves has is = by end leaves
   where
@@ -217,7 +217,7 @@ last_no_request lane full end last t event leaves has is = by end leaves
     by end_lost l = ⊎_elim (λ (x : IsLeave lane last). in_leave last x has) (λ (x : IsUnleft full last). in_none last x.0 has) l
     by end_spent l = in_none last l.0 has
 
-has_split : {T : Type 0} (x : T) (xs ys : List T) → Has x (xs ++ ys) → Has x xs ⊎ Has x ys
+pub has_split : {T : Type 0} (x : T) (xs ys : List T) → Has x (xs ++ ys) → Has x xs ⊎ Has x ys
 has_split x [] ys has = inr has
 has_split x (y ∷ xs) ys (inl here) = inl (inl here)
 has_split x (y ∷ xs) ys (inr later) = ⊎_elim (λ (h : Has x xs). inl (inr h)) (λ (h : Has x ys). inr h) (has_split x xs ys later)
@@ -265,7 +265,7 @@ entered_asked enter Left draws received sent full end es t peer draw request ans
 heads : (x y : TunnelItem) (xs ys : List TunnelItem) → x ∷ xs ≡ y ∷ ys → (x ≡ y) × (xs ≡ ys)
 heads x y xs ys e = (cc e, cc e)
 
-run_asked : (draws : List Draw) (received sent : List ℕ) (full : Type 0) (end : TunnelEnd) (es : List TunnelItem)
+pub run_asked : (draws : List Draw) (received sent : List ℕ) (full : Type 0) (end : TunnelEnd) (es : List TunnelItem)
     → TunnelRun draws received sent full end es → AskedWithin es
 run_asked draws received sent full end [] run [] b t peer draw request answer whole asks = absurd (cc whole)
 run_asked draws received sent full end [] run (u ∷ a) b t peer draw request answer whole asks = absurd (cc whole)

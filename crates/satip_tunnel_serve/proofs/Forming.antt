@@ -18,7 +18,6 @@ use Rattle.satip_query.specs.Statuses.{phrase_of}
 use Rattle.satip_rtsp.specs.Targets.{is_begun_with}
 use Rattle.satip_query.proofs.BodyLengths.{length-body_text-le}
 use Rattle.satip_tunnel_serve.specs.Pieces.{IsLine, IsReply, lined, size_name, told_size}
-use Rattle.satip_tunnel_serve.specs.Replies.{IsId, IsNamed, IsNumbered}
 use Rattle.satip_tunnel_serve.proofs.Plain.{IsPlain, plain-append, plain_address, plain_decimal, plain_id}
 
 -- lines of a head, none of which tells a size
@@ -93,7 +92,7 @@ with_body a status body ls begun small =
           ∙ ap (λ t. t ++ 13 ∷ 10 ∷ body) (sym (lined-append (first ∷ ls) (told ∷ [])));
       plain = begun.plain;
       each = Each-append IsLine ls (told ∷ []) begun.each
-          ((omega arith, plain-append size_name (decimal (length body)) refl (plain_decimal (length body) small)), tt);
+          ((omega arith, plain-append size_name (decimal (length body)) refl (plain_decimal (length body))), tt);
       size = sym (then_size ls (told ∷ []) begun.none ∙ size_line (length body) small);
     }
 
@@ -123,11 +122,11 @@ status_plain b = by (b == 200) (b == 400) (b == 403) (b == 404) (b == 413) (b ==
 abbrev status_of : ℕ → List ℕ
 status_of n = (decimal n ++ codes " ") ++ phrase_of n
 
-begun : (n : ℕ) → n < 2 ^ 64 → IsBegun (status_line n) (status_of n) []
+begun : (n : ℕ) → IsBegun (status_line n) (status_of n) []
 unfolding status_line
-begun n small = record {
+begun n = record {
   text_is = refl;
-  plain = plain-append (decimal n ++ codes " ") (phrase_of n) (plain-append (decimal n) (codes " ") (plain_decimal n small) refl) (status_plain n);
+  plain = plain-append (decimal n ++ codes " ") (phrase_of n) (plain-append (decimal n) (codes " ") (plain_decimal n) refl) (status_plain n);
   each = tt;
   none = tt;
 }
@@ -136,75 +135,70 @@ abbrev cseq_lines : Option ℕ → List (List ℕ)
 cseq_lines None = []
 cseq_lines (Some n) = (codes "CSeq: " ++ decimal n) ∷ []
 
-cseq_head : (cseq : Option ℕ) → IsNumbered cseq → IsHead (cseq_line cseq) (cseq_lines cseq)
-cseq_head None is = no_lines
-cseq_head (Some n) is = one_line (codes "CSeq: " ++ decimal n) (plain-append (codes "CSeq: ") (decimal n) refl (plain_decimal n is)) (omega arith) refl
+cseq_head : (cseq : Option ℕ) → IsHead (cseq_line cseq) (cseq_lines cseq)
+cseq_head None = no_lines
+cseq_head (Some n) = one_line (codes "CSeq: " ++ decimal n) (plain-append (codes "CSeq: ") (decimal n) refl (plain_decimal n)) (omega arith) refl
 
 abbrev session_lines : Option SessionId → List (List ℕ)
 session_lines None = []
 session_lines (Some id) = (codes "Session: " ++ id_text id) ∷ []
 
-session_head : (session : Option SessionId) → IsNamed session → IsHead (session_line session) (session_lines session)
-session_head None is = no_lines
-session_head (Some id) is = one_line (codes "Session: " ++ id_text id) (plain-append (codes "Session: ") (id_text id) refl (plain_id id is.0 is.1))
-    (omega arith) refl
+session_head : (session : Option SessionId) → IsHead (session_line session) (session_lines session)
+session_head None = no_lines
+session_head (Some id) = one_line (codes "Session: " ++ id_text id) (plain-append (codes "Session: ") (id_text id) refl (plain_id id)) (omega arith) refl
 
-numbered : (status : ℕ) (cseq : Option ℕ) → status < 2 ^ 64 → IsNumbered cseq
-    → IsBegun (status_line status ++ cseq_line cseq) (status_of status) ([] ++ cseq_lines cseq)
-numbered status cseq small is = begun_then (status_line status) (cseq_line cseq) (status_of status) [] (cseq_lines cseq) (begun status small)
-    (cseq_head cseq is)
+numbered : (status : ℕ) (cseq : Option ℕ) → IsBegun (status_line status ++ cseq_line cseq) (status_of status) ([] ++ cseq_lines cseq)
+numbered status cseq = begun_then (status_line status) (cseq_line cseq) (status_of status) [] (cseq_lines cseq) (begun status) (cseq_head cseq)
 
 -- the replies
 
-pub options_is : (cseq : Option ℕ) (session : Option SessionId) → IsNumbered cseq → IsNamed session → IsReply (options_reply cseq session)
+pub options_is : (cseq : Option ℕ) (session : Option SessionId) → IsReply (options_reply cseq session)
 unfolding options_reply
-options_is cseq session is named =
+options_is cseq session =
     let l : List ℕ = codes "Public: OPTIONS, DESCRIBE, SETUP, PLAY, TEARDOWN" in
-    let a = numbered 200 cseq (omega arith) is in
+    let a = numbered 200 cseq in
     let b = begun_then (status_line 200 ++ cseq_line cseq) (l ++ line_end) (status_of 200) ([] ++ cseq_lines cseq) (l ∷ []) a
     (one_line l refl (omega arith) refl) in
     let c = begun_then ((status_line 200 ++ cseq_line cseq) ++ (l ++ line_end)) (session_line session) (status_of 200)
     (([] ++ cseq_lines cseq) ++ l ∷ []) (session_lines session) b
-    (session_head session named) in
+    (session_head session) in
     bare (((status_line 200 ++ cseq_line cseq) ++ (l ++ line_end)) ++ session_line session) (status_of 200)
     ((([] ++ cseq_lines cseq) ++ l ∷ []) ++ session_lines session) c
 
-closed : (n : ℕ) → n < 2 ^ 64 → IsReply (status_line n ++ ((codes "Connection: close" ++ line_end) ++ line_end))
-closed n small =
+closed : (n : ℕ) → IsReply (status_line n ++ ((codes "Connection: close" ++ line_end) ++ line_end))
+closed n =
     let l : List ℕ = codes "Connection: close" in
-    let a = begun_then (status_line n) (l ++ line_end) (status_of n) [] (l ∷ []) (begun n small) (one_line l refl (omega arith) refl) in
+    let a = begun_then (status_line n) (l ++ line_end) (status_of n) [] (l ∷ []) (begun n) (one_line l refl (omega arith) refl) in
     subst IsReply (append_assoc (status_line n) (l ++ line_end) line_end) (bare (status_line n ++ (l ++ line_end)) (status_of n) ([] ++ l ∷ []) a)
 
 pub closing_is : (cause : Break) → IsReply (closing_reply cause)
 unfolding closing_reply
-closing_is Bad = closed 400 (omega arith)
-closing_is TooLong = closed 413 (omega arith)
+closing_is Bad = closed 400
+closing_is TooLong = closed 413
 
-pub plain_is : (cseq : Option ℕ) (status : ℕ) → IsNumbered cseq → status < 2 ^ 64 → IsReply (plain_reply cseq status)
+pub plain_is : (cseq : Option ℕ) (status : ℕ) → IsReply (plain_reply cseq status)
 unfolding plain_reply
-plain_is cseq status is small = bare (status_line status ++ cseq_line cseq) (status_of status) ([] ++ cseq_lines cseq) (numbered status cseq small is)
+plain_is cseq status = bare (status_line status ++ cseq_line cseq) (status_of status) ([] ++ cseq_lines cseq) (numbered status cseq)
 
-pub described_is : (cseq : Option ℕ) (address : ℕ) (body : List ℕ) → IsNumbered cseq → address < 2 ^ 32 → length body < 2 ^ 64
-    → IsReply (describe_head cseq address (length body) ++ body)
+pub described_is : (cseq : Option ℕ) (address : ℕ) (body : List ℕ) → length body < 2 ^ 64 → IsReply (describe_head cseq address (length body) ++ body)
 unfolding describe_head
-described_is cseq address body is host small =
+described_is cseq address body small =
     let l : List ℕ = codes "Content-Type: application/sdp" in
     let k : List ℕ = (codes "Content-Base: rtsp://" ++ address_text address) ++ codes "/" in
     let s : List ℕ = status_line 200 ++ cseq_line cseq in
     let base : IsHead (base_line address) (k ∷ []) =
     subst (λ t. IsHead t (k ∷ [])) (append_assoc (codes "Content-Base: rtsp://" ++ address_text address) (codes "/") line_end)
     (one_line k (plain-append (codes "Content-Base: rtsp://" ++ address_text address) (codes "/")
-    (plain-append (codes "Content-Base: rtsp://") (address_text address) refl (plain_address address host)) refl) (omega arith) refl) in
-    let a = numbered 200 cseq (omega arith) is in
+    (plain-append (codes "Content-Base: rtsp://") (address_text address) refl (plain_address address)) refl) (omega arith) refl) in
+    let a = numbered 200 cseq in
     let b = begun_then s (l ++ line_end) (status_of 200) ([] ++ cseq_lines cseq) (l ∷ []) a (one_line l refl (omega arith) refl) in
     let c = begun_then (s ++ (l ++ line_end)) (base_line address) (status_of 200) (([] ++ cseq_lines cseq) ++ l ∷ []) (k ∷ []) b base in
     with_body ((s ++ (l ++ line_end)) ++ base_line address) (status_of 200) body ((([] ++ cseq_lines cseq) ++ l ∷ []) ++ k ∷ []) c small
 
 pub set_up_is : (cseq : Option ℕ) (id : SessionId) (seconds : ℕ) (ports : Ports) (stream : ℕ)
-    → IsNumbered cseq → IsId id → seconds < 2 ^ 64 → ports.rtp < 2 ^ 64 → ports.rtcp < 2 ^ 64 → stream < 2 ^ 64
     → IsReply (setup_reply cseq id seconds ports stream)
 unfolding setup_reply
-set_up_is cseq id seconds ports stream is named lasts rtp rtcp number =
+set_up_is cseq id seconds ports stream =
     let i : List ℕ = codes "Session: " ++ id_text id in
     let j : List ℕ = i ++ codes ";timeout=" in
     let l : List ℕ = j ++ decimal seconds in
@@ -215,23 +209,22 @@ set_up_is cseq id seconds ports stream is named lasts rtp rtcp number =
     let s : List ℕ = status_line 200 ++ cseq_line cseq in
     let plain_l : IsPlain l =
     plain-append j (decimal seconds) (plain-append i (codes ";timeout=")
-    (plain-append (codes "Session: ") (id_text id) refl (plain_id id named.0 named.1)) refl) (plain_decimal seconds lasts) in
+    (plain-append (codes "Session: ") (id_text id) refl (plain_id id)) refl) (plain_decimal seconds) in
     let plain_k : IsPlain k =
     plain-append u (decimal ports.rtcp)
     (plain-append t (codes "-") (plain-append (codes "Transport: RTP/AVP;unicast;client_port=") (decimal ports.rtp) refl
-    (plain_decimal ports.rtp rtp)) refl) (plain_decimal ports.rtcp rtcp) in
-    let a = numbered 200 cseq (omega arith) is in
+    (plain_decimal ports.rtp)) refl) (plain_decimal ports.rtcp) in
+    let a = numbered 200 cseq in
     let b = begun_then s (l ++ line_end) (status_of 200) ([] ++ cseq_lines cseq) (l ∷ []) a (one_line l plain_l (omega arith) refl) in
     let c = begun_then (s ++ (l ++ line_end)) (k ++ line_end) (status_of 200) (([] ++ cseq_lines cseq) ++ l ∷ []) (k ∷ []) b
     (one_line k plain_k (omega arith) refl) in
     let d = begun_then ((s ++ (l ++ line_end)) ++ (k ++ line_end)) (m ++ line_end) (status_of 200) ((([] ++ cseq_lines cseq) ++ l ∷ []) ++ k ∷ []) (m ∷ []) c
-    (one_line m (plain-append (codes "com.ses.streamID: ") (decimal stream) refl (plain_decimal stream number)) (omega arith) refl) in
+    (one_line m (plain-append (codes "com.ses.streamID: ") (decimal stream) refl (plain_decimal stream)) (omega arith) refl) in
     bare (((s ++ (l ++ line_end)) ++ (k ++ line_end)) ++ (m ++ line_end)) (status_of 200) (((([] ++ cseq_lines cseq) ++ l ∷ []) ++ k ∷ []) ++ m ∷ []) d
 
-pub playing_is : (cseq : Option ℕ) (id : SessionId) (address stream seq : ℕ) → IsNumbered cseq → IsId id → address < 2 ^ 32 → stream < 2 ^ 64 → seq < 2 ^ 64
-    → IsReply (play_reply cseq id address stream seq)
+pub playing_is : (cseq : Option ℕ) (id : SessionId) (address stream seq : ℕ) → IsReply (play_reply cseq id address stream seq)
 unfolding play_reply
-playing_is cseq id address stream seq is named host number next =
+playing_is cseq id address stream seq =
     let e : List ℕ = codes "RTP-Info: url=rtsp://" ++ address_text address in
     let f : List ℕ = e ++ codes "/stream=" in
     let g : List ℕ = f ++ decimal stream in
@@ -241,39 +234,39 @@ playing_is cseq id address stream seq is named host number next =
     let plain_k : IsPlain k =
     plain-append g q
     (plain-append f (decimal stream) (plain-append e (codes "/stream=")
-    (plain-append (codes "RTP-Info: url=rtsp://") (address_text address) refl (plain_address address host)) refl)
-    (plain_decimal stream number))
-    (plain-append (codes ";seq=") (decimal seq) refl (plain_decimal seq next)) in
+    (plain-append (codes "RTP-Info: url=rtsp://") (address_text address) refl (plain_address address)) refl)
+    (plain_decimal stream))
+    (plain-append (codes ";seq=") (decimal seq) refl (plain_decimal seq)) in
     let info : IsHead (rtp_info_line address stream seq) (k ∷ []) =
     subst (λ t. IsHead t (k ∷ [])) (append_assoc g q line_end) (one_line k plain_k (omega arith) refl) in
-    let a = numbered 200 cseq (omega arith) is in
-    let b = begun_then s (session_line (Some id)) (status_of 200) ([] ++ cseq_lines cseq) (session_lines (Some id)) a (session_head (Some id) named) in
+    let a = numbered 200 cseq in
+    let b = begun_then s (session_line (Some id)) (status_of 200) ([] ++ cseq_lines cseq) (session_lines (Some id)) a (session_head (Some id)) in
     let c = begun_then (s ++ session_line (Some id)) (rtp_info_line address stream seq) (status_of 200)
     (([] ++ cseq_lines cseq) ++ session_lines (Some id)) (k ∷ []) b info in
     bare ((s ++ session_line (Some id)) ++ rtp_info_line address stream seq) (status_of 200) ((([] ++ cseq_lines cseq) ++ session_lines (Some id)) ++ k ∷ []) c
 
-pub unsupported_is : (cseq : Option ℕ) (kept : List ℕ) → IsNumbered cseq → IsPlain kept → IsReply (unsupported_reply cseq kept)
+pub unsupported_is : (cseq : Option ℕ) (kept : List ℕ) → IsPlain kept → IsReply (unsupported_reply cseq kept)
 unfolding unsupported_reply
-unsupported_is cseq kept is plain =
+unsupported_is cseq kept plain =
     let n : List ℕ = codes "Unsupported: " in
     let l : List ℕ = n ++ kept in
     let s : List ℕ = status_line 551 ++ cseq_line cseq in
-    let a = numbered 551 cseq (omega arith) is in
+    let a = numbered 551 cseq in
     let b = begun_then s (l ++ line_end) (status_of 551) ([] ++ cseq_lines cseq) (l ∷ []) a (one_line l (plain-append n kept refl plain) (omega arith) refl) in
     let same : (s ++ (l ++ line_end)) ++ line_end ≡ ((s ++ n) ++ kept) ++ (line_end ++ line_end) =
     append_assoc s (l ++ line_end) line_end ∙ ap (λ t. s ++ t) (append_assoc l line_end line_end)
     ∙ sym (append_assoc s l (line_end ++ line_end)) ∙ ap (λ t. t ++ (line_end ++ line_end)) (sym (append_assoc s n kept)) in
     subst IsReply same (bare (s ++ (l ++ line_end)) (status_of 551) (([] ++ cseq_lines cseq) ++ l ∷ []) b)
 
-pub telling_is : (cseq : Option ℕ) (status : ℕ) (body : RefusalBody) → IsNumbered cseq → status < 2 ^ 64 → IsReply (text_reply cseq status body)
+pub telling_is : (cseq : Option ℕ) (status : ℕ) (body : RefusalBody) → IsReply (text_reply cseq status body)
 unfolding text_reply body_part
-telling_is cseq status body is small =
+telling_is cseq status body =
     let l : List ℕ = codes "Content-Type: text/parameters" in
     let s : List ℕ = status_line status ++ cseq_line cseq in
     let text : List ℕ = body_text body ++ line_end in
     let size : length text ≡ length (body_text body) + 2 = length-append (body_text body) line_end in
     let few : length text < 2 ^ 64 = omega (arith, size, length-body_text-le body) in
-    let a = numbered status cseq small is in
+    let a = numbered status cseq in
     let b = begun_then s (l ++ line_end) (status_of status) ([] ++ cseq_lines cseq) (l ∷ []) a (one_line l refl (omega arith) refl) in
     let whole : IsReply (((s ++ (l ++ line_end)) ++ number_line size_name (length text)) ++ line_end ++ text) =
     with_body (s ++ (l ++ line_end)) (status_of status) text (([] ++ cseq_lines cseq) ++ l ∷ []) b few in

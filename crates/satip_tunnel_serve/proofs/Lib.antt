@@ -16,6 +16,12 @@ pub mod Splitting
 pub mod Plain
 pub mod Forming
 pub mod PieceTurning
+pub mod TextSizes
+mod FewPids
+mod MadeFew
+mod Answering
+mod KeptPlain
+mod RunReplying
 pub mod Replies
 pub mod Wiring
 pub mod Framing

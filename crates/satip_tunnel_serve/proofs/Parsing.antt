@@ -1,12 +1,13 @@
--- The channels that a request of a tunnel's connection asks for.
+-- The channels that a request of a tunnel's connection asks for, and the text that is kept of it.
 use Rattle.std.proofs.Common.{◌≡◌, ◌≢◌, ℕ, ◌+◌, ◌≤◌, ◌==◌, ◌&&◌, nat_le, Bool, true, false, List, [], ◌∷◌, ◌++◌, drop, find, map, arith, if◌then◌else◌, Option, Some, None, refl, sym, ◌∙◌, subst, ⊎_elim}
 use Rattle.std.specs.Prelude.{option_map, option_and_then}
 use Rattle.std.specs.List.{after_first, before_first, list_any, slice_split}
 use Rattle.std.specs.Str.Parse.{digits_value}
 use Rattle.std.proofs.lemmas.Bool.Decides.{nat_tests}
 use Rattle.satip_base.specs.declared.network.Ports.{Ports}
-use Rattle.satip_base.specs.Lists.{Has}
+use Rattle.satip_base.specs.Lists.{Each, Has}
 use Rattle.satip_base.specs.Numbers.{are_digits, number_of}
+use Rattle.satip_base.proofs.Elements.{each_has}
 use Rattle.satip_frame.specs.declared.framing.Break.{Break}
 use Rattle.satip_frame.specs.declared.framing.Break.TheVariants.{Bad, TooLong}
 use Rattle.satip_frame.specs.Said.{Said}
@@ -22,6 +23,8 @@ use Rattle.satip_rtsp_interleaved.specs.Channels.{both_channels, channels_beginn
 use Rattle.satip_rtsp_interleaved.specs.Requests.{asked_by_tunnel, channels_asked}
 use Rattle.satip_tune.specs.Pieces.{is_byte}
 use Rattle.satip_tunnel.specs.Requests.{AsksInParts}
+use Rattle.satip_tunnel_serve.specs.Answered.{KeepsPlain, RequestsArePlain}
+use Rattle.satip_tunnel_serve.proofs.KeptPlain.{HasPlainValues, message_keeps, parts_plain}
 use Rattle.satip_tunnel_serve.proofs.Owning.{other_numbers}
 use Rattle.satip_worker.specs.Requests.{asked_by_tail}
 
@@ -30,9 +33,10 @@ pub record AreChannels (ports : Ports) : Type 0 where
   pub channel : is_channel_port ports.rtp ≡ true
   pub two : ports.rtcp ≢ ports.rtp
 
--- the request asks for channels or for none
+-- the request asks for channels or for none, and keeps no CR and no LF
 pub record IsParsed (request : Request) : Type 0 where
   pub channels : (ports : Ports) → request.ports ≡ Some ports → AreChannels ports
+  pub plain : KeepsPlain request.refusal
 
 is_some : {A : Type 0} (x y : A) → Some x ≡ Some y → x ≡ y
 is_some x y e = cc e
@@ -119,19 +123,24 @@ asked_are Setup None p e = absurd (no_some p e)
 asked_are Setup (Some value) p e = interleaved_are value p e
 asked_are _ value p e = absurd (no_some p e)
 
-message_parsed : (m : Said) → IsParsed (asked_by_tunnel m)
-message_parsed m = record { channels = λ p e. asked_are (asked m).method _ p e }
+message_parsed : (m : Said) → HasPlainValues m → IsParsed (asked_by_tunnel m)
+message_parsed m plain = record { channels = λ p e. asked_are (asked m).method _ p e; plain = message_keeps m plain }
 
 broken_parsed : (cause : Break) → IsParsed (broken_request cause)
-broken_parsed Bad = record { channels = λ p e. absurd (no_some p e) }
-broken_parsed TooLong = record { channels = λ p e. absurd (no_some p e) }
+broken_parsed Bad = record { channels = λ p e. absurd (no_some p e); plain = tt }
+broken_parsed TooLong = record { channels = λ p e. absurd (no_some p e); plain = tt }
 
-messages_parsed : (ms : List Said) (tail : Tail) (r : Request) → Has r (map asked_by_tunnel ms ++ asked_by_tail tail) → IsParsed r
-messages_parsed [] Unfinished r has = absurd has
-messages_parsed [] (Broken cause) r has =
+messages_parsed : (ms : List Said) (tail : Tail) (r : Request) → Each HasPlainValues ms → Has r (map asked_by_tunnel ms ++ asked_by_tail tail) → IsParsed r
+messages_parsed [] Unfinished r plain has = absurd has
+messages_parsed [] (Broken cause) r plain has =
     ⊎_elim (λ same. subst IsParsed (sym same) (broken_parsed cause)) (λ none. absurd none) has
-messages_parsed (m ∷ ms) tail r has =
-    ⊎_elim (λ same. subst IsParsed (sym same) (message_parsed m)) (λ later. messages_parsed ms tail r later) has
+messages_parsed (m ∷ ms) tail r plain has =
+    ⊎_elim (λ same. subst IsParsed (sym same) (message_parsed m plain.0)) (λ later. messages_parsed ms tail r plain.1 later) has
 
 pub all_parsed : (text : List ℕ) (all : List Request) (r : Request) → AsksInParts text all → Has r all → IsParsed r
-all_parsed text all r asks has = messages_parsed asks.messages asks.tail r (subst (λ (rs : List Request). Has r rs) asks.requests has)
+all_parsed text all r asks has =
+    messages_parsed asks.messages asks.tail r (parts_plain text asks.messages asks.tail asks.read)
+    (subst (λ (rs : List Request). Has r rs) asks.requests has)
+
+pub requests_are_plain : RequestsArePlain
+requests_are_plain text all asks = each_has (λ (r : Request). KeepsPlain r.refusal) all (λ r has. (all_parsed text all r asks has).plain)

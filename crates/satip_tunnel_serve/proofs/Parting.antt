@@ -13,6 +13,7 @@ use Rattle.satip_interleave.specs.Histories.{TunnelItem}
 use Rattle.satip_tunnel_serve.specs.LaneFrames.{lane}
 use Rattle.satip_tunnel.specs.Wire.{wire}
 use Rattle.satip_tunnel_serve.specs.Wires.{Framed, Piece, Reply, WireHasLane, WiresHaveLanes, bytes_of, frames_of, pieces, pieces_by}
+use Rattle.satip_tunnel_serve.specs.Answered.{RunsReply}
 use Rattle.satip_tunnel_serve.specs.Splits.{AreReplies, WiresSplitOneWay, is_framed}
 use Rattle.satip_tunnel_serve.proofs.Framing.{AreFrames, DrainGives, all_give, lane_are, own_each}
 
@@ -108,8 +109,9 @@ all_parted (t ∷ ts) gives replies = one_parted t t.event t.answer (pieces ts) 
 begins_frames : (taken all : List (List ℕ)) → Begins taken all → AreFrames all → AreFrames taken
 begins_frames taken all begins are = Each-append_left IsFrame taken begins.rest (subst AreFrames begins.whole are)
 
-pub wires_split_one_way : SplitOneWay → WiresHaveLanes → WiresSplitOneWay
-wires_split_one_way one lanes c h before entries numbers caller x draws received sent end legal callers part run given replies =
+pub wires_split_one_way : SplitOneWay → WiresHaveLanes → RunsReply → WiresSplitOneWay
+wires_split_one_way one lanes reply c h before entries numbers caller x draws received sent end legal callers part run given =
+    let replies : AreReplies (pieces entries) = reply c h before entries caller draws received sent end legal part run in
     let has : WireHasLane h before entries caller x = lanes c h before entries numbers caller x draws received sent end legal callers part run given in
     let D : TunnelItem → Type 0 = λ t. DrainGives t.event t in
     let own : Each D (before ++ (entries ++ part.after)) = subst (Each D) part.whole (own_each D caller h (all_give h no_lanes tt legal.lanes)) in

@@ -1,20 +1,17 @@
 -- A reply whose transport is told in channels is still one by its form.
-use Rattle.std.proofs.Common.{◌≡◌, ◌∙◌, ℕ, ◌-◌, ◌<◌, ◌≤◌, ◌^◌, ◌==◌, ◌&&◌, not, Bool, true, false, cond, List, [], ◌∷◌, ◌++◌, length, take, drop, map, All, Option, Some, None, IfSome, option_and_then, append_assoc, arith, refl, sym, ap, subst, if◌then◌else◌, eqb-true}
+use Rattle.std.proofs.Common.{◌≡◌, ◌∙◌, ℕ, ◌-◌, ◌<◌, ◌==◌, ◌&&◌, not, Bool, true, false, cond, List, [], ◌∷◌, ◌++◌, length, take, drop, map, All, Option, Some, None, option_and_then, append_assoc, arith, refl, sym, ap, subst, eqb-true}
 use Rattle.std.specs.Prelude.{codes, decimal}
-use Rattle.std.specs.List.{after_first, before_first, list_all, slice_split}
+use Rattle.std.specs.List.{list_all, slice_split}
 use Rattle.std.specs.Option.{option_map_or}
 use Rattle.std.specs.Str.{bytes_eq}
 use Rattle.std.specs.Str.Parse.{digits_value}
 use Rattle.std.proofs.lemmas.Bool.{true≢false, and_parts}
 use Rattle.std.proofs.lemmas.List.Elements.{All-nil, All-cons, All-append}
 use Rattle.std.proofs.lemmas.List.Splits.{slice_split_at}
-use Rattle.satip_base.specs.Numbers.{number_of}
 use Rattle.satip_base.specs.declared.network.Ports.{Ports}
 use Rattle.satip_base.specs.Lists.{Each}
 use Rattle.satip_tune.specs.Pieces.{is_byte}
 use Rattle.satip_rtsp.specs.Targets.{is_begun_with}
-use Rattle.satip_rtsp.specs.Transports.{both_ports, port_at_most}
-use Rattle.satip_rtsp.proofs.CseqLemmas.{number_of-le}
 use Rattle.satip_rtsp_interleaved.specs.Turned.{after_ports_name, channel_line, is_empty_line, ports_beside, ports_name, told_ports, turned, turned_line, before_return}
 use Rattle.satip_rtsp_interleaved.proofs.TurnedLemmas.{turned_end, turned_step}
 use Rattle.satip_tunnel_serve.specs.Pieces.{IsLine, IsReply, is_plain, lined, size_name, told_size}
@@ -34,35 +31,6 @@ line_is l = by (told_ports (l ++ 13 ∷ []))
     by : (o : Option Ports) → option_map_or channel_line o (l ++ 13 ∷ []) ≡ option_map_or channels_text o l ++ 13 ∷ []
     by None = refl
     by (Some ports) = refl
-
--- ports that are told have 16 bits
-
-abbrev ArePorts : Ports → Type 0
-ArePorts ports = (ports.rtp < 2 ^ 16) × (ports.rtcp < 2 ^ 16)
-
-port_within : (text : List ℕ) → IfSome (port_at_most 65535 text) (λ n. n < 2 ^ 16)
-port_within text = by (number_of 65535 text) refl
-  where
-    not_zero : (n : ℕ) (b : Bool) → n ≤ 65535 → IfSome (cond b None (Some n)) (λ m. m < 2 ^ 16)
-    not_zero n true le = tt
-    not_zero n false le = omega (arith, le)
-
-    by : (read : Option ℕ) → number_of 65535 text ≡ read → IfSome (option_and_then (λ n. if n == 0 then None else Some n) read) (λ n. n < 2 ^ 16)
-    by None e = tt
-    by (Some n) e = not_zero n (n == 0) (number_of-le 65535 text n e)
-
-both_within : (a b : Option ℕ) → IfSome a (λ n. n < 2 ^ 16) → IfSome b (λ n. n < 2 ^ 16) → IfSome (both_ports a b) ArePorts
-both_within (Some a) (Some b) first second = (first, second)
-both_within (Some a) None first second = tt
-both_within None b first second = tt
-
-between_within : (text : Option (List ℕ)) → IfSome (option_and_then ports_beside text) ArePorts
-between_within None = tt
-between_within (Some text) = both_within _ _ (port_within (before_first (is_byte 45) text)) (port_within (after_first (is_byte 45) text))
-
-told_within : (line : List ℕ) → IfSome (told_ports line) ArePorts
-unfolding told_ports
-told_within line = between_within (option_and_then before_return (after_ports_name line))
 
 -- a line that tells ports begins as one
 
@@ -93,25 +61,25 @@ record IsTurned (l : List ℕ) : Type 0 where
   kept : is_begun_with size_name l ≡ true → turned_text l ≡ l
 
 turned_is : (l : List ℕ) → IsLine l → IsTurned l
-turned_is l is = by (told_ports (l ++ 13 ∷ [])) refl (told_within (l ++ 13 ∷ []))
+turned_is l is = by (told_ports (l ++ 13 ∷ [])) refl
   where
-    plain : (ports : Ports) → ArePorts ports → IsPlain (channels_text ports)
-    plain ports within =
+    plain : (ports : Ports) → IsPlain (channels_text ports)
+    plain ports =
         let name : List ℕ = codes "Transport: RTP/AVP/TCP;unicast;interleaved=" in
         let a : List ℕ = name ++ decimal (ports.rtp - 1) in
         plain-append (a ++ codes "-") (decimal (ports.rtcp - 1))
-        (plain-append a (codes "-") (plain-append name (decimal (ports.rtp - 1)) refl (plain_decimal (ports.rtp - 1) (omega (arith, within.0)))) refl)
-        (plain_decimal (ports.rtcp - 1) (omega (arith, within.1)))
+        (plain-append a (codes "-") (plain-append name (decimal (ports.rtp - 1)) refl (plain_decimal (ports.rtp - 1))) refl)
+        (plain_decimal (ports.rtcp - 1))
 
-    by : (o : Option Ports) → told_ports (l ++ 13 ∷ []) ≡ o → IfSome o ArePorts → IsTurned l
-    by None e within =
+    by : (o : Option Ports) → told_ports (l ++ 13 ∷ []) ≡ o → IsTurned l
+    by None e =
         let same : turned_text l ≡ l = ap (λ p. option_map_or channels_text p l) e in
         record { line = subst IsLine (sym same) is; same = ap (is_begun_with size_name) same; kept = λ sized. same }
-    by (Some ports) e within =
+    by (Some ports) e =
         let new : turned_text l ≡ channels_text ports = ap (λ p. option_map_or channels_text p l) e in
         let unsized : is_begun_with size_name l ≡ false = named_first l is.0 (told_named (l ++ 13 ∷ []) ports e) in
         record {
-          line = subst IsLine (sym new) (omega arith, plain ports within);
+          line = subst IsLine (sym new) (omega arith, plain ports);
           same = ap (is_begun_with size_name) new ∙ sym unsized;
           kept = λ sized. absurd (true≢false (sym sized ∙ unsized));
         }

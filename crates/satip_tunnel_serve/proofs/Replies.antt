@@ -5,14 +5,14 @@ use Rattle.satip_tunnel_serve.proofs.Forming.{closing_is, described_is, options_
 use Rattle.satip_tunnel_serve.proofs.PieceTurning.{turned_reply}
 
 is_reply : (told : Told) → IsTold told → IsReply (text_of told)
-is_reply (Options cseq session) is = options_is cseq session is.0 is.1
+is_reply (Options cseq session) is = options_is cseq session
 is_reply (Closing cause) is = closing_is cause
-is_reply (Plain cseq status) is = plain_is cseq status is.0 is.1
-is_reply (Described cseq address body) is = described_is cseq address body is.0 is.1 is.2
-is_reply (SetUp cseq id seconds ports stream) is = set_up_is cseq id seconds ports stream is.0 is.1 is.2 is.3 is.4 is.5
-is_reply (Playing cseq id address stream seq) is = playing_is cseq id address stream seq is.0 is.1 is.2 is.3 is.4
-is_reply (Unsupported cseq kept) is = unsupported_is cseq kept is.0 is.1
-is_reply (Telling cseq status body) is = telling_is cseq status body is.0 is.1
+is_reply (Plain cseq status) is = plain_is cseq status
+is_reply (Described cseq address body) is = described_is cseq address body is
+is_reply (SetUp cseq id seconds ports stream) is = set_up_is cseq id seconds ports stream
+is_reply (Playing cseq id address stream seq) is = playing_is cseq id address stream seq
+is_reply (Unsupported cseq kept) is = unsupported_is cseq kept is
+is_reply (Telling cseq status body) is = telling_is cseq status body
 
 pub replies_are_replies : RepliesAreReplies
 replies_are_replies told is = let reply = is_reply told is in (reply, turned_reply (text_of told) reply)

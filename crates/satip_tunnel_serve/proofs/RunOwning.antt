@@ -16,6 +16,7 @@ use Rattle.satip_interleave.specs.Histories.{TunnelItem, TunnelLegal}
 use Rattle.satip_jobs.specs.Passes.{IsFull}
 use Rattle.satip_tunnel_serve.specs.Owners.{CallersDrainOwn, DrainsGiven, DrainsOwn, IsConnectionOf, IsOfGiven, PartsDrainOwn, given_by}
 use Rattle.satip_turn.specs.Views.{numbers_of}
+use Rattle.satip_tunnel_serve.specs.Splits.{WiresSplitOneWay}
 use Rattle.satip_tunnel_serve.specs.Wires.{RunsDrainOwn, WiresHaveLanes}
 use Rattle.satip_world.specs.declared.doors.DoorKind.{DoorKind}
 use Rattle.satip_world.specs.declared.doors.DoorKind.TheVariants.{Rtsp, Http}
@@ -128,15 +129,17 @@ jobs_drain_own parts law conn_tells c accepts pass jobs run =
 
 -- the frames of a worker's connections, each with the entries before it
 
-module _ (law : RunsDrainOwn) (parts_law : PartsDrainOwn) (wires : WiresHaveLanes) (tells full : Type 0) (c : Setting) (h : List TunnelItem) (numbers : List ℕ)
+module _ (law : RunsDrainOwn) (parts_law : PartsDrainOwn) (wires : WiresHaveLanes) (splits : WiresSplitOneWay) (tells full : Type 0) (c : Setting) (h : List TunnelItem) (numbers : List ℕ)
     (legal : TunnelLegal c h) (callers : CallersDrainOwn numbers h) (caller : ℕ) (drawn : ℕ → Draw) where
   conn_sends : (kind : DoorKind) (from to : ℕ) (r : Return) (before own : List TunnelItem)
       → IsConnectionOf h before own caller
       → MatchKind kind (RtspServed tells full drawn from to fresh_line r own) (HttpServed tells drawn from to fresh_line r own)
       → MatchKind kind (SendsFrames h before own caller) (Unit {0})
   conn_sends Rtsp from to r before own part served = λ x given.
-      wires c h before own numbers caller x served.draws served.received served.sent served.tunnel_end legal callers part
-      (run_also full (Unit {0}) (λ is. tt) served.draws served.received served.sent served.tunnel_end own served.run) given
+      let run = run_also full (Unit {0}) (λ is. tt) served.draws served.received served.sent served.tunnel_end own served.run in (
+        wires c h before own numbers caller x served.draws served.received served.sent served.tunnel_end legal callers part run given,
+        splits c h before own numbers caller x served.draws served.received served.sent served.tunnel_end legal callers part run given,
+      )
   conn_sends Http from to r before own part served = tt
 
   each_sends : (from to : ℕ) (before : List TunnelItem) (rs : List Return) (entries : List TunnelItem)
@@ -158,29 +161,30 @@ module _ (law : RunsDrainOwn) (parts_law : PartsDrainOwn) (wires : WiresHaveLane
             (drains_both before served.own [] before_own own),
       )
 
-workers_sent : RunsDrainOwn → PartsDrainOwn → WiresHaveLanes → (tells : Type 0) (c : Setting) (h : List TunnelItem) (numbers : List ℕ)
+workers_sent : RunsDrainOwn → PartsDrainOwn → WiresHaveLanes → WiresSplitOneWay → (tells : Type 0) (c : Setting) (h : List TunnelItem) (numbers : List ℕ)
     → TunnelLegal c h → CallersDrainOwn numbers h → (accepts from : ℕ) (workers : List WorkerView) (rows : List TunnelRow)
     → Each (λ r. own_of r.number h ≡ r.own) rows → Along (TunnelWorkerDone tells (IsFull h) accepts) from workers rows
     → Along (TunnelWorkerSent tells h accepts) from workers rows
-workers_sent law parts wires tells c h numbers legal callers accepts from [] [] own along = tt
-workers_sent law parts wires tells c h numbers legal callers accepts from [] (r ∷ rs) own along = absurd along
-workers_sent law parts wires tells c h numbers legal callers accepts from (w ∷ ws) [] own along = absurd along
-workers_sent law parts wires tells c h numbers legal callers accepts from (w ∷ ws) (r ∷ rs) own along =
+workers_sent law parts wires splits tells c h numbers legal callers accepts from [] [] own along = tt
+workers_sent law parts wires splits tells c h numbers legal callers accepts from [] (r ∷ rs) own along = absurd along
+workers_sent law parts wires splits tells c h numbers legal callers accepts from (w ∷ ws) [] own along = absurd along
+workers_sent law parts wires splits tells c h numbers legal callers accepts from (w ∷ ws) (r ∷ rs) own along =
     let done = along.0 in (
       record {
         done = done;
-        frames = each_sends law parts wires tells (IsFull h) c h numbers legal callers r.number (draw_at w.key from) 0 done.draws [] done.connections r.own
+        frames = each_sends law parts wires splits tells (IsFull h) c h numbers legal callers r.number (draw_at w.key from) 0 done.draws [] done.connections r.own
             done.served own.0 tt;
       },
-      workers_sent law parts wires tells c h numbers legal callers accepts (from + 1) ws rs own.1 along.1,
+      workers_sent law parts wires splits tells c h numbers legal callers accepts (from + 1) ws rs own.1 along.1,
     )
 
-pub connections_have_lanes : PartsDrainOwn → RunsDrainOwn → (conn_tells : Type 0) → JobsDrainOwn conn_tells → WiresHaveLanes → ConnectionsHaveLanes conn_tells
-connections_have_lanes parts law conn_tells owns wires c accepts pass jobs run =
+pub connections_have_lanes : PartsDrainOwn → RunsDrainOwn → (conn_tells : Type 0) → JobsDrainOwn conn_tells → WiresHaveLanes → WiresSplitOneWay
+    → ConnectionsHaveLanes conn_tells
+connections_have_lanes parts law conn_tells owns wires splits c accepts pass jobs run =
     let Own : TunnelRow → Type 0 = λ r. own_of r.number pass.seen ≡ r.own in
     let all : Each Own ((run.of_workers ++ run.of_pumps) ++ run.of_ticker ∷ []) =
     subst (λ (rs : List TunnelRow). Each Own rs) run.callers run.entries in
     let own : Each Own run.of_workers =
     Each-append_left Own run.of_workers run.of_pumps (Each-append_left Own (run.of_workers ++ run.of_pumps) (run.of_ticker ∷ []) all) in
-    workers_sent law parts wires conn_tells c pass.seen (0 ∷ numbers_of pass.kept) run.lawful (owns c accepts pass jobs run) accepts 1 jobs.workers
+    workers_sent law parts wires splits conn_tells c pass.seen (0 ∷ numbers_of pass.kept) run.lawful (owns c accepts pass jobs run) accepts 1 jobs.workers
     run.of_workers own run.worked

@@ -14,6 +14,7 @@ pub mod Pieces
 pub mod Replies
 pub mod Wires
 pub mod Splits
+pub mod Answered
 pub mod Outlets
 pub mod Sent
 pub mod Runs

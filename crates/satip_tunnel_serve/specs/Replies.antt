@@ -1,5 +1,5 @@
 -- The replies of an RTSP server, and the values in them.
-use Rattle.std.specs.Prelude.{◌≡◌, ℕ, ◌<◌, ◌^◌, true, List, ◌++◌, length, Option, None, Some}
+use Rattle.std.specs.Prelude.{◌≡◌, ℕ, ◌<◌, ◌^◌, true, List, ◌++◌, length, Option}
 use Rattle.std.specs.List.{list_all}
 use Rattle.satip_base.specs.declared.identity.SessionId.{SessionId}
 use Rattle.satip_base.specs.declared.network.Ports.{Ports}
@@ -31,31 +31,11 @@ text_of (Playing cseq id address stream seq) = play_reply cseq id address stream
 text_of (Unsupported cseq kept) = unsupported_reply cseq kept
 text_of (Telling cseq status body) = text_reply cseq status body
 
--- numbers of 64 bits, and ids of two numbers of 32 bits
-abbrev pub IsNumber : ℕ → Type 0
-IsNumber n = n < 2 ^ 64
-
-abbrev pub IsNumbered : Option ℕ → Type 0
-IsNumbered None = Unit {0}
-IsNumbered (Some n) = IsNumber n
-
-abbrev pub IsId : SessionId → Type 0
-IsId id = (id.count < 2 ^ 32) × (id.word < 2 ^ 32)
-
-abbrev pub IsNamed : Option SessionId → Type 0
-IsNamed None = Unit {0}
-IsNamed (Some id) = IsId id
-
--- each value is in its type's range, and a client's `Require` text has no CR and no LF
+-- the length of a description has 64 bits, and a client's `Require` text has no CR and no LF
 abbrev pub IsTold : Told → Type 0
-IsTold (Options cseq session) = IsNumbered cseq × IsNamed session
-IsTold (Closing cause) = Unit {0}
-IsTold (Plain cseq status) = IsNumbered cseq × IsNumber status
-IsTold (Described cseq address body) = IsNumbered cseq × (address < 2 ^ 32) × IsNumber (length body)
-IsTold (SetUp cseq id seconds ports stream) = IsNumbered cseq × IsId id × IsNumber seconds × IsNumber ports.rtp × IsNumber ports.rtcp × IsNumber stream
-IsTold (Playing cseq id address stream seq) = IsNumbered cseq × IsId id × (address < 2 ^ 32) × IsNumber stream × IsNumber seq
-IsTold (Unsupported cseq kept) = IsNumbered cseq × (list_all is_plain kept ≡ true)
-IsTold (Telling cseq status body) = IsNumbered cseq × IsNumber status
+IsTold (Described cseq address body) = length body < 2 ^ 64
+IsTold (Unsupported cseq kept) = list_all is_plain kept ≡ true
+IsTold told = Unit {0}
 
 -- each reply has the form of a reply, and so has the reply rewritten to channels
 abbrev pub RepliesAreReplies : Type 0

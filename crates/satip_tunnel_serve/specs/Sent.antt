@@ -12,15 +12,17 @@ use Rattle.satip_tunnel.specs.ConnRun.{MatchKind}
 use Rattle.satip_tunnel.specs.WorkerRun.{ServesAll}
 use Rattle.satip_tunnel_serve.specs.Done.{TunnelRow, TunnelWorkerDone}
 use Rattle.satip_tunnel_serve.specs.LaneFrames.{lane}
+use Rattle.satip_tunnel_serve.specs.Splits.{WireSplits}
 use Rattle.satip_tunnel_serve.specs.Wires.{IsGivenAtFirst, WireHasLane}
 use Rattle.satip_tunnel_serve.specs.Channels.{CarryPayload, OwnsChannels}
 use Rattle.satip_worker.specs.Drawing.{draw_at}
 use Rattle.satip_world.specs.Halls.{Return}
 
 -- a connection of a caller has these entries, after those of the caller's earlier connections. If it was given a lane, its wire is rewritten replies and a
--- prefix of the lane's frames, each of them whole. If the last drain was answered that no frame waits, they are all frames that the lane had before that drain
+-- prefix of the lane's frames, each of them whole. If the last drain was answered that no frame waits, they are all frames that the lane had before that drain.
+-- The bytes of the wire split into replies and frames in this way and in no other
 abbrev pub SendsFrames : (h before own : List TunnelItem) (caller : ℕ) → Type 0
-SendsFrames h before own caller = (x : ℕ) → IsGivenAtFirst x own → WireHasLane h before own caller x
+SendsFrames h before own caller = (x : ℕ) → IsGivenAtFirst x own → WireHasLane h before own caller x × WireSplits h before own caller x
 
 -- the entries of each of the connections that were served one after another
 abbrev pub owns_of : (tells full : Type 0) (drawn : ℕ → Draw) (from to : ℕ) (rs : List Return) (entries : List TunnelItem)

@@ -11,7 +11,7 @@ use Rattle.satip_tunnel_serve.specs.Owners.{AreAllBefore, CallersDrainOwn, IsCon
 use Rattle.satip_tunnel.specs.declared.ends.TunnelEnd.{TunnelEnd}
 use Rattle.satip_tunnel.specs.TunnelRun.{TunnelRun}
 use Rattle.satip_tunnel.specs.Wire.{wire}
-use Rattle.satip_tunnel_serve.specs.Wires.{IsGivenAtFirst, Piece, Reply, Framed, pieces}
+use Rattle.satip_tunnel_serve.specs.Wires.{IsGivenAtFirst, Piece, Reply, Framed}
 
 -- the replies among pieces have the form of replies
 abbrev pub AreReplies : List Piece → Type 0
@@ -33,11 +33,10 @@ pub record WireSplits (h before entries : List TunnelItem) (caller x : ℕ) : Ty
   pub first : Begins (filter is_framed parts) (lane h x)
   pub all : (part : List TunnelItem) → (ends : EndsEmpty entries part x) → AreAllBefore h (before ++ part) ends.last caller x (filter is_framed parts)
 
--- the same for each run of a connection that was given a lane, if callers drain only lanes that they were given and the connection's replies have the form of
--- replies
+-- the same for each run of a connection that was given a lane, if callers drain only lanes that they were given
 abbrev pub WiresSplitOneWay : Type 0
 WiresSplitOneWay =
     (c : Setting) (h before entries : List TunnelItem) (numbers : List ℕ) (caller x : ℕ)
     (draws : List Draw) (received sent : List ℕ) (end : TunnelEnd)
     → TunnelLegal c h → CallersDrainOwn numbers h → IsConnectionOf h before entries caller → TunnelRun draws received sent (Unit {0}) end entries
-    → IsGivenAtFirst x entries → AreReplies (pieces entries) → WireSplits h before entries caller x
+    → IsGivenAtFirst x entries → WireSplits h before entries caller x

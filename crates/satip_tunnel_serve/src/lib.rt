@@ -25,6 +25,8 @@ mod lane_examples;
 mod lane_laws;
 mod piece_examples;
 mod piece_laws;
+mod reply_examples;
+mod reply_laws;
 mod run;
 mod run_laws;
 mod seat;
@@ -49,6 +51,8 @@ pub use lane_laws::{
 };
 pub use piece_examples::worked_rows as worked_pieces;
 pub use piece_laws::{parts_law, replies_are_replies};
+pub use reply_examples::worked_rows as worked_requests;
+pub use reply_laws::{histories_reply, requests_are_plain, runs_reply};
 pub use run::run_in_tunnel;
 pub use run_laws::{connections_have_lanes, jobs_drain_own};
 pub use wire_examples::worked_rows as worked_wires;

@@ -12,7 +12,8 @@ pub fn parts_law()
 {}
 
 /// Proves that each reply of the server has the form of a reply, as it is and rewritten to
-/// channels. The client's `Require` text must have no CR and no LF.
+/// channels. A description must be shorter than 2^64 bytes, and the client's `Require` text must
+/// have no CR and no LF.
 pub fn replies_are_replies()
     ensures law { RepliesAreReplies }
 {}

@@ -3,7 +3,7 @@
 ghost use Rattle.satip_tunnel_serve.specs.Runs.{ConnectionsHaveLanes, JobsDrainOwn};
 
 use crate::lane_laws::connections_drain_own;
-use crate::wire_laws::{runs_drain_own, wires_have_lanes};
+use crate::wire_laws::{runs_drain_own, wires_have_lanes, wires_split_one_way};
 use satip_world::Doors;
 
 /// Proves that each caller of a run drains and gives up only lanes that it was given.
@@ -16,7 +16,8 @@ pub fn jobs_drain_own<D: Doors>()
 
 /// Proves that in a run the frames on the wire of each connection are a prefix of its lane's, each
 /// of them whole. They are all that the lane had before the last drain, if that was answered that no
-/// frame waits. All else on the wire is rewritten replies.
+/// frame waits. All else on the wire is rewritten replies. The wire splits into replies and frames
+/// in one way.
 pub fn connections_have_lanes<D: Doors>()
     ensures law { ConnectionsHaveLanes D.Conn.tells }
 {
@@ -24,4 +25,5 @@ pub fn connections_have_lanes<D: Doors>()
     runs_drain_own();
     jobs_drain_own::<D>();
     wires_have_lanes();
+    wires_split_one_way();
 }

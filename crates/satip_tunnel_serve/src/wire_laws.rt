@@ -6,6 +6,7 @@ ghost use Rattle.satip_tunnel_serve.specs.Wires.{RunsDrainOwn, WiresHaveLanes};
 
 use crate::lane_laws::{connections_drain_own, connections_take_first};
 use crate::piece_laws::parts_law;
+use crate::reply_laws::runs_reply;
 
 /// Proves that the run of a connection drains and gives up only the lane that it was given.
 pub fn runs_drain_own()
@@ -25,10 +26,11 @@ pub fn wires_have_lanes()
 }
 
 /// Proves that the wire splits into replies and frames in one way, and that the frames are a prefix
-/// of the lane's, if the connection's replies have the form of replies.
+/// of the lane's.
 pub fn wires_split_one_way()
     ensures law { WiresSplitOneWay }
 {
     parts_law();
     wires_have_lanes();
+    runs_reply();
 }
