@@ -89,7 +89,7 @@ enter_inner t is = ap (λ (e : TunnelEvent). inner_by t.caller e t.answer t.out)
 -- a connection that was given a lane
 module _ (tells : Type 0) (course : Course) (o q n : Seat) (m : Line) (c : ChaCha) (answer : TunnelAnswer) (before after : TunnelEnd) (p r : ℕ) where
   pub lane_pauses : MadeOne o course.seat Enter answer → Talked tells course (talk_at q m c) before → Finishes course.lane q n before after → RoseBy course.idles p r
-      → PausesIdle o.pass.own n.pass.own p r
+      → PausesIdle tells o.pass.own n.pass.own course.line m p r
   lane_pauses one talked finishes rose =
       let t : TunnelItem = one.item in
       let body : List TunnelItem = talked.first.body in
@@ -107,16 +107,44 @@ module _ (tells : Type 0) (course : Course) (o q n : Seat) (m : Line) (c : ChaCh
             ∙ ap (λ (h : List TunnelItem). h ++ end.last) (talked.first.so_far.grows.own ∙ ap (λ (h : List TunnelItem). h ++ body) one.grows.own)
             ∙ append_assoc (o.pass.own ++ t ∷ []) body end.last
             ∙ append_assoc o.pass.own (t ∷ []) (body ++ end.last);
+        received = talked.received;
+        content = talked.first.so_far.carries.content.received;
+        pieces = course.pieces;
+        few = talked.first.so_far.few;
         idles = course.idles;
         dry = omega (arith, first, dry, none_dry, sum, dry-append body end.last);
+        quiet = talked.first.so_far.quiet;
         pauses = rose;
       }
 
 -- one that was given none
-pub turned_away_pauses : (o n : Seat) (answer : TunnelAnswer) (p : ℕ) → MadeOne o n Enter answer → PausesIdle o.pass.own n.pass.own p p
-turned_away_pauses o n answer p one =
-    let first = enter_dry one.item one.event_is in
-    record { entries = one.item ∷ []; made = one.grows.own; idles = 0; dry = omega (arith, first); pauses = rose_none p }
+module _ (tells : Type 0) (o n : Seat) (l : Line) (p : ℕ) where
+  pub turned_away_pauses : (answer : TunnelAnswer) → MadeOne o n Enter answer → PausesIdle tells o.pass.own n.pass.own l l p p
+  turned_away_pauses answer one =
+      let first = enter_dry one.item one.event_is in
+      record {
+        entries = one.item ∷ [];
+        made = one.grows.own;
+        received = [];
+        content = λ _. sym (append-nil l.received);
+        pieces = 0;
+        few = omega arith;
+        idles = 0;
+        dry = omega (arith, first);
+        quiet = rose_none l.idles;
+        pauses = rose_none p;
+      }
 
-pub unentered_pauses : (o n : Seat) (p : ℕ) → UnmadeEvent o n → PausesIdle o.pass.own n.pass.own p p
-unentered_pauses o n p unmade = record { entries = []; made = unmade.grows.own; idles = 0; dry = omega arith; pauses = rose_none p }
+  pub unentered_pauses : UnmadeEvent o n → PausesIdle tells o.pass.own n.pass.own l l p p
+  unentered_pauses unmade = record {
+    entries = [];
+    made = unmade.grows.own;
+    received = [];
+    content = λ _. sym (append-nil l.received);
+    pieces = 0;
+    few = omega arith;
+    idles = 0;
+    dry = omega arith;
+    quiet = rose_none l.idles;
+    pauses = rose_none p;
+  }

@@ -12,6 +12,7 @@ use Rattle.satip_rtsp_interleaved.specs.Held.{Held, IsReadUpTo}
 use Rattle.satip_rtsp.specs.declared.requests.Request.{Request}
 use Rattle.satip_rtsp.specs.Asked.{broken_request}
 use Rattle.satip_interleave.specs.Histories.{TunnelItem, inners}
+use Rattle.satip_pump.specs.PumpRuns.{RoseBy}
 use Rattle.satip_world.specs.Counts.{Rises}
 use Rattle.satip_world.specs.Lines.{Line}
 use Rattle.satip_worker.specs.Answers.{ends_with_last}
@@ -27,12 +28,14 @@ use Rattle.satip_tunnel.specs.Wire.{wire}
 use Rattle.satip_tunnel.specs.Requests.{AsksInParts, TakesDraws, asked_events, drawn_events}
 use Rattle.satip_tunnel.specs.Seats.{ConnState, Seat, Grows, SeesFull, conn_at}
 
--- the start of a connection after its Enter: its lane, and the states of the draws, the caller and the connection; and the number of pauses since
+-- the start of a connection after its Enter: its lane, and the states of the draws, the caller and the connection. And since then: the number of pieces that
+-- completed no message and were drained after, and the number of pauses
 pub record Course : Type 0 where
   pub lane : ℕ
   pub draws : ChaCha
   pub seat : Seat
   pub line : Line
+  pub pieces : ℕ
   pub idles : ℕ
 
 -- a connection: its caller and its line, and the state of the draws
@@ -43,12 +46,14 @@ pub record TalkState : Type 0 where
 abbrev pub talk_at : Seat → Line → ChaCha → TalkState
 talk_at seat line draws = record { conn = conn_at seat line; draws = draws }
 
--- since the start these entries were made, with these draws, and these bytes received and sent. Drains that found no frame followed a request or were followed
--- by a pause
+-- since the start these entries were made, with these draws, and these bytes received and sent. Drains that found no frame followed a request or a piece that
+-- completed no message, or a receive that found nothing, and then a pause followed them
 pub record SoFar (tells : Type 0) (course : Course) (n : TalkState) (received sent : List ℕ)
     (stance : Stance) (body : List TunnelItem) (draws : List Draw) : Type 0 where
   pub walk : Walk course.lane Free body stance
-  pub dry : dry_in body ≤ length (inners body) + course.idles
+  pub dry : dry_in body ≤ length (inners body) + (course.pieces + course.idles)
+  pub few : course.pieces ≤ length received
+  pub quiet : RoseBy course.idles course.line.idles n.conn.line.idles
   pub grows : Grows course.seat n.conn.seat body
   pub takes : TakesDraws course.draws draws n.draws
   pub carries : Carries tells course.line n.conn.line received sent
@@ -118,6 +123,12 @@ Hears tells course n received text parter Closed = HasClosed tells course n rece
 Hears tells course n received text parter Broken = MadeFirst tells course n received text end_broken
 Hears tells course n received text parter Lost = HasLost tells course n received text
 Hears tells course n received text parter Spent = HasStopped tells course n received text
+
+-- the outcome of hearing a piece: the lane was drained after it at most once, but for the drains after requests
+pub record HearsPiece (tells : Type 0) (course : Course) (n : TalkState) (received text : List ℕ) (parter : Held) (heard : Heard) : Type 0 where
+  pub pieces : ℕ
+  pub once : pieces ≤ course.pieces + 1
+  pub hears : Hears tells (record course { pieces = pieces }) n received text parter heard
 
 -- the history is full, if the connection ends by a full history
 abbrev pub IsFullAt : TunnelEnd → (seen : ℕ) → Type 0

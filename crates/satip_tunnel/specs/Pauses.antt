@@ -6,6 +6,7 @@ use Rattle.satip_interleave.specs.declared.events.TunnelAnswer.{TunnelAnswer}
 use Rattle.satip_interleave.specs.declared.events.TunnelAnswer.TheVariants.{Empty, Gone}
 use Rattle.satip_interleave.specs.Histories.{TunnelItem, inners}
 use Rattle.satip_pump.specs.PumpRuns.{RoseBy}
+use Rattle.satip_world.specs.Lines.{Line}
 use Rattle.satip_tunnel.specs.Walk.{Stance, Free, Draining, Over}
 
 -- 1 for a drain that found no frame
@@ -25,10 +26,16 @@ dry_at Free = 1
 dry_at Draining = 0
 dry_at Over = 0
 
--- a connection paused once for each drain that found no frame, except for one drain after each request
-pub record PausesIdle (own own' : List TunnelItem) (before after : ℕ) : Type 0 where
+-- the drains of a connection that found no frame: at most one after each request, one after each of some pieces that completed no message, and one at each of
+-- some receives that found nothing, with a pause after it. Each piece has at least one of the bytes received
+pub record PausesIdle (tells : Type 0) (own own' : List TunnelItem) (l m : Line) (before after : ℕ) : Type 0 where
   pub entries : List TunnelItem
   pub made : own' ≡ own ++ entries
+  pub received : List ℕ
+  pub content : tells → m.received ≡ l.received ++ received
+  pub pieces : ℕ
+  pub few : pieces ≤ length received
   pub idles : ℕ
-  pub dry : dry_in entries ≤ length (inners entries) + idles
+  pub dry : dry_in entries ≤ length (inners entries) + pieces + idles
+  pub quiet : RoseBy idles l.idles m.idles
   pub pauses : RoseBy idles before after

@@ -19,7 +19,7 @@ ghost use Rattle.satip_tunnel.specs.Served.{ServesTunnel};
 use crate::ends::{Entered, Heard, TunnelEnd, Way};
 use crate::events::{enter, leave};
 use crate::exchanges::drain_all;
-use crate::hearing::hear;
+use crate::hearing::hear_piece;
 use satip_base::limits::{LONGEST_HISTORY, PIECE};
 use satip_base::{Out, Spent};
 use satip_interleave::{TunnelCaller, TunnelRoom};
@@ -27,7 +27,8 @@ use satip_worker::Draws;
 use satip_world::{Conn, Pacer, Received};
 use std::sync::Wait;
 
-// Answers the messages that come in, and drains the lane while none does, up to an end.
+// Answers the messages that come in, and drains the lane while none does, up to an end. Pauses
+// only while nothing comes in.
 fn talk<R: Wait + Sync, C: Conn, P: Pacer>(
     caller: &mut TunnelCaller<R>,
     lane: u32,
@@ -37,12 +38,14 @@ fn talk<R: Wait + Sync, C: Conn, P: Pacer>(
     room: &mut TunnelRoom,
 ) -> TunnelEnd
     requires new { room.old.parter ≡ new_parter }
-    ensures talked { (idles : ℕ) × RoseBy idles (P.pauses pacer.old) (P.pauses pacer.new)
+    ensures talked { (pieces : ℕ) × (idles : ℕ)
+        × RoseBy idles (P.pauses pacer.old) (P.pauses pacer.new)
         × Talked C.tells (record {
           lane = lane;
           draws = draws.old;
           seat = seated caller.old.server.now caller.old.pass;
           line = C.line conn.old;
+          pieces = pieces;
           idles = idles;
         }) (talk_at (seated caller.new.server.now caller.new.pass) (C.line conn.new) draws.new)
         result }
@@ -52,7 +55,7 @@ fn talk<R: Wait + Sync, C: Conn, P: Pacer>(
     for _ in rt.forever() {
         match conn.receive(&mut buf) {
             Received::Got(count) => {
-                match hear(caller, lane, draws, &buf[..count], room, conn) {
+                match hear_piece(caller, lane, draws, &buf[..count], room, conn) {
                     Heard::All => {}
                     Heard::Closed => return TunnelEnd::Done,
                     Heard::Broken => return TunnelEnd::Broken,
@@ -128,9 +131,10 @@ fn finish<R: Wait + Sync>(
 /// Serves one RTSP connection of a tunnel (RFC 2326, sections 10 and 10.12). The connection enters;
 /// without a lane it ends. Its messages are answered in order, with the lane as their peer, and
 /// each takes one draw. Each reply is sent with its transport rewritten to channels. After each
-/// reply, and while nothing comes in, sends the frames of the lane until none waits; then it
-/// pauses. Ends when the input ends, a closing reply was sent, a receive or a send fails, the lane
-/// is broken, or the history is full. At last the connection leaves its lane. Blocks.
+/// reply, after each piece that completes no message, and while nothing comes in, sends the frames
+/// of the lane until none waits. While nothing comes in it then pauses. Ends when the input ends, a
+/// closing reply was sent, a receive or a send fails, the lane is broken, or the history is full.
+/// At last the connection leaves its lane. Blocks.
 pub fn serve_tunnel<R: Wait + Sync, C: Conn, P: Pacer>(
     caller: &mut TunnelCaller<R>,
     conn: &mut C,
@@ -149,9 +153,10 @@ pub fn serve_tunnel<R: Wait + Sync, C: Conn, P: Pacer>(
         (seated caller.new.server.now caller.new.pass)
         (C.line conn.old) (C.line conn.new) result }
 
-    // The pauses: one for each drain that found no frame, except after a request.
-    ensures pauses { PausesIdle caller.old.pass.own caller.new.pass.own (P.pauses pacer.old)
-        (P.pauses pacer.new) }
+    // The pauses: one for each drain that found no frame, except after a request, and after a piece
+    // that completed no message.
+    ensures pauses { PausesIdle C.tells caller.old.pass.own caller.new.pass.own
+        (C.line conn.old) (C.line conn.new) (P.pauses pacer.old) (P.pauses pacer.new) }
 
     // The cause of `Full` and of `Broken`.
     ensures full { (result ≡ TunnelEnd.Full)
@@ -190,8 +195,8 @@ fn serve<R: Wait + Sync, C: Conn, P: Pacer>(
         (seated caller.old.server.now caller.old.pass)
         (seated caller.new.server.now caller.new.pass)
         (C.line conn.old) (C.line conn.new) result }
-    ensures pauses { PausesIdle caller.old.pass.own caller.new.pass.own (P.pauses pacer.old)
-        (P.pauses pacer.new) }
+    ensures pauses { PausesIdle C.tells caller.old.pass.own caller.new.pass.own
+        (C.line conn.old) (C.line conn.new) (P.pauses pacer.old) (P.pauses pacer.new) }
 {
     match enter(caller, &mut room.out) {
         Entered::Lane(lane) => {

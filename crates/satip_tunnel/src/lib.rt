@@ -4,7 +4,8 @@
 //! or a prefix of that. It pauses after each drain that found no frame while nothing came in. The
 //! silent outlet sends no datagram.
 //! Only tested: that memory for a connection's room is given; that the lane is drained at every
-//! receive that finds nothing, with one pause each.
+//! receive that finds nothing, with one pause each, and at every one that completes no message,
+//! with none.
 #![tactic(auto)]
 
 mod connection;

@@ -75,6 +75,7 @@ const ROWS: &[Row<'static>] = &[
     },
     Row {
         pieces: &[b"OPTIONS * RTSP"],
+        entries: 3,
         ..DONE
     },
     Row {
@@ -132,7 +133,8 @@ fn is_met<R: Wait + Sync>(
     Ok(seen == (row.end, row.entries) && conn.sent() == row.sent)
 }
 
-// The text of the report and the OPTIONS, cut at every byte.
+// The text of the report and the OPTIONS, cut at every byte. The lane is drained after the first
+// piece, and after the reply.
 fn serve_cut<R: Wait + Sync + Abort>(
     rt: &R,
     alloc: Global,
@@ -145,7 +147,7 @@ fn serve_cut<R: Wait + Sync + Abort>(
         let row = Row {
             pieces: &pieces,
             sent: OPTIONS_REPLY,
-            entries: 4,
+            entries: 5,
             ..DONE
         };
         assert!(rt; is_met(alloc, caller, room, &row)?, "cut at {cut}");

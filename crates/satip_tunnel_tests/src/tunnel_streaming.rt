@@ -1,5 +1,5 @@
 //! A stream that goes down its connection as interleaved frames (RFC 2326, section 10.12) where
-//! nothing comes in.
+//! nothing comes in, or a piece that completes no message.
 ghost use Rattle.satip_interleave.specs.Histories.{TunnelLegal};
 ghost use Rattle.satip_turn.specs.Shown.{IsOf, Knows};
 
@@ -39,6 +39,12 @@ const REPORT: &[u8] =
     \xa0\x00\x00\x00\x01\x00\x00\x04\x68\x81\xca\x00\x05\x90\x3d\xf1\xa0\x01\x0c192.168.1.10\x00\
     \x00\x80\xcc\x00\x18\x90\x3d\xf1\xa0SES1\x00\x00\x00\x52ver=1.0;\
     src=1;tuner=1,240,1,15,11361.75,h,dvbs2,8psk,on,0.35,22000,23;pids=0,16,17\x00\x00";
+
+/// A prefix of a request.
+const HALF: &[u8] = b"OPTIONS * RTSP";
+
+/// A frame of a client: a receiver report without blocks on channel 1 (RFC 3550, section 6.4.2).
+const RECEIVER_REPORT: &[u8] = b"$\x01\x00\x08\x80\xc9\x00\x01\x00\x00\x00\x0a";
 
 /// A connection: the pieces that it receives, and which of its sends fail. Before the receive of
 /// this number these packets come, and a tick behind them if there is one.
@@ -249,6 +255,30 @@ fn each_receive_that_finds_nothing_drains(rt: HostRuntime) -> Result<(), Fail> {
     assert_eq!(rt; seen.entries, 17);
     assert_eq!(rt; seen.pauses, 2);
     Ok(())
+}
+
+// Serves a connection whose third piece, before which the frames come, is this one: the frames are
+// sent before a receive finds nothing.
+fn drains_after(rt: &HostRuntime, piece: &[u8]) -> Result<(), Fail> {
+    let alloc = rt.alloc();
+    let bytes = wanted(alloc)?;
+    let (server, pass) = shared(alloc)?;
+    let row = Row {
+        pieces: &[SETUP_INTERLEAVED, PLAY, piece],
+        ..STREAM
+    };
+    let seen = stream(rt, alloc, &server, pass, &row)?;
+    assert_eq!(rt; seen.end, TunnelEnd::Done);
+    assert_eq!(rt; seen.sent.as_slice(), bytes.as_slice());
+    assert_eq!(rt; seen.entries, 16);
+    assert_eq!(rt; seen.pauses, 0);
+    Ok(())
+}
+
+#[test]
+fn each_piece_without_a_message_drains(rt: HostRuntime) -> Result<(), Fail> {
+    drains_after(&rt, HALF)?;
+    drains_after(&rt, RECEIVER_REPORT)
 }
 
 #[test]

@@ -7,18 +7,18 @@ returns-in-Lane g c =
     let talked = c.talk-end.ensures.talked in
     record {
       serves = entered _ _ _ _ _ _ _ _ c.in-Lane.lane _ c.in-Lane.ensures.enters
-          (lane_served _ _ _ _ _ _ _ _ talked.2 c.finish.ensures.finishes);
-      pauses = lane_pauses _ _ _ _ _ _ _ _ _ _ _ _ c.in-Lane.ensures.enters talked.2 c.finish.ensures.finishes talked.1;
+          (lane_served _ _ _ _ _ _ _ _ talked.3 c.finish.ensures.finishes);
+      pauses = lane_pauses _ _ _ _ _ _ _ _ _ _ _ _ c.in-Lane.ensures.enters talked.3 c.finish.ensures.finishes talked.2;
     }
 
 pub returns-in-Full : goal.returns-in-Full
 returns-in-Full g c = record {
   serves = turned_away _ _ _ _ _ c.in-Full.ensures.enters;
-  pauses = turned_away_pauses _ _ _ _ c.in-Full.ensures.enters;
+  pauses = turned_away_pauses _ _ _ _ _ _ c.in-Full.ensures.enters;
 }
 
 pub returns-in-Spent : goal.returns-in-Spent
 returns-in-Spent g c = record {
   serves = not_entered _ _ _ _ _ c.in-Spent.ensures.enters;
-  pauses = unentered_pauses _ _ _ c.in-Spent.ensures.enters;
+  pauses = unentered_pauses _ _ _ _ _ c.in-Spent.ensures.enters;
 }

@@ -8,11 +8,12 @@ use Rattle.satip_tunnel.proofs.connection.talk.Given as goal
 -- all that came in was answered
 abbrev pub invariant-loop : goal.invariant-loop
 invariant-loop g l =
-    ((idles : ℕ) × RoseBy idles (g.P.Pacer.pauses l.initial.pacer) (g.P.Pacer.pauses l.pacer) × (text : List ℕ) × Listens g.C.Conn.tells (record {
+    ((pieces : ℕ) × (idles : ℕ) × RoseBy idles (g.P.Pacer.pauses l.initial.pacer) (g.P.Pacer.pauses l.pacer) × (text : List ℕ) × Listens g.C.Conn.tells (record {
       lane = l.lane;
       draws = l.initial.draws;
       seat = seated l.initial.caller.server.now l.initial.caller.pass;
       line = g.C.Conn.line l.initial.conn;
+      pieces = pieces;
       idles = idles;
     })
     (talk_at (seated l.caller.server.now l.caller.pass) (g.C.Conn.line l.conn) l.draws) text text l.room.parter)
