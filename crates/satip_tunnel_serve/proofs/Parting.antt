@@ -13,7 +13,7 @@ use Rattle.satip_interleave.specs.Histories.{TunnelItem}
 use Rattle.satip_tunnel_serve.specs.LaneFrames.{lane}
 use Rattle.satip_tunnel.specs.Wire.{wire}
 use Rattle.satip_tunnel_serve.specs.Wires.{Framed, Piece, Reply, WireHasLane, WiresHaveLanes, bytes_of, frames_of, pieces, pieces_by}
-use Rattle.satip_tunnel_serve.specs.Answered.{RunsReply}
+use Rattle.satip_tunnel_serve.specs.RunReplies.{RunsReply}
 use Rattle.satip_tunnel_serve.specs.Splits.{AreReplies, WiresSplitOneWay, is_framed}
 use Rattle.satip_tunnel_serve.proofs.Framing.{AreFrames, DrainGives, all_give, lane_are, own_each}
 

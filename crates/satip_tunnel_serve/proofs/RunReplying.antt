@@ -17,7 +17,8 @@ use Rattle.satip_rtsp_interleaved.specs.Turned.{turned}
 use Rattle.satip_tunnel.specs.declared.ends.TunnelEnd.{TunnelEnd}
 use Rattle.satip_tunnel.specs.TunnelRun.{EnteredRun, LaneRun, TunnelRun}
 use Rattle.satip_tunnel.specs.Walk.{Follows, FollowsAsked, IsReplied, Stance, Walk}
-use Rattle.satip_tunnel_serve.specs.Answered.{HasReply, HistoriesReply, RunsReply}
+use Rattle.satip_tunnel_serve.specs.Answered.{HasReply, HistoriesReply}
+use Rattle.satip_tunnel_serve.specs.RunReplies.{RunsReply}
 use Rattle.satip_tunnel_serve.specs.Pieces.{IsReply}
 use Rattle.satip_tunnel_serve.specs.Splits.{AreReplies}
 use Rattle.satip_tunnel_serve.specs.Wires.{Piece, pieces, pieces_by}

@@ -1,32 +1,19 @@
--- The requests whose replies have the form of replies, and the laws on them.
+-- The requests whose replies have the form of replies, in every legal history.
 use Rattle.std.specs.Prelude.{◌≡◌, ℕ, true, List, Option, Some}
 use Rattle.std.specs.List.{list_all}
-use Rattle.satip_base.specs.declared.identity.Draw.{Draw}
 use Rattle.satip_base.specs.Lists.{Each}
-use Rattle.satip_interleave.specs.Histories.{TunnelItem, TunnelLegal}
 use Rattle.satip_plain.specs.declared.events.Event.{Event}
 use Rattle.satip_plain.specs.declared.events.Event.TheVariants.{Request as Asks}
 use Rattle.satip_plain.specs.declared.setting.Setting.{Setting}
 use Rattle.satip_plain.specs.Histories.{Item, Legal}
 use Rattle.satip_rtsp.specs.declared.requests.Refusal.{Refusal}
 use Rattle.satip_rtsp.specs.declared.requests.Refusal.TheVariants.{Require}
-use Rattle.satip_rtsp.specs.declared.requests.Request.{Request}
-use Rattle.satip_tunnel.specs.declared.ends.TunnelEnd.{TunnelEnd}
-use Rattle.satip_tunnel.specs.Requests.{AsksInParts}
-use Rattle.satip_tunnel.specs.TunnelRun.{TunnelRun}
-use Rattle.satip_tunnel_serve.specs.Owners.{IsConnectionOf}
 use Rattle.satip_tunnel_serve.specs.Pieces.{IsReply, is_plain}
-use Rattle.satip_tunnel_serve.specs.Splits.{AreReplies}
-use Rattle.satip_tunnel_serve.specs.Wires.{pieces}
 
 -- a `Require` text that is kept of a request has no CR and no LF
 abbrev pub KeepsPlain : Option Refusal → Type 0
 KeepsPlain (Some (Require kept)) = list_all is_plain kept ≡ true
 KeepsPlain _ = Unit {0}
-
--- the requests of a received text with frames keep no CR and no LF
-abbrev pub RequestsArePlain : Type 0
-RequestsArePlain = (text : List ℕ) (all : List Request) → AsksInParts text all → Each (λ r. KeepsPlain r.refusal) all
 
 -- the reply to a request has the form of a reply, if the request keeps no CR and no LF. Nothing is said of other events
 abbrev pub HasReply : Event → List ℕ → Type 0
@@ -36,9 +23,3 @@ HasReply _ reply = Unit {0}
 -- the same for each entry of a legal history
 abbrev pub HistoriesReply : Type 0
 HistoriesReply = (c : Setting) (h : List Item) → Legal c h → Each (λ e. HasReply e.event e.out.reply) h
-
--- the replies of each connection of a tunnel, rewritten to channels, have the form of replies
-abbrev pub RunsReply : Type 0
-RunsReply =
-    (c : Setting) (h before entries : List TunnelItem) (caller : ℕ) (draws : List Draw) (received sent : List ℕ) (end : TunnelEnd)
-    → TunnelLegal c h → IsConnectionOf h before entries caller → TunnelRun draws received sent (Unit {0}) end entries → AreReplies (pieces entries)

@@ -15,6 +15,7 @@ pub mod Replies
 pub mod Wires
 pub mod Splits
 pub mod Answered
+pub mod RunReplies
 pub mod Outlets
 pub mod Sent
 pub mod Runs

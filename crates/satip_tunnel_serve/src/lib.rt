@@ -4,6 +4,7 @@
 //! packets on a channel that one session alone was given are a prefix of that session's payload.
 #![tactic(auto)]
 
+mod answer_laws;
 mod aside;
 mod channel_laws;
 #[rattlefmt::skip]
@@ -42,6 +43,7 @@ mod wire_laws;
 mod wire_examples;
 
 pub use all_jobs::{TunnelLast, serve_through_tunnel};
+pub use answer_laws::{requests_are_plain, runs_reply};
 pub use channel_examples::worked_rows as worked_channels;
 pub use channel_laws::channels_carry_payload;
 pub use command::{Tunneled, tunnel_by};
@@ -52,7 +54,7 @@ pub use lane_laws::{
 pub use piece_examples::worked_rows as worked_pieces;
 pub use piece_laws::{parts_law, replies_are_replies};
 pub use reply_examples::worked_rows as worked_requests;
-pub use reply_laws::{histories_reply, requests_are_plain, runs_reply};
+pub use reply_laws::histories_reply;
 pub use run::run_in_tunnel;
 pub use run_laws::{connections_have_lanes, jobs_drain_own};
 pub use wire_examples::worked_rows as worked_wires;
