@@ -36,9 +36,9 @@ use Rattle.satip_tunnel.specs.TunnelRun.{EnteredRun, LaneRun, TunnelRun}
 use Rattle.satip_tunnel.specs.Walk.{Follows, Stance, Walk, lane_peer}
 use Rattle.satip_tunnel.specs.WorkerRun.{ServesAll}
 use Rattle.satip_tunnel_serve.specs.Done.{TunnelPumpDone, TunnelRow, TunnelWorkerDone}
-use Rattle.satip_tunnel_serve.specs.LaneFrames.{enters}
+use Rattle.satip_tunnel_laws.specs.LaneFrames.{enters}
 use Rattle.satip_tunnel_serve.specs.TunnelRuns.{IsTunnelStop, TunnelServeRun}
-use Rattle.satip_tunnel_serve.proofs.Owning.{among_own, same_numbers}
+use Rattle.satip_tunnel_laws.proofs.Owning.{among_own, same_numbers}
 use Rattle.satip_tunnel_serve.proofs.Parsing.{IsParsed, all_parsed}
 use Rattle.satip_turn.specs.Views.{numbers_of}
 use Rattle.satip_worker.specs.Answers.{events_of}

@@ -29,11 +29,11 @@ use Rattle.satip_plain.specs.State.{State, same_id}
 use Rattle.satip_plain.specs.Steps.{done_by, heard_by, no_ports, refuse, step}
 use Rattle.satip_plain.specs.Types.{Config, Draw, Request, SessionId}
 use Rattle.satip_rtsp.specs.Methods.{is_setup}
-use Rattle.satip_tunnel_serve.specs.Channels.{CarriesOnChannels, HasChannels, OwnsChannels}
-use Rattle.satip_tunnel_serve.specs.LaneFrames.{enters}
+use Rattle.satip_tunnel_laws.specs.Channels.{CarriesOnChannels, HasChannels, OwnsChannels}
+use Rattle.satip_tunnel_laws.specs.LaneFrames.{enters}
 use Rattle.satip_tunnel_serve.specs.Sent.{SendsPayloads}
 use Rattle.satip_tunnel_serve.proofs.AskedOn.{AskedWithin, IsAsk}
-use Rattle.satip_tunnel_serve.proofs.Connecting.{given_apart}
+use Rattle.satip_tunnel_laws.proofs.Connecting.{given_apart}
 use Rattle.satip_tunnel_serve.proofs.Parsing.{AreChannels}
 
 -- an accepted SETUP has ports

@@ -8,13 +8,13 @@ use Rattle.satip_base.proofs.Elements.{Each-append}
 use Rattle.satip_interleave.specs.declared.lane.Lane.{Lane}
 use Rattle.satip_interleave.specs.Frames.{first_frames, fits_behind, frame, later_frames}
 use Rattle.satip_interleave.specs.Lanes.{PlainLanes, change_lane, drained_lane, fresh_lane, has_number, is_channel_port, is_full, lane_of, put_in, put_to, taken_frames, without_lane}
-use Rattle.satip_tunnel_serve.specs.Pieces.{IsFrame}
+use Rattle.satip_tunnel_laws.specs.Pieces.{IsFrame}
 use Rattle.satip_interleave.specs.declared.events.TunnelEvent.{TunnelEvent}
 use Rattle.satip_interleave.specs.declared.events.TunnelEvent.TheVariants.{Inner, Enter, Drain, Leave}
 use Rattle.satip_interleave.specs.Tunnels.{moved_by, put_all}
 use Rattle.satip_interleave.specs.Answers.{IsAnswered}
 use Rattle.satip_interleave.specs.Histories.{LanesFrom, TunnelItem, moved}
-use Rattle.satip_tunnel_serve.specs.LaneFrames.{enters, frame_to, frames_by, frames_to, frames_until, lane, leaves}
+use Rattle.satip_tunnel_laws.specs.LaneFrames.{enters, frame_to, frames_by, frames_to, frames_until, lane, leaves}
 
 abbrev pub AreFrames : List (List ℕ) → Type 0
 AreFrames fs = Each IsFrame fs

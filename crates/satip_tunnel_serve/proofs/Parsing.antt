@@ -23,10 +23,10 @@ use Rattle.satip_rtsp_interleaved.specs.Channels.{both_channels, channels_beginn
 use Rattle.satip_rtsp_interleaved.specs.Requests.{asked_by_tunnel, channels_asked}
 use Rattle.satip_tune.specs.Pieces.{is_byte}
 use Rattle.satip_tunnel.specs.Requests.{AsksInParts}
-use Rattle.satip_tunnel_serve.specs.Answered.{KeepsPlain}
+use Rattle.satip_tunnel_laws.specs.Answered.{KeepsPlain}
 use Rattle.satip_tunnel_serve.specs.RunReplies.{RequestsArePlain}
-use Rattle.satip_tunnel_serve.proofs.KeptPlain.{HasPlainValues, message_keeps, parts_plain}
-use Rattle.satip_tunnel_serve.proofs.Owning.{other_numbers}
+use Rattle.satip_tunnel_laws.proofs.KeptPlain.{HasPlainValues, message_keeps, parts_plain}
+use Rattle.satip_tunnel_laws.proofs.Owning.{other_numbers}
 use Rattle.satip_worker.specs.Requests.{asked_by_tail}
 
 -- two channels, the first of which is one of a lane

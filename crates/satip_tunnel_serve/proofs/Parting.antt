@@ -4,13 +4,13 @@ use Rattle.std.specs.List.{concat, flat_map}
 use Rattle.satip_base.specs.Lists.{Begins, Each}
 use Rattle.satip_base.proofs.Elements.{Each-append, Each-append_left, Each-append_right, each_follows}
 use Rattle.satip_interleave.specs.Lanes.{no_lanes}
-use Rattle.satip_tunnel_serve.specs.Pieces.{IsFrame, IsPiece, IsReply, SplitOneWay}
+use Rattle.satip_tunnel_laws.specs.Pieces.{IsFrame, IsPiece, IsReply, SplitOneWay}
 use Rattle.satip_interleave.specs.declared.events.TunnelEvent.{TunnelEvent}
 use Rattle.satip_interleave.specs.declared.events.TunnelEvent.TheVariants.{Inner, Enter, Drain, Leave}
 use Rattle.satip_interleave.specs.declared.events.TunnelAnswer.{TunnelAnswer}
 use Rattle.satip_interleave.specs.declared.events.TunnelAnswer.TheVariants.{Inner as InnerAnswer, Lane, Full, Frames, Empty, Broken, Gone, Left}
 use Rattle.satip_interleave.specs.Histories.{TunnelItem}
-use Rattle.satip_tunnel_serve.specs.LaneFrames.{lane}
+use Rattle.satip_tunnel_laws.specs.LaneFrames.{lane}
 use Rattle.satip_tunnel.specs.Wire.{wire}
 use Rattle.satip_tunnel_serve.specs.Wires.{Framed, Piece, Reply, WireHasLane, WiresHaveLanes, bytes_of, frames_of, pieces, pieces_by}
 use Rattle.satip_tunnel_serve.specs.RunReplies.{RunsReply}

@@ -14,7 +14,7 @@ use Rattle.satip_interleave.specs.declared.events.TunnelEvent.{TunnelEvent}
 use Rattle.satip_interleave.specs.declared.events.TunnelEvent.TheVariants.{Inner, Enter, Drain, Leave}
 use Rattle.satip_interleave.specs.Histories.{TunnelItem, TunnelLegal}
 use Rattle.satip_jobs.specs.Passes.{IsFull}
-use Rattle.satip_tunnel_serve.specs.Owners.{CallersDrainOwn, DrainsGiven, DrainsOwn, IsConnectionOf, IsOfGiven, PartsDrainOwn, given_by}
+use Rattle.satip_tunnel_laws.specs.Owners.{CallersDrainOwn, DrainsGiven, DrainsOwn, IsConnectionOf, IsOfGiven, PartsDrainOwn, given_by}
 use Rattle.satip_turn.specs.Views.{numbers_of}
 use Rattle.satip_tunnel_serve.specs.Splits.{WiresSplitOneWay}
 use Rattle.satip_tunnel_serve.specs.Wires.{RunsDrainOwn, WiresHaveLanes}
@@ -30,7 +30,7 @@ use Rattle.satip_tunnel_serve.specs.Done.{TunnelRow, TunnelWorkerDone, TunnelPum
 use Rattle.satip_tunnel_serve.specs.TunnelRuns.{IsTunnelStop}
 use Rattle.satip_tunnel_serve.specs.Runs.{ConnectionsHaveLanes, JobsDrainOwn}
 use Rattle.satip_tunnel_serve.specs.Sent.{EachSendsFrames, SendsFrames, TunnelWorkerSent, owns_of}
-use Rattle.satip_tunnel_serve.proofs.Connecting.{drains_both}
+use Rattle.satip_tunnel_laws.proofs.Connecting.{drains_both}
 
 -- entries of the server alone touch no lane
 

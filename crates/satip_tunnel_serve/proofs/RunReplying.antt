@@ -17,14 +17,14 @@ use Rattle.satip_rtsp_interleaved.specs.Turned.{turned}
 use Rattle.satip_tunnel.specs.declared.ends.TunnelEnd.{TunnelEnd}
 use Rattle.satip_tunnel.specs.TunnelRun.{EnteredRun, LaneRun, TunnelRun}
 use Rattle.satip_tunnel.specs.Walk.{Follows, FollowsAsked, IsReplied, Stance, Walk}
-use Rattle.satip_tunnel_serve.specs.Answered.{HasReply, HistoriesReply}
+use Rattle.satip_tunnel_laws.specs.Answered.{HasReply, HistoriesReply}
 use Rattle.satip_tunnel_serve.specs.RunReplies.{RunsReply}
-use Rattle.satip_tunnel_serve.specs.Pieces.{IsReply}
+use Rattle.satip_tunnel_laws.specs.Pieces.{IsReply}
 use Rattle.satip_tunnel_serve.specs.Splits.{AreReplies}
 use Rattle.satip_tunnel_serve.specs.Wires.{Piece, pieces, pieces_by}
 use Rattle.satip_tunnel_serve.proofs.AskedOn.{AskedWithin, has_inner, has_split, last_no_request, run_asked}
-use Rattle.satip_tunnel_serve.proofs.Owning.{among_own}
-use Rattle.satip_tunnel_serve.proofs.PieceTurning.{turned_reply}
+use Rattle.satip_tunnel_laws.proofs.Owning.{among_own}
+use Rattle.satip_tunnel_laws.proofs.PieceTurning.{turned_reply}
 
 -- pieces
 

@@ -10,9 +10,9 @@ use Rattle.satip_interleave.specs.declared.events.TunnelEvent.TheVariants.{Inner
 use Rattle.satip_interleave.specs.declared.events.TunnelAnswer.{TunnelAnswer}
 use Rattle.satip_interleave.specs.declared.events.TunnelAnswer.TheVariants.{Inner as InnerAnswer, Lane, Full, Frames, Empty, Broken, Gone, Left}
 use Rattle.satip_interleave.specs.Histories.{TunnelItem}
-use Rattle.satip_tunnel_serve.specs.LaneFrames.{drained, drained_by, enters}
-use Rattle.satip_tunnel_serve.specs.Owners.{ConnectionsTakeFirst, EntersDrainOwn, IsGivenTo, IsOfGiven, given_by}
-use Rattle.satip_tunnel_serve.proofs.Owning.{among_own}
+use Rattle.satip_tunnel_laws.specs.LaneFrames.{drained, drained_by, enters}
+use Rattle.satip_tunnel_laws.specs.Owners.{ConnectionsTakeFirst, EntersDrainOwn, IsGivenTo, IsOfGiven, given_by}
+use Rattle.satip_tunnel_laws.proofs.Owning.{among_own}
 use Rattle.satip_tunnel.specs.declared.ends.TunnelEnd.{TunnelEnd}
 use Rattle.satip_tunnel.specs.declared.ends.TunnelEnd.TheVariants.{Full as end_full, Broken as end_broken, Done as end_done, ReadFault as end_unread, WriteFault as end_lost, Spent as end_spent}
 use Rattle.satip_tunnel.specs.Ends.{IsLeave, Leaves}

@@ -5,16 +5,8 @@ pub mod TunnelRuns
 pub mod Ran
 pub mod Services
 pub mod Asides
-pub mod LaneFrames
-pub mod Owners
-pub mod Rows
-pub mod Channels
-pub mod ChannelRows
-pub mod Pieces
-pub mod Replies
 pub mod Wires
 pub mod Splits
-pub mod Answered
 pub mod RunReplies
 pub mod Outlets
 pub mod Sent

@@ -8,8 +8,8 @@ use Rattle.satip_rtsp.specs.declared.requests.Request.{Request}
 use Rattle.satip_tunnel.specs.declared.ends.TunnelEnd.{TunnelEnd}
 use Rattle.satip_tunnel.specs.Requests.{AsksInParts}
 use Rattle.satip_tunnel.specs.TunnelRun.{TunnelRun}
-use Rattle.satip_tunnel_serve.specs.Answered.{KeepsPlain}
-use Rattle.satip_tunnel_serve.specs.Owners.{IsConnectionOf}
+use Rattle.satip_tunnel_laws.specs.Answered.{KeepsPlain}
+use Rattle.satip_tunnel_laws.specs.Owners.{IsConnectionOf}
 use Rattle.satip_tunnel_serve.specs.Splits.{AreReplies}
 use Rattle.satip_tunnel_serve.specs.Wires.{pieces}
 

@@ -4,7 +4,7 @@ use Rattle.satip_plain.specs.declared.setting.Setting.{Setting}
 use Rattle.satip_desk.specs.Views.{JobsView}
 use Rattle.satip_interleave.specs.Calling.{ShownPass}
 use Rattle.satip_jobs.specs.Runs.{Along}
-use Rattle.satip_tunnel_serve.specs.Owners.{CallersDrainOwn}
+use Rattle.satip_tunnel_laws.specs.Owners.{CallersDrainOwn}
 use Rattle.satip_turn.specs.Views.{numbers_of}
 use Rattle.satip_tunnel_serve.specs.Sent.{TunnelWorkerSent}
 use Rattle.satip_tunnel_serve.specs.TunnelRuns.{TunnelServeRun}

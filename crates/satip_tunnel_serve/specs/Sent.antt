@@ -11,10 +11,10 @@ use Rattle.satip_jobs.specs.Passes.{IsFull}
 use Rattle.satip_tunnel.specs.ConnRun.{MatchKind}
 use Rattle.satip_tunnel.specs.WorkerRun.{ServesAll}
 use Rattle.satip_tunnel_serve.specs.Done.{TunnelRow, TunnelWorkerDone}
-use Rattle.satip_tunnel_serve.specs.LaneFrames.{lane}
+use Rattle.satip_tunnel_laws.specs.LaneFrames.{lane}
 use Rattle.satip_tunnel_serve.specs.Splits.{WireSplits}
 use Rattle.satip_tunnel_serve.specs.Wires.{IsGivenAtFirst, WireHasLane}
-use Rattle.satip_tunnel_serve.specs.Channels.{CarryPayload, OwnsChannels}
+use Rattle.satip_tunnel_laws.specs.Channels.{CarryPayload, OwnsChannels}
 use Rattle.satip_worker.specs.Drawing.{draw_at}
 use Rattle.satip_world.specs.Halls.{Return}
 

@@ -3,11 +3,11 @@ use Rattle.std.specs.Prelude.{◌≡◌, ℕ, ◌==◌, Bool, List, [], ◌∷�
 use Rattle.std.specs.List.{flat_map}
 use Rattle.satip_base.specs.declared.identity.Draw.{Draw}
 use Rattle.satip_base.specs.Lists.{Begins, Each}
-use Rattle.satip_tunnel_serve.specs.Pieces.{IsPiece, IsReply}
+use Rattle.satip_tunnel_laws.specs.Pieces.{IsPiece, IsReply}
 use Rattle.satip_plain.specs.declared.setting.Setting.{Setting}
 use Rattle.satip_interleave.specs.Histories.{TunnelItem, TunnelLegal}
-use Rattle.satip_tunnel_serve.specs.LaneFrames.{EndsEmpty, lane}
-use Rattle.satip_tunnel_serve.specs.Owners.{AreAllBefore, CallersDrainOwn, IsConnectionOf}
+use Rattle.satip_tunnel_laws.specs.LaneFrames.{EndsEmpty, lane}
+use Rattle.satip_tunnel_laws.specs.Owners.{AreAllBefore, CallersDrainOwn, IsConnectionOf}
 use Rattle.satip_tunnel.specs.declared.ends.TunnelEnd.{TunnelEnd}
 use Rattle.satip_tunnel.specs.TunnelRun.{TunnelRun}
 use Rattle.satip_tunnel.specs.Wire.{wire}

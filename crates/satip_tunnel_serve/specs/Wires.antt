@@ -11,8 +11,8 @@ use Rattle.satip_interleave.specs.declared.events.TunnelEvent.TheVariants.{Inner
 use Rattle.satip_interleave.specs.declared.events.TunnelAnswer.{TunnelAnswer}
 use Rattle.satip_interleave.specs.declared.events.TunnelAnswer.TheVariants.{Lane, Frames}
 use Rattle.satip_interleave.specs.Histories.{TunnelItem, TunnelLegal}
-use Rattle.satip_tunnel_serve.specs.LaneFrames.{EndsEmpty, lane}
-use Rattle.satip_tunnel_serve.specs.Owners.{AreAllBefore, CallersDrainOwn, DrainsOwn, IsConnectionOf}
+use Rattle.satip_tunnel_laws.specs.LaneFrames.{EndsEmpty, lane}
+use Rattle.satip_tunnel_laws.specs.Owners.{AreAllBefore, CallersDrainOwn, DrainsOwn, IsConnectionOf}
 use Rattle.satip_tunnel.specs.declared.ends.TunnelEnd.{TunnelEnd}
 use Rattle.satip_tunnel.specs.TunnelRun.{TunnelRun}
 use Rattle.satip_tunnel.specs.Wire.{wire}

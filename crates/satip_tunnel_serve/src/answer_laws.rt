@@ -3,7 +3,7 @@
 
 ghost use Rattle.satip_tunnel_serve.specs.RunReplies.{RequestsArePlain, RunsReply};
 
-use crate::reply_laws::histories_reply;
+use satip_tunnel_laws::histories_reply;
 
 /// Proves that the requests of a connection's bytes keep no CR and no LF, since no header value has
 /// one.

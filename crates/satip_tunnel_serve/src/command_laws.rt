@@ -6,14 +6,14 @@ ghost use Rattle.satip_interleave.specs.Histories.{TunnelLegal, inners};
 ghost use Rattle.satip_interleave.specs.Calling.{inners_short};
 ghost use Rattle.satip_interleave.specs.Calls.{IsRising};
 ghost use Rattle.satip_interleave.specs.Laws.{numbers_in};
-ghost use Rattle.satip_tunnel_serve.specs.Channels.{CarriesOnChannels};
+ghost use Rattle.satip_tunnel_laws.specs.Channels.{CarriesOnChannels};
 
-use crate::channel_laws::channels_carry_payload;
 use satip_interleave::{SharedTunnel, TunnelPass, lane_numbers_rise};
 use satip_laws::{
     busy_where_blocked, only_owner_changes, packets_are_of_recordings, payload_is_selected,
 };
 use satip_plain::prefix_is_legal;
+use satip_tunnel_laws::channels_carry_payload;
 
 // Proves that the server's entries keep the laws, if what the pass has seen is legal.
 pub(crate) fn keeps_laws(server: &SharedTunnel, pass: &TunnelPass)

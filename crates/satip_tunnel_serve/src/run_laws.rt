@@ -2,8 +2,8 @@
 
 ghost use Rattle.satip_tunnel_serve.specs.Runs.{ConnectionsHaveLanes, JobsDrainOwn};
 
-use crate::lane_laws::connections_drain_own;
 use crate::wire_laws::{runs_drain_own, wires_have_lanes, wires_split_one_way};
+use satip_tunnel_laws::connections_drain_own;
 use satip_world::Doors;
 
 /// Proves that each caller of a run drains and gives up only lanes that it was given.

@@ -2,8 +2,8 @@
 
 ghost use Rattle.std.specs.Prelude.{◌≡◌, [], ◌∷◌};
 ghost use Rattle.satip_interleave.specs.declared.events.TunnelAnswer.TheVariants.{Lane, Frames, Empty};
-ghost use Rattle.satip_tunnel_serve.specs.LaneFrames.{drained};
-ghost use Rattle.satip_tunnel_serve.specs.Rows.{framed};
+ghost use Rattle.satip_tunnel_laws.specs.LaneFrames.{drained};
+ghost use Rattle.satip_tunnel_laws.specs.Rows.{framed};
 ghost use Rattle.satip_tunnel.specs.Rows.{asks, drains, enters, leaves};
 ghost use Rattle.satip_tunnel_serve.specs.Wires.{Framed, Reply, frames_of, pieces};
 

@@ -4,9 +4,8 @@
 ghost use Rattle.satip_tunnel_serve.specs.Splits.{WiresSplitOneWay};
 ghost use Rattle.satip_tunnel_serve.specs.Wires.{RunsDrainOwn, WiresHaveLanes};
 
-use crate::lane_laws::{connections_drain_own, connections_take_first};
-use crate::piece_laws::parts_law;
 use crate::answer_laws::runs_reply;
+use satip_tunnel_laws::{connections_drain_own, connections_take_first, parts_law};
 
 /// Proves that the run of a connection drains and gives up only the lane that it was given.
 pub fn runs_drain_own()

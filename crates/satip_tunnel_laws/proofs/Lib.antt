@@ -1,0 +1,17 @@
+pub mod Holding
+pub mod Turning
+pub mod Moving
+pub mod Taking
+pub mod Owning
+pub mod Connecting
+pub mod Carrying
+pub mod Splitting
+pub mod Plain
+pub mod Forming
+pub mod PieceTurning
+pub mod TextSizes
+pub mod FewPids
+pub mod MadeFew
+pub mod Answering
+pub mod KeptPlain
+pub mod Replies

@@ -1,5 +1,0 @@
-use Rattle.satip_tunnel_serve.proofs.Connecting as lemmas
-use Rattle.satip_tunnel_serve.proofs.lane_laws.connections_take_first.Goals as goal
-
-pub returns : goal.returns
-returns c = record { law = lemmas.connections_take_first c.lane_numbers_rise.ensures.law c.lanes_are_own.ensures.law }

@@ -1,5 +1,0 @@
-use Rattle.satip_tunnel_serve.proofs.Owning as lemmas
-use Rattle.satip_tunnel_serve.proofs.lane_laws.lanes_are_own.Goals as goal
-
-pub returns : goal.returns
-returns c = record { law = lemmas.lanes_are_own c.lane_numbers_rise.ensures.law c.frames_are_lanes.ensures.law }

@@ -1,5 +1,0 @@
-use Rattle.satip_tunnel_serve.proofs.Answering as lemmas
-use Rattle.satip_tunnel_serve.proofs.reply_laws.histories_reply.Goals as goal
-
-pub returns : goal.returns
-returns c = record { law = lemmas.histories_reply }
