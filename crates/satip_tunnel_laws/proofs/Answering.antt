@@ -1,5 +1,6 @@
 -- The reply to a request of a legal history has the form of a reply.
-use Rattle.std.proofs.Common.{◌≡◌, ◌∙◌, ℕ, ◌==◌, ◌≤◌, ◌<◌, ◌^◌, Bool, true, false, cond, List, [], ◌∷◌, filter, length, map, Option, Some, None, is_none, is_some, length-map, arith, refl, sym, ap, subst, unwrap_or}
+use Rattle.std.proofs.Common.{◌≡◌, ◌∙◌, ℕ, ◌==◌, ◌≤◌, ◌<◌, ◌^◌, Bool, true, false, cond, List, [], ◌∷◌, filter, length, map, Option, Some, None, is_none, is_some, arith, refl, sym, ap, subst, unwrap_or}
+use Rattle.std.proofs.lemmas.List.{length-map}
 use Rattle.std.specs.Option.{option_map_or, option_map}
 use Rattle.satip_base.specs.Lists.{Each}
 use Rattle.satip_pids.specs.Pids.{listed}
@@ -77,13 +78,14 @@ record AreFew (ts : List Stream) : Type 0 where
   pids : Each HasFew ts
   count : length ts ≤ 4294967295
 
+count_few : (st : State) (p : Stream → Bool) (ts : List Stream) → length ts ≤ 4294967295 → length (map (view_of st) (filter p ts)) ≤ 4294967295
+count_few st p ts few = omega (arith, length-map (filter p ts) (view_of st), length_filter p ts, few)
+
 described_few : (c : Config) (st : State) (named : Option ℕ) → AreFew st.streams → length (description c st named) < 2 ^ 64
 described_few c st named few =
     let p : Stream → Bool = λ t. option_map_or (λ n. t.number == n) named true in
-    let kept : List Stream = filter p st.streams in
-    length-sdp_any c.address (length c.fronts) (map (view_of st) kept)
-    (views_few st kept (each_filter HasFew p st.streams few.pids))
-    (omega (arith, length-map kept (view_of st), length_filter p st.streams, few.count))
+    length-sdp_any c.address (length c.fronts) (map (view_of st) (filter p st.streams))
+    (views_few st (filter p st.streams) (each_filter HasFew p st.streams few.pids)) (count_few st p st.streams few.count)
 
 -- accepted requests
 
@@ -110,7 +112,7 @@ needed_lives c st r accepted needs = by (names_none r.session) (session_named st
   where
     by : (b : Bool) (o : Option Session) → session_named st r.session ≡ o → cond b (needs_session r.method) (is_none o) ≡ false
         → is_some (session_named (heard_by r st) r.session) ≡ true
-    by true o is present = absurd (cc (sym needs ∙ present))
+    by true o is present = let wrong : true ≡ false = sym needs ∙ present in absurd (cc wrong)
     by false None is present = absurd (cc present)
     by false (Some s) is present = ap is_some (named_heard st r s is).1
 
@@ -153,7 +155,7 @@ entries_are c [] st g events legal is = tt
 entries_are c (e ∷ es) st g events legal is =
     let next = a_step c st e.event is.sound in
     let room = made_room c st e.event is.made in (
-      subst (λ reply. HasReply e.event reply) (sym legal.0.reply) (step_is c st e.event (bounded_few c st g is)),
+      subst (λ (reply : List ℕ). HasReply e.event reply) (sym legal.0.reply) (step_is c st e.event (bounded_few c st g is)),
       entries_are c es (step c st e.event).state (read_one c g e) events.1 legal.1 (record {
         agrees = agrees_step c st g e events.0 legal.0 is.agrees;
         sound = next.sound;

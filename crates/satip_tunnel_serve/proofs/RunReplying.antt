@@ -1,8 +1,8 @@
 -- The replies of each connection of a tunnel have the form of replies.
-use Rattle.std.proofs.Common.{◌≡◌, ◌∙◌, ℕ, List, [], ◌∷◌, ◌++◌, refl, sym, ap, subst, inl, inr, ⊎_elim}
+use Rattle.std.proofs.Common.{◌≡◌, ◌∙◌, ℕ, List, [], ◌∷◌, ◌++◌, refl, sym, ap, subst, ⊎_elim}
 use Rattle.satip_base.specs.declared.identity.Draw.{Draw}
 use Rattle.satip_base.specs.Output.{Output}
-use Rattle.satip_base.specs.History.{entry, own_of}
+use Rattle.satip_base.specs.History.{entry}
 use Rattle.satip_base.specs.Lists.{Each, Has}
 use Rattle.satip_base.proofs.Elements.{Has-append_left, Has-append_right, each_at, each_has}
 use Rattle.satip_interleave.specs.declared.events.TunnelEvent.{TunnelEvent}
@@ -17,7 +17,7 @@ use Rattle.satip_rtsp_interleaved.specs.Turned.{turned}
 use Rattle.satip_tunnel.specs.declared.ends.TunnelEnd.{TunnelEnd}
 use Rattle.satip_tunnel.specs.TunnelRun.{EnteredRun, LaneRun, TunnelRun}
 use Rattle.satip_tunnel.specs.Walk.{Follows, FollowsAsked, IsReplied, Stance, Walk}
-use Rattle.satip_tunnel_laws.specs.Answered.{HasReply, HistoriesReply}
+use Rattle.satip_tunnel_laws.specs.Answered.{HasReply, HistoriesReply, KeepsPlain}
 use Rattle.satip_tunnel_serve.specs.RunReplies.{RunsReply}
 use Rattle.satip_tunnel_laws.specs.Pieces.{IsReply}
 use Rattle.satip_tunnel_serve.specs.Splits.{AreReplies}
@@ -129,7 +129,9 @@ module _ (h entries : List TunnelItem) (replied : Each (λ (e : Item). HasReply 
       let place = place_of entries t in_entries in
       let found : Has (entry t.caller (Asks peer draw request) answer t.out) (inners h) = has_inner t (Asks peer draw request) answer h is answer_is in_h in
       let parsed = asked place.before place.later t peer draw request answer place.whole (record { event = is; answer_is = answer_is }) in
-      each_at (λ (e : Item). HasReply e.event e.out.reply) (inners h) (entry t.caller (Asks peer draw request) answer t.out) replied found parsed.parsed.plain
+      let replies : KeepsPlain request.refusal → IsReply t.out.reply =
+      each_at (λ (e : Item). HasReply e.event e.out.reply) (inners h) (entry t.caller (Asks peer draw request) answer t.out) replied found in
+      replies parsed.parsed.plain
   asked_reply t (Asks peer draw request) (Lane n) in_h in_entries is answer_is asking = absurd asking
   asked_reply t (Asks peer draw request) no_lane in_h in_entries is answer_is asking = absurd asking
   asked_reply t (Asks peer draw request) (Frames count) in_h in_entries is answer_is asking = absurd asking

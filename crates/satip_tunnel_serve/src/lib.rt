@@ -1,7 +1,8 @@
 //! Runs the tunnel with all its jobs: RTP inside the RTSP connections (RFC 2326, section 10.12).
 //! Contract: a serve run over a history of the server and the lanes, which uses no outlet. A
-//! connection was sent its replies and the first frames of its lane, or a prefix of that. The
-//! packets on a channel that one session alone was given are a prefix of that session's payload.
+//! connection was sent its replies and the first frames of its lane, or a prefix of that. The bytes
+//! for it split into replies and frames in one way. The packets on a channel that one session alone
+//! was given are a prefix of that session's payload.
 #![tactic(auto)]
 
 mod all_jobs;
