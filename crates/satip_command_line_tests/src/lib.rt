@@ -1,17 +1,23 @@
-//! Tests `stress`, `audit`, `record` and words by the top call; `serve` over loopback.
+//! Tests commands over devices that fail and over long inputs; `serve` over loopback.
 #![tactic(auto)]
 
 #[cfg(test)]
-mod audit;
+mod audits;
+#[cfg(test)]
+mod changes;
+#[cfg(test)]
+mod journals;
 #[cfg(test)]
 mod real_desk;
 #[cfg(test)]
-mod record_words;
-#[cfg(test)]
 mod recordings;
+#[cfg(test)]
+mod replays;
 #[cfg(test)]
 mod runs;
 #[cfg(test)]
 mod stress;
+#[cfg(test)]
+mod talks;
 #[cfg(test)]
 mod words;

@@ -1,34 +1,13 @@
-//! Whole recordings: each status, with the requests, the packets and the lines.
+//! Recordings whose reply never comes or ends early, and over devices that fail.
 
 use crate::runs::{check, run};
-use satip_fixtures::recordings::{ACCEPTED, ADDRESS, GRANTED, HEAD, LEFT, OPENED, QUERY, datagram};
-use satip_fixtures::texts::joined;
+use satip_fixtures::recordings::{ACCEPTED, ADDRESS, GRANTED, HEAD, QUERY, datagram};
 use satip_memory::{MemoryClock, MemoryConn, MemoryInlet, MemorySource};
 use satip_memory_desk::{MemoryDesk, Ran};
 use std::alloc::Global;
 use std::test::Fail;
 
 const WORDS: [&str; 4] = ["record", ADDRESS, QUERY, "2"];
-
-// A run with these words over a desk, whose put with the number `failing_put` fails after 100
-// bytes.
-pub(crate) fn record(
-    alloc: Global,
-    words: &[&str],
-    failing_put: u64,
-    desk: &mut MemoryDesk,
-) -> Result<Ran, Fail> {
-    let input = MemorySource::make(alloc, b"", &[], &[])?;
-    run(alloc, words, input, &[failing_put], 100, desk)
-}
-
-// What was sent, if there was a connection.
-fn sent(ran: &Ran) -> Option<&[u8]> {
-    match &ran.wire {
-        Some(wire) => Some(wire.sent()),
-        None => None,
-    }
-}
 
 // A desk with a connection on which these pieces come in, and an inlet with these datagrams, whose
 // call with the number `failing` fails.
@@ -46,7 +25,7 @@ fn desk_with(
     Ok(desk)
 }
 
-// A recording over such a desk, whose put with the number `failing_put` fails.
+// A recording over such a desk, whose put with the number `failing_put` fails after 100 bytes.
 fn play(
     alloc: Global,
     pieces: &[&[u8]],
@@ -55,58 +34,8 @@ fn play(
     failing_put: u64,
 ) -> Result<Ran, Fail> {
     let mut desk = desk_with(alloc, pieces, datagrams, failing)?;
-    record(alloc, &WORDS, failing_put, &mut desk)
-}
-
-#[test]
-fn two_packets_are_recorded(rt: HostRuntime) -> Result<(), Fail> {
-    let came = datagram(9);
-    let played = play(rt.alloc(), &[GRANTED, ACCEPTED], &[&came], 0, 0)?;
-    check(&rt, "two packets", &played, 0, &came[HEAD..HEAD + 376], b"");
-    let wanted = joined(rt.alloc(), &[OPENED, LEFT])?;
-    assert_eq!(rt; sent(&played), Some(wanted.as_slice()));
-    assert!(rt; played.inlet && played.moment);
-    Ok(())
-}
-
-#[test]
-fn a_busy_server_is_told(rt: HostRuntime) -> Result<(), Fail> {
-    let busy: &[u8] = b"RTSP/1.0 503 Service Unavailable\r\nCSeq: 1\r\n\r\n";
-    let played = play(rt.alloc(), &[busy], &[], 0, 0)?;
-    check(&rt, "SETUP", &played, 10, b"", b"refused 503\n");
-    Ok(())
-}
-
-#[test]
-fn a_play_that_is_refused_is_told(rt: HostRuntime) -> Result<(), Fail> {
-    let unknown: &[u8] = b"RTSP/1.0 454 Session Not Found\r\nCSeq: 2\r\n\r\n";
-    let played = play(rt.alloc(), &[GRANTED, unknown], &[], 0, 0)?;
-    check(&rt, "PLAY", &played, 10, b"", b"refused 454\n");
-    Ok(())
-}
-
-#[test]
-fn replies_that_give_nothing_are_bad(rt: HostRuntime) -> Result<(), Fail> {
-    let replies: [(&str, &[u8]); 4] = [
-        (
-            "no session",
-            b"RTSP/1.0 200 OK\r\nCSeq: 1\r\ncom.ses.streamID: 7\r\n\r\n",
-        ),
-        (
-            "no stream",
-            b"RTSP/1.0 200 OK\r\nCSeq: 1\r\nSession: 1a\r\n\r\n",
-        ),
-        (
-            "another CSeq",
-            b"RTSP/1.0 200 OK\r\nCSeq: 2\r\nSession: 1a\r\ncom.ses.streamID: 7\r\n\r\n",
-        ),
-        ("HTTP", b"HTTP/1.1 200 OK\r\nCSeq: 1\r\n\r\n"),
-    ];
-    for (name, reply) in replies {
-        let played = play(rt.alloc(), &[reply], &[], 0, 0)?;
-        check(&rt, name, &played, 11, b"", b"bad reply\n");
-    }
-    Ok(())
+    let input = MemorySource::make(alloc, b"", &[], &[])?;
+    run(alloc, &WORDS, input, &[failing_put], 100, &mut desk)
 }
 
 #[test]
@@ -114,13 +43,6 @@ fn a_reply_that_never_comes_is_silence(rt: HostRuntime) -> Result<(), Fail> {
     let nothing: [&[u8]; 10001] = [b""; 10001];
     let played = play(rt.alloc(), &nothing, &[], 0, 0)?;
     check(&rt, "no reply", &played, 12, b"", b"silent\n");
-    Ok(())
-}
-
-#[test]
-fn packets_that_never_come_are_silence(rt: HostRuntime) -> Result<(), Fail> {
-    let played = play(rt.alloc(), &[GRANTED, ACCEPTED], &[], 0, 0)?;
-    check(&rt, "no packet", &played, 12, b"", b"silent\n");
     Ok(())
 }
 
@@ -138,27 +60,6 @@ fn a_reply_that_ends_early_is_an_end(rt: HostRuntime) -> Result<(), Fail> {
 fn a_failing_inlet_is_a_fault_of_the_peer(rt: HostRuntime) -> Result<(), Fail> {
     let played = play(rt.alloc(), &[GRANTED, ACCEPTED], &[], 1, 0)?;
     check(&rt, "the inlet", &played, 13, b"", b"peer fault\n");
-    Ok(())
-}
-
-#[test]
-fn a_server_that_is_not_there_is_a_fault_of_the_peer(rt: HostRuntime) -> Result<(), Fail> {
-    let mut desk = MemoryDesk::make(rt.alloc(), 0);
-    let played = record(rt.alloc(), &WORDS, 0, &mut desk)?;
-    check(&rt, "no connection", &played, 13, b"", b"peer fault\n");
-    assert!(rt; played.wire.is_none() && !played.inlet && played.moment);
-    Ok(())
-}
-
-#[test]
-fn without_a_port_nothing_is_sent(rt: HostRuntime) -> Result<(), Fail> {
-    let mut desk = MemoryDesk::make(rt.alloc(), 0);
-    let wire = MemoryConn::make(rt.alloc(), &[GRANTED], &[], &[], 0)?;
-    desk.lend(Some(wire), None, None);
-    let played = record(rt.alloc(), &WORDS, 0, &mut desk)?;
-    check(&rt, "no inlet", &played, 13, b"", b"peer fault\n");
-    assert_eq!(rt; sent(&played), Some(b"".as_slice()));
-    assert!(rt; !played.inlet);
     Ok(())
 }
 

@@ -19,9 +19,19 @@ pub fn check(rt: &impl Abort, name: &str, ran: &Ran, status: u8, output: &[u8], 
 
 /// A replay of a script by the text of a configuration.
 pub fn replay(alloc: Global, configuration: &str, script: &[u8]) -> Result<Ran, Fail> {
+    run_by(alloc, "replay", configuration, script)
+}
+
+/// An audit of journals by the text of a configuration.
+pub fn audit(alloc: Global, configuration: &str, text: &[u8]) -> Result<Ran, Fail> {
+    run_by(alloc, "audit", configuration, text)
+}
+
+// A command over a text by the text of a configuration.
+fn run_by(alloc: Global, command: &str, configuration: &str, text: &[u8]) -> Result<Ran, Fail> {
     let mut desk = desk_with(alloc, configuration.as_bytes(), &[])?;
-    let input = MemorySource::make(alloc, script, &[], &[])?;
-    run(alloc, &["replay", "c1.toml"], input, &[], 0, &mut desk)
+    let input = MemorySource::make(alloc, text, &[], &[])?;
+    run(alloc, &[command, "c1.toml"], input, &[], 0, &mut desk)
 }
 
 /// Runs the program with these words over an input, and a desk that has given a client nothing yet.

@@ -1,32 +1,70 @@
-//! Takes and puts that fail, and the replies that one put has.
+//! Talks in pieces, with takes and puts that fail, and the replies that one put has.
 
-use crate::runs::{Parts, Talked, run, talk_in_pieces};
-use crate::sessions::{DESCRIBE, SETUP};
-use satip_fixtures::texts::{CLOSING, OPTIONS, OPTIONS_REPLY, repeated};
+use crate::runs::{check, run};
+use satip_base::{ReadSource, Source};
+use satip_fixtures::texts::{CLOSING, OPTIONS, OPTIONS_REPLY, joined, repeated};
 use satip_memory::MemorySource;
+use satip_memory_desk::{MemoryDesk, Ran};
 use std::alloc::Global;
+use std::io::{Read, repeat};
 use std::process::Abort;
 use std::test::Fail;
+
+// A talk over an input. The puts with a number, from 1, in `failing_puts` fail, and pass `passed`
+// bytes at most.
+fn talk<I: Source + Drop>(
+    alloc: Global,
+    input: I,
+    failing_puts: &[u64],
+    passed: usize,
+) -> Result<Ran, Fail> {
+    let mut desk = MemoryDesk::make(alloc, 0);
+    run(alloc, &["talk"], input, failing_puts, passed, &mut desk)
+}
+
+#[test]
+fn options_is_answered_however_it_is_cut(rt: HostRuntime) -> Result<(), Fail> {
+    let cuts: [(&str, &[usize]); 2] = [
+        ("byte by byte", &[1; 32]),
+        ("within line ends", &[19, 9, 2, 1]),
+    ];
+    for (name, pieces) in cuts {
+        let input = MemorySource::make(rt.alloc(), OPTIONS, pieces, &[])?;
+        let ran = talk(rt.alloc(), input, &[], 9)?;
+        check(&rt, name, &ran, 0, OPTIONS_REPLY, b"");
+    }
+    Ok(())
+}
+
+#[test]
+fn an_input_has_at_most_67108864_bytes(rt: HostRuntime) -> Result<(), Fail> {
+    let input = ReadSource::new(repeat(b'\n').take(67108865));
+    let ran = talk(rt.alloc(), input, &[], 0)?;
+    check(&rt, "a byte more", &ran, 8, b"", b"input too long\n");
+    Ok(())
+}
 
 #[test]
 fn a_take_that_fails_is_an_input_fault(rt: HostRuntime) -> Result<(), Fail> {
     let input = MemorySource::make(rt.alloc(), OPTIONS, &[31], &[2])?;
-    let ran = run(rt.alloc(), input, &[], 0)?;
-    ran.check(
+    let ran = talk(rt.alloc(), input, &[], 0)?;
+    check(
         &rt,
-        rt.alloc(),
         "the second take",
+        &ran,
         5,
-        &[OPTIONS_REPLY],
+        OPTIONS_REPLY,
         b"input fault\n",
-    )
+    );
+    Ok(())
 }
 
-// A talk one of whose puts would fail: the text that is sent, the pieces in which it is taken, the
-// number of that put, the most bytes that it passes, and the end of the talk.
+// A talk one of whose puts would fail: the text that is sent, parts with the number of times that
+// each is repeated; the pieces in which it is taken; the number of that put; the most bytes that it
+// passes; and the end of the talk.
 struct Talk {
     name: &'static str,
-    parts: Parts,
+    parts: &'static [(&'static [u8], usize)],
     pieces: &'static [usize],
     failing_put: u64,
     passed: usize,
@@ -35,11 +73,13 @@ struct Talk {
     errors: &'static [u8],
 }
 
-fn check(rt: &impl Abort, alloc: Global, talk: &Talk) -> Result<(), Fail> {
-    let text = repeated(alloc, talk.parts)?;
-    let input = MemorySource::make(alloc, &text, talk.pieces, &[])?;
-    let ran = run(alloc, input, &[talk.failing_put], talk.passed)?;
-    ran.check(rt, alloc, talk.name, talk.status, talk.replies, talk.errors)
+fn check_talk(rt: &impl Abort, alloc: Global, row: &Talk) -> Result<(), Fail> {
+    let text = repeated(alloc, row.parts)?;
+    let input = MemorySource::make(alloc, &text, row.pieces, &[])?;
+    let ran = talk(alloc, input, &[row.failing_put], row.passed)?;
+    let replies = joined(alloc, row.replies)?;
+    check(rt, row.name, &ran, row.status, &replies, row.errors);
+    Ok(())
 }
 
 const FAILING_PUTS: &[Talk] = &[
@@ -77,8 +117,8 @@ const FAILING_PUTS: &[Talk] = &[
 
 #[test]
 fn a_put_that_fails_is_an_output_fault(rt: HostRuntime) -> Result<(), Fail> {
-    for talk in FAILING_PUTS {
-        check(&rt, rt.alloc(), talk)?;
+    for row in FAILING_PUTS {
+        check_talk(&rt, rt.alloc(), row)?;
     }
     Ok(())
 }
@@ -119,16 +159,25 @@ const THIRD_PUTS: &[Talk] = &[
 
 #[test]
 fn replies_after_the_first_to_a_take_are_put_together(rt: HostRuntime) -> Result<(), Fail> {
-    for talk in THIRD_PUTS {
-        check(&rt, rt.alloc(), talk)?;
+    for row in THIRD_PUTS {
+        check_talk(&rt, rt.alloc(), row)?;
     }
     Ok(())
 }
 
+// A SETUP of a target without a tuning.
+const SETUP: &[u8] = b"SETUP rtsp://127.0.0.1/ RTSP/1.0\r\n\
+    CSeq: 1\r\n\
+    Transport: RTP/AVP;unicast;client_port=1400-1401\r\n\r\n";
+
+// A DESCRIBE of all streams.
+const DESCRIBE: &[u8] = b"DESCRIBE rtsp://127.0.0.1/ RTSP/1.0\r\nCSeq: 2\r\n\r\n";
+
 // A talk in which 40 sessions are created, and described `count` times.
-fn described(alloc: Global, count: usize, failing_puts: &[u64]) -> Result<Talked, Fail> {
+fn described(alloc: Global, count: usize, failing_puts: &[u64]) -> Result<Ran, Fail> {
     let text = repeated(alloc, &[(SETUP, 40), (DESCRIBE, count)])?;
-    talk_in_pieces(alloc, &text, &[], failing_puts)
+    let input = MemorySource::make(alloc, &text, &[], &[])?;
+    talk(alloc, input, failing_puts, 9)
 }
 
 // The replies of such a talk, by one that describes nothing and one that describes once.

@@ -1,6 +1,7 @@
 //! Journals of which one byte is another.
 
-use crate::audits::run;
+use crate::runs::audit;
+use satip_fixtures::texts::CONFIGURATION;
 use std::alloc::Global;
 use std::test::Fail;
 
@@ -93,8 +94,8 @@ fn is_yes(alloc: Global, text: &[u8], at: usize, byte: u8) -> Result<bool, Fail>
     if let Some(place) = text.get_mut(at) {
         *place = byte;
     }
-    let report = run(alloc, &text)?;
-    Ok(report.output.sent().starts_with(b"yes"))
+    let ran = audit(alloc, CONFIGURATION, &text)?;
+    Ok(ran.output.sent().starts_with(b"yes"))
 }
 
 // Whether the verdict is `yes` of other bytes at this place exactly where it may be another digit.
