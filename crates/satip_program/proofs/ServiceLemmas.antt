@@ -7,7 +7,7 @@ use Rattle.satip_config.specs.Lines.{Says}
 use Rattle.satip_desk.specs.Journals.{journals_view}
 use Rattle.satip_desk.specs.Streams.{Streams, Tells}
 use Rattle.satip_desk.specs.Views.{DeskView}
-use Rattle.satip_serve.specs.Statuses.{serve_statuses}
+use Rattle.satip_tunnel_serve.specs.Serve.Statuses.{serve_statuses}
 use Rattle.satip_program.specs.Commands.{Asked, Serving, is_journal, is_tunnel, line_of}
 use Rattle.satip_program.specs.Ended.{EndedView}
 use Rattle.satip_program.specs.Journaling.{IsOfJournal}

@@ -1,9 +1,9 @@
 -- How a serve is told.
 use Rattle.std.proofs.Common.{◌≡◌, ℕ, List, sym, subst}
 use Rattle.satip_config.specs.declared.fault.ConfigFault.{ConfigFault}
-use Rattle.satip_serve.specs.declared.command.ServingEnd.{ServingEnd}
-use Rattle.satip_serve.specs.declared.command.ServingEnd.TheVariants as serving
-use Rattle.satip_serve.specs.Statuses.{serving_status}
+use Rattle.satip_tunnel_serve.specs.Serve.declared.command.ServingEnd.{ServingEnd}
+use Rattle.satip_tunnel_serve.specs.Serve.declared.command.ServingEnd.TheVariants as serving
+use Rattle.satip_tunnel_serve.specs.Serve.Statuses.{serving_status}
 use Rattle.satip_config.specs.Lines.{configuration_line}
 use Rattle.satip_program.specs.Commands.{line_of}
 use Rattle.satip_program.specs.Serving.{serving_line}

@@ -5,8 +5,8 @@ use Rattle.satip_desk.specs.Journals.{JournalView}
 use Rattle.satip_desk.specs.Views.{JobsView}
 use Rattle.satip_journal.specs.Ends.{JournalLeft}
 use Rattle.satip_recorder.specs.Ends.{Left}
-use Rattle.satip_serve.specs.CommandEnds.{ServingLeft}
-use Rattle.satip_serve.specs.CommandRan.{LastView}
+use Rattle.satip_tunnel_serve.specs.Serve.CommandEnds.{ServingLeft}
+use Rattle.satip_tunnel_serve.specs.Serve.CommandRan.{LastView}
 use Rattle.satip_tunnel_serve.specs.Ends.{TunnelLastView}
 
 -- the parts of the end of a run. `source` is the configuration. `last` is what the jobs of a service left, without a tunnel, and `tunnel` with one. `unused` are

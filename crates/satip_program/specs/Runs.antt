@@ -8,7 +8,7 @@ use Rattle.satip_journal.specs.Audit.CommandEnds.{AuditEnds}
 use Rattle.satip_journal.specs.Ends.{JournalEnds}
 use Rattle.satip_recorder.specs.Ends.{RecordEnds}
 use Rattle.satip_replay.specs.CommandEnds.{ReplayEnds}
-use Rattle.satip_serve.specs.CommandEnds.{Serves}
+use Rattle.satip_tunnel_serve.specs.Serve.CommandEnds.{Serves}
 use Rattle.satip_stress.specs.CommandEnds.{StressEnds}
 use Rattle.satip_talk_command.specs.Ends.{TalkEnds}
 use Rattle.satip_talk_command.specs.Runs.{input_limit, NothingDone}

@@ -1,7 +1,7 @@
 -- The line that logs the command `serve`.
 use Rattle.std.specs.Prelude.{ℕ, List}
-use Rattle.satip_serve.specs.declared.command.ServingEnd.{ServingEnd}
-use Rattle.satip_serve.specs.declared.command.ServingEnd.TheVariants.{Served, Configuration, InputFault, DoorsFault, HistoryFull, OutOfMemory}
+use Rattle.satip_tunnel_serve.specs.Serve.declared.command.ServingEnd.{ServingEnd}
+use Rattle.satip_tunnel_serve.specs.Serve.declared.command.ServingEnd.TheVariants.{Served, Configuration, InputFault, DoorsFault, HistoryFull, OutOfMemory}
 use Rattle.satip_config.specs.Lines.{configuration_line}
 use Rattle.satip_program.specs.Commands.{line_of}
 

@@ -9,5 +9,5 @@ mod serve_end;
 mod top;
 
 pub use satip_desk::{Desk, Jobs, JobsFault};
-pub use satip_serve::Last;
+pub use satip_tunnel_serve::Last;
 pub use top::{Ended, offline, satip};

@@ -2,12 +2,12 @@
 
 ghost use Rattle.std.specs.Prelude.{◌≡◌, []};
 ghost use Rattle.satip_config.specs.Lines.{Says};
-ghost use Rattle.satip_serve.specs.Statuses.{serving_status};
+ghost use Rattle.satip_tunnel_serve.specs.Serve.Statuses.{serving_status};
 ghost use Rattle.satip_program.specs.Serving.{serving_line};
 
 use satip_base::{Sink, Strip};
 use satip_config::{print_fault, say};
-use satip_serve::ServingEnd;
+use satip_tunnel_serve::ServingEnd;
 
 /// Returns the program's exit status for this end of serving.
 pub(crate) fn status_of_serving(end: ServingEnd) -> u8

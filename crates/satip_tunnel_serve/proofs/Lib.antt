@@ -15,3 +15,4 @@ mod Parsing
 mod AskedOn
 mod Channelling
 mod EndLemmas
+pub use Rattle.satip_serve.proofs as Serve

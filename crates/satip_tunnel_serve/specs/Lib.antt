@@ -13,3 +13,4 @@ pub mod Sent
 pub mod Runs
 pub mod Ends
 pub use Rattle.satip_tunnel.specs.Silences
+pub use Rattle.satip_serve.specs as Serve

@@ -30,5 +30,6 @@ pub use answer_laws::{requests_are_plain, runs_reply};
 pub use command::{Tunneled, tunnel_by};
 pub use run::run_in_tunnel;
 pub use run_laws::{connections_have_lanes, jobs_drain_own};
+pub use satip_serve::{Last, Served, ServingEnd, serve_by};
 pub use wire_examples::worked_rows as worked_wires;
 pub use wire_laws::{runs_drain_own, wires_have_lanes, wires_split_one_way};

@@ -1,4 +1,4 @@
-use Rattle.satip_serve.proofs.StatusLemmas.{told_otherwise}
+use Rattle.satip_tunnel_serve.proofs.Serve.StatusLemmas.{told_otherwise}
 use Rattle.satip_config.specs.Lines.{Says}
 use Rattle.satip_program.proofs.ServingLemmas.{fault_line, line_told}
 use Rattle.satip_program.proofs.top.run_serve.Goals as goal
