@@ -12,7 +12,7 @@ use std::test::Fail;
 
 // A talk over an input. The puts with a number, from 1, in `failing_puts` fail, and pass `passed`
 // bytes at most.
-fn talk<I: Source + Drop>(
+fn run_talk<I: Source + Drop>(
     alloc: Global,
     input: I,
     failing_puts: &[u64],
@@ -30,7 +30,7 @@ fn options_is_answered_however_it_is_cut(rt: HostRuntime) -> Result<(), Fail> {
     ];
     for (name, pieces) in cuts {
         let input = MemorySource::make(rt.alloc(), OPTIONS, pieces, &[])?;
-        let ran = talk(rt.alloc(), input, &[], 9)?;
+        let ran = run_talk(rt.alloc(), input, &[], 9)?;
         check(&rt, name, &ran, 0, OPTIONS_REPLY, b"");
     }
     Ok(())
@@ -39,7 +39,7 @@ fn options_is_answered_however_it_is_cut(rt: HostRuntime) -> Result<(), Fail> {
 #[test]
 fn an_input_has_at_most_67108864_bytes(rt: HostRuntime) -> Result<(), Fail> {
     let input = ReadSource::new(repeat(b'\n').take(67108865));
-    let ran = talk(rt.alloc(), input, &[], 0)?;
+    let ran = run_talk(rt.alloc(), input, &[], 0)?;
     check(&rt, "a byte more", &ran, 8, b"", b"input too long\n");
     Ok(())
 }
@@ -47,7 +47,7 @@ fn an_input_has_at_most_67108864_bytes(rt: HostRuntime) -> Result<(), Fail> {
 #[test]
 fn a_take_that_fails_is_an_input_fault(rt: HostRuntime) -> Result<(), Fail> {
     let input = MemorySource::make(rt.alloc(), OPTIONS, &[31], &[2])?;
-    let ran = talk(rt.alloc(), input, &[], 0)?;
+    let ran = run_talk(rt.alloc(), input, &[], 0)?;
     check(
         &rt,
         "the second take",
@@ -76,7 +76,7 @@ struct Talk {
 fn check_talk(rt: &impl Abort, alloc: Global, row: &Talk) -> Result<(), Fail> {
     let text = repeated(alloc, row.parts)?;
     let input = MemorySource::make(alloc, &text, row.pieces, &[])?;
-    let ran = talk(alloc, input, &[row.failing_put], row.passed)?;
+    let ran = run_talk(alloc, input, &[row.failing_put], row.passed)?;
     let replies = joined(alloc, row.replies)?;
     check(rt, row.name, &ran, row.status, &replies, row.errors);
     Ok(())
@@ -177,7 +177,7 @@ const DESCRIBE: &[u8] = b"DESCRIBE rtsp://127.0.0.1/ RTSP/1.0\r\nCSeq: 2\r\n\r\n
 fn described(alloc: Global, count: usize, failing_puts: &[u64]) -> Result<Ran, Fail> {
     let text = repeated(alloc, &[(SETUP, 40), (DESCRIBE, count)])?;
     let input = MemorySource::make(alloc, &text, &[], &[])?;
-    talk(alloc, input, failing_puts, 9)
+    run_talk(alloc, input, failing_puts, 9)
 }
 
 // The replies of such a talk, by one that describes nothing and one that describes once.
