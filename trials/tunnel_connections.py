@@ -5,8 +5,8 @@
 
 The recording's packets are numbered. They go, for SECONDS each, 6 without the word, to one
 connection; to eight, one of which stops reading; to one that sends receiver reports between its
-requests; and to one in parallel with 62 that stop reading, each of which the server has to end. A
-transport over UDP has to be refused with 461. Ends with status 1 if something doesn't hold. Needs
+requests; to one that sends a message byte by byte; and to one in parallel with 62 that stop reading,
+each of which the server has to end. A transport over UDP has to be refused with 461. Ends with status 1 if something doesn't hold. Needs
 the built program (trials/lib/server.py).
 
 Packages: none
@@ -20,7 +20,7 @@ import time
 sys.dont_write_bytecode = True
 from lib.checks import Checks
 from lib.rtp import PACKET, missing_runs, numbered, payload
-from lib.rtsp import inside, over_udp
+from lib.rtsp import BLANK, inside, over_udp
 from lib.server import PACKETS_A_SECOND, QUERY, Server
 
 ADDRESS = "127.0.0.1"
@@ -28,13 +28,16 @@ ADDRESS = "127.0.0.1"
 STOPPED = 62
 # An empty receiver report, on the channel of RTCP.
 REPORT = bytes.fromhex("2401000880c9000100000001")
+# The seconds between two bytes of a slow message. The server finds that nothing came after 50 ms.
+BETWEEN = 0.02
 
 
 class Reader(threading.Thread):
     """A connection that plays for some seconds, and then tears its session down."""
 
-    def __init__(self, server, length, target=None, stops_after=None, sends=b""):
+    def __init__(self, server, length, target=None, stops_after=None, sends=b"", drips=False):
         super().__init__(daemon=True)
+        self.drips, self.over = drips, threading.Event()
         self.client, self.length = server.client(), length
         self.stops_after, self.sends = stops_after, sends
         self.target, self.session = self.client.play(target or self.client.url(QUERY), inside())
@@ -46,8 +49,18 @@ class Reader(threading.Thread):
         except OSError as error:
             self.fault = str(error)
 
+    def drip(self):
+        """Sends a message byte by byte until the reader is over, and then ends it."""
+        self.client.line.sendall(b"OPTIONS * RTSP/1.0\r\nCSeq: 900\r\nX: ")
+        while not self.over.wait(BETWEEN):
+            self.client.line.sendall(b"x")
+        self.client.line.sendall(BLANK)
+
     def read(self):
         begun = time.monotonic()
+        dripper = threading.Thread(target=self.drip, daemon=True)
+        if self.drips:
+            dripper.start()
         while time.monotonic() < begun + self.length:
             if self.stops_after and time.monotonic() > begun + self.stops_after:
                 time.sleep(0.1)
@@ -55,6 +68,11 @@ class Reader(threading.Thread):
             if self.sends:
                 self.client.line.sendall(self.sends)
             self.keep(self.client.take_frames())
+        if self.drips:
+            self.over.set()
+            dripper.join()
+            while self.client.read_part() is None:
+                pass
         if not self.stops_after:
             self.client.tear_down(self.target, self.session)
             self.keep(self.client.frames)
@@ -103,6 +121,10 @@ def try_connections(checks, recording, length):
         talker = Reader(server, length, sends=REPORT)
         run_all([talker])
         check_whole(checks, "a connection that sends reports", talker, recording)
+
+        slow_asker = Reader(server, length, drips=True)
+        run_all([slow_asker])
+        check_whole(checks, "a connection that sends a message byte by byte", slow_asker, recording)
 
         client = server.client()
         reply = client.ask("SETUP", client.url(QUERY), over_udp(1400))
