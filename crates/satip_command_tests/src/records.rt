@@ -5,7 +5,7 @@ ghost use Rattle.std.specs.Prelude.{◌<◌};
 use satip_base::{Address, Draw, Out, Peer, Ports, SessionId};
 use satip_entry_reader::Reading;
 use satip_entry_writer::{LineRoom, write_entry, write_start};
-use satip_fixtures::texts::is_joined;
+use satip_fixtures::texts::joined;
 use satip_http::{HttpRefusal, HttpRequest};
 use satip_pids::PidList;
 use satip_plain::{Answer, Beat, Event, GetAnswer, Pulled, Replied, Work};
@@ -13,6 +13,7 @@ use satip_query::{PidsGiven, Query, QueryFault};
 use satip_rtsp::{Method, Request, SessionName};
 use satip_tune::{Fec, Key, Modulation, Pol, RollOff, System};
 use std::alloc::Global;
+use std::process::Abort;
 use std::test::Fail;
 
 #[test]
@@ -31,6 +32,7 @@ fn a_start_is_one_line(rt: HostRuntime) -> Result<(), Fail> {
 // An entry at a place, of a caller, and the texts of its line.
 #[derive(Clone, Copy)]
 struct Row<'a> {
+    name: &'a str,
     place: u64,
     caller: u64,
     event: &'a Event,
@@ -38,17 +40,20 @@ struct Row<'a> {
     texts: &'a [&'a [u8]],
 }
 
-// Whether the line of an entry is as its row says.
-fn is_written(line: &mut LineRoom, out: &Out, row: &Row) -> bool {
-    write_entry(row.place, row.caller, row.event, row.answer, out, line);
-    is_joined(line.bytes(), row.texts)
+// Asserts that the line of an entry is as its row says.
+fn check_line(rt: &impl Abort, alloc: Global, out: &Out, row: &Row) -> Result<(), Fail> {
+    let mut line = LineRoom::make(alloc)?;
+    write_entry(row.place, row.caller, row.event, row.answer, out, &mut line);
+    let wanted = joined(alloc, row.texts)?;
+    assert_eq!(rt; line.bytes(), wanted.as_slice(), "{}", row.name);
+    Ok(())
 }
 
 #[test]
 fn a_stop_and_a_tick_are_short_lines(rt: HostRuntime) -> Result<(), Fail> {
     let out = Out::make(rt.alloc())?;
-    let mut line = LineRoom::make(rt.alloc())?;
     let stop = Row {
+        name: "stop",
         place: 0,
         caller: 0,
         event: &Event::Stop,
@@ -56,6 +61,7 @@ fn a_stop_and_a_tick_are_short_lines(rt: HostRuntime) -> Result<(), Fail> {
         texts: &[b"entry 0 0 080201000000000000\n"],
     };
     let tick = Row {
+        name: "tick",
         place: 0,
         caller: 0,
         event: &Event::Tick { now: 10 },
@@ -63,13 +69,14 @@ fn a_stop_and_a_tick_are_short_lines(rt: HostRuntime) -> Result<(), Fail> {
         texts: &[b"entry 0 0 02000000000000000a0200000000000000\n"],
     };
     let later = Row {
+        name: "later stop",
         place: 2,
         caller: 1,
         texts: &[b"entry 2 1 080201000000000000\n"],
         ..stop
     };
-    for (name, row) in [("stop", stop), ("tick", tick), ("later stop", later)] {
-        assert!(rt; is_written(&mut line, &out, &row), "{name}");
+    for row in [stop, tick, later] {
+        check_line(&rt, rt.alloc(), &out, &row)?;
     }
     Ok(())
 }
@@ -142,7 +149,6 @@ const REQUEST_LINE: &[&[u8]] = &[
 #[test]
 fn a_request_is_written_field_by_field(rt: HostRuntime) -> Result<(), Fail> {
     let out = two_datagrams(rt.alloc())?;
-    let mut line = LineRoom::make(rt.alloc())?;
     let event = Event::Request {
         peer: Peer { ip: 0x0a00_0002 },
         draw: Draw {
@@ -157,14 +163,14 @@ fn a_request_is_written_field_by_field(rt: HostRuntime) -> Result<(), Fail> {
         closing: false,
     });
     let row = Row {
+        name: "request",
         place: 17,
         caller: 3,
         event: &event,
         answer: &answer,
         texts: REQUEST_LINE,
     };
-    assert!(rt; is_written(&mut line, &out, &row));
-    Ok(())
+    check_line(&rt, rt.alloc(), &out, &row)
 }
 
 // A GET that is refused since its PIDs are out of range.
@@ -186,8 +192,8 @@ fn refused_get() -> Event {
 #[test]
 fn a_refused_get_is_written(rt: HostRuntime) -> Result<(), Fail> {
     let out = Out::make(rt.alloc())?;
-    let mut line = LineRoom::make(rt.alloc())?;
     let refused = Row {
+        name: "refused get",
         place: 1,
         caller: 2,
         event: &refused_get(),
@@ -198,19 +204,18 @@ fn a_refused_get_is_written(rt: HostRuntime) -> Result<(), Fail> {
             b"00\n",
         ],
     };
-    assert!(rt; is_written(&mut line, &out, &refused));
-    Ok(())
+    check_line(&rt, rt.alloc(), &out, &refused)
 }
 
 #[test]
 fn pulls_and_asks_are_written(rt: HostRuntime) -> Result<(), Fail> {
     let out = Out::make(rt.alloc())?;
-    let mut line = LineRoom::make(rt.alloc())?;
     let session = SessionId {
         count: 1,
         word: 0xdead_beef,
     };
     let pulled = Row {
+        name: "pull",
         place: 5,
         caller: 6,
         event: &Event::Pull { session },
@@ -218,16 +223,15 @@ fn pulls_and_asks_are_written(rt: HostRuntime) -> Result<(), Fail> {
         texts: &[b"entry 5 6 0600000001deadbeef04000000000000000524000000000000\n"],
     };
     let asked = Row {
+        name: "ask",
         place: 7,
         caller: 8,
         event: &Event::Ask { front: 2 },
         answer: &Answer::Work(Work::Tune { mux: 3, tune: 9 }),
         texts: &[b"entry 7 8 050002030000030000000000000009000000000000\n"],
     };
-    for (name, row) in [("pull", pulled), ("ask", asked)] {
-        assert!(rt; is_written(&mut line, &out, &row), "{name}");
-    }
-    Ok(())
+    check_line(&rt, rt.alloc(), &out, &pulled)?;
+    check_line(&rt, rt.alloc(), &out, &asked)
 }
 
 #[test]

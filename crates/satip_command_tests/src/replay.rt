@@ -36,35 +36,30 @@ fn run(alloc: Global, config: &[u8], script: &[u8], failing_puts: &[u64]) -> Res
     Ok(Report { end, output })
 }
 
-// Whether a replay by this configuration ends so, and writes nothing.
-fn writes_nothing(
+// How a replay by this configuration ends, and the number of bytes that it writes.
+fn end_of(
     alloc: Global,
     config: &[u8],
     script: &[u8],
     failing_puts: &[u64],
-    end: ReplayEnd,
-) -> Result<bool, Fail> {
+) -> Result<(ReplayEnd, usize), Fail> {
     let report = run(alloc, config, script, failing_puts)?;
-    Ok(report.end == end && report.output.sent().is_empty())
+    Ok((report.end, report.output.sent().len()))
 }
 
-// Whether a replay by a configuration of so many line feeds is refused with this fault.
-fn is_refused(alloc: Global, length: usize, fault: ConfigFault) -> Result<bool, Fail> {
+// The same of a replay by a configuration of so many line feeds.
+fn end_by_feeds(alloc: Global, length: usize) -> Result<(ReplayEnd, usize), Fail> {
     let config = vec![in alloc; b'\n'; length]?;
-    writes_nothing(
-        alloc,
-        &config,
-        b"stop\n",
-        &[],
-        ReplayEnd::Configuration(fault),
-    )
+    end_of(alloc, &config, b"stop\n", &[])
 }
 
 #[test]
 fn a_configuration_has_at_most_1048576_bytes(rt: HostRuntime) -> Result<(), Fail> {
-    let fault = ConfigFault::Shape(ConfigKey::top(ConfigName::Address));
-    assert!(rt; is_refused(rt.alloc(), 1048576, fault)?);
-    assert!(rt; is_refused(rt.alloc(), 1048577, ConfigFault::Long)?);
+    let shape = ConfigFault::Shape(ConfigKey::top(ConfigName::Address));
+    for (length, fault) in [(1048576, shape), (1048577, ConfigFault::Long)] {
+        let end = end_by_feeds(rt.alloc(), length)?;
+        assert_eq!(rt; end, (ReplayEnd::Configuration(fault), 0), "{length}");
+    }
     Ok(())
 }
 
@@ -72,9 +67,10 @@ fn a_configuration_has_at_most_1048576_bytes(rt: HostRuntime) -> Result<(), Fail
 fn nothing_is_written_before_the_whole_script_is_checked(rt: HostRuntime) -> Result<(), Fail> {
     let alloc = rt.alloc();
     let config = CONFIGURATION.as_bytes();
-    let wrong = ReplayEnd::Script(2);
-    assert!(rt; writes_nothing(alloc, config, b"tick 1\ntik 5", &[], wrong)?);
-    assert!(rt; writes_nothing(alloc, config, b"", &[1], ReplayEnd::Done)?);
+    let wrong = end_of(alloc, config, b"tick 1\ntik 5", &[])?;
+    assert_eq!(rt; wrong, (ReplayEnd::Script(2), 0));
+    let empty = end_of(alloc, config, b"", &[1])?;
+    assert_eq!(rt; empty, (ReplayEnd::Done, 0));
     Ok(())
 }
 
@@ -93,7 +89,8 @@ fn printed_often(alloc: Global) -> Result<Vec<u8>, Fail> {
 fn each_event_is_printed(rt: HostRuntime) -> Result<(), Fail> {
     let printed = printed_often(rt.alloc())?;
     let whole = ask_often(rt.alloc(), &[])?;
-    assert!(rt; whole.end == ReplayEnd::Done && whole.output.sent() == printed.as_slice());
+    assert_eq!(rt; whole.end, ReplayEnd::Done);
+    assert_eq!(rt; whole.output.sent(), printed.as_slice());
     Ok(())
 }
 
@@ -101,8 +98,8 @@ fn each_event_is_printed(rt: HostRuntime) -> Result<(), Fail> {
 fn a_fault_of_the_output_leaves_a_beginning(rt: HostRuntime) -> Result<(), Fail> {
     let printed = printed_often(rt.alloc())?;
     let cut = ask_often(rt.alloc(), &[2])?;
-    assert!(rt; cut.end == ReplayEnd::OutputFault);
-    assert_eq!(rt; cut.output.sent().len(), 65541);
-    assert!(rt; printed.starts_with(cut.output.sent()));
+    assert_eq!(rt; cut.end, ReplayEnd::OutputFault);
+    let (begun, _) = printed.split_at(printed.len().min(65541));
+    assert_eq!(rt; cut.output.sent(), begun);
     Ok(())
 }

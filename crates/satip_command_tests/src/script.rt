@@ -24,6 +24,7 @@ use satip_script::{
 };
 use satip_ts::read_packet;
 use std::alloc::Global;
+use std::process::Abort;
 use std::test::Fail;
 
 // What lines of each kind ask for, by their words.
@@ -235,15 +236,17 @@ fn packets_have_188_bytes_and_begin_with_47(rt: HostRuntime) -> Result<(), Fail>
     Ok(())
 }
 
-// Whether the line is a packet's whose bytes begin and end with these three.
-fn is_packet_line(line: &[u8], first: &[u8], last: &[u8]) -> bool {
+// The first three and the last three bytes of the packet of a line.
+fn packet_ends(line: &[u8]) -> Option<([u8; 3], [u8; 3])> {
     let Some(EventParts::Packet { digits, .. }) = Script::of(line).next_parts() else {
-        return false;
+        return None;
     };
-    match read_packet(digits) {
-        Some(packet) => &packet.bytes()[..3] == first && &packet.bytes()[185..] == last,
-        None => false,
-    }
+    let packet = read_packet(digits)?;
+    let bytes = packet.bytes();
+    Some((
+        [bytes[0], bytes[1], bytes[2]],
+        [bytes[185], bytes[186], bytes[187]],
+    ))
 }
 
 // Whether the line is a packet's by its words alone.
@@ -254,12 +257,21 @@ fn is_no_packet_line(line: &[u8]) -> bool {
     }
 }
 
-// Whether a script of one packet's line is wrong, which has so many bytes and then these digits.
-fn is_refused(alloc: Global, first: &[u8], size: usize, digits: &[u8]) -> Result<bool, Fail> {
+// Asserts that a script of one packet's line is wrong, which has so many bytes and then these
+// digits, and that the line is a packet's by its words alone.
+fn check_refused(
+    rt: &impl Abort,
+    alloc: Global,
+    first: &[u8],
+    size: usize,
+    digits: &[u8],
+) -> Result<(), Fail> {
     let mut framer = Framer::make(alloc)?;
     let mut line = packet_line(alloc, first, size)?;
     line.extend_from_slice(digits)?;
-    Ok(check_script(&line, &mut framer) == Some(1) && is_no_packet_line(&line))
+    assert_eq!(rt; check_script(&line, &mut framer), Some(1), "{size} bytes");
+    assert!(rt; is_no_packet_line(&line), "{size} bytes");
+    Ok(())
 }
 
 #[test]
@@ -268,31 +280,17 @@ fn packets_are_checked_and_decoded(rt: HostRuntime) -> Result<(), Fail> {
     let mut line = packet_line(rt.alloc(), b"\x47\x00\x10", 186)?;
     line.extend_from_slice(b"aFB9")?;
     assert_eq!(rt; check_script(&line, &mut framer), None);
-    assert!(rt; is_packet_line(&line, b"\x47\x00\x10", b"\x00\xaf\xb9"));
+    assert_eq!(rt;
+        packet_ends(&line),
+        Some(([0x47, 0x00, 0x10], [0x00, 0xaf, 0xb9]))
+    );
     Ok(())
 }
 
 #[test]
 fn a_packet_without_its_sync_byte_or_a_digit_is_refused(rt: HostRuntime) -> Result<(), Fail> {
-    assert!(rt; is_refused(rt.alloc(), b"\x74\x00\x10", 188, b"")?);
-    assert!(rt; is_refused(rt.alloc(), b"\x47\x00\x10", 187, b"0g")?);
-    Ok(())
-}
-
-// Whether a SETUP is asked for, without a refusal.
-fn is_setup(request: &Request, cseq: u32, ports: Ports, freq: u32) -> bool {
-    request.refusal.is_none()
-        && request.method == Method::Setup
-        && request.cseq == Some(cseq)
-        && request.ports == Some(ports)
-        && request.query.change.freq == Some(freq)
-}
-
-// Whether a PLAY is asked for.
-fn is_play(request: &Request, stream: u16, session: SessionId) -> bool {
-    request.method == Method::Play
-        && request.stream == Some(stream)
-        && request.session == SessionName::Named(session)
+    check_refused(&rt, rt.alloc(), b"\x74\x00\x10", 188, b"")?;
+    check_refused(&rt, rt.alloc(), b"\x47\x00\x10", 187, b"0g")
 }
 
 #[test]
@@ -302,7 +300,10 @@ fn the_setup_of_the_worked_rows_is_read(rt: HostRuntime) -> Result<(), Fail> {
         rtp: 1400,
         rtcp: 1401,
     };
-    assert!(rt; is_setup(&setup, 1, ports, 11361750));
+    assert_eq!(rt; setup.refusal, None);
+    assert_eq!(rt; (setup.method, setup.cseq), (Method::Setup, Some(1)));
+    assert_eq!(rt; setup.ports, Some(ports));
+    assert_eq!(rt; setup.query.change.freq, Some(11361750));
     Ok(())
 }
 
@@ -312,14 +313,16 @@ fn the_play_of_the_worked_rows_is_read(rt: HostRuntime) -> Result<(), Fail> {
         CSeq: 2\r\n\
         Session: 000000010000000a\r\n\r\n";
     let play = request_in(rt.alloc(), play)?.ok_or("play")?;
-    assert!(rt; is_play(&play, 1, SESSION));
+    assert_eq!(rt; (play.method, play.stream), (Method::Play, Some(1)));
+    assert_eq!(rt; play.session, SessionName::Named(SESSION));
     Ok(())
 }
 
 #[test]
 fn the_get_of_the_worked_rows_is_read(rt: HostRuntime) -> Result<(), Fail> {
     let get = get_in(rt.alloc(), GET)?.ok_or("get")?;
-    assert!(rt; get.refusal.is_none() && get.query.change.freq == Some(12402000));
+    assert_eq!(rt; get.refusal, None);
+    assert_eq!(rt; get.query.change.freq, Some(12402000));
     Ok(())
 }
 
@@ -661,7 +664,7 @@ fn lines_say_the_same_in_parts_and_whole(rt: HostRuntime) -> Result<(), Fail> {
 fn a_packet_says_the_same_in_parts_and_whole(rt: HostRuntime) -> Result<(), Fail> {
     let mut kept = keep(rt.alloc())?;
     let packet = packet_line(rt.alloc(), b"\x47\x00\x10", 188)?;
-    assert!(rt; is_same(&packet, &mut kept));
+    assert!(rt; is_same(&packet, &mut kept), "a packet");
     Ok(())
 }
 
@@ -677,7 +680,7 @@ fn texts_say_the_same_in_parts_and_whole(rt: HostRuntime) -> Result<(), Fail> {
     for (place, text) in SAME_TEXTS.iter().enumerate() {
         let over_rtsp = is_same_with(rt.alloc(), b"rtsp", text, &mut kept)?;
         let over_http = is_same_with(rt.alloc(), b"http", text, &mut kept)?;
-        assert!(rt; over_rtsp && over_http, "at {place}");
+        assert_eq!(rt; (over_rtsp, over_http), (true, true), "at {place}");
     }
     Ok(())
 }
@@ -738,29 +741,30 @@ fn out_with(alloc: Global, reply: &[u8; 4]) -> Result<Out, Fail> {
     Ok(out)
 }
 
-// Whether entries with this output are printed so.
-fn are_printed(alloc: Global, out: &Out, rows: &[(Answer, &[u8])]) -> Result<bool, Fail> {
-    for (answer, line) in rows {
+// Asserts that entries with this output are printed so.
+fn check_printed(
+    rt: &impl Abort,
+    alloc: Global,
+    out: &Out,
+    rows: &[(Answer, &[u8])],
+) -> Result<(), Fail> {
+    for (place, (answer, line)) in rows.iter().enumerate() {
         let text = printed(alloc, *answer, out)?;
-        if text.as_slice() != *line {
-            return Ok(false);
-        }
+        assert_eq!(rt; text.as_slice(), *line, "at {place}");
     }
-    Ok(true)
+    Ok(())
 }
 
 #[test]
 fn entries_without_a_reply_are_printed(rt: HostRuntime) -> Result<(), Fail> {
     let out = Out::make(rt.alloc())?;
-    assert!(rt; are_printed(rt.alloc(), &out, SHORT)?);
-    Ok(())
+    check_printed(&rt, rt.alloc(), &out, SHORT)
 }
 
 #[test]
 fn entries_with_a_reply_are_printed(rt: HostRuntime) -> Result<(), Fail> {
     let out = out_with(rt.alloc(), b"RTSP")?;
-    assert!(rt; are_printed(rt.alloc(), &out, WITH_REPLY)?);
-    Ok(())
+    check_printed(&rt, rt.alloc(), &out, WITH_REPLY)
 }
 
 // The datagrams follow their answer, in order.
@@ -779,6 +783,6 @@ fn datagrams_are_printed(rt: HostRuntime) -> Result<(), Fail> {
     let text = printed(rt.alloc(), Answer::Beat(Beat::Going), &out)?;
     let lines =
         b"going\ngoing\ndatagram 192.168.1.20:1400 8021ffff\ndatagram 192.168.1.21:65535 \n";
-    assert!(rt; text.as_slice() == lines.as_slice());
+    assert_eq!(rt; text.as_slice(), lines.as_slice());
     Ok(())
 }
