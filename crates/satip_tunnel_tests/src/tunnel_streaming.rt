@@ -16,6 +16,7 @@ use satip_tunnel::{TunnelEnd, serve_tunnel};
 use satip_worker::Draws;
 use satip_world::{Conn, Received};
 use std::alloc::Global;
+use std::process::Abort;
 use std::sync::Wait;
 use std::test::Fail;
 
@@ -259,8 +260,7 @@ fn each_receive_that_finds_nothing_drains(rt: HostRuntime) -> Result<(), Fail> {
 
 // Serves a connection whose third piece, before which the frames come, is this one: the frames are
 // sent before a receive finds nothing.
-fn drains_after(rt: &HostRuntime, piece: &[u8]) -> Result<(), Fail> {
-    let alloc = rt.alloc();
+fn drains_after<R: Wait + Sync + Abort>(rt: &R, alloc: Global, piece: &[u8]) -> Result<(), Fail> {
     let bytes = wanted(alloc)?;
     let (server, pass) = shared(alloc)?;
     let row = Row {
@@ -277,8 +277,8 @@ fn drains_after(rt: &HostRuntime, piece: &[u8]) -> Result<(), Fail> {
 
 #[test]
 fn each_piece_without_a_message_drains(rt: HostRuntime) -> Result<(), Fail> {
-    drains_after(&rt, HALF)?;
-    drains_after(&rt, RECEIVER_REPORT)
+    drains_after(&rt, rt.alloc(), HALF)?;
+    drains_after(&rt, rt.alloc(), RECEIVER_REPORT)
 }
 
 #[test]
