@@ -1,4 +1,4 @@
-//! A desk that is out of memory for kits.
+//! A desk that may be out of memory for kits.
 
 ghost use Rattle.std.specs.Prelude.{◌≡◌};
 
@@ -7,17 +7,18 @@ use satip_config::Config;
 use satip_desk::{Desk, Jobs, JobsFault};
 use std::alloc::Global;
 
-/// A desk, but for kits, for which it is out of memory.
+/// A desk that is out of memory for kits, if it refuses.
 #[derive(Drop)]
-pub struct RefusingDesk<K> {
+pub(crate) struct RefusingDesk<K> {
     desk: K,
+    refuses: bool,
 }
 
 impl<K: Desk> RefusingDesk<K> {
-    pub fn new(desk: K) -> RefusingDesk<K>
+    pub(crate) fn new(desk: K, refuses: bool) -> RefusingDesk<K>
         ensures desk { result.desk ≡ desk }
     {
-        RefusingDesk { desk }
+        RefusingDesk { desk, refuses }
     }
 }
 
@@ -46,11 +47,14 @@ impl<K: Desk> Desk for RefusingDesk<K> {
 
     fn jobs(
         &mut self,
-        _alloc: Global,
-        _config: &Config,
-        _accepts: u32,
+        alloc: Global,
+        config: &Config,
+        accepts: u32,
     ) -> Result<Jobs<K::Doors, K::Outlet, K::Pacer, K::Store, K::Clock>, JobsFault> {
-        Err(JobsFault::Want)
+        if self.refuses {
+            return Err(JobsFault::Want);
+        }
+        self.desk.jobs(alloc, config, accepts)
     }
 
     fn config(&mut self, name: &Text) -> Result<K::Config, Failed> {

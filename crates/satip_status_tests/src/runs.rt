@@ -1,42 +1,25 @@
-//! Runs of services over memory, and what they are compared with.
+//! Runs of services over memory, each by its row.
 
-ghost use Rattle.std.specs.Prelude.{◌≡◌, None};
-ghost use Rattle.satip_desk.specs.Handed.{nothing_handed};
-
-use crate::kits::MemoryWorker;
-use satip_desk::Desk;
+use crate::kits::{MemoryWorker, Plan, make_desk};
+use crate::refusing::RefusingDesk;
+use satip_base::Text;
+use satip_fixtures::texts::OPTIONS_REPLY;
 use satip_memory::{MemorySink, MemorySource};
-use satip_memory_desk::{MemoryDesk, texts_of};
+use satip_memory_desk::MemoryDesk;
 use satip_program::{Ended, satip};
+use satip_world::ConnEnd;
 use std::alloc::Global;
+use std::fmt::Debug;
 use std::process::Abort;
 use std::sync::Wait;
-use std::test::Fail;
 use std::thread::Threads;
 
-/// The services.
-pub const SERVICES: [&str; 3] = ["serve", "journal", "tunnel"];
-
-/// The end of a run, and the bytes that it wrote.
-pub struct Ran<K: Desk> {
-    pub ended: Ended<K>,
-    pub output: MemorySink,
-    pub errors: MemorySink,
-}
-
-impl<K: Desk> Drop for Ran<K> {
-    fn drop(self) {
-        let Ran {
-            ended: _,
-            output: _,
-            errors: _,
-        } = self;
-    }
-}
+// The services.
+const SERVICES: [&str; 3] = ["serve", "journal", "tunnel"];
 
 /// The parts of a run's end that came back.
 #[derive(Clone, Copy, Debug, PartialEq, Eq)]
-pub struct Back {
+pub(crate) struct Back {
     pub config: bool,
     pub last: bool,
     pub tunnel: bool,
@@ -45,7 +28,7 @@ pub struct Back {
 }
 
 /// Nothing came back.
-pub const NOTHING: Back = Back {
+pub(crate) const NOTHING: Back = Back {
     config: false,
     last: false,
     tunnel: false,
@@ -54,71 +37,199 @@ pub const NOTHING: Back = Back {
 };
 
 /// A configuration came back, and nothing else.
-pub const CONFIG_ALONE: Back = Back {
+pub(crate) const CONFIG_ALONE: Back = Back {
     config: true,
     ..NOTHING
 };
 
-impl<K: Desk> Ran<K> {
-    /// Asserts that the run with this name wrote nothing, and ended with this status and these
-    /// errors.
-    pub fn check(&self, rt: &impl Abort, name: &str, status: u8, errors: &[u8]) {
-        assert_eq!(rt;
-            (self.ended.status, self.output.sent(), self.errors.sent()),
-            (status, b"".as_slice(), errors),
-            "{name}"
-        );
+/// The parts that must come back.
+#[derive(Clone, Copy)]
+pub(crate) enum Parts {
+    /// These.
+    These(Back),
+    /// Those of a service with one worker whose jobs began.
+    OfJobs,
+}
+
+/// A run of a service, and its result.
+#[derive(Clone, Copy)]
+pub(crate) struct Row {
+    pub name: &'static str,
+    pub plan: Plan,
+    /// The words after the service's name.
+    pub config: &'static str,
+    pub accepts: &'static str,
+    pub status: u8,
+    pub errors: &'static [u8],
+    pub parts: Parts,
+    /// The number of connections that each worker handed back. Each was served to its end, with one
+    /// reply to OPTIONS.
+    pub served: &'static [usize],
+}
+
+// The desk of a run.
+type RunDesk = RefusingDesk<MemoryDesk>;
+
+/// The end of a run, and the bytes that it wrote.
+#[derive(Drop)]
+pub(crate) struct Ran {
+    ended: Ended<RunDesk>,
+    output: MemorySink,
+    errors: MemorySink,
+}
+
+impl Ran {
+    // Returns the kits of the workers that served, with a tunnel or without; none if no job began.
+    fn workers(&self) -> &[MemoryWorker] {
+        match (&self.ended.last, &self.ended.tunnel) {
+            (Some(last), _) => &last.jobs.workers,
+            (None, Some(last)) => &last.jobs.workers,
+            (None, None) => &[],
+        }
     }
 
-    /// Asserts that these parts came back of the run with this name.
-    pub fn check_back(&self, rt: &impl Abort, name: &str, back: Back) {
-        let ended = &self.ended;
-        let got = Back {
-            config: ended.config.is_some(),
-            last: ended.last.is_some(),
-            tunnel: ended.tunnel.is_some(),
-            unused: ended.unused.is_some(),
-            journals: ended.journals.len(),
-        };
-        assert_eq!(rt; got, back, "{name}");
+    // Returns the parts that came back.
+    fn back(&self) -> Back {
+        Back {
+            config: self.ended.config.is_some(),
+            last: self.ended.last.is_some(),
+            tunnel: self.ended.tunnel.is_some(),
+            unused: self.ended.unused.is_some(),
+            journals: self.ended.journals.len(),
+        }
+    }
+
+    /// Returns the bytes of a job's journal.
+    pub(crate) fn journal(&self, job: usize) -> &[u8] {
+        match self.ended.journals.get(job) {
+            Some(journal) => journal.sink().sent(),
+            None => b"none",
+        }
     }
 }
 
-/// Returns the kits of the workers that served, with a tunnel or without; none if no job began.
-pub fn workers_of(ended: &Ended<MemoryDesk>) -> &[MemoryWorker] {
-    match (&ended.last, &ended.tunnel) {
-        (Some(last), _) => &last.jobs.workers,
-        (None, Some(last)) => &last.jobs.workers,
-        (None, None) => &[],
+// Returns the parts that must come back of a service.
+fn back_of(service: &str, parts: Parts) -> Back {
+    match (parts, service) {
+        (Parts::These(back), _) => back,
+        (Parts::OfJobs, "tunnel") => Back {
+            tunnel: true,
+            ..CONFIG_ALONE
+        },
+        (Parts::OfJobs, "journal") => Back {
+            last: true,
+            journals: 4,
+            ..CONFIG_ALONE
+        },
+        (Parts::OfJobs, _) => Back {
+            last: true,
+            ..CONFIG_ALONE
+        },
     }
 }
 
-/// Runs the program with these words, without input.
-pub fn run<R: Threads + Wait + Sync, K: Desk>(
-    rt: &R,
-    alloc: Global,
-    words: &[&str],
-    desk: &mut K,
-) -> Result<Ran<K>, Fail>
-    requires new { (K.desk desk.old).given ≡ None }
-    requires client { (K.desk desk.old).handed ≡ nothing_handed }
-{
-    let texts = texts_of(alloc, words)?;
-    let mut input = MemorySource::make(alloc, b"", &[], &[])?;
-    let mut output = MemorySink::make(alloc, &[], 0)?;
-    let mut errors = MemorySink::make(alloc, &[], 0)?;
+// The words of a run, its input and its outputs.
+#[derive(Drop)]
+struct Streams {
+    words: Vec<Text>,
+    input: MemorySource,
+    output: MemorySink,
+    errors: MemorySink,
+}
+
+fn make_words(rt: &impl Abort, alloc: Global, words: &[&str]) -> Vec<Text> {
+    let mut texts = Vec::new(alloc);
+    for word in words {
+        let text = Text::of(alloc, word).expect(rt, "out of memory");
+        texts.push(text).expect(rt, "out of memory");
+    }
+    texts
+}
+
+fn make_streams(rt: &impl Abort, alloc: Global, words: &[&str]) -> Streams {
+    Streams {
+        words: make_words(rt, alloc, words),
+        input: MemorySource::make(alloc, b"", &[], &[]).expect(rt, "out of memory"),
+        output: MemorySink::make(alloc, &[], 0).expect(rt, "out of memory"),
+        errors: MemorySink::make(alloc, &[], 0).expect(rt, "out of memory"),
+    }
+}
+
+// Runs the program with these words, without input, over the desk of a plan.
+fn run<R: Threads + Wait + Sync + Abort>(rt: &R, alloc: Global, words: &[&str], plan: Plan) -> Ran {
+    let mut streams = make_streams(rt, alloc, words);
+    let mut desk = RefusingDesk::new(make_desk(rt, alloc, plan), plan.refuses);
     let ended = satip(
         rt,
         alloc,
-        &texts,
-        &mut input,
-        &mut output,
-        &mut errors,
-        desk,
+        &streams.words,
+        &mut streams.input,
+        &mut streams.output,
+        &mut streams.errors,
+        &mut desk,
     );
-    Ok(Ran {
+    Ran {
         ended,
-        output,
-        errors,
-    })
+        output: streams.output,
+        errors: streams.errors,
+    }
+}
+
+/// Asserts that a value of the row with this name is this one.
+pub(crate) fn check<T: PartialEq + Debug + Drop>(rt: &impl Abort, name: &str, got: T, wanted: T) {
+    assert_eq!(rt; got, wanted, "{name}");
+}
+
+// Asserts that a worker handed back this number of connections, each served to its end, with one
+// reply to OPTIONS.
+fn check_worker(rt: &impl Abort, name: &str, kit: &MemoryWorker, connections: usize) {
+    let returned = kit.doors.returned();
+    check(rt, name, returned.len(), connections);
+    for handed in returned {
+        let got = (handed.end, handed.conn.sent());
+        check(rt, name, got, (ConnEnd::Done, OPTIONS_REPLY));
+    }
+}
+
+// Asserts that each worker handed back its number of connections.
+fn check_workers(rt: &impl Abort, name: &str, workers: &[MemoryWorker], served: &[usize]) {
+    check(rt, name, workers.len(), served.len());
+    for (kit, connections) in workers.iter().zip(served) {
+        check_worker(rt, name, kit, *connections);
+    }
+}
+
+/// Runs the program with these words over the desk of a row, and asserts the result of the row.
+pub(crate) fn run_row<R: Threads + Wait + Sync + Abort>(
+    rt: &R,
+    alloc: Global,
+    words: &[&str],
+    row: &Row,
+) -> Ran {
+    let ran = run(rt, alloc, words, row.plan);
+    let got = (ran.ended.status, ran.output.sent(), ran.errors.sent());
+    check(rt, row.name, got, (row.status, b"".as_slice(), row.errors));
+    let service = words.first().copied().unwrap_or("");
+    check(rt, row.name, ran.back(), back_of(service, row.parts));
+    check_workers(rt, row.name, ran.workers(), row.served);
+    ran
+}
+
+/// Runs a service by a row, and asserts the result of the row.
+pub(crate) fn run_service<R: Threads + Wait + Sync + Abort>(
+    rt: &R,
+    alloc: Global,
+    service: &str,
+    row: &Row,
+) -> Ran {
+    run_row(rt, alloc, &[service, row.config, row.accepts], row)
+}
+
+/// Runs each service by each row, and asserts the result of the row.
+pub(crate) fn run_services<R: Threads + Wait + Sync + Abort>(rt: &R, alloc: Global, rows: &[Row]) {
+    for row in rows {
+        for service in SERVICES {
+            drop(run_service(rt, alloc, service, row));
+        }
+    }
 }
