@@ -1,6 +1,9 @@
 //! The adapters of a client over loopback: a connection that it dials, and its inlet.
 
-use crate::network::{LOCALHOST, client, hears, local, receive};
+use crate::checks::{check, check_within};
+use crate::sockets::{
+    LOCALHOST, bind, check_heard, check_inlet, check_received, listen_at, local, socket_addr,
+};
 use satip_base::{Address, Peer, Put};
 use satip_desk::Desk;
 use satip_host::RealClock;
@@ -8,185 +11,148 @@ use satip_real::{RealConn, RealInlet};
 use satip_real_desk::RealDesk;
 use satip_world::{Clock, Conn, ConnEnd, Inlet, Received};
 use std::io::{ErrorKind, Read, Write};
-use std::net::{Ipv4Addr, SocketAddr, TcpListener, TcpStream, UdpSocket};
+use std::net::{SocketAddr, TcpStream, UdpSocket};
+use std::process::Abort;
 use std::sync::Wait;
-use std::test::Fail;
 
-// A listener of a server, and its port.
-fn listen(rt: &HostRuntime) -> Result<(TcpListener, u16), Fail> {
-    let listener = TcpListener::bind(rt, SocketAddr::from((Ipv4Addr::LOCALHOST, 0)))?;
-    let port = listener.local_addr()?.port();
-    Ok((listener, port))
-}
-
-// A connection that was dialed, and the one that its server has.
-fn dial(rt: HostRuntime) -> Result<(RealConn, TcpStream), Fail> {
-    let (listener, port) = listen(&rt)?;
-    let conn = RealConn::dial(rt, local(port))?;
-    let (server, _) = listener.accept()?;
-    Ok((conn, server))
-}
-
-// Asks a server that is silent so far: what a receive before gives, what the send answers, and what
-// the server reads.
-fn ask(conn: &mut RealConn, server: &mut TcpStream) -> Result<(Received, Put, [u8; 5]), Fail> {
-    let received = conn.receive(&mut [0; 16]);
-    let put = conn.send(b"SETUP");
+// Asks a server that is silent so far. Asserts that nothing was received before, and that the server
+// reads the request.
+fn check_asked(rt: &impl Abort, conn: &mut RealConn, server: &mut TcpStream) {
     let mut request = [0; 5];
-    server.read_exact(&mut request)?;
-    Ok((received, put, request))
+    check(rt, "before", conn.receive(&mut [0; 16]), Received::Idle);
+    check(rt, "request", conn.send(b"SETUP"), Put::Whole);
+    server.read_exact(&mut request).expect(rt, "request");
+    check(rt, "request", request, *b"SETUP");
+}
+
+// Dials a server. Returns the connection, and the one that the server has.
+fn dial(rt: &impl Abort, host: HostRuntime) -> (RealConn, TcpStream) {
+    let (listener, port) = listen_at(rt, host, 1);
+    let conn = RealConn::dial(host, local(port)).expect(rt, "connection");
+    let (server, _) = listener.accept().expect(rt, "connection");
+    (conn, server)
 }
 
 #[test]
-fn a_dialed_server_is_asked_and_heard(rt: HostRuntime) -> Result<(), Fail> {
-    let (mut conn, mut server) = dial(rt)?;
-    let asked = ask(&mut conn, &mut server)?;
-    assert_eq!(rt; asked, (Received::Idle, Put::Whole, *b"SETUP"));
-    server.write_all(b"200")?;
-    assert!(rt; hears(&mut conn, b"200"));
+fn a_dialed_server_is_asked_and_heard(rt: HostRuntime) {
+    let (mut conn, mut server) = dial(&rt, rt);
+    check_asked(&rt, &mut conn, &mut server);
+    server.write_all(b"200").expect(&rt, "reply");
+    check_heard(&rt, "reply", &mut conn, b"200");
     drop(server);
-    for _ in 0..2 {
-        assert_eq!(rt; receive(&mut conn, &mut [0; 16]), Received::End);
-    }
+    check_received(&rt, "left", &mut conn, &[Received::End; 2]);
     conn.close(rt, ConnEnd::Done);
-    Ok(())
 }
 
 #[test]
-fn nobody_is_dialed_at_a_closed_port(rt: HostRuntime) -> Result<(), Fail> {
-    let (listener, port) = listen(&rt)?;
+fn nobody_is_dialed_at_a_closed_port(rt: HostRuntime) {
+    let (listener, port) = listen_at(&rt, rt, 1);
     drop(listener);
-    match RealConn::dial(rt, local(port)) {
-        Ok(_) => Err(Fail::from("somebody was there")),
-        Err(error) => {
-            assert_eq!(rt; error.kind(), ErrorKind::ConnectionRefused);
-            Ok(())
-        }
-    }
+    let kind = match RealConn::dial(rt, local(port)) {
+        Ok(_) => None,
+        Err(error) => Some(error.kind()),
+    };
+    check(&rt, "dialed", kind, Some(ErrorKind::ConnectionRefused));
 }
 
-// Sends a short datagram, one that is longer than a buffer of 2048 bytes, and an empty one.
-fn send_three(sender: &UdpSocket, to: SocketAddr) -> Result<(), Fail> {
-    sender.send_to(b"abc", to)?;
-    sender.send_to(&[7; 3000], to)?;
-    sender.send_to(b"", to)?;
-    Ok(())
+// Sends these datagrams one after another.
+fn send_each(rt: &impl Abort, sender: &UdpSocket, to: SocketAddr, datagrams: &[&[u8]]) {
+    for datagram in datagrams {
+        sender.send_to(datagram, to).expect(rt, "datagram");
+    }
 }
 
 #[test]
-fn an_inlet_gives_each_datagram_and_is_idle_else(rt: HostRuntime) -> Result<(), Fail> {
-    let mut inlet = RealInlet::bind(rt, LOCALHOST, None)?;
-    let to = SocketAddr::from((Ipv4Addr::LOCALHOST, inlet.port()));
-    let (sender, _) = client(&rt)?;
+fn an_inlet_gives_each_datagram_and_is_idle_else(rt: HostRuntime) {
+    let mut inlet = RealInlet::bind(rt, LOCALHOST, None).expect(&rt, "inlet");
+    check_inlet(&rt, "before", &mut inlet, &[Received::Idle]);
+    let to = socket_addr(1, inlet.port());
+    // A short datagram, one that is longer than a buffer of 2048 bytes, and an empty one.
+    let long = vec![in rt.alloc(); 7; 3000].expect(&rt, "out of memory");
+    send_each(&rt, &bind(&rt, rt, 1, 0), to, &[b"abc", &long, b""]);
     let mut buf = [0; 2048];
-    assert_eq!(rt; inlet.receive(&mut buf), Received::Idle);
-    send_three(&sender, to)?;
-    let first = inlet.receive(&mut buf);
-    assert!(rt; first == Received::Got(3) && buf.starts_with(b"abc"));
-    for received in [Received::Got(2048), Received::Got(0), Received::Idle] {
-        assert_eq!(rt; inlet.receive(&mut buf), received);
-    }
-    Ok(())
+    check(&rt, "first", inlet.receive(&mut buf), Received::Got(3));
+    check(&rt, "first", buf.get(..3), Some(b"abc".as_slice()));
+    let rest = [Received::Got(2048), Received::Got(0), Received::Idle];
+    check_inlet(&rt, "rest", &mut inlet, &rest);
 }
 
-// A socket of a host of this machine's own network, which a datagram names as its sender.
-fn sender_at(rt: &HostRuntime, host: u8) -> Result<UdpSocket, Fail> {
-    let ip = Ipv4Addr::new(127, 0, 0, host);
-    Ok(UdpSocket::bind(rt, SocketAddr::from((ip, 0)))?)
-}
-
-// Sends 65 datagrams to the port of a host, two of them this host's own.
-fn send_among_others(rt: &HostRuntime, to: SocketAddr) -> Result<(), Fail> {
-    let (server, other) = (sender_at(rt, 2)?, sender_at(rt, 3)?);
-    server.send_to(b"abc", to)?;
+// Sends 65 datagrams to the port of a host. The first and the last come from 127.0.0.2, the others
+// from 127.0.0.3.
+fn send_among_others(rt: &impl Abort, host: HostRuntime, to: SocketAddr) {
+    let (server, other) = (bind(rt, host, 2, 0), bind(rt, host, 3, 0));
+    send_each(rt, &server, to, &[b"abc"]);
     for _ in 0..63 {
-        other.send_to(b"other", to)?;
+        send_each(rt, &other, to, &[b"other"]);
     }
-    server.send_to(b"defg", to)?;
-    Ok(())
+    send_each(rt, &server, to, &[b"defg"]);
 }
+
+// The two datagrams of 127.0.0.2.
+const TWO: &[Received] = &[Received::Got(3), Received::Got(4), Received::Idle];
 
 #[test]
-fn an_inlet_drops_what_others_send(rt: HostRuntime) -> Result<(), Fail> {
-    let mut inlet = RealInlet::bind(rt, 0, Some(Peer { ip: 0x7f00_0002 }))?;
-    let to = SocketAddr::from((Ipv4Addr::LOCALHOST, inlet.port()));
-    send_among_others(&rt, to)?;
-    let mut buf = [0; 2048];
-    for received in [Received::Got(3), Received::Got(4), Received::Idle] {
-        assert_eq!(rt; inlet.receive(&mut buf), received);
-    }
-    Ok(())
+fn an_inlet_drops_what_others_send(rt: HostRuntime) {
+    let server = Some(Peer { ip: 0x7f00_0002 });
+    let mut inlet = RealInlet::bind(rt, 0, server).expect(&rt, "inlet");
+    send_among_others(&rt, rt, socket_addr(1, inlet.port()));
+    check_inlet(&rt, "received", &mut inlet, TWO);
 }
 
-// A server at 127.0.0.2, and its port.
-fn listen_at_2(rt: &HostRuntime) -> Result<(TcpListener, u16), Fail> {
-    let ip = Ipv4Addr::new(127, 0, 0, 2);
-    let listener = TcpListener::bind(rt, SocketAddr::from((ip, 0)))?;
-    let port = listener.local_addr()?.port();
-    Ok((listener, port))
+// The devices of a client.
+#[derive(Drop)]
+struct Client {
+    moment: RealClock,
+    wire: RealConn,
+    inlet: RealInlet,
 }
 
-// What a desk gives a client of a server at 127.0.0.2.
-fn client_devices<R: Wait + Copy + Drop + Send>(
+// Returns what a desk gives a client of a server at 127.0.0.2.
+fn make_client<R: Wait + Abort + Copy + Drop + Send>(
     host: HostRuntime,
     rt: R,
     port: u16,
-) -> Result<(RealClock, RealConn, RealInlet), Fail> {
+) -> Client {
     let mut desk = RealDesk::new(host, rt);
     let moment = desk.moment();
     let to = Address {
         ip: 0x7f00_0002,
         port,
     };
-    let wire = desk.dial(to).ok().ok_or("connection")?;
-    let inlet = desk.inlet().ok().ok_or("inlet")?;
-    Ok((moment, wire, inlet))
-}
-
-#[test]
-fn a_desk_gives_a_client_its_devices(rt: HostRuntime) -> Result<(), Fail> {
-    let (listener, port) = listen_at_2(&rt)?;
-    let (mut moment, mut wire, mut inlet) = client_devices(rt, rt, port)?;
-    let (mut server, _) = listener.accept()?;
-    let asked = ask(&mut wire, &mut server)?;
-    assert_eq!(rt; asked, (Received::Idle, Put::Whole, *b"SETUP"));
-    // The inlet is at each address of the host, and hears the server alone.
-    let mut buf = [0; 2048];
-    for host in [1, 2] {
-        let ip = Ipv4Addr::new(127, 0, 0, host);
-        send_among_others(&rt, SocketAddr::from((ip, inlet.port())))?;
-        for received in [Received::Got(3), Received::Got(4), Received::Idle] {
-            assert_eq!(rt; inlet.receive(&mut buf), received, "{host}");
-        }
+    Client {
+        moment,
+        wire: desk.dial(to).expect(&rt, "connection"),
+        inlet: desk.inlet().expect(&rt, "inlet"),
     }
-    let shown = moment.now();
-    assert!(rt; shown <= moment.now());
-    Ok(())
 }
 
 #[test]
-fn inlets_have_even_ports_and_the_next_ones(rt: HostRuntime) -> Result<(), Fail> {
+fn a_desk_gives_a_client_its_devices(rt: HostRuntime) {
+    let (listener, port) = listen_at(&rt, rt, 2);
+    let mut client = make_client(rt, rt, port);
+    let (mut server, _) = listener.accept().expect(&rt, "connection");
+    check_asked(&rt, &mut client.wire, &mut server);
+    // The inlet is at each address of the host, and hears the server alone.
+    for (name, last) in [("at 127.0.0.1", 1), ("at 127.0.0.2", 2)] {
+        let to = socket_addr(last, client.inlet.port());
+        send_among_others(&rt, rt, to);
+        check_inlet(&rt, name, &mut client.inlet, TWO);
+    }
+    let shown = client.moment.now();
+    check_within(&rt, "moment", client.moment.now(), shown, u64::MAX);
+}
+
+#[test]
+fn inlets_have_even_ports_and_the_next_ones(rt: HostRuntime) {
     let mut inlets = Vec::new(rt.alloc());
     for _ in 0..20 {
-        let inlet = RealInlet::bind(rt, 0, None)?;
+        let inlet = RealInlet::bind(rt, 0, None).expect(&rt, "inlet");
         let port = inlet.port();
-        assert_eq!(rt; port % 2, 0);
+        check(&rt, "even port", port % 2, 0);
         for taken in [port, port.saturating_add(1)] {
-            let address = SocketAddr::from((Ipv4Addr::LOCALHOST, taken));
-            assert!(rt; UdpSocket::bind(&rt, address).is_err(), "{taken}");
+            let is_free = UdpSocket::bind(&rt, socket_addr(1, taken)).is_ok();
+            check(&rt, "is free", (taken, is_free), (taken, false));
         }
-        inlets.push(inlet)?;
-    }
-    Ok(())
-}
-
-#[test]
-fn a_clock_that_begins_never_falls(rt: HostRuntime) {
-    let mut clock = RealClock::begin(rt);
-    let mut last = clock.now();
-    for _ in 0..1000 {
-        let shown = clock.now();
-        assert!(rt; last <= shown);
-        last = shown;
+        inlets.push(inlet).expect(&rt, "out of memory");
     }
 }

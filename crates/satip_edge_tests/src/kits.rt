@@ -1,86 +1,161 @@
 //! Kits over loopback.
 
-use crate::network::listen;
+use crate::checks::check;
+use crate::sockets::{LOCALHOST, listen};
 use satip_base::Text;
 use satip_config::Config;
 use satip_desk::{Jobs, WorkerKit};
 use satip_fixtures::config_with;
 use satip_playout::RealPacer;
 use satip_real::{RealDoors, RealOutlet};
-use satip_real_desk::{KitsFault, RealJobs, Settings, real_kits};
+use satip_real_desk::{KitsFault, Settings, real_kits};
 use satip_world::{Door, Doors};
 use std::alloc::Global;
 use std::env::{Env, FillError};
+use std::process::Abort;
 use std::sync::Wait;
-use std::test::Fail;
 use std::thread;
 
-// A configuration for loopback, without front ends, whose ports are free ones.
-fn config(alloc: Global) -> Result<Config, Fail> {
-    Ok(Config {
-        address: 0x7f00_0001,
-        rtsp_port: 0,
-        http_port: 0,
-        workers: 2,
-        ..config_with(alloc, 0, &[])?
-    })
+// A configuration for loopback with two workers and no front end, and what stands in place of its
+// kits.
+#[derive(Clone, Copy)]
+struct Row {
+    name: &'static str,
+    address: u32,
+    // The name of the one recording, or "" for none.
+    recording: &'static str,
+    // Whether the port for RTSP, and that for HTTP, is one in use, and not a free one.
+    used: (bool, bool),
+    // The kind of the fault, and how its text starts and ends.
+    fault: &'static str,
+    start: &'static str,
+    end: &'static str,
 }
 
-// What stands in place of the kits.
-fn fault<R: Wait + Copy + Drop>(host: HostRuntime, rt: R, config: &Config) -> Option<KitsFault> {
+const NO_FAULT: Row = Row {
+    name: "no recording",
+    address: LOCALHOST,
+    recording: "",
+    used: (false, false),
+    fault: "none",
+    start: "",
+    end: "",
+};
+
+const ROWS: &[Row] = &[
+    NO_FAULT,
+    Row {
+        name: "a missing recording",
+        recording: "no/such/recording.ts",
+        fault: "recording",
+        start: "recording of mux.1, no/such/recording.ts, can't be played: ",
+        ..NO_FAULT
+    },
+    Row {
+        name: "a directory",
+        recording: "/",
+        fault: "recording",
+        start: "recording of mux.1, /, can't be played: it is not a regular file ",
+        end: "counts from the folder of the start)",
+        ..NO_FAULT
+    },
+    Row {
+        name: "a device",
+        recording: "/dev/null",
+        fault: "recording",
+        start: "recording of mux.1, /dev/null, can't be played: it is not a regular file ",
+        end: "counts from the folder of the start)",
+        ..NO_FAULT
+    },
+    Row {
+        name: "an address that is not ours",
+        address: 0xc000_0201,
+        fault: "RTSP port",
+        ..NO_FAULT
+    },
+    Row {
+        name: "a port for RTSP in use",
+        used: (true, false),
+        fault: "RTSP port",
+        ..NO_FAULT
+    },
+    Row {
+        name: "a port for HTTP in use",
+        used: (false, true),
+        fault: "HTTP port",
+        ..NO_FAULT
+    },
+];
+
+// The ports in use for RTSP and for HTTP.
+type Used = (u16, u16);
+
+fn make_config(rt: &impl Abort, alloc: Global, row: &Row, used: Used) -> Config {
+    let config = config_with(alloc, 0, &[]).expect(rt, "out of memory");
+    Config {
+        address: row.address,
+        rtsp_port: if row.used.0 { used.0 } else { 0 },
+        http_port: if row.used.1 { used.1 } else { 0 },
+        workers: 2,
+        ..config
+    }
+}
+
+// Returns the configuration of a row.
+fn config_of(rt: &impl Abort, alloc: Global, row: &Row, used: Used) -> Config {
+    let mut config = make_config(rt, alloc, row, used);
+    if !row.recording.is_empty() {
+        let name = Text::of(alloc, row.recording).expect(rt, "out of memory");
+        config.files.push(name).expect(rt, "out of memory");
+    }
+    config
+}
+
+// Returns what stands in place of the kits.
+fn fault_of<R: Wait + Copy + Drop>(host: HostRuntime, rt: R, config: &Config) -> Option<KitsFault> {
     real_kits(host, rt, config, 1).err()
 }
 
-// What is told where the one recording has this name, and can't be played.
-fn told_of_recording<R: Wait + Copy + Drop>(
-    host: HostRuntime,
-    rt: R,
-    name: &str,
-) -> Result<String, Fail> {
-    let alloc = host.alloc();
-    let mut config = config(alloc)?;
-    config.files.push(Text::of(alloc, name)?)?;
-    match fault(host, rt, &config) {
-        Some(fault) => Ok(format!(in alloc; "{fault}")?),
-        None => Err(Fail::from("kits")),
+fn kind_of(fault: &Option<KitsFault>) -> &'static str {
+    match fault {
+        None => "none",
+        Some(KitsFault::RtspPort(_)) => "RTSP port",
+        Some(KitsFault::HttpPort(_)) => "HTTP port",
+        Some(KitsFault::Recording { .. }) => "recording",
+        Some(_) => "another",
     }
 }
 
-#[test]
-fn no_recording_is_wanted_where_none_is_named(rt: HostRuntime) -> Result<(), Fail> {
-    assert!(rt; fault(rt, rt, &config(rt.alloc())?).is_none());
-    Ok(())
-}
-
-#[test]
-fn a_missing_recording_is_named(rt: HostRuntime) -> Result<(), Fail> {
-    let told = told_of_recording(rt, rt, "no/such/recording.ts")?;
-    let wanted = "recording of mux.1, no/such/recording.ts, can't be played: ";
-    assert!(rt; told.as_str().starts_with(wanted));
-    Ok(())
-}
-
-#[test]
-fn a_directory_and_a_device_are_no_recordings(rt: HostRuntime) -> Result<(), Fail> {
-    for (name, start) in [
-        (
-            "/",
-            "recording of mux.1, /, can't be played: it is not a regular file ",
-        ),
-        (
-            "/dev/null",
-            "recording of mux.1, /dev/null, can't be played: it is not a regular file ",
-        ),
-    ] {
-        let told = told_of_recording(rt, rt, name)?;
-        let text = told.as_str();
-        assert!(rt; text.starts_with(start), "at {name}");
-        assert!(rt;
-            text.ends_with("counts from the folder of the start)"),
-            "at {name}"
-        );
+fn text_of(rt: &impl Abort, alloc: Global, fault: Option<KitsFault>) -> String {
+    match fault {
+        Some(fault) => format!(in alloc; "{fault}").expect(rt, "out of memory"),
+        None => String::new(alloc),
     }
-    Ok(())
+}
+
+// Asserts that a text starts and ends so.
+fn check_text(rt: &impl Abort, name: &str, text: &str, start: &str, end: &str) {
+    assert!(rt;
+        text.starts_with(start) && text.ends_with(end),
+        "{name}: {text}"
+    );
+}
+
+fn check_row(rt: &impl Abort, alloc: Global, fault: Option<KitsFault>, row: &Row) {
+    check(rt, row.name, kind_of(&fault), row.fault);
+    let text = text_of(rt, alloc, fault);
+    check_text(rt, row.name, text.as_str(), row.start, row.end);
+}
+
+#[test]
+fn a_fault_stands_in_place_of_kits(rt: HostRuntime) {
+    let listeners = listen(&rt, rt);
+    let rtsp_port = listeners.rtsp_port().expect(&rt, "port");
+    let http_port = listeners.http_port().expect(&rt, "port");
+    for row in ROWS {
+        let config = config_of(&rt, rt.alloc(), row, (rtsp_port, http_port));
+        check_row(&rt, rt.alloc(), fault_of(rt, rt, &config), row);
+    }
 }
 
 // An environment of one variable.
@@ -119,44 +194,27 @@ fn settings(name: &str, value: &str) -> Option<(bool, bool)> {
     Some((settings.paces, settings.repeats))
 }
 
+// A row's name, a variable and its value; whether the server follows a recording's clock, and whether
+// it repeats recordings.
+const SETTINGS: &[(&str, &str, &str, Option<(bool, bool)>)] = &[
+    ("pace", "SATIP_PACE", "recording", Some((true, false))),
+    ("no pace", "SATIP_PACE", "", Some((false, false))),
+    ("another case", "SATIP_PACE", "Recording", None),
+    ("more", "SATIP_PACE", "recording and more", None),
+    ("repeat", "SATIP_REPEAT", "1", Some((false, true))),
+    ("no repeat", "SATIP_REPEAT", "", Some((false, false))),
+    ("zero", "SATIP_REPEAT", "0", None),
+    ("another variable", "PATH", "1", Some((false, false))),
+];
+
 #[test]
 fn settings_have_one_value_each(rt: HostRuntime) {
-    // Whether the server follows a recording's clock, and whether it repeats recordings.
-    for (name, value, wanted) in [
-        ("SATIP_PACE", "recording", Some((true, false))),
-        ("SATIP_PACE", "", Some((false, false))),
-        ("SATIP_PACE", "Recording", None),
-        ("SATIP_PACE", "recording and more", None),
-        ("SATIP_REPEAT", "1", Some((false, true))),
-        ("SATIP_REPEAT", "", Some((false, false))),
-        ("SATIP_REPEAT", "0", None),
-        ("PATH", "1", Some((false, false))),
-    ] {
-        assert_eq!(rt; settings(name, value), wanted, "{name}={value}");
+    for (row, name, value, wanted) in SETTINGS {
+        check(&rt, row, settings(name, value), *wanted);
     }
 }
 
-#[test]
-fn an_address_that_is_not_ours_is_named(rt: HostRuntime) -> Result<(), Fail> {
-    let mut config = config(rt.alloc())?;
-    config.address = 0xc000_0201;
-    assert!(rt; matches!(fault(rt, rt, &config), Some(KitsFault::RtspPort(_))));
-    Ok(())
-}
-
-#[test]
-fn a_port_in_use_is_named(rt: HostRuntime) -> Result<(), Fail> {
-    let used = listen(&rt, 0, 0)?;
-    let mut config = config(rt.alloc())?;
-    config.rtsp_port = used.rtsp_port()?;
-    assert!(rt; matches!(fault(rt, rt, &config), Some(KitsFault::RtspPort(_))));
-    config.rtsp_port = 0;
-    config.http_port = used.http_port()?;
-    assert!(rt; matches!(fault(rt, rt, &config), Some(KitsFault::HttpPort(_))));
-    Ok(())
-}
-
-// Turns of all doors, each once.
+// Turns of all doors, each once. Returns the number of those that are idle.
 fn turn_all<R: Wait + Drop>(workers: Vec<WorkerKit<RealDoors, RealOutlet<R>, RealPacer>>) -> usize {
     let mut idle = 0usize;
     for mut kit in workers {
@@ -167,27 +225,23 @@ fn turn_all<R: Wait + Drop>(workers: Vec<WorkerKit<RealDoors, RealOutlet<R>, Rea
     idle
 }
 
-// The kits of a server without front ends.
-fn kits<R: Wait + Copy + Drop>(host: HostRuntime, rt: R) -> Result<RealJobs<R>, Fail> {
-    match real_kits(host, rt, &config(host.alloc())?, 1) {
-        Ok(kits) => Ok(kits),
-        Err(_) => Err(Fail::from("no kits")),
-    }
-}
-
 #[test]
-fn kits_go_to_other_threads(rt: HostRuntime) -> Result<(), Fail> {
+fn kits_go_to_other_threads(rt: HostRuntime) {
+    let config = make_config(&rt, rt.alloc(), &NO_FAULT, (0, 0));
+    let Ok(jobs) = real_kits(rt, rt, &config, 1) else {
+        panic!(rt; "no kits");
+    };
     let Jobs {
         workers,
         pumps,
         tick,
-    } = kits(rt, rt)?;
-    let doors = thread::spawn(&rt, move || turn_all(workers))?;
+    } = jobs;
+    let doors = thread::spawn(&rt, move || turn_all(workers)).expect(&rt, "thread");
     let others = thread::spawn(&rt, move || {
         drop(tick);
         pumps.len()
-    })?;
-    assert_eq!(rt; doors.join(&rt), 2);
-    assert_eq!(rt; others.join(&rt), 0);
-    Ok(())
+    })
+    .expect(&rt, "thread");
+    check(&rt, "idle doors", doors.join(&rt), 2);
+    check(&rt, "pumps", others.join(&rt), 0);
 }

@@ -2,10 +2,20 @@
 #![tactic(auto)]
 
 #[cfg(test)]
+mod checks;
+#[cfg(test)]
+mod clocks;
+#[cfg(test)]
 mod dialed;
+#[cfg(test)]
+mod doors;
 #[cfg(test)]
 mod kits;
 #[cfg(test)]
-mod network;
+mod outlets;
 #[cfg(test)]
 mod recordings;
+#[cfg(test)]
+mod sending;
+#[cfg(test)]
+mod sockets;

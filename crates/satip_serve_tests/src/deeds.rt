@@ -6,7 +6,7 @@ use std::sync::atomic::{AtomicBool, AtomicU64, Ordering};
 pub const TRIES: u64 = 10_000_000;
 
 /// One of two connections.
-#[derive(Clone, Copy, Debug, PartialEq, Eq)]
+#[derive(Clone, Copy, PartialEq, Eq)]
 pub enum Place {
     First,
     Second,
@@ -15,7 +15,7 @@ pub enum Place {
 /// What must have been done: so many replies on each connection, so many transport packets in
 /// datagrams, and so many readings of the clock; so many times the first connection was idle behind
 /// its second reply, and so many sends of frames on it behind that; and so many jobs paused.
-#[derive(Clone, Copy, Debug, PartialEq, Eq)]
+#[derive(Clone, Copy)]
 pub struct Gate {
     pub first: u64,
     pub second: u64,

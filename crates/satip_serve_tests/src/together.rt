@@ -4,11 +4,14 @@
 
 use crate::deeds::{Deeds, Gate, OPEN};
 use crate::outcomes::Outcome;
-use crate::runs::{Ran, SERVE, SERVE_ALL};
+use crate::runs::{Ran, SERVE, SERVE_ALL, check, run};
 use crate::waiting::Piece;
-use crate::waiting_desk::{Plan, WaitingDesk, WaitingWorker, run_plan};
+use crate::waiting_desk::{Plan, WaitingWorker};
 use satip_fixtures::texts::{OPTIONS, OPTIONS_REPLY, SETUP};
-use std::test::Fail;
+use std::alloc::Global;
+use std::process::Abort;
+use std::sync::Wait;
+use std::thread::Threads;
 
 /// A PLAY of stream 1.
 pub const PLAY: &[u8] =
@@ -106,7 +109,7 @@ fn outcome_of(workers: &[WaitingWorker], count: usize, sent: &[u8]) -> Outcome {
 
 /// Returns the outcome of a run with this number of workers, whose first client was sent these
 /// bytes.
-pub fn outcome(ran: &Ran<WaitingDesk>, workers: usize, sent: &[u8]) -> Outcome {
+pub fn outcome(ran: &Ran, workers: usize, sent: &[u8]) -> Outcome {
     ran.outcome(
         workers,
         match &ran.ended.last {
@@ -116,39 +119,64 @@ pub fn outcome(ran: &Ran<WaitingDesk>, workers: usize, sent: &[u8]) -> Outcome {
     )
 }
 
-// Jobs that ran one after another would never come together.
-#[test]
-fn all_jobs_of_a_serve_meet(rt: HostRuntime) -> Result<(), Fail> {
+/// Asserts that no connection waited in vain in a run with this name, and its outcome.
+pub fn check_outcome(rt: &impl Abort, name: &str, deeds: &Deeds, outcome: Outcome) {
+    check(rt, name, ("gave_up", deeds.gave_up()), ("gave_up", false));
+    check(rt, name, outcome, Outcome::Served);
+}
+
+// A serve with two workers.
+#[derive(Clone, Copy)]
+struct Row {
+    name: &'static str,
+    words: &'static [&'static str],
+    plan: Plan,
+    // The bytes that the first client is sent.
+    sent: &'static [u8],
+}
+
+const ROWS: &[Row] = &[
+    // Jobs that ran one after another would never come together.
+    Row {
+        name: "all jobs of a serve meet",
+        words: SERVE,
+        plan: MEETING_PLAN,
+        sent: OPTIONS_REPLY,
+    },
+    // Without a limit the doors of each worker end by themselves, after their connection.
+    Row {
+        name: "a serve without a limit ends with its doors",
+        words: SERVE_ALL,
+        plan: PLAN,
+        sent: REPLIES,
+    },
+];
+
+// Serves by a row, and asserts its outcome.
+fn check_row<R: Threads + Wait + Sync + Abort>(rt: &R, alloc: Global, row: &Row) {
     let deeds = Deeds::new();
-    let ran = run_plan(&rt, rt.alloc(), SERVE, MEETING_PLAN, &deeds)?;
-    assert!(rt; !deeds.gave_up());
-    assert_eq!(rt; outcome(&ran, 2, OPTIONS_REPLY), Outcome::Served);
-    Ok(())
+    let ran = run(rt, alloc, row.words, b"", row.plan, &deeds);
+    check_outcome(rt, row.name, &deeds, outcome(&ran, 2, row.sent));
 }
 
 #[test]
-fn two_workers_play_a_recording_together(rt: HostRuntime) -> Result<(), Fail> {
+fn jobs_of_a_serve_wait_for_each_other(rt: HostRuntime) {
+    for row in ROWS {
+        check_row(&rt, rt.alloc(), row);
+    }
+}
+
+#[test]
+fn two_workers_play_a_recording_together(rt: HostRuntime) {
     let deeds = Deeds::new();
-    let ran = run_plan(&rt, rt.alloc(), SERVE, PLAN, &deeds)?;
+    let ran = run(&rt, rt.alloc(), SERVE, b"", PLAN, &deeds);
     let outcome = outcome(&ran, 2, REPLIES);
-    println!(rt; "{outcome}")?;
-    assert!(rt; !deeds.gave_up());
-    assert_eq!(rt; outcome, Outcome::Served);
-    Ok(())
+    println!(rt; "{outcome}").expect(&rt, "output");
+    check_outcome(&rt, "two workers", &deeds, outcome);
 }
 
-// Without a limit the doors of each worker end by themselves, after their connection.
-#[test]
-fn a_serve_without_a_limit_ends_with_its_doors(rt: HostRuntime) -> Result<(), Fail> {
-    let deeds = Deeds::new();
-    let ran = run_plan(&rt, rt.alloc(), SERVE_ALL, PLAN, &deeds)?;
-    let got = (deeds.gave_up(), outcome(&ran, 2, REPLIES));
-    assert_eq!(rt; got, (false, Outcome::Served));
-    Ok(())
-}
-
-// Whether the ticker's clock came back, and exposes all its readings.
-fn has_told(ran: &Ran<WaitingDesk>) -> bool {
+// Returns whether the ticker's clock came back, and exposes all its readings.
+fn has_told(ran: &Ran) -> bool {
     match &ran.ended.last {
         Some(last) => last.jobs.tick.clock.is_told(),
         None => false,
@@ -156,10 +184,10 @@ fn has_told(ran: &Ran<WaitingDesk>) -> bool {
 }
 
 #[test]
-fn a_clock_of_1000_moments_is_exposed_to_the_end(rt: HostRuntime) -> Result<(), Fail> {
+fn a_clock_of_1000_moments_is_exposed_to_the_end(rt: HostRuntime) {
     let deeds = Deeds::new();
-    let ran = run_plan(&rt, rt.alloc(), SERVE, Plan { step: 1, ..PLAN }, &deeds)?;
-    let got = (deeds.gave_up(), outcome(&ran, 2, REPLIES), has_told(&ran));
-    assert_eq!(rt; got, (false, Outcome::Served, true));
-    Ok(())
+    let plan = Plan { step: 1, ..PLAN };
+    let ran = run(&rt, rt.alloc(), SERVE, b"", plan, &deeds);
+    check_outcome(&rt, "clock", &deeds, outcome(&ran, 2, REPLIES));
+    check(&rt, "exposed", has_told(&ran), true);
 }

@@ -2,13 +2,16 @@
 
 use crate::deeds::{Deeds, Gate, OPEN};
 use crate::outcomes::Outcome;
-use crate::runs::{Ran, TUNNEL, TUNNEL_ALL};
-use crate::together::{OTHERS, PLAY, TEARDOWN};
+use crate::runs::{Ran, TUNNEL, TUNNEL_ALL, check, run};
+use crate::together::{OTHERS, PLAY, TEARDOWN, check_outcome};
 use crate::waiting::{Piece, Served};
-use crate::waiting_desk::{Plan, WaitingDesk, WaitingWorker, run_plan};
+use crate::waiting_desk::{Plan, WaitingWorker};
 use satip_fixtures::texts::{OPTIONS_REPLY, SETUP_INTERLEAVED};
 use satip_world::ConnEnd;
-use std::test::Fail;
+use std::alloc::Global;
+use std::process::Abort;
+use std::sync::Wait;
+use std::thread::Threads;
 
 // The replies to SETUP and PLAY, with the first draw of a key of zeros for stream 1, as in a serve.
 const BEGUN: &[u8] = b"RTSP/1.0 200 OK\r\n\
@@ -115,7 +118,7 @@ fn outcome_of(workers: &[WaitingWorker]) -> Outcome {
 }
 
 // The outcome of a run.
-fn outcome(ran: &Ran<WaitingDesk>) -> Outcome {
+fn outcome(ran: &Ran) -> Outcome {
     ran.outcome(
         2,
         match &ran.ended.tunnel {
@@ -125,15 +128,24 @@ fn outcome(ran: &Ran<WaitingDesk>) -> Outcome {
     )
 }
 
+// Serves through a tunnel, and asserts that its clients were served.
+fn check_tunnel<R: Threads + Wait + Sync + Abort>(
+    rt: &R,
+    alloc: Global,
+    name: &str,
+    words: &[&str],
+) {
+    let deeds = Deeds::new();
+    let ran = run(rt, alloc, words, b"", PLAN, &deeds);
+    check(rt, name, ran.ended.last.is_some(), false);
+    check_outcome(rt, name, &deeds, outcome(&ran));
+}
+
 // A connection that doesn't send frames while nothing comes in would never be torn down. Without a
 // limit the doors of each worker end by themselves, after their connection.
 #[test]
-fn frames_are_sent_while_a_connection_is_idle(rt: HostRuntime) -> Result<(), Fail> {
-    for words in [TUNNEL, TUNNEL_ALL] {
-        let deeds = Deeds::new();
-        let ran = run_plan(&rt, rt.alloc(), words, PLAN, &deeds)?;
-        assert!(rt; ran.ended.last.is_none());
-        assert_eq!(rt; (deeds.gave_up(), outcome(&ran)), (false, Outcome::Served));
+fn frames_are_sent_while_a_connection_is_idle(rt: HostRuntime) {
+    for (name, words) in [("one connection", TUNNEL), ("without a limit", TUNNEL_ALL)] {
+        check_tunnel(&rt, rt.alloc(), name, words);
     }
-    Ok(())
 }

@@ -13,7 +13,6 @@ ghost use Rattle.satip_memory.specs.Shelves.{empty_shelf};
 use crate::counting::{CountingOutlet, LookingPacer, SteppedClock};
 use crate::deeds::{Deeds, Gate, OPEN, Place};
 use crate::reel::ReelStore;
-use crate::runs::{Ran, run};
 use crate::waiting::{Piece, WaitingDoors};
 use satip_base::{Address, Failed, Text, Want};
 use satip_config::Config;
@@ -23,9 +22,6 @@ use satip_memory::{MemoryConn, MemoryInlet, MemorySink, MemorySource};
 use satip_memory_desk::MemoryMoment;
 use std::alloc::Global;
 use std::snapshot::Snapshot;
-use std::sync::Wait;
-use std::test::Fail;
-use std::thread::Threads;
 
 /// How often a pause of a pump or of the ticker looks at least.
 const LOOKS: u64 = 100_000;
@@ -270,16 +266,4 @@ impl<'a> Desk for WaitingDesk<'a> {
         self.faults = self.faults.saturating_add(1);
         Err(Failed)
     }
-}
-
-/// Runs the program with these words, without input, over a desk with this plan.
-pub fn run_plan<'a, R: Threads + Wait + Sync>(
-    rt: &R,
-    alloc: Global,
-    words: &[&str],
-    plan: Plan,
-    deeds: &'a Deeds,
-) -> Result<Ran<WaitingDesk<'a>>, Fail> {
-    let mut desk = WaitingDesk::new(alloc, deeds, plan);
-    run(rt, alloc, words, b"", &mut desk)
 }

@@ -1,8 +1,12 @@
 //! Runs of services over memory, each by its row.
 
+ghost use Rattle.std.specs.Prelude.{◌≡◌, None};
+ghost use Rattle.satip_desk.specs.Handed.{nothing_handed};
+
 use crate::kits::{MemoryWorker, Plan, make_desk};
 use crate::refusing::RefusingDesk;
 use satip_base::Text;
+use satip_desk::Desk;
 use satip_fixtures::texts::OPTIONS_REPLY;
 use satip_memory::{MemorySink, MemorySource};
 use satip_memory_desk::MemoryDesk;
@@ -70,12 +74,20 @@ pub(crate) struct Row {
 // The desk of a run.
 type RunDesk = RefusingDesk<MemoryDesk>;
 
+// The words of a run, its input and its outputs.
+#[derive(Drop)]
+struct Streams {
+    words: Vec<Text>,
+    input: MemorySource,
+    output: MemorySink,
+    errors: MemorySink,
+}
+
 /// The end of a run, and the bytes that it wrote.
 #[derive(Drop)]
 pub(crate) struct Ran {
     ended: Ended<RunDesk>,
-    output: MemorySink,
-    errors: MemorySink,
+    streams: Streams,
 }
 
 impl Ran {
@@ -128,15 +140,6 @@ fn back_of(service: &str, parts: Parts) -> Back {
     }
 }
 
-// The words of a run, its input and its outputs.
-#[derive(Drop)]
-struct Streams {
-    words: Vec<Text>,
-    input: MemorySource,
-    output: MemorySink,
-    errors: MemorySink,
-}
-
 fn make_words(rt: &impl Abort, alloc: Global, words: &[&str]) -> Vec<Text> {
     let mut texts = Vec::new(alloc);
     for word in words {
@@ -155,24 +158,33 @@ fn make_streams(rt: &impl Abort, alloc: Global, words: &[&str]) -> Streams {
     }
 }
 
-// Runs the program with these words, without input, over the desk of a plan.
-fn run<R: Threads + Wait + Sync + Abort>(rt: &R, alloc: Global, words: &[&str], plan: Plan) -> Ran {
-    let mut streams = make_streams(rt, alloc, words);
-    let mut desk = RefusingDesk::new(make_desk(rt, alloc, plan), plan.refuses);
-    let ended = satip(
+// Runs the program over these streams.
+fn run_over<R: Threads + Wait + Sync, K: Desk>(
+    rt: &R,
+    alloc: Global,
+    streams: &mut Streams,
+    desk: &mut K,
+) -> Ended<K>
+    requires new { (K.desk desk.old).given ≡ None }
+    requires client { (K.desk desk.old).handed ≡ nothing_handed }
+{
+    satip(
         rt,
         alloc,
         &streams.words,
         &mut streams.input,
         &mut streams.output,
         &mut streams.errors,
-        &mut desk,
-    );
-    Ran {
-        ended,
-        output: streams.output,
-        errors: streams.errors,
-    }
+        desk,
+    )
+}
+
+// Runs the program with these words, without input, over the desk of a plan.
+fn run<R: Threads + Wait + Sync + Abort>(rt: &R, alloc: Global, words: &[&str], plan: Plan) -> Ran {
+    let mut streams = make_streams(rt, alloc, words);
+    let mut desk = RefusingDesk::new(make_desk(rt, alloc, plan), plan.refuses);
+    let ended = run_over(rt, alloc, &mut streams, &mut desk);
+    Ran { ended, streams }
 }
 
 /// Asserts that a value of the row with this name is this one.
@@ -207,7 +219,12 @@ pub(crate) fn run_row<R: Threads + Wait + Sync + Abort>(
     row: &Row,
 ) -> Ran {
     let ran = run(rt, alloc, words, row.plan);
-    let got = (ran.ended.status, ran.output.sent(), ran.errors.sent());
+    let streams = &ran.streams;
+    let got = (
+        ran.ended.status,
+        streams.output.sent(),
+        streams.errors.sent(),
+    );
     check(rt, row.name, got, (row.status, b"".as_slice(), row.errors));
     let service = words.first().copied().unwrap_or("");
     check(rt, row.name, ran.back(), back_of(service, row.parts));
