@@ -32,18 +32,19 @@ const UNBEGUN: Row = Row {
     served: &[],
 };
 
+const FAULTY_LINE: &Row = &Row {
+    name: "a faulty command line",
+    plan: ONE,
+    status: 2,
+    errors: USAGE,
+    parts: Parts::These(NOTHING),
+    ..UNBEGUN
+};
+
 #[test]
 fn other_words_are_a_faulty_command_line(rt: HostRuntime) {
     for (name, words) in WRONG {
-        let row = Row {
-            name,
-            plan: ONE,
-            status: 2,
-            errors: USAGE,
-            parts: Parts::These(NOTHING),
-            ..UNBEGUN
-        };
-        drop(run_row(&rt, rt.alloc(), words, &row));
+        drop(run_row(&rt, rt.alloc(), name, words, FAULTY_LINE));
     }
 }
 
@@ -129,7 +130,7 @@ fn each_fault_has_its_status(rt: HostRuntime) {
 }
 
 // The worker's first put fails.
-const FAILING_JOURNAL: Row = Row {
+const FAILING_JOURNAL: &Row = &Row {
     name: "the worker's first put",
     plan: Plan {
         failing_job: 1,
@@ -145,15 +146,20 @@ const FAILING_JOURNAL: Row = Row {
 
 #[test]
 fn a_journal_that_fails_has_status_6(rt: HostRuntime) {
-    let ran = run_service(&rt, rt.alloc(), "journal", &FAILING_JOURNAL);
-    let name = FAILING_JOURNAL.name;
+    let ran = run_service(&rt, rt.alloc(), "journal", FAILING_JOURNAL);
     let start: &[u8] = b"start 1000\nentry ";
-    check(&rt, name, ran.journal(0).get(..17), Some(start));
-    check(&rt, name, ran.journal(1), b"entry".as_slice());
+    let program = ran.journal(0).get(..start.len());
+    check(&rt, "the program's journal", program, Some(start));
+    check(
+        &rt,
+        "the worker's journal",
+        ran.journal(1),
+        b"entry".as_slice(),
+    );
 }
 
 // One journal less than there are jobs.
-const THREE_JOURNALS: Row = Row {
+const THREE_JOURNALS: &Row = &Row {
     name: "three journals",
     plan: Plan { journals: 3, ..ONE },
     status: 6,
@@ -168,8 +174,8 @@ const THREE_JOURNALS: Row = Row {
 
 #[test]
 fn without_a_journal_for_each_job_none_begins(rt: HostRuntime) {
-    let ran = run_service(&rt, rt.alloc(), "journal", &THREE_JOURNALS);
-    for job in 0..3 {
-        check(&rt, THREE_JOURNALS.name, ran.journal(job), b"".as_slice());
+    let ran = run_service(&rt, rt.alloc(), "journal", THREE_JOURNALS);
+    for (name, job) in [("program", 0), ("worker", 1), ("pump", 2)] {
+        check(&rt, name, ran.journal(job), b"".as_slice());
     }
 }

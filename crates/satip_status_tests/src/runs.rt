@@ -211,10 +211,12 @@ fn check_workers(rt: &impl Abort, name: &str, workers: &[MemoryWorker], served: 
     }
 }
 
-/// Runs the program with these words over the desk of a row, and asserts the result of the row.
+/// Runs the program with these words over the desk of a row. Asserts, by this name, the result of the
+/// row.
 pub(crate) fn run_row<R: Threads + Wait + Sync + Abort>(
     rt: &R,
     alloc: Global,
+    name: &str,
     words: &[&str],
     row: &Row,
 ) -> Ran {
@@ -225,10 +227,10 @@ pub(crate) fn run_row<R: Threads + Wait + Sync + Abort>(
         streams.output.sent(),
         streams.errors.sent(),
     );
-    check(rt, row.name, got, (row.status, b"".as_slice(), row.errors));
+    check(rt, name, got, (row.status, b"".as_slice(), row.errors));
     let service = words.first().copied().unwrap_or("");
-    check(rt, row.name, ran.back(), back_of(service, row.parts));
-    check_workers(rt, row.name, ran.workers(), row.served);
+    check(rt, name, ran.back(), back_of(service, row.parts));
+    check_workers(rt, name, ran.workers(), row.served);
     ran
 }
 
@@ -236,10 +238,11 @@ pub(crate) fn run_row<R: Threads + Wait + Sync + Abort>(
 pub(crate) fn run_service<R: Threads + Wait + Sync + Abort>(
     rt: &R,
     alloc: Global,
-    service: &str,
+    service: &'static str,
     row: &Row,
 ) -> Ran {
-    run_row(rt, alloc, &[service, row.config, row.accepts], row)
+    let words = [service, row.config, row.accepts];
+    run_row(rt, alloc, row.name, &words, row)
 }
 
 /// Runs each service by each row, and asserts the result of the row.

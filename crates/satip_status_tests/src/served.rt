@@ -28,9 +28,11 @@ const WITHOUT_LIMIT: Row = Row {
     ..SERVED
 };
 
+const BY_EACH_SERVICE: &[Row] = &[SERVED, WITHOUT_LIMIT];
+
 #[test]
 fn connections_are_served_and_handed_back(rt: HostRuntime) {
-    run_services(&rt, rt.alloc(), &[SERVED, WITHOUT_LIMIT]);
+    run_services(&rt, rt.alloc(), BY_EACH_SERVICE);
 }
 
 // A report of a client to channel 1, which is passed over.
@@ -57,9 +59,11 @@ const BY_TWO: Row = Row {
     ..SERVED
 };
 
+const BY_ONE_SERVICE: &[(&str, Row)] = &[("tunnel", REPORTED), ("serve", BY_TWO)];
+
 #[test]
 fn reports_are_passed_over_and_two_workers_serve(rt: HostRuntime) {
-    for (service, row) in [("tunnel", REPORTED), ("serve", BY_TWO)] {
-        drop(run_service(&rt, rt.alloc(), service, &row));
+    for (service, row) in BY_ONE_SERVICE {
+        drop(run_service(&rt, rt.alloc(), service, row));
     }
 }
