@@ -8,6 +8,7 @@ use crate::runs::{Ran, SERVE, SERVE_ALL, check, run};
 use crate::waiting::Piece;
 use crate::waiting_desk::{Plan, WaitingWorker};
 use satip_fixtures::texts::{OPTIONS, OPTIONS_REPLY, SETUP};
+use satip_world::DoorKind;
 use std::alloc::Global;
 use std::process::Abort;
 use std::sync::Wait;
@@ -69,6 +70,7 @@ pub const PLAN: Plan = Plan {
     workers: 2,
     first: FIRST,
     others: OTHERS,
+    kind: DoorKind::Rtsp,
     port: 1400,
     pumps: Gate { first: 2, ..OPEN },
     step: 0,
@@ -87,6 +89,7 @@ const MEETING_PLAN: Plan = Plan {
     workers: 2,
     first: MEETING,
     others: MEETING,
+    kind: DoorKind::Rtsp,
     port: 1,
     pumps: MET,
     step: 0,

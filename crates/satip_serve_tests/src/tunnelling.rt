@@ -4,10 +4,10 @@ use crate::deeds::{Deeds, Gate, OPEN};
 use crate::outcomes::Outcome;
 use crate::runs::{Ran, TUNNEL, TUNNEL_ALL, check, run};
 use crate::together::{OTHERS, PLAY, TEARDOWN, check_outcome};
-use crate::waiting::{Piece, Served};
+use crate::waiting::{Piece, Served, WaitingDoors};
 use crate::waiting_desk::{Plan, WaitingWorker};
 use satip_fixtures::texts::{OPTIONS_REPLY, SETUP_INTERLEAVED};
-use satip_world::ConnEnd;
+use satip_world::{ConnEnd, DoorKind};
 use std::alloc::Global;
 use std::process::Abort;
 use std::sync::Wait;
@@ -48,11 +48,29 @@ const FIRST: &[Piece] = &[
     },
 ];
 
+// A client over HTTP asks for PID 16 once the first client's SETUP was answered, and ends its input
+// once packets were sent to it behind the head.
+const STREAM: &[Piece] = &[
+    Piece {
+        text: b"GET /?src=1&freq=11361.75&pol=h&msys=dvbs2&sr=22000&pids=16 HTTP/1.1\r\n\r\n",
+        gate: Gate { first: 1, ..OPEN },
+    },
+    Piece {
+        text: b"\r\n",
+        gate: Gate { second: 2, ..OPEN },
+    },
+];
+
+// The head of the reply to it.
+const STREAMING: &[u8] =
+    b"HTTP/1.1 200 OK\r\nContent-Type: video/mp2t\r\nConnection: close\r\n\r\n";
+
 // The pumps wait until the first client was idle behind the PLAY.
 const PLAN: Plan = Plan {
     workers: 2,
     first: FIRST,
     others: OTHERS,
+    kind: DoorKind::Rtsp,
     port: 1,
     pumps: Gate { idles: 1, ..OPEN },
     step: 0,
@@ -103,11 +121,37 @@ fn has_played(served: Option<&Served>) -> bool {
     }
 }
 
-// The outcome for the kits of workers, the first of which played.
-fn outcome_of(workers: &[WaitingWorker]) -> Outcome {
+// Whether these are packets of PID 16, at least one.
+fn are_packets(bytes: &[u8]) -> bool {
+    !bytes.is_empty()
+        && bytes.chunks(188).all(|packet| packet.len() == 188 && packet.starts_with(&[0x47, 0, 16]))
+}
+
+// Whether a connection over HTTP was sent the head and then packets, and its service ended well.
+fn has_streamed(served: Option<&Served>) -> bool {
+    let Some(served) = served else {
+        return false;
+    };
+    match served.sent.strip_prefix(STREAMING) {
+        Some(behind) => served.end == ConnEnd::Done && are_packets(behind),
+        None => false,
+    }
+}
+
+// Whether the second client got what it asked for, by the kind of its connection.
+fn has_been_answered(kind: DoorKind, doors: &WaitingDoors) -> bool {
+    match kind {
+        DoorKind::Rtsp => doors.have_sent(OPTIONS_REPLY),
+        DoorKind::Http => has_streamed(doors.served()),
+    }
+}
+
+// The outcome for the kits of workers, the first of which played. The second one's connection was
+// of this kind.
+fn outcome_of(workers: &[WaitingWorker], kind: DoorKind) -> Outcome {
     match workers {
         [first, second] => {
-            if has_played(first.doors.served()) && second.doors.have_sent(OPTIONS_REPLY) {
+            if has_played(first.doors.served()) && has_been_answered(kind, &second.doors) {
                 Outcome::Served
             } else {
                 Outcome::WrongBytes
@@ -117,12 +161,12 @@ fn outcome_of(workers: &[WaitingWorker]) -> Outcome {
     }
 }
 
-// The outcome of a run.
-fn outcome(ran: &Ran) -> Outcome {
+// The outcome of a run whose second connection was of this kind.
+fn outcome(ran: &Ran, kind: DoorKind) -> Outcome {
     ran.outcome(
         2,
         match &ran.ended.tunnel {
-            Some(left) => Some(outcome_of(&left.jobs.workers)),
+            Some(left) => Some(outcome_of(&left.jobs.workers, kind)),
             None => None,
         },
     )
@@ -134,11 +178,12 @@ fn check_tunnel<R: Threads + Wait + Sync + Abort>(
     alloc: Global,
     name: &str,
     words: &[&str],
+    plan: Plan,
 ) {
     let deeds = Deeds::new();
-    let ran = run(rt, alloc, words, b"", PLAN, &deeds);
+    let ran = run(rt, alloc, words, b"", plan, &deeds);
     check(rt, name, ran.ended.last.is_some(), false);
-    check_outcome(rt, name, &deeds, outcome(&ran));
+    check_outcome(rt, name, &deeds, outcome(&ran, plan.kind));
 }
 
 // A connection that doesn't send frames while nothing comes in would never be torn down. Without a
@@ -146,6 +191,17 @@ fn check_tunnel<R: Threads + Wait + Sync + Abort>(
 #[test]
 fn frames_are_sent_while_a_connection_is_idle(rt: HostRuntime) {
     for (name, words) in [("one connection", TUNNEL), ("without a limit", TUNNEL_ALL)] {
-        check_tunnel(&rt, rt.alloc(), name, words);
+        check_tunnel(&rt, rt.alloc(), name, words, PLAN);
     }
+}
+
+// A stream over HTTP runs beside, over the same front end.
+#[test]
+fn a_stream_over_http_runs_beside_a_tunnel(rt: HostRuntime) {
+    let plan = Plan {
+        others: STREAM,
+        kind: DoorKind::Http,
+        ..PLAN
+    };
+    check_tunnel(&rt, rt.alloc(), "over HTTP", TUNNEL, plan);
 }

@@ -89,11 +89,12 @@ pub struct Served {
     pub end: ConnEnd,
 }
 
-/// Doors by which one RTSP connection comes, behind a look that finds none.
+/// Doors by which one connection of this kind comes, behind a look that finds none.
 #[derive(Drop)]
 pub struct WaitingDoors<'a> {
     deeds: &'a Deeds,
     place: Place,
+    kind: DoorKind,
     pieces: &'static [Piece],
     limit: u32,
     count: u64,
@@ -130,6 +131,7 @@ impl<'a> WaitingDoors<'a> {
         alloc: Global,
         deeds: &'a Deeds,
         place: Place,
+        kind: DoorKind,
         pieces: &'static [Piece],
         limit: u32,
     ) -> Result<WaitingDoors<'a>, Want>
@@ -141,6 +143,7 @@ impl<'a> WaitingDoors<'a> {
         Ok(WaitingDoors {
             deeds,
             place,
+            kind,
             pieces,
             limit,
             count: 0,
@@ -187,7 +190,7 @@ impl<'a> Doors for WaitingDoors<'a> {
         };
         self.count = self.count.saturating_add(1);
         Door::Came {
-            kind: DoorKind::Rtsp,
+            kind: self.kind,
             peer: CLIENT,
             conn: WaitingConn {
                 deeds: self.deeds,

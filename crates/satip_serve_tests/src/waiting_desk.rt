@@ -20,6 +20,7 @@ use satip_desk::{Desk, JobJournal, Jobs, JobsFault, PumpKit, TickKit, WorkerKit}
 use satip_fixtures::texts::CONFIGURATION;
 use satip_memory::{MemoryConn, MemoryInlet, MemorySink, MemorySource};
 use satip_memory_desk::MemoryMoment;
+use satip_world::DoorKind;
 use std::alloc::Global;
 use std::snapshot::Snapshot;
 
@@ -30,13 +31,14 @@ const LOOKS: u64 = 100_000;
 const PACKETS: u64 = 200;
 
 /// A plan of a run: the number of workers, the pieces of the first worker's client and those of each
-/// other one's, the port to which datagrams of RTP go, the gate that the pumps wait for, and the step
-/// of the ticker's clock.
+/// other one's with the kind of its connection, the port to which datagrams of RTP go, the gate that
+/// the pumps wait for, and the step of the ticker's clock.
 #[derive(Clone, Copy)]
 pub struct Plan {
     pub workers: u16,
     pub first: &'static [Piece],
     pub others: &'static [Piece],
+    pub kind: DoorKind,
     pub port: u16,
     pub pumps: Gate,
     pub step: u64,
@@ -63,12 +65,12 @@ fn worker<'a>(
     ensures hall { IfOk result (λ kit. kit.doors ≡ fresh_hall accepts false) }
     ensures outbox { IfOk result (λ kit. kit.outlet ≡ fresh_outbox) }
 {
-    let pieces = match place {
-        Place::First => plan.first,
-        Place::Second => plan.others,
+    let (kind, pieces) = match place {
+        Place::First => (DoorKind::Rtsp, plan.first),
+        Place::Second => (plan.kind, plan.others),
     };
     Ok(WorkerKit {
-        doors: WaitingDoors::make(alloc, deeds, place, pieces, accepts)?,
+        doors: WaitingDoors::make(alloc, deeds, place, kind, pieces, accepts)?,
         outlet: CountingOutlet::new(deeds, plan.port),
         pacer: LookingPacer::new(deeds, 0, OPEN),
         key: [0; 32],
