@@ -1,5 +1,6 @@
 //! Two front ends and two multiplexes, with answers worked out by hand.
 
+use crate::checks::check;
 use satip_fixtures::{FIRST_MUX, SECOND_MUX, config_with};
 use satip_fronts::{FrontState, Fronts};
 use satip_tune::{Mux, Pol, System, Tuning};
@@ -76,9 +77,10 @@ fn does(fronts: &Fronts, front: u16, wanted: FrontState) -> bool {
 }
 
 fn has_ended(fronts: &Fronts, front: u16, streams: u16) -> bool {
-    fronts
-        .state(front)
-        .is_some_and(|state| state.ended && state.streams == streams)
+    match fronts.state(front) {
+        Some(state) => state.ended && state.streams == streams,
+        None => false,
+    }
 }
 
 /// Whether front ends answer so.
@@ -105,96 +107,86 @@ fn is_answered(fronts: &mut Fronts, step: Step) -> bool {
 }
 
 /// Takes all steps; the place of the first that isn't answered so.
-fn take_all(alloc: Global, steps: &[Step]) -> Result<Option<usize>, AllocError> {
-    let mut fronts = fronts(alloc)?;
+fn take_all(fronts: &mut Fronts, steps: &[Step]) -> Option<usize> {
     for (place, step) in steps.iter().enumerate() {
-        if !is_answered(&mut fronts, *step) {
-            return Ok(Some(place));
+        if !is_answered(fronts, *step) {
+            return Some(place);
         }
     }
-    Ok(None)
+    None
 }
 
-const SHARED: &[Step] = &[
-    Step::Take(1, None, FIRST_MUX, Some(1)),
-    Step::Take(2, None, FIRST_MUX, Some(1)),
-    Step::Does(1, 2, Some(1), 1),
-    Step::Take(3, None, SECOND_MUX, Some(2)),
-    Step::Take(4, None, UNKNOWN_MUX, None),
-    Step::Does(2, 1, Some(2), 1),
+const ROWS: &[(&str, &[Step])] = &[
+    (
+        "streams of one multiplex share a front end",
+        &[
+            Step::Take(1, None, FIRST_MUX, Some(1)),
+            Step::Take(2, None, FIRST_MUX, Some(1)),
+            Step::Does(1, 2, Some(1), 1),
+            Step::Take(3, None, SECOND_MUX, Some(2)),
+            Step::Take(4, None, UNKNOWN_MUX, None),
+            Step::Does(2, 1, Some(2), 1),
+        ],
+    ),
+    (
+        "the last stream frees its front end",
+        &[
+            Step::Take(1, None, FIRST_MUX, Some(1)),
+            Step::Take(2, None, FIRST_MUX, Some(1)),
+            Step::Leave(1),
+            Step::Does(1, 1, Some(1), 1),
+            Step::Serves(1, 2, true),
+            Step::Serves(1, 1, false),
+            Step::Leave(2),
+            Step::Does(1, 0, None, 1),
+            Step::Take(3, None, UNKNOWN_MUX, Some(1)),
+            Step::Does(1, 1, None, 2),
+        ],
+    ),
+    (
+        "a stream moves to the front end of its multiplex",
+        &[
+            Step::Take(1, None, FIRST_MUX, Some(1)),
+            Step::Take(2, None, SECOND_MUX, Some(2)),
+            Step::Take(1, None, SECOND_MUX, Some(2)),
+            Step::Does(1, 0, None, 1),
+            Step::Does(2, 2, Some(2), 1),
+            Step::Take(2, None, FIRST_MUX, Some(1)),
+            Step::Take(2, None, UNKNOWN_MUX, Some(1)),
+            Step::Does(1, 1, None, 3),
+        ],
+    ),
+    (
+        "the wanted front end is taken",
+        &[
+            Step::Take(1, Some(2), FIRST_MUX, Some(2)),
+            Step::Take(2, Some(2), UNKNOWN_MUX, None),
+            Step::Does(1, 0, None, 0),
+            Step::Front(2, true),
+            Step::Front(3, false),
+        ],
+    ),
+    (
+        "a recording ends until the front end is tuned anew",
+        &[
+            Step::End(1, 0, false),
+            Step::Take(1, None, FIRST_MUX, Some(1)),
+            Step::End(1, 0, false),
+            Step::End(1, 1, true),
+            Step::End(3, 1, false),
+            Step::Take(2, None, FIRST_MUX, Some(1)),
+            Step::Ended(1, 2),
+            Step::Leave(2),
+            Step::Take(1, None, SECOND_MUX, Some(1)),
+            Step::Does(1, 1, Some(2), 2),
+        ],
+    ),
 ];
 
 #[test]
-fn streams_of_one_multiplex_share_a_front_end(rt: HostRuntime) -> Result<(), AllocError> {
-    assert_eq!(rt; take_all(rt.alloc(), SHARED)?, None);
-    Ok(())
-}
-
-const FREED: &[Step] = &[
-    Step::Take(1, None, FIRST_MUX, Some(1)),
-    Step::Take(2, None, FIRST_MUX, Some(1)),
-    Step::Leave(1),
-    Step::Does(1, 1, Some(1), 1),
-    Step::Serves(1, 2, true),
-    Step::Serves(1, 1, false),
-    Step::Leave(2),
-    Step::Does(1, 0, None, 1),
-    Step::Take(3, None, UNKNOWN_MUX, Some(1)),
-    Step::Does(1, 1, None, 2),
-];
-
-#[test]
-fn the_last_stream_frees_its_front_end(rt: HostRuntime) -> Result<(), AllocError> {
-    assert_eq!(rt; take_all(rt.alloc(), FREED)?, None);
-    Ok(())
-}
-
-const MOVED: &[Step] = &[
-    Step::Take(1, None, FIRST_MUX, Some(1)),
-    Step::Take(2, None, SECOND_MUX, Some(2)),
-    Step::Take(1, None, SECOND_MUX, Some(2)),
-    Step::Does(1, 0, None, 1),
-    Step::Does(2, 2, Some(2), 1),
-    Step::Take(2, None, FIRST_MUX, Some(1)),
-    Step::Take(2, None, UNKNOWN_MUX, Some(1)),
-    Step::Does(1, 1, None, 3),
-];
-
-#[test]
-fn a_stream_moves_to_the_front_end_of_its_multiplex(rt: HostRuntime) -> Result<(), AllocError> {
-    assert_eq!(rt; take_all(rt.alloc(), MOVED)?, None);
-    Ok(())
-}
-
-const WANTED: &[Step] = &[
-    Step::Take(1, Some(2), FIRST_MUX, Some(2)),
-    Step::Take(2, Some(2), UNKNOWN_MUX, None),
-    Step::Does(1, 0, None, 0),
-    Step::Front(2, true),
-    Step::Front(3, false),
-];
-
-#[test]
-fn the_wanted_front_end_is_taken(rt: HostRuntime) -> Result<(), AllocError> {
-    assert_eq!(rt; take_all(rt.alloc(), WANTED)?, None);
-    Ok(())
-}
-
-const ENDED: &[Step] = &[
-    Step::End(1, 0, false),
-    Step::Take(1, None, FIRST_MUX, Some(1)),
-    Step::End(1, 0, false),
-    Step::End(1, 1, true),
-    Step::End(3, 1, false),
-    Step::Take(2, None, FIRST_MUX, Some(1)),
-    Step::Ended(1, 2),
-    Step::Leave(2),
-    Step::Take(1, None, SECOND_MUX, Some(1)),
-    Step::Does(1, 1, Some(2), 2),
-];
-
-#[test]
-fn a_recording_ends_until_the_front_end_is_tuned_anew(rt: HostRuntime) -> Result<(), AllocError> {
-    assert_eq!(rt; take_all(rt.alloc(), ENDED)?, None);
-    Ok(())
+fn front_ends_answer_as_their_rows_say(rt: HostRuntime) {
+    for (name, steps) in ROWS {
+        let mut fronts = fronts(rt.alloc()).expect(&rt, "out of memory");
+        check(&rt, name, &take_all(&mut fronts, steps), &None);
+    }
 }

@@ -4,24 +4,12 @@ mod rising;
 ghost use Rattle.std.specs.Prelude.{◌≡◌, ◌<◌, ◌≤◌, [], ◌∷◌, Ok, Err, Some, None};
 ghost use Rattle.satip_pids.specs.Pids.{Pids, Every, Only, AllPids, Unsaid, Listed, set_pids, apply};
 
+use crate::checks::check;
 use plain::PlainSet;
 use satip_base::Strip;
 use satip_fixtures::draws::next_word;
 use satip_pids::{PidFault, PidList, PidSet};
-
-// The PIDs below a number, and in front of them those that are given.
-fn pids_below(end: u16, front: &[u16]) -> PidList
-    requires below { end ≤ 8192 }
-{
-    let mut list = PidList::new();
-    for pid in front {
-        list.push(*pid % 8192);
-    }
-    for pid in 0..end {
-        list.push(pid);
-    }
-    list
-}
+use std::process::Abort;
 
 // Numbers go into their places, each once; the first fault counts.
 fn changes_go_in_order()
@@ -34,62 +22,118 @@ fn changes_go_in_order()
     ensures none_listed { apply Every (Listed []) None None ≡ Ok (Only []) }
 {}
 
-#[test]
-fn a_set_has_what_was_listed(rt: HostRuntime) {
-    let mut set = PidSet::new();
-    assert_eq!(rt;
-        [
-            set.set(&[17, 0, 16, 17]),
-            set.add(&[100, 16]),
-            set.remove(&[0, 101])
+// A call of a set with a list of PIDs.
+#[derive(Clone, Copy)]
+enum Call {
+    Set,
+    Add,
+    Remove,
+}
+
+// A call of a set and its result, or what the set shows.
+#[derive(Clone, Copy)]
+enum Step {
+    /// A call with these PIDs, followed by those below a number.
+    Call(Call, &'static [u16], u16, Result<(), PidFault>),
+    /// The same; the printed text stays.
+    Keeps(Call, &'static [u16], u16, Result<(), PidFault>),
+    SetAll,
+    /// Whether the set has each of these PIDs.
+    Has(&'static [u16], bool),
+    /// The printed text.
+    Prints(&'static [u8]),
+    /// The word at a place.
+    Word(usize, u64),
+}
+
+const ROWS: &[(&str, &[Step])] = &[
+    (
+        "a set has what was listed",
+        &[
+            Step::Call(Call::Set, &[17, 0, 16, 17], 0, Ok(())),
+            Step::Call(Call::Add, &[100, 16], 0, Ok(())),
+            Step::Call(Call::Remove, &[0, 101], 0, Ok(())),
+            Step::Has(&[16, 17, 100], true),
+            Step::Has(&[0, 18, 101], false),
         ],
-        [Ok(()), Ok(()), Ok(())]
-    );
-    assert!(rt; set.has(16) && set.has(17) && set.has(100));
-    assert!(rt; !set.has(0) && !set.has(18) && !set.has(101));
+    ),
+    (
+        "a set of all refuses to remove",
+        &[
+            Step::SetAll,
+            Step::Call(Call::Add, &[16], 0, Ok(())),
+            Step::Call(Call::Remove, &[16], 0, Err(PidFault::UnderAll)),
+            Step::Has(&[16, 8191], true),
+        ],
+    ),
+    (
+        "a set of all becomes one of none",
+        &[
+            Step::SetAll,
+            Step::Call(Call::Set, &[], 0, Ok(())),
+            Step::Prints(b"none"),
+        ],
+    ),
+    (
+        "a set refuses a 257th PID",
+        &[
+            Step::Call(Call::Set, &[255, 3], 256, Ok(())),
+            Step::Keeps(Call::Add, &[256], 0, Err(PidFault::TooMany)),
+            Step::Keeps(Call::Set, &[], 257, Err(PidFault::TooMany)),
+        ],
+    ),
+    (
+        "a set of 256 PIDs takes them again",
+        &[
+            Step::Call(Call::Set, &[255, 3], 256, Ok(())),
+            Step::Keeps(Call::Add, &[256], 0, Err(PidFault::TooMany)),
+            Step::Keeps(Call::Add, &[0, 255], 0, Ok(())),
+        ],
+    ),
+    (
+        "a set is printed in rising order",
+        &[
+            Step::Call(Call::Set, &[400, 8191, 0], 0, Ok(())),
+            Step::Prints(b"0,400,8191"),
+        ],
+    ),
+    (
+        "sets of none and of all are printed as words",
+        &[Step::Prints(b"none"), Step::SetAll, Step::Prints(b"all")],
+    ),
+    (
+        "a word holds 64 PIDs",
+        &[
+            Step::Call(Call::Set, &[64, 66, 127, 128], 0, Ok(())),
+            Step::Word(0, 0),
+            Step::Word(1, 0x8000_0000_0000_0005),
+            Step::Word(2, 1),
+            Step::SetAll,
+            Step::Word(127, u64::MAX),
+        ],
+    ),
+];
+
+// Returns these PIDs, followed by those below a number.
+fn list_of(pids: &[u16], end: u16) -> PidList {
+    let mut list = PidList::new();
+    for pid in pids {
+        list.push(*pid % 8192);
+    }
+    for pid in 0..end {
+        list.push(pid % 8192);
+    }
+    list
 }
 
-#[test]
-fn a_set_of_all_refuses_to_remove(rt: HostRuntime) {
-    let mut set = PidSet::new();
-    set.set_all();
-    assert_eq!(rt;
-        [set.add(&[16]), set.remove(&[16])],
-        [Ok(()), Err(PidFault::UnderAll)]
-    );
-    assert!(rt; set.has(16) && set.has(8191));
-}
-
-#[test]
-fn a_set_of_all_becomes_one_of_none(rt: HostRuntime) {
-    let mut set = PidSet::new();
-    set.set_all();
-    assert_eq!(rt; set.set(&[]), Ok(()));
-    assert_eq!(rt; printed(&set).bytes(), b"none".as_slice());
-}
-
-#[test]
-fn a_set_refuses_a_257th_pid(rt: HostRuntime) {
-    let mut set = PidSet::new();
-    assert_eq!(rt; set.set(pids_below(256, &[255, 3]).as_slice()), Ok(()));
-    let before = printed(&set);
-    assert_eq!(rt;
-        [set.add(&[256]), set.set(pids_below(257, &[]).as_slice())],
-        [Err(PidFault::TooMany), Err(PidFault::TooMany)]
-    );
-    assert_eq!(rt; printed(&set).bytes(), before.bytes());
-}
-
-#[test]
-fn a_set_of_256_pids_takes_them_again(rt: HostRuntime) {
-    let mut set = PidSet::new();
-    assert_eq!(rt; set.set(pids_below(256, &[255, 3]).as_slice()), Ok(()));
-    let before = printed(&set);
-    assert_eq!(rt;
-        [set.add(&[256]), set.add(&[0, 255])],
-        [Err(PidFault::TooMany), Ok(())]
-    );
-    assert_eq!(rt; printed(&set).bytes(), before.bytes());
+// Makes a call with these PIDs, followed by those below a number.
+fn make_call(set: &mut PidSet, call: Call, pids: &[u16], end: u16) -> Result<(), PidFault> {
+    let list = list_of(pids, end);
+    match call {
+        Call::Set => set.set(list.as_slice()),
+        Call::Add => set.add(list.as_slice()),
+        Call::Remove => set.remove(list.as_slice()),
+    }
 }
 
 fn printed(set: &PidSet) -> Strip {
@@ -98,31 +142,44 @@ fn printed(set: &PidSet) -> Strip {
     strip
 }
 
-#[test]
-fn a_set_is_printed_in_rising_order(rt: HostRuntime) {
-    let mut set = PidSet::new();
-    assert_eq!(rt; set.set(&[400, 8191, 0]), Ok(()));
-    assert_eq!(rt; printed(&set).bytes(), b"0,400,8191".as_slice());
+// Asserts whether a set has each of these PIDs.
+fn check_has(rt: &impl Abort, set: &PidSet, pids: &[u16], has: bool, name: &str) {
+    for pid in pids {
+        check(rt, name, &(*pid, set.has(*pid % 8192)), &(*pid, has));
+    }
+}
+
+// Asserts what a set prints.
+fn check_text(rt: &impl Abort, set: &PidSet, text: &[u8], name: &str) {
+    check(rt, name, &printed(set).bytes(), &text);
+}
+
+// Takes a step, and asserts its result.
+fn take(rt: &impl Abort, set: &mut PidSet, step: Step, name: &str) {
+    match step {
+        Step::Call(call, pids, end, wanted) => {
+            check(rt, name, &make_call(set, call, pids, end), &wanted);
+        }
+        Step::Keeps(call, pids, end, wanted) => {
+            let before = printed(set);
+            check(rt, name, &make_call(set, call, pids, end), &wanted);
+            check_text(rt, set, before.bytes(), name);
+        }
+        Step::SetAll => set.set_all(),
+        Step::Has(pids, has) => check_has(rt, set, pids, has, name),
+        Step::Prints(text) => check_text(rt, set, text, name),
+        Step::Word(place, word) => check(rt, name, &set.word(place % 128), &word),
+    }
 }
 
 #[test]
-fn sets_of_none_and_of_all_are_printed_as_words(rt: HostRuntime) {
-    let mut set = PidSet::new();
-    assert_eq!(rt; printed(&set).bytes(), b"none".as_slice());
-    set.set_all();
-    assert_eq!(rt; printed(&set).bytes(), b"all".as_slice());
-}
-
-#[test]
-fn a_word_holds_64_pids(rt: HostRuntime) {
-    let mut set = PidSet::new();
-    assert_eq!(rt; set.set(&[64, 66, 127, 128]), Ok(()));
-    assert_eq!(rt;
-        [set.word(0), set.word(1), set.word(2)],
-        [0, 0x8000_0000_0000_0005, 1]
-    );
-    set.set_all();
-    assert_eq!(rt; set.word(127), u64::MAX);
+fn sets_answer_as_their_rows_say(rt: HostRuntime) {
+    for (name, steps) in ROWS {
+        let mut set = PidSet::new();
+        for step in *steps {
+            take(&rt, &mut set, *step, name);
+        }
+    }
 }
 
 // Up to 63 PIDs that a number makes, one in four times near each other.

@@ -16,7 +16,12 @@ pub struct Plain {
 impl Plain {
     /// The place of the session with this id.
     pub fn place_of(&self, id: SessionId) -> Option<usize> {
-        self.seats.iter().position(|seat| seat.session.id == id)
+        for (place, seat) in self.seats.iter().enumerate() {
+            if seat.session.id == id {
+                return Some(place);
+            }
+        }
+        None
     }
 
     /// Makes a session at a stream.
@@ -75,11 +80,7 @@ impl Plain {
 
     /// Sets a stream's front end and PIDs.
     pub fn change(&mut self, number: u16, front: Option<u16>, pids: PidSet) -> bool {
-        let place = self
-            .streams
-            .iter()
-            .position(|stream| stream.number == number);
-        let Some(place) = place else {
+        let Some(place) = stream_place(&self.streams, number) else {
             return false;
         };
         if let Some(stream) = self.streams.get_mut(place) {
@@ -92,7 +93,7 @@ impl Plain {
 
     fn free_slot(&self) -> u16 {
         for slot in 0..64 {
-            if !self.seats.iter().any(|seat| seat.slot == slot) {
+            if !is_taken(&self.seats, slot) {
                 return slot;
             }
         }
@@ -101,7 +102,7 @@ impl Plain {
 
     fn free_number(&self) -> u16 {
         for number in 1..65 {
-            if !self.streams.iter().any(|stream| stream.number == number) {
+            if stream_place(&self.streams, number).is_none() {
                 return number;
             }
         }
@@ -109,18 +110,41 @@ impl Plain {
     }
 }
 
+/// Returns the place of the stream of this number.
+pub fn stream_place(streams: &[Stream], number: u16) -> Option<usize> {
+    for (place, stream) in streams.iter().enumerate() {
+        if stream.number == number {
+            return Some(place);
+        }
+    }
+    None
+}
+
+fn is_taken(seats: &[Seat], slot: u16) -> bool {
+    for seat in seats {
+        if seat.slot == slot {
+            return true;
+        }
+    }
+    false
+}
+
+/// Returns the first session of a stream.
+fn first_of(seats: &[Seat], stream: u16) -> Option<SessionId> {
+    for seat in seats {
+        if seat.session.stream == stream {
+            return Some(seat.session.id);
+        }
+    }
+    None
+}
+
 /// Drops the streams that have no session, and gives each other to the first of its own.
 fn keep(seats: &[Seat], streams: &mut Vec<Stream>) {
-    streams.retain(|stream| seats
-        .iter()
-        .any(|seat| seat.session.stream == stream.number));
-    for i in 0..streams.len() {
-        let number = streams[i].number;
-        for seat in seats {
-            if seat.session.stream == number {
-                streams[i].owner = seat.session.id;
-                break;
-            }
+    streams.retain(|stream| first_of(seats, stream.number).is_some());
+    for stream in streams.iter_mut() {
+        if let Some(owner) = first_of(seats, stream.number) {
+            stream.owner = owner;
         }
     }
 }
