@@ -1,20 +1,22 @@
 //! Configurations and their faults by example.
 
+use crate::checks::check;
 use satip_base::Strip;
 use satip_config::*;
+use satip_fixtures::texts::{joined, repeated};
 use satip_fixtures::{FIRST_MUX, SECOND_MUX, front_end};
 use std::alloc::{AllocError, Global};
 use std::process::Abort;
 use std::test::Fail;
 
-const ADDRESS: &str = "address = \"192.168.1.10\"\n";
+const ADDRESS: &[u8] = b"address = \"192.168.1.10\"\n";
 
-const FRONT: &str = "[[frontend]]\nsources = [1]\nsystems = [\"dvbs\", \"dvbs2\"]\n";
+const FRONT: &[u8] = b"[[frontend]]\nsources = [1]\nsystems = [\"dvbs\", \"dvbs2\"]\n";
 
-const TUNED: &str =
-    "[[mux]]\nsrc = 1\nfreq = \"11361.75\"\npol = \"h\"\nmsys = \"dvbs2\"\nsr = 22000\n";
+const TUNED: &[u8] =
+    b"[[mux]]\nsrc = 1\nfreq = \"11361.75\"\npol = \"h\"\nmsys = \"dvbs2\"\nsr = 22000\n";
 
-const MUX: &str = "[[mux]]\n\
+const MUX: &[u8] = b"[[mux]]\n\
     src = 1\n\
     freq = \"12402\"\n\
     pol = \"v\"\n\
@@ -337,88 +339,31 @@ const MULTIPLEXES: &[(&str, &str)] = &[
     ),
 ];
 
-/// The text that the pieces make.
-fn joined(alloc: Global, pieces: &[&str]) -> Result<String, AllocError> {
-    let mut text = String::new(alloc);
-    for piece in pieces {
-        text.push_str(piece)?;
-    }
-    Ok(text)
-}
-
-/// The text so many times.
-fn repeated(alloc: Global, text: &str, times: usize) -> Result<String, AllocError> {
-    let mut all = String::new(alloc);
-    for _ in 0..times {
-        all.push_str(text)?;
-    }
-    Ok(all)
-}
-
-/// The fault of the text that the pieces make, as it is printed; nothing where the text is read.
-fn fault_of(alloc: Global, pieces: &[&str]) -> Result<String, AllocError> {
-    let text = joined(alloc, pieces)?;
-    match read_config(alloc, text.as_bytes()) {
+// Prints the fault of a text; nothing if it is read.
+fn fault_of(alloc: Global, text: &[u8]) -> Result<String, AllocError> {
+    match read_config(alloc, text) {
         Ok(_) => Ok(String::new(alloc)),
         Err(fault) => format!(in alloc; "{fault}"),
     }
 }
 
-/// Shows that the lines of each row have its fault between these texts.
-fn show_faults(
+// Asserts which fault a text has.
+fn check_fault(rt: &impl Abort, alloc: Global, text: &[u8], wanted: &str, lines: &str) {
+    let printed = fault_of(alloc, text).expect(rt, "out of memory");
+    check(rt, lines, &printed.as_str(), &wanted);
+}
+
+// Asserts which fault the lines of each row have between these texts.
+fn check_rows(
     rt: &impl Abort,
     alloc: Global,
-    before: &str,
+    before: &[u8],
     rows: &[(&str, &str)],
-    after: &str,
+    after: &[u8],
 ) -> Result<(), Fail> {
-    for (lines, want) in rows {
-        let printed = fault_of(alloc, &[before, lines, after])?;
-        assert_eq!(rt; printed.as_str(), *want, "at {lines}");
-    }
-    Ok(())
-}
-
-/// The configuration of two front ends and two multiplexes.
-fn read_whole(alloc: Global) -> Result<Config, Fail> {
-    let text = joined(
-        alloc,
-        &[ADDRESS, FRONT, FRONT, TUNED, "file = \"a.ts\"\n", MUX],
-    )?;
-    Ok(read_config(alloc, text.as_bytes())?)
-}
-
-#[test]
-fn the_address_is_read_and_the_rest_has_defaults(rt: HostRuntime) -> Result<(), Fail> {
-    let config = read_whole(rt.alloc())?;
-    assert_eq!(rt; config.address, 0xC0A8_010A);
-    assert_eq!(rt; (config.rtsp_port, config.http_port), (554, 8875));
-    assert_eq!(rt; (config.timeout, config.workers), (60, 8));
-    Ok(())
-}
-
-#[test]
-fn two_front_ends_are_read(rt: HostRuntime) -> Result<(), Fail> {
-    let config = read_whole(rt.alloc())?;
-    let wanted = [front_end(1), front_end(2)];
-    assert_eq!(rt; config.fronts.as_slice(), wanted.as_slice());
-    Ok(())
-}
-
-#[test]
-fn two_multiplexes_are_read(rt: HostRuntime) -> Result<(), Fail> {
-    let config = read_whole(rt.alloc())?;
-    let wanted = [FIRST_MUX, SECOND_MUX];
-    assert_eq!(rt; config.muxes.as_slice(), wanted.as_slice());
-    Ok(())
-}
-
-#[test]
-fn the_files_of_two_multiplexes_are_read(rt: HostRuntime) -> Result<(), Fail> {
-    let config = read_whole(rt.alloc())?;
-    assert_eq!(rt; config.files.len(), 2);
-    for (file, name) in config.files.iter().zip([b"a.ts".as_slice(), b"b.ts"]) {
-        assert_eq!(rt; file.bytes(), name);
+    for (lines, wanted) in rows {
+        let text = joined(alloc, &[before, lines.as_bytes(), after])?;
+        check_fault(rt, alloc, &text, wanted, lines);
     }
     Ok(())
 }
@@ -426,103 +371,161 @@ fn the_files_of_two_multiplexes_are_read(rt: HostRuntime) -> Result<(), Fail> {
 #[test]
 fn keys_of_the_document(rt: HostRuntime) -> Result<(), Fail> {
     let after = joined(rt.alloc(), &[ADDRESS, FRONT])?;
-    show_faults(&rt, rt.alloc(), "", DOCUMENT, after.as_str())
+    check_rows(&rt, rt.alloc(), b"", DOCUMENT, &after)
 }
 
 #[test]
 fn addresses_and_first_front_ends(rt: HostRuntime) -> Result<(), Fail> {
-    show_faults(&rt, rt.alloc(), "", HEADS, "")
+    check_rows(&rt, rt.alloc(), b"", HEADS, b"")
 }
 
 #[test]
 fn keys_of_a_front_end(rt: HostRuntime) -> Result<(), Fail> {
-    let before = joined(rt.alloc(), &[ADDRESS, FRONT, "[[frontend]]\n"])?;
-    show_faults(&rt, rt.alloc(), before.as_str(), FRONTS, "")
+    let before = joined(rt.alloc(), &[ADDRESS, FRONT, b"[[frontend]]\n"])?;
+    check_rows(&rt, rt.alloc(), &before, FRONTS, b"")
 }
 
 #[test]
 fn keys_of_a_multiplex(rt: HostRuntime) -> Result<(), Fail> {
-    let before = joined(rt.alloc(), &[ADDRESS, FRONT, MUX, "[[mux]]\n"])?;
-    show_faults(&rt, rt.alloc(), before.as_str(), MULTIPLEXES, "")
+    let before = joined(rt.alloc(), &[ADDRESS, FRONT, MUX, b"[[mux]]\n"])?;
+    check_rows(&rt, rt.alloc(), &before, MULTIPLEXES, b"")
 }
 
-/// Shows that the text that the pieces make has this fault.
-fn show_fault(rt: &impl Abort, alloc: Global, pieces: &[&str], want: &str) -> Result<(), Fail> {
-    let printed = fault_of(alloc, pieces)?;
-    assert_eq!(rt; printed.as_str(), want);
-    Ok(())
+// Asserts the values of a configuration, whose ports, timeout and workers aren't given.
+fn check_values(rt: &impl Abort, config: &Config) {
+    assert_eq!(rt; config.address, 0xC0A8_010A);
+    assert_eq!(rt; (config.rtsp_port, config.http_port), (554, 8875));
+    assert_eq!(rt; (config.timeout, config.workers), (60, 8));
 }
 
-#[test]
-fn names_of_files_have_1_to_255_bytes(rt: HostRuntime) -> Result<(), Fail> {
-    for (length, want) in [
-        (0, "value of mux.1.file"),
-        (1, ""),
-        (255, ""),
-        (256, "value of mux.1.file"),
-    ] {
-        let name = repeated(rt.alloc(), "a", length)?;
-        let pieces = [ADDRESS, FRONT, TUNED, "file = \"", name.as_str(), "\"\n"];
-        show_fault(&rt, rt.alloc(), &pieces, want)?;
-    }
-    Ok(())
-}
-
-/// Shows that a configuration of this many front ends and multiplexes has this fault.
-fn show_fault_of_counts(
-    rt: &impl Abort,
-    alloc: Global,
-    fronts: usize,
-    muxes: usize,
-    want: &str,
-) -> Result<(), Fail> {
-    let fronts = repeated(alloc, FRONT, fronts)?;
-    let muxes = repeated(alloc, MUX, muxes)?;
-    show_fault(rt, alloc, &[ADDRESS, fronts.as_str(), muxes.as_str()], want)
-}
-
-#[test]
-fn front_ends_and_multiplexes_have_limits(rt: HostRuntime) -> Result<(), Fail> {
-    for (fronts, muxes, want) in [
-        (16, 256, ""),
-        (17, 0, "value of frontend"),
-        (1, 257, "value of mux"),
-    ] {
-        show_fault_of_counts(&rt, rt.alloc(), fronts, muxes, want)?;
-    }
-    Ok(())
-}
-
-#[test]
-fn a_front_end_has_at_most_255_sources(rt: HostRuntime) -> Result<(), Fail> {
-    for (sources, want) in [(255, ""), (256, "value of frontend.1.sources")] {
-        let sources = repeated(rt.alloc(), "1, ", sources)?;
-        let pieces = [
-            ADDRESS,
-            "[[frontend]]\nsources = [",
-            sources.as_str(),
-            "]\nsystems = [\"dvbs2\"]\n",
-        ];
-        show_fault(&rt, rt.alloc(), &pieces, want)?;
-    }
-    Ok(())
-}
-
-#[test]
-fn a_file_has_at_most_a_mebibyte(rt: HostRuntime) -> Result<(), Fail> {
-    for (bytes, want) in [(1_048_576, "shape of address"), (1_048_577, "too long")] {
-        let comment = repeated(rt.alloc(), "#", bytes)?;
-        show_fault(&rt, rt.alloc(), &[comment.as_str()], want)?;
-    }
-    Ok(())
-}
-
-#[test]
-fn text_that_is_not_utf8_is_no_toml(rt: HostRuntime) {
+// Asserts that a configuration has two front ends, and two multiplexes with their files.
+fn check_lists(rt: &impl Abort, config: &Config) {
     assert_eq!(rt;
-        read_config(rt.alloc(), b"# \xFF\n").err(),
-        Some(ConfigFault::NotToml)
+        config.fronts.as_slice(),
+        [front_end(1), front_end(2)].as_slice()
     );
+    assert_eq!(rt; config.muxes.as_slice(), [FIRST_MUX, SECOND_MUX].as_slice());
+    assert_eq!(rt; config.files.len(), 2);
+    for (file, name) in config.files.iter().zip([b"a.ts".as_slice(), b"b.ts"]) {
+        assert_eq!(rt; file.bytes(), name);
+    }
+}
+
+#[test]
+fn a_whole_configuration_is_read(rt: HostRuntime) -> Result<(), Fail> {
+    let pieces: &[&[u8]] = &[ADDRESS, FRONT, FRONT, TUNED, b"file = \"a.ts\"\n", MUX];
+    let text = joined(rt.alloc(), pieces)?;
+    match read_config(rt.alloc(), &text) {
+        Ok(config) => {
+            check_values(&rt, &config);
+            check_lists(&rt, &config);
+        }
+        Err(fault) => panic!(rt; "{fault}"),
+    }
+    Ok(())
+}
+
+// Texts of these pieces, each this number of times, and their faults.
+const REPEATED: &[(&str, &[(&[u8], usize)], &str)] = &[
+    (
+        "a name of a file without a byte",
+        &[
+            (ADDRESS, 1),
+            (FRONT, 1),
+            (TUNED, 1),
+            (b"file = \"", 1),
+            (b"a", 0),
+            (b"\"\n", 1),
+        ],
+        "value of mux.1.file",
+    ),
+    (
+        "a name of a file of 1 byte",
+        &[
+            (ADDRESS, 1),
+            (FRONT, 1),
+            (TUNED, 1),
+            (b"file = \"", 1),
+            (b"a", 1),
+            (b"\"\n", 1),
+        ],
+        "",
+    ),
+    (
+        "a name of a file of 255 bytes",
+        &[
+            (ADDRESS, 1),
+            (FRONT, 1),
+            (TUNED, 1),
+            (b"file = \"", 1),
+            (b"a", 255),
+            (b"\"\n", 1),
+        ],
+        "",
+    ),
+    (
+        "a name of a file of 256 bytes",
+        &[
+            (ADDRESS, 1),
+            (FRONT, 1),
+            (TUNED, 1),
+            (b"file = \"", 1),
+            (b"a", 256),
+            (b"\"\n", 1),
+        ],
+        "value of mux.1.file",
+    ),
+    (
+        "16 front ends and 256 multiplexes",
+        &[(ADDRESS, 1), (FRONT, 16), (MUX, 256)],
+        "",
+    ),
+    (
+        "17 front ends",
+        &[(ADDRESS, 1), (FRONT, 17), (MUX, 0)],
+        "value of frontend",
+    ),
+    (
+        "257 multiplexes",
+        &[(ADDRESS, 1), (FRONT, 1), (MUX, 257)],
+        "value of mux",
+    ),
+    (
+        "255 sources",
+        &[
+            (ADDRESS, 1),
+            (b"[[frontend]]\nsources = [", 1),
+            (b"1, ", 255),
+            (b"]\nsystems = [\"dvbs2\"]\n", 1),
+        ],
+        "",
+    ),
+    (
+        "256 sources",
+        &[
+            (ADDRESS, 1),
+            (b"[[frontend]]\nsources = [", 1),
+            (b"1, ", 256),
+            (b"]\nsystems = [\"dvbs2\"]\n", 1),
+        ],
+        "value of frontend.1.sources",
+    ),
+    ("a mebibyte", &[(b"#", 1_048_576)], "shape of address"),
+    (
+        "a byte more than a mebibyte",
+        &[(b"#", 1_048_577)],
+        "too long",
+    ),
+    ("a text that is not UTF-8", &[(b"# \xFF\n", 1)], "not toml"),
+];
+
+#[test]
+fn names_lists_and_texts_have_limits(rt: HostRuntime) -> Result<(), Fail> {
+    for (name, parts, wanted) in REPEATED {
+        let text = repeated(rt.alloc(), parts)?;
+        check_fault(&rt, rt.alloc(), &text, wanted, name);
+    }
+    Ok(())
 }
 
 #[test]

@@ -1,11 +1,11 @@
 //! Queries by example.
 
+use crate::checks::check;
 use satip_base::Out;
 use satip_pids::PidList;
 use satip_query::*;
 use satip_tune::{Change, Fec, Key, Modulation, Pol, RollOff, System};
 use std::process::Abort;
-use std::test::Fail;
 
 fn fault_of(text: &[u8]) -> Option<QueryFault> {
     let mut query = Query::new();
@@ -20,98 +20,113 @@ fn list_of(pid: u16) -> PidList {
     list
 }
 
+// A change by a query of all keys.
+const ALL_KEYS: Change = Change {
+    fe: Some(2),
+    src: Some(255),
+    freq: Some(11361750),
+    pol: Some(Pol::H),
+    ro: Some(RollOff::R35),
+    msys: Some(System::Dvbs2),
+    mtype: Some(Modulation::Psk8),
+    plts: Some(true),
+    sr: Some(22000),
+    fec: Some(Fec::F23),
+};
+
+// Asserts what a text gives: a query, which has a key or none, or a fault.
+fn check_read(
+    rt: &impl Abort,
+    text: &str,
+    read_as: Result<(), QueryFault>,
+    wanted: &Query,
+    any: bool,
+) {
+    let mut query = Query::new();
+    check(rt, text, &read(text.as_bytes(), &mut query), &read_as);
+    check(rt, text, &query, wanted);
+    check(rt, text, &query.any(), &any);
+}
+
 #[test]
 fn every_key_gives_its_value(rt: HostRuntime) {
-    let mut query = Query::new();
     let text =
-        b"fe=2&src=255&freq=11361.75&pol=h&ro=0.35&msys=dvbs2&mtype=8psk&plts=on&sr=22000&fec=23\
+        "fe=2&src=255&freq=11361.75&pol=h&ro=0.35&msys=dvbs2&mtype=8psk&plts=on&sr=22000&fec=23\
         &pids=16&addpids=0&delpids=8191";
     let wanted = Query {
-        change: Change {
-            fe: Some(2),
-            src: Some(255),
-            freq: Some(11361750),
-            pol: Some(Pol::H),
-            ro: Some(RollOff::R35),
-            msys: Some(System::Dvbs2),
-            mtype: Some(Modulation::Psk8),
-            plts: Some(true),
-            sr: Some(22000),
-            fec: Some(Fec::F23),
-        },
+        change: ALL_KEYS,
         pids: PidsGiven::List(list_of(16)),
         addpids: Some(list_of(0)),
         delpids: Some(list_of(8191)),
     };
-    assert_eq!(rt; read(text, &mut query), Ok(()));
-    assert_eq!(rt; query, wanted);
-    assert!(rt; query.any());
+    check_read(&rt, text, Ok(()), &wanted, true);
 }
 
+// Texts that give nothing, without a known key or at fault.
+const EMPTY: &[(&str, Result<(), QueryFault>)] = &[
+    ("", Ok(())),
+    ("&&", Ok(())),
+    ("bw=8&FE=1&x", Ok(())),
+    ("plts=auto&ro=auto&mtype=auto&fec=auto", Ok(())),
+    ("src=2&fe=0", Err(QueryFault::Range(Key::Fe))),
+];
+
 #[test]
-fn pieces_without_a_known_key_give_nothing(rt: HostRuntime) {
-    for text in [
-        b"".as_slice(),
-        b"&&",
-        b"bw=8&FE=1&x",
-        b"plts=auto&ro=auto&mtype=auto&fec=auto",
-    ] {
-        let mut query = Query::new();
-        assert_eq!(rt; read(text, &mut query), Ok(()));
-        assert_eq!(rt; query, Query::new());
-        assert!(rt; !query.any());
+fn pieces_without_a_known_key_and_queries_at_fault_give_nothing(rt: HostRuntime) {
+    for (text, read_as) in EMPTY {
+        check_read(&rt, text, *read_as, &Query::new(), false);
     }
 }
 
 // Texts, and the faults that they have.
-type Row = (&'static [u8], Option<QueryFault>);
+type Row = (&'static str, Option<QueryFault>);
 
 fn show_faults(rt: &impl Abort, rows: &[Row]) {
     for (text, fault) in rows {
-        assert_eq!(rt; fault_of(text), *fault, "at {text:?}");
+        check(rt, text, &fault_of(text.as_bytes()), fault);
     }
 }
 
 const FORMS: &[Row] = &[
-    (b"pids=", Some(QueryFault::Syntax(Key::Pids))),
-    (b"pids=0,,1", Some(QueryFault::Syntax(Key::Pids))),
-    (b"pids=8192,", Some(QueryFault::Syntax(Key::Pids))),
-    (b"pids=ALL", Some(QueryFault::Syntax(Key::Pids))),
-    (b"pids", Some(QueryFault::Syntax(Key::Pids))),
-    (b"pids=8192", Some(QueryFault::Range(Key::Pids))),
-    (b"addpids=none", Some(QueryFault::Syntax(Key::Addpids))),
-    (b"pids=all", None),
-    (b"pids=none", None),
-    (b"fe=00000000000000000001", None),
+    ("pids=", Some(QueryFault::Syntax(Key::Pids))),
+    ("pids=0,,1", Some(QueryFault::Syntax(Key::Pids))),
+    ("pids=8192,", Some(QueryFault::Syntax(Key::Pids))),
+    ("pids=ALL", Some(QueryFault::Syntax(Key::Pids))),
+    ("pids", Some(QueryFault::Syntax(Key::Pids))),
+    ("pids=8192", Some(QueryFault::Range(Key::Pids))),
+    ("addpids=none", Some(QueryFault::Syntax(Key::Addpids))),
+    ("pids=all", None),
+    ("pids=none", None),
+    ("fe=00000000000000000001", None),
     (
-        b"fe=000000000000000000001",
+        "fe=000000000000000000001",
         Some(QueryFault::Syntax(Key::Fe)),
     ),
-    (b"fe=65536", Some(QueryFault::Range(Key::Fe))),
-    (b"src=0", Some(QueryFault::Range(Key::Src))),
-    (b"sr=100000", Some(QueryFault::Range(Key::Sr))),
-    (b"freq=0.9999995", Some(QueryFault::Syntax(Key::Freq))),
-    (b"freq=0.999", Some(QueryFault::Range(Key::Freq))),
+    ("fe=65536", Some(QueryFault::Range(Key::Fe))),
+    ("src=0", Some(QueryFault::Range(Key::Src))),
+    ("sr=100000", Some(QueryFault::Range(Key::Sr))),
+    ("freq=0.9999995", Some(QueryFault::Syntax(Key::Freq))),
+    ("freq=0.999", Some(QueryFault::Range(Key::Freq))),
 ];
 
 const WORDS: &[Row] = &[
-    (b"msys=dvbt", Some(QueryFault::Range(Key::Msys))),
-    (b"pol=H", Some(QueryFault::Range(Key::Pol))),
-    (b"pol=auto", Some(QueryFault::Range(Key::Pol))),
-    (b"fec=abcdefgh12345678", Some(QueryFault::Range(Key::Fec))),
-    (b"fec=abcdefgh123456789", Some(QueryFault::Syntax(Key::Fec))),
-    (b"plts=o-n", Some(QueryFault::Syntax(Key::Plts))),
-    (b"mtype=", Some(QueryFault::Syntax(Key::Mtype))),
-    (b"ro=0.350", Some(QueryFault::Range(Key::Ro))),
-    (b"ro=35", Some(QueryFault::Syntax(Key::Ro))),
-    (b"ro=0.3.5", Some(QueryFault::Syntax(Key::Ro))),
+    ("msys=dvbt", Some(QueryFault::Range(Key::Msys))),
+    ("pol=H", Some(QueryFault::Range(Key::Pol))),
+    ("pol=auto", Some(QueryFault::Range(Key::Pol))),
+    ("fec=abcdefgh12345678", Some(QueryFault::Range(Key::Fec))),
+    ("fec=abcdefgh123456789", Some(QueryFault::Syntax(Key::Fec))),
+    ("plts=o-n", Some(QueryFault::Syntax(Key::Plts))),
+    ("mtype=", Some(QueryFault::Syntax(Key::Mtype))),
+    ("ro=0.350", Some(QueryFault::Range(Key::Ro))),
+    ("ro=35", Some(QueryFault::Syntax(Key::Ro))),
+    ("ro=0.3.5", Some(QueryFault::Syntax(Key::Ro))),
 ];
 
 const ORDERS: &[Row] = &[
-    (b"pol=h&pol=v", Some(QueryFault::Syntax(Key::Pol))),
-    (b"src=1&msys=dvbt&src=x", Some(QueryFault::Range(Key::Msys))),
-    (b"plts=auto&plts=on", None),
-    (b"plts=on&plts=auto", None),
+    ("pol=h&pol=v", Some(QueryFault::Syntax(Key::Pol))),
+    ("src=1&msys=dvbt&src=x", Some(QueryFault::Range(Key::Msys))),
+    ("plts=auto&plts=on", None),
+    ("plts=on&plts=auto", None),
 ];
 
 #[test]
@@ -127,16 +142,6 @@ fn words_have_sixteen_letters_and_digits(rt: HostRuntime) {
 #[test]
 fn first_piece_at_fault_counts(rt: HostRuntime) {
     show_faults(&rt, ORDERS);
-}
-
-#[test]
-fn a_query_at_fault_gives_nothing(rt: HostRuntime) {
-    let mut query = Query::new();
-    assert_eq!(rt;
-        read(b"src=2&fe=0", &mut query),
-        Err(QueryFault::Range(Key::Fe))
-    );
-    assert_eq!(rt; query, Query::new());
 }
 
 // A digit at every other place behind `pids=`.
@@ -161,25 +166,18 @@ fn value_lists_at_most_512_pids(rt: HostRuntime) {
 }
 
 #[test]
-fn query_prints_in_the_order_of_its_keys(rt: HostRuntime) -> Result<(), Fail> {
+fn query_prints_in_the_order_of_its_keys(rt: HostRuntime) {
     let query = Query {
         change: Change {
             fe: None,
             src: Some(1),
-            freq: Some(11361750),
-            pol: Some(Pol::H),
-            ro: Some(RollOff::R35),
-            msys: Some(System::Dvbs2),
-            mtype: Some(Modulation::Psk8),
-            plts: Some(true),
-            sr: Some(22000),
-            fec: Some(Fec::F23),
+            ..ALL_KEYS
         },
         pids: PidsGiven::All,
         addpids: None,
         delpids: None,
     };
-    let mut out = Out::make(rt.alloc()).map_err(|_| "no memory")?;
+    let mut out = Out::make(rt.alloc()).expect(&rt, "out of memory");
     print(&query, &mut out);
     assert_eq!(rt;
         out.reply(),
@@ -187,31 +185,26 @@ fn query_prints_in_the_order_of_its_keys(rt: HostRuntime) -> Result<(), Fail> {
         &fec=23&pids=all"
             .as_slice()
     );
-    Ok(())
 }
 
+const BODIES: &[(RefusalBody, &[u8])] = &[
+    (RefusalBody::CheckSyntax(Key::Pol), b"Check-Syntax:pol"),
+    (
+        RefusalBody::OutOfRange(Key::Delpids),
+        b"Out-of-Range:delpids",
+    ),
+    (RefusalBody::NotOwner, b"Not-Owner:stream"),
+    (RefusalBody::NoMorePids, b"No-More:pids"),
+    (RefusalBody::NoMoreSessions, b"No-More:sessions"),
+    (RefusalBody::NoMoreFrontends, b"No-More:frontends"),
+];
+
 #[test]
-fn bodies_name_what_is_wrong(rt: HostRuntime) -> Result<(), Fail> {
-    let texts = [
-        (
-            RefusalBody::CheckSyntax(Key::Pol),
-            b"Check-Syntax:pol".as_slice(),
-        ),
-        (
-            RefusalBody::OutOfRange(Key::Delpids),
-            b"Out-of-Range:delpids",
-        ),
-        (RefusalBody::NotOwner, b"Not-Owner:stream"),
-        (RefusalBody::NoMorePids, b"No-More:pids"),
-        (RefusalBody::NoMoreSessions, b"No-More:sessions"),
-        (RefusalBody::NoMoreFrontends, b"No-More:frontends"),
-    ];
-    let mut out = Out::make(rt.alloc()).map_err(|_| "no memory")?;
-    for (body, text) in texts {
+fn bodies_name_what_is_wrong(rt: HostRuntime) {
+    let mut out = Out::make(rt.alloc()).expect(&rt, "out of memory");
+    for (body, text) in BODIES {
         out.clear();
-        assert_eq!(rt; body.size(), text.len());
         body.write(&mut out);
-        assert_eq!(rt; out.reply(), text);
+        assert_eq!(rt; (body.size(), out.reply()), (text.len(), *text));
     }
-    Ok(())
 }

@@ -1,5 +1,6 @@
 //! Tunings, words and frequencies by example.
 
+use crate::checks::check;
 use satip_fixtures::{FIRST_MUX, FIRST_TUNING};
 use satip_tune::*;
 
@@ -15,10 +16,6 @@ const NOTHING: Change = Change {
     sr: None,
     fec: None,
 };
-
-fn mux(freq: u32) -> Mux {
-    Mux { freq, ..FIRST_MUX }
-}
 
 #[test]
 fn change_keeps_what_it_does_not_give(rt: HostRuntime) {
@@ -69,22 +66,25 @@ const OF_FOUR_KEYS: Tuning = Tuning {
     fec: None,
 };
 
+const FIRST_TUNINGS: &[(Change, Result<Tuning, Key>)] = &[
+    (NOTHING, Err(Key::Freq)),
+    (TWO_KEYS, Err(Key::Pol)),
+    (THREE_KEYS, Err(Key::Sr)),
+    (FOUR_KEYS, Ok(OF_FOUR_KEYS)),
+];
+
 #[test]
 fn first_tuning_needs_four_keys(rt: HostRuntime) {
-    for (change, wanted) in [
-        (NOTHING, Err(Key::Freq)),
-        (TWO_KEYS, Err(Key::Pol)),
-        (THREE_KEYS, Err(Key::Sr)),
-        (FOUR_KEYS, Ok(OF_FOUR_KEYS)),
-    ] {
-        assert_eq!(rt; first(&change), wanted);
+    for (change, wanted) in FIRST_TUNINGS {
+        assert_eq!(rt; first(change), *wanted);
     }
 }
 
 // Tunings, and whether they fit front end 2, which reaches position 1 and receives DVB-S2.
-const FITTING: [(Tuning, bool); 5] = [
-    (FIRST_TUNING, true),
+const FITTING: &[(&str, Tuning, bool)] = &[
+    ("any front end", FIRST_TUNING, true),
     (
+        "front end 2",
         Tuning {
             fe: Some(2),
             ..FIRST_TUNING
@@ -92,6 +92,7 @@ const FITTING: [(Tuning, bool); 5] = [
         true,
     ),
     (
+        "front end 1",
         Tuning {
             fe: Some(1),
             ..FIRST_TUNING
@@ -99,6 +100,7 @@ const FITTING: [(Tuning, bool); 5] = [
         false,
     ),
     (
+        "position 2",
         Tuning {
             src: 2,
             ..FIRST_TUNING
@@ -106,6 +108,7 @@ const FITTING: [(Tuning, bool); 5] = [
         false,
     ),
     (
+        "DVB-S",
         Tuning {
             msys: System::Dvbs,
             ..FIRST_TUNING
@@ -123,29 +126,52 @@ fn front_fits_by_source_system_and_number(rt: HostRuntime) {
         sources,
         systems: [false, true],
     };
-    for (tuning, fitting) in &FITTING {
-        assert_eq!(rt; fits(&front, tuning), *fitting, "{tuning:?}");
+    for (name, tuning, fitting) in FITTING {
+        check(&rt, name, &fits(&front, tuning), fitting);
     }
 }
 
+const MUXES: &[Mux] = &[
+    Mux {
+        freq: 11363751,
+        ..FIRST_MUX
+    },
+    Mux {
+        freq: 11363750,
+        ..FIRST_MUX
+    },
+    Mux {
+        freq: 11359750,
+        ..FIRST_MUX
+    },
+    Mux {
+        freq: 11361750,
+        ..FIRST_MUX
+    },
+];
+
+const LOWER: Tuning = Tuning {
+    freq: 11357750,
+    ..FIRST_TUNING
+};
+
+const VERTICAL: Tuning = Tuning {
+    pol: Pol::V,
+    ..FIRST_TUNING
+};
+
+const PLACES: &[(&[Mux], Tuning, Option<u16>)] = &[
+    (MUXES, FIRST_TUNING, Some(2)),
+    (MUXES, LOWER, Some(3)),
+    (MUXES, VERTICAL, None),
+    (&[], FIRST_TUNING, None),
+];
+
 #[test]
 fn multiplex_is_the_first_within_2000_khz(rt: HostRuntime) {
-    let muxes = [mux(11363751), mux(11363750), mux(11359750), mux(11361750)];
-    let lower = Tuning {
-        freq: 11357750,
-        ..FIRST_TUNING
-    };
-    let vertical = Tuning {
-        pol: Pol::V,
-        ..FIRST_TUNING
-    };
-    for (muxes, tuning, place) in [
-        (muxes.as_slice(), FIRST_TUNING, Some(2)),
-        (&muxes, lower, Some(3)),
-        (&muxes, vertical, None),
-        (&[], FIRST_TUNING, None),
-    ] {
-        assert_eq!(rt; mux_of(muxes, &tuning), place);
+    for (muxes, tuning, place) in PLACES {
+        assert!(rt; muxes.len() <= 256);
+        assert_eq!(rt; mux_of(muxes, tuning), *place);
     }
 }
 
@@ -180,39 +206,41 @@ fn keys_are_compared_byte_for_byte(rt: HostRuntime) {
 }
 
 // Frequencies as they are written, and in kHz.
-const FREQUENCIES: &[(&[u8], Result<u32, ValueFault>)] = &[
-    (b"11361.75", Ok(11361750)),
-    (b"12402", Ok(12402000)),
-    (b"1", Ok(1000)),
-    (b"99999.9999", Ok(99999999)),
-    (b"100000", Err(ValueFault::NotAllowed)),
-    (b"0.999999", Err(ValueFault::NotAllowed)),
-    (b"18446744073709551615", Err(ValueFault::NotAllowed)),
-    (b"0.9999995", Err(ValueFault::Malformed)),
-    (b"18446744073709551616", Err(ValueFault::Malformed)),
-    (b"1.", Err(ValueFault::Malformed)),
-    (b".5", Err(ValueFault::Malformed)),
-    (b"1.2.3", Err(ValueFault::Malformed)),
-    (b"1,5", Err(ValueFault::Malformed)),
-    (b"", Err(ValueFault::Malformed)),
+const FREQUENCIES: &[(&str, Result<u32, ValueFault>)] = &[
+    ("11361.75", Ok(11361750)),
+    ("12402", Ok(12402000)),
+    ("1", Ok(1000)),
+    ("99999.9999", Ok(99999999)),
+    ("100000", Err(ValueFault::NotAllowed)),
+    ("0.999999", Err(ValueFault::NotAllowed)),
+    ("18446744073709551615", Err(ValueFault::NotAllowed)),
+    ("0.9999995", Err(ValueFault::Malformed)),
+    ("18446744073709551616", Err(ValueFault::Malformed)),
+    ("1.", Err(ValueFault::Malformed)),
+    (".5", Err(ValueFault::Malformed)),
+    ("1.2.3", Err(ValueFault::Malformed)),
+    ("1,5", Err(ValueFault::Malformed)),
+    ("", Err(ValueFault::Malformed)),
 ];
 
 #[test]
 fn frequencies_are_read_in_khz(rt: HostRuntime) {
     for (text, frequency) in FREQUENCIES {
-        assert_eq!(rt; read_frequency(text), *frequency, "at {text:?}");
+        check(&rt, text, &read_frequency(text.as_bytes()), frequency);
     }
 }
 
+const PRINTED: &[(u32, &[u8])] = &[
+    (11361750, b"11361.75"),
+    (12402000, b"12402"),
+    (99999999, b"99999.999"),
+    (10700050, b"10700.05"),
+    (10700500, b"10700.5"),
+];
+
 #[test]
 fn frequencies_print_without_end_zeros(rt: HostRuntime) {
-    for (frequency, text) in [
-        (11361750, b"11361.75".as_slice()),
-        (12402000, b"12402"),
-        (99999999, b"99999.999"),
-        (10700050, b"10700.05"),
-        (10700500, b"10700.5"),
-    ] {
-        assert_eq!(rt; FrequencyText::of(frequency).bytes(), text);
+    for (frequency, text) in PRINTED {
+        assert_eq!(rt; FrequencyText::of(*frequency).bytes(), *text);
     }
 }
