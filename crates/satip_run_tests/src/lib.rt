@@ -2,6 +2,10 @@
 #![tactic(auto)]
 
 #[cfg(test)]
+mod checks;
+#[cfg(test)]
+mod given;
+#[cfg(test)]
 mod locks;
 #[cfg(test)]
 mod pumps;

@@ -1,6 +1,8 @@
 //! Outlets that count, and a connection that notes what left before a reply.
-ghost use Rattle.std.specs.Prelude.{◌≡◌, false, IfOk};
+ghost use Rattle.std.specs.Prelude.{◌≡◌, false};
 
+use crate::checks::check;
+use crate::given::given;
 use satip_base::{Address, Out, Put};
 use satip_desk::{PumpKit, TickKit, WorkerKit};
 use satip_fixtures::texts::{SETUP, joined, repeated};
@@ -14,9 +16,9 @@ use satip_solo::setting::{give, letters, play, set_up, solo};
 use satip_worker::{Draws, Room, WorkerEnd, run_worker, serve_connection};
 use satip_world::{Conn, ConnEnd, DoorKind, Outlet, Received};
 use std::alloc::Global;
+use std::process::Abort;
 use std::sync::Wait;
 use std::sync::atomic::{AtomicU64, Ordering};
-use std::test::Fail;
 
 const TEARDOWN: &[u8] = b"TEARDOWN rtsp://192.168.1.10/stream=1 RTSP/1.0\r\n\
     CSeq: 3\r\n\
@@ -160,120 +162,126 @@ impl<'a> Outlet for CountedOutlet<'a> {
     }
 }
 
-fn outlet<'a>(alloc: Global, tally: &'a Tally) -> Result<CountedOutlet<'a>, Fail>
-    ensures free { IfOk result (λ counted. counted.outlet.held ≡ false) }
+fn outlet<'a>(rt: &impl Abort, alloc: Global, tally: &'a Tally) -> CountedOutlet<'a>
+    ensures free { result.outlet.held ≡ false }
 {
-    Ok(CountedOutlet {
-        outlet: MemoryOutlet::make(alloc, &[])?,
-        tally,
-    })
+    let Ok(outlet) = MemoryOutlet::make(alloc, &[]) else {
+        panic!(rt; "out of memory");
+    };
+    CountedOutlet { outlet, tally }
 }
 
 // Doors by which one connection comes, which sets up and plays.
-fn doors(alloc: Global) -> Result<MemoryDoors, Fail> {
-    let text = joined(alloc, &[SETUP, PLAY])?;
-    let conn = MemoryConn::make(alloc, &[&text], &[], &[], 0)?;
-    let mut doors = MemoryDoors::make(alloc, 1, &[], &[])?;
-    doors.add(DoorKind::Rtsp, CLIENT, conn)?;
-    Ok(doors)
+fn doors(rt: &impl Abort, alloc: Global) -> MemoryDoors {
+    let text = given(rt, joined(alloc, &[SETUP, PLAY]));
+    let conn = MemoryConn::make(alloc, &[&text], &[], &[], 0).expect(rt, "out of memory");
+    let mut doors = MemoryDoors::make(alloc, 1, &[], &[]).expect(rt, "out of memory");
+    doors
+        .add(DoorKind::Rtsp, CLIENT, conn)
+        .expect(rt, "out of memory");
+    doors
 }
 
 // A worker with one connection.
-fn work<R: Wait + Sync>(
+fn work<R: Wait + Sync + Abort>(
     rt: &R,
     alloc: Global,
     solo: &mut Counted<'_, Solo>,
     tally: &Tally,
-) -> Result<WorkerEnd, Fail> {
-    let mut room = Room::make(alloc)?;
+) -> WorkerEnd {
+    let mut room = Room::make(alloc).expect(rt, "out of memory");
     let mut kit = WorkerKit {
-        doors: doors(alloc)?,
-        outlet: outlet(alloc, tally)?,
+        doors: doors(rt, alloc),
+        outlet: outlet(rt, alloc, tally),
         pacer: MemoryPacer::new(),
         key: KEY,
     };
-    Ok(run_worker(rt, solo, &mut kit, 0, &mut room))
+    run_worker(rt, solo, &mut kit, 0, &mut room)
 }
 
 // A store with a recording of seven packets.
-fn store(alloc: Global) -> Result<MemoryStore, Fail> {
-    let text = repeated(alloc, &[(packet_bytes(16).as_slice(), 7)])?;
-    let mut store = MemoryStore::make(alloc, &[])?;
-    store.add(1, &text, &[], &[])?;
-    Ok(store)
-}
-
-type CountedPump<'a> = PumpKit<MemoryStore, CountedOutlet<'a>, MemoryPacer>;
-
-fn pump_kit<'a>(alloc: Global, tally: &'a Tally) -> Result<CountedPump<'a>, Fail>
-    ensures free { IfOk result (λ kit. kit.outlet.outlet.held ≡ false) }
-{
-    Ok(PumpKit {
-        store: store(alloc)?,
-        outlet: outlet(alloc, tally)?,
-        pacer: MemoryPacer::new(),
-    })
+fn store(rt: &impl Abort, alloc: Global) -> MemoryStore {
+    let text = given(rt, repeated(alloc, &[(packet_bytes(16).as_slice(), 7)]));
+    let mut store = MemoryStore::make(alloc, &[]).expect(rt, "out of memory");
+    store.add(1, &text, &[], &[]).expect(rt, "out of memory");
+    store
 }
 
 // A pump with the recording.
-fn pump<R: Wait + Sync>(
+fn pump<R: Wait + Sync + Abort>(
     rt: &R,
     alloc: Global,
     solo: &mut Counted<'_, Solo>,
     tally: &Tally,
-) -> Result<JobEnd, Fail> {
-    let mut out = Out::make(alloc)?;
-    let mut batch = Batch::make(alloc)?;
-    let mut kit = pump_kit(alloc, tally)?;
-    Ok(run_pump(rt, solo, 1, &mut kit, &mut out, &mut batch))
+) -> JobEnd {
+    let mut out = Out::make(alloc).expect(rt, "out of memory");
+    let mut batch = Batch::make(alloc).expect(rt, "out of memory");
+    let mut kit = PumpKit {
+        store: store(rt, alloc),
+        outlet: outlet(rt, alloc, tally),
+        pacer: MemoryPacer::new(),
+    };
+    run_pump(rt, solo, 1, &mut kit, &mut out, &mut batch)
 }
 
 // A ticker, one second after the start.
-fn tick<R: Wait + Sync>(
+fn tick<R: Wait + Sync + Abort>(
     rt: &R,
     alloc: Global,
     solo: &mut Counted<'_, Solo>,
     tally: &Tally,
-) -> Result<JobEnd, Fail> {
-    let mut out = Out::make(alloc)?;
+) -> JobEnd {
+    let mut out = Out::make(alloc).expect(rt, "out of memory");
     let mut kit = TickKit {
-        clock: MemoryClock::make(alloc, &[1000])?,
-        outlet: outlet(alloc, tally)?,
+        clock: MemoryClock::make(alloc, &[1000]).expect(rt, "out of memory"),
+        outlet: outlet(rt, alloc, tally),
         pacer: MemoryPacer::new(),
     };
-    Ok(run_ticker(rt, solo, &mut kit, &mut out))
+    run_ticker(rt, solo, &mut kit, &mut out)
 }
 
-// The worker, the pump and the ticker, one after another: how they ended.
-fn run_jobs<R: Wait + Sync>(
+// Runs the worker, the pump and the ticker, one after another, and asserts their ends.
+fn run_jobs<R: Wait + Sync + Abort>(
     rt: &R,
     alloc: Global,
     solo: &mut Counted<'_, Solo>,
     tally: &Tally,
-) -> Result<(WorkerEnd, JobEnd, JobEnd), Fail> {
-    let worked = work(rt, alloc, solo, tally)?;
-    let pumped = pump(rt, alloc, solo, tally)?;
-    let ticked = tick(rt, alloc, solo, tally)?;
-    Ok((worked, pumped, ticked))
+) {
+    check(
+        rt,
+        "worker",
+        &work(rt, alloc, solo, tally),
+        &WorkerEnd::Closed,
+    );
+    check(rt, "pump", &pump(rt, alloc, solo, tally), &JobEnd::Stopped);
+    check(
+        rt,
+        "ticker",
+        &tick(rt, alloc, solo, tally),
+        &JobEnd::Stopped,
+    );
 }
 
 // Two requests, four calls of the pump and a tick, each executed under a separate lock; the seven
 // packets leave as one datagram, and the tick sends a report.
 #[test]
-fn three_jobs_lock_for_each_event(rt: HostRuntime) -> Result<(), Fail> {
+fn three_jobs_lock_for_each_event(rt: HostRuntime) {
     let alloc = rt.alloc();
     let tally = Tally::new();
     let mut counted = Counted {
-        service: solo(alloc, Some(11))?,
+        service: given(&rt, solo(alloc, Some(11))),
         tally: &tally,
     };
-    let ends = run_jobs(&rt, alloc, &mut counted, &tally)?;
-    let kinds = letters(alloc, &counted.service)?;
-    assert!(rt; ends == (WorkerEnd::Closed, JobEnd::Stopped, JobEnd::Stopped));
-    assert_eq!(rt; kinds.as_slice(), b"RRAPPPPPPPESAT".as_slice());
-    assert_eq!(rt; tally.counts(), [7, 7, 2, 0]);
-    assert_eq!(rt; tally.call_counts(), [7, 0]);
-    Ok(())
+    run_jobs(&rt, alloc, &mut counted, &tally);
+    let kinds = given(&rt, letters(alloc, &counted.service));
+    check(
+        &rt,
+        "kinds",
+        &kinds.as_slice(),
+        &b"RRAPPPPPPPESAT".as_slice(),
+    );
+    check(&rt, "counts", &tally.counts(), &[7, 7, 2, 0]);
+    check(&rt, "calls", &tally.call_counts(), &[7, 0]);
 }
 
 // A connection that notes how many datagrams had left at its last send.
@@ -300,28 +308,29 @@ impl<'a> Conn for NotingConn<'a> {
 }
 
 // Sets up and plays, and gives three packets, which are held: the statuses of both replies.
-fn play_three(alloc: Global, solo: &mut Solo) -> Result<[u16; 2], Fail> {
-    let mut out = Out::make(alloc)?;
-    let statuses = [set_up(solo, &mut out)?, play(solo, &mut out)?];
+fn play_three(rt: &impl Abort, alloc: Global, solo: &mut Solo) -> [u16; 2] {
+    let mut out = Out::make(alloc).expect(rt, "out of memory");
+    let created = given(rt, set_up(solo, &mut out));
+    let played = given(rt, play(solo, &mut out));
     for _ in 0..3u8 {
-        give(solo, &mut out)?;
+        let _answer = given(rt, give(solo, &mut out));
     }
-    Ok(statuses)
+    [created, played]
 }
 
 // Serves a connection, and tallies what leaves.
-fn serve<R: Wait + Sync>(
+fn serve<R: Wait + Sync + Abort>(
     rt: &R,
     alloc: Global,
     solo: &mut Solo,
     conn: &mut NotingConn,
     tally: &Tally,
-) -> Result<ConnEnd, Fail> {
-    let mut room = Room::make(alloc)?;
-    let mut outlet = outlet(alloc, tally)?;
+) -> ConnEnd {
+    let mut room = Room::make(alloc).expect(rt, "out of memory");
+    let mut outlet = outlet(rt, alloc, tally);
     let mut draws = Draws::make(&KEY, 0);
     let mut pacer = MemoryPacer::new();
-    Ok(serve_connection(
+    serve_connection(
         rt,
         solo,
         DoorKind::Rtsp,
@@ -331,34 +340,38 @@ fn serve<R: Wait + Sync>(
         &mut pacer,
         &mut draws,
         &mut room,
-    ))
+    )
 }
 
 // Serves a connection with a TEARDOWN: how it ended, and how many datagrams had left at its reply.
-fn tear_down<R: Wait + Sync>(
+fn tear_down<R: Wait + Sync + Abort>(
     rt: &R,
     alloc: Global,
     solo: &mut Solo,
     tally: &Tally,
-) -> Result<(ConnEnd, u64), Fail> {
+) -> (ConnEnd, u64) {
     let mut conn = NotingConn {
-        conn: MemoryConn::make(alloc, &[TEARDOWN], &[], &[], 0)?,
+        conn: MemoryConn::make(alloc, &[TEARDOWN], &[], &[], 0).expect(rt, "out of memory"),
         tally,
         before: 0,
     };
-    let end = serve(rt, alloc, solo, &mut conn, tally)?;
-    Ok((end, conn.before))
+    let end = serve(rt, alloc, solo, &mut conn, tally);
+    (end, conn.before)
 }
 
 // The packets that a session holds leave before the reply to its TEARDOWN.
 #[test]
-fn a_reply_follows_the_datagrams_of_its_request(rt: HostRuntime) -> Result<(), Fail> {
+fn a_reply_follows_the_datagrams_of_its_request(rt: HostRuntime) {
     let alloc = rt.alloc();
     let tally = Tally::new();
-    let mut solo = solo(alloc, None)?;
-    assert_eq!(rt; play_three(alloc, &mut solo)?, [200, 200]);
-    let seen = tear_down(&rt, alloc, &mut solo, &tally)?;
-    assert!(rt; seen == (ConnEnd::Done, 1));
-    assert_eq!(rt; tally.sent(), 1);
-    Ok(())
+    let mut solo = given(&rt, solo(alloc, None));
+    check(
+        &rt,
+        "statuses",
+        &play_three(&rt, alloc, &mut solo),
+        &[200, 200],
+    );
+    let (end, before) = tear_down(&rt, alloc, &mut solo, &tally);
+    check(&rt, "end", &end, &ConnEnd::Done);
+    check(&rt, "datagrams", &[before, tally.sent()], &[1, 1]);
 }

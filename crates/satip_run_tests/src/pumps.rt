@@ -1,7 +1,9 @@
 //! Pumps of the first front end, which a SETUP tuned.
-ghost use Rattle.std.specs.Prelude.{◌≡◌, false, IfOk};
+ghost use Rattle.std.specs.Prelude.{◌≡◌, false};
 
-use satip_base::{Entry, Out, Want};
+use crate::checks::check;
+use crate::given::given;
+use satip_base::{Entry, Out};
 use satip_desk::PumpKit;
 use satip_fixtures::packet_bytes;
 use satip_fixtures::texts::repeated;
@@ -11,8 +13,8 @@ use satip_pump::{Batch, JobEnd, run_pump};
 use satip_solo::Solo;
 use satip_solo::setting::{ask, end, give, letters, set_up, solo};
 use std::alloc::Global;
+use std::process::Abort;
 use std::sync::Wait;
-use std::test::Fail;
 
 type Kit = PumpKit<MemoryStore, MemoryOutlet, MemoryPacer>;
 
@@ -20,104 +22,61 @@ const TOLD: Answer = Answer::Work(Work::Tune { mux: 1, tune: 1 });
 
 const STOPPING: Answer = Answer::Work(Work::Stopping);
 
-// What a pump came to: its end, the kinds of all entries, the answer of the last one, how often it
-// paused, and how many sources are out.
-#[derive(Drop)]
-struct Pumped {
-    end: JobEnd,
-    kinds: Vec<u8>,
-    last: Option<Answer>,
-    pauses: u64,
-    lent: u64,
-}
-
 // A kit with this recording of the first multiplex, whose starts of these numbers fail, and which
 // gives it in takes of these sizes, of which these fail.
 fn kit(
+    rt: &impl Abort,
     alloc: Global,
     starts: &[u64],
     text: &[u8],
     takes: &[usize],
     failing: &[u64],
-) -> Result<Kit, Fail>
-    ensures free { IfOk result (λ kit. kit.outlet.held ≡ false) }
+) -> Kit
+    ensures free { result.outlet.held ≡ false }
 {
-    let mut store = MemoryStore::make(alloc, starts)?;
-    store.add(1, text, takes, failing)?;
-    Ok(PumpKit {
+    let Ok(outlet) = MemoryOutlet::make(alloc, &[]) else {
+        panic!(rt; "out of memory");
+    };
+    let mut store = MemoryStore::make(alloc, starts).expect(rt, "out of memory");
+    store
+        .add(1, text, takes, failing)
+        .expect(rt, "out of memory");
+    PumpKit {
         store,
-        outlet: MemoryOutlet::make(alloc, &[])?,
+        outlet,
         pacer: MemoryPacer::new(),
-    })
-}
-
-// A recording of so many packets, with bytes before and behind them.
-fn recording(alloc: Global, before: &[u8], count: usize, behind: &[u8]) -> Result<Vec<u8>, Fail> {
-    repeated(
-        alloc,
-        &[
-            (before, 1),
-            (packet_bytes(16).as_slice(), count),
-            (behind, 1),
-        ],
-    )
+    }
 }
 
 // A service whose call 0 was the SETUP.
-fn tuned(alloc: Global, stop: u64) -> Result<Solo, Fail> {
-    let mut out = Out::make(alloc)?;
-    let mut solo = solo(alloc, Some(stop))?;
-    set_up(&mut solo, &mut out)?;
-    Ok(solo)
+fn tuned(rt: &impl Abort, alloc: Global, stop: u64) -> Solo {
+    let mut out = Out::make(alloc).expect(rt, "out of memory");
+    let mut solo = given(rt, solo(alloc, Some(stop)));
+    let _status = given(rt, set_up(&mut solo, &mut out));
+    solo
 }
 
-fn run<R: Wait + Sync>(
-    rt: &R,
-    alloc: Global,
-    solo: &mut Solo,
-    kit: &mut Kit,
-) -> Result<JobEnd, Want>
+// Runs a pump over a service.
+fn pump<R: Wait + Sync + Abort>(rt: &R, alloc: Global, solo: &mut Solo, kit: &mut Kit) -> JobEnd
     requires free { kit.old.outlet.held ≡ false }
 {
-    let mut out = Out::make(alloc)?;
-    let mut batch = Batch::make(alloc)?;
-    Ok(run_pump(rt, solo, 1, kit, &mut out, &mut batch))
+    let mut out = Out::make(alloc).expect(rt, "out of memory");
+    let mut batch = Batch::make(alloc).expect(rt, "out of memory");
+    run_pump(rt, solo, 1, kit, &mut out, &mut batch)
 }
 
 // The answer of the entry at a place.
 fn answer_at(solo: &Solo, place: usize) -> Option<Answer> {
-    solo.entries().get(place).map(|entry| entry.answer)
-}
-
-// What a pump that ended came to.
-fn outcome(alloc: Global, solo: &Solo, kit: &Kit, end: JobEnd) -> Result<Pumped, Fail> {
-    let kinds = letters(alloc, solo)?;
-    let last = answer_at(solo, kinds.len().saturating_sub(1));
-    Ok(Pumped {
-        end,
-        kinds,
-        last,
-        pauses: kit.pacer.pauses(),
-        lent: kit.store.lent(),
-    })
-}
-
-// Runs a pump over a service.
-fn pump<R: Wait + Sync>(
-    rt: &R,
-    alloc: Global,
-    solo: &mut Solo,
-    kit: &mut Kit,
-) -> Result<Pumped, Fail>
-    requires free { kit.old.outlet.held ≡ false }
-{
-    let end = run(rt, alloc, solo, kit)?;
-    outcome(alloc, solo, kit, end)
+    match solo.entries().get(place) {
+        Some(entry) => Some(entry.answer),
+        None => None,
+    }
 }
 
 // A recording of the first multiplex with bytes before and behind its packets, whose starts and
 // takes of these numbers fail, and which is given in takes of these sizes; the number of the call
 // before which the Stop comes, and the kinds of all entries.
+#[derive(Clone, Copy)]
 struct Row {
     name: &'static str,
     before: &'static [u8],
@@ -130,7 +89,7 @@ struct Row {
     kinds: &'static [u8],
 }
 
-const ROWS: [Row; 3] = [
+const ROWS: &[Row] = &[
     Row {
         name: "bytes before the packets and a tail behind them",
         before: &[0, 1, 2, 3, 4],
@@ -166,37 +125,45 @@ const ROWS: [Row; 3] = [
     },
 ];
 
-// The kit of a row.
-fn kit_of(alloc: Global, row: &Row) -> Result<Kit, Fail>
-    ensures free { IfOk result (λ kit. kit.outlet.held ≡ false) }
-{
-    let text = recording(alloc, row.before, row.count, row.behind)?;
-    kit(alloc, row.starts, &text, row.takes, row.failing)
+// The recording of a row.
+fn recording_of(rt: &impl Abort, alloc: Global, row: &Row) -> Vec<u8> {
+    let packet = packet_bytes(16);
+    let parts: &[(&[u8], usize)] = &[
+        (row.before, 1),
+        (packet.as_slice(), row.count),
+        (row.behind, 1),
+    ];
+    given(rt, repeated(alloc, parts))
+}
+
+// Asserts that a pump was told to stop, with no source out and entries of the row's kinds.
+fn check_stopped(rt: &impl Abort, alloc: Global, solo: &Solo, kit: &Kit, row: &Row) {
+    let kinds = given(rt, letters(alloc, solo));
+    check(rt, row.name, &kinds.as_slice(), &row.kinds);
+    let last = answer_at(solo, kinds.len().saturating_sub(1));
+    check(rt, row.name, &last, &Some(STOPPING));
+    check(rt, row.name, &kit.store.lent(), &0);
 }
 
 // Runs a pump over the recording of a row.
-fn pump_row<R: Wait + Sync>(rt: &R, alloc: Global, row: &Row) -> Result<Pumped, Fail> {
-    let mut solo = tuned(alloc, row.stop)?;
-    let mut kit = kit_of(alloc, row)?;
-    pump(rt, alloc, &mut solo, &mut kit)
-}
-
-// Whether a pump was stopped, with no source out and entries of these kinds.
-fn is_stopped(pumped: &Pumped, kinds: &[u8]) -> bool {
-    pumped.end == JobEnd::Stopped
-        && pumped.last == Some(STOPPING)
-        && pumped.lent == 0
-        && pumped.kinds.as_slice() == kinds
+fn check_row<R: Wait + Sync + Abort>(rt: &R, alloc: Global, row: &Row) {
+    let text = recording_of(rt, alloc, row);
+    let mut kit = kit(rt, alloc, row.starts, &text, row.takes, row.failing);
+    let mut solo = tuned(rt, alloc, row.stop);
+    check(
+        rt,
+        row.name,
+        &pump(rt, alloc, &mut solo, &mut kit),
+        &JobEnd::Stopped,
+    );
+    check_stopped(rt, alloc, &solo, &kit, row);
 }
 
 #[test]
-fn recordings_end_where_they_end_or_fail(rt: HostRuntime) -> Result<(), Fail> {
-    for row in &ROWS {
-        let pumped = pump_row(&rt, rt.alloc(), row)?;
-        let name = row.name;
-        assert!(rt; is_stopped(&pumped, row.kinds), "{name}");
+fn recordings_end_where_they_end_or_fail(rt: HostRuntime) {
+    for row in ROWS {
+        check_row(&rt, rt.alloc(), row);
     }
-    Ok(())
 }
 
 // Whether two entries have the same caller, kind of event, answer, reply and number of datagrams.
@@ -228,22 +195,21 @@ fn are_alike_events(a: &Event, b: &Event) -> bool {
 }
 
 // The events of a recording of so many packets as single calls.
-fn give_singly(solo: &mut Solo, out: &mut Out, packets: u8) -> Result<(), Fail> {
-    ask(solo, out)?;
+fn give_singly(rt: &impl Abort, solo: &mut Solo, out: &mut Out, packets: u8) {
+    let _answer = given(rt, ask(solo, out));
     for _ in 0..packets {
-        give(solo, out)?;
+        let _answer = given(rt, give(solo, out));
     }
-    end(solo, out)?;
-    ask(solo, out)?;
-    Ok(())
+    let _answer = given(rt, end(solo, out));
+    let _answer = given(rt, ask(solo, out));
 }
 
 // A service whose call 0 was the SETUP, and to which the packets were given singly.
-fn singly(alloc: Global, packets: u8, stop: u64) -> Result<Solo, Fail> {
-    let mut solo = tuned(alloc, stop)?;
-    let mut out = Out::make(alloc)?;
-    give_singly(&mut solo, &mut out, packets)?;
-    Ok(solo)
+fn singly(rt: &impl Abort, alloc: Global, packets: u8, stop: u64) -> Solo {
+    let mut solo = tuned(rt, alloc, stop);
+    let mut out = Out::make(alloc).expect(rt, "out of memory");
+    give_singly(rt, &mut solo, &mut out, packets);
+    solo
 }
 
 // Whether the entries of two services are alike.
@@ -256,30 +222,39 @@ fn have_like_entries(first: &Solo, second: &Solo) -> bool {
     first.entries().len() == second.entries().len()
 }
 
-// Runs a pump over a recording of 130 packets.
-fn pump_130<R: Wait + Sync>(rt: &R, alloc: Global, solo: &mut Solo) -> Result<Pumped, Fail> {
-    let text = recording(alloc, &[], 130, &[])?;
-    let mut kit = kit(alloc, &[], &text, &[], &[])?;
-    pump(rt, alloc, solo, &mut kit)
+// A recording of 130 packets, which a Stop before call 133 ends.
+const LONG: Row = Row {
+    name: "130 packets",
+    before: &[],
+    count: 130,
+    behind: &[],
+    starts: &[],
+    takes: &[],
+    failing: &[],
+    stop: 133,
+    kinds: b"",
+};
+
+// Runs a pump over the long recording. Asserts its end, and that it paused behind 64 and 128
+// packets, and where the end of the recording was told to do nothing.
+fn pump_long<R: Wait + Sync + Abort>(rt: &R, alloc: Global, solo: &mut Solo) {
+    let text = recording_of(rt, alloc, &LONG);
+    let mut kit = kit(rt, alloc, LONG.starts, &text, LONG.takes, LONG.failing);
+    check(
+        rt,
+        LONG.name,
+        &pump(rt, alloc, solo, &mut kit),
+        &JobEnd::Stopped,
+    );
+    check(rt, "pauses", &kit.pacer.pauses(), &3);
 }
 
 #[test]
-fn a_pump_pauses_between_bursts(rt: HostRuntime) -> Result<(), Fail> {
-    let mut solo = tuned(rt.alloc(), 133)?;
-    let pumped = pump_130(&rt, rt.alloc(), &mut solo)?;
-    // behind 64 and 128 packets, and where the end of the recording was told to do nothing
-    assert_eq!(rt; pumped.pauses, 3);
-    assert_eq!(rt; pumped.end, JobEnd::Stopped);
-    Ok(())
-}
-
-#[test]
-fn bursts_make_the_entries_of_single_calls(rt: HostRuntime) -> Result<(), Fail> {
+fn a_pump_pauses_between_bursts_which_make_the_entries_of_single_calls(rt: HostRuntime) {
     let alloc = rt.alloc();
-    let mut solo = tuned(alloc, 133)?;
-    pump_130(&rt, alloc, &mut solo)?;
-    let other = singly(alloc, 130, 133)?;
-    assert!(rt; answer_at(&solo, 1) == Some(TOLD));
+    let mut solo = tuned(&rt, alloc, LONG.stop);
+    pump_long(&rt, alloc, &mut solo);
+    let other = singly(&rt, alloc, 130, LONG.stop);
+    check(&rt, "first answer", &answer_at(&solo, 1), &Some(TOLD));
     assert!(rt; have_like_entries(&solo, &other));
-    Ok(())
 }

@@ -1,12 +1,13 @@
 //! Connections that are served by a new server, a row each.
 
+use crate::checks::check;
+use crate::given::given;
 use satip_fixtures::texts::{CLOSING, OPTIONS, OPTIONS_REPLY, SETUP, is_joined, repeated};
 use satip_memory::MemoryConn;
 use satip_solo::connections::{GET, HEAD, SETUP_REPLY, Seen, serve_alone};
 use satip_world::{ConnEnd, DoorKind};
 use std::alloc::Global;
-use std::sync::Wait;
-use std::test::Fail;
+use std::process::Abort;
 
 const BEGINNING: &[u8] = b"OPTIONS * RTSP/1.0\r\nCSeq: 1\r\n";
 
@@ -160,36 +161,39 @@ const ROWS: &[Row] = &[
 ];
 
 // What a connection receives at a time.
-fn pieces_of<'a>(alloc: Global, row: &Row, whole: &'a [u8]) -> Result<Vec<&'a [u8]>, Fail> {
+fn pieces_of<'a>(rt: &impl Abort, alloc: Global, row: &Row, whole: &'a [u8]) -> Vec<&'a [u8]> {
     let mut pieces = Vec::new(alloc);
     if row.joined {
-        pieces.push(whole)?;
-        return Ok(pieces);
+        pieces.push(whole).expect(rt, "out of memory");
+        return pieces;
     }
     for (text, _) in row.texts {
-        pieces.push(*text)?;
+        pieces.push(*text).expect(rt, "out of memory");
     }
-    Ok(pieces)
+    pieces
 }
 
-fn serve_row<R: Wait + Sync>(rt: &R, alloc: Global, row: &Row) -> Result<Seen, Fail> {
-    let whole = repeated(alloc, row.texts)?;
-    let pieces = pieces_of(alloc, row, &whole)?;
-    let conn = MemoryConn::make(alloc, &pieces, row.receives, row.sends, row.passed)?;
-    serve_alone(rt, alloc, row.kind, conn)
+fn conn_of(rt: &impl Abort, alloc: Global, row: &Row) -> MemoryConn {
+    let whole = given(rt, repeated(alloc, row.texts));
+    let pieces = pieces_of(rt, alloc, row, &whole);
+    MemoryConn::make(alloc, &pieces, row.receives, row.sends, row.passed).expect(
+        rt,
+        "out of memory",
+    )
 }
 
-// Whether a connection came to what its row says.
-fn is_met(row: &Row, seen: &Seen) -> bool {
-    seen.end == row.end && seen.kinds.as_slice() == row.kinds && is_joined(&seen.sent, row.sent)
+// Asserts that a connection comes to what its row says.
+fn check_seen(rt: &impl Abort, seen: &Seen, row: &Row) {
+    check(rt, row.name, &seen.end, &row.end);
+    check(rt, row.name, &seen.kinds.as_slice(), &row.kinds);
+    check(rt, row.name, &is_joined(&seen.sent, row.sent), &true);
 }
 
 #[test]
-fn connections_come_to_what_their_rows_say(rt: HostRuntime) -> Result<(), Fail> {
+fn connections_come_to_what_their_rows_say(rt: HostRuntime) {
     for row in ROWS {
-        let seen = serve_row(&rt, rt.alloc(), row)?;
-        let name = row.name;
-        assert!(rt; is_met(row, &seen), "{name}");
+        let conn = conn_of(&rt, rt.alloc(), row);
+        let seen = given(&rt, serve_alone(&rt, rt.alloc(), row.kind, conn));
+        check_seen(&rt, &seen, row);
     }
-    Ok(())
 }
