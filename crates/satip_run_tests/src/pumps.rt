@@ -250,7 +250,7 @@ fn pump_long<R: Wait + Sync + Abort>(rt: &R, alloc: Global, solo: &mut Solo) {
 }
 
 #[test]
-fn a_pump_pauses_between_bursts_which_make_the_entries_of_single_calls(rt: HostRuntime) {
+fn a_pump_pauses_between_bursts(rt: HostRuntime) {
     let alloc = rt.alloc();
     let mut solo = tuned(&rt, alloc, LONG.stop);
     pump_long(&rt, alloc, &mut solo);
