@@ -258,16 +258,27 @@ fn each_receive_that_finds_nothing_drains(rt: HostRuntime) -> Result<(), Fail> {
     Ok(())
 }
 
-// Serves a connection whose third piece, before which the frames come, is this one: the frames are
-// sent before a receive finds nothing.
-fn drains_after<R: Wait + Sync + Abort>(rt: &R, alloc: Global, piece: &[u8]) -> Result<(), Fail> {
+// A connection whose third piece, before which the frames come, is the half of a message.
+const HALF_COMES: Row<'static> = Row {
+    pieces: &[SETUP_INTERLEAVED, PLAY, HALF],
+    ..STREAM
+};
+
+// One whose third piece is a report.
+const REPORT_COMES: Row<'static> = Row {
+    pieces: &[SETUP_INTERLEAVED, PLAY, RECEIVER_REPORT],
+    ..STREAM
+};
+
+// Serves such a connection: the frames are sent before a receive finds nothing.
+fn check_drained<R: Wait + Sync + Abort>(
+    rt: &R,
+    alloc: Global,
+    row: &Row<'static>,
+) -> Result<(), Fail> {
     let bytes = wanted(alloc)?;
     let (server, pass) = shared(alloc)?;
-    let row = Row {
-        pieces: &[SETUP_INTERLEAVED, PLAY, piece],
-        ..STREAM
-    };
-    let seen = stream(rt, alloc, &server, pass, &row)?;
+    let seen = stream(rt, alloc, &server, pass, row)?;
     assert_eq!(rt; seen.end, TunnelEnd::Done);
     assert_eq!(rt; seen.sent.as_slice(), bytes.as_slice());
     assert_eq!(rt; seen.entries, 16);
@@ -277,8 +288,8 @@ fn drains_after<R: Wait + Sync + Abort>(rt: &R, alloc: Global, piece: &[u8]) -> 
 
 #[test]
 fn each_piece_without_a_message_drains(rt: HostRuntime) -> Result<(), Fail> {
-    drains_after(&rt, rt.alloc(), HALF)?;
-    drains_after(&rt, rt.alloc(), RECEIVER_REPORT)
+    check_drained(&rt, rt.alloc(), &HALF_COMES)?;
+    check_drained(&rt, rt.alloc(), &REPORT_COMES)
 }
 
 #[test]
