@@ -187,24 +187,27 @@ fn query_prints_in_the_order_of_its_keys(rt: HostRuntime) {
     );
 }
 
-const BODIES: &[(RefusalBody, &[u8])] = &[
-    (RefusalBody::CheckSyntax(Key::Pol), b"Check-Syntax:pol"),
-    (
-        RefusalBody::OutOfRange(Key::Delpids),
-        b"Out-of-Range:delpids",
-    ),
-    (RefusalBody::NotOwner, b"Not-Owner:stream"),
-    (RefusalBody::NoMorePids, b"No-More:pids"),
-    (RefusalBody::NoMoreSessions, b"No-More:sessions"),
-    (RefusalBody::NoMoreFrontends, b"No-More:frontends"),
-];
-
 #[test]
 fn bodies_name_what_is_wrong(rt: HostRuntime) {
+    let texts = [
+        (
+            RefusalBody::CheckSyntax(Key::Pol),
+            b"Check-Syntax:pol".as_slice(),
+        ),
+        (
+            RefusalBody::OutOfRange(Key::Delpids),
+            b"Out-of-Range:delpids",
+        ),
+        (RefusalBody::NotOwner, b"Not-Owner:stream"),
+        (RefusalBody::NoMorePids, b"No-More:pids"),
+        (RefusalBody::NoMoreSessions, b"No-More:sessions"),
+        (RefusalBody::NoMoreFrontends, b"No-More:frontends"),
+    ];
     let mut out = Out::make(rt.alloc()).expect(&rt, "out of memory");
-    for (body, text) in BODIES {
+    for (body, text) in texts {
         out.clear();
+        assert_eq!(rt; body.size(), text.len());
         body.write(&mut out);
-        assert_eq!(rt; (body.size(), out.reply()), (text.len(), *text));
+        assert_eq!(rt; out.reply(), text);
     }
 }
