@@ -18,8 +18,8 @@ extended_more v es x = λ i. record v {
   own = append_assoc v.own es (x ∷ []) i;
 }
 
-module _ {E A O C X : Type 0} (setting_of : X → C) (stands : X → List (Entry E A O) → Type 0) where
-  pub goes_on : (before after : List (Taken E A O) → Type 0) (v : View E A O C) (made place : ℕ) (me me' : Me (Content X E A O) (View E A O C))
+module _ {E A O C X Y : Type 0} (setting_of : X → C) (stands : X → List (Entry E A O) → Type 0) where
+  pub goes_on : (before after : List (Taken E A O) → Type 0) (v : View E A O C) (made place : ℕ) (me me' : Me (Content Y E A O) (View E A O C))
       (value value' : X) (e : E) (a : A) (o : O)
       → IsUnderWay setting_of stands before v made me value place
       → ((ts : List (Taken E A O)) → before ts → after (ts ++ taken e a o ∷ []))
@@ -31,14 +31,14 @@ module _ {E A O C X : Type 0} (setting_of : X → C) (stands : X → List (Entry
       let ts : List (Taken E A O) = u.taken in
       let x : Entry E A O = entry v.number e a o in
       let es : List (Entry E A O) = entries v.number ts in
-      let here : me.0 ≡ extended v es = ap (λ (m : Me (Content X E A O) (View E A O C)). m.0) u.seat in
+      let here : me.0 ≡ extended v es = ap (λ (m : Me (Content Y E A O) (View E A O C)). m.0) u.seat in
       let step : committed me.0 (entry me.0.number e a o) ≡ extended v (entries v.number (ts ++ taken e a o ∷ [])) =
       ap (λ (w : View E A O C). committed w (entry w.number e a o)) here ∙ extended_more v es x
       ∙ ap (extended v) (sym (entries-append v.number ts (taken e a o ∷ []))) in
       let longer : length (me.0.whole ++ entry me.0.number e a o ∷ []) ≡ length me.0.whole + 1 = length-append me.0.whole (entry me.0.number e a o ∷ []) in
       let long : length (ts ++ taken e a o ∷ []) ≡ length ts + 1 = length-append ts (taken e a o ∷ []) in
-      let whole : me'.0.whole ≡ me.0.whole ++ entry me.0.number e a o ∷ [] = ap (λ (m : Me (Content X E A O) (View E A O C)). m.0.whole) is in
-      let setting : me'.0.setting ≡ me.0.setting = ap (λ (m : Me (Content X E A O) (View E A O C)). m.0.setting) is in
+      let whole : me'.0.whole ≡ me.0.whole ++ entry me.0.number e a o ∷ [] = ap (λ (m : Me (Content Y E A O) (View E A O C)). m.0.whole) is in
+      let setting : me'.0.setting ≡ me.0.setting = ap (λ (m : Me (Content Y E A O) (View E A O C)). m.0.setting) is in
       let count = u.count in
       let at = u.place_is in
       let more : length me'.0.whole ≡ length me.0.whole + 1 = ap length whole ∙ longer in

@@ -3,6 +3,7 @@ use Rattle.std.specs.Prelude.{◌≡◌, ◌⊎◌, ℕ, ◌+◌, ◌^◌, ◌<�
 use mathlib.Core.Option.{some}
 use lib.ListN.{get_elem?}
 use Rattle.atomic_table.specs.Table.{State}
+use Rattle.std.specs.declared.boxed.Box.{Box}
 use Rattle.satip_base.specs.declared.entry.Entry.{Entry}
 use Rattle.satip_base.specs.Lists.{Each, Has, Begins}
 use Rattle.satip_turn.specs.declared.view.View.{View}
@@ -10,6 +11,14 @@ use Rattle.satip_turn.specs.declared.view.Content.{Content}
 use Rattle.satip_turn.specs.declared.view.Content.TheVariants.{Home}
 use Rattle.satip_turn.specs.Views.{held, holders, numbers}
 use Rattle.satip_turn.specs.Faithful.{AreOwnIn}
+
+-- the setting of the value in a box
+abbrev pub in_box : {C X Z : Type 0} → (X → C) → Box X Z → C
+in_box setting_of b = setting_of b.value
+
+-- the value in the box stands for the history
+abbrev pub stands_in_box : {H X Z : Type 0} → (X → H → Type 0) → Box X Z → H → Type 0
+stands_in_box stands b h = stands b.value h
 
 -- 1 if the test holds, else 0
 abbrev pub one_if : Bool → ℕ

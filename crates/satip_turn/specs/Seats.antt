@@ -36,7 +36,7 @@ pub record IsServed {E A O C X : Type 0} (setting_of : X → C) (stands : X → 
   pub stands_for : stands value v.whole
 
 -- the turn was taken, when this was the whole history
-pub record TakesTurn {E A O C X : Type 0} (setting_of : X → C) (stands : X → List (Entry E A O) → Type 0) (me me' : Me (Content X E A O) (View E A O C)) (value : X) : Type 0 where
+pub record TakesTurn {E A O C X Y : Type 0} (setting_of : X → C) (stands : X → List (Entry E A O) → Type 0) (me me' : Me (Content Y E A O) (View E A O C)) (value : X) : Type 0 where
   pub whole : List (Entry E A O)
   pub view : me'.0 ≡ taking me.0 whole
   pub slots : me'.1 ≡ (0, Away) ∷ []
@@ -45,7 +45,7 @@ pub record TakesTurn {E A O C X : Type 0} (setting_of : X → C) (stands : X →
   pub fits : length whole < 2 ^ 64
 
 -- the turn was taken, after tries that found it taken
-pub record WaitsTurn {E A O C X : Type 0} (setting_of : X → C) (stands : X → List (Entry E A O) → Type 0) (me me' : Me (Content X E A O) (View E A O C)) (value : X) : Type 0 where
+pub record WaitsTurn {E A O C X Y : Type 0} (setting_of : X → C) (stands : X → List (Entry E A O) → Type 0) (me me' : Me (Content Y E A O) (View E A O C)) (value : X) : Type 0 where
   pub met : ℕ
   pub rises : me.0.met ≤ met
   pub takes : TakesTurn setting_of stands (record me.0 { met = met }, []) me' value
@@ -83,7 +83,7 @@ abbrev pub extended : {E A O C : Type 0} → View E A O C → List (Entry E A O)
 extended v es = record v { seen = v.seen ++ es; whole = v.whole ++ es; own = v.own ++ es }
 
 -- a burst under way: since its look it has added `made` entries, which are those that the feed took
-pub record IsUnderWay {E A O C X : Type 0} (setting_of : X → C) (stands : X → List (Entry E A O) → Type 0) (has_taken : List (Taken E A O) → Type 0) (v : View E A O C) (made : ℕ) (me : Me (Content X E A O) (View E A O C)) (value : X) (place : ℕ) : Type 0 where
+pub record IsUnderWay {E A O C X Y : Type 0} (setting_of : X → C) (stands : X → List (Entry E A O) → Type 0) (has_taken : List (Taken E A O) → Type 0) (v : View E A O C) (made : ℕ) (me : Me (Content Y E A O) (View E A O C)) (value : X) (place : ℕ) : Type 0 where
   pub taken : List (Taken E A O)
   pub count : length taken ≡ made
   pub has : has_taken taken

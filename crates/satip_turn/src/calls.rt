@@ -136,7 +136,7 @@ impl<S: Served> TurnCell<S> {
             &self.table.shared,
             &mut pass.seat,
             &mut pass.place,
-            &mut served,
+            &mut *served,
             feed,
             out,
         );

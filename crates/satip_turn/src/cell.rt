@@ -85,6 +85,9 @@ impl<S: Served> TurnCell<S> {
         ensures of { IfOk result (λ made. IsOf made.1 made.0) }
     {
         let key = Snapshot::of(&served);
+        let Ok(served) = Box::new(alloc, served) else {
+            return Err(Want);
+        };
         let mut slots = Vec::new(alloc);
         if slots.push(Content::Home(served)).is_err() {
             return Err(Want);

@@ -1,7 +1,7 @@
 //! The rule of the cell's table, and what a seat learns from each of its steps.
 ghost use Rattle.std.specs.Prelude.{◌≡◌};
 ghost use Rattle.satip_turn.specs.Views.{opening_view, spent_view};
-ghost use Rattle.satip_turn.specs.Rule.{Kept};
+ghost use Rattle.satip_turn.specs.Rule.{Kept, in_box, stands_in_box};
 ghost use Rattle.satip_turn.specs.Steps.{Tries, Looks, Gives, Draws, Hears, spoken, parting, newcomer, joining};
 
 use crate::view::{Sight, Slot, View};
@@ -10,11 +10,11 @@ use satip_base::Served;
 use std::snapshot::Snapshot;
 
 /// The rule: word 0 is the turn, word 1 the length of the history, and the slot holds the served
-/// value.
+/// value in a box.
 pub struct Turns;
 
 impl<S: Served> TableRule<Slot<S>, Sight<S>, Snapshot<S>> for Turns {
-    ghost holds = { λ k s. Kept S.setting S.legal S.stands_for (S.setting k.value) s };
+    ghost holds = { λ k s. Kept (in_box S.setting) S.legal (stands_in_box S.stands_for) (S.setting k.value) s };
 
     ghost first = { λ k. opening_view (S.setting k.value) };
 }
@@ -23,7 +23,7 @@ impl<S: Served> TableRule<Slot<S>, Sight<S>, Snapshot<S>> for Turns {
 pub(crate) struct Take;
 
 impl<S: Served> Play<Slot<S>, Sight<S>> for Take {
-    ghost then = { λ _ me found after. Tries S.setting S.stands_for me found after };
+    ghost then = { λ _ me found after. Tries (in_box S.setting) (stands_in_box S.stands_for) me found after };
 }
 
 // Reads the length under the turn.

@@ -17,11 +17,11 @@ pub(crate) type TurnTable<S> = Shared<Slot<S>, Sight<S>, Snapshot<S>, Turns>;
 pub(crate) type TurnSeat<S> = Seat<Slot<S>, Sight<S>>;
 
 // Tries once to take the turn, and the served value with it.
-pub(crate) fn take<S: Served>(table: &TurnTable<S>, seat: &mut TurnSeat<S>) -> Option<S>
+pub(crate) fn take<S: Served>(table: &TurnTable<S>, seat: &mut TurnSeat<S>) -> Option<Box<S>>
     requires cell { (seat.old.table_id ≡ table.now.table_id) × IsTurnTable table.now.table_id }
     requires idle { IsIdle seat.old.me }
     ensures cell { seat.new.table_id ≡ seat.old.table_id }
-    ensures taken { IfSome result (TakesTurn S.setting S.stands_for seat.old.me seat.new.me) }
+    ensures taken { IfSome result (λ served. TakesTurn S.setting S.stands_for seat.old.me seat.new.me served.value) }
     ensures met { IfNone result (seat.new.me ≡ (meeting seat.old.me.0, [])) }
 {
     if table.compare_exchange::<Take>(seat, 0, 0, 1) != 0 {
@@ -74,10 +74,10 @@ pub(crate) fn commit<S: Served>(
 }
 
 // Puts the served value back and gives up the turn.
-pub(crate) fn give<S: Served>(table: &TurnTable<S>, seat: &mut TurnSeat<S>, served: S)
+pub(crate) fn give<S: Served>(table: &TurnTable<S>, seat: &mut TurnSeat<S>, served: Box<S>)
     requires cell { (seat.old.table_id ≡ table.now.table_id) × IsTurnTable table.now.table_id }
     requires holds { IsHolding seat.old.me }
-    requires served { IsServed S.setting S.stands_for seat.old.me.0 served }
+    requires served { IsServed S.setting S.stands_for seat.old.me.0 served.value }
     ensures cell { seat.new.table_id ≡ seat.old.table_id }
     ensures given { seat.new.me ≡ (resting seat.old.me.0, []) }
     ensures sound { IsSound S.legal (resting seat.old.me.0) }

@@ -16,11 +16,11 @@ pub(crate) fn wait_turn<S: Served, R: Wait>(
     rt: &R,
     table: &TurnTable<S>,
     seat: &mut TurnSeat<S>,
-) -> S
+) -> Box<S>
     requires cell { (seat.old.table_id ≡ table.now.table_id) × IsTurnTable table.now.table_id }
     requires idle { IsIdle seat.old.me }
     ensures cell { seat.new.table_id ≡ seat.old.table_id }
-    ensures taken { WaitsTurn S.setting S.stands_for seat.old.me seat.new.me result }
+    ensures taken { WaitsTurn S.setting S.stands_for seat.old.me seat.new.me result.value }
 {
     for _ in rt.forever() {
         if let Some(served) = take(table, seat) {
@@ -36,13 +36,13 @@ pub(crate) fn serve_turn<S: Served>(
     table: &TurnTable<S>,
     seat: &mut TurnSeat<S>,
     place: &mut u64,
-    mut served: S,
+    mut served: Box<S>,
     event: &S::Event,
     out: &mut S::Out,
 ) -> Result<S::Answer, Spent>
     requires cell { (seat.old.table_id ≡ table.now.table_id) × IsTurnTable table.now.table_id }
     requires holds { IsHolding seat.old.me }
-    requires served { IsServed S.setting S.stands_for seat.old.me.0 served }
+    requires served { IsServed S.setting S.stands_for seat.old.me.0 served.value }
     requires fits { length seat.old.me.0.whole < 2 ^ 64 }
     ensures cell { seat.new.table_id ≡ seat.old.table_id }
     ensures seat { MatchResult result

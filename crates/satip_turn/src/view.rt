@@ -41,7 +41,8 @@ pub struct View<E, A, O, C> {
 }
 
 /// The content of the cell's slot: the served value, or, while a seat has taken it, nothing or the
-/// entry to be committed. The entry takes no memory.
+/// entry to be committed. The entry takes no memory, and the value lies in a box, so that an
+/// exchange copies few words.
 #[derive(Drop)]
 pub enum Content<X, E, A, O> {
     Away,
@@ -50,7 +51,7 @@ pub enum Content<X, E, A, O> {
 }
 
 pub(crate) type Slot<S> = Content<
-    S,
+    Box<S>,
     <S as Served>::Event,
     <S as Served>::Answer,
     <S as Served>::Out,

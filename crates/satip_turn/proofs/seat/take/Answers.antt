@@ -1,5 +1,6 @@
 -- The step keeps the rule; where the word was 0, the seat has the slot.
 use Rattle.std.proofs.Common.{◌∙◌, arith}
+use Rattle.satip_turn.specs.Rule.{in_box, stands_in_box}
 use Rattle.satip_turn.specs.declared.view.Content.TheVariants.{Home}
 use Rattle.satip_turn.proofs.Turning.{tries, first_back}
 use Rattle.satip_turn.proofs.seat.take.Goals as goal
@@ -9,7 +10,7 @@ compare_exchange-requires g c =
     let words = c.requires.cell.1.words in (
       c.requires.cell.0,
       omega arith,
-      tries g.S.Served.setting g.S.Served.legal g.S.Served.stands_for (g.S.Served.setting c.args.table.now.key.value) c.args.table.now.table_id.slots
+      tries (in_box g.S.Served.setting) g.S.Served.legal (stands_in_box g.S.Served.stands_for) (g.S.Served.setting c.args.table.now.key.value) c.args.table.now.table_id.slots
           c.args.seat.now.id c.args.seat.now.me c.requires.idle.turn c.requires.idle.live,
     )
 
