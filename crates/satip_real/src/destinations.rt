@@ -1,18 +1,23 @@
 //! A connected UDP socket for each destination.
 
-use crate::addresses::{socket_addr, socket_addr_v4};
+use crate::addresses::socket_addr;
 use crate::errors::lacks_room;
 use crate::options::widen;
-use lru::LruCache;
 use mio::net::UdpSocket;
 use satip_base::Address;
 use satip_host::{Throttle, report_line};
 use std::io;
-use std::net::{SocketAddr, SocketAddrV4};
-use std::num::NonZeroUsize;
 
 // The limit of destinations that have a socket: RTP and RTCP of 64 sessions.
 const SOCKETS: usize = 128;
+
+// A destination with its socket, and the time of its last datagram by the count of sends.
+#[derive(Drop)]
+struct Connected {
+    to: Address,
+    socket: UdpSocket,
+    used: u64,
+}
 
 /// The sockets of the most recent destinations. Each socket has a separate send buffer, so
 /// datagrams that wait for one host take no room from others.
@@ -21,9 +26,13 @@ pub(crate) struct Destinations {
     rt: HostRuntime,
     ip: u32,
     common: UdpSocket,
-    connected: LruCache<SocketAddrV4, UdpSocket>,
+    connected: Vec<Connected>,
+    // The place after that of the last destination found.
+    next: usize,
+    sends: u64,
     refused: u64,
-    untold: bool,
+    // The count of those refused when `due` was last called.
+    seen: u64,
     reports: Throttle,
 }
 
@@ -35,9 +44,9 @@ fn open(rt: &HostRuntime, ip: u32) -> io::Result<UdpSocket> {
     Ok(socket)
 }
 
-fn open_connected(rt: &HostRuntime, ip: u32, to: SocketAddrV4) -> io::Result<UdpSocket> {
+fn open_connected(rt: &HostRuntime, ip: u32, to: Address) -> io::Result<UdpSocket> {
     let socket = open(rt, ip)?;
-    socket.connect(SocketAddr::V4(to))?;
+    socket.connect(socket_addr(to))?;
     Ok(socket)
 }
 
@@ -45,37 +54,64 @@ impl Destinations {
     /// Creates the sockets: no destination has one yet, and one is common to those that can't get
     /// one.
     pub(crate) fn bind(rt: HostRuntime, ip: u32) -> io::Result<Destinations> {
-        let Some(capacity) = NonZeroUsize::new(SOCKETS) else {
-            unreachable!()
-        };
         Ok(Destinations {
             rt,
             ip,
             common: open(&rt, ip)?,
-            connected: LruCache::new(rt.alloc(), capacity)?,
+            connected: Vec::with_capacity(rt.alloc(), SOCKETS)?,
+            next: 0,
+            sends: 0,
             refused: 0,
-            untold: false,
+            seen: 0,
             reports: Throttle::new(),
         })
     }
 
+    // Returns the place of a destination, or the count of places if it has none. Those of an event
+    // mostly come in the order of their places, so the search begins after the last one found.
+    fn find(&self, to: Address) -> usize {
+        let count = self.connected.len();
+        let mut place = self.next;
+        for _ in 0..count.saturating_add(1) {
+            match self.connected.get(place) {
+                Some(entry) if entry.to == to => return place,
+                Some(_) => place = place.saturating_add(1),
+                None => place = 0,
+            }
+        }
+        count
+    }
+
+    // Adds a socket. Closes the least recently used one first if there is no room.
+    fn add(&mut self, entry: Connected) {
+        if self.connected.len() >= SOCKETS {
+            let oldest = self.connected.iter().map(|entry| entry.used).min();
+            self.connected.retain(|entry| Some(entry.used) != oldest);
+        }
+        let _ = self.connected.push(entry);
+    }
+
     // Sends a datagram once, from the destination's socket if it has one or can get one.
-    fn try_send(&mut self, to: SocketAddrV4, bytes: &[u8]) -> io::Result<usize> {
-        if let Some(socket) = self.connected.get(&to) {
-            return socket.send(bytes);
+    fn try_send(&mut self, to: Address, bytes: &[u8]) -> io::Result<usize> {
+        self.sends = self.sends.saturating_add(1);
+        let used = self.sends;
+        let place = self.find(to);
+        if let Some(entry) = self.connected.get_mut(place) {
+            self.next = place.saturating_add(1);
+            entry.used = used;
+            return entry.socket.send(bytes);
         }
         let Ok(socket) = open_connected(&self.rt, self.ip, to) else {
-            return self.common.send_to(bytes, SocketAddr::V4(to));
+            return self.common.send_to(bytes, socket_addr(to));
         };
         let sent = socket.send(bytes);
-        let _ = self.connected.put(to, socket);
+        self.add(Connected { to, socket, used });
         sent
     }
 
     /// Sends a datagram, whole or not at all. An error may be that of the last datagram to the same
     /// destination (udp(7), ECONNREFUSED), so this one is tried once more.
     pub(crate) fn send(&mut self, to: Address, bytes: &[u8]) -> bool {
-        let to = socket_addr_v4(to);
         let sent = match self.try_send(to, bytes) {
             Err(error) if !lacks_room(&error) => self.try_send(to, bytes),
             sent => sent,
@@ -91,26 +127,24 @@ impl Destinations {
 
     // Counts a datagram for which there was no room. A socket that refused one twice for another
     // reason may be broken: it is closed, and the next datagram gets a new one.
-    fn give_up(&mut self, to: SocketAddrV4, error: &io::Error) {
+    fn give_up(&mut self, to: Address, error: &io::Error) {
         if lacks_room(error) {
             self.refused = self.refused.saturating_add(1);
-            self.untold = true;
         } else {
-            let _ = self.connected.pop(&to);
+            self.connected.retain(|entry| entry.to != to);
         }
     }
 
-    /// Returns the count of datagrams without room, if there are new ones and a line on them is
-    /// due. A line is due at most once a minute.
+    /// Returns the count of datagrams without room, if there are some since the last call and a
+    /// line on them is due. A line is due at most once a minute.
     pub(crate) fn due(&mut self) -> Option<Refusals> {
-        if !self.untold || !self.reports.is_due(&self.rt) {
+        let seen = self.seen;
+        self.seen = self.refused;
+        if seen == self.refused || !self.reports.is_due(&self.rt) {
             return None;
         }
-        self.untold = false;
-        Some(Refusals {
-            rt: self.rt,
-            count: self.refused,
-        })
+        let (rt, count) = (self.rt, self.refused);
+        Some(Refusals { rt, count })
     }
 }
 

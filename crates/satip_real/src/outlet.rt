@@ -13,9 +13,9 @@ use std::sync::{Arc, Condvar, Mutex, Wait};
 /// sends its datagrams.
 #[derive(Drop)]
 pub struct SharedSocket {
-    destinations: Mutex<Destinations>,
-    locked: Mutex<bool>,
-    unlocked: Condvar,
+    // The sockets; `None` while an outlet has them.
+    free: Mutex<Option<Destinations>>,
+    freed: Condvar,
 }
 
 impl SharedSocket {
@@ -25,36 +25,16 @@ impl SharedSocket {
     /// the first socket.
     pub fn bind(rt: HostRuntime, ip: u32) -> io::Result<SharedSocket> {
         Ok(SharedSocket {
-            destinations: Mutex::new(Destinations::bind(rt, ip)?),
-            locked: Mutex::new(false),
-            unlocked: Condvar::new(),
+            free: Mutex::new(Some(Destinations::bind(rt, ip)?)),
+            freed: Condvar::new(),
         })
     }
 
-    // Waits until no outlet has the lock, and takes it.
-    fn lock<R: Wait>(&self, rt: &R) {
-        let locked = self.locked.lock(rt);
-        let mut locked = self.unlocked.wait_while(rt, locked, |locked| *locked);
-        *locked = true;
-    }
-
-    fn unlock<R: Wait>(&self, rt: &R) {
-        *self.locked.lock(rt) = false;
-        self.unlocked.notify_one();
-    }
-
-    // Sends a datagram, whole or not at all.
-    fn send<R: Wait>(&self, rt: &R, to: Address, bytes: &[u8]) -> bool {
-        self.destinations.lock(rt).send(to, bytes)
-    }
-
-    // Reports the datagrams without room, if a line is due. Holds no lock while it writes, since
-    // standard error may wait for its reader.
-    fn tell<R: Wait>(&self, rt: &R) {
-        let due = self.destinations.lock(rt).due();
-        if let Some(refusals) = due {
-            refusals.report();
-        }
+    // Waits until no outlet has the sockets, and takes them.
+    fn take<R: Wait>(&self, rt: &R) -> Destinations {
+        let free = self.free.lock(rt);
+        let mut free = self.freed.wait_while(rt, free, |free| free.is_none());
+        free.take().unwrap()
     }
 }
 
@@ -65,18 +45,17 @@ pub struct RealOutlet<R: Wait + Drop> {
     rt: R,
     shared: Arc<SharedSocket>,
     faults: u64,
-    held: bool,
-    // Whether a send failed since the last unlock.
-    failed: bool,
+    // The sockets, while it holds the lock.
+    taken: Option<Destinations>,
 }
 
 impl<R: Wait + Drop> Model for RealOutlet<R> {
-    ghost use Rattle.std.specs.Prelude.{[]};
+    ghost use Rattle.std.specs.Prelude.{[], is_some};
     ghost use Rattle.satip_world.specs.Outboxes.{Outbox};
 
     ghost Value = { Outbox };
 
-    ghost view = { λ o. record { sent = []; faults = o.faults; held = o.held } };
+    ghost view = { λ o. record { sent = []; faults = o.faults; held = is_some o.taken } };
 }
 
 impl<R: Wait + Drop> RealOutlet<R> {
@@ -90,8 +69,7 @@ impl<R: Wait + Drop> RealOutlet<R> {
             rt,
             shared,
             faults: 0,
-            held: false,
-            failed: false,
+            taken: None,
         }
     }
 }
@@ -102,27 +80,30 @@ impl<R: Wait + Drop> Outlet for RealOutlet<R> {
     ghost outbox = { λ o. o };
 
     fn lock(&mut self) {
-        self.shared.lock(&self.rt);
-        self.held = true;
+        self.taken = Some(self.shared.take(&self.rt));
     }
 
+    // Reports after the sockets are put back, since standard error may wait for its reader.
     fn unlock(&mut self) {
-        if self.held {
-            self.held = false;
-            self.shared.unlock(&self.rt);
-        }
-        if self.failed {
-            self.failed = false;
-            self.shared.tell(&self.rt);
+        let Some(mut destinations) = self.taken.take() else {
+            return;
+        };
+        let due = destinations.due();
+        *self.shared.free.lock(&self.rt) = Some(destinations);
+        self.shared.freed.notify_one();
+        if let Some(refusals) = due {
+            refusals.report();
         }
     }
 
     fn send(&mut self, to: Address, bytes: &[u8]) -> Put {
-        if self.shared.send(&self.rt, to, bytes) {
+        let Some(destinations) = &mut self.taken else {
+            unreachable!()
+        };
+        if destinations.send(to, bytes) {
             return Put::Whole;
         }
         self.faults = self.faults.saturating_add(1);
-        self.failed = true;
         Put::Failed
     }
 }
