@@ -1,8 +1,10 @@
 //! Texts at the limits, fed in pieces of several sizes.
+use crate::checks::check;
 use crate::framed::framer_at;
 use satip_fixtures::texts::{OPTIONS, repeated};
 use satip_frame::{Framer, Message, Step};
 use std::alloc::Global;
+use std::process::Abort;
 use std::test::Fail;
 
 // Feeds the text in pieces of at most `size` bytes, and counts the messages up to the last step.
@@ -33,44 +35,31 @@ struct Row {
     name: &'static str,
     parts: &'static [(&'static [u8], usize)],
     size: usize,
-    count: usize,
-    step: Step,
+    seen: (usize, Step),
 }
 
 const BEGINNING: (&[u8], usize) = (b"OPTIONS * RTSP/1.0\r\nCSeq: 1\r\n", 1);
 
 const END: (&[u8], usize) = (b"\r\n", 1);
 
-// A head that is bad.
-const BAD: Row = Row {
-    name: "",
-    parts: &[],
-    size: 7,
-    count: 0,
-    step: Step::Bad,
-};
-
 const ROWS: &[Row] = &[
     Row {
         name: "one byte at a time",
         parts: &[(OPTIONS, 1)],
         size: 1,
-        count: 1,
-        step: Step::More,
+        seen: (1, Step::More),
     },
     Row {
         name: "a head of 8192 bytes",
         parts: &[BEGINNING, (b"X: ", 1), (b"a", 8156), (b"\r\n\r\n", 1)],
         size: 4096,
-        count: 1,
-        step: Step::More,
+        seen: (1, Step::More),
     },
     Row {
         name: "a head of 8193 bytes",
         parts: &[BEGINNING, (b"X: a", 1), (b"a", 8156), (b"\r\n\r\n", 1)],
         size: 4096,
-        count: 0,
-        step: Step::Bad,
+        seen: (0, Step::Bad),
     },
     Row {
         name: "a body of 4096 bytes",
@@ -81,8 +70,7 @@ const ROWS: &[Row] = &[
             (OPTIONS, 1),
         ],
         size: 1000,
-        count: 2,
-        step: Step::More,
+        seen: (2, Step::More),
     },
     Row {
         name: "a body of 4097 bytes",
@@ -92,102 +80,49 @@ const ROWS: &[Row] = &[
             (b"x", 4096),
         ],
         size: 1000,
-        count: 0,
-        step: Step::TooLong,
+        seen: (0, Step::TooLong),
     },
     Row {
         name: "two lengths",
         parts: &[BEGINNING, (b"Content-Length: 0\r\n", 2), END],
         size: 1000,
-        count: 0,
-        step: Step::Bad,
+        seen: (0, Step::Bad),
     },
     Row {
         name: "a length with a sign",
         parts: &[BEGINNING, (b"Content-Length: +1\r\n", 1), END],
         size: 1000,
-        count: 0,
-        step: Step::Bad,
+        seen: (0, Step::Bad),
     },
     Row {
         name: "64 headers",
         parts: &[BEGINNING, (b"X: 1\r\n", 63), END],
         size: 500,
-        count: 1,
-        step: Step::More,
+        seen: (1, Step::More),
     },
     Row {
         name: "65 headers",
         parts: &[BEGINNING, (b"X: 1\r\n", 64), END],
         size: 500,
-        count: 0,
-        step: Step::Bad,
+        seen: (0, Step::Bad),
     },
     Row {
         name: "a million ends of lines",
         parts: &[(b"\n", 1_000_000)],
         size: 4096,
-        count: 0,
-        step: Step::More,
+        seen: (0, Step::More),
     },
     Row {
         name: "a million ends of lines before a message",
         parts: &[(b"\n", 1_000_000), (OPTIONS, 1)],
         size: 4096,
-        count: 1,
-        step: Step::More,
+        seen: (1, Step::More),
     },
     Row {
         name: "a hundred thousand letters behind a message",
         parts: &[(OPTIONS, 1), (b"a", 100_000)],
         size: 4096,
-        count: 1,
-        step: Step::Bad,
-    },
-    Row {
-        name: "two spaces",
-        parts: &[(b"OPTIONS  * RTSP/1.0\r\n\r\n", 1)],
-        ..BAD
-    },
-    Row {
-        name: "a space at the end",
-        parts: &[(b"OPTIONS * RTSP/1.0 \r\n\r\n", 1)],
-        ..BAD
-    },
-    Row {
-        name: "two words",
-        parts: &[(b"OPTIONS *\r\n\r\n", 1)],
-        ..BAD
-    },
-    Row {
-        name: "a parenthesis in a method",
-        parts: &[(b"OPT(NS * RTSP/1.0\r\n\r\n", 1)],
-        ..BAD
-    },
-    Row {
-        name: "a byte past ASCII in a target",
-        parts: &[(b"OPTIONS \x80 RTSP/1.0\r\n\r\n", 1)],
-        ..BAD
-    },
-    Row {
-        name: "a version of 17 bytes",
-        parts: &[(b"OPTIONS * 12345678901234567\r\n\r\n", 1)],
-        ..BAD
-    },
-    Row {
-        name: "a space before a colon",
-        parts: &[(b"OPTIONS * RTSP/1.0\r\nCSeq : 1\r\n\r\n", 1)],
-        ..BAD
-    },
-    Row {
-        name: "a folded line",
-        parts: &[(b"OPTIONS * RTSP/1.0\r\nX: 1\r\n 2\r\n\r\n", 1)],
-        ..BAD
-    },
-    Row {
-        name: "two carriage returns",
-        parts: &[(b"OPTIONS * RTSP/1.0\r\n\r\r\n\r\n", 1)],
-        ..BAD
+        seen: (1, Step::Bad),
     },
     Row {
         name: "a version of 16 bytes, and another message",
@@ -196,9 +131,30 @@ const ROWS: &[Row] = &[
             (b"OPTIONS * RTSP/1.0\n\n", 1),
         ],
         size: 7,
-        count: 2,
-        step: Step::More,
+        seen: (2, Step::More),
     },
+];
+
+// Heads that are bad, fed in pieces of at most 7 bytes.
+const BAD: &[(&str, &[u8])] = &[
+    ("two spaces", b"OPTIONS  * RTSP/1.0\r\n\r\n"),
+    ("a space at the end", b"OPTIONS * RTSP/1.0 \r\n\r\n"),
+    ("two words", b"OPTIONS *\r\n\r\n"),
+    ("a parenthesis in a method", b"OPT(NS * RTSP/1.0\r\n\r\n"),
+    (
+        "a byte past ASCII in a target",
+        b"OPTIONS \x80 RTSP/1.0\r\n\r\n",
+    ),
+    (
+        "a version of 17 bytes",
+        b"OPTIONS * 12345678901234567\r\n\r\n",
+    ),
+    (
+        "a space before a colon",
+        b"OPTIONS * RTSP/1.0\r\nCSeq : 1\r\n\r\n",
+    ),
+    ("a folded line", b"OPTIONS * RTSP/1.0\r\nX: 1\r\n 2\r\n\r\n"),
+    ("two carriage returns", b"OPTIONS * RTSP/1.0\r\n\r\r\n\r\n"),
 ];
 
 // Whether no more is taken and no other step follows once a framer has ended.
@@ -206,18 +162,32 @@ fn stays_ended(framer: &mut Framer, step: Step) -> bool {
     step == Step::More || framer.feed(OPTIONS) == 0 && framer.next() == step
 }
 
-#[test]
-fn texts_have_the_messages_that_their_rows_say(rt: HostRuntime) -> Result<(), Fail> {
-    let mut framer = Framer::make(rt.alloc())?;
-    for row in ROWS {
-        let text = repeated(rt.alloc(), row.parts)?;
-        let name = row.name;
+// Asserts which messages texts have, and that a framer which has ended stays so.
+fn check_rows(rt: &impl Abort, alloc: Global, rows: &[Row]) -> Result<(), Fail> {
+    let mut framer = Framer::make(alloc)?;
+    for row in rows {
+        let text = repeated(alloc, row.parts)?;
         framer.reset();
         let seen = read_all(&mut framer, &text, row.size);
-        assert_eq!(rt; seen, (row.count, row.step), "{name}");
-        assert!(rt; stays_ended(&mut framer, row.step), "{name}");
+        check(rt, row.name, seen, row.seen);
+        check(rt, row.name, stays_ended(&mut framer, row.seen.1), true);
     }
     Ok(())
+}
+
+fn check_bad(rt: &impl Abort, alloc: Global, rows: &[(&str, &[u8])]) {
+    let mut framer = Framer::make(alloc).expect(rt, "out of memory");
+    for (name, text) in rows {
+        framer.reset();
+        check(rt, name, read_all(&mut framer, text, 7), (0, Step::Bad));
+        check(rt, name, stays_ended(&mut framer, Step::Bad), true);
+    }
+}
+
+#[test]
+fn texts_have_the_messages_that_their_rows_say(rt: HostRuntime) -> Result<(), Fail> {
+    check_bad(&rt, rt.alloc(), BAD);
+    check_rows(&rt, rt.alloc(), ROWS)
 }
 
 // Whether one message is found that is fed in two pieces.
@@ -230,97 +200,93 @@ fn is_found(framer: &mut Framer, front: &[u8], back: &[u8]) -> bool {
         && framer.next() == Step::More
 }
 
+// Asserts that one message is found in a text that is cut at each of its bytes.
+fn check_cuts(rt: &impl Abort, framer: &mut Framer, text: &[u8]) {
+    for cut in 0..text.len() {
+        let (front, back) = text.split_at(cut);
+        let found = is_found(framer, front, back);
+        check(rt, "a place, and what is found", (cut, found), (cut, true));
+    }
+}
+
 #[test]
-fn one_message_however_it_is_cut(rt: HostRuntime) -> Result<(), Fail> {
-    let mut framer = Framer::make(rt.alloc())?;
-    for cut in 0..OPTIONS.len() {
-        let (front, back) = OPTIONS.split_at(cut);
-        assert!(rt; is_found(&mut framer, front, back), "cut at {cut}");
-    }
-    Ok(())
+fn one_message_however_it_is_cut(rt: HostRuntime) {
+    let mut framer = Framer::make(rt.alloc()).expect(&rt, "out of memory");
+    check_cuts(&rt, &mut framer, OPTIONS);
 }
 
-// Whether a message has these words.
-fn has_words(message: &Message, method: &[u8], target: &[u8], version: &[u8]) -> bool {
-    message.method() == method && message.target() == target && message.version() == version
-}
-
-// Whether a message has these fields.
-fn has_fields(message: &Message, fields: &[(&[u8], Option<&[u8]>)]) -> bool {
+// Asserts the fields of a message.
+fn check_fields(rt: &impl Abort, message: &Message, fields: &[(&str, Option<&[u8]>)]) {
     for (name, value) in fields {
-        if message.header(name) != *value {
-            return false;
-        }
+        check(rt, name, message.header(name.as_bytes()), *value);
     }
-    true
 }
 
 const PLAY: &[u8] = b"\r\nPLAY /stream=1 RTSP/1.0\nCSeq:\t7 \r\nSession: a\nsession: b\r\n\r\n";
 
+const FIELDS: &[(&str, Option<&[u8]>)] = &[
+    ("cseq", Some(b"7")),
+    ("SESSION", Some(b"a")),
+    ("Require", None),
+];
+
 #[test]
-fn a_message_has_words_and_headers(rt: HostRuntime) -> Result<(), Fail> {
-    let framer = framer_at(rt.alloc(), PLAY).ok_or("message")?;
-    let message = framer.message().ok_or("message")?;
-    assert!(rt; has_words(&message, b"PLAY", b"/stream=1", b"RTSP/1.0"));
-    let fields: [(&[u8], Option<&[u8]>); 3] = [
-        (b"cseq", Some(b"7")),
-        (b"SESSION", Some(b"a")),
-        (b"Require", None),
-    ];
-    assert!(rt; has_fields(&message, &fields));
-    Ok(())
+fn a_message_has_words_and_headers(rt: HostRuntime) {
+    let framer = framer_at(&rt, rt.alloc(), "message", PLAY);
+    let message = framer.message().expect(&rt, "message");
+    check(&rt, "method", message.method(), b"PLAY");
+    check(&rt, "target", message.target(), b"/stream=1");
+    check(&rt, "version", message.version(), b"RTSP/1.0");
+    check_fields(&rt, &message, FIELDS);
 }
 
 #[test]
-fn there_is_no_message_before_one_was_read(rt: HostRuntime) -> Result<(), Fail> {
-    let framer = Framer::make(rt.alloc())?;
-    assert!(rt; framer.message().is_none());
-    Ok(())
+fn there_is_no_message_before_one_was_read(rt: HostRuntime) {
+    let framer = Framer::make(rt.alloc()).expect(&rt, "out of memory");
+    check(&rt, "message", framer.message().is_some(), false);
 }
 
 #[test]
-fn a_message_is_gone_once_more_is_fed(rt: HostRuntime) -> Result<(), Fail> {
-    let mut framer = framer_at(rt.alloc(), PLAY).ok_or("message")?;
-    assert!(rt; framer.message().is_some());
+fn a_message_is_gone_once_more_is_fed(rt: HostRuntime) {
+    let mut framer = framer_at(&rt, rt.alloc(), "message", PLAY);
+    check(&rt, "message", framer.message().is_some(), true);
     framer.feed(b"P");
-    assert!(rt; framer.message().is_none());
-    Ok(())
+    check(&rt, "gone", framer.message().is_some(), false);
 }
 
 const FIVE_BYTES_AND_OPTIONS: &[u8] = b"$\x00\x00\x01OOPTIONS * RTSP/1.0\r\n\r\nleft";
 
 #[test]
-fn what_waits_is_shown(rt: HostRuntime) -> Result<(), Fail> {
-    let mut framer = Framer::make(rt.alloc())?;
+fn what_waits_is_shown(rt: HostRuntime) {
+    let mut framer = Framer::make(rt.alloc()).expect(&rt, "out of memory");
     framer.reset();
-    assert!(rt; framer.held().is_empty());
+    check(&rt, "held", framer.held(), b"");
     framer.feed(FIVE_BYTES_AND_OPTIONS);
-    assert!(rt; framer.held().starts_with(b"$\x00\x00\x01OO"));
-    Ok(())
+    let front = framer.held().get(..6);
+    check(&rt, "held behind a feed", front, Some(b"$\x00\x00\x01OO"));
 }
 
 // A framer that was fed five bytes before a message, and passed over them.
-fn behind_five_bytes(alloc: Global) -> Result<Framer, Fail> {
-    let mut framer = Framer::make(alloc)?;
+fn behind_five_bytes(rt: &impl Abort, alloc: Global) -> Framer {
+    let mut framer = Framer::make(alloc).expect(rt, "out of memory");
     framer.feed(FIVE_BYTES_AND_OPTIONS);
     if framer.held().len() > 5 {
         framer.skip(5);
     }
-    Ok(framer)
+    framer
 }
 
 #[test]
-fn what_is_passed_over_waits_no_more(rt: HostRuntime) -> Result<(), Fail> {
-    let framer = behind_five_bytes(rt.alloc())?;
-    assert_eq!(rt; framer.held(), b"OPTIONS * RTSP/1.0\r\n\r\nleft".as_slice());
-    Ok(())
+fn what_is_passed_over_waits_no_more(rt: HostRuntime) {
+    let framer = behind_five_bytes(&rt, rt.alloc());
+    let rest = b"OPTIONS * RTSP/1.0\r\n\r\nleft";
+    check(&rt, "held", framer.held(), rest);
 }
 
 #[test]
-fn a_message_is_read_behind_what_is_passed_over(rt: HostRuntime) -> Result<(), Fail> {
-    let mut framer = behind_five_bytes(rt.alloc())?;
-    assert_eq!(rt; framer.next(), Step::Message);
-    assert!(rt; framer.message().is_some());
-    assert_eq!(rt; framer.held(), b"left".as_slice());
-    Ok(())
+fn a_message_is_read_behind_what_is_passed_over(rt: HostRuntime) {
+    let mut framer = behind_five_bytes(&rt, rt.alloc());
+    check(&rt, "step", framer.next(), Step::Message);
+    check(&rt, "message", framer.message().is_some(), true);
+    check(&rt, "held", framer.held(), b"left");
 }

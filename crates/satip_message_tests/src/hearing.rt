@@ -2,8 +2,9 @@
 
 ghost use Rattle.std.specs.Prelude.{◌≡◌, None, IfOk};
 
+use crate::checks::check;
 use satip_frame::{Asks, Break, Framer, Next, Piece, next_asked};
-use satip_http::HttpRequest;
+use satip_http::{HttpRefusal, HttpRequest};
 use satip_rtsp::{Method, Refusal, Request};
 use std::alloc::Global;
 use std::test::Fail;
@@ -64,14 +65,10 @@ fn a_text_in_two_pieces_asks_twice(rt: HostRuntime) -> Result<(), Fail> {
     let mut request = Request::broken(Break::TooLong);
     let mut framer = begun(rt.alloc(), &mut request)?;
     let mut piece = Piece::new(SECOND_PIECE);
-    assert_eq!(rt;
-        asked_next(&mut framer, &mut piece, &mut request)?,
-        Some((Method::Options, Some(1)))
-    );
-    assert_eq!(rt;
-        asked_next(&mut framer, &mut piece, &mut request)?,
-        Some((Method::Play, Some(2)))
-    );
+    let asked = asked_next(&mut framer, &mut piece, &mut request)?;
+    check(&rt, "asked", asked, Some((Method::Options, Some(1))));
+    let asked = asked_next(&mut framer, &mut piece, &mut request)?;
+    check(&rt, "asked", asked, Some((Method::Play, Some(2))));
     Ok(())
 }
 
@@ -83,30 +80,32 @@ fn what_is_no_message_is_asked_last(rt: HostRuntime) -> Result<(), Fail> {
     let _ = asked_next(&mut framer, &mut piece, &mut request)?;
     let _ = asked_next(&mut framer, &mut piece, &mut request)?;
     let last = next_asked(&mut framer, &mut piece, &mut request);
-    assert_eq!(rt; last, Next::Last);
-    assert_eq!(rt; request.refusal, Some(Refusal::Broken));
+    check(&rt, "last", last, Next::Last);
+    check(&rt, "refusal", request.refusal, Some(Refusal::Broken));
     Ok(())
 }
 
+// Why what is asked is refused, and its source.
+type Said = (Option<HttpRefusal>, Option<u8>);
+
 // Whether the first piece of a GET asks, the second, and what is behind it; and what the second
-// asks.
-fn ask_in_two_pieces(alloc: Global) -> Result<([bool; 3], HttpRequest), Fail> {
+// says.
+fn ask_in_two_pieces(alloc: Global) -> Result<([bool; 3], Said), Fail> {
     let mut framer = Framer::make(alloc)?;
     let mut request = HttpRequest::broken(Break::Bad);
     let mut piece = Piece::new(b"GET /?src=2 HT");
     let first = asks_more(&mut framer, &mut piece, &mut request)?;
     let mut piece = Piece::new(b"TP/1.1\r\n\r\n");
     let second = asks_more(&mut framer, &mut piece, &mut request)?;
-    let asked = request;
+    let said = (request.refusal, request.query.change.src);
     let third = asks_more(&mut framer, &mut piece, &mut request)?;
-    Ok(([first, second, third], asked))
+    Ok(([first, second, third], said))
 }
 
 #[test]
 fn a_get_in_two_pieces_is_asked_once(rt: HostRuntime) -> Result<(), Fail> {
-    let (asks, asked) = ask_in_two_pieces(rt.alloc())?;
-    assert_eq!(rt; asks, [false, true, false]);
-    assert_eq!(rt; asked.refusal, None);
-    assert_eq!(rt; asked.query.change.src, Some(2));
+    let (asks, said) = ask_in_two_pieces(rt.alloc())?;
+    check(&rt, "asks", asks, [false, true, false]);
+    check(&rt, "refusal and source", said, (None, Some(2)));
     Ok(())
 }

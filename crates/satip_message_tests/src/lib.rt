@@ -4,6 +4,8 @@
 #[cfg(test)]
 mod channels;
 #[cfg(test)]
+mod checks;
+#[cfg(test)]
 mod client_requests;
 #[cfg(test)]
 mod frame;

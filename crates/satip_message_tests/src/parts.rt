@@ -2,10 +2,11 @@
 ghost use Rattle.std.specs.Prelude.{◌≡◌, [], ◌∷◌, ◌++◌, codes, replicate};
 ghost use Rattle.satip_rtsp_interleaved.specs.Frames.{Between, frame, behind};
 
+use crate::checks::check;
 use satip_fixtures::texts::OPTIONS;
 use satip_frame::Step;
 use satip_rtsp_interleaved::Parter;
-use std::test::Fail;
+use std::process::Abort;
 
 const FRAME_AND_OPTIONS: &[u8] =
     b"$\x01\x00\x04\x00\x00\x00\x00OPTIONS * RTSP/1.0\r\nCSeq: 1\r\n\r\n";
@@ -95,79 +96,82 @@ fn has_method(parter: &Parter, method: &[u8]) -> bool {
     }
 }
 
-// Whether the step behind a text is this one. All of the text is taken, and nothing once the parts
-// ended.
-fn steps(parter: &mut Parter, text: &[u8], ended: bool, step: Step) -> bool {
+// Feeds a text, and returns the bytes that are taken and the step that follows.
+fn feed(parter: &mut Parter, text: &[u8]) -> (usize, Step) {
+    (parter.feed(text), parter.next())
+}
+
+// Asserts that a text is followed by its step each time. All of it is taken, and nothing once the
+// parts ended.
+fn check_feed(rt: &impl Abort, name: &str, parter: &mut Parter, told: &Feed, ended: bool) {
+    let (text, times, step, method) = *told;
     let taken = if ended { 0 } else { text.len() };
-    parter.feed(text) == taken && parter.next() == step
-}
-
-fn ends(step: Step) -> bool {
-    match step {
-        Step::Bad | Step::TooLong => true,
-        Step::Message | Step::More => false,
+    for _ in 0..times {
+        check(rt, name, feed(parter, text), (taken, step));
+    }
+    if let Some(method) = method {
+        check(rt, name, has_method(parter, method), true);
     }
 }
 
-// Whether each text is followed by its step.
-fn all_follow(parter: &mut Parter, feeds: &[Feed]) -> bool {
-    let mut ended = false;
-    for (text, times, step, method) in feeds {
-        for _ in 0..*times {
-            if !steps(parter, text, ended, *step) {
-                return false;
-            }
+// Asserts that each text is followed by its step.
+fn check_rows(rt: &impl Abort, parter: &mut Parter, rows: &[(&str, &[Feed])]) {
+    for (name, feeds) in rows {
+        let mut ended = false;
+        parter.reset();
+        for told in *feeds {
+            check_feed(rt, name, parter, told, ended);
+            ended = told.2 == Step::Bad || told.2 == Step::TooLong;
         }
-        if let Some(method) = method {
-            if !has_method(parter, method) {
-                return false;
-            }
-        }
-        ended = ends(*step);
     }
-    true
 }
 
 #[test]
-fn frames_are_passed_over_as_their_rows_say(rt: HostRuntime) -> Result<(), Fail> {
-    let mut parter = Parter::make(rt.alloc())?;
-    for (name, feeds) in ROWS {
-        parter.reset();
-        assert!(rt; all_follow(&mut parter, feeds), "{name}");
-    }
-    Ok(())
+fn frames_are_passed_over_as_their_rows_say(rt: HostRuntime) {
+    let mut parter = Parter::make(rt.alloc()).expect(&rt, "out of memory");
+    check_rows(&rt, &mut parter, ROWS);
 }
 
 // Whether one message is found that is fed in two pieces, and gone at the next step.
 fn is_found(parter: &mut Parter, front: &[u8], back: &[u8]) -> bool {
     parter.reset();
-    steps(parter, front, false, Step::More)
-        && steps(parter, back, false, Step::Message)
+    feed(parter, front) == (front.len(), Step::More)
+        && feed(parter, back) == (back.len(), Step::Message)
         && has_method(parter, b"OPTIONS")
-        && steps(parter, b"", false, Step::More)
+        && feed(parter, b"") == (0, Step::More)
         && parter.message().is_none()
 }
 
-#[test]
-fn a_frame_and_options_cut_at_every_byte(rt: HostRuntime) -> Result<(), Fail> {
-    let mut parter = Parter::make(rt.alloc())?;
-    for cut in 0..FRAME_AND_OPTIONS.len() {
-        let (front, back) = FRAME_AND_OPTIONS.split_at(cut);
-        assert!(rt; is_found(&mut parter, front, back), "cut at {cut}");
+// Asserts that one message is found in a text that is cut at each of its bytes.
+fn check_cuts(rt: &impl Abort, parter: &mut Parter, text: &[u8]) {
+    for cut in 0..text.len() {
+        let (front, back) = text.split_at(cut);
+        let found = is_found(parter, front, back);
+        check(rt, "a place, and what is found", (cut, found), (cut, true));
     }
-    Ok(())
 }
 
 #[test]
-fn one_byte_at_a_time(rt: HostRuntime) -> Result<(), Fail> {
-    let mut parter = Parter::make(rt.alloc())?;
+fn a_frame_and_options_cut_at_every_byte(rt: HostRuntime) {
+    let mut parter = Parter::make(rt.alloc()).expect(&rt, "out of memory");
+    check_cuts(&rt, &mut parter, FRAME_AND_OPTIONS);
+}
+
+// Feeds a text byte by byte. Asserts that each byte is taken, and returns the number of messages.
+fn feed_bytes(rt: &impl Abort, parter: &mut Parter, text: &[u8]) -> u8 {
     let mut found = 0u8;
-    for byte in FRAME_AND_OPTIONS {
-        assert_eq!(rt; parter.feed(&[*byte]), 1);
+    for byte in text {
+        check(rt, "taken", parter.feed(&[*byte]), 1);
         if parter.next() == Step::Message {
             found = found.saturating_add(1);
         }
     }
-    assert_eq!(rt; found, 1);
-    Ok(())
+    found
+}
+
+#[test]
+fn one_byte_at_a_time(rt: HostRuntime) {
+    let mut parter = Parter::make(rt.alloc()).expect(&rt, "out of memory");
+    let found = feed_bytes(&rt, &mut parter, FRAME_AND_OPTIONS);
+    check(&rt, "messages", found, 1);
 }

@@ -1,5 +1,7 @@
 //! Replies, and beginnings of them.
+use crate::checks::check;
 use satip_client::{ReplyRead, read_reply};
+use std::process::Abort;
 use std::test::Fail;
 
 const SETUP: &[u8; 85] =
@@ -13,11 +15,16 @@ fn is_bad(text: &[u8]) -> bool {
     matches!(&read_reply(text), ReplyRead::Bad)
 }
 
+// Asserts that each beginning of a text is the beginning of a reply.
+fn check_begun(rt: &impl Abort, text: &[u8]) {
+    for cut in 0..text.len() {
+        check(rt, "cut", (cut, is_more(&text[..cut])), (cut, true));
+    }
+}
+
 #[test]
 fn a_reply_is_awaited_until_it_is_whole(rt: HostRuntime) {
-    for cut in 0..SETUP.len() {
-        assert!(rt; is_more(&SETUP[..cut]));
-    }
+    check_begun(&rt, SETUP);
 }
 
 #[test]
@@ -25,9 +32,15 @@ fn a_whole_reply_is_read(rt: HostRuntime) -> Result<(), Fail> {
     let ReplyRead::Reply(view) = read_reply(SETUP) else {
         return Err(Fail::from("no reply"));
     };
-    assert_eq!(rt; (view.length, view.status, view.timeout), (85, 200, 5));
-    assert_eq!(rt; (view.cseq, view.stream), (Some(1), Some(17)));
-    assert!(rt; view.session == Some(b"a".as_slice()));
+    let numbers = (view.length, view.status, view.timeout);
+    check(&rt, "length, status, timeout", numbers, (85, 200, 5));
+    check(
+        &rt,
+        "cseq, stream",
+        (view.cseq, view.stream),
+        (Some(1), Some(17)),
+    );
+    check(&rt, "session", view.session, Some(b"a"));
     Ok(())
 }
 
@@ -37,41 +50,52 @@ fn a_reply_may_say_little(rt: HostRuntime) -> Result<(), Fail> {
     let ReplyRead::Reply(view) = read_reply(text) else {
         return Err(Fail::from("no reply"));
     };
-    assert_eq!(rt; (view.length, view.status, view.timeout), (34, 454, 60));
-    assert_eq!(rt; (view.cseq, view.stream), (None, None));
-    assert!(rt; view.session.is_none());
+    let numbers = (view.length, view.status, view.timeout);
+    check(&rt, "length, status, timeout", numbers, (34, 454, 60));
+    check(&rt, "cseq, stream", (view.cseq, view.stream), (None, None));
+    check(&rt, "session", view.session, None);
     Ok(())
 }
 
-#[test]
-fn what_becomes_no_reply_is_bad(rt: HostRuntime) -> Result<(), Fail> {
-    for text in [
-        b"RTSP/1.1".as_slice(),
-        b"\r\nRTSP/1.0 200 OK\r\n",
-        b"RTSP/1.0 20x",
-        b"RTSP/1.0 2000",
-        b"RTSP/1.0 200 O\rK",
-        b"RTSP/1.0 200 OK\n:",
-        b"RTSP/1.0 200 OK\na b",
-        b"RTSP/1.0 200 OK\nContent-Length: 4097",
-        b"RTSP/1.0 200 OK\nContent-Length: 1x",
-        b"RTSP/1.0 200 OK\nContent-Length:\n",
-        b"RTSP/1.0 200 OK\nContent-Length: 1\ncontent-length:",
-    ] {
-        assert!(rt; is_bad(text));
+const BAD: &[&str] = &[
+    "RTSP/1.1",
+    "\r\nRTSP/1.0 200 OK\r\n",
+    "RTSP/1.0 20x",
+    "RTSP/1.0 2000",
+    "RTSP/1.0 200 O\rK",
+    "RTSP/1.0 200 OK\n:",
+    "RTSP/1.0 200 OK\na b",
+    "RTSP/1.0 200 OK\nContent-Length: 4097",
+    "RTSP/1.0 200 OK\nContent-Length: 1x",
+    "RTSP/1.0 200 OK\nContent-Length:\n",
+    "RTSP/1.0 200 OK\nContent-Length: 1\ncontent-length:",
+];
+
+const BEGUN: &[&str] = &[
+    "RTSP/1.0 200 OK\nContent-Length: 4096",
+    "RTSP/1.0 200 OK\nContent-Length: 1\ncontent-length",
+];
+
+// Asserts whether texts are bad, or else begin replies.
+fn check_texts(rt: &impl Abort, rows: &[&str], bad: bool) {
+    for text in rows {
+        let bytes = text.as_bytes();
+        check(rt, text, (is_bad(bytes), is_more(bytes)), (bad, !bad));
     }
-    assert!(rt; is_more(b"RTSP/1.0 200 OK\nContent-Length: 4096"));
-    assert!(rt; is_more(b"RTSP/1.0 200 OK\nContent-Length: 1\ncontent-length"));
-    Ok(())
 }
 
 #[test]
-fn a_head_has_8192_bytes_at_most(rt: HostRuntime) -> Result<(), Fail> {
+fn what_becomes_no_reply_is_bad(rt: HostRuntime) {
+    check_texts(&rt, BAD, true);
+    check_texts(&rt, BEGUN, false);
+}
+
+#[test]
+fn a_head_has_8192_bytes_at_most(rt: HostRuntime) {
     let mut text = [b' '; 8192];
     text[..12].copy_from_slice(b"RTSP/1.0 200");
-    assert!(rt; is_more(&text[..8190]));
-    assert!(rt; is_bad(&text[..8191]));
+    check(&rt, "8190", is_more(&text[..8190]), true);
+    check(&rt, "8191", is_bad(&text[..8191]), true);
     text[8190..].copy_from_slice(b"\n\n");
-    assert!(rt; !is_more(&text) && !is_bad(&text));
-    Ok(())
+    check(&rt, "8192", (is_more(&text), is_bad(&text)), (false, false));
 }

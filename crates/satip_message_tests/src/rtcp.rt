@@ -1,8 +1,10 @@
+use crate::checks::check;
 use satip_base::{Address, Out, Strip, Want};
 use satip_fixtures::FIRST_TUNING;
 use satip_pids::{PidList, PidSet};
 use satip_rtcp::{Sender, StreamView, ses1_text, write_report};
 use satip_tune::{Fec, Pol, System, Tuning};
+use std::process::Abort;
 
 const DVBS: Tuning = Tuning {
     fe: None,
@@ -51,17 +53,18 @@ fn text(view: &StreamView) -> Strip {
 #[test]
 fn a_tuned_stream_shows_its_fields(rt: HostRuntime) {
     let mut pids = PidSet::new();
-    assert!(rt; pids.set(&[400, 0]).is_ok());
+    pids.set(&[400, 0]).expect(&rt, "PIDs");
     let locked = view(Some(DVBS), 1, true, pids.copy());
-    assert_eq!(rt;
-        text(&locked).bytes(),
-        b"ver=1.0;src=1;tuner=1,240,1,15,12402,v,dvbs,,,,27500,34;pids=0,400".as_slice()
-    );
+    let wanted = b"ver=1.0;src=1;tuner=1,240,1,15,12402,v,dvbs,,,,27500,34;pids=0,400";
+    check(&rt, "locked", text(&locked).bytes(), wanted);
     pids.set_all();
     let without_multiplex = view(Some(FIRST_TUNING), 2, false, pids);
-    assert_eq!(rt;
+    let wanted = b"ver=1.0;src=1;tuner=2,0,0,0,11361.75,h,dvbs2,8psk,on,0.35,22000,23;pids=all";
+    check(
+        &rt,
+        "without a multiplex",
         text(&without_multiplex).bytes(),
-        b"ver=1.0;src=1;tuner=2,0,0,0,11361.75,h,dvbs2,8psk,on,0.35,22000,23;pids=all".as_slice()
+        wanted,
     );
 }
 
@@ -72,9 +75,9 @@ fn the_longest_list_fits(rt: HostRuntime) {
         list.push(pid);
     }
     let mut pids = PidSet::new();
-    assert!(rt; pids.set(list.as_slice()).is_ok());
+    pids.set(list.as_slice()).expect(&rt, "PIDs");
     let untuned = view(None, 0, false, pids);
-    assert_eq!(rt; text(&untuned).bytes().len(), 1320);
+    check(&rt, "bytes", text(&untuned).bytes().len(), 1320);
 }
 
 const REPORT: [u8; 152] =
@@ -86,38 +89,46 @@ const REPORT: [u8; 152] =
 #[test]
 fn a_report_has_three_parts(rt: HostRuntime) -> Result<(), Want> {
     let mut pids = PidSet::new();
-    assert!(rt; pids.set(&[0, 16, 17]).is_ok());
+    pids.set(&[0, 16, 17]).expect(&rt, "PIDs");
     let stream = view(Some(FIRST_TUNING), 1, true, pids);
     let mut out = Out::make(rt.alloc())?;
     write_report(&stream, &sender(0xc0a8010a), &mut out);
-    assert_eq!(rt; out.count(), 1);
-    assert_eq!(rt; out.datagram(0), Some((sender(0).to, REPORT.as_slice())));
+    check(&rt, "datagrams", out.count(), 1);
+    let report = Some((sender(0).to, REPORT.as_slice()));
+    check(&rt, "report", out.datagram(0), report);
     Ok(())
 }
 
-// The zero bytes after an address of 7 to 15 bytes, one to four of them.
-#[test]
-fn a_name_ends_in_zero_bytes(rt: HostRuntime) -> Result<(), Want> {
+// Addresses whose texts have 7 to 15 bytes, and the bytes of their reports. One to four zero bytes
+// are after the text of an address.
+const LENGTHS: &[(&str, u32, usize)] = &[
+    ("1.1.1.1", 0x01010101, 112),
+    ("10.1.1.1", 0x0a010101, 112),
+    ("10.10.1.1", 0x0a0a0101, 112),
+    ("10.10.10.1", 0x0a0a0a01, 116),
+    ("10.10.10.10", 0x0a0a0a0a, 116),
+    ("200.10.10.10", 0xc80a0a0a, 116),
+    ("200.200.10.10", 0xc8c80a0a, 116),
+    ("200.200.200.10", 0xc8c8c80a, 120),
+    ("200.200.200.200", 0xc8c8c8c8, 120),
+];
+
+fn check_lengths(rt: &impl Abort, out: &mut Out, rows: &[(&str, u32, usize)]) {
     let untuned = view(None, 0, false, PidSet::new());
-    let mut out = Out::make(rt.alloc())?;
-    for (address, length) in [
-        (0x01010101, 112),
-        (0x0a010101, 112),
-        (0x0a0a0101, 112),
-        (0x0a0a0a01, 116),
-        (0x0a0a0a0a, 116),
-        (0xc80a0a0a, 116),
-        (0xc8c80a0a, 116),
-        (0xc8c8c80a, 120),
-        (0xc8c8c8c8, 120),
-    ] {
+    for (name, address, length) in rows {
         out.clear();
-        write_report(&untuned, &sender(address), &mut out);
+        write_report(&untuned, &sender(*address), out);
         let sent = match out.datagram(0) {
             Some((_, bytes)) => bytes.len(),
             None => 0,
         };
-        assert_eq!(rt; sent, length);
+        check(rt, name, sent, *length);
     }
+}
+
+#[test]
+fn a_name_ends_in_zero_bytes(rt: HostRuntime) -> Result<(), Want> {
+    let mut out = Out::make(rt.alloc())?;
+    check_lengths(&rt, &mut out, LENGTHS);
     Ok(())
 }
