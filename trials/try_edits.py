@@ -7,15 +7,19 @@
 
 crates/CRATE/must-fail/NAME.edit is an edit of the gate, which `rt ci` tries. trials/edits/CRATE has
 those outside the gate. The script tries both, with --gate the first alone, with --outside the
-second. It copies the crates into a scratch folder, builds each library that is needed once, with
-its statements alone, and goes from crate to crate: it proves the crate as it is, and tries each
-edit over a copy of that work. What isn't refused there is tried again from nothing. N checks run
-side by side, each with one job; without --jobs it is as many as the processors and the memory
-allow.
+second. It copies the crates into a scratch folder, takes each library that is needed from what
+`rt ci` kept on the machine, or builds it once, with its statements alone. It goes from crate to
+crate: it proves the crate as it is, and tries its edits over copies of that work.
+
+Edits of bodies of different functions are tried in one check. A body is judged by its own contract
+and by those of what it calls, and no edit of a body changes a contract. Such an edit counts as
+refused if its own function is, in a line on that function. One whose function is proved is tried
+alone, and from nothing if it isn't refused then. N checks run side by side, each with one job;
+without --jobs it is as many as the processors and the memory allow.
 
 It prints a row for each edit: the crate, the edit, the function and the clause that the prover
-refuses first, seconds by the clock, and a mark. The clause has the name that the prover gives its
-goal. Marks:
+refuses first, seconds by the clock, and a mark. Edits that are tried together share the seconds of
+their check. The clause has the name that the prover gives its goal. Marks:
 
     NOT REFUSED      the crate is proved with the edit: the contract is too weak
     NOT TRIED        the edit can't be applied or read, its check was killed, or the crate or a
@@ -78,10 +82,23 @@ TERM = re.compile(r"(?:\./)?proofs/(\S+)\.antt:\d+:\d+: error: `([^`]+)`: ")
 BROKEN = re.compile(r"(?:fn|struct|impl|trait) (\S+): (?:not proved|no proof: (?!it calls))")
 GOAL = re.compile(r"note: \S+:\d+:\d+: it is not proved that")
 SEARCH_LIMIT = "gave up at one of its limits"
+# What a line of the prover is about: a place in a source, or a function's proof file.
+AT_SOURCE = re.compile(r"(?:note: )?(?:\./)?(src/\S+\.rt):(\d+):\d+: ")
+AT_PROOF = re.compile(r"(?:note: )?(?:\./)?proofs/(\S+)/(?:Answers|Invariants|Proof)\.antt:")
+JUDGED = re.compile(r"fn (\S+): (.*)")
+NAME_OF_GOAL = re.compile(r"\(`([^`]+)`\)")
+FUNCTION = re.compile(r"(\s*)(?:pub(?:\(\w+\))? )?(?:const )?fn (\w+)")
+# A proof file that names what an edit took away, in rt's words.
+NAMED = re.compile(
+    r"(?:note: )?(?:\./)?proofs/.*(has no field|is not in scope|has no `|was not admitted)"
+)
 PROVER_LIMIT = re.compile(r"(resource|step) limit|a limit of (this|rattle|antt)|no verdict, since")
 
 Edit = collections.namedtuple("Edit", "crate name file gate")
 Row = collections.namedtuple("Row", "crate edit gate refused seconds mark")
+# The body that an edit changes: its file, its function's name, the first line of its head and its
+# last line, counted from 1, and the lines of the edited file.
+Body = collections.namedtuple("Body", "path name first last lines")
 said = threading.local()
 
 
@@ -222,19 +239,37 @@ class Run:
         self.rt, self.crates, self.sums = rt, crates, sums_of(crates)
         self.results, self.kept, self.rows = results, kept, {}
         self.printing = threading.Lock()
+        # What `rt ci` kept on this machine.
+        self.store = rt.Kept([*crates.values()])
         for crate in crates.values():
             if crate.makes_rlib():
                 folder = f"{libraries}/{crate.name}.{self.sums[crate.name]}"
                 crate.rlib = f"{folder}/{crate.name}.rlib"
 
     def library(self, crate, given):
-        """Builds a library that isn't there; says whether it is proved."""
-        if os.path.isfile(f"{crate.rlib}/format"):
-            return True
+        """Takes or builds a library that isn't there; says whether it is proved."""
         if not all(given[it.name, "library"] for it in crate.below()):
             return False
-        to = os.path.dirname(crate.rlib)
+        to, here = os.path.dirname(crate.rlib), f"{crate.folder}/out/rlib"
         os.makedirs(os.path.dirname(to), exist_ok=True)
+        if not os.path.isfile(f"{crate.rlib}/format"):
+            if not self.take_kept(crate, here, to) and not self.build(crate, to):
+                return False
+        # What rt ci kept is found by the content of the libraries below, where rt looks for them.
+        os.makedirs(os.path.dirname(here), exist_ok=True)
+        os.symlink(to, here)
+        self.store.is_built(crate)
+        return True
+
+    def take_kept(self, crate, here, to):
+        """Moves a library that an earlier `rt ci` kept to its place; says whether there is one."""
+        if not self.store.give(crate, False, self.store.key(crate)):
+            return False
+        self.move(here, to)
+        return True
+
+    def build(self, crate, to):
+        """Builds a library in its place; says whether it is proved."""
         with tempfile.TemporaryDirectory(prefix=".new-", dir=os.path.dirname(to)) as room:
             words = [*crate.words(ONE_JOB, keeps=False), "--statements"]
             words = [self.rt.rtlib.RATTLE, "build", *words, "-o", f"{room}/{crate.name}.rlib"]
@@ -244,11 +279,16 @@ class Run:
             if ran.returncode:
                 print(f"{crate.name}: NOT PROVED\n{ran.stdout[-2000:]}", file=sys.stderr)
                 return False
-            # Another run may have built it meanwhile.
-            with contextlib.suppress(OSError):
-                os.rename(room, to)
-                os.mkdir(room)
+            self.move(room, to)
+            os.mkdir(room)
         return True
+
+    def move(self, room, to):
+        """Moves a folder, unless another run has put its own there meanwhile."""
+        try:
+            os.rename(room, to)
+        except OSError:
+            shutil.rmtree(room)
 
     def seed(self, crate, given):
         """The folder with the work of the crate as it is, which it proves if it isn't there, or
@@ -265,6 +305,78 @@ class Run:
                 return None, f"{crate.name} itself isn't proved"
             os.rename(room, folder)
         return folder, ""
+
+    def try_edits(self, crate, edits, given):
+        """Tries the edits of a crate, those of different functions together."""
+        seed, _ = given[crate.name, "seed"]
+        bodies = {edit: body_of_edit(self.rt, crate, edit) for edit in edits} if seed else {}
+        left = [edit for edit in edits if bodies.get(edit)]
+        for edit in edits:
+            if edit not in left:
+                self.try_edit(crate, edit, given)
+        while left:
+            batch = {bodies[edit][:2]: edit for edit in reversed(left)}
+            judged = self.judge_parts(crate, {it: bodies[it] for it in batch.values()}, seed)
+            for edit in judged or batch.values():
+                left.remove(edit)
+                if judged and judged[edit]:
+                    self.results.keep(edit, self.sums[crate.name], judged[edit])
+                    self.show(judged[edit], edit)
+                else:
+                    self.try_edit(crate, edit, given)
+
+    def judge_parts(self, crate, batch, seed):
+        """Tries edits of different functions as `judge` does, and each half of them if that judges
+        none: one that can't be compiled keeps all from being judged."""
+        judged = self.judge(crate, batch, seed)
+        if judged or len(batch) == 1:
+            return judged
+        parts, half = [*batch.items()], len(batch) // 2
+        first, second = (
+            self.judge_parts(crate, dict(part), seed) for part in (parts[:half], parts[half:])
+        )
+        return {**first, **second}
+
+    def judge(self, crate, batch, seed):
+        """Tries edits of different functions in one check. Gives the row of each edit that is
+        refused in its own function, and None for one whose function is proved. An edit of a
+        function that calls another one of them may be left out."""
+        texts = {}
+        for body in batch.values():
+            if body.path not in texts:
+                with open(f"{crate.folder}/{body.path}", encoding="utf-8") as file:
+                    texts[body.path] = file.read().split("\n")
+            texts[body.path][body.first - 1 : body.last] = body.lines[body.first - 1 : body.last]
+        texts = {path: "\n".join(lines) for path, lines in texts.items()}
+        over = tempfile.mkdtemp(prefix=".over-", dir=self.kept)
+        try:
+            self.rt.linked(seed, f"{over}/seed")
+            ran = self.rt.checked(crate, texts, ONE_JOB, f"{over}/seed")
+        finally:
+            shutil.rmtree(over, ignore_errors=True)
+        lines = ran.stdout.rstrip("\n").split("\n")
+        if ran.returncode != 1 or not lines[-1].startswith("logic=not-proved"):
+            return {}
+        if any(self.rt.unread(line, texts) for line in lines):
+            return {}
+        found = {edit: lines_about(crate.name, body, lines) for edit, body in batch.items()}
+        share = said.seconds / max(1, sum(bool(about) for about, _ in found.values()))
+        return {
+            edit: self.row_of(crate, edit, about, share) if about else None
+            for edit, (about, is_proved) in found.items()
+            if about or is_proved
+        }
+
+    def row_of(self, crate, edit, about, seconds):
+        """The row of an edit that is refused by these lines, the last of which is the verdict."""
+        text, verdict = "\n".join(about), JUDGED.match(about[-1])
+        named = all(NAMED.match(line) for line in about[:-1])
+        goals = [found[1] for line in about if (found := NAME_OF_GOAL.search(line))]
+        where = refusal_in(crate.name, text)
+        if goals and ": " not in where:
+            where = f"{verdict[1].removeprefix(f'{crate.name}::')}: {goals[0]}"
+        mark = "name" if named else mark_of(text, "")
+        return Row(crate.name, edit.name, edit.gate, where, round(seconds), mark)
 
     def try_edit(self, crate, edit, given):
         """Tries an edit over the crate's own work, and from nothing if that doesn't refuse it."""
@@ -330,13 +442,63 @@ class Run:
         waits = [(it.name, "library") for it in crate.below()]
         # No line of its own: it comes right before its edits.
         tasks[crate.name, "seed"] = waits, 0, need, lambda given, jobs: self.seed(crate, given)
-        for edit in edits:
-            call = lambda given, jobs, it=edit: self.try_edit(crate, it, given)
-            first = [(crate.name, "seed")]
-            tasks[crate.name, "edits", edit.name, edit.gate] = first, lines, OVER * need, call
+        call = lambda given, jobs: self.try_edits(crate, edits, given)
+        tasks[crate.name, "edits"] = [(crate.name, "seed")], lines * len(edits), need, call
         end = lambda given, jobs: self.end(crate, given)
         tasks[crate.name, "end"] = [*tasks], 0, 0, end
         return tasks
+
+
+def body_of_edit(rt, crate, edit):
+    """The body that an edit changes, or None if it can't be applied or changes more than one."""
+    texts, _ = rt.read_edit(edit.file, crate.folder)
+    if not texts or len(texts) != 1:
+        return None
+    (path, text), = texts.items()
+    lines = text.split("\n")
+    with open(f"{crate.folder}/{path}", encoding="utf-8") as file:
+        was = file.read().split("\n")
+    if len(was) != len(lines) or not path.endswith(".rt"):
+        return None
+    changed = [at for at, line in enumerate(lines) if line != was[at]]
+    head = next((at for at in range(changed[0], -1, -1) if FUNCTION.match(was[at])), None)
+    if head is None:
+        return None
+    indent, name = FUNCTION.match(was[head]).groups()
+    # The body begins where a line of the function's own indentation ends in a brace.
+    opens = lambda line: line.endswith("{") and line.startswith(indent) and line[len(indent)] != " "
+    begin = next((at for at in range(head, len(was)) if opens(was[at])), len(was))
+    end = next((at for at in range(begin, len(was)) if was[at] == f"{indent}}}"), len(was))
+    if not all(begin < at < end for at in changed):
+        return None
+    return Body(path, name, head + 1, end + 1, lines)
+
+
+def lines_about(crate, body, lines):
+    """The lines of the prover that refuse a body, with its verdict at their end, and whether it is
+    proved. Neither if the prover didn't judge it, or judged several functions of that name."""
+    module = body.path.removeprefix("src/").removesuffix(".rt").split("/")
+    module = [] if module in (["lib"], ["main"]) else module
+    begin, end = "::".join([crate, *module]) + "::", f"::{body.name}"
+    about, verdicts = [], {}
+    for line in lines:
+        if found := JUDGED.match(line):
+            if found[1].startswith(begin) and found[1].endswith(end):
+                verdicts[found[1]] = line
+        elif not (": error" in line or line.startswith("note: ")):
+            continue
+        elif found := AT_SOURCE.match(line):
+            if found[1] == body.path and body.first <= int(found[2]) <= body.last:
+                about.append(line)
+        elif found := AT_PROOF.match(line):
+            place = found[1].split("/")
+            if place[: len(module)] == module and place[-1] == body.name:
+                about.append(line)
+    if len(verdicts) != 1:
+        return [], False
+    (verdict,) = verdicts.values()
+    is_proved = JUDGED.match(verdict)[2].startswith("proved")
+    return ([*about, verdict] if about and not is_proved else []), is_proved
 
 
 def refusal_in(crate, text):

@@ -1,4 +1,4 @@
-//! Tests a recording client over memory: its exchanges, whole recordings and its devices.
+//! Tests the devices over memory, and a recording client's exchanges and whole recordings.
 #![tactic(auto)]
 
 #[cfg(test)]
@@ -7,3 +7,5 @@ mod asking;
 mod devices;
 #[cfg(test)]
 mod recording;
+#[cfg(test)]
+mod world;
