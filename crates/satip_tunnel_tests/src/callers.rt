@@ -1,5 +1,5 @@
 //! Callers of a shared tunnel.
-ghost use Rattle.std.specs.Prelude.{◌≡◌, ◌+◌, ◌<◌, [], ◌∷◌, length, IfSome};
+ghost use Rattle.std.specs.Prelude.{◌≡◌, ◌+◌, ◌<◌, [], ◌∷◌, length};
 ghost use Rattle.satip_base.specs.Output.{empty};
 ghost use Rattle.satip_base.specs.History.{entry, taken};
 ghost use Rattle.satip_plain.specs.declared.answers.Answer.TheVariants.{Beat as BeatTold};
@@ -15,13 +15,14 @@ ghost use Rattle.satip_interleave.specs.Taking.{inners_taken};
 mod asks;
 mod threads;
 
-use crate::steps::shared;
+use crate::checks::check;
+use crate::setting::shared_of_two;
 use asks::Asks;
 use satip_base::Out;
 use satip_interleave::{SharedTunnel, TunnelAnswer, TunnelCaller, TunnelEvent, TunnelPass};
 use satip_plain::{Answer, Event, Service, Work};
+use std::process::Abort;
 use std::sync::Wait;
-use std::test::Fail;
 
 // Which entries are the server's, and which are the lanes'.
 fn entry_rows()
@@ -52,17 +53,17 @@ fn caller_rows(tunnel: &SharedTunnel, number: u64)
     let _ = number;
 }
 
-// The first caller asks, the second enters, and the first asks again.
-fn ask_enter_ask<R: Wait + Sync>(
+// The first caller asks, the second enters, and the first asks again. Returns the first one's pass,
+// and the three answers.
+fn ask_enter_ask<R: Wait + Sync + Abort>(
     rt: &R,
     server: &SharedTunnel,
     first: TunnelPass,
     out: &mut Out,
-) -> Option<(TunnelPass, Answer, TunnelAnswer, Answer)>
+) -> (TunnelPass, Answer, TunnelAnswer, Answer)
     requires of { IsOf first server.now }
     requires knows { Knows (TunnelLegal server.now.setting) first }
-    ensures own { IfSome result (λ done. length (inners done.0.own)
-        ≡ length (inners first.own) + 2) }
+    ensures own { length (inners result.0.own) ≡ length (inners first.own) + 2 }
 {
     let mut first = first;
     let mut second = server.split(&mut first);
@@ -71,51 +72,53 @@ fn ask_enter_ask<R: Wait + Sync>(
         server,
         pass: first,
     };
-    let before = one.call(&Event::Ask { front: 1 }, out).ok()?;
-    let entered = server.call(rt, &mut second, &TunnelEvent::Enter, out).ok()?;
-    let after = one.call(&Event::Ask { front: 1 }, out).ok()?;
-    Some((one.pass, before, entered, after))
+    let Ok(before) = one.call(&Event::Ask { front: 1 }, out) else {
+        rt.panic("spent");
+    };
+    let Ok(entered) = server.call(rt, &mut second, &TunnelEvent::Enter, out) else {
+        rt.panic("spent");
+    };
+    let Ok(after) = one.call(&Event::Ask { front: 1 }, out) else {
+        rt.panic("spent");
+    };
+    (one.pass, before, entered, after)
 }
 
 #[test]
-fn a_caller_counts_entries_of_lanes(rt: HostRuntime) -> Result<(), Fail> {
-    let mut out = Out::make(rt.alloc())?;
-    let (server, first) = shared(rt.alloc())?;
-    let (pass, before, entered, after) = ask_enter_ask(&rt, &server, first, &mut out).ok_or(
-        "spent",
-    )?;
-    assert_eq!(rt; before, Answer::Work(Work::Nothing));
-    assert_eq!(rt; entered, TunnelAnswer::Lane(1));
-    assert_eq!(rt; after, Answer::Work(Work::Nothing));
-    assert_eq!(rt; pass.place(), 3);
-    Ok(())
+fn a_caller_counts_entries_of_lanes(rt: HostRuntime) {
+    let mut out = Out::make(rt.alloc()).expect(&rt, "out of memory");
+    let (server, first) = shared_of_two(&rt, rt.alloc());
+    let (pass, before, entered, after) = ask_enter_ask(&rt, &server, first, &mut out);
+    let nothing = Answer::Work(Work::Nothing);
+    let wanted = (nothing, TunnelAnswer::Lane(1), nothing);
+    check(&rt, "answers", (before, entered, after), wanted);
+    check(&rt, "entries", pass.place(), 3);
 }
 
-// A lot of seventy events in two bursts.
-fn burst_twice<R: Wait + Sync>(
+// Makes a lot of seventy events in two bursts, and asserts how many each makes.
+fn burst_twice<R: Wait + Sync + Abort>(
     rt: &R,
     server: &SharedTunnel,
     pass: TunnelPass,
     out: &mut Out,
-) -> Option<(u64, u64, u32)>
+)
     requires of { IsOf pass server.now }
     requires knows { Knows (TunnelLegal server.now.setting) pass }
 {
     let mut caller = TunnelCaller { rt, server, pass };
     let mut asks = Asks::new(70);
-    caller.burst(&mut asks, out).ok()?;
-    let first = caller.pass.place();
+    caller.burst(&mut asks, out).expect(rt, "spent");
+    check(rt, "first burst", caller.pass.place(), 64);
     if asks.ended || asks.given {
-        return None;
+        rt.panic("the first burst took all");
     }
-    caller.burst(&mut asks, out).ok()?;
-    Some((first, caller.pass.place(), asks.left))
+    caller.burst(&mut asks, out).expect(rt, "spent");
+    check(rt, "both bursts", (caller.pass.place(), asks.left), (70, 0));
 }
 
 #[test]
-fn a_burst_makes_up_to_64(rt: HostRuntime) -> Result<(), Fail> {
-    let mut out = Out::make(rt.alloc())?;
-    let (server, first) = shared(rt.alloc())?;
-    assert!(rt; burst_twice(&rt, &server, first, &mut out) == Some((64, 70, 0)));
-    Ok(())
+fn a_burst_makes_up_to_64(rt: HostRuntime) {
+    let mut out = Out::make(rt.alloc()).expect(&rt, "out of memory");
+    let (server, first) = shared_of_two(&rt, rt.alloc());
+    burst_twice(&rt, &server, first, &mut out);
 }

@@ -2,16 +2,17 @@
 ghost use Rattle.satip_interleave.specs.Histories.{TunnelLegal};
 ghost use Rattle.satip_turn.specs.Shown.{IsOf, Knows};
 
+use crate::checks::check;
 use crate::setting::shared;
 use satip_fixtures::texts::{CLOSING, OPTIONS, OPTIONS_REPLY, SETUP, SETUP_INTERLEAVED};
 use satip_interleave::{SharedTunnel, TunnelCaller, TunnelEvent, TunnelPass, TunnelRoom};
 use satip_memory::{MemoryConn, MemoryPacer};
 use satip_tunnel::{TunnelEnd, serve_tunnel};
 use satip_worker::Draws;
+use satip_world::Conn;
 use std::alloc::Global;
 use std::process::Abort;
 use std::sync::Wait;
-use std::test::Fail;
 
 /// A report of a client on channel 1 (RFC 2326, section 10.12), and an OPTIONS behind it.
 const REPORT_AND_OPTIONS: &[u8] =
@@ -34,17 +35,19 @@ pub const KEY: [u8; 32] = [0; 32];
 /// A connection: the pieces that come in, which receives and sends fail, how it ends, what it is
 /// sent, and how many entries it makes.
 #[derive(Clone, Copy)]
-struct Row<'a> {
-    pieces: &'a [&'a [u8]],
-    failing_receives: &'a [u64],
-    failing_sends: &'a [u64],
+struct Row {
+    name: &'static str,
+    pieces: &'static [&'static [u8]],
+    failing_receives: &'static [u64],
+    failing_sends: &'static [u64],
     end: TunnelEnd,
-    sent: &'a [u8],
+    sent: &'static [u8],
     entries: u64,
 }
 
 // A connection that ends well, on which nothing comes in.
-const DONE: Row<'static> = Row {
+const DONE: Row = Row {
+    name: "",
     pieces: &[],
     failing_receives: &[],
     failing_sends: &[],
@@ -54,37 +57,43 @@ const DONE: Row<'static> = Row {
 };
 
 // Connections that end well, and such whose receive or send fails.
-const ROWS: &[Row<'static>] = &[
+const ROWS: &[Row] = &[
     Row {
+        name: "a SETUP over UDP is refused",
         pieces: &[SETUP],
         sent: REFUSED,
         entries: 4,
         ..DONE
     },
     Row {
+        name: "a SETUP over the connection is accepted",
         pieces: &[SETUP_INTERLEAVED],
         sent: SETUP_REPLY,
         entries: 4,
         ..DONE
     },
     Row {
+        name: "a request is answered after a receive that finds nothing",
         pieces: &[b"", OPTIONS],
         sent: OPTIONS_REPLY,
         entries: 5,
         ..DONE
     },
     Row {
+        name: "a prefix of a request is not answered",
         pieces: &[b"OPTIONS * RTSP"],
         entries: 3,
         ..DONE
     },
     Row {
+        name: "a closing reply ends the connection",
         pieces: &[b"a\r\n\r\n", OPTIONS],
         sent: CLOSING,
         entries: 4,
         ..DONE
     },
     Row {
+        name: "a send fails",
         pieces: &[OPTIONS],
         failing_sends: &[1],
         end: TunnelEnd::WriteFault,
@@ -93,6 +102,7 @@ const ROWS: &[Row<'static>] = &[
         ..DONE
     },
     Row {
+        name: "a receive fails",
         pieces: &[OPTIONS, OPTIONS],
         failing_receives: &[2],
         end: TunnelEnd::ReadFault,
@@ -102,57 +112,73 @@ const ROWS: &[Row<'static>] = &[
     },
 ];
 
-// Serves a connection: how it ended, and how many entries it made.
-fn serve<R: Wait + Sync>(
+// A connection with the text of the report and the OPTIONS in two pieces. The lane is drained after
+// the first piece, and after the reply.
+const CUT: &Row = &Row {
+    name: "the report and the OPTIONS are cut",
+    sent: OPTIONS_REPLY,
+    entries: 5,
+    ..DONE
+};
+
+// A connection that comes while all lanes are taken.
+const FULL: &[Row] = &[Row {
+    name: "all lanes are taken",
+    pieces: &[OPTIONS],
+    end: TunnelEnd::Full,
+    entries: 1,
+    ..DONE
+}];
+
+/// Serves a connection. Returns how it ended, and how often it paused.
+pub fn serve<R: Wait + Sync, C: Conn>(
     caller: &mut TunnelCaller<R>,
-    conn: &mut MemoryConn,
+    conn: &mut C,
     room: &mut TunnelRoom,
 ) -> (TunnelEnd, u64) {
     let mut pacer = MemoryPacer::new();
     let mut draws = Draws::make(&KEY, 0);
-    let before = caller.pass.place();
     let end = serve_tunnel(caller, conn, &mut pacer, &mut draws, room);
-    (end, caller.pass.place().saturating_sub(before))
+    (end, pacer.pauses())
 }
 
-// Whether a connection comes to what its row says; a send that fails passes ten bytes.
-fn is_met<R: Wait + Sync>(
+// Serves a connection that receives these pieces, cut at this byte or 0. Asserts that it comes to
+// what its row says. A send that fails passes ten bytes.
+fn check_conn<R: Wait + Sync + Abort>(
+    rt: &R,
     alloc: Global,
     caller: &mut TunnelCaller<R>,
     room: &mut TunnelRoom,
-    row: &Row<'_>,
-) -> Result<bool, Fail> {
+    row: &Row,
+    pieces: &[&[u8]],
+    cut: usize,
+) {
     let mut conn = MemoryConn::make(
         alloc,
-        row.pieces,
+        pieces,
         row.failing_receives,
         row.failing_sends,
         10,
-    )?;
-    let seen = serve(caller, &mut conn, room);
-    Ok(seen == (row.end, row.entries) && conn.sent() == row.sent)
+    ).expect(rt, "out of memory");
+    let before = caller.pass.place();
+    let (end, _pauses) = serve(caller, &mut conn, room);
+    let entries = caller.pass.place().saturating_sub(before);
+    let got = (cut, end, entries, conn.sent());
+    check(rt, row.name, got, (cut, row.end, row.entries, row.sent));
 }
 
-// The text of the report and the OPTIONS, cut at every byte. The lane is drained after the first
-// piece, and after the reply.
+// Serves connections with the text of the report and the OPTIONS, cut at every byte.
 fn serve_cut<R: Wait + Sync + Abort>(
     rt: &R,
     alloc: Global,
     caller: &mut TunnelCaller<R>,
     room: &mut TunnelRoom,
-) -> Result<(), Fail> {
-    for cut in 1..REPORT_AND_OPTIONS.len() {
-        let (front, back) = REPORT_AND_OPTIONS.split_at(cut);
-        let pieces = [front, back];
-        let row = Row {
-            pieces: &pieces,
-            sent: OPTIONS_REPLY,
-            entries: 5,
-            ..DONE
-        };
-        assert!(rt; is_met(alloc, caller, room, &row)?, "cut at {cut}");
+    text: &[u8],
+) {
+    for cut in 1..text.len() {
+        let (front, back) = text.split_at(cut);
+        check_conn(rt, alloc, caller, room, CUT, &[front, back], cut);
     }
-    Ok(())
 }
 
 fn serve_rows<R: Wait + Sync + Abort>(
@@ -160,64 +186,37 @@ fn serve_rows<R: Wait + Sync + Abort>(
     alloc: Global,
     caller: &mut TunnelCaller<R>,
     room: &mut TunnelRoom,
-) -> Result<(), Fail> {
-    for (place, row) in ROWS.iter().enumerate() {
-        assert!(rt; is_met(alloc, caller, room, row)?, "row {place}");
+    rows: &[Row],
+) {
+    for row in rows {
+        check_conn(rt, alloc, caller, room, row, row.pieces, 0);
     }
-    Ok(())
 }
 
-// Takes all lanes, and serves one connection more.
-fn serve_full<R: Wait + Sync + Abort>(
-    rt: &R,
-    alloc: Global,
-    caller: &mut TunnelCaller<R>,
-    room: &mut TunnelRoom,
-) -> Result<(), Fail> {
+// Takes all lanes.
+fn take_lanes<R: Wait + Sync>(rt: &R, caller: &mut TunnelCaller<R>, room: &mut TunnelRoom) {
     for _lane in 0..64 {
         let _entered = caller
             .server
             .call(rt, &mut caller.pass, &TunnelEvent::Enter, &mut room.out);
     }
-    let full = Row {
-        pieces: &[OPTIONS],
-        end: TunnelEnd::Full,
-        entries: 1,
-        ..DONE
-    };
-    assert!(rt; is_met(alloc, caller, room, &full)?);
-    Ok(())
 }
 
-// All of them, one after another.
-fn serve_each<R: Wait + Sync + Abort>(
-    rt: &R,
-    alloc: Global,
-    caller: &mut TunnelCaller<R>,
-    room: &mut TunnelRoom,
-) -> Result<(), Fail> {
-    serve_cut(rt, alloc, caller, room)?;
-    serve_rows(rt, alloc, caller, room)?;
-    serve_full(rt, alloc, caller, room)
-}
-
-// All of them, by one caller.
-fn serve_all<R: Wait + Sync + Abort>(
-    rt: &R,
-    alloc: Global,
-    server: &SharedTunnel,
-    pass: TunnelPass,
-) -> Result<(), Fail>
+// Serves all of them, one after another, by one caller.
+fn serve_all<R: Wait + Sync + Abort>(rt: &R, alloc: Global, server: &SharedTunnel, pass: TunnelPass)
     requires of { IsOf pass server.now }
     requires knows { Knows (TunnelLegal server.now.setting) pass }
 {
-    let mut room = TunnelRoom::make(alloc)?;
+    let mut room = TunnelRoom::make(alloc).expect(rt, "out of memory");
     let mut caller = TunnelCaller { rt, server, pass };
-    serve_each(rt, alloc, &mut caller, &mut room)
+    serve_cut(rt, alloc, &mut caller, &mut room, REPORT_AND_OPTIONS);
+    serve_rows(rt, alloc, &mut caller, &mut room, ROWS);
+    take_lanes(rt, &mut caller, &mut room);
+    serve_rows(rt, alloc, &mut caller, &mut room, FULL);
 }
 
 #[test]
-fn connections_are_served(rt: HostRuntime) -> Result<(), Fail> {
-    let (server, pass) = shared(rt.alloc())?;
-    serve_all(&rt, rt.alloc(), &server, pass)
+fn connections_are_served(rt: HostRuntime) {
+    let (server, pass) = shared(&rt, rt.alloc());
+    serve_all(&rt, rt.alloc(), &server, pass);
 }

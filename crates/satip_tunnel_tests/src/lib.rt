@@ -4,9 +4,13 @@
 #[cfg(test)]
 mod callers;
 #[cfg(test)]
+mod checks;
+#[cfg(test)]
 mod connections;
 #[cfg(test)]
 mod lanes;
+#[cfg(test)]
+mod requests;
 #[cfg(test)]
 mod setting;
 #[cfg(test)]

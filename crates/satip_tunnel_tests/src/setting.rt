@@ -1,18 +1,37 @@
-//! A small shared tunnel.
-ghost use Rattle.std.specs.Prelude.{IfOk};
+//! Small shared tunnels.
 ghost use Rattle.satip_interleave.specs.Histories.{TunnelLegal};
 ghost use Rattle.satip_turn.specs.Shown.{IsOf, Knows};
 
-use satip_fixtures::{FIRST_MUX, config_with};
+use satip_fixtures::{FIRST_MUX, SECOND_MUX, config_with};
 use satip_interleave::{SharedTunnel, TunnelPass, make};
 use std::alloc::Global;
-use std::test::Fail;
+use std::process::Abort;
 
-/// A shared tunnel over a server with one front end and one multiplex, at 0 milliseconds.
-pub fn shared(alloc: Global) -> Result<(SharedTunnel, TunnelPass), Fail>
-    ensures of { IfOk result (λ made. IsOf made.1 made.0) }
-    ensures knows { IfOk result (λ made. Knows (TunnelLegal made.0.setting) made.1) }
+/// Returns a shared tunnel over a server with one front end and one multiplex, at 0 milliseconds.
+pub fn shared(rt: &impl Abort, alloc: Global) -> (SharedTunnel, TunnelPass)
+    ensures of { IsOf result.1 result.0 }
+    ensures knows { Knows (TunnelLegal result.0.setting) result.1 }
 {
-    let config = config_with(alloc, 1, &[FIRST_MUX])?;
-    Ok(make(alloc, config, 0)?)
+    let Ok(config) = config_with(alloc, 1, &[FIRST_MUX]) else {
+        rt.panic("out of memory");
+    };
+    let Ok(made) = make(alloc, config, 0) else {
+        rt.panic("out of memory");
+    };
+    made
+}
+
+/// Returns a shared tunnel over a server with two front ends and two multiplexes, at 0
+/// milliseconds.
+pub fn shared_of_two(rt: &impl Abort, alloc: Global) -> (SharedTunnel, TunnelPass)
+    ensures of { IsOf result.1 result.0 }
+    ensures knows { Knows (TunnelLegal result.0.setting) result.1 }
+{
+    let Ok(config) = config_with(alloc, 2, &[FIRST_MUX, SECOND_MUX]) else {
+        rt.panic("out of memory");
+    };
+    let Ok(made) = make(alloc, config, 0) else {
+        rt.panic("out of memory");
+    };
+    made
 }

@@ -1,112 +1,170 @@
-//! A small tunnel, and one event of it at a time.
+//! Steps of a small tunnel, each with what comes of it.
 
-ghost use Rattle.std.specs.Prelude.{IfOk};
-ghost use Rattle.satip_interleave.specs.Histories.{TunnelLegal};
-ghost use Rattle.satip_turn.specs.Shown.{IsOf, Knows};
-
+use crate::checks::{check, given};
+use crate::requests::asked;
 use satip_base::{Out, Peer};
-use satip_fixtures::{DRAW, FIRST_MUX, SECOND_MUX, config_with};
-use satip_frame::Step;
-use satip_interleave::{SharedTunnel, Tunnel, TunnelAnswer, TunnelEvent, TunnelPass, make};
+use satip_fixtures::texts::repeated;
+use satip_fixtures::{DRAW, FIRST_MUX, SECOND_MUX, config_with, packet_bytes};
+use satip_interleave::{Tunnel, TunnelAnswer, TunnelEvent};
 use satip_plain::{Answer, Beat, Event, Replied};
-use satip_rtsp::Request;
-use satip_rtsp_interleaved::{Parter, request};
 use satip_ts::Packet;
 use std::alloc::Global;
 use std::process::Abort;
-use std::test::Fail;
 
-/// A tunnel over a server with two front ends and two multiplexes, at 0 milliseconds.
-pub fn tunnel(alloc: Global) -> Result<Tunnel, Fail> {
-    let config = config_with(alloc, 2, &[FIRST_MUX, SECOND_MUX])?;
-    Ok(Tunnel::make(alloc, config, 0)?)
+/// An event of a tunnel.
+#[derive(Clone, Copy)]
+pub enum Call {
+    /// A connection enters.
+    Enter,
+    /// A lane is drained.
+    Drain(u32),
+    /// A lane is given up.
+    Leave(u32),
+    /// The connection of a lane asks with a text, which comes behind a report.
+    Ask(u32, &'static [u8]),
+    /// The clock ticks.
+    Tick(u64),
 }
 
-/// The same, shared.
-pub fn shared(alloc: Global) -> Result<(SharedTunnel, TunnelPass), Fail>
-    ensures of { IfOk result (λ made. IsOf made.1 made.0) }
-    ensures knows { IfOk result (λ made. Knows (TunnelLegal made.0.setting) made.1) }
-{
-    let config = config_with(alloc, 2, &[FIRST_MUX, SECOND_MUX])?;
-    Ok(make(alloc, config, 0)?)
+/// A step of a tunnel.
+#[derive(Clone, Copy)]
+pub enum Step {
+    /// It makes an event, and answers so.
+    Make(Call, TunnelAnswer),
+    /// So many packets of PID 16 come for the first tuning of the first front end.
+    Give(usize),
+    /// Its reply is a text, so many of these packets, and another text.
+    Reply(&'static [u8], usize, &'static [u8]),
 }
 
-/// What a text asks for that comes behind a report of a client.
-fn asked(alloc: Global, text: &[u8]) -> Result<Request, Fail> {
-    let mut parter = Parter::make(alloc)?;
-    parter.feed(b"$\x01\x00\x04\x00\x00\x00\x00");
-    parter.feed(text);
-    match parter.next() {
-        Step::Message => Ok(request(&parter.message().ok_or("message")?)),
-        _ => Err(Fail::from("no message")),
+/// The answer to a request with status 200.
+pub const ACCEPTED: TunnelAnswer = TunnelAnswer::Inner(Answer::Replied(Replied {
+    status: 200,
+    closing: false,
+}));
+
+/// The answer to a request with status 461.
+pub const REFUSED: TunnelAnswer = TunnelAnswer::Inner(Answer::Replied(Replied {
+    status: 461,
+    closing: false,
+}));
+
+/// The answer to a tick.
+pub const GOING: TunnelAnswer = TunnelAnswer::Inner(Answer::Beat(Beat::Going));
+
+/// Returns a tunnel over a server with two front ends and two multiplexes, at 0 milliseconds.
+pub fn tunnel(rt: &impl Abort, alloc: Global) -> Tunnel {
+    let Ok(config) = config_with(alloc, 2, &[FIRST_MUX, SECOND_MUX]) else {
+        rt.panic("out of memory");
+    };
+    Tunnel::make(alloc, config, 0).expect(rt, "out of memory")
+}
+
+// Returns the event of a request.
+fn request_of(rt: &impl Abort, alloc: Global, lane: u32, text: &[u8]) -> Event {
+    Event::Request {
+        peer: Peer { ip: lane },
+        draw: DRAW,
+        request: asked(rt, alloc, text),
     }
 }
 
-/// Makes an event, which is answered so.
-pub fn makes(
+fn event_of(rt: &impl Abort, alloc: Global, call: Call) -> TunnelEvent {
+    match call {
+        Call::Enter => TunnelEvent::Enter,
+        Call::Drain(lane) => TunnelEvent::Drain { lane },
+        Call::Leave(lane) => TunnelEvent::Leave { lane },
+        Call::Ask(lane, text) => TunnelEvent::Inner(request_of(rt, alloc, lane, text)),
+        Call::Tick(now) => TunnelEvent::Inner(Event::Tick { now }),
+    }
+}
+
+// Makes an event, and asserts its answer.
+fn check_call(
     rt: &impl Abort,
     tunnel: &mut Tunnel,
     out: &mut Out,
+    name: &str,
     event: &TunnelEvent,
     answer: TunnelAnswer,
 ) {
-    assert_eq!(rt; tunnel.event(event, out), answer);
+    check(rt, name, tunnel.event(event, out), answer);
 }
 
-/// A connection enters, and is answered so.
-pub fn enter(rt: &impl Abort, tunnel: &mut Tunnel, out: &mut Out, answer: TunnelAnswer) {
-    makes(rt, tunnel, out, &TunnelEvent::Enter, answer);
+// Gives packets.
+fn give(rt: &impl Abort, tunnel: &mut Tunnel, out: &mut Out, count: usize) {
+    let event = TunnelEvent::Inner(Event::Packet {
+        front: 1,
+        tune: 1,
+        packet: Packet::of(&packet_bytes(16)).expect(rt, "packet"),
+    });
+    for _ in 0..count {
+        let _answer = tunnel.event(&event, out);
+    }
 }
 
-/// A lane is drained, which is answered so.
-pub fn drain(rt: &impl Abort, tunnel: &mut Tunnel, out: &mut Out, lane: u32, answer: TunnelAnswer) {
-    makes(rt, tunnel, out, &TunnelEvent::Drain { lane }, answer);
+// Asserts that a reply is these parts, each so often.
+fn check_reply(rt: &impl Abort, alloc: Global, name: &str, reply: &[u8], parts: &[(&[u8], usize)]) {
+    let wanted = given(rt, repeated(alloc, parts));
+    check(rt, name, reply, wanted.as_slice());
 }
 
-/// A lane is given up, which is answered so.
-pub fn leave(rt: &impl Abort, tunnel: &mut Tunnel, out: &mut Out, lane: u32, answer: TunnelAnswer) {
-    makes(rt, tunnel, out, &TunnelEvent::Leave { lane }, answer);
-}
-
-/// The connection of a lane asks with this text, and is answered with this status.
-pub fn ask(
+/// Takes a step, and asserts what comes of it.
+pub fn take(
     rt: &impl Abort,
     alloc: Global,
     tunnel: &mut Tunnel,
     out: &mut Out,
-    lane: u32,
-    text: &[u8],
-    status: u16,
-) -> Result<(), Fail> {
-    let event = TunnelEvent::Inner(Event::Request {
-        peer: Peer { ip: lane },
-        draw: DRAW,
-        request: asked(alloc, text)?,
-    });
-    let replied = Replied {
-        status,
-        closing: false,
-    };
-    let answer = TunnelAnswer::Inner(Answer::Replied(replied));
-    makes(rt, tunnel, out, &event, answer);
-    Ok(())
-}
-
-/// The clock ticks.
-pub fn tick(rt: &impl Abort, tunnel: &mut Tunnel, out: &mut Out, now: u64) {
-    let event = TunnelEvent::Inner(Event::Tick { now });
-    let going = TunnelAnswer::Inner(Answer::Beat(Beat::Going));
-    makes(rt, tunnel, out, &event, going);
-}
-
-/// A packet comes again and again for the first tuning of the first front end.
-pub fn give(tunnel: &mut Tunnel, out: &mut Out, packet: &Packet, count: usize) {
-    for _given in 0..count {
-        let event = TunnelEvent::Inner(Event::Packet {
-            front: 1,
-            tune: 1,
-            packet: *packet,
-        });
-        let _answer = tunnel.event(&event, out);
+    name: &str,
+    step: Step,
+) {
+    match step {
+        Step::Make(call, answer) => {
+            let event = event_of(rt, alloc, call);
+            check_call(rt, tunnel, out, name, &event, answer);
+        }
+        Step::Give(count) => give(rt, tunnel, out, count),
+        Step::Reply(text, count, behind) => {
+            let packet = packet_bytes(16);
+            let parts: &[(&[u8], usize)] = &[(text, 1), (packet.as_slice(), count), (behind, 1)];
+            check_reply(rt, alloc, name, out.reply(), parts);
+        }
     }
+}
+
+/// Takes steps, and asserts what comes of each.
+pub fn take_each(
+    rt: &impl Abort,
+    alloc: Global,
+    tunnel: &mut Tunnel,
+    out: &mut Out,
+    name: &str,
+    steps: &[Step],
+) {
+    for step in steps {
+        take(rt, alloc, tunnel, out, name, *step);
+    }
+}
+
+// Takes steps, each list so often.
+fn take_lists(
+    rt: &impl Abort,
+    alloc: Global,
+    tunnel: &mut Tunnel,
+    out: &mut Out,
+    name: &str,
+    lists: &[(u32, &[Step])],
+) {
+    for (times, steps) in lists {
+        for _ in 0..*times {
+            take_each(rt, alloc, tunnel, out, name, steps);
+        }
+    }
+}
+
+/// Takes steps of a new tunnel, each list so often, and asserts what comes of each.
+pub fn run(rt: &impl Abort, alloc: Global, name: &str, lists: &[(u32, &[Step])]) {
+    let mut out = Out::make(alloc).expect(rt, "out of memory");
+    let mut tunnel = tunnel(rt, alloc);
+    take_lists(rt, alloc, &mut tunnel, &mut out, name, lists);
 }

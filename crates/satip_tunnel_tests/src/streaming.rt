@@ -1,14 +1,12 @@
 //! Streams that go down connections as interleaved frames (RFC 2326, section 10.12).
 
-use crate::steps::{ask, drain, enter, give, leave, tick, tunnel};
-use satip_base::Out;
-use satip_fixtures::packet;
+use crate::steps::Call::{Ask, Drain, Enter, Leave, Tick};
+use crate::steps::Step::{Give, Make, Reply};
+use crate::steps::{ACCEPTED, GOING, REFUSED, Step, run};
 use satip_fixtures::texts::SETUP_INTERLEAVED;
-use satip_interleave::{Tunnel, TunnelAnswer};
-use satip_ts::Packet;
+use satip_interleave::TunnelAnswer;
 use std::alloc::Global;
 use std::process::Abort;
-use std::test::Fail;
 
 const SETUP_REPLY: &[u8] = b"RTSP/1.0 200 OK\r\n\
     CSeq: 1\r\n\
@@ -45,130 +43,110 @@ const REPORT: &[u8] =
     \x00\x80\xcc\x00\x18\x11\x22\x33\x44SES1\x00\x00\x00\x52ver=1.0;\
     src=1;tuner=1,240,1,15,11361.75,h,dvbs2,8psk,on,0.35,22000,23;pids=0,16,17\x00\x00";
 
-/// The frames of six packets and a report.
-fn six_and_report(alloc: Global, packet: &Packet) -> Result<Vec<u8>, Fail> {
-    let mut bytes = Vec::new(alloc);
-    bytes.extend_from_slice(MEDIA_HEAD)?;
-    for _packet in 0..6 {
-        bytes.extend_from_slice(packet.bytes())?;
-    }
-    bytes.extend_from_slice(REPORT)?;
-    Ok(bytes)
-}
+// The first connection enters and sets its stream up, which is at once told. The stream plays,
+// with six packets between two ticks.
+const PLAY_SIX: &[Step] = &[
+    Make(Enter, TunnelAnswer::Lane(1)),
+    Make(Ask(1, SETUP_INTERLEAVED), ACCEPTED),
+    Reply(SETUP_REPLY, 0, b""),
+    Make(Tick(1000), GOING),
+    Make(Ask(1, PLAY), ACCEPTED),
+    Give(6),
+    Make(Tick(1040), GOING),
+];
 
-/// The first connection enters and sets its stream up, which is at once told. The stream plays,
-/// with six packets between two ticks.
-fn play_six(
-    rt: &impl Abort,
-    alloc: Global,
-    tunnel: &mut Tunnel,
-    out: &mut Out,
-    packet: &Packet,
-) -> Result<(), Fail> {
-    enter(rt, tunnel, out, TunnelAnswer::Lane(1));
-    ask(rt, alloc, tunnel, out, 1, SETUP_INTERLEAVED, 200)?;
-    assert_eq!(rt; out.reply(), SETUP_REPLY);
-    tick(rt, tunnel, out, 1000);
-    ask(rt, alloc, tunnel, out, 1, PLAY, 200)?;
-    give(tunnel, out, packet, 6);
-    tick(rt, tunnel, out, 1040);
-    Ok(())
-}
+// The first connection leaves while its session plays. The next one has a number of its own, and
+// no packet of that session.
+const LEAVE_AND_ENTER: &[Step] = &[
+    Make(Leave(1), TunnelAnswer::Left),
+    Make(Enter, TunnelAnswer::Lane(2)),
+    Give(7),
+    Make(Drain(2), TunnelAnswer::Empty),
+    Make(Drain(1), TunnelAnswer::Gone),
+];
 
-#[test]
-fn packets_and_a_report_are_frames(rt: HostRuntime) -> Result<(), Fail> {
-    let packet = packet(16)?;
-    let frames = six_and_report(rt.alloc(), &packet)?;
-    let mut out = Out::make(rt.alloc())?;
-    let mut tunnel = tunnel(rt.alloc())?;
-    let played = play_six(&rt, rt.alloc(), &mut tunnel, &mut out, &packet);
-    drain(&rt, &mut tunnel, &mut out, 1, TunnelAnswer::Frames(1300));
-    assert!(rt; out.reply() == frames.as_slice());
-    drain(&rt, &mut tunnel, &mut out, 1, TunnelAnswer::Empty);
-    played
-}
+// Steps of a tunnel, each list so often.
+type Row = (&'static str, &'static [(u32, &'static [Step])]);
 
-#[test]
-fn udp_is_no_transport_of_a_tunnel(rt: HostRuntime) -> Result<(), Fail> {
-    let mut out = Out::make(rt.alloc())?;
-    let mut tunnel = tunnel(rt.alloc())?;
-    enter(&rt, &mut tunnel, &mut out, TunnelAnswer::Lane(1));
-    ask(&rt, rt.alloc(), &mut tunnel, &mut out, 1, SETUP_UDP, 461)
-}
+const ROWS: &[Row] = &[
+    (
+        "packets and a report are frames",
+        &[
+            (1, PLAY_SIX),
+            (
+                1,
+                &[
+                    Make(Drain(1), TunnelAnswer::Frames(1300)),
+                    Reply(MEDIA_HEAD, 6, REPORT),
+                    Make(Drain(1), TunnelAnswer::Empty),
+                ],
+            ),
+        ],
+    ),
+    (
+        "UDP is no transport of a tunnel",
+        &[(
+            1,
+            &[
+                Make(Enter, TunnelAnswer::Lane(1)),
+                Make(Ask(1, SETUP_UDP), REFUSED),
+            ],
+        )],
+    ),
+    (
+        "the lane of an old session is not given again",
+        &[(1, PLAY_SIX), (1, LEAVE_AND_ENTER)],
+    ),
+];
 
-/// The first connection leaves while its session plays. The next one has a number of its own, and
-/// no packet of that session.
-fn leave_and_enter(rt: &impl Abort, tunnel: &mut Tunnel, out: &mut Out, packet: &Packet) {
-    leave(rt, tunnel, out, 1, TunnelAnswer::Left);
-    enter(rt, tunnel, out, TunnelAnswer::Lane(2));
-    give(tunnel, out, packet, 7);
-    drain(rt, tunnel, out, 2, TunnelAnswer::Empty);
-    drain(rt, tunnel, out, 1, TunnelAnswer::Gone);
-}
-
-#[test]
-fn lane_of_an_old_session_is_not_given_again(rt: HostRuntime) -> Result<(), Fail> {
-    let packet = packet(16)?;
-    let mut out = Out::make(rt.alloc())?;
-    let mut tunnel = tunnel(rt.alloc())?;
-    let played = play_six(&rt, rt.alloc(), &mut tunnel, &mut out, &packet);
-    leave_and_enter(&rt, &mut tunnel, &mut out, &packet);
-    played
-}
-
-/// Two connections play the same stream.
-fn play_both(
-    rt: &impl Abort,
-    alloc: Global,
-    tunnel: &mut Tunnel,
-    out: &mut Out,
-) -> Result<(), Fail> {
-    enter(rt, tunnel, out, TunnelAnswer::Lane(1));
-    ask(rt, alloc, tunnel, out, 1, SETUP_INTERLEAVED, 200)?;
-    ask(rt, alloc, tunnel, out, 1, PLAY, 200)?;
-    enter(rt, tunnel, out, TunnelAnswer::Lane(2));
-    ask(rt, alloc, tunnel, out, 2, JOIN, 200)?;
-    ask(rt, alloc, tunnel, out, 2, PLAY_JOINED, 200)
-}
-
-/// So many datagrams of seven packets, each of which the second connection takes at once.
-fn give_both(
-    rt: &impl Abort,
-    tunnel: &mut Tunnel,
-    out: &mut Out,
-    packet: &Packet,
-    datagrams: usize,
-) {
-    for _datagram in 0..datagrams {
-        give(tunnel, out, packet, 7);
-        drain(rt, tunnel, out, 2, TunnelAnswer::Frames(1332));
+fn run_rows(rt: &impl Abort, alloc: Global, rows: &[Row]) {
+    for (name, lists) in rows {
+        run(rt, alloc, name, lists);
     }
 }
 
-/// The first lane had room for 393 datagrams of 1332 bytes each. A drain takes 49 of them.
-fn drain_broken(rt: &impl Abort, tunnel: &mut Tunnel, out: &mut Out) {
-    for _drained in 0..8 {
-        drain(rt, tunnel, out, 1, TunnelAnswer::Frames(65268));
-    }
-    drain(rt, tunnel, out, 1, TunnelAnswer::Frames(1332));
-    drain(rt, tunnel, out, 1, TunnelAnswer::Broken);
+#[test]
+fn streams_go_down_as_their_rows_say(rt: HostRuntime) {
+    run_rows(&rt, rt.alloc(), ROWS);
 }
 
-/// One more datagram reaches the second lane alone.
-fn give_second(rt: &impl Abort, tunnel: &mut Tunnel, out: &mut Out, packet: &Packet) {
-    give_both(rt, tunnel, out, packet, 1);
-    drain(rt, tunnel, out, 1, TunnelAnswer::Broken);
-    drain(rt, tunnel, out, 2, TunnelAnswer::Empty);
-}
+// Two connections play the same stream.
+const PLAY_BOTH: &[Step] = &[
+    Make(Enter, TunnelAnswer::Lane(1)),
+    Make(Ask(1, SETUP_INTERLEAVED), ACCEPTED),
+    Make(Ask(1, PLAY), ACCEPTED),
+    Make(Enter, TunnelAnswer::Lane(2)),
+    Make(Ask(2, JOIN), ACCEPTED),
+    Make(Ask(2, PLAY_JOINED), ACCEPTED),
+];
+
+// A datagram of seven packets, which the second connection takes at once.
+const GIVE_BOTH: &[Step] = &[Give(7), Make(Drain(2), TunnelAnswer::Frames(1332))];
+
+// The first lane has room for 393 datagrams of 1332 bytes each. A drain takes 49 of them. Then one
+// more datagram reaches the second lane alone.
+const FULL_LANE: &[(u32, &[Step])] = &[
+    (1, PLAY_BOTH),
+    (394, GIVE_BOTH),
+    (8, &[Make(Drain(1), TunnelAnswer::Frames(65268))]),
+    (
+        1,
+        &[
+            Make(Drain(1), TunnelAnswer::Frames(1332)),
+            Make(Drain(1), TunnelAnswer::Broken),
+        ],
+    ),
+    (1, GIVE_BOTH),
+    (
+        1,
+        &[
+            Make(Drain(1), TunnelAnswer::Broken),
+            Make(Drain(2), TunnelAnswer::Empty),
+        ],
+    ),
+];
 
 #[test]
-fn full_lane_breaks_alone(rt: HostRuntime) -> Result<(), Fail> {
-    let packet = packet(16)?;
-    let mut out = Out::make(rt.alloc())?;
-    let mut tunnel = tunnel(rt.alloc())?;
-    let played = play_both(&rt, rt.alloc(), &mut tunnel, &mut out);
-    give_both(&rt, &mut tunnel, &mut out, &packet, 394);
-    drain_broken(&rt, &mut tunnel, &mut out);
-    give_second(&rt, &mut tunnel, &mut out, &packet);
-    played
+fn full_lane_breaks_alone(rt: HostRuntime) {
+    run(&rt, rt.alloc(), "a full lane breaks alone", FULL_LANE);
 }

@@ -3,22 +3,21 @@
 ghost use Rattle.satip_interleave.specs.Histories.{TunnelLegal};
 ghost use Rattle.satip_turn.specs.Shown.{IsOf, Knows};
 
-use crate::connections::{KEY, SETUP_REPLY};
+use crate::checks::{check, given};
+use crate::connections::{SETUP_REPLY, serve};
 use crate::setting::shared;
 use satip_base::{Out, Put};
+use satip_fixtures::packet_bytes;
 use satip_fixtures::texts::{SETUP_INTERLEAVED, repeated};
-use satip_fixtures::{packet, packet_bytes};
 use satip_interleave::{SharedTunnel, TunnelCaller, TunnelPass, TunnelRoom};
-use satip_memory::{MemoryConn, MemoryPacer};
+use satip_memory::MemoryConn;
 use satip_plain::{Event, Service};
 use satip_ts::Packet;
-use satip_tunnel::{TunnelEnd, serve_tunnel};
-use satip_worker::Draws;
+use satip_tunnel::TunnelEnd;
 use satip_world::{Conn, Received};
 use std::alloc::Global;
 use std::process::Abort;
 use std::sync::Wait;
-use std::test::Fail;
 
 const PLAY: &[u8] =
     b"PLAY rtsp://192.168.1.10/stream=1 RTSP/1.0\r\nCSeq: 2\r\nSession: 00000001ade0b876\r\n\r\n";
@@ -47,25 +46,93 @@ const HALF: &[u8] = b"OPTIONS * RTSP";
 /// A frame of a client: a receiver report without blocks on channel 1 (RFC 3550, section 6.4.2).
 const RECEIVER_REPORT: &[u8] = b"$\x01\x00\x08\x80\xc9\x00\x01\x00\x00\x00\x0a";
 
-/// A connection: the pieces that it receives, and which of its sends fail. Before the receive of
-/// this number these packets come, and a tick behind them if there is one.
+// What a connection is sent: the replies and the frames, so many of their first bytes, or so many
+// bytes.
 #[derive(Clone, Copy)]
-struct Row<'a> {
-    pieces: &'a [&'a [u8]],
-    failing_sends: &'a [u64],
+enum Sent {
+    All,
+    Prefix(usize),
+    Count(usize),
+}
+
+/// A connection: the pieces that it receives, and which of its sends fail. Before the receive of
+/// this number these packets come, and a tick behind them if there is one. Then its end, what it is
+/// sent, how many entries of its caller there are with those of the other, and how often it pauses.
+#[derive(Clone, Copy)]
+struct Row {
+    name: &'static str,
+    pieces: &'static [&'static [u8]],
+    failing_sends: &'static [u64],
     receive: u32,
     packets: u32,
     tick: bool,
+    end: TunnelEnd,
+    sent: Sent,
+    entries: u64,
+    pauses: u64,
 }
 
 // Six packets and a tick come before the only receive that finds nothing.
-const STREAM: Row<'static> = Row {
+const IDLE: Row = Row {
+    name: "frames are sent where nothing comes in",
     pieces: &[SETUP_INTERLEAVED, PLAY, b""],
     failing_sends: &[],
     receive: 3,
     packets: 6,
     tick: true,
+    end: TunnelEnd::Done,
+    sent: Sent::All,
+    entries: 16,
+    pauses: 1,
 };
+
+const ROWS: &[Row] = &[
+    IDLE,
+    Row {
+        name: "each receive that finds nothing drains",
+        pieces: &[SETUP_INTERLEAVED, PLAY, b"", b""],
+        receive: 4,
+        entries: 17,
+        pauses: 2,
+        ..IDLE
+    },
+    // The frames come before a piece without a whole message, and are sent before a receive finds
+    // nothing.
+    Row {
+        name: "a prefix of a message drains",
+        pieces: &[SETUP_INTERLEAVED, PLAY, HALF],
+        pauses: 0,
+        ..IDLE
+    },
+    Row {
+        name: "a report of the client drains",
+        pieces: &[SETUP_INTERLEAVED, PLAY, RECEIVER_REPORT],
+        pauses: 0,
+        ..IDLE
+    },
+    Row {
+        name: "a failed send of frames is a write fault",
+        failing_sends: &[3],
+        end: TunnelEnd::WriteFault,
+        sent: Sent::Prefix(254),
+        entries: 15,
+        pauses: 0,
+        ..IDLE
+    },
+];
+
+// The lane has room for 393 datagrams of seven packets, each a frame of 1332 bytes. The connection
+// is sent them all behind 244 bytes of replies, and gives its lane up.
+const BROKEN: &[Row] = &[Row {
+    name: "a broken lane ends its connection",
+    packets: 2758,
+    tick: false,
+    end: TunnelEnd::Broken,
+    sent: Sent::Count(523720),
+    entries: 2775,
+    pauses: 0,
+    ..IDLE
+}];
 
 /// The service that feeds a connection, and what comes before the receive of number `fed_at`.
 #[derive(Drop)]
@@ -144,71 +211,78 @@ impl<S: Service + Drop> Conn for Fed<S> {
     }
 }
 
-// A connection that sets up and plays, which is fed by this service. A send that fails passes ten
-// bytes.
-fn fed_by<S: Service + Drop>(alloc: Global, feeder: S, row: &Row<'_>) -> Result<Fed<S>, Fail> {
-    Ok(Fed {
-        conn: MemoryConn::make(alloc, row.pieces, &[], row.failing_sends, 10)?,
-        feeder: Feeder {
-            service: feeder,
-            packet: packet(16)?,
-            out: Out::make(alloc)?,
-            fed_at: row.receive,
-            packets: row.packets,
-            tick: row.tick,
-        },
+// Makes a connection that sets up and plays, which is fed by this service. A send that fails passes
+// ten bytes.
+fn fed_by<S: Service + Drop>(rt: &impl Abort, alloc: Global, service: S, row: &Row) -> Fed<S> {
+    let packet = Packet::of(&packet_bytes(16)).expect(rt, "packet");
+    let out = Out::make(alloc).expect(rt, "out of memory");
+    let conn = MemoryConn::make(alloc, row.pieces, &[], row.failing_sends, 10).expect(
+        rt,
+        "out of memory",
+    );
+    let feeder = Feeder {
+        service,
+        packet,
+        out,
+        fed_at: row.receive,
+        packets: row.packets,
+        tick: row.tick,
+    };
+    Fed {
+        conn,
+        feeder,
         receives: 0,
-    })
+    }
 }
 
-// The replies and the frames, one behind the other.
-fn wanted(alloc: Global) -> Result<Vec<u8>, Fail> {
-    repeated(
-        alloc,
-        &[
-            (SETUP_REPLY, 1),
-            (PLAY_REPLY, 1),
-            (MEDIA_HEAD, 1),
-            (packet_bytes(16).as_slice(), 6),
-            (REPORT, 1),
-        ],
-    )
+// Returns the replies and the frames, one behind the other.
+fn all_bytes(rt: &impl Abort, alloc: Global) -> Vec<u8> {
+    let packet = packet_bytes(16);
+    let parts: &[(&[u8], usize)] = &[
+        (SETUP_REPLY, 1),
+        (PLAY_REPLY, 1),
+        (MEDIA_HEAD, 1),
+        (packet.as_slice(), 6),
+        (REPORT, 1),
+    ];
+    given(rt, repeated(alloc, parts))
 }
 
-// The outcome of a connection: how it ended, what it was sent, how many entries of its caller there
-// were with those of the other, and how often it paused.
-#[derive(Drop)]
-struct Streamed {
-    end: TunnelEnd,
-    sent: Vec<u8>,
-    entries: u64,
-    pauses: u64,
+// Asserts what a connection was sent, where these are the replies and the frames.
+fn check_sent<'a>(rt: &impl Abort, name: &str, sent: &'a [u8], all: &'a [u8], wanted: Sent) {
+    match wanted {
+        Sent::All => check(rt, name, sent, all),
+        Sent::Prefix(count) => check(rt, name, sent, all.split_at(count.min(all.len())).0),
+        Sent::Count(count) => check(rt, name, sent.len(), count),
+    }
 }
 
-// Serves the connection: how it ended, and how often it paused.
-fn serve<R: Wait + Sync, S: Service + Drop>(
+// Serves a connection, and asserts its end, its entries and its pauses.
+fn check_end<R: Wait + Sync + Abort, S: Service + Drop>(
+    rt: &R,
+    alloc: Global,
     caller: &mut TunnelCaller<R>,
     conn: &mut Fed<S>,
-    room: &mut TunnelRoom,
-) -> (TunnelEnd, u64) {
-    let mut pacer = MemoryPacer::new();
-    let mut draws = Draws::make(&KEY, 0);
-    let end = serve_tunnel(caller, conn, &mut pacer, &mut draws, room);
-    (end, pacer.pauses())
+    row: &Row,
+) {
+    let mut room = TunnelRoom::make(alloc).expect(rt, "out of memory");
+    let (end, pauses) = serve(caller, conn, &mut room);
+    let got = (end, caller.pass.place(), pauses);
+    check(rt, row.name, got, (row.end, row.entries, row.pauses));
 }
 
-// Serves the connection of one caller, which another caller feeds.
-fn stream<R: Wait + Sync>(
+// Serves the connection of one caller, which another caller feeds, and asserts what comes of it.
+fn check_stream<R: Wait + Sync + Abort>(
     rt: &R,
     alloc: Global,
     server: &SharedTunnel,
     pass: TunnelPass,
-    row: &Row<'_>,
-) -> Result<Streamed, Fail>
+    row: &Row,
+    all: &[u8],
+)
     requires of { IsOf pass server.now }
     requires knows { Knows (TunnelLegal server.now.setting) pass }
 {
-    let mut room = TunnelRoom::make(alloc)?;
     let mut pass = pass;
     let other = server.split(&mut pass);
     let feeder = TunnelCaller {
@@ -216,115 +290,31 @@ fn stream<R: Wait + Sync>(
         server,
         pass: other,
     };
-    let mut conn = fed_by(alloc, feeder, row)?;
+    let mut conn = fed_by(rt, alloc, feeder, row);
     let mut caller = TunnelCaller { rt, server, pass };
-    let (end, pauses) = serve(&mut caller, &mut conn, &mut room);
-    Ok(Streamed {
-        end,
-        sent: Vec::from_slice(alloc, conn.conn.sent())?,
-        entries: caller.pass.place(),
-        pauses,
-    })
+    check_end(rt, alloc, &mut caller, &mut conn, row);
+    check_sent(rt, row.name, conn.conn.sent(), all, row.sent);
+}
+
+// Serves the connection of a row by a new server.
+fn check_row<R: Wait + Sync + Abort>(rt: &R, alloc: Global, row: &Row, all: &[u8]) {
+    let (server, pass) = shared(rt, alloc);
+    check_stream(rt, alloc, &server, pass, row, all);
+}
+
+fn check_rows<R: Wait + Sync + Abort>(rt: &R, alloc: Global, rows: &[Row]) {
+    let all = all_bytes(rt, alloc);
+    for row in rows {
+        check_row(rt, alloc, row, &all);
+    }
 }
 
 #[test]
-fn frames_are_sent_where_nothing_comes_in(rt: HostRuntime) -> Result<(), Fail> {
-    let alloc = rt.alloc();
-    let bytes = wanted(alloc)?;
-    let (server, pass) = shared(alloc)?;
-    let seen = stream(&rt, alloc, &server, pass, &STREAM)?;
-    assert_eq!(rt; seen.end, TunnelEnd::Done);
-    assert_eq!(rt; seen.sent.as_slice(), bytes.as_slice());
-    assert_eq!(rt; seen.entries, 16);
-    assert_eq!(rt; seen.pauses, 1);
-    Ok(())
+fn streams_go_down_their_connections(rt: HostRuntime) {
+    check_rows(&rt, rt.alloc(), ROWS);
 }
 
 #[test]
-fn each_receive_that_finds_nothing_drains(rt: HostRuntime) -> Result<(), Fail> {
-    let alloc = rt.alloc();
-    let bytes = wanted(alloc)?;
-    let (server, pass) = shared(alloc)?;
-    let row = Row {
-        pieces: &[SETUP_INTERLEAVED, PLAY, b"", b""],
-        receive: 4,
-        ..STREAM
-    };
-    let seen = stream(&rt, alloc, &server, pass, &row)?;
-    assert_eq!(rt; seen.end, TunnelEnd::Done);
-    assert_eq!(rt; seen.sent.as_slice(), bytes.as_slice());
-    assert_eq!(rt; seen.entries, 17);
-    assert_eq!(rt; seen.pauses, 2);
-    Ok(())
-}
-
-// A connection whose third piece, before which the frames come, is the half of a message.
-const HALF_COMES: Row<'static> = Row {
-    pieces: &[SETUP_INTERLEAVED, PLAY, HALF],
-    ..STREAM
-};
-
-// One whose third piece is a report.
-const REPORT_COMES: Row<'static> = Row {
-    pieces: &[SETUP_INTERLEAVED, PLAY, RECEIVER_REPORT],
-    ..STREAM
-};
-
-// Serves such a connection: the frames are sent before a receive finds nothing.
-fn check_drained<R: Wait + Sync + Abort>(
-    rt: &R,
-    alloc: Global,
-    row: &Row<'static>,
-) -> Result<(), Fail> {
-    let bytes = wanted(alloc)?;
-    let (server, pass) = shared(alloc)?;
-    let seen = stream(rt, alloc, &server, pass, row)?;
-    assert_eq!(rt; seen.end, TunnelEnd::Done);
-    assert_eq!(rt; seen.sent.as_slice(), bytes.as_slice());
-    assert_eq!(rt; seen.entries, 16);
-    assert_eq!(rt; seen.pauses, 0);
-    Ok(())
-}
-
-#[test]
-fn each_piece_without_a_message_drains(rt: HostRuntime) -> Result<(), Fail> {
-    check_drained(&rt, rt.alloc(), &HALF_COMES)?;
-    check_drained(&rt, rt.alloc(), &REPORT_COMES)
-}
-
-#[test]
-fn failed_send_of_frames_is_a_write_fault(rt: HostRuntime) -> Result<(), Fail> {
-    let alloc = rt.alloc();
-    let bytes = wanted(alloc)?;
-    let (server, pass) = shared(alloc)?;
-    let row = Row {
-        failing_sends: &[3],
-        ..STREAM
-    };
-    let seen = stream(&rt, alloc, &server, pass, &row)?;
-    assert_eq!(rt; seen.end, TunnelEnd::WriteFault);
-    assert_eq!(rt; seen.sent.len(), 254);
-    assert!(rt; bytes.as_slice().starts_with(seen.sent.as_slice()));
-    assert_eq!(rt; seen.entries, 15);
-    assert_eq!(rt; seen.pauses, 0);
-    Ok(())
-}
-
-// The lane has room for 393 datagrams of seven packets, each a frame of 1332 bytes. The connection
-// is sent them all behind 244 bytes of replies, and gives its lane up.
-#[test]
-fn broken_lane_ends_its_connection(rt: HostRuntime) -> Result<(), Fail> {
-    let alloc = rt.alloc();
-    let (server, pass) = shared(alloc)?;
-    let row = Row {
-        packets: 2758,
-        tick: false,
-        ..STREAM
-    };
-    let seen = stream(&rt, alloc, &server, pass, &row)?;
-    assert_eq!(rt; seen.end, TunnelEnd::Broken);
-    assert_eq!(rt; seen.sent.len(), 523720);
-    assert_eq!(rt; seen.entries, 2775);
-    assert_eq!(rt; seen.pauses, 0);
-    Ok(())
+fn broken_lane_ends_its_connection(rt: HostRuntime) {
+    check_rows(&rt, rt.alloc(), BROKEN);
 }

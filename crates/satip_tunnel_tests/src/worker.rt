@@ -2,19 +2,20 @@
 ghost use Rattle.satip_interleave.specs.Histories.{TunnelLegal};
 ghost use Rattle.satip_turn.specs.Shown.{IsOf, Knows};
 
+use crate::checks::check;
 use crate::connections::KEY;
 use crate::setting::shared;
 use satip_desk::WorkerKit;
 use satip_fixtures::CLIENT;
 use satip_fixtures::texts::{OPTIONS, OPTIONS_REPLY};
 use satip_interleave::{SharedTunnel, TunnelCaller, TunnelPass};
-use satip_memory::{MemoryConn, MemoryDoors, MemoryPacer};
+use satip_memory::{Handed, MemoryConn, MemoryDoors, MemoryPacer};
 use satip_tunnel::{WorkerRoom, run_tunnel_worker};
 use satip_worker::WorkerEnd;
 use satip_world::{ConnEnd, DoorKind};
 use std::alloc::Global;
+use std::process::Abort;
 use std::sync::Wait;
-use std::test::Fail;
 
 /// A GET of a target that isn't served.
 const GET: &[u8] = b"GET /a HTTP/1.1\r\n\r\n";
@@ -24,61 +25,59 @@ const NOT_FOUND: &[u8] = b"HTTP/1.1 404 Not Found\r\nConnection: close\r\n\r\n";
 type Kit = WorkerKit<MemoryDoors, (), MemoryPacer>;
 
 // Adds a connection that receives this text.
-fn add(doors: &mut MemoryDoors, alloc: Global, kind: DoorKind, text: &[u8]) -> Result<(), Fail> {
-    let conn = MemoryConn::make(alloc, &[text], &[], &[], 0)?;
-    doors.add(kind, CLIENT, conn)?;
-    Ok(())
+fn add(rt: &impl Abort, alloc: Global, doors: &mut MemoryDoors, kind: DoorKind, text: &[u8]) {
+    let Ok(conn) = MemoryConn::make(alloc, &[text], &[], &[], 0) else {
+        rt.panic("out of memory");
+    };
+    doors.add(kind, CLIENT, conn).expect(rt, "out of memory");
 }
 
-// Doors by which an RTSP and an HTTP connection come.
-fn kit(alloc: Global) -> Result<Kit, Fail> {
-    let mut doors = MemoryDoors::make(alloc, 2, &[], &[])?;
-    add(&mut doors, alloc, DoorKind::Rtsp, OPTIONS)?;
-    add(&mut doors, alloc, DoorKind::Http, GET)?;
-    Ok(WorkerKit {
+// Makes doors by which an RTSP and an HTTP connection come.
+fn kit(rt: &impl Abort, alloc: Global) -> Kit {
+    let mut doors = MemoryDoors::make(alloc, 2, &[], &[]).expect(rt, "out of memory");
+    add(rt, alloc, &mut doors, DoorKind::Rtsp, OPTIONS);
+    add(rt, alloc, &mut doors, DoorKind::Http, GET);
+    WorkerKit {
         doors,
         outlet: (),
         pacer: MemoryPacer::new(),
         key: KEY,
-    })
+    }
 }
 
-// Runs the worker: how it ended, and how many entries were made.
-fn work<R: Wait + Sync>(
+// Runs the worker, and asserts how it ended, and how many entries were made.
+fn work<R: Wait + Sync + Abort>(
     rt: &R,
+    alloc: Global,
     server: &SharedTunnel,
     pass: TunnelPass,
     kit: &mut Kit,
-    room: &mut WorkerRoom,
-) -> (WorkerEnd, u64)
+)
     requires of { IsOf pass server.now }
     requires knows { Knows (TunnelLegal server.now.setting) pass }
 {
+    let mut room = WorkerRoom::make(alloc).expect(rt, "out of memory");
     let mut caller = TunnelCaller { rt, server, pass };
-    let end = run_tunnel_worker(&mut caller, kit, 1, room);
-    (end, caller.pass.place())
+    let end = run_tunnel_worker(&mut caller, kit, 1, &mut room);
+    let got = (end, caller.pass.place());
+    check(rt, "end and entries", got, (WorkerEnd::Closed, 5));
 }
 
-const REPLIES: [&[u8]; 2] = [OPTIONS_REPLY, NOT_FOUND];
+const REPLIES: &[&[u8]] = &[OPTIONS_REPLY, NOT_FOUND];
 
-// Whether both connections were handed back as done, and each was sent its reply.
-fn are_served(kit: &Kit) -> bool {
-    for (handed, reply) in kit.doors.returned().iter().zip(&REPLIES) {
-        if handed.end != ConnEnd::Done || handed.conn.sent() != *reply {
-            return false;
-        }
+// Asserts that both connections were handed back as done, and each was sent its reply.
+fn check_served(rt: &impl Abort, handed: &[Handed], replies: &[&'static [u8]]) {
+    check(rt, "connections", handed.len(), 2);
+    for (handed, reply) in handed.iter().zip(replies) {
+        let got = (handed.end, handed.conn.sent());
+        check(rt, "end and reply", got, (ConnEnd::Done, *reply));
     }
-    kit.doors.returned().len() == 2
 }
 
 #[test]
-fn a_worker_serves_both_kinds(rt: HostRuntime) -> Result<(), Fail> {
-    let alloc = rt.alloc();
-    let (server, pass) = shared(alloc)?;
-    let mut room = WorkerRoom::make(alloc)?;
-    let mut kit = kit(alloc)?;
-    let seen = work(&rt, &server, pass, &mut kit, &mut room);
-    assert!(rt; seen == (WorkerEnd::Closed, 5));
-    assert!(rt; are_served(&kit));
-    Ok(())
+fn a_worker_serves_both_kinds(rt: HostRuntime) {
+    let mut kit = kit(&rt, rt.alloc());
+    let (server, pass) = shared(&rt, rt.alloc());
+    work(&rt, rt.alloc(), &server, pass, &mut kit);
+    check_served(&rt, kit.doors.returned(), REPLIES);
 }

@@ -3,12 +3,12 @@ ghost use Rattle.std.specs.Prelude.{◌≡◌};
 ghost use Rattle.satip_interleave.specs.Histories.{TunnelLegal};
 ghost use Rattle.satip_turn.specs.Shown.{IsOf, Knows};
 
-use crate::steps::shared;
+use crate::checks::check;
+use crate::setting::shared_of_two;
 use satip_base::Out;
 use satip_interleave::{SharedTunnel, TunnelCaller, TunnelPass};
 use satip_plain::{Event, Service};
 use std::sync::Wait;
-use std::test::Fail;
 use std::thread::{Threads, join};
 
 // Ticks so often.
@@ -69,11 +69,11 @@ fn tick_by_two<R: Threads + Wait + Sync>(
 }
 
 #[test]
-fn two_threads_share_one_history(rt: HostRuntime) -> Result<(), Fail> {
-    let (server, mut first) = shared(rt.alloc())?;
-    let outs = (Out::make(rt.alloc())?, Out::make(rt.alloc())?);
-    tick_by_two(&rt, &server, &mut first, outs);
+fn two_threads_share_one_history(rt: HostRuntime) {
+    let left = Out::make(rt.alloc()).expect(&rt, "out of memory");
+    let right = Out::make(rt.alloc()).expect(&rt, "out of memory");
+    let (server, mut first) = shared_of_two(&rt, rt.alloc());
+    tick_by_two(&rt, &server, &mut first, (left, right));
     server.refresh(&rt, &mut first);
-    assert_eq!(rt; first.place(), 2000);
-    Ok(())
+    check(&rt, "entries", first.place(), 2000);
 }
