@@ -3,11 +3,12 @@
 ghost use Rattle.std.specs.Prelude.{◌≡◌, ◌+◌, [], ◌∷◌};
 ghost use Rattle.satip_jobs.specs.Pairs.{Both};
 
+use crate::checks::check;
 use satip_jobs::{run_beside, run_each};
-use std::alloc::{AllocError, Global};
+use std::alloc::Global;
+use std::process::Abort;
 use std::sync::Wait;
 use std::sync::atomic::{AtomicU64, Ordering};
-use std::test::Fail;
 use std::thread;
 use std::thread::Threads;
 
@@ -30,40 +31,40 @@ fn take_turn<R: Wait>(turn: &mut Turn<'_, R>) {
         .store(turn.number.wrapping_add(1), Ordering::SeqCst);
 }
 
-// Turns of these numbers.
-fn turns<'a, R>(
+// Returns turns of these numbers.
+fn turns<'a, R: Abort>(
     rt: &'a R,
     alloc: Global,
     word: &'a AtomicU64,
     numbers: &[u64],
-) -> Result<Vec<Turn<'a, R>>, AllocError> {
+) -> Vec<Turn<'a, R>> {
     let mut turns = Vec::new(alloc);
     for number in numbers {
-        turns.push(Turn {
+        let turn = Turn {
             rt,
             word,
             number: *number,
-        })?;
+        };
+        turns.push(turn).expect(rt, "out of memory");
     }
-    Ok(turns)
+    turns
 }
 
-fn take_all<R: Threads + Wait + Sync>(rt: &R, turns: &mut [Turn<'_, R>]) {
-    run_each(rt, turns, &|turn: &mut Turn<'_, R>| take_turn(turn));
-}
-
-// The number that the word has after turns that were given from the last to the first.
-fn last_to_first<R: Threads + Wait + Sync>(rt: &R, alloc: Global) -> Result<u64, AllocError> {
+// Takes turns that are given from the last to the first. Returns the number that the word has then.
+fn last_to_first<R: Threads + Wait + Sync + Abort>(rt: &R, alloc: Global) -> u64 {
     let word = AtomicU64::new(0);
-    let mut all = turns(rt, alloc, &word, &[4, 3, 2, 1, 0])?;
-    take_all(rt, all.as_mut_slice());
-    Ok(word.load(Ordering::SeqCst))
+    let mut all = turns(rt, alloc, &word, &[4, 3, 2, 1, 0]);
+    run_each(
+        rt,
+        all.as_mut_slice(),
+        &|turn: &mut Turn<'_, R>| take_turn(turn),
+    );
+    word.load(Ordering::SeqCst)
 }
 
 #[test]
-fn five_jobs_run_beside_each_other(rt: HostRuntime) -> Result<(), Fail> {
-    assert!(rt; last_to_first(&rt, rt.alloc())? == 5);
-    Ok(())
+fn five_jobs_run_beside_each_other(rt: HostRuntime) {
+    check(&rt, "word", last_to_first(&rt, rt.alloc()), 5);
 }
 
 // The first work waits for the second.
@@ -91,7 +92,7 @@ fn second_before_first<R: Threads + Wait + Sync>(rt: &R) -> u64 {
 
 #[test]
 fn two_works_run_beside_each_other(rt: HostRuntime) {
-    assert_eq!(rt; second_before_first(&rt), 2);
+    check(&rt, "word", second_before_first(&rt), 2);
 }
 
 // What each job has after it was doubled.
@@ -107,7 +108,7 @@ fn double_all<R: Threads + Sync>(rt: &R, numbers: &mut [u64]) {
 fn each_job_is_done_once(rt: HostRuntime) {
     let mut numbers = [1, 2, 3, 4, 5, 6, 7];
     double_all(&rt, &mut numbers);
-    assert!(rt; numbers == [2, 4, 6, 8, 10, 12, 14]);
+    check(&rt, "numbers", numbers, [2, 4, 6, 8, 10, 12, 14]);
 }
 
 // Lists side by side: each number with the next; of different lengths they don't go together.

@@ -4,6 +4,8 @@
 #[cfg(test)]
 mod callers;
 #[cfg(test)]
+mod checks;
+#[cfg(test)]
 mod counter;
 #[cfg(test)]
 mod jobs;
