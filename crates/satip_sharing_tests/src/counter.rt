@@ -1,14 +1,16 @@
 //! A counter behind a cell.
 ghost use Rattle.std.proofs.Common.{rules};
-ghost use Rattle.std.specs.Prelude.{◌≡◌, ◌+◌, ◌<◌, true, [], ◌∷◌, length, IfSome, if◌then◌else◌, Some, None};
+ghost use Rattle.std.specs.Prelude.{◌≡◌, ◌+◌, ◌<◌, true, [], ◌∷◌, length, if◌then◌else◌, Some, None};
 ghost use Rattle.satip_sharing_tests.specs.Counted.{IsCounted, IsSumOf};
 ghost use Rattle.satip_turn.specs.Steps.{longer};
 ghost use Rattle.satip_turn.specs.Shown.{IsOf};
 
+use crate::checks::check;
 use satip_base::Served;
 use satip_turn::{Burst, Feed, Pass, TurnCell};
+use std::alloc::Global;
+use std::process::Abort;
 use std::sync::Wait;
-use std::test::Fail;
 
 #[derive(Drop)]
 pub struct Counter {
@@ -80,54 +82,94 @@ fn longer_rows(a: u64, b: u64, c: u64)
     let _ = (a, b, c);
 }
 
-// Two calls by the first pass, with one by a pass between them that is split off and joined.
-fn call_by_two<R: Wait + Sync>(
+/// Creates a counter at 0, and the pass of caller 0.
+pub(crate) fn counter_cell(rt: &impl Abort, alloc: Global) -> (TurnCell<Counter>, Pass<Counter>)
+    ensures of { IsOf result.1 result.0 }
+{
+    let Ok(made) = TurnCell::make(alloc, Counter { sum: 0 }) else {
+        panic!(rt; "out of memory");
+    };
+    made
+}
+
+/// Adds a number as one caller. Returns the sum.
+pub(crate) fn add<R: Wait + Abort>(
+    rt: &R,
+    cell: &TurnCell<Counter>,
+    pass: &mut Pass<Counter>,
+    number: u64,
+) -> u64
+    requires { IsOf pass.old cell.now }
+    ensures of { IsOf pass.new cell.now }
+    ensures own { length pass.new.own ≡ length pass.old.own + 1 }
+    ensures kept { pass.new.kept ≡ pass.old.kept }
+{
+    let Ok(sum) = cell.call(rt, pass, &number, &mut ()) else {
+        panic!(rt; "the history is full");
+    };
+    sum
+}
+
+// Makes two calls by the first pass, with one between them by a pass that is split off and joined.
+// Returns the sums.
+fn call_by_two<R: Wait + Abort>(
     rt: &R,
     cell: &TurnCell<Counter>,
     first: &mut Pass<Counter>,
-) -> Option<(u64, u64, u64)>
+) -> [u64; 3]
     requires { IsOf first.old cell.now }
     ensures of { IsOf first.new cell.now }
-    ensures own { IfSome result (λ _. length first.new.own ≡ length first.old.own + 2) }
-    ensures kept { IfSome result (λ _. length first.new.kept ≡ length first.old.kept + 1) }
+    ensures own { length first.new.own ≡ length first.old.own + 2 }
+    ensures kept { length first.new.kept ≡ length first.old.kept + 1 }
 {
     let mut second = cell.split(first);
-    let five = cell.call(rt, first, &5, &mut ()).ok()?;
-    let seven = cell.call(rt, &mut second, &7, &mut ()).ok()?;
-    let one = cell.call(rt, first, &1, &mut ()).ok()?;
+    let five = add(rt, cell, first, 5);
+    let seven = add(rt, cell, &mut second, 7);
+    let one = add(rt, cell, first, 1);
     cell.join(first, second);
-    Some((five, seven, one))
+    [five, seven, one]
 }
 
 #[test]
-fn two_callers_share_one_history(rt: HostRuntime) -> Result<(), Fail> {
-    let (cell, mut first) = TurnCell::make(rt.alloc(), Counter { sum: 0 })
-        .ok()
-        .ok_or("memory")?;
-    assert!(rt; call_by_two(&rt, &cell, &mut first) == Some((5, 12, 13)));
-    assert!(rt; first.place() == 3);
+fn two_callers_share_one_history(rt: HostRuntime) {
+    let (cell, mut first) = counter_cell(&rt, rt.alloc());
+    let sums = call_by_two(&rt, &cell, &mut first);
+    check(&rt, "sums", sums, [5, 12, 13]);
+    check(&rt, "entries", first.place(), 3);
     cell.refresh(&rt, &mut first);
-    assert!(rt; first.place() == 3);
-    Ok(())
+    check(&rt, "entries after a look", first.place(), 3);
+}
+
+// Makes a burst, and asserts how many entries it makes.
+fn check_burst<R: Wait + Abort>(
+    rt: &R,
+    cell: &TurnCell<Counter>,
+    pass: &mut Pass<Counter>,
+    ones: &mut Ones,
+    name: &str,
+    made: u32,
+)
+    requires { IsOf pass.old cell.now }
+    ensures { IsOf pass.new cell.now }
+{
+    if ones.ended || ones.given {
+        panic!(rt; "{name}: no event is left");
+    }
+    let burst = cell.burst(rt, pass, ones, &mut ());
+    check(rt, name, burst, Burst { made, spent: false });
 }
 
 #[test]
-fn a_burst_makes_up_to_64(rt: HostRuntime) -> Result<(), Fail> {
-    let (cell, mut pass) = TurnCell::make(rt.alloc(), Counter { sum: 0 })
-        .ok()
-        .ok_or("memory")?;
+fn a_burst_makes_up_to_64(rt: HostRuntime) {
+    let (cell, mut pass) = counter_cell(&rt, rt.alloc());
     let mut ones = Ones {
         left: 130,
         given: false,
         ended: false,
     };
-    for made in [64, 64, 2] {
-        if ones.ended || ones.given {
-            break;
-        }
-        let burst = cell.burst(&rt, &mut pass, &mut ones, &mut ());
-        assert!(rt; burst == Burst { made, spent: false });
-    }
-    assert!(rt; ones.ended && pass.place() == 130);
-    Ok(())
+    check_burst(&rt, &cell, &mut pass, &mut ones, "first", 64);
+    check_burst(&rt, &cell, &mut pass, &mut ones, "second", 64);
+    check_burst(&rt, &cell, &mut pass, &mut ones, "third", 2);
+    check(&rt, "ended", ones.ended, true);
+    check(&rt, "entries", pass.place(), 130);
 }
