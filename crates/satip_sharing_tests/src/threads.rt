@@ -3,13 +3,14 @@ ghost use Rattle.std.specs.Prelude.{◌≡◌};
 ghost use denote.Param.Send.{IsSync};
 ghost use Rattle.satip_turn.specs.Shown.{IsOf};
 
-use crate::counter::Counter;
+use crate::checks::check;
+use crate::counter::{add, counter_cell};
 use satip_base::Served;
 use satip_turn::{Pass, Tried, TurnCell};
 use std::alloc::Global;
+use std::process::Abort;
 use std::sync::atomic::{AtomicBool, Ordering};
 use std::sync::{Arc, Wait};
-use std::test::Fail;
 use std::thread;
 use std::thread::{Threads, join};
 
@@ -59,14 +60,27 @@ fn add_by_two<S: Served<Event = u64, Out = (), Answer = u64>, R: Threads + Wait 
 }
 
 #[test]
-fn two_threads_add_up(rt: HostRuntime) -> Result<(), Fail> {
-    let (cell, mut first) = TurnCell::make(rt.alloc(), Counter { sum: 0 })
-        .ok()
-        .ok_or("memory")?;
+fn two_threads_add_up(rt: HostRuntime) {
+    let (cell, mut first) = counter_cell(&rt, rt.alloc());
     add_by_two(&rt, &cell, &mut first);
-    assert!(rt; cell.call(&rt, &mut first, &0, &mut ()) == Ok(20000));
-    assert!(rt; first.place() == 20001);
-    Ok(())
+    check(&rt, "sum", add(&rt, &cell, &mut first, 0), 20000);
+    check(&rt, "entries", first.place(), 20001);
+}
+
+// Waits until a flag is set.
+fn wait_for(flag: &AtomicBool) {
+    for _ in 0..u64::MAX {
+        if flag.load(Ordering::SeqCst) {
+            break;
+        }
+        thread::yield_now();
+    }
+}
+
+/// Says that a thread is inside a gate, and waits until the gate is open.
+pub(crate) fn pass_gate(inside: &AtomicBool, open: &AtomicBool) {
+    inside.store(true, Ordering::SeqCst);
+    wait_for(open);
 }
 
 // It answers once its gate is open.
@@ -94,50 +108,43 @@ impl Served for Gate {
     ghost is_legal = { λ _ _ _. tt };
 
     fn serve(&mut self, _event: &(), _out: &mut ()) {
-        self.inside.store(true, Ordering::SeqCst);
-        for _ in 0..u64::MAX {
-            if self.open.load(Ordering::SeqCst) {
-                break;
-            }
-            thread::yield_now();
-        }
+        pass_gate(&self.inside, &self.open);
     }
 }
 
-// A try while another thread is served, and then tries until one is done.
-fn try_beside<S: Served<Event = (), Out = (), Answer = ()>, R: Wait + Sync>(
-    rt: &R,
+/// Tries while another thread is served, opens its gate, and tries until one try is done. Returns
+/// whether the first try found the turn taken, and each thread has an entry.
+pub(crate) fn try_beside<S: Served>(
     cell: &TurnCell<S>,
     mut pass: Pass<S>,
+    event: &S::Event,
+    out: &mut S::Out,
     inside: &AtomicBool,
     open: &AtomicBool,
 ) -> bool
     requires { IsOf pass cell.now }
 {
-    for _ in rt.forever() {
-        if inside.load(Ordering::SeqCst) {
-            break;
-        }
-        thread::yield_now();
-    }
-    let busy = matches!(cell.try_call(&mut pass, &(), &mut ()), Tried::Busy);
+    wait_for(inside);
+    let busy = matches!(cell.try_call(&mut pass, event, out), Tried::Busy);
     open.store(true, Ordering::SeqCst);
-    for _ in rt.forever() {
-        if let Tried::Done(()) = cell.try_call(&mut pass, &(), &mut ()) {
+    for _ in 0..u64::MAX {
+        if let Tried::Done(_) = cell.try_call(&mut pass, event, out) {
             break;
         }
         thread::yield_now();
     }
-    busy
+    busy && pass.place() == 2
 }
 
+// Calls in one thread, and tries in another. Returns whether the call was made, and how the tries
+// went.
 fn call_beside_try<S: Served<Event = (), Out = (), Answer = ()>, R: Threads + Wait + Sync>(
     rt: &R,
     cell: &TurnCell<S>,
     mut first: Pass<S>,
     inside: &AtomicBool,
     open: &AtomicBool,
-) -> bool
+) -> [bool; 2]
     requires { IsOf first cell.now }
 {
     let second = cell.split(&mut first);
@@ -148,20 +155,39 @@ fn call_beside_try<S: Served<Event = (), Out = (), Answer = ()>, R: Threads + Wa
         { cell.call(rt, &mut first, &(), &mut ()).is_ok() },
         move || -> bool
             requires { IsOf second cell.now }
-        { try_beside(rt, cell, second, inside, open) },
+        { try_beside(cell, second, &(), &mut (), inside, open) },
     );
-    called && busy
+    [called, busy]
+}
+
+fn flag(rt: &impl Abort, alloc: Global) -> Arc<AtomicBool, Global> {
+    Arc::new(alloc, AtomicBool::new(false)).expect(rt, "out of memory")
+}
+
+// Creates a cell of a gate with these flags, and the pass of caller 0.
+fn gate_cell(
+    rt: &impl Abort,
+    alloc: Global,
+    inside: &Arc<AtomicBool, Global>,
+    open: &Arc<AtomicBool, Global>,
+) -> (TurnCell<Gate>, Pass<Gate>)
+    ensures of { IsOf result.1 result.0 }
+{
+    let gate = Gate {
+        inside: Arc::try_clone(inside).expect(rt, "another owner"),
+        open: Arc::try_clone(open).expect(rt, "another owner"),
+    };
+    let Ok(made) = TurnCell::make(alloc, gate) else {
+        panic!(rt; "out of memory");
+    };
+    made
 }
 
 #[test]
-fn a_try_beside_a_call_is_busy(rt: HostRuntime) -> Result<(), Fail> {
-    let inside = Arc::new(rt.alloc(), AtomicBool::new(false))?;
-    let open = Arc::new(rt.alloc(), AtomicBool::new(false))?;
-    let gate = Gate {
-        inside: Arc::try_clone(&inside)?,
-        open: Arc::try_clone(&open)?,
-    };
-    let (cell, first) = TurnCell::make(rt.alloc(), gate).ok().ok_or("memory")?;
-    assert!(rt; call_beside_try(&rt, &cell, first, &inside, &open));
-    Ok(())
+fn a_try_beside_a_call_is_busy(rt: HostRuntime) {
+    let inside = flag(&rt, rt.alloc());
+    let open = flag(&rt, rt.alloc());
+    let (cell, first) = gate_cell(&rt, rt.alloc(), &inside, &open);
+    let tried = call_beside_try(&rt, &cell, first, &inside, &open);
+    check(&rt, "called, busy", tried, [true, true]);
 }

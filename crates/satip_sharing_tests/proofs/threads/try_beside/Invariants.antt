@@ -2,6 +2,5 @@
 use Rattle.satip_turn.specs.Shown.{IsOf}
 use Rattle.satip_sharing_tests.proofs.threads.try_beside.Given as goal
 
-abbrev pub invariant-loop-2 : goal.invariant-loop-2
-invariant-loop-2 g l =
-    (goal.iterator-loop-2 g).can_next l.iterator' × (goal.iterator-loop-2 g).is_finite l.iterator' × IsOf l.pass l.cell
+abbrev pub invariant-loop : goal.invariant-loop
+invariant-loop g l = IsOf l.pass l.cell
