@@ -1,5 +1,5 @@
 //! A shared server with two front ends and one multiplex.
-ghost use Rattle.std.specs.Prelude.{◌≡◌, ◌+◌, ◌<◌, [], length, IfOk, IfSome};
+ghost use Rattle.std.specs.Prelude.{◌≡◌, ◌+◌, ◌<◌, [], length};
 ghost use Rattle.satip_turn.specs.Shown.{IsOf, Knows, first_pass, met_once, newborn};
 ghost use Rattle.satip_plain.specs.Histories.{Legal};
 ghost use Rattle.satip_shared.specs.Calling.{known_by, SameCaller};
@@ -7,21 +7,31 @@ ghost use Rattle.satip_shared.specs.Calling.{known_by, SameCaller};
 mod gate;
 mod threads;
 
+use crate::checks::check;
 use satip_base::Out;
 use satip_fixtures::{FIRST_MUX, config_with};
 use satip_plain::{Answer, Beat, Event, Service, Work};
 use satip_shared::{Caller, SharedPass, SharedServer, make};
 use std::alloc::Global;
+use std::process::Abort;
 use std::sync::Wait;
-use std::test::Fail;
 
-// A server at 1000 milliseconds.
-pub(crate) fn shared(alloc: Global) -> Result<(SharedServer, SharedPass), Fail>
-    ensures of { IfOk result (λ made. IsOf made.1 made.0) }
-    ensures knows { IfOk result (λ made. Knows (Legal made.0.setting) made.1) }
+/// Creates a server at 1000 milliseconds, and the pass of caller 0.
+pub(crate) fn shared(rt: &impl Abort, alloc: Global) -> (SharedServer, SharedPass)
+    ensures of { IsOf result.1 result.0 }
+    ensures knows { Knows (Legal result.0.setting) result.1 }
 {
-    let config = config_with(alloc, 2, &[FIRST_MUX])?;
-    Ok(make(alloc, config, 1000)?)
+    let Ok(config) = config_with(alloc, 2, &[FIRST_MUX]) else {
+        panic!(rt; "out of memory");
+    };
+    let Ok(made) = make(alloc, config, 1000) else {
+        panic!(rt; "out of memory");
+    };
+    made
+}
+
+pub(crate) fn output(rt: &impl Abort, alloc: Global) -> Out {
+    Out::make(alloc).expect(rt, "out of memory")
 }
 
 // The first pass knows nothing; a caller that met a taken turn is the same, one of another number
@@ -38,55 +48,63 @@ fn caller_rows(server: &SharedServer, number: u64)
     let _ = number;
 }
 
-// The first caller asks, the second stops the server, and the first asks again.
-fn ask_stop_ask<R: Wait + Sync>(
+// Makes one call of a service. Returns its answer.
+fn answer_of<S: Service>(rt: &impl Abort, service: &mut S, event: &Event, out: &mut Out) -> Answer
+    ensures own { length (S.known service.new).own ≡ length (S.known service.old).own + 1 }
+{
+    let Ok(answer) = service.call(event, out) else {
+        panic!(rt; "no entry");
+    };
+    answer
+}
+
+// Stops the server as one caller.
+fn stop<R: Wait + Sync + Abort>(
+    rt: &R,
+    server: &SharedServer,
+    pass: SharedPass,
+    out: &mut Out,
+) -> Answer
+    requires of { IsOf pass server.now }
+    requires knows { Knows (Legal server.now.setting) pass }
+{
+    let mut caller = Caller { rt, server, pass };
+    answer_of(rt, &mut caller, &Event::Stop, out)
+}
+
+// Asks as the first caller, stops the server as a second one, and asks again. Returns the first
+// caller's pass and all answers.
+fn ask_stop_ask<R: Wait + Sync + Abort>(
     rt: &R,
     server: &SharedServer,
     first: SharedPass,
     out: &mut Out,
-) -> Option<(SharedPass, Answer, Answer, Answer)>
+) -> (SharedPass, [Answer; 3])
     requires of { IsOf first server.now }
     requires knows { Knows (Legal server.now.setting) first }
-    ensures own { IfSome result (λ done. length done.0.own ≡ length first.own + 2) }
+    ensures own { length result.0.own ≡ length first.own + 2 }
 {
-    let mut first = first;
-    let second = server.split(&mut first);
-    let mut one = Caller {
-        rt,
-        server,
-        pass: first,
-    };
-    let mut two = Caller {
-        rt,
-        server,
-        pass: second,
-    };
-    let before = one.call(&Event::Ask { front: 1 }, out).ok()?;
-    let stop = two.call(&Event::Stop, out).ok()?;
-    let after = one.call(&Event::Ask { front: 1 }, out).ok()?;
-    Some((one.pass, before, stop, after))
+    let ask = Event::Ask { front: 1 };
+    let mut pass = first;
+    let second = server.split(&mut pass);
+    let mut caller = Caller { rt, server, pass };
+    let before = answer_of(rt, &mut caller, &ask, out);
+    let stopping = stop(rt, server, second, out);
+    let after = answer_of(rt, &mut caller, &ask, out);
+    (caller.pass, [before, stopping, after])
 }
 
-// These answers on a new server, and the place of the first caller's pass behind them.
-fn answers_around_a_stop<R: Wait + Sync>(
-    rt: &R,
-    alloc: Global,
-) -> Result<([Answer; 3], u64), Fail> {
-    let mut out = Out::make(alloc)?;
-    let (server, first) = shared(alloc)?;
-    let (pass, before, stop, after) = ask_stop_ask(rt, &server, first, &mut out).ok_or("spent")?;
-    Ok(([before, stop, after], pass.place()))
-}
+const ANSWERS: [Answer; 3] = [
+    Answer::Work(Work::Nothing),
+    Answer::Beat(Beat::Stopping),
+    Answer::Work(Work::Stopping),
+];
 
 #[test]
-fn a_caller_sees_anothers_entry_between_its_own(rt: HostRuntime) -> Result<(), Fail> {
-    let (answers, place) = answers_around_a_stop(&rt, rt.alloc())?;
-    let wanted = [
-        Answer::Work(Work::Nothing),
-        Answer::Beat(Beat::Stopping),
-        Answer::Work(Work::Stopping),
-    ];
-    assert_eq!(rt; answers, wanted);
-    assert_eq!(rt; place, 3);
-    Ok(())
+fn a_caller_sees_anothers_entry_between_its_own(rt: HostRuntime) {
+    let mut out = output(&rt, rt.alloc());
+    let (server, first) = shared(&rt, rt.alloc());
+    let (pass, answers) = ask_stop_ask(&rt, &server, first, &mut out);
+    check(&rt, "answers", answers, ANSWERS);
+    check(&rt, "entries", pass.place(), 3);
 }

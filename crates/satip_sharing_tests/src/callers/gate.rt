@@ -4,16 +4,14 @@ ghost use Rattle.satip_plain.specs.declared.events.Event.TheVariants.{Ask};
 ghost use Rattle.satip_plain.specs.Histories.{Legal};
 ghost use Rattle.satip_turn.specs.Shown.{IsOf, Knows};
 
-use super::shared;
+use super::{output, shared};
+use crate::checks::check;
+use crate::threads::{pass_gate, try_beside};
 use satip_base::Out;
 use satip_plain::{Answer, Event, Lot, Service};
 use satip_shared::{Caller, SharedPass, SharedServer};
-use satip_turn::Tried;
-use std::alloc::Global;
-use std::sync::atomic::{AtomicBool, Ordering};
-use std::sync::{Arc, Wait};
-use std::test::Fail;
-use std::thread;
+use std::sync::Wait;
+use std::sync::atomic::AtomicBool;
 use std::thread::{Threads, join};
 
 // A lot that gives one question, once its gate is open.
@@ -36,13 +34,7 @@ impl<'a> Lot for GatedLot<'a> {
     ghost none_taken = { λ _. refl };
 
     fn next(&mut self) -> Option<Event> {
-        self.inside.store(true, Ordering::SeqCst);
-        for _ in 0..u64::MAX {
-            if self.open.load(Ordering::SeqCst) {
-                break;
-            }
-            thread::yield_now();
-        }
+        pass_gate(self.inside, self.open);
         if self.asked {
             self.ended = true;
             return None;
@@ -80,49 +72,20 @@ fn burst_gated<R: Wait + Sync>(
     caller.burst(&mut lot, &mut out).is_ok()
 }
 
-// A try while a burst holds the turn, and then tries until one is done.
-fn try_beside<R: Wait + Sync>(
-    rt: &R,
-    server: &SharedServer,
-    mut pass: SharedPass,
-    inside: &AtomicBool,
-    open: &AtomicBool,
-    mut out: Out,
-) -> bool
-    requires { IsOf pass server.now }
-{
-    for _ in rt.forever() {
-        if inside.load(Ordering::SeqCst) {
-            break;
-        }
-        thread::yield_now();
-    }
-    let busy = matches!(
-        server.try_call(&mut pass, &Event::Stop, &mut out),
-        Tried::Busy
-    );
-    open.store(true, Ordering::SeqCst);
-    for _ in rt.forever() {
-        if let Tried::Done(_) = server.try_call(&mut pass, &Event::Stop, &mut out) {
-            break;
-        }
-        thread::yield_now();
-    }
-    busy && pass.place() == 2
-}
-
+// Makes a burst in one thread, and tries to stop the server in another. Returns whether the burst
+// was made, and how the tries went.
 fn burst_beside_try<R: Threads + Wait + Sync>(
     rt: &R,
     server: &SharedServer,
     mut first: SharedPass,
     inside: &AtomicBool,
     open: &AtomicBool,
-    outs: (Out, Out),
-) -> bool
+    left: Out,
+    mut right: Out,
+) -> [bool; 2]
     requires of { IsOf first server.now }
 {
     let second = server.split(&mut first);
-    let (left, right) = outs;
     let (called, busy) = join(
         rt,
         move || -> bool
@@ -131,17 +94,18 @@ fn burst_beside_try<R: Threads + Wait + Sync>(
         { burst_gated(rt, server, first, inside, open, left) },
         move || -> bool
             requires { IsOf second server.now }
-        { try_beside(rt, server, second, inside, open, right) },
+        { try_beside(server, second, &Event::Stop, &mut right, inside, open) },
     );
-    called && busy
+    [called, busy]
 }
 
 #[test]
-fn a_try_beside_a_burst_is_busy(rt: HostRuntime) -> Result<(), Fail> {
+fn a_try_beside_a_burst_is_busy(rt: HostRuntime) {
     let inside = AtomicBool::new(false);
     let open = AtomicBool::new(false);
-    let (server, first) = shared(rt.alloc())?;
-    let outs = (Out::make(rt.alloc())?, Out::make(rt.alloc())?);
-    assert!(rt; burst_beside_try(&rt, &server, first, &inside, &open, outs));
-    Ok(())
+    let left = output(&rt, rt.alloc());
+    let right = output(&rt, rt.alloc());
+    let (server, first) = shared(&rt, rt.alloc());
+    let tried = burst_beside_try(&rt, &server, first, &inside, &open, left, right);
+    check(&rt, "called, busy", tried, [true, true]);
 }

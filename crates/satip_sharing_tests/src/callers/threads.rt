@@ -3,12 +3,12 @@ ghost use Rattle.std.specs.Prelude.{◌≡◌};
 ghost use Rattle.satip_plain.specs.Histories.{Legal};
 ghost use Rattle.satip_turn.specs.Shown.{IsOf, Knows};
 
-use super::shared;
+use super::{output, shared};
+use crate::checks::check;
 use satip_base::Out;
 use satip_plain::{Event, Service};
 use satip_shared::{Caller, SharedPass, SharedServer};
 use std::sync::Wait;
-use std::test::Fail;
 use std::thread::{Threads, join};
 
 const COUNT: u64 = 1000;
@@ -45,14 +45,14 @@ fn tick_by_two<R: Threads + Wait + Sync>(
     rt: &R,
     server: &SharedServer,
     first: &mut SharedPass,
-    outs: (Out, Out),
+    left: Out,
+    right: Out,
 )
     requires { IsOf first.old server.now }
     ensures { IsOf first.new server.now }
 {
     let one = server.split(first);
     let two = server.split(first);
-    let (left, right) = outs;
     let (one, two) = join(
         rt,
         move || -> SharedPass
@@ -71,11 +71,11 @@ fn tick_by_two<R: Threads + Wait + Sync>(
 }
 
 #[test]
-fn two_threads_share_one_history(rt: HostRuntime) -> Result<(), Fail> {
-    let (server, mut first) = shared(rt.alloc())?;
-    let outs = (Out::make(rt.alloc())?, Out::make(rt.alloc())?);
-    tick_by_two(&rt, &server, &mut first, outs);
+fn two_threads_share_one_history(rt: HostRuntime) {
+    let left = output(&rt, rt.alloc());
+    let right = output(&rt, rt.alloc());
+    let (server, mut first) = shared(&rt, rt.alloc());
+    tick_by_two(&rt, &server, &mut first, left, right);
     server.refresh(&rt, &mut first);
-    assert_eq!(rt; first.place(), 2000);
-    Ok(())
+    check(&rt, "entries", first.place(), 2000);
 }
