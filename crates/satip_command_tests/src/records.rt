@@ -2,6 +2,7 @@
 
 ghost use Rattle.std.specs.Prelude.{◌<◌};
 
+use crate::checks::{check, given};
 use satip_base::{Address, Draw, Out, Peer, Ports, SessionId};
 use satip_entry_reader::Reading;
 use satip_entry_writer::{LineRoom, write_entry, write_start};
@@ -11,22 +12,18 @@ use satip_pids::PidList;
 use satip_plain::{Answer, Beat, Event, GetAnswer, Pulled, Replied, Work};
 use satip_query::{PidsGiven, Query, QueryFault};
 use satip_rtsp::{Method, Request, SessionName};
-use satip_tune::{Fec, Key, Modulation, Pol, RollOff, System};
+use satip_tune::{Change, Fec, Key, Modulation, Pol, RollOff, System};
 use std::alloc::Global;
 use std::process::Abort;
-use std::test::Fail;
 
 #[test]
-fn a_start_is_one_line(rt: HostRuntime) -> Result<(), Fail> {
-    let mut line = LineRoom::make(rt.alloc())?;
-    for (moment, text) in [
-        (0, b"start 0\n".as_slice()),
-        (u64::MAX, b"start 18446744073709551615\n"),
-    ] {
-        write_start(moment, &mut line);
-        assert_eq!(rt; line.bytes(), text);
-    }
-    Ok(())
+fn a_start_is_one_line(rt: HostRuntime) {
+    let mut line = LineRoom::make(rt.alloc()).expect(&rt, "out of memory");
+    write_start(0, &mut line);
+    check(&rt, "0", line.bytes(), b"start 0\n".as_slice());
+    write_start(u64::MAX, &mut line);
+    let last = b"start 18446744073709551615\n".as_slice();
+    check(&rt, "the last moment", line.bytes(), last);
 }
 
 // An entry at a place, of a caller, and the texts of its line.
@@ -41,17 +38,16 @@ struct Row<'a> {
 }
 
 // Asserts that the line of an entry is as its row says.
-fn check_line(rt: &impl Abort, alloc: Global, out: &Out, row: &Row) -> Result<(), Fail> {
-    let mut line = LineRoom::make(alloc)?;
+fn check_line(rt: &impl Abort, alloc: Global, out: &Out, row: &Row) {
+    let mut line = LineRoom::make(alloc).expect(rt, "out of memory");
     write_entry(row.place, row.caller, row.event, row.answer, out, &mut line);
-    let wanted = joined(alloc, row.texts)?;
-    assert_eq!(rt; line.bytes(), wanted.as_slice(), "{}", row.name);
-    Ok(())
+    let wanted = given(rt, joined(alloc, row.texts));
+    check(rt, row.name, line.bytes(), wanted.as_slice());
 }
 
 #[test]
-fn a_stop_and_a_tick_are_short_lines(rt: HostRuntime) -> Result<(), Fail> {
-    let out = Out::make(rt.alloc())?;
+fn a_stop_and_a_tick_are_short_lines(rt: HostRuntime) {
+    let out = Out::make(rt.alloc()).expect(&rt, "out of memory");
     let stop = Row {
         name: "stop",
         place: 0,
@@ -75,10 +71,9 @@ fn a_stop_and_a_tick_are_short_lines(rt: HostRuntime) -> Result<(), Fail> {
         texts: &[b"entry 2 1 080201000000000000\n"],
         ..stop
     };
-    for row in [stop, tick, later] {
-        check_line(&rt, rt.alloc(), &out, &row)?;
-    }
-    Ok(())
+    check_line(&rt, rt.alloc(), &out, &stop);
+    check_line(&rt, rt.alloc(), &out, &tick);
+    check_line(&rt, rt.alloc(), &out, &later);
 }
 
 fn two_pids(first: u16, second: u16) -> PidList
@@ -91,45 +86,62 @@ fn two_pids(first: u16, second: u16) -> PidList
     pids
 }
 
-fn setup_request() -> Request {
-    let mut query = Query::new();
-    query.change.src = Some(1);
-    query.change.freq = Some(11494000);
-    query.change.pol = Some(Pol::L);
-    query.change.ro = Some(RollOff::R20);
-    query.change.msys = Some(System::Dvbs2);
-    query.change.mtype = Some(Modulation::Psk8);
-    query.change.plts = Some(true);
-    query.change.sr = Some(22000);
-    query.change.fec = Some(Fec::F910);
-    query.pids = PidsGiven::List(two_pids(0, 16));
-    query.addpids = Some(two_pids(8191, 8191));
-    Request {
-        cseq: Some(2),
-        refusal: None,
-        method: Method::Setup,
-        stream: Some(7),
-        session: SessionName::Named(SessionId { count: 3, word: 4 }),
-        query,
-        ports: Some(Ports {
-            rtp: 5000,
-            rtcp: 5001,
-        }),
+fn setup_query() -> Query {
+    Query {
+        change: Change {
+            fe: None,
+            src: Some(1),
+            freq: Some(11494000),
+            pol: Some(Pol::L),
+            ro: Some(RollOff::R20),
+            msys: Some(System::Dvbs2),
+            mtype: Some(Modulation::Psk8),
+            plts: Some(true),
+            sr: Some(22000),
+            fec: Some(Fec::F910),
+        },
+        pids: PidsGiven::List(two_pids(0, 16)),
+        addpids: Some(two_pids(8191, 8191)),
+        delpids: None,
     }
 }
 
-// The reply "ok", and a datagram and the beginning of another.
-fn two_datagrams(alloc: Global) -> Result<Out, Fail> {
-    let mut out = Out::make(alloc)?;
-    out.write(b"ok");
+// A SETUP of the stream 7 in a session.
+fn setup_event() -> Event {
+    Event::Request {
+        peer: Peer { ip: 0x0a00_0002 },
+        draw: Draw {
+            word: 0x0102_0304,
+            ssrc: 0x0506_0708,
+            first: 0x090a,
+        },
+        request: Request {
+            cseq: Some(2),
+            refusal: None,
+            method: Method::Setup,
+            stream: Some(7),
+            session: SessionName::Named(SessionId { count: 3, word: 4 }),
+            query: setup_query(),
+            ports: Some(Ports {
+                rtp: 5000,
+                rtcp: 5001,
+            }),
+        },
+    }
+}
+
+// Returns the reply "ok", and a datagram and the beginning of another.
+fn two_datagrams(rt: &impl Abort, alloc: Global) -> Out {
     let to = Address {
         ip: 0x0a00_0002,
         port: 5000,
     };
+    let mut out = Out::make(alloc).expect(rt, "out of memory");
+    out.write(b"ok");
     out.begin(to);
     out.extend(b"abc");
     out.begin(to);
-    Ok(out)
+    out
 }
 
 const REQUEST_LINE: &[&[u8]] = &[
@@ -147,17 +159,8 @@ const REQUEST_LINE: &[&[u8]] = &[
 ];
 
 #[test]
-fn a_request_is_written_field_by_field(rt: HostRuntime) -> Result<(), Fail> {
-    let out = two_datagrams(rt.alloc())?;
-    let event = Event::Request {
-        peer: Peer { ip: 0x0a00_0002 },
-        draw: Draw {
-            word: 0x0102_0304,
-            ssrc: 0x0506_0708,
-            first: 0x090a,
-        },
-        request: setup_request(),
-    };
+fn a_request_is_written_field_by_field(rt: HostRuntime) {
+    let out = two_datagrams(&rt, rt.alloc());
     let answer = Answer::Replied(Replied {
         status: 200,
         closing: false,
@@ -166,11 +169,11 @@ fn a_request_is_written_field_by_field(rt: HostRuntime) -> Result<(), Fail> {
         name: "request",
         place: 17,
         caller: 3,
-        event: &event,
+        event: &setup_event(),
         answer: &answer,
         texts: REQUEST_LINE,
     };
-    check_line(&rt, rt.alloc(), &out, &row)
+    check_line(&rt, rt.alloc(), &out, &row);
 }
 
 // A GET that is refused since its PIDs are out of range.
@@ -190,8 +193,8 @@ fn refused_get() -> Event {
 }
 
 #[test]
-fn a_refused_get_is_written(rt: HostRuntime) -> Result<(), Fail> {
-    let out = Out::make(rt.alloc())?;
+fn a_refused_get_is_written(rt: HostRuntime) {
+    let out = Out::make(rt.alloc()).expect(&rt, "out of memory");
     let refused = Row {
         name: "refused get",
         place: 1,
@@ -204,12 +207,12 @@ fn a_refused_get_is_written(rt: HostRuntime) -> Result<(), Fail> {
             b"00\n",
         ],
     };
-    check_line(&rt, rt.alloc(), &out, &refused)
+    check_line(&rt, rt.alloc(), &out, &refused);
 }
 
 #[test]
-fn pulls_and_asks_are_written(rt: HostRuntime) -> Result<(), Fail> {
-    let out = Out::make(rt.alloc())?;
+fn pulls_and_asks_are_written(rt: HostRuntime) {
+    let out = Out::make(rt.alloc()).expect(&rt, "out of memory");
     let session = SessionId {
         count: 1,
         word: 0xdead_beef,
@@ -230,31 +233,39 @@ fn pulls_and_asks_are_written(rt: HostRuntime) -> Result<(), Fail> {
         answer: &Answer::Work(Work::Tune { mux: 3, tune: 9 }),
         texts: &[b"entry 7 8 050002030000030000000000000009000000000000\n"],
     };
-    check_line(&rt, rt.alloc(), &out, &pulled)?;
-    check_line(&rt, rt.alloc(), &out, &asked)
+    check_line(&rt, rt.alloc(), &out, &pulled);
+    check_line(&rt, rt.alloc(), &out, &asked);
 }
 
 #[test]
 fn parts_are_read_from_the_front(rt: HostRuntime) {
     let mut reading = Reading::new(b"\x01\x01\x02\x00\x00\x00\x07\x00\x00\x00\x08\x01\x00\x02");
-    let port_and_id = (reading.read_option_u16(), reading.read_id());
-    assert_eq!(rt;
-        port_and_id,
-        (Some(Some(258)), Some(SessionId { count: 7, word: 8 }))
+    let numbers = (reading.read_option_u16(), reading.read_id());
+    let words = (reading.read_bool(), reading.read_option_pol());
+    let session = SessionId { count: 7, word: 8 };
+    check(
+        &rt,
+        "parts",
+        (numbers, words, reading.read_bool()),
+        (
+            (Some(Some(258)), Some(session)),
+            (Some(true), Some(None)),
+            None,
+        ),
     );
-    assert_eq!(rt;
-        (reading.read_bool(), reading.read_option_pol()),
-        (Some(true), Some(None))
-    );
-    assert_eq!(rt; reading.read_bool(), None);
 }
 
 #[test]
 fn what_is_no_part_is_not_read(rt: HostRuntime) {
-    assert_eq!(rt; Reading::new(b"\x01\x02").read_u32(), None);
-    for (text, fec) in [(b"\x09", None), (b"\x08", Some(Fec::F910))] {
-        assert_eq!(rt; Reading::new(text).read_fec(), fec);
-    }
+    let number = Reading::new(b"\x01\x02").read_u32();
+    let other = Reading::new(b"\x09").read_fec();
+    let last = Reading::new(b"\x08").read_fec();
+    check(
+        &rt,
+        "a short number, a 9 and an 8",
+        (number, other, last),
+        (None, None, Some(Fec::F910)),
+    );
 }
 
 #[test]
@@ -266,12 +277,17 @@ fn answers_are_read_from_the_front(rt: HostRuntime) {
         status: 200,
         closing: true,
     };
-    for answer in [
-        Some(Answer::Beat(Beat::Stopping)),
-        Some(Answer::Work(Work::Tune { mux: 3, tune: 9 })),
-        Some(Answer::Replied(replied)),
-        None,
-    ] {
-        assert_eq!(rt; reading.read_answer(), answer);
-    }
+    let first = (reading.read_answer(), reading.read_answer());
+    let last = (reading.read_answer(), reading.read_answer());
+    let beat = Answer::Beat(Beat::Stopping);
+    let work = Answer::Work(Work::Tune { mux: 3, tune: 9 });
+    check(
+        &rt,
+        "answers",
+        (first, last),
+        (
+            (Some(beat), Some(work)),
+            (Some(Answer::Replied(replied)), None),
+        ),
+    );
 }
