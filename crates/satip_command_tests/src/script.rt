@@ -12,8 +12,9 @@ ghost use Rattle.satip_script.specs.Lines.{lines_of, words_of, is_skipped_text};
 ghost use Rattle.satip_script.specs.Forms.{Other, Rtsp, form_of};
 ghost use Rattle.satip_script.specs.Printed.{entry_text, datagram_line};
 
+use crate::checks::{Parts, check, given};
 use satip_base::{Address, Draw, Out, Peer, Ports, SessionId};
-use satip_fixtures::texts::{OPTIONS, SETUP, repeated};
+use satip_fixtures::texts::{OPTIONS, SETUP, joined, repeated};
 use satip_fixtures::{CLIENT, DRAW};
 use satip_frame::{Break, Framer};
 use satip_http::{HttpRefusal, HttpRequest};
@@ -25,7 +26,6 @@ use satip_script::{
 use satip_ts::read_packet;
 use std::alloc::Global;
 use std::process::Abort;
-use std::test::Fail;
 
 // What lines of each kind ask for, by their words.
 #[tactic(auto, unfolding(satip_script::specs::Forms::form_named, satip_script::specs::Forms::event_of, satip_script::specs::Lines::one_word_of, satip_script::specs::Lines::two_words_of, satip_script::specs::Lines::three_words_of, satip_script::specs::Parts::draw_of, satip_base::specs::Numbers::number_of, satip_base::specs::Numbers::ip_of, satip_base::specs::Texts::id_of, hex::proofs::OnLiterals::hex_on_literals))]
@@ -89,19 +89,27 @@ const GET: &[u8] =
 
 const SESSION: SessionId = SessionId { count: 1, word: 10 };
 
-// A line of a kind, from the client of the worked rows, with a text in digits.
-fn line_with(alloc: Global, front: &[u8], text: &[u8]) -> Result<Vec<u8>, Fail> {
-    let mut line = Vec::from_slice(alloc, front)?;
-    line.extend_from_slice(b" 192.168.1.20 0000000a11223344ffff ")?;
-    line.extend_from_slice(hex::encode(alloc, text)?.as_str().as_bytes())?;
-    Ok(line)
+const CLIENT_WORDS: &[u8] = b" 192.168.1.20 0000000a11223344ffff ";
+
+// Returns a line of a kind, from the client of the worked rows, with a text in digits.
+fn line_with(rt: &impl Abort, alloc: Global, kind: &[u8], text: &[u8]) -> Vec<u8> {
+    let digits = hex::encode(alloc, text).expect(rt, "out of memory");
+    given(
+        rt,
+        joined(alloc, &[kind, CLIENT_WORDS, digits.as_str().as_bytes()]),
+    )
 }
 
-// The request of an RTSP line with this text.
-fn request_in(alloc: Global, text: &[u8]) -> Result<Option<Request>, Fail> {
-    let mut framer = Framer::make(alloc)?;
-    let line = line_with(alloc, b"rtsp", text)?;
-    match read_line(&line, &mut framer) {
+// Reads a line of a kind, from the client of the worked rows, with a text in digits.
+fn read_text(rt: &impl Abort, alloc: Global, kind: &[u8], text: &[u8]) -> Line {
+    let line = line_with(rt, alloc, kind, text);
+    let mut framer = Framer::make(alloc).expect(rt, "out of memory");
+    read_line(&line, &mut framer)
+}
+
+// Returns the request of an RTSP line with this text.
+fn request_in(rt: &impl Abort, alloc: Global, text: &[u8]) -> Option<Request> {
+    match read_text(rt, alloc, b"rtsp", text) {
         Line::Event(
             Event::Request {
                 peer,
@@ -110,24 +118,22 @@ fn request_in(alloc: Global, text: &[u8]) -> Result<Option<Request>, Fail> {
             },
         ) => {
             let right = peer == CLIENT && draw == DRAW;
-            Ok(if right { Some(request) } else { None })
+            if right { Some(request) } else { None }
         }
-        _ => Ok(None),
+        _ => None,
     }
 }
 
-// The request of an HTTP line with this text.
-fn get_in(alloc: Global, text: &[u8]) -> Result<Option<HttpRequest>, Fail> {
-    let mut framer = Framer::make(alloc)?;
-    let line = line_with(alloc, b"http", text)?;
-    match read_line(&line, &mut framer) {
-        Line::Event(Event::Get { request, .. }) => Ok(Some(request)),
-        _ => Ok(None),
+// Returns the request of an HTTP line with this text.
+fn get_in(rt: &impl Abort, alloc: Global, text: &[u8]) -> Option<HttpRequest> {
+    match read_text(rt, alloc, b"http", text) {
+        Line::Event(Event::Get { request, .. }) => Some(request),
+        _ => None,
     }
 }
 
 // What a line says that has no message and no packet.
-#[derive(Clone, Copy, Debug, PartialEq, Eq)]
+#[derive(Clone, Copy, Debug, PartialEq)]
 enum Said {
     Skip,
     Tick(u64),
@@ -162,85 +168,116 @@ fn line_says(line: &[u8], framer: &mut Framer) -> Said {
     }
 }
 
-const LINES: &[(&[u8], Said)] = &[
-    (b"", Said::Skip),
-    (b"# tick", Said::Skip),
-    (b"tick 59999", Said::Tick(59999)),
-    (b"ask 1", Said::Ask(1)),
-    (b"ended 1 2", Said::Ended(1, 2)),
-    (b"stop", Said::Stop),
+const LINES: &[(&str, Said)] = &[
+    ("", Said::Skip),
+    ("# tick", Said::Skip),
+    ("tick 59999", Said::Tick(59999)),
+    ("ask 1", Said::Ask(1)),
+    ("ended 1 2", Said::Ended(1, 2)),
+    ("stop", Said::Stop),
     (
-        b"pull 000000010000000a",
+        "pull 000000010000000a",
         Said::Pull(SessionId { count: 1, word: 10 }),
     ),
     (
-        b"close 000000020000000b",
+        "close 000000020000000b",
         Said::Close(SessionId { count: 2, word: 11 }),
     ),
-    (b"tik 5", Said::Wrong),
-    (b"tick", Said::Wrong),
-    (b"tick ", Said::Wrong),
-    (b"tick  5", Said::Wrong),
-    (b"tick 5 ", Said::Wrong),
-    (b"tick 5\r", Said::Wrong),
-    (b"tick 18446744073709551616", Said::Wrong),
-    (b"Tick 5", Said::Wrong),
-    (b" stop", Said::Wrong),
-    (b"stop now", Said::Wrong),
-    (b"ask 65536", Said::Wrong),
-    (b"ended 1", Said::Wrong),
-    (b"pull 1", Said::Wrong),
-    (b"close 000000010000000A", Said::Wrong),
-    (b"packet 1 1 47", Said::Wrong),
-    (b"rtsp 192.168.1.20 0000000a11223344ffff", Said::Wrong),
-    (b"rtsp 192.168.1.20 0000000a11223344ffff ", Said::Wrong),
-    (b"rtsp 192.168.1 0000000a11223344ffff 61", Said::Wrong),
-    (b"\r", Said::Wrong),
+    ("tik 5", Said::Wrong),
+    ("tick", Said::Wrong),
+    ("tick ", Said::Wrong),
+    ("tick  5", Said::Wrong),
+    ("tick 5 ", Said::Wrong),
+    ("tick 5\r", Said::Wrong),
+    ("tick 18446744073709551616", Said::Wrong),
+    ("Tick 5", Said::Wrong),
+    (" stop", Said::Wrong),
+    ("stop now", Said::Wrong),
+    ("ask 65536", Said::Wrong),
+    ("ended 1", Said::Wrong),
+    ("pull 1", Said::Wrong),
+    ("close 000000010000000A", Said::Wrong),
+    ("packet 1 1 47", Said::Wrong),
+    ("rtsp 192.168.1.20 0000000a11223344ffff", Said::Wrong),
+    ("rtsp 192.168.1.20 0000000a11223344ffff ", Said::Wrong),
+    ("rtsp 192.168.1 0000000a11223344ffff 61", Said::Wrong),
+    ("\r", Said::Wrong),
 ];
 
-#[test]
-fn lines_of_each_kind_are_read_and_others_are_wrong(rt: HostRuntime) -> Result<(), Fail> {
-    let mut framer = Framer::make(rt.alloc())?;
-    for (place, (line, wanted)) in LINES.iter().enumerate() {
-        assert_eq!(rt; line_says(line, &mut framer), *wanted, "at {place}");
+fn check_lines(rt: &impl Abort, framer: &mut Framer, rows: &[(&str, Said)]) {
+    for (line, wanted) in rows {
+        check(rt, line, line_says(line.as_bytes(), framer), *wanted);
     }
-    Ok(())
-}
-
-// A packet's line with so many bytes, of which the first are these.
-fn packet_line(alloc: Global, first: &[u8], size: usize) -> Result<Vec<u8>, Fail> {
-    let mut line = Vec::from_slice(alloc, b"packet 1 1 ")?;
-    line.extend_from_slice(hex::encode(alloc, first)?.as_str().as_bytes())?;
-    for _ in first.len()..size {
-        line.extend_from_slice(b"00")?;
-    }
-    Ok(line)
 }
 
 #[test]
-fn packets_have_188_bytes_and_begin_with_47(rt: HostRuntime) -> Result<(), Fail> {
-    let mut framer = Framer::make(rt.alloc())?;
-    for (first, size, wanted) in [
-        (0x47, 188, Said::Packet(1, 1)),
-        (0x47, 187, Said::Wrong),
-        (0x47, 189, Said::Wrong),
-        (0x46, 188, Said::Wrong),
-    ] {
-        let line = packet_line(rt.alloc(), &[first, 0x00, 0x10], size)?;
-        assert_eq!(rt;
-            line_says(&line, &mut framer),
-            wanted,
-            "{first}, {size} bytes"
-        );
-    }
-    Ok(())
+fn lines_of_each_kind_are_read_and_others_are_wrong(rt: HostRuntime) {
+    let mut framer = Framer::make(rt.alloc()).expect(&rt, "out of memory");
+    check_lines(&rt, &mut framer, LINES);
 }
 
-// The first three and the last three bytes of the packet of a line.
-fn packet_ends(line: &[u8]) -> Option<([u8; 3], [u8; 3])> {
-    let Some(EventParts::Packet { digits, .. }) = Script::of(line).next_parts() else {
-        return None;
-    };
+// The first three and the last three bytes of a packet.
+type Ends = ([u8; 3], [u8; 3]);
+
+// What a packet's line says, the number of the first wrong line of a script that is this line, and
+// the ends of its packet: None if the line isn't a packet's by its words, and Some(None) if its
+// digits are no packet's.
+type Seen = (Said, Option<u64>, Option<Option<Ends>>);
+
+const PACKET: &[u8] = b"packet 1 1 ";
+
+const WHOLE_PACKET: Parts = &[(PACKET, 1), (b"470010", 1), (b"00", 185)];
+
+const WRONG_PACKET: Seen = (Said::Wrong, Some(1), Some(None));
+
+// Packets' lines with a number of bytes.
+const PACKETS: &[(&str, Parts, Seen)] = &[
+    (
+        "188 bytes",
+        WHOLE_PACKET,
+        (
+            Said::Packet(1, 1),
+            None,
+            Some(Some(([0x47, 0x00, 0x10], [0x00, 0x00, 0x00]))),
+        ),
+    ),
+    (
+        "187 bytes",
+        &[(PACKET, 1), (b"470010", 1), (b"00", 184)],
+        WRONG_PACKET,
+    ),
+    (
+        "189 bytes",
+        &[(PACKET, 1), (b"470010", 1), (b"00", 186)],
+        WRONG_PACKET,
+    ),
+    (
+        "188 bytes that begin with 46",
+        &[(PACKET, 1), (b"460010", 1), (b"00", 185)],
+        WRONG_PACKET,
+    ),
+    (
+        "188 bytes that begin with 74",
+        &[(PACKET, 1), (b"740010", 1), (b"00", 185)],
+        WRONG_PACKET,
+    ),
+    (
+        "187 bytes and a letter that is no digit",
+        &[(PACKET, 1), (b"470010", 1), (b"00", 184), (b"0g", 1)],
+        WRONG_PACKET,
+    ),
+    (
+        "188 bytes with digits of both cases",
+        &[(PACKET, 1), (b"470010", 1), (b"00", 183), (b"aFB9", 1)],
+        (
+            Said::Packet(1, 1),
+            None,
+            Some(Some(([0x47, 0x00, 0x10], [0x00, 0xaf, 0xb9]))),
+        ),
+    ),
+];
+
+fn ends_of(digits: &[u8]) -> Option<Ends> {
     let packet = read_packet(digits)?;
     let bytes = packet.bytes();
     Some((
@@ -249,197 +286,173 @@ fn packet_ends(line: &[u8]) -> Option<([u8; 3], [u8; 3])> {
     ))
 }
 
-// Whether the line is a packet's by its words alone.
-fn is_no_packet_line(line: &[u8]) -> bool {
+// Returns the ends of the packet of a line that is a packet's by its words.
+fn packet_ends(line: &[u8]) -> Option<Option<Ends>> {
     match Script::of(line).next_parts() {
-        Some(EventParts::Packet { digits, .. }) => read_packet(digits).is_none(),
-        _ => false,
+        Some(EventParts::Packet { digits, .. }) => Some(ends_of(digits)),
+        _ => None,
     }
 }
 
-// Asserts that a script of one packet's line is wrong, which has so many bytes and then these
-// digits, and that the line is a packet's by its words alone.
-fn check_refused(
+fn check_packets(
     rt: &impl Abort,
     alloc: Global,
-    first: &[u8],
-    size: usize,
-    digits: &[u8],
-) -> Result<(), Fail> {
-    let mut framer = Framer::make(alloc)?;
-    let mut line = packet_line(alloc, first, size)?;
-    line.extend_from_slice(digits)?;
-    assert_eq!(rt; check_script(&line, &mut framer), Some(1), "{size} bytes");
-    assert!(rt; is_no_packet_line(&line), "{size} bytes");
-    Ok(())
+    framer: &mut Framer,
+    rows: &[(&str, Parts, Seen)],
+) {
+    for (name, parts, wanted) in rows {
+        let line = given(rt, repeated(alloc, parts));
+        let said = line_says(&line, framer);
+        let wrong = check_script(&line, framer);
+        check(rt, name, (said, wrong, packet_ends(&line)), *wanted);
+    }
 }
 
 #[test]
-fn packets_are_checked_and_decoded(rt: HostRuntime) -> Result<(), Fail> {
-    let mut framer = Framer::make(rt.alloc())?;
-    let mut line = packet_line(rt.alloc(), b"\x47\x00\x10", 186)?;
-    line.extend_from_slice(b"aFB9")?;
-    assert_eq!(rt; check_script(&line, &mut framer), None);
-    assert_eq!(rt;
-        packet_ends(&line),
-        Some(([0x47, 0x00, 0x10], [0x00, 0xaf, 0xb9]))
-    );
-    Ok(())
+fn packets_have_188_bytes_and_begin_with_47(rt: HostRuntime) {
+    let mut framer = Framer::make(rt.alloc()).expect(&rt, "out of memory");
+    check_packets(&rt, rt.alloc(), &mut framer, PACKETS);
+}
+
+// Whether a SETUP is refused, its method, its CSeq, its ports and its frequency.
+type Setup = (bool, Method, Option<u32>, Option<Ports>, Option<u32>);
+
+fn setup_in(rt: &impl Abort, alloc: Global, text: &[u8]) -> Option<Setup> {
+    let Some(setup) = request_in(rt, alloc, text) else {
+        return None;
+    };
+    let refused = setup.refusal.is_some();
+    let freq = setup.query.change.freq;
+    Some((refused, setup.method, setup.cseq, setup.ports, freq))
 }
 
 #[test]
-fn a_packet_without_its_sync_byte_or_a_digit_is_refused(rt: HostRuntime) -> Result<(), Fail> {
-    check_refused(&rt, rt.alloc(), b"\x74\x00\x10", 188, b"")?;
-    check_refused(&rt, rt.alloc(), b"\x47\x00\x10", 187, b"0g")
-}
-
-#[test]
-fn the_setup_of_the_worked_rows_is_read(rt: HostRuntime) -> Result<(), Fail> {
-    let setup = request_in(rt.alloc(), SETUP)?.ok_or("setup")?;
+fn the_setup_of_the_worked_rows_is_read(rt: HostRuntime) {
     let ports = Ports {
         rtp: 1400,
         rtcp: 1401,
     };
-    assert_eq!(rt; setup.refusal, None);
-    assert_eq!(rt; (setup.method, setup.cseq), (Method::Setup, Some(1)));
-    assert_eq!(rt; setup.ports, Some(ports));
-    assert_eq!(rt; setup.query.change.freq, Some(11361750));
-    Ok(())
+    let wanted = (false, Method::Setup, Some(1), Some(ports), Some(11361750));
+    let setup = setup_in(&rt, rt.alloc(), SETUP);
+    check(&rt, "SETUP", setup, Some(wanted));
+}
+
+const PLAY: &[u8] = b"PLAY rtsp://192.168.1.10/stream=1 RTSP/1.0\r\n\
+    CSeq: 2\r\n\
+    Session: 000000010000000a\r\n\r\n";
+
+// Returns the method, the stream and the session of a request.
+fn play_in(
+    rt: &impl Abort,
+    alloc: Global,
+    text: &[u8],
+) -> Option<(Method, Option<u16>, SessionName)> {
+    let Some(play) = request_in(rt, alloc, text) else {
+        return None;
+    };
+    Some((play.method, play.stream, play.session))
 }
 
 #[test]
-fn the_play_of_the_worked_rows_is_read(rt: HostRuntime) -> Result<(), Fail> {
-    let play = b"PLAY rtsp://192.168.1.10/stream=1 RTSP/1.0\r\n\
-        CSeq: 2\r\n\
-        Session: 000000010000000a\r\n\r\n";
-    let play = request_in(rt.alloc(), play)?.ok_or("play")?;
-    assert_eq!(rt; (play.method, play.stream), (Method::Play, Some(1)));
-    assert_eq!(rt; play.session, SessionName::Named(SESSION));
-    Ok(())
+fn the_play_of_the_worked_rows_is_read(rt: HostRuntime) {
+    let wanted = (Method::Play, Some(1), SessionName::Named(SESSION));
+    let play = play_in(&rt, rt.alloc(), PLAY);
+    check(&rt, "PLAY", play, Some(wanted));
+}
+
+// Returns whether a GET is refused, and its frequency.
+fn frequency_in(rt: &impl Abort, alloc: Global, text: &[u8]) -> Option<(bool, Option<u32>)> {
+    let Some(get) = get_in(rt, alloc, text) else {
+        return None;
+    };
+    let freq = get.query.change.freq;
+    Some((get.refusal.is_some(), freq))
 }
 
 #[test]
-fn the_get_of_the_worked_rows_is_read(rt: HostRuntime) -> Result<(), Fail> {
-    let get = get_in(rt.alloc(), GET)?.ok_or("get")?;
-    assert_eq!(rt; get.refusal, None);
-    assert_eq!(rt; get.query.change.freq, Some(12402000));
-    Ok(())
+fn the_get_of_the_worked_rows_is_read(rt: HostRuntime) {
+    let get = frequency_in(&rt, rt.alloc(), GET);
+    check(&rt, "GET", get, Some((false, Some(12402000))));
 }
 
-// What a text of a line comes to.
-#[derive(Clone, Copy, Debug, PartialEq, Eq)]
-enum Read {
-    Nothing,
-    Whole,
-    Broken,
-    TooLong,
-}
+// What a text comes to: one message, or what is broken or too long at its first message. None if
+// it is neither.
+type Found = Option<Result<(), Break>>;
 
-fn kind_of(refusal: &Option<Refusal>) -> Read {
-    match refusal {
-        Some(Refusal::Broken) => Read::Broken,
-        Some(Refusal::TooLong) => Read::TooLong,
-        _ => Read::Whole,
+// Returns what a text comes to in an RTSP line.
+fn found_over_rtsp(rt: &impl Abort, alloc: Global, text: &[u8]) -> Found {
+    let Some(request) = request_in(rt, alloc, text) else {
+        return None;
+    };
+    match request.refusal {
+        Some(Refusal::Broken) => Some(Err(Break::Bad)),
+        Some(Refusal::TooLong) => Some(Err(Break::TooLong)),
+        _ => Some(Ok(())),
     }
 }
 
-fn kind_of_get(refusal: &Option<HttpRefusal>) -> Read {
-    match refusal {
-        Some(HttpRefusal::Broken) => Read::Broken,
-        Some(HttpRefusal::TooLong) => Read::TooLong,
-        _ => Read::Whole,
+// Returns what a text comes to in an HTTP line.
+fn found_over_http(rt: &impl Abort, alloc: Global, text: &[u8]) -> Found {
+    let Some(request) = get_in(rt, alloc, text) else {
+        return None;
+    };
+    match request.refusal {
+        Some(HttpRefusal::Broken) => Some(Err(Break::Bad)),
+        Some(HttpRefusal::TooLong) => Some(Err(Break::TooLong)),
+        _ => Some(Ok(())),
     }
-}
-
-// What the text of a line comes to that the client of the worked rows sent.
-fn kind_of_line(line: &Line) -> Read {
-    match line {
-        Line::Event(
-            Event::Request {
-                peer,
-                draw,
-                request,
-            },
-        ) => {
-            if *peer == CLIENT && *draw == DRAW {
-                return kind_of(&request.refusal);
-            }
-            Read::Nothing
-        }
-        Line::Event(Event::Get { request, .. }) => kind_of_get(&request.refusal),
-        _ => Read::Nothing,
-    }
-}
-
-// What a text comes to in a line of this kind.
-fn read_of(alloc: Global, kind: &[u8], text: &[u8]) -> Result<Read, Fail> {
-    let mut framer = Framer::make(alloc)?;
-    let line = line_with(alloc, kind, text)?;
-    Ok(kind_of_line(&read_line(&line, &mut framer)))
-}
-
-// What a text of these parts, each so often, comes to over RTSP and over HTTP.
-fn read_of_each(alloc: Global, parts: &[(&[u8], usize)]) -> Result<(Read, Read), Fail> {
-    let text = repeated(alloc, parts)?;
-    Ok((
-        read_of(alloc, b"rtsp", &text)?,
-        read_of(alloc, b"http", &text)?,
-    ))
 }
 
 const HEAD: &[u8] = b"OPTIONS * RTSP/1.0\r\nCSeq: 1\r\n";
 
 const LONGEST: &[u8] = b"Content-Length: 4096\r\n\r\n";
 
-// Texts of these parts, each so often, and what they come to over RTSP and over HTTP: one message
-// and nothing else, or what is broken or too long at its first message.
-type Texts = (&'static str, &'static [(&'static [u8], usize)], Read);
-
-const TEXTS: &[Texts] = &[
-    ("one message", &[(OPTIONS, 1)], Read::Whole),
+// Texts, and what they come to over RTSP and over HTTP.
+const TEXTS: &[(&str, Parts, Found)] = &[
+    ("one message", &[(OPTIONS, 1)], Some(Ok(()))),
     (
         "an end of a line before",
         &[(b"\r\n", 1), (OPTIONS, 1)],
-        Read::Nothing,
+        None,
     ),
     (
         "an end of a line behind",
         &[(OPTIONS, 1), (b"\r\n", 1)],
-        Read::Nothing,
+        None,
     ),
+    ("a line feed behind", &[(OPTIONS, 1), (b"\n", 1)], None),
+    ("two messages", &[(OPTIONS, 2)], None),
+    ("a letter behind", &[(OPTIONS, 1), (b"x", 1)], None),
+    ("a beginning", &[(HEAD, 1)], None),
+    ("ends of lines", &[(b"\r\n", 2)], None),
+    ("no text", &[], None),
     (
-        "a line feed behind",
-        &[(OPTIONS, 1), (b"\n", 1)],
-        Read::Nothing,
+        "no message",
+        &[(b"hello\r\n\r\n", 1)],
+        Some(Err(Break::Bad)),
     ),
-    ("two messages", &[(OPTIONS, 2)], Read::Nothing),
-    ("a letter behind", &[(OPTIONS, 1), (b"x", 1)], Read::Nothing),
-    ("a beginning", &[(HEAD, 1)], Read::Nothing),
-    ("ends of lines", &[(b"\r\n", 2)], Read::Nothing),
-    ("no text", &[], Read::Nothing),
-    ("no message", &[(b"hello\r\n\r\n", 1)], Read::Broken),
     (
         "no message between others",
         &[(b"\r\n\n\r\nhello\r\n\r\n", 1), (OPTIONS, 1)],
-        Read::Broken,
+        Some(Err(Break::Bad)),
     ),
-    ("many letters", &[(b"a", 30000)], Read::Broken),
-    ("letters that may go on", &[(b"a", 8191)], Read::Nothing),
-    ("many ends of lines", &[(b"\n", 30000)], Read::Nothing),
+    ("many letters", &[(b"a", 30000)], Some(Err(Break::Bad))),
+    ("letters that may go on", &[(b"a", 8191)], None),
+    ("many ends of lines", &[(b"\n", 30000)], None),
     (
         "a body of 4096 bytes",
         &[(HEAD, 1), (LONGEST, 1), (b"\n", 4096)],
-        Read::Whole,
+        Some(Ok(())),
     ),
     (
         "a body that isn't whole",
         &[(HEAD, 1), (LONGEST, 1), (b"\n", 4095)],
-        Read::Nothing,
+        None,
     ),
     (
         "a byte behind a body",
         &[(HEAD, 1), (LONGEST, 1), (b"\n", 4097)],
-        Read::Nothing,
+        None,
     ),
     (
         "a body of 4097 bytes",
@@ -449,36 +462,44 @@ const TEXTS: &[Texts] = &[
             (b"Content-Length: 4097\r\n\r\n", 1),
             (b"\n", 8192),
         ],
-        Read::TooLong,
+        Some(Err(Break::TooLong)),
     ),
 ];
 
-#[test]
-fn texts_say_one_thing(rt: HostRuntime) -> Result<(), Fail> {
-    for (name, parts, wanted) in TEXTS {
-        assert_eq!(rt;
-            read_of_each(rt.alloc(), parts)?,
-            (*wanted, *wanted),
-            "{name}"
-        );
+fn check_texts(rt: &impl Abort, alloc: Global, rows: &[(&str, Parts, Found)]) {
+    for (name, parts, wanted) in rows {
+        let text = given(rt, repeated(alloc, parts));
+        let over_rtsp = found_over_rtsp(rt, alloc, &text);
+        let over_http = found_over_http(rt, alloc, &text);
+        check(rt, name, (over_rtsp, over_http), (*wanted, *wanted));
     }
-    Ok(())
 }
 
 #[test]
-fn first_wrong_line_is_told(rt: HostRuntime) -> Result<(), Fail> {
-    let mut framer = Framer::make(rt.alloc())?;
-    for (script, wrong) in [
-        (b"".as_slice(), None),
-        (b"tick 1000\ntik 5\n", Some(2)),
-        (b"# two lines\n\nstop\ntick\nask\n", Some(4)),
-        (b"tick 5\r\n", Some(1)),
-        (b"ask 1\nstop", None),
-        (b"ask 1\nstop now", Some(2)),
-    ] {
-        assert_eq!(rt; check_script(script, &mut framer), wrong);
+fn texts_say_one_thing(rt: HostRuntime) {
+    check_texts(&rt, rt.alloc(), TEXTS);
+}
+
+// Scripts, and the number of the first wrong line of each.
+const SCRIPTS: &[(&str, Option<u64>)] = &[
+    ("", None),
+    ("tick 1000\ntik 5\n", Some(2)),
+    ("# two lines\n\nstop\ntick\nask\n", Some(4)),
+    ("tick 5\r\n", Some(1)),
+    ("ask 1\nstop", None),
+    ("ask 1\nstop now", Some(2)),
+];
+
+fn check_scripts(rt: &impl Abort, framer: &mut Framer, rows: &[(&str, Option<u64>)]) {
+    for (script, wrong) in rows {
+        check(rt, script, check_script(script.as_bytes(), framer), *wrong);
     }
-    Ok(())
+}
+
+#[test]
+fn first_wrong_line_is_told(rt: HostRuntime) {
+    let mut framer = Framer::make(rt.alloc()).expect(&rt, "out of memory");
+    check_scripts(&rt, &mut framer, SCRIPTS);
 }
 
 // What the next event of a script says.
@@ -489,20 +510,31 @@ fn next_said(script: &mut Script, framer: &mut Framer) -> Option<Said> {
     }
 }
 
-#[test]
-fn events_come_in_their_order(rt: HostRuntime) -> Result<(), Fail> {
-    let mut framer = Framer::make(rt.alloc())?;
-    let mut script = Script::of(b"# a run\ntick 1000\n\nask 1\nstop\nask\ntick 1");
-    for wanted in [
-        Some(Said::Tick(1000)),
-        Some(Said::Ask(1)),
-        Some(Said::Stop),
-        None,
-        None,
-    ] {
-        assert_eq!(rt; next_said(&mut script, &mut framer), wanted);
+// The events of a script with a wrong line.
+const EVENTS: &[(&str, Option<Said>)] = &[
+    ("a tick", Some(Said::Tick(1000))),
+    ("an ask", Some(Said::Ask(1))),
+    ("a stop", Some(Said::Stop)),
+    ("a wrong line", None),
+    ("after a wrong line", None),
+];
+
+fn check_events(
+    rt: &impl Abort,
+    script: &mut Script,
+    framer: &mut Framer,
+    rows: &[(&str, Option<Said>)],
+) {
+    for (name, wanted) in rows {
+        check(rt, name, next_said(script, framer), *wanted);
     }
-    Ok(())
+}
+
+#[test]
+fn events_come_in_their_order(rt: HostRuntime) {
+    let mut framer = Framer::make(rt.alloc()).expect(&rt, "out of memory");
+    let mut script = Script::of(b"# a run\ntick 1000\n\nask 1\nstop\nask\ntick 1");
+    check_events(&rt, &mut script, &mut framer, EVENTS);
 }
 
 // What a packet's parts say, which are wrong where their digits are no packet's.
@@ -540,18 +572,24 @@ fn next_parts_said(script: &mut Script) -> Option<Said> {
     }
 }
 
-#[test]
-fn events_come_in_parts(rt: HostRuntime) -> Result<(), Fail> {
-    let mut script = Script::of(b"# a run\ntick 1000\n\nask 1\ntick\n");
-    for wanted in [
-        Some(Said::Tick(1000)),
-        Some(Said::Ask(1)),
-        Some(Said::Wrong),
-        None,
-    ] {
-        assert_eq!(rt; next_parts_said(&mut script), wanted);
+// The events of a script in parts.
+const IN_PARTS: &[(&str, Option<Said>)] = &[
+    ("a tick", Some(Said::Tick(1000))),
+    ("an ask", Some(Said::Ask(1))),
+    ("a wrong line", Some(Said::Wrong)),
+    ("no line", None),
+];
+
+fn check_parts(rt: &impl Abort, script: &mut Script, rows: &[(&str, Option<Said>)]) {
+    for (name, wanted) in rows {
+        check(rt, name, next_parts_said(script), *wanted);
     }
-    Ok(())
+}
+
+#[test]
+fn events_come_in_parts(rt: HostRuntime) {
+    let mut script = Script::of(b"# a run\ntick 1000\n\nask 1\ntick\n");
+    check_parts(&rt, &mut script, IN_PARTS);
 }
 
 // What requests are read into, one after another.
@@ -562,51 +600,42 @@ struct Kept {
     get: HttpRequest,
 }
 
-// Whether the parts of a line say what the whole line does: they are read where it has an event,
-// which is equal to theirs, and not where it is wrong.
-fn agree(line: &Line, reads: bool, equal: bool) -> bool {
-    match line {
-        Line::Event(_) => reads && equal,
-        Line::Wrong => !reads,
-        Line::Skip => false,
-    }
-}
-
-// Whether an RTSP line says the same in parts and as a whole.
+// Tells whether an RTSP line says the same in parts and as a whole. The parts are read exactly if
+// the line isn't wrong.
 fn same_request(peer: Peer, draw: Draw, digits: &[u8], line: &[u8], kept: &mut Kept) -> bool {
     let reads = read_request(digits, &mut kept.framer, &mut kept.request);
     let line = read_line(line, &mut kept.framer);
-    let equal = match &line {
+    match &line {
         Line::Event(
             Event::Request {
                 peer: by,
                 draw: drawn,
                 request,
             },
-        ) => peer == *by && draw == *drawn && kept.request == *request,
+        ) => reads && peer == *by && draw == *drawn && kept.request == *request,
+        Line::Wrong => !reads,
         _ => false,
-    };
-    agree(&line, reads, equal)
+    }
 }
 
-// Whether an HTTP line says the same in parts and as a whole.
+// Tells the same of an HTTP line.
 fn same_get(peer: Peer, draw: Draw, digits: &[u8], line: &[u8], kept: &mut Kept) -> bool {
     let reads = read_get(digits, &mut kept.framer, &mut kept.get);
     let line = read_line(line, &mut kept.framer);
-    let equal = match &line {
+    match &line {
         Line::Event(
             Event::Get {
                 peer: by,
                 draw: drawn,
                 request,
             },
-        ) => peer == *by && draw == *drawn && kept.get == *request,
+        ) => reads && peer == *by && draw == *drawn && kept.get == *request,
+        Line::Wrong => !reads,
         _ => false,
-    };
-    agree(&line, reads, equal)
+    }
 }
 
-// Whether a line says the same in parts and as a whole, of a packet all but its bytes.
+// Tells whether a line says the same in parts and as a whole, of a packet all but its bytes.
 fn is_same(line: &[u8], kept: &mut Kept) -> bool {
     match Script::of(line).next_parts() {
         Some(EventParts::Rtsp { peer, draw, digits }) => {
@@ -622,155 +651,136 @@ const ADDING: &[u8] = b"PLAY rtsp://192.168.1.10/stream=1?addpids=100,200&delpid
     CSeq: 9\r\n\
     Session: 000000010000000a\r\n\r\n";
 
-const SAME: &[&[u8]] = &[
-    b"",
-    b"# stop",
-    b"tick 59999",
-    b"tick",
-    b"ended 1 2",
-    b"ended 2 1 ",
-    b"ask 65535",
-    b"ask 65536",
-    b"pull 000000010000000a",
-    b"close 000000010000000a",
-    b"close 000000010000000A",
-    b"stop",
-    b"stop ",
-    b"packet 1 1 47 00",
-    b"rtsp 192.168.1.20 0000000a11223344ffff 61 62",
-    b"http 192.168.1.20 0000000a11223344ffff 6",
+const SAME: &[&str] = &[
+    "",
+    "# stop",
+    "tick 59999",
+    "tick",
+    "ended 1 2",
+    "ended 2 1 ",
+    "ask 65535",
+    "ask 65536",
+    "pull 000000010000000a",
+    "close 000000010000000a",
+    "close 000000010000000A",
+    "stop",
+    "stop ",
+    "packet 1 1 47 00",
+    "rtsp 192.168.1.20 0000000a11223344ffff 61 62",
+    "http 192.168.1.20 0000000a11223344ffff 6",
 ];
 
-const SAME_TEXTS: &[&[u8]] = &[SETUP, ADDING, GET, OPTIONS, b"hello\r\n\r\n", b"\r\n"];
+const SAME_TEXTS: &[(&str, &[u8])] = &[
+    ("SETUP", SETUP),
+    ("PLAY", ADDING),
+    ("GET", GET),
+    ("OPTIONS", OPTIONS),
+    ("no message", b"hello\r\n\r\n"),
+    ("an end of a line", b"\r\n"),
+];
 
-fn keep(alloc: Global) -> Result<Kept, Fail> {
-    Ok(Kept {
-        framer: Framer::make(alloc)?,
+fn keep(rt: &impl Abort, alloc: Global) -> Kept {
+    Kept {
+        framer: Framer::make(alloc).expect(rt, "out of memory"),
         request: Request::broken(Break::Bad),
         get: HttpRequest::broken(Break::Bad),
-    })
-}
-
-#[test]
-fn lines_say_the_same_in_parts_and_whole(rt: HostRuntime) -> Result<(), Fail> {
-    let mut kept = keep(rt.alloc())?;
-    for (place, line) in SAME.iter().enumerate() {
-        assert!(rt; is_same(line, &mut kept), "at {place}");
     }
-    Ok(())
 }
 
-#[test]
-fn a_packet_says_the_same_in_parts_and_whole(rt: HostRuntime) -> Result<(), Fail> {
-    let mut kept = keep(rt.alloc())?;
-    let packet = packet_line(rt.alloc(), b"\x47\x00\x10", 188)?;
-    assert!(rt; is_same(&packet, &mut kept), "a packet");
-    Ok(())
-}
-
-// Whether a line of this kind with this text says the same in parts and as a whole.
-fn is_same_with(alloc: Global, kind: &[u8], text: &[u8], kept: &mut Kept) -> Result<bool, Fail> {
-    let line = line_with(alloc, kind, text)?;
-    Ok(is_same(&line, kept))
-}
-
-#[test]
-fn texts_say_the_same_in_parts_and_whole(rt: HostRuntime) -> Result<(), Fail> {
-    let mut kept = keep(rt.alloc())?;
-    for (place, text) in SAME_TEXTS.iter().enumerate() {
-        let over_rtsp = is_same_with(rt.alloc(), b"rtsp", text, &mut kept)?;
-        let over_http = is_same_with(rt.alloc(), b"http", text, &mut kept)?;
-        assert_eq!(rt; (over_rtsp, over_http), (true, true), "at {place}");
+// Asserts that lines say the same in parts and as a whole.
+fn check_same(rt: &impl Abort, kept: &mut Kept, rows: &[&str]) {
+    for line in rows {
+        check(rt, line, is_same(line.as_bytes(), kept), true);
     }
-    Ok(())
 }
 
-// The text of one entry, behind a line that stands.
-fn printed(alloc: Global, answer: Answer, out: &Out) -> Result<Vec<u8>, Fail> {
-    let mut text = Vec::from_slice(alloc, b"going\n")?;
-    print_entry(&answer, out, &mut text)?;
-    Ok(text)
+// Asserts that the lines of both kinds with these texts say the same.
+fn check_same_texts(rt: &impl Abort, alloc: Global, kept: &mut Kept, rows: &[(&str, &[u8])]) {
+    for (name, text) in rows {
+        let over_rtsp = is_same(&line_with(rt, alloc, b"rtsp", text), kept);
+        let over_http = is_same(&line_with(rt, alloc, b"http", text), kept);
+        check(rt, name, (over_rtsp, over_http), (true, true));
+    }
 }
 
-// Answers without a reply, and the lines of their entries.
-const SHORT: &[(Answer, &[u8])] = &[
-    (Answer::Beat(Beat::Going), b"going\ngoing\n"),
-    (Answer::Beat(Beat::Stopping), b"going\nstopping\n"),
+#[test]
+fn lines_say_the_same_in_parts_and_whole(rt: HostRuntime) {
+    let packet = given(&rt, repeated(rt.alloc(), WHOLE_PACKET));
+    let mut kept = keep(&rt, rt.alloc());
+    check_same(&rt, &mut kept, SAME);
+    check(&rt, "a packet", is_same(&packet, &mut kept), true);
+    check_same_texts(&rt, rt.alloc(), &mut kept, SAME_TEXTS);
+}
+
+// Answers without a reply, and the lines of their entries after a line.
+const SHORT: &[(Answer, &str)] = &[
+    (Answer::Beat(Beat::Going), "going\ngoing\n"),
+    (Answer::Beat(Beat::Stopping), "going\nstopping\n"),
     (
         Answer::Work(Work::Tune { mux: 1, tune: 1 }),
-        b"going\ntune 1 1\n",
+        "going\ntune 1 1\n",
     ),
-    (Answer::Work(Work::Nothing), b"going\nnothing\n"),
-    (Answer::Work(Work::Stopping), b"going\nstopping\n"),
-    (Answer::Pulled(Pulled::Empty), b"going\nempty\n"),
-    (Answer::Pulled(Pulled::Gone), b"going\ngone\n"),
-    (Answer::Closed(Closed::Yes), b"going\nclosed\n"),
-    (Answer::Closed(Closed::Gone), b"going\ngone\n"),
+    (Answer::Work(Work::Nothing), "going\nnothing\n"),
+    (Answer::Work(Work::Stopping), "going\nstopping\n"),
+    (Answer::Pulled(Pulled::Empty), "going\nempty\n"),
+    (Answer::Pulled(Pulled::Gone), "going\ngone\n"),
+    (Answer::Closed(Closed::Yes), "going\nclosed\n"),
+    (Answer::Closed(Closed::Gone), "going\ngone\n"),
 ];
 
 // Answers with the reply "RTSP".
-const WITH_REPLY: &[(Answer, &[u8])] = &[
+const WITH_REPLY: &[(Answer, &str)] = &[
     (
         Answer::Replied(Replied {
             status: 200,
             closing: false,
         }),
-        b"going\nreply 200 0 52545350\n",
+        "going\nreply 200 0 52545350\n",
     ),
     (
         Answer::Replied(Replied {
             status: 400,
             closing: true,
         }),
-        b"going\nreply 400 1 52545350\n",
+        "going\nreply 400 1 52545350\n",
     ),
     (
         Answer::Get(GetAnswer::Started(SESSION)),
-        b"going\nstarted 000000010000000a 52545350\n",
+        "going\nstarted 000000010000000a 52545350\n",
     ),
     (
         Answer::Get(GetAnswer::Refused(404)),
-        b"going\nrefused 404 52545350\n",
+        "going\nrefused 404 52545350\n",
     ),
-    (Answer::Pulled(Pulled::Bytes(4)), b"going\nbytes 52545350\n"),
+    (Answer::Pulled(Pulled::Bytes(4)), "going\nbytes 52545350\n"),
 ];
 
-fn out_with(alloc: Global, reply: &[u8; 4]) -> Result<Out, Fail> {
-    let mut out = Out::make(alloc)?;
-    out.write(reply);
-    Ok(out)
-}
+// A beat with datagrams, which follow it in their order.
+const WITH_DATAGRAMS: &[(Answer, &str)] = &[(
+    Answer::Beat(Beat::Going),
+    "going\ngoing\ndatagram 192.168.1.20:1400 8021ffff\ndatagram 192.168.1.21:65535 \n",
+)];
 
-// Asserts that entries with this output are printed so.
-fn check_printed(
-    rt: &impl Abort,
-    alloc: Global,
-    out: &Out,
-    rows: &[(Answer, &[u8])],
-) -> Result<(), Fail> {
-    for (place, (answer, line)) in rows.iter().enumerate() {
-        let text = printed(alloc, *answer, out)?;
-        assert_eq!(rt; text.as_slice(), *line, "at {place}");
+// Asserts that entries with this output are printed so, after a line.
+fn check_printed(rt: &impl Abort, alloc: Global, out: &Out, rows: &[(Answer, &str)]) {
+    for (answer, lines) in rows {
+        let mut text = Vec::from_slice(alloc, b"going\n").expect(rt, "out of memory");
+        print_entry(answer, out, &mut text).expect(rt, "out of memory");
+        check(rt, lines, text.as_slice(), lines.as_bytes());
     }
-    Ok(())
 }
 
 #[test]
-fn entries_without_a_reply_are_printed(rt: HostRuntime) -> Result<(), Fail> {
-    let out = Out::make(rt.alloc())?;
-    check_printed(&rt, rt.alloc(), &out, SHORT)
+fn entries_with_and_without_a_reply_are_printed(rt: HostRuntime) {
+    let mut out = Out::make(rt.alloc()).expect(&rt, "out of memory");
+    check_printed(&rt, rt.alloc(), &out, SHORT);
+    out.write(b"RTSP");
+    check_printed(&rt, rt.alloc(), &out, WITH_REPLY);
 }
 
 #[test]
-fn entries_with_a_reply_are_printed(rt: HostRuntime) -> Result<(), Fail> {
-    let out = out_with(rt.alloc(), b"RTSP")?;
-    check_printed(&rt, rt.alloc(), &out, WITH_REPLY)
-}
-
-// The datagrams follow their answer, in order.
-#[test]
-fn datagrams_are_printed(rt: HostRuntime) -> Result<(), Fail> {
-    let mut out = Out::make(rt.alloc())?;
+fn datagrams_are_printed(rt: HostRuntime) {
+    let mut out = Out::make(rt.alloc()).expect(&rt, "out of memory");
     out.begin(Address {
         ip: 0xc0a8_0114,
         port: 1400,
@@ -780,9 +790,5 @@ fn datagrams_are_printed(rt: HostRuntime) -> Result<(), Fail> {
         ip: 0xc0a8_0115,
         port: 65535,
     });
-    let text = printed(rt.alloc(), Answer::Beat(Beat::Going), &out)?;
-    let lines =
-        b"going\ngoing\ndatagram 192.168.1.20:1400 8021ffff\ndatagram 192.168.1.21:65535 \n";
-    assert_eq!(rt; text.as_slice(), lines.as_slice());
-    Ok(())
+    check_printed(&rt, rt.alloc(), &out, WITH_DATAGRAMS);
 }
