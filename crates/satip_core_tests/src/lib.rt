@@ -2,6 +2,10 @@
 #![tactic(auto)]
 
 #[cfg(test)]
+mod checks;
+#[cfg(test)]
+mod given;
+#[cfg(test)]
 #[rattlefmt::skip]
 #[tactic(auto, unfolding(
     satip_fronts::specs::Choice::choose,

@@ -1,157 +1,181 @@
 //! Packets, ticks and pulls that can be followed by hand.
 
-use crate::requests::{change, founded, query};
+use crate::checks::check;
+use crate::given::{output, packet};
+use crate::requests::{change, found_one, parts_with, query};
 use satip_base::{Out, SessionId};
-use satip_fixtures::{SECOND_MUX, config_with, packet};
+use satip_fixtures::SECOND_MUX;
 use satip_plain::{Closed, Pulled, Work};
-use satip_query::{PidsGiven, Query};
+use satip_query::PidsGiven;
 use satip_state::Parts;
 use satip_ts::Packet;
 use std::alloc::Global;
 use std::process::Abort;
-use std::test::Fail;
 
-/// One front end and one multiplex, a timeout of 60 seconds, from moment 1000 on.
-fn parts(alloc: Global) -> Result<Parts, Fail> {
-    let config = config_with(alloc, 1, &[SECOND_MUX])?;
-    Ok(Parts::make(alloc, config.fronts, config.muxes, 60, 1000)?)
+// Creates parts with one front end and one multiplex.
+fn parts(rt: &impl Abort, alloc: Global) -> Parts {
+    parts_with(rt, alloc, 1, &[SECOND_MUX])
 }
 
-/// A session whose stream is tuned and selects all PIDs.
+// Creates a session whose stream is tuned and selects all PIDs.
 fn tuned(rt: &impl Abort, parts: &mut Parts, out: &mut Out, http: bool) -> SessionId {
-    let (id, number) = founded(parts, http, 10).expect(rt, "room");
-    let query = Query {
-        pids: PidsGiven::All,
-        ..query(SECOND_MUX)
-    };
-    change(parts, out, number, &query);
+    let (id, number) = found_one(rt, parts, http, 10);
+    let mut asked = query(SECOND_MUX);
+    asked.pids = PidsGiven::All;
+    change(parts, out, number, &asked);
     id
 }
 
-/// How many datagrams leave as this packet comes.
+// Asserts the next work of the first front end's pump.
+fn check_work(rt: &impl Abort, parts: &Parts, name: &str, work: Work) {
+    check(rt, name, parts.work(1), work);
+}
+
+// Gives a packet of a tune number. Returns how many datagrams leave.
 fn sent(parts: &mut Parts, out: &mut Out, tune: u64, packet: &Packet) -> usize {
     out.clear();
     parts.packet(1, tune, packet, out);
     out.count()
 }
 
-/// How many datagrams leave at this moment.
+// Ticks at a moment. Returns how many datagrams leave.
 fn ticked(parts: &mut Parts, out: &mut Out, now: u64) -> usize {
     out.clear();
     parts.tick(now, 9, out);
     out.count()
 }
 
-/// Gives a packet with each of these tune numbers, behind which so many datagrams leave.
+// The name of a packet, its tune number, and how many datagrams leave after it.
+type PacketRow = (&'static str, u64, usize);
+
+// Gives packets, and asserts how many datagrams leave after each.
 fn give_each(
     rt: &impl Abort,
     parts: &mut Parts,
     out: &mut Out,
     packet: &Packet,
-    given: &[(u64, usize)],
+    rows: &[PacketRow],
 ) {
-    for (tune, datagrams) in given {
-        assert_eq!(rt; sent(parts, out, *tune, packet), *datagrams);
+    for (name, tune, datagrams) in rows {
+        check(rt, name, sent(parts, out, *tune, packet), *datagrams);
     }
 }
 
-/// Ticks at each of these moments, at which so many datagrams leave.
-fn tick_each(rt: &impl Abort, parts: &mut Parts, out: &mut Out, ticks: &[(u64, usize)]) {
-    for (now, datagrams) in ticks {
-        assert_eq!(rt; ticked(parts, out, *now), *datagrams);
+// The moment of a tick, and how many datagrams leave at it.
+type TickRow = (u64, usize);
+
+// Ticks at each moment, and asserts how many datagrams leave.
+fn tick_each(rt: &impl Abort, parts: &mut Parts, out: &mut Out, rows: &[TickRow]) {
+    for (now, datagrams) in rows {
+        let got = (*now, ticked(parts, out, *now));
+        check(rt, "tick", got, (*now, *datagrams));
     }
 }
 
-/// Pulls for a session, with each of these answers and so many bytes.
-fn pull_each(
+// Pulls for a session. Asserts the answer and the number of bytes.
+fn check_pull(
     rt: &impl Abort,
     parts: &mut Parts,
     out: &mut Out,
     id: SessionId,
-    pulls: &[(Pulled, usize)],
+    name: &str,
+    wanted: (Pulled, usize),
 ) {
-    for (pulled, bytes) in pulls {
-        out.clear();
-        assert_eq!(rt; parts.pull(id, out), *pulled);
-        assert_eq!(rt; out.reply().len(), *bytes);
-    }
+    out.clear();
+    let pulled = parts.pull(id, out);
+    check(rt, name, (pulled, out.reply().len()), wanted);
 }
 
-/// Closes a session, with each of these answers.
-fn close_each(rt: &impl Abort, parts: &mut Parts, out: &mut Out, id: SessionId, closes: &[Closed]) {
-    for closed in closes {
-        out.clear();
-        assert_eq!(rt; parts.close(id, out), *closed);
-    }
+// Closes a session, and asserts the answer.
+fn check_close(
+    rt: &impl Abort,
+    parts: &mut Parts,
+    out: &mut Out,
+    id: SessionId,
+    name: &str,
+    wanted: Closed,
+) {
+    out.clear();
+    check(rt, name, parts.close(id, out), wanted);
 }
 
-/// Whether the first stream is locked and plays.
-fn is_locked_and_playing(parts: &Parts) -> bool {
+// Returns whether the first stream is locked, and whether it plays.
+fn state_of_first(parts: &Parts) -> Option<[bool; 2]> {
     match parts.view(1) {
-        Some(view) => view.locked && view.playing,
-        None => false,
+        Some(view) => Some([view.locked, view.playing]),
+        None => None,
     }
 }
 
-/// Reports follow until the session's timeout, at which its stream ends.
-fn reports_follow(rt: &impl Abort, parts: &mut Parts, out: &mut Out) {
-    tick_each(rt, parts, out, &[(1200, 2), (1399, 0), (1400, 1)]);
-    assert!(rt; is_locked_and_playing(parts));
-    tick_each(rt, parts, out, &[(60999, 1), (61000, 0)]);
-    assert!(rt; parts.view(1).is_none());
-    assert_eq!(rt; parts.work(1), Work::Nothing);
+const TICKS: &[TickRow] = &[(1200, 2), (1399, 0), (1400, 1)];
+
+// The session's timeout is at 61000.
+const LAST_TICKS: &[TickRow] = &[(60999, 1), (61000, 0)];
+
+// Asserts that reports follow until the session's timeout, at which its stream ends.
+fn check_reports(rt: &impl Abort, parts: &mut Parts, out: &mut Out) {
+    tick_each(rt, parts, out, TICKS);
+    let locked_and_playing = Some([true, true]);
+    check(rt, "stream", state_of_first(parts), locked_and_playing);
+    tick_each(rt, parts, out, LAST_TICKS);
+    check(rt, "ended stream", state_of_first(parts), None);
+    check_work(rt, parts, "work after the timeout", Work::Nothing);
 }
 
-/// A datagram leaves behind the seventh packet of the tune number.
-const SEVEN: &[(u64, usize)] = &[
-    (1, 0),
-    (1, 0),
-    (1, 0),
-    (1, 0),
-    (1, 0),
-    (1, 0),
-    (2, 0),
-    (1, 1),
-    (1, 0),
+// A datagram leaves after the seventh packet of the tune number.
+const SEVEN: &[PacketRow] = &[
+    ("first", 1, 0),
+    ("second", 1, 0),
+    ("third", 1, 0),
+    ("fourth", 1, 0),
+    ("fifth", 1, 0),
+    ("sixth", 1, 0),
+    ("of another tune number", 2, 0),
+    ("seventh", 1, 1),
+    ("eighth", 1, 0),
 ];
 
+const TUNE: Work = Work::Tune { mux: 1, tune: 1 };
+
 #[test]
-fn seven_packets_leave_and_reports_follow(rt: HostRuntime) -> Result<(), Fail> {
-    let packet = packet(0)?;
-    let mut out = Out::make(rt.alloc())?;
-    let mut parts = parts(rt.alloc())?;
+fn seven_packets_leave_and_reports_follow(rt: HostRuntime) {
+    let packet = packet(&rt, 0);
+    let mut out = output(&rt, rt.alloc());
+    let mut parts = parts(&rt, rt.alloc());
     let id = tuned(&rt, &mut parts, &mut out, false);
     parts.play(id);
-    assert_eq!(rt; parts.work(1), Work::Tune { mux: 1, tune: 1 });
+    check_work(&rt, &parts, "work", TUNE);
     give_each(&rt, &mut parts, &mut out, &packet, SEVEN);
-    reports_follow(&rt, &mut parts, &mut out);
-    Ok(())
+    check_reports(&rt, &mut parts, &mut out);
 }
 
-/// The recording ends, after which there is nothing to do, and the session is closed once.
-fn end_and_close(rt: &impl Abort, parts: &mut Parts, out: &mut Out, id: SessionId) {
+const THREE: &[PacketRow] = &[("first", 1, 0), ("second", 1, 0), ("third", 1, 0)];
+
+// Pulls the queue of three packets, and asserts that it is empty then.
+fn check_queue(rt: &impl Abort, parts: &mut Parts, out: &mut Out, id: SessionId) {
+    let all = (Pulled::Bytes(564), 564);
+    check_pull(rt, parts, out, id, "queue", all);
+    check_pull(rt, parts, out, id, "empty queue", (Pulled::Empty, 0));
+}
+
+// Ends the recording, after which there is nothing to do. Closes the session, which is gone then.
+fn check_end(rt: &impl Abort, parts: &mut Parts, out: &mut Out, id: SessionId) {
     parts.ended(1, 1);
-    assert_eq!(rt; parts.work(1), Work::Nothing);
-    close_each(rt, parts, out, id, &[Closed::Yes, Closed::Gone]);
-    pull_each(rt, parts, out, id, &[(Pulled::Gone, 0)]);
-}
-
-/// After the stop each pump is told to stop.
-fn stop(rt: &impl Abort, parts: &mut Parts) {
-    parts.stop();
-    assert_eq!(rt; parts.work(1), Work::Stopping);
+    check_work(rt, parts, "work after the end", Work::Nothing);
+    check_close(rt, parts, out, id, "close", Closed::Yes);
+    check_close(rt, parts, out, id, "second close", Closed::Gone);
+    check_pull(rt, parts, out, id, "closed", (Pulled::Gone, 0));
 }
 
 #[test]
-fn a_queue_is_pulled_and_closed(rt: HostRuntime) -> Result<(), Fail> {
-    let packet = packet(0)?;
-    let mut out = Out::make(rt.alloc())?;
-    let mut parts = parts(rt.alloc())?;
+fn a_queue_is_pulled_and_closed(rt: HostRuntime) {
+    let packet = packet(&rt, 0);
+    let mut out = output(&rt, rt.alloc());
+    let mut parts = parts(&rt, rt.alloc());
     let id = tuned(&rt, &mut parts, &mut out, true);
-    give_each(&rt, &mut parts, &mut out, &packet, &[(1, 0); 3]);
-    let pulls = [(Pulled::Bytes(564), 564), (Pulled::Empty, 0)];
-    pull_each(&rt, &mut parts, &mut out, id, &pulls);
-    end_and_close(&rt, &mut parts, &mut out, id);
-    stop(&rt, &mut parts);
-    Ok(())
+    give_each(&rt, &mut parts, &mut out, &packet, THREE);
+    check_queue(&rt, &mut parts, &mut out, id);
+    check_end(&rt, &mut parts, &mut out, id);
+    parts.stop();
+    check_work(&rt, &parts, "work after the stop", Work::Stopping);
 }
