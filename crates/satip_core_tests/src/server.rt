@@ -1,25 +1,28 @@
 //! A small server, asked over RTSP.
 
+use crate::checks::check;
+use crate::given::{output, packet};
 use satip_base::{Out, SessionId};
 use satip_core::Server;
-use satip_fixtures::{CLIENT, DRAW, FIRST_MUX, PORTS, config_with, packet};
+use satip_fixtures::{CLIENT, DRAW, FIRST_MUX, PORTS, config_with};
 use satip_plain::{Answer, Beat, Event, Replied, Work};
 use satip_query::{Query, read};
 use satip_rtsp::{Method, Request, SessionName};
 use satip_ts::Packet;
 use std::alloc::Global;
 use std::process::Abort;
-use std::test::Fail;
 
 const FIRST: SessionId = SessionId { count: 1, word: 10 };
 
-/// A server with two front ends and one multiplex, at 1000 milliseconds.
-fn server(alloc: Global) -> Result<Server, Fail> {
-    let config = config_with(alloc, 2, &[FIRST_MUX])?;
-    Ok(Server::make(alloc, config, 1000)?)
+// Creates a server with two front ends and one multiplex, at 1000 milliseconds.
+fn server(rt: &impl Abort, alloc: Global) -> Server {
+    let Ok(config) = config_with(alloc, 2, &[FIRST_MUX]) else {
+        panic!(rt; "out of memory");
+    };
+    Server::make(alloc, config, 1000).expect(rt, "out of memory")
 }
 
-/// A request of this method in the first session.
+// Returns a request of this method in the first session.
 fn request(method: Method) -> Request {
     Request {
         cseq: Some(2),
@@ -32,16 +35,16 @@ fn request(method: Method) -> Request {
     }
 }
 
-/// A query for the multiplex.
-fn query(text: &[u8]) -> Result<Query, Fail> {
-    let mut query = Query::new();
-    read(text, &mut query).ok().ok_or("query")?;
-    Ok(query)
-}
-
 const FIRST_QUERY: &[u8] = b"src=1&freq=11361.75&pol=h&msys=dvbs2&sr=22000&pids=0,16";
 
-/// A SETUP of no session, which founds the first stream.
+// Returns a query for the multiplex.
+fn first_query(rt: &impl Abort) -> Query {
+    let mut query = Query::new();
+    read(FIRST_QUERY, &mut query).expect(rt, "query");
+    query
+}
+
+// Returns a SETUP of no session, which creates the first stream.
 fn setup(query: Query) -> Request {
     Request {
         method: Method::Setup,
@@ -53,33 +56,50 @@ fn setup(query: Query) -> Request {
     }
 }
 
-/// Makes a request, which is answered with this status.
-fn ask(rt: &impl Abort, server: &mut Server, out: &mut Out, request: &Request, status: u16) {
-    assert_eq!(rt; server.request(CLIENT, DRAW, request, out).status, status);
+// Makes a request, and asserts the status of its reply.
+fn ask(
+    rt: &impl Abort,
+    server: &mut Server,
+    out: &mut Out,
+    name: &str,
+    request: &Request,
+    status: u16,
+) {
+    let replied = server.request(CLIENT, DRAW, request, out);
+    check(rt, name, replied.status, status);
 }
 
-/// Makes a request, which is answered with this reply of status 200.
-fn ask_well(rt: &impl Abort, server: &mut Server, out: &mut Out, request: &Request, reply: &[u8]) {
-    ask(rt, server, out, request, 200);
-    assert_eq!(rt; out.reply(), reply);
+// Makes a request, and asserts that its reply is this one of status 200.
+fn ask_well(
+    rt: &impl Abort,
+    server: &mut Server,
+    out: &mut Out,
+    name: &str,
+    request: &Request,
+    reply: &[u8],
+) {
+    ask(rt, server, out, name, request, 200);
+    check(rt, name, out.reply(), reply);
 }
 
-/// Gives a packet again and again for a tune number, behind which so many datagrams leave.
+// The name of a packet, its tune number, and how many datagrams leave after it.
+type PacketRow = (&'static str, u64, usize);
+
+// Gives packets, and asserts how many datagrams leave after each.
 fn give_each(
     rt: &impl Abort,
     server: &mut Server,
     out: &mut Out,
     packet: &Packet,
-    tune: u64,
-    datagrams: &[usize],
+    rows: &[PacketRow],
 ) {
-    for count in datagrams {
-        let _work = server.packet(1, tune, packet, out);
-        assert_eq!(rt; out.count(), *count);
+    for (name, tune, datagrams) in rows {
+        let _work = server.packet(1, *tune, packet, out);
+        check(rt, name, out.count(), *datagrams);
     }
 }
 
-/// Makes a TEARDOWN of the first session as an event.
+// Makes a TEARDOWN of the first session as an event, and asserts its answer.
 fn tear_down(rt: &impl Abort, server: &mut Server, out: &mut Out) {
     let event = Event::Request {
         peer: CLIENT,
@@ -90,7 +110,7 @@ fn tear_down(rt: &impl Abort, server: &mut Server, out: &mut Out) {
         status: 200,
         closing: false,
     });
-    assert_eq!(rt; server.event(&event, out), ok);
+    check(rt, "TEARDOWN", server.event(&event, out), ok);
 }
 
 const SETUP_REPLY: &[u8] = b"RTSP/1.0 200 OK\r\n\
@@ -104,65 +124,82 @@ const PLAY_REPLY: &[u8] = b"RTSP/1.0 200 OK\r\n\
     Session: 000000010000000a\r\n\
     RTP-Info: url=rtsp://192.168.1.10/stream=1;seq=65535\r\n\r\n";
 
-/// Founds the first stream, whose front end's pump is told to tune, and plays it.
-fn set_up_and_play(rt: &impl Abort, server: &mut Server, out: &mut Out) -> Result<(), Fail> {
-    let setup = setup(query(FIRST_QUERY)?);
-    ask_well(rt, server, out, &setup, SETUP_REPLY);
-    assert_eq!(rt; server.ask(1, out), Work::Tune { mux: 1, tune: 1 });
-    ask_well(rt, server, out, &request(Method::Play), PLAY_REPLY);
-    Ok(())
+const TUNE: Work = Work::Tune { mux: 1, tune: 1 };
+
+// Creates the first stream, whose front end's pump is told to tune, and plays it.
+fn set_up_and_play(rt: &impl Abort, server: &mut Server, out: &mut Out) {
+    let setup = setup(first_query(rt));
+    ask_well(rt, server, out, "SETUP", &setup, SETUP_REPLY);
+    check(rt, "work", server.ask(1, out), TUNE);
+    let play = request(Method::Play);
+    ask_well(rt, server, out, "PLAY", &play, PLAY_REPLY);
 }
 
-/// Gives seven packets, behind the last of which a datagram leaves, and one of another tune number.
-fn give_seven(rt: &impl Abort, server: &mut Server, out: &mut Out, packet: &Packet) {
-    give_each(rt, server, out, packet, 1, &[0, 0, 0, 0, 0, 0, 1]);
-    give_each(rt, server, out, packet, 2, &[0]);
-}
+// A datagram leaves after the seventh packet of the tune number.
+const SEVEN: &[PacketRow] = &[
+    ("first", 1, 0),
+    ("second", 1, 0),
+    ("third", 1, 0),
+    ("fourth", 1, 0),
+    ("fifth", 1, 0),
+    ("sixth", 1, 0),
+    ("seventh", 1, 1),
+    ("of another tune number", 2, 0),
+];
 
-/// The recording ends, then the session by its TEARDOWN, after which none has its id.
+// Ends the recording, and then the session by its TEARDOWN, after which none has its id.
 fn end_all(rt: &impl Abort, server: &mut Server, out: &mut Out) {
-    assert_eq!(rt; server.ended(1, 1, out), Work::Nothing);
+    let work = server.ended(1, 1, out);
+    check(rt, "work after the end", work, Work::Nothing);
     tear_down(rt, server, out);
-    ask(rt, server, out, &request(Method::Options), 454);
+    let options = request(Method::Options);
+    ask(rt, server, out, "OPTIONS", &options, 454);
 }
 
 #[test]
-fn seven_packets_are_a_datagram(rt: HostRuntime) -> Result<(), Fail> {
-    let packet = packet(16)?;
-    let mut out = Out::make(rt.alloc())?;
-    let mut server = server(rt.alloc())?;
-    let played = set_up_and_play(&rt, &mut server, &mut out);
-    give_seven(&rt, &mut server, &mut out, &packet);
+fn seven_packets_are_a_datagram(rt: HostRuntime) {
+    let packet = packet(&rt, 16);
+    let mut out = output(&rt, rt.alloc());
+    let mut server = server(&rt, rt.alloc());
+    set_up_and_play(&rt, &mut server, &mut out);
+    give_each(&rt, &mut server, &mut out, &packet, SEVEN);
     end_all(&rt, &mut server, &mut out);
-    played
 }
 
-/// Makes a DESCRIBE of no session behind a tick at this moment, which is answered with this status.
-fn describe_at(rt: &impl Abort, server: &mut Server, out: &mut Out, now: u64, status: u16) {
+// Ticks at this moment, makes a DESCRIBE of no session, and asserts the status of its reply.
+fn describe_at(
+    rt: &impl Abort,
+    server: &mut Server,
+    out: &mut Out,
+    name: &str,
+    now: u64,
+    status: u16,
+) {
     let describe = Request {
         session: SessionName::Absent,
         ..request(Method::Describe)
     };
     let _beat = server.tick(now, out);
-    ask(rt, server, out, &describe, status);
+    ask(rt, server, out, name, &describe, status);
 }
 
-/// Stops, after which a front end's pump is told to stop.
-fn stop(rt: &impl Abort, server: &mut Server, out: &mut Out) {
-    assert_eq!(rt; server.stop(out), Beat::Stopping);
-    assert_eq!(rt; server.ask(1, out), Work::Stopping);
+// Stops, and asserts that a front end's pump is told to stop.
+fn check_stop(rt: &impl Abort, server: &mut Server, out: &mut Out) {
+    check(rt, "stop", server.stop(out), Beat::Stopping);
+    let work = server.ask(1, out);
+    check(rt, "work after the stop", work, Work::Stopping);
 }
 
 const NOT_FOUND: &[u8] = b"RTSP/1.0 404 Not Found\r\nCSeq: 2\r\n\r\n";
 
 #[test]
-fn a_session_that_is_not_heard_of_ends(rt: HostRuntime) -> Result<(), Fail> {
-    let mut out = Out::make(rt.alloc())?;
-    let mut server = server(rt.alloc())?;
-    ask(&rt, &mut server, &mut out, &setup(Query::new()), 200);
-    describe_at(&rt, &mut server, &mut out, 60999, 200);
-    describe_at(&rt, &mut server, &mut out, 61000, 404);
-    assert_eq!(rt; out.reply(), NOT_FOUND);
-    stop(&rt, &mut server, &mut out);
-    Ok(())
+fn a_session_that_is_not_heard_of_ends(rt: HostRuntime) {
+    let mut out = output(&rt, rt.alloc());
+    let mut server = server(&rt, rt.alloc());
+    let setup = setup(Query::new());
+    ask(&rt, &mut server, &mut out, "SETUP", &setup, 200);
+    describe_at(&rt, &mut server, &mut out, "in time", 60999, 200);
+    describe_at(&rt, &mut server, &mut out, "too late", 61000, 404);
+    check(&rt, "too late", out.reply(), NOT_FOUND);
+    check_stop(&rt, &mut server, &mut out);
 }
