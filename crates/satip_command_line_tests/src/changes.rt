@@ -1,9 +1,10 @@
 //! Journals of which one byte is another.
 
-use crate::runs::audit;
+use crate::checks::check;
+use crate::runs::run_by;
 use satip_fixtures::texts::CONFIGURATION;
 use std::alloc::Global;
-use std::test::Fail;
+use std::process::Abort;
 
 // A session: SETUP, a tick at 1000, PLAY, two packets, a tick at 1040, TEARDOWN, and the stop. The
 // last tick sends a datagram and a report. `*` stands for the digits of a packet of PID 16. Between
@@ -43,42 +44,46 @@ struct Marked {
 }
 
 impl Marked {
-    fn push(&mut self, byte: u8, free: bool) -> Result<(), Fail> {
-        self.text.push(byte)?;
-        self.free.push(free)?;
-        Ok(())
+    fn push(&mut self, rt: &impl Abort, byte: u8, free: bool) {
+        self.text.push(byte).expect(rt, "out of memory");
+        self.free.push(free).expect(rt, "out of memory");
     }
 
-    // The digits of a packet of PID 16.
-    fn push_packet(&mut self) -> Result<(), Fail> {
-        for byte in b"47001010" {
-            self.push(*byte, false)?;
+    // Appends bytes that may not be other ones.
+    fn push_fixed(&mut self, rt: &impl Abort, bytes: &[u8]) {
+        for byte in bytes {
+            self.push(rt, *byte, false);
         }
+    }
+
+    // Appends the digits of a packet of PID 16.
+    fn push_packet(&mut self, rt: &impl Abort) {
+        self.push_fixed(rt, b"47001010");
         for _digit in 0..368 {
-            self.push(b'f', false)?;
+            self.push(rt, b'f', false);
         }
-        Ok(())
     }
 }
 
-fn session(alloc: Global) -> Result<Marked, Fail> {
+// Reads the marks of a session.
+fn read_marks(rt: &impl Abort, alloc: Global, text: &[u8]) -> Marked {
     let mut marked = Marked {
         text: Vec::new(alloc),
         free: Vec::new(alloc),
     };
     let mut free = false;
-    for byte in SESSION {
+    for byte in text {
         match *byte {
             b'[' => free = true,
             b']' => free = false,
-            b'*' => marked.push_packet()?,
-            byte => marked.push(byte, free)?,
+            b'*' => marked.push_packet(rt),
+            byte => marked.push(rt, byte, free),
         }
     }
-    Ok(marked)
+    marked
 }
 
-// Another digit; of what is no digit, a digit.
+// Returns another digit; of what is no digit, a digit.
 fn other(byte: u8) -> u8 {
     match byte {
         b'0'..=b'8' => byte + 1,
@@ -88,42 +93,49 @@ fn other(byte: u8) -> u8 {
     }
 }
 
-// Whether the verdict on the text is `yes` where the byte at this place is another one.
-fn is_yes(alloc: Global, text: &[u8], at: usize, byte: u8) -> Result<bool, Fail> {
-    let mut text = Vec::from_slice(alloc, text)?;
+// Tells whether the verdict on the text is `yes`.
+fn is_yes(rt: &impl Abort, alloc: Global, text: &[u8]) -> bool {
+    let ran = run_by(rt, alloc, "audit", CONFIGURATION, text);
+    ran.output().starts_with(b"yes")
+}
+
+// Returns a text whose byte at this place is another one.
+fn changed(rt: &impl Abort, alloc: Global, text: &[u8], at: usize, byte: u8) -> Vec<u8> {
+    let mut text = Vec::from_slice(alloc, text).expect(rt, "out of memory");
     if let Some(place) = text.get_mut(at) {
         *place = byte;
     }
-    let ran = audit(alloc, CONFIGURATION, &text)?;
-    Ok(ran.output.sent().starts_with(b"yes"))
+    text
 }
 
-// Whether the verdict is `yes` of other bytes at this place exactly where it may be another digit.
-fn is_seen(alloc: Global, text: &[u8], at: usize, byte: u8, free: bool) -> Result<bool, Fail> {
-    for new in [other(byte), b' ', b'\n'] {
-        let legal = new == byte || free && new == other(byte);
-        if is_yes(alloc, text, at, new)? != legal {
-            return Ok(false);
-        }
-    }
-    Ok(true)
+// Asserts whether the verdict is `yes` if the byte at this place is this one.
+fn check_byte(rt: &impl Abort, alloc: Global, text: &[u8], at: usize, byte: u8, legal: bool) {
+    let found = is_yes(rt, alloc, &changed(rt, alloc, text, at, byte));
+    check(rt, "place, byte, yes", (at, byte, found), (at, byte, legal));
 }
 
-#[test]
-fn the_session_is_legal(rt: HostRuntime) -> Result<(), Fail> {
-    let session = session(rt.alloc())?;
-    assert!(rt; is_yes(rt.alloc(), &session.text, 0, b's')?);
-    Ok(())
+// Asserts that the verdict is `yes` of other bytes at this place exactly if that is another digit,
+// and it may be one.
+fn check_place(rt: &impl Abort, alloc: Global, text: &[u8], at: usize, byte: u8, free: bool) {
+    check_byte(rt, alloc, text, at, other(byte), free);
+    check_byte(rt, alloc, text, at, b' ', byte == b' ');
+    check_byte(rt, alloc, text, at, b'\n', byte == b'\n');
 }
 
-#[test]
-fn a_byte_that_is_another_one_is_seen(rt: HostRuntime) -> Result<(), Fail> {
-    let session = session(rt.alloc())?;
+// Asserts it of each place.
+fn check_places(rt: &impl Abort, alloc: Global, session: &Marked) {
     for (at, (byte, free)) in session.text.iter().zip(&session.free).enumerate() {
-        assert!(rt;
-            is_seen(rt.alloc(), &session.text, at, *byte, *free)?,
-            "at {at}"
-        );
+        check_place(rt, alloc, &session.text, at, *byte, *free);
     }
-    Ok(())
+}
+
+#[test]
+fn the_session_is_legal(rt: HostRuntime) {
+    let session = read_marks(&rt, rt.alloc(), SESSION);
+    check(&rt, "yes", is_yes(&rt, rt.alloc(), &session.text), true);
+}
+
+#[test]
+fn a_byte_that_is_another_one_is_seen(rt: HostRuntime) {
+    check_places(&rt, rt.alloc(), &read_marks(&rt, rt.alloc(), SESSION));
 }

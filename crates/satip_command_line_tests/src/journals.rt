@@ -1,73 +1,134 @@
 //! Journals of megabytes.
 
-use crate::runs::{audit, check};
+use crate::checks::check_above;
+use crate::runs::{check_ran, run_by};
 use satip_fixtures::texts::CONFIGURATION;
 use std::alloc::Global;
-use std::test::Fail;
+use std::process::Abort;
 
 const ONE_FRONT_END: &str =
     "address = \"192.168.1.10\"\n[[frontend]]\nsources = [1]\nsystems = [\"dvbs\"]\n";
 
-// A journal of ticks, each at the moment that its place has as a number. From one line to the next
-// the place rises by `step`, and goes on from the first one after the last.
-fn ticks(alloc: Global, count: u64, step: u64) -> Result<String, Fail> {
+// A journal of ticks, each at the moment that its place has as a number, and the verdict on it.
+#[derive(Clone, Copy)]
+struct Ticks {
+    name: &'static str,
+    // The text of the configuration.
+    text: &'static str,
+    caller: u8,
+    count: u64,
+    // The place of a line is this much above that of the line before it. It goes on from 0 at the
+    // count.
+    step: u64,
+    // The number, from 0, of the line that the start line follows.
+    start: u64,
+    // The place of the entry with another answer; the count for none.
+    wrong: u64,
+    output: &'static [u8],
+}
+
+impl Ticks {
+    // Returns the place of the next line.
+    fn next(&self, place: u64) -> u64 {
+        let next = place.saturating_add(self.step);
+        if next >= self.count {
+            next - self.count
+        } else {
+            next
+        }
+    }
+}
+
+// Appends the line of an entry.
+fn push_entry(rt: &impl Abort, text: &mut String, ticks: &Ticks, place: u64) {
+    let beat = if place == ticks.wrong { "01" } else { "00" };
+    let caller = ticks.caller;
+    writeln!(
+        text,
+        "entry {place} {caller} 02{place:016x}02{beat}000000000000"
+    )
+    .expect(rt, "out of memory");
+}
+
+// Returns the lines of a journal.
+fn text_of(rt: &impl Abort, alloc: Global, ticks: &Ticks) -> String {
     let mut text = String::new(alloc);
     let mut place: u64 = 0;
-    for _ in 0..count {
-        writeln!(text, "entry {place} 0 02{place:016x}0200000000000000")?;
-        place = place.saturating_add(step);
-        if place >= count {
-            place -= count;
+    for line in 0..ticks.count {
+        push_entry(rt, &mut text, ticks, place);
+        if line == ticks.start {
+            text.push_str("start 0\n").expect(rt, "out of memory");
         }
+        place = ticks.next(place);
     }
-    writeln!(text, "start 0")?;
-    Ok(text)
+    text
 }
 
-// The lines are in the order of their places, and shuffled: 60000 isn't divided by the prime 7919.
+// Asserts that a journal has more than two million bytes, and the verdict on it.
+fn check_ticks(rt: &impl Abort, alloc: Global, ticks: &Ticks) {
+    let text = text_of(rt, alloc, ticks);
+    check_above(rt, ticks.name, text.len(), 2000000);
+    let ran = run_by(rt, alloc, "audit", ticks.text, text.as_bytes());
+    check_ran(rt, ticks.name, &ran, 0, true, ticks.output, b"");
+}
+
+// Asserts it of each journal.
+fn check_journals(rt: &impl Abort, alloc: Global, rows: &[Ticks]) {
+    for ticks in rows {
+        check_ticks(rt, alloc, ticks);
+    }
+}
+
+// The lines are in the order of their places.
+const IN_ORDER: Ticks = Ticks {
+    name: "60000 ticks",
+    text: ONE_FRONT_END,
+    caller: 0,
+    count: 60000,
+    step: 1,
+    start: 59999,
+    wrong: 60000,
+    output: b"yes 60000\n",
+};
+
+// In order, and shuffled: 60000 isn't divided by the prime 7919.
+const ONE_CALLER: &[Ticks] = &[
+    IN_ORDER,
+    Ticks {
+        name: "60000 ticks, shuffled",
+        step: 7919,
+        ..IN_ORDER
+    },
+];
+
 #[test]
-fn a_journal_of_megabytes_is_judged(rt: HostRuntime) -> Result<(), Fail> {
-    for step in [1, 7919] {
-        let text = ticks(rt.alloc(), 60000, step)?;
-        assert!(rt; text.len() > 2000000, "{} bytes", text.len());
-        let ran = audit(rt.alloc(), ONE_FRONT_END, text.as_bytes())?;
-        check(&rt, "60000 ticks", &ran, 0, b"yes 60000\n", b"");
-    }
-    Ok(())
+fn a_journal_of_megabytes_is_judged(rt: HostRuntime) {
+    check_journals(&rt, rt.alloc(), ONE_CALLER);
 }
 
-// The count of entries of a long journal, of more than two million bytes.
-const TICKS: u64 = 50000;
+// The lines are shuffled, and the start line is in their middle.
+const RIGHT: Ticks = Ticks {
+    name: "right",
+    text: CONFIGURATION,
+    caller: 3,
+    count: 50000,
+    step: 7919,
+    start: 24999,
+    wrong: 50000,
+    output: b"yes 50000\n",
+};
 
-// A journal of ticks, each at the moment of its place. The lines are in another order than their
-// places, and the start line is in their middle. The entry at the place `wrong` has another answer.
-fn shuffled_ticks(alloc: Global, wrong: u64) -> Result<Vec<u8>, Fail> {
-    let mut text = Vec::new(alloc);
-    for line in 0..TICKS {
-        if line == TICKS / 2 {
-            text.extend_from_slice(b"start 0\n")?;
-        }
-        let place = line * 7919 % TICKS;
-        let beat = if place == wrong { "01" } else { "00" };
-        let entry = format!(in alloc; "entry {place} 3 02{place:016x}02{beat}000000000000\n")?;
-        text.extend_from_slice(entry.as_bytes())?;
-    }
-    Ok(text)
-}
+const RIGHT_AND_WRONG: &[Ticks] = &[
+    RIGHT,
+    Ticks {
+        name: "wrong",
+        wrong: 49999,
+        output: b"no differs 49999\n",
+        ..RIGHT
+    },
+];
 
 #[test]
-fn a_long_journal_in_another_order_is_judged(rt: HostRuntime) -> Result<(), Fail> {
-    let right = audit(
-        rt.alloc(),
-        CONFIGURATION,
-        &shuffled_ticks(rt.alloc(), TICKS)?,
-    )?;
-    check(&rt, "right", &right, 0, b"yes 50000\n", b"");
-    let wrong = audit(
-        rt.alloc(),
-        CONFIGURATION,
-        &shuffled_ticks(rt.alloc(), TICKS - 1)?,
-    )?;
-    check(&rt, "wrong", &wrong, 0, b"no differs 49999\n", b"");
-    Ok(())
+fn a_long_journal_in_another_order_is_judged(rt: HostRuntime) {
+    check_journals(&rt, rt.alloc(), RIGHT_AND_WRONG);
 }

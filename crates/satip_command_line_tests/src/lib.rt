@@ -6,6 +6,8 @@ mod audits;
 #[cfg(test)]
 mod changes;
 #[cfg(test)]
+mod checks;
+#[cfg(test)]
 mod journals;
 #[cfg(test)]
 mod real_desk;

@@ -1,85 +1,125 @@
 //! Replays over devices that fail.
 
-use crate::runs::{check, run};
-use satip_base::{ReadSource, Source};
+use crate::checks::check;
+use crate::runs::{EMPTY, Ran, Row, check_ran, run, run_long, run_rows};
 use satip_fixtures::texts::CONFIGURATION;
 use satip_memory::MemorySource;
-use satip_memory_desk::{MemoryDesk, Ran, desk_with};
+use satip_memory_desk::MemoryDesk;
 use std::alloc::Global;
-use std::io::{Read, repeat};
-use std::test::Fail;
+use std::process::Abort;
 
-const WORDS: [&str; 2] = ["replay", "c1.toml"];
+const WORDS: &[&str] = &["replay", "c1.toml"];
 
 const STOP: &[u8] = b"stop\n";
 
-// A replay by two front ends; a put that fails passes nine bytes.
-fn replay<I: Source + Drop>(alloc: Global, input: I, failing: &[u64]) -> Result<Ran, Fail> {
-    let mut desk = desk_with(alloc, CONFIGURATION.as_bytes(), &[])?;
-    run(alloc, &WORDS, input, failing, 9, &mut desk)
+// Runs a replay of a stop over a desk.
+fn stopped(rt: &impl Abort, alloc: Global, desk: &mut MemoryDesk) -> Ran {
+    let input = MemorySource::make(alloc, STOP, &[], &[]).expect(rt, "out of memory");
+    run(rt, alloc, WORDS, input, &[], 0, desk)
 }
 
-// A replay of a stop over a desk.
-fn stopped(alloc: Global, desk: &mut MemoryDesk) -> Result<Ran, Fail> {
-    let input = MemorySource::make(alloc, STOP, &[], &[])?;
-    run(alloc, &WORDS, input, &[], 0, desk)
-}
-
-#[test]
-fn a_configuration_that_cannot_be_opened_is_an_input_fault(rt: HostRuntime) -> Result<(), Fail> {
-    let alloc = rt.alloc();
+// Returns a desk that doesn't open its configuration at the first call.
+fn desk(rt: &impl Abort, alloc: Global) -> MemoryDesk {
     let mut desk = MemoryDesk::make(alloc, 1);
-    desk.add("c1.toml", CONFIGURATION.as_bytes(), &[])?;
-    let unopened = stopped(alloc, &mut desk)?;
-    check(&rt, "unopened", &unopened, 5, b"", b"input fault\n");
-    assert!(rt; !unopened.config);
-    assert_eq!(rt; stopped(alloc, &mut desk)?.status, 0);
-    Ok(())
+    desk.add("c1.toml", CONFIGURATION.as_bytes(), &[])
+        .expect(rt, "out of memory");
+    desk
 }
 
 #[test]
-fn a_take_of_a_configuration_that_fails_is_an_input_fault(rt: HostRuntime) -> Result<(), Fail> {
-    for failing in [1, 2] {
-        let mut desk = desk_with(rt.alloc(), CONFIGURATION.as_bytes(), &[failing])?;
-        let unread = stopped(rt.alloc(), &mut desk)?;
-        check(&rt, "a take", &unread, 5, b"", b"input fault\n");
-        assert!(rt; unread.config, "{failing}");
-    }
-    Ok(())
+fn a_configuration_that_cannot_be_opened_is_an_input_fault(rt: HostRuntime) {
+    let mut desk = desk(&rt, rt.alloc());
+    let unopened = stopped(&rt, rt.alloc(), &mut desk);
+    check_ran(&rt, "unopened", &unopened, 5, false, b"", b"input fault\n");
+    let opened = stopped(&rt, rt.alloc(), &mut desk);
+    check(&rt, "opened", opened.status, 0);
 }
 
-#[test]
-fn a_take_of_a_script_that_fails_is_an_input_fault(rt: HostRuntime) -> Result<(), Fail> {
-    for failing in [1, 2] {
-        let input = MemorySource::make(rt.alloc(), STOP, &[3], &[failing])?;
-        let unread = replay(rt.alloc(), input, &[])?;
-        check(&rt, "a take", &unread, 5, b"", b"input fault\n");
-        assert!(rt; unread.config, "{failing}");
-    }
-    Ok(())
-}
+// A replay of a stop by two front ends, whose input fails. A put that fails passes nine bytes.
+const UNREAD: Row = Row {
+    name: "a take",
+    words: WORDS,
+    text: CONFIGURATION,
+    input: &[(STOP, 1)],
+    passed: 9,
+    status: 5,
+    config: true,
+    errors: b"input fault\n",
+    ..EMPTY
+};
+
+const UNREAD_TEXTS: &[Row] = &[
+    Row {
+        name: "a take: the first",
+        text_faults: &[1],
+        ..UNREAD
+    },
+    Row {
+        name: "a take: the second",
+        text_faults: &[2],
+        ..UNREAD
+    },
+];
 
 #[test]
-fn an_output_that_fails_has_a_beginning_of_the_printed_run(rt: HostRuntime) -> Result<(), Fail> {
-    let input = MemorySource::make(rt.alloc(), b"tick 1\nask 1\n", &[], &[])?;
-    let ran = replay(rt.alloc(), input, &[1])?;
-    check(
-        &rt,
-        "the first put",
-        &ran,
-        6,
-        b"going\nnot",
-        b"output fault\n",
-    );
-    Ok(())
+fn a_take_of_a_configuration_that_fails_is_an_input_fault(rt: HostRuntime) {
+    run_rows(&rt, rt.alloc(), UNREAD_TEXTS);
 }
 
+const UNREAD_SCRIPTS: &[Row] = &[
+    Row {
+        name: "a take: the first",
+        pieces: &[3],
+        take_faults: &[1],
+        ..UNREAD
+    },
+    Row {
+        name: "a take: the second",
+        pieces: &[3],
+        take_faults: &[2],
+        ..UNREAD
+    },
+];
+
 #[test]
-fn an_input_of_67108865_bytes_is_too_long(rt: HostRuntime) -> Result<(), Fail> {
-    for byte in [b'\n', b'#'] {
-        let input = ReadSource::new(repeat(byte).take(67108865));
-        let ran = replay(rt.alloc(), input, &[])?;
-        check(&rt, "a byte more", &ran, 8, b"", b"input too long\n");
-    }
-    Ok(())
+fn a_take_of_a_script_that_fails_is_an_input_fault(rt: HostRuntime) {
+    run_rows(&rt, rt.alloc(), UNREAD_SCRIPTS);
+}
+
+const FAILING_PUTS: &[Row] = &[Row {
+    name: "the first put",
+    input: &[(b"tick 1\nask 1\n", 1)],
+    put_faults: &[1],
+    status: 6,
+    output: &[b"going\nnot"],
+    errors: b"output fault\n",
+    ..UNREAD
+}];
+
+#[test]
+fn an_output_that_fails_has_a_beginning_of_the_printed_run(rt: HostRuntime) {
+    run_rows(&rt, rt.alloc(), FAILING_PUTS);
+}
+
+const LONG: Row = Row {
+    name: "a byte more",
+    status: 8,
+    errors: b"input too long\n",
+    ..UNREAD
+};
+
+const LINE_ENDS: &Row = &Row {
+    name: "a byte more: line ends",
+    ..LONG
+};
+
+const NUMBER_SIGNS: &Row = &Row {
+    name: "a byte more: number signs",
+    ..LONG
+};
+
+#[test]
+fn an_input_of_67108865_bytes_is_too_long(rt: HostRuntime) {
+    run_long(&rt, rt.alloc(), LINE_ENDS, b'\n');
+    run_long(&rt, rt.alloc(), NUMBER_SIGNS, b'#');
 }
