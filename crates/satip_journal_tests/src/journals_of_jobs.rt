@@ -1,5 +1,6 @@
 //! The journals of a program, its workers and a ticker.
 
+use crate::checks::{check, check_least};
 use crate::judging::judged;
 use crate::kits::MemoryJournal;
 use crate::serving::{Plan, journals_of};
@@ -8,8 +9,8 @@ use satip_journal::Verdict;
 use std::alloc::Global;
 use std::process::Abort;
 
-// A serve with one worker.
-const ONE: Plan = Plan {
+// A serve to the end.
+const SERVED: Plan = Plan {
     workers: 1,
     journals: 3,
     failing_put: 0,
@@ -17,10 +18,28 @@ const ONE: Plan = Plan {
     failed: false,
 };
 
-const EIGHT: Plan = Plan {
+const ONE: &Plan = &Plan {
+    workers: 1,
+    ..SERVED
+};
+
+const EIGHT: &Plan = &Plan {
     workers: 8,
     journals: 10,
-    ..ONE
+    ..SERVED
+};
+
+const TOO_FEW: &Plan = &Plan {
+    journals: 2,
+    end: None,
+    failed: true,
+    ..SERVED
+};
+
+const FAILING: &Plan = &Plan {
+    failing_put: 1,
+    failed: true,
+    ..SERVED
 };
 
 // Returns the bytes of a job's journal.
@@ -41,8 +60,8 @@ fn backwards(rt: &impl Abort, alloc: Global, sinks: &[MemoryJournal]) -> Vec<u8>
     text
 }
 
-// Returns the lines of all journals, the last one first.
-fn lines_backwards(rt: &impl Abort, alloc: Global, sinks: &[MemoryJournal]) -> Vec<u8> {
+// Returns the lines of all journals.
+fn lines_of<'a>(rt: &impl Abort, alloc: Global, sinks: &'a [MemoryJournal]) -> Vec<&'a str> {
     let mut lines = Vec::new(alloc);
     for journal in sinks {
         let text = str::from_utf8(journal.sink().sent()).expect(rt, "text");
@@ -50,6 +69,11 @@ fn lines_backwards(rt: &impl Abort, alloc: Global, sinks: &[MemoryJournal]) -> V
             lines.push(line).expect(rt, "out of memory");
         }
     }
+    lines
+}
+
+// Returns lines one after another, the last one first.
+fn lines_backwards(rt: &impl Abort, alloc: Global, lines: &[&str]) -> Vec<u8> {
     let mut text = Vec::new(alloc);
     for line in lines.iter().rev() {
         text.extend_from_slice(line.as_bytes())
@@ -74,15 +98,20 @@ fn count_lines(text: &[u8]) -> u64 {
 // one history. Their server has this number of workers.
 fn check_history(rt: &impl Abort, alloc: Global, workers: u16, text: &[u8], least: u64) {
     let lines = count_lines(text);
-    assert!(rt; lines >= least, "{lines} lines");
+    check_least(rt, "lines", lines, least);
     let said = judged(rt, alloc, 0, workers, text);
-    assert_eq!(rt; said, Verdict::Yes(lines.saturating_sub(1)));
+    check(rt, "verdict", said, Verdict::Yes(lines.saturating_sub(1)));
+}
+
+// Asserts that a journal begins with this text.
+fn check_front<'a>(rt: &impl Abort, name: &str, journal: &'a [u8], front: &'a [u8]) {
+    check(rt, name, journal.get(..front.len()), Some(front));
 }
 
 #[test]
 fn the_programs_journal_begins_with_the_start(rt: HostRuntime) {
     let sinks = journals_of(&rt, rt.alloc(), ONE);
-    assert!(rt; journal_of(&sinks, 0).starts_with(b"start 1000\nentry "));
+    check_front(&rt, "job 0", journal_of(&sinks, 0), b"start 1000\nentry ");
 }
 
 #[test]
@@ -95,7 +124,8 @@ fn the_journals_of_all_jobs_are_one_history(rt: HostRuntime) {
 #[test]
 fn the_lines_of_ten_journals_in_another_order_are_one_history(rt: HostRuntime) {
     let sinks = journals_of(&rt, rt.alloc(), EIGHT);
-    let text = lines_backwards(&rt, rt.alloc(), &sinks);
+    let lines = lines_of(&rt, rt.alloc(), &sinks);
+    let text = lines_backwards(&rt, rt.alloc(), &lines);
     check_history(&rt, rt.alloc(), 8, &text, 11);
 }
 
@@ -110,53 +140,45 @@ fn job_on(line: &str) -> Option<&str> {
     Some(job)
 }
 
-// Asserts that each line of a job's journal has its number, but for the start line of job 0.
-fn check_lines(rt: &impl Abort, job: usize, number: &str, text: &str) {
-    for line in text.lines() {
-        match job_on(line) {
-            Some(found) => assert_eq!(rt; found, number, "journal {job}: {line}"),
-            None => assert_eq!(rt; (job, line), (0, "start 1000")),
-        }
+// Asserts that a line of a job's journal has its number, or is the start line of job 0.
+fn check_line<'a>(rt: &impl Abort, job: usize, number: &'a str, line: &'a str) {
+    match job_on(line) {
+        Some(found) => check(rt, line, (job, found), (job, number)),
+        None => check(rt, line, (job, line), (0, "start 1000")),
     }
 }
 
 // Asserts that a journal is that of a job.
 fn check_journal(rt: &impl Abort, alloc: Global, job: usize, journal: &MemoryJournal) {
-    assert_eq!(rt; journal.job(), job as u64);
-    let text = str::from_utf8(journal.sink().sent()).expect(rt, "text");
+    check(rt, "number", journal.job(), job as u64);
     let number = format!(in alloc; "{job}").expect(rt, "out of memory");
-    check_lines(rt, job, number.as_str(), text);
+    let text = str::from_utf8(journal.sink().sent()).expect(rt, "text");
+    for line in text.lines() {
+        check_line(rt, job, number.as_str(), line);
+    }
+}
+
+// Asserts that each journal is that of its job.
+fn check_journals(rt: &impl Abort, alloc: Global, sinks: &[MemoryJournal]) {
+    for (job, journal) in sinks.iter().enumerate() {
+        check_journal(rt, alloc, job, journal);
+    }
 }
 
 #[test]
 fn each_job_has_its_own_journal(rt: HostRuntime) {
-    let sinks = journals_of(&rt, rt.alloc(), EIGHT);
-    for (job, journal) in sinks.iter().enumerate() {
-        check_journal(&rt, rt.alloc(), job, journal);
-    }
+    check_journals(&rt, rt.alloc(), &journals_of(&rt, rt.alloc(), EIGHT));
 }
 
 #[test]
 fn without_all_journals_no_job_begins(rt: HostRuntime) {
-    let too_few = Plan {
-        journals: 2,
-        end: None,
-        failed: true,
-        ..ONE
-    };
-    let _sinks = journals_of(&rt, rt.alloc(), too_few);
+    let _sinks = journals_of(&rt, rt.alloc(), TOO_FEW);
 }
 
 #[test]
 fn a_journal_that_fails_ends_there_and_the_jobs_go_on(rt: HostRuntime) {
-    let failing = Plan {
-        failing_put: 1,
-        failed: true,
-        ..ONE
-    };
-    let sinks = journals_of(&rt, rt.alloc(), failing);
-    assert_eq!(rt; journal_of(&sinks, 0), b"start".as_slice());
-    for job in [1, 2] {
-        assert!(rt; journal_of(&sinks, job).starts_with(b"entry "), "job {job}");
-    }
+    let sinks = journals_of(&rt, rt.alloc(), FAILING);
+    check(&rt, "job 0", journal_of(&sinks, 0), b"start".as_slice());
+    check_front(&rt, "job 1", journal_of(&sinks, 1), b"entry ");
+    check_front(&rt, "job 2", journal_of(&sinks, 2), b"entry ");
 }

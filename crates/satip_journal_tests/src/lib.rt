@@ -2,6 +2,8 @@
 #![tactic(auto)]
 
 #[cfg(test)]
+mod checks;
+#[cfg(test)]
 mod journals_of_jobs;
 #[cfg(test)]
 mod judging;

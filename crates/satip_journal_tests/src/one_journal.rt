@@ -1,11 +1,13 @@
 //! The lines of one caller's journal.
 
+use crate::checks::{check, check_least};
 use crate::judging::judged;
 use crate::runs::{Case, Lots, Step, run_case};
-use satip_fixtures::texts::joined;
 use satip_journal::Verdict;
 use satip_plain::{Answer, Beat, Work};
-use std::test::Fail;
+use std::alloc::Global;
+use std::process::Abort;
+use std::sync::Wait;
 
 const ASK: Step = Step::Ask(Answer::Work(Work::Nothing));
 
@@ -75,15 +77,20 @@ const CASES: &[(Case, &[u8])] = &[
     ),
 ];
 
-#[test]
-fn a_journal_has_the_lines_of_its_entries(rt: HostRuntime) {
-    for (case, text) in CASES {
-        let journal = run_case(&rt, rt.alloc(), case);
-        assert_eq!(rt; journal.sink().sent(), *text, "{}", case.name);
+// Runs each case, and asserts the bytes of its journal.
+fn check_cases<R: Wait + Sync + Abort>(rt: &R, alloc: Global, cases: &[(Case, &[u8])]) {
+    for (case, text) in cases {
+        let journal = run_case(rt, alloc, case);
+        check(rt, case.name, journal.sink().sent(), *text);
     }
 }
 
-const LONG_LOT: Case = Case {
+#[test]
+fn a_journal_has_the_lines_of_its_entries(rt: HostRuntime) {
+    check_cases(&rt, rt.alloc(), CASES);
+}
+
+const LONG_LOT: &Case = &Case {
     name: "a lot of 70 questions",
     job: 3,
     steps: &[Step::Burst(Lots {
@@ -96,12 +103,12 @@ const LONG_LOT: Case = Case {
 
 #[test]
 fn a_burst_has_64_events_at_most(rt: HostRuntime) {
-    let journal = run_case(&rt, rt.alloc(), &LONG_LOT);
-    assert_eq!(rt; journal.sink().sent().len(), 10 * 33 + 54 * 34);
+    let journal = run_case(&rt, rt.alloc(), LONG_LOT);
+    check(&rt, "bytes", journal.sink().sent().len(), 10 * 33 + 54 * 34);
 }
 
 // Bursts of 64 questions, whose lines have more than four megabytes.
-const MANY_BURSTS: Case = Case {
+const MANY_BURSTS: &Case = &Case {
     name: "2048 bursts",
     steps: &[Step::Burst(Lots {
         bursts: 2048,
@@ -111,13 +118,19 @@ const MANY_BURSTS: Case = Case {
     ..EMPTY
 };
 
+// Returns the start line and a journal.
+fn with_start(rt: &impl Abort, alloc: Global, journal: &[u8]) -> Vec<u8> {
+    let start: &[u8] = b"start 1000\n";
+    let mut text = Vec::from_slice(alloc, start).expect(rt, "out of memory");
+    text.extend_from_slice(journal).expect(rt, "out of memory");
+    text
+}
+
 #[test]
-fn a_journal_of_some_megabytes_is_judged_yes(rt: HostRuntime) -> Result<(), Fail> {
-    let alloc = rt.alloc();
-    let journal = run_case(&rt, alloc, &MANY_BURSTS);
-    let text = joined(alloc, &[b"start 1000\n".as_slice(), journal.sink().sent()])?;
-    assert!(rt; text.len() > 4_000_000, "{} bytes", text.len());
-    let said = judged(&rt, alloc, 1, 8, &text);
-    assert_eq!(rt; said, Verdict::Yes(131_072));
-    Ok(())
+fn a_journal_of_some_megabytes_is_judged_yes(rt: HostRuntime) {
+    let journal = run_case(&rt, rt.alloc(), MANY_BURSTS);
+    let text = with_start(&rt, rt.alloc(), journal.sink().sent());
+    check_least(&rt, "bytes", text.len() as u64, 4_000_001);
+    let said = judged(&rt, rt.alloc(), 1, 8, &text);
+    check(&rt, "verdict", said, Verdict::Yes(131_072));
 }

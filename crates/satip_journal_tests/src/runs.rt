@@ -3,6 +3,7 @@
 ghost use Rattle.satip_plain.specs.Histories.{Legal};
 ghost use Rattle.satip_turn.specs.Shown.{IsOf, Knows};
 
+use crate::checks::check;
 use crate::kits::MemoryJournal;
 use crate::questions::Questions;
 use satip_base::Out;
@@ -52,87 +53,94 @@ pub(crate) struct Case {
     pub after: &'static [Step],
 }
 
-// The devices of a journal: an event's output, a sink, and the room of a line.
-#[derive(Drop)]
-struct Devices {
-    out: Out,
-    sink: MemoryJournal,
-    line: LineRoom,
-}
-
-fn make_devices(rt: &impl Abort, alloc: Global, case: &Case) -> Devices {
-    let sink = MemorySink::make(alloc, case.failing, 6).expect(rt, "out of memory");
-    Devices {
-        out: Out::make(alloc).expect(rt, "out of memory"),
-        sink: JobJournal::new(case.job, sink),
-        line: LineRoom::make(alloc).expect(rt, "out of memory"),
-    }
-}
-
 // Asserts that an event gets this answer.
-fn check_call<R: Wait + Sync + Abort>(
-    rt: &R,
-    journal: &mut Journal<R, MemoryJournal>,
+fn check_call<S: Service>(
+    rt: &impl Abort,
+    service: &mut S,
     out: &mut Out,
     event: &Event,
     answer: Answer,
     name: &str,
 ) {
-    assert_eq!(rt; journal.call(event, out), Ok(answer), "{name}");
+    check(rt, name, service.call(event, out), Ok(answer));
 }
 
 // Makes bursts, and asserts that each leaves its number of questions.
-fn check_bursts<R: Wait + Sync + Abort>(
-    rt: &R,
-    journal: &mut Journal<R, MemoryJournal>,
+fn check_bursts<S: Service>(
+    rt: &impl Abort,
+    service: &mut S,
     out: &mut Out,
     lots: Lots,
     name: &str,
 ) {
     for _ in 0..lots.bursts {
         let mut lot = Questions::new(lots.questions);
-        assert_eq!(rt; journal.burst(&mut lot, out), Ok(()), "{name}");
-        assert_eq!(rt; lot.left(), lots.left, "{name}");
+        check(rt, name, service.burst(&mut lot, out), Ok(()));
+        check(rt, name, lot.left(), lots.left);
+    }
+}
+
+// Takes a step, and asserts its result.
+fn take_step<S: Service>(rt: &impl Abort, service: &mut S, out: &mut Out, step: Step, name: &str) {
+    match step {
+        Step::Ask(answer) => {
+            check_call(rt, service, out, &Event::Ask { front: 1 }, answer, name);
+        }
+        Step::Stop(answer) => check_call(rt, service, out, &Event::Stop, answer, name),
+        Step::Burst(lots) => check_bursts(rt, service, out, lots, name),
     }
 }
 
 // Takes these steps, and asserts the result of each.
-fn take_steps<R: Wait + Sync + Abort>(
-    rt: &R,
-    journal: &mut Journal<R, MemoryJournal>,
+fn take_steps<S: Service>(
+    rt: &impl Abort,
+    service: &mut S,
     out: &mut Out,
     steps: &[Step],
     name: &str,
 ) {
     for step in steps {
-        match *step {
-            Step::Ask(answer) => {
-                check_call(rt, journal, out, &Event::Ask { front: 1 }, answer, name);
-            }
-            Step::Stop(answer) => check_call(rt, journal, out, &Event::Stop, answer, name),
-            Step::Burst(lots) => check_bursts(rt, journal, out, lots, name),
-        }
+        take_step(rt, service, out, *step, name);
     }
 }
 
-// Runs a case by a caller alone.
-fn run_alone<R: Wait + Sync + Abort>(
-    rt: &R,
-    server: &SharedServer,
+// Begins a case by a caller: creates its journal, and takes the first steps.
+fn begin<'a, R: Wait + Sync + Abort>(
+    rt: &'a R,
+    alloc: Global,
+    server: &'a SharedServer,
     pass: SharedPass,
-    devices: Devices,
+    out: &mut Out,
+    case: &Case,
+) -> Journal<'a, R, MemoryJournal>
+    requires of { IsOf pass server.now }
+    requires knows { Knows (Legal server.now.setting) pass }
+{
+    let sink = MemorySink::make(alloc, case.failing, 6).expect(rt, "out of memory");
+    let line = LineRoom::make(alloc).expect(rt, "out of memory");
+    let mut journal = Journal::new(
+        Caller { rt, server, pass },
+        case.job,
+        JobJournal::new(case.job, sink),
+        line,
+    );
+    take_steps(rt, &mut journal, out, case.steps, case.name);
+    journal
+}
+
+// Runs a case by a caller alone.
+fn run_alone<'a, R: Wait + Sync + Abort>(
+    rt: &'a R,
+    alloc: Global,
+    server: &'a SharedServer,
+    pass: SharedPass,
+    out: &mut Out,
     case: &Case,
 ) -> MemoryJournal
     requires of { IsOf pass server.now }
     requires knows { Knows (Legal server.now.setting) pass }
 {
-    let Devices {
-        mut out,
-        sink,
-        line,
-    } = devices;
-    let mut journal = Journal::new(Caller { rt, server, pass }, case.job, sink, line);
-    take_steps(rt, &mut journal, &mut out, case.steps, case.name);
+    let journal = begin(rt, alloc, server, pass, out, case);
     journal.sink
 }
 
@@ -142,31 +150,27 @@ fn stop<R: Wait + Sync + Abort>(rt: &R, server: &SharedServer, pass: SharedPass,
     requires knows { Knows (Legal server.now.setting) pass }
 {
     let mut caller = Caller { rt, server, pass };
-    assert!(rt; caller.call(&Event::Stop, out).is_ok());
+    let answered = caller.call(&Event::Stop, out).is_ok();
+    check(rt, "stop", answered, true);
 }
 
 // Runs a case by a caller that is split off from the first one, which stops the server.
-fn run_beside<R: Wait + Sync + Abort>(
-    rt: &R,
-    server: &SharedServer,
+fn run_beside<'a, R: Wait + Sync + Abort>(
+    rt: &'a R,
+    alloc: Global,
+    server: &'a SharedServer,
     pass: SharedPass,
-    devices: Devices,
+    out: &mut Out,
     case: &Case,
 ) -> MemoryJournal
     requires of { IsOf pass server.now }
     requires knows { Knows (Legal server.now.setting) pass }
 {
-    let Devices {
-        mut out,
-        sink,
-        line,
-    } = devices;
     let mut first = pass;
     let pass = server.split(&mut first);
-    let mut journal = Journal::new(Caller { rt, server, pass }, case.job, sink, line);
-    take_steps(rt, &mut journal, &mut out, case.steps, case.name);
-    stop(rt, server, first, &mut out);
-    take_steps(rt, &mut journal, &mut out, case.after, case.name);
+    let mut journal = begin(rt, alloc, server, pass, out, case);
+    stop(rt, server, first, out);
+    take_steps(rt, &mut journal, out, case.after, case.name);
     journal.sink
 }
 
@@ -176,7 +180,7 @@ pub(crate) fn run_case<R: Wait + Sync + Abort>(
     alloc: Global,
     case: &Case,
 ) -> MemoryJournal {
-    let devices = make_devices(rt, alloc, case);
+    let mut out = Out::make(alloc).expect(rt, "out of memory");
     let Ok(config) = config_with(alloc, 1, &[]) else {
         panic!(rt; "out of memory");
     };
@@ -185,8 +189,8 @@ pub(crate) fn run_case<R: Wait + Sync + Abort>(
     };
     let (server, pass) = made;
     if case.after.is_empty() {
-        run_alone(rt, &server, pass, devices, case)
+        run_alone(rt, alloc, &server, pass, &mut out, case)
     } else {
-        run_beside(rt, &server, pass, devices, case)
+        run_beside(rt, alloc, &server, pass, &mut out, case)
     }
 }

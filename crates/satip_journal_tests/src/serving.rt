@@ -2,12 +2,14 @@
 
 ghost use Rattle.std.specs.Prelude.{◌≡◌, [], length};
 
+use crate::checks::check;
 use crate::kits::{MemoryJournal, make_jobs};
 use satip_config::Config;
+use satip_desk::{Desk, Jobs};
 use satip_fixtures::config_with;
 use satip_jobs::ServeEnd;
 use satip_journal::serve_journaled;
-use satip_memory_desk::{MemoryDesk, MemoryJobs};
+use satip_memory_desk::MemoryDesk;
 use std::alloc::Global;
 use std::process::Abort;
 use std::sync::Wait;
@@ -27,23 +29,15 @@ pub(crate) struct Plan {
     pub failed: bool,
 }
 
-// The result of a serve: the sinks that the desk gave, whether a journal failed, and the end, if
-// any job began.
-#[derive(Drop)]
-struct Served {
-    sinks: Vec<MemoryJournal>,
-    failed: bool,
-    end: Option<ServeEnd>,
-}
-
-// Serves to the end with journals of the desk.
-fn serve<R: Threads + Wait + Sync + Abort>(
+// Serves to the end with journals of the desk. Returns the journals that the desk gave, whether one
+// failed, and the end, if any job began.
+fn serve<R: Threads + Wait + Sync + Abort, K: Desk>(
     rt: &R,
     alloc: Global,
     workers: u16,
-    jobs: MemoryJobs,
-    desk: &mut MemoryDesk,
-) -> Served
+    jobs: Jobs<K::Doors, K::Outlet, K::Pacer, K::Store, K::Clock>,
+    desk: &mut K,
+) -> (Vec<K::Journal>, bool, Option<ServeEnd>)
     requires workers { length jobs.workers.items ≡ workers }
     requires pumps { jobs.pumps.items ≡ [] }
 {
@@ -52,16 +46,8 @@ fn serve<R: Threads + Wait + Sync + Abort>(
     };
     let config = Config { workers, ..config };
     match serve_journaled(rt, alloc, config, jobs, desk) {
-        Ok((_last, written, end)) => Served {
-            sinks: written.sinks,
-            failed: written.failed,
-            end: Some(end),
-        },
-        Err(back) => Served {
-            sinks: back.sinks,
-            failed: back.failed,
-            end: None,
-        },
+        Ok((_last, written, end)) => (written.sinks, written.failed, Some(end)),
+        Err(back) => (back.sinks, back.failed, None),
     }
 }
 
@@ -69,15 +55,13 @@ fn serve<R: Threads + Wait + Sync + Abort>(
 pub(crate) fn journals_of<R: Threads + Wait + Sync + Abort>(
     rt: &R,
     alloc: Global,
-    plan: Plan,
+    plan: &Plan,
 ) -> Vec<MemoryJournal> {
+    let jobs = make_jobs(rt, alloc, plan.workers);
     let mut desk = MemoryDesk::make(alloc, 0);
     desk.open_journals(plan.journals, 0, plan.failing_put);
-    let jobs = make_jobs(rt, alloc, plan.workers);
-    let served = serve(rt, alloc, plan.workers, jobs, &mut desk);
-    assert_eq!(rt;
-        (served.end, served.failed, served.sinks.len() as u64),
-        (plan.end, plan.failed, plan.journals)
-    );
-    served.sinks
+    let (journals, failed, end) = serve(rt, alloc, plan.workers, jobs, &mut desk);
+    let got = (end, failed, journals.len() as u64);
+    check(rt, "serve", got, (plan.end, plan.failed, plan.journals));
+    journals
 }
