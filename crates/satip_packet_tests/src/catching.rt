@@ -2,8 +2,10 @@
 ghost use Rattle.std.specs.Prelude.{◌≡◌, true, false};
 ghost use Rattle.satip_rtp_receiver.specs.Catching.{Rests};
 
+use crate::checks::check;
 use satip_rtp_receiver::{Catcher, Item, read_rtp};
-use std::test::Fail;
+use std::alloc::Global;
+use std::process::Abort;
 
 const SOURCE: u32 = 0x11223344;
 
@@ -187,11 +189,14 @@ fn catches(catcher: &mut Catcher, row: &Row) -> bool
     gives_all(catcher, row.rest)
 }
 
-#[test]
-fn datagrams_are_caught_as_their_rows_say(rt: HostRuntime) -> Result<(), Fail> {
-    for row in ROWS {
-        let mut catcher = Catcher::make(rt.alloc())?;
-        assert!(rt; catches(&mut catcher, row), "{}", row.name);
+fn check_rows(rt: &impl Abort, alloc: Global, rows: &[Row]) {
+    for row in rows {
+        let mut catcher = Catcher::make(alloc).expect(rt, "out of memory");
+        check(rt, row.name, catches(&mut catcher, row), true);
     }
-    Ok(())
+}
+
+#[test]
+fn datagrams_are_caught_as_their_rows_say(rt: HostRuntime) {
+    check_rows(&rt, rt.alloc(), ROWS);
 }

@@ -4,6 +4,7 @@ mod plain;
 ghost use Rattle.std.specs.Prelude.{◌≡◌, ◌<◌};
 ghost use Rattle.satip_flow.specs.Subscriptions.{IsFrontOrNone};
 
+use crate::checks::check;
 use crate::filled::filled;
 use plain::Plain;
 use satip_base::{Address, Out};
@@ -12,21 +13,11 @@ use satip_flow::{Flow, Place};
 use satip_pids::PidSet;
 use satip_ts::Packet;
 use std::alloc::Global;
-use std::test::Fail;
+use std::process::Abort;
 
 const FIRST: Address = Address { ip: 1, port: 1400 };
 
 const SECOND: Address = Address { ip: 2, port: 1500 };
-
-// Gives a packet of front 1 this many times; the marks of the last time.
-fn give(flow: &mut Flow, packet: &Packet, times: u16, out: &mut Out) -> u64 {
-    let mut overrun = 0;
-    for _given in 0..times {
-        out.clear();
-        overrun = flow.packet(1, packet, 1000, out);
-    }
-    overrun
-}
 
 fn place_of(slot: u16, stream: u16, count: u32) -> Place
     ensures slot { result.slot ≡ slot }
@@ -47,28 +38,28 @@ fn sixteen() -> PidSet {
 
 /// Two RTP sessions that select all PIDs of front end 1, the later stream's first, and one without
 /// a front end.
-fn three_sessions(alloc: Global) -> Result<Flow, Fail> {
-    let mut flow = Flow::make(alloc)?;
+fn three_sessions(rt: &impl Abort, alloc: Global) -> Flow {
+    let mut flow = Flow::make(alloc).expect(rt, "out of memory");
     let mut all = PidSet::new();
     all.set_all();
     flow.add_rtp(place_of(5, 2, 1), Some(1), &all, SECOND, 7, 0);
     flow.add_rtp(place_of(0, 1, 2), Some(1), &all, FIRST, 8, 65535);
     flow.add_rtp(place_of(9, 3, 3), None, &all, FIRST, 9, 0);
-    Ok(flow)
+    flow
 }
 
 /// An RTP session of PID 16 at front end 1.
-fn one_session(alloc: Global) -> Result<Flow, Fail> {
-    let mut flow = Flow::make(alloc)?;
+fn one_session(rt: &impl Abort, alloc: Global) -> Flow {
+    let mut flow = Flow::make(alloc).expect(rt, "out of memory");
     flow.add_rtp(place_of(0, 1, 1), Some(1), &sixteen(), FIRST, 7, 9);
-    Ok(flow)
+    flow
 }
 
 /// A session over HTTP of PID 16 at front end 1.
-fn one_queue(alloc: Global) -> Result<Flow, Fail> {
-    let mut flow = Flow::make(alloc)?;
+fn one_queue(rt: &impl Abort, alloc: Global) -> Flow {
+    let mut flow = Flow::make(alloc).expect(rt, "out of memory");
     flow.add_http(place_of(3, 1, 1), Some(1), &sixteen());
-    Ok(flow)
+    flow
 }
 
 /// What a call answers, or what stands in the output behind it.
@@ -95,9 +86,15 @@ enum Step {
     State(u16, Option<(u16, u32, u32)>),
 }
 
-fn give_all(flow: &mut Flow, pid: u16, times: u16, out: &mut Out) -> Option<u64> {
+/// Gives a packet of front 1 this many times. Returns the marks of the last time.
+fn give(flow: &mut Flow, pid: u16, times: u16, out: &mut Out) -> Option<u64> {
     let packet = filled(pid)?;
-    Some(give(flow, &packet, times, out))
+    let mut overrun = 0;
+    for _given in 0..times {
+        out.clear();
+        overrun = flow.packet(1, &packet, 1000, out);
+    }
+    Some(overrun)
 }
 
 fn flush(flow: &mut Flow, slot: u16, clock: u64, out: &mut Out) -> bool {
@@ -140,7 +137,7 @@ fn state(flow: &Flow, slot: u16) -> Option<(u16, u32, u32)> {
 /// Whether a flow answers so.
 fn is_answered(flow: &mut Flow, out: &mut Out, step: Step) -> bool {
     match step {
-        Step::Give(pid, times, marks) => give_all(flow, pid, times, out) == Some(marks),
+        Step::Give(pid, times, marks) => give(flow, pid, times, out) == Some(marks),
         Step::Move => {
             flow.change(1, Some(2), &sixteen());
             true
@@ -157,15 +154,13 @@ fn is_answered(flow: &mut Flow, out: &mut Out, step: Step) -> bool {
     }
 }
 
-/// Takes all steps; the place of the first that isn't answered so.
-fn take_all(alloc: Global, flow: &mut Flow, steps: &[Step]) -> Result<Option<usize>, Fail> {
-    let mut out = Out::make(alloc)?;
+/// Takes all steps, and asserts that each is answered so.
+fn check_steps(rt: &impl Abort, alloc: Global, flow: &mut Flow, name: &str, steps: &[Step]) {
+    let mut out = Out::make(alloc).expect(rt, "out of memory");
     for (place, step) in steps.iter().enumerate() {
-        if !is_answered(flow, &mut out, *step) {
-            return Ok(Some(place));
-        }
+        let answered = is_answered(flow, &mut out, *step);
+        check(rt, name, (place, answered), (place, true));
     }
-    Ok(None)
 }
 
 const IN_ORDER: &[Step] = &[
@@ -180,10 +175,9 @@ const IN_ORDER: &[Step] = &[
 ];
 
 #[test]
-fn streams_and_their_sessions_get_packets_in_order(rt: HostRuntime) -> Result<(), Fail> {
-    let mut flow = three_sessions(rt.alloc())?;
-    assert_eq!(rt; take_all(rt.alloc(), &mut flow, IN_ORDER)?, None);
-    Ok(())
+fn streams_and_their_sessions_get_packets_in_order(rt: HostRuntime) {
+    let mut flow = three_sessions(&rt, rt.alloc());
+    check_steps(&rt, rt.alloc(), &mut flow, "three sessions", IN_ORDER);
 }
 
 const HELD: &[Step] = &[
@@ -203,10 +197,9 @@ const HELD: &[Step] = &[
 ];
 
 #[test]
-fn held_packets_stay_over_a_change_and_leave_at_a_flush(rt: HostRuntime) -> Result<(), Fail> {
-    let mut flow = one_session(rt.alloc())?;
-    assert_eq!(rt; take_all(rt.alloc(), &mut flow, HELD)?, None);
-    Ok(())
+fn held_packets_stay_over_a_change_and_leave_at_a_flush(rt: HostRuntime) {
+    let mut flow = one_session(&rt, rt.alloc());
+    check_steps(&rt, rt.alloc(), &mut flow, "one session", HELD);
 }
 
 const QUEUED: &[Step] = &[
@@ -222,10 +215,9 @@ const QUEUED: &[Step] = &[
 ];
 
 #[test]
-fn a_full_queue_takes_no_more(rt: HostRuntime) -> Result<(), Fail> {
-    let mut flow = one_queue(rt.alloc())?;
-    assert_eq!(rt; take_all(rt.alloc(), &mut flow, QUEUED)?, None);
-    Ok(())
+fn a_full_queue_takes_no_more(rt: HostRuntime) {
+    let mut flow = one_queue(&rt, rt.alloc());
+    check_steps(&rt, rt.alloc(), &mut flow, "one queue", QUEUED);
 }
 
 /// The flow, the one that it is compared with, and what each writes.
@@ -239,13 +231,13 @@ struct Both {
 
 impl Both {
     /// Both without a session.
-    fn make(alloc: Global) -> Result<Both, Fail> {
-        Ok(Both {
-            flow: Flow::make(alloc)?,
+    fn make(rt: &impl Abort, alloc: Global) -> Both {
+        Both {
+            flow: Flow::make(alloc).expect(rt, "out of memory"),
             plain: Plain::new(alloc),
-            out: Out::make(alloc)?,
-            other: Out::make(alloc)?,
-        })
+            out: Out::make(alloc).expect(rt, "out of memory"),
+            other: Out::make(alloc).expect(rt, "out of memory"),
+        }
     }
 
     /// Whether both wrote the same.
@@ -372,17 +364,16 @@ impl Both {
 }
 
 #[test]
-fn ten_thousand_calls_are_as_on_a_plain_list(rt: HostRuntime) -> Result<(), Fail> {
-    let mut both = Both::make(rt.alloc())?;
+fn ten_thousand_calls_are_as_on_a_plain_list(rt: HostRuntime) {
+    let mut both = Both::make(&rt, rt.alloc());
     let mut draw = FIRST_DRAW;
     for made in 0..10000u32 {
         draw = next_draw(draw);
-        let same = both.call(rt.alloc(), draw, made);
-        assert!(rt; same && both.wrote_same());
+        let same = both.call(rt.alloc(), draw, made) && both.wrote_same();
+        check(&rt, "a call", (made, same), (made, true));
     }
     for slot in 0..64 {
-        assert!(rt; both.ask(0, slot, 0));
+        check(&rt, "an end", (slot, both.ask(0, slot, 0)), (slot, true));
     }
-    assert!(rt; both.flow.is_unmarked());
-    Ok(())
+    check(&rt, "unmarked", both.flow.is_unmarked(), true);
 }

@@ -5,10 +5,11 @@ ghost use Rattle.satip_interleave.specs.Calls.{Enter, Put, Drain, Leave, after, 
 ghost use Rattle.satip_interleave.specs.Frames.{frame};
 ghost use Rattle.satip_interleave.specs.Lanes.{entered_number, no_lanes};
 
+use crate::checks::check;
 use satip_base::{Address, Out};
 use satip_interleave::{Drained, Lanes};
 use std::alloc::Global;
-use std::test::Fail;
+use std::process::Abort;
 
 // A datagram of 1140 bytes and a report of 152 bytes, with their heads.
 fn frames_begin_with_channel_and_length()
@@ -27,10 +28,8 @@ fn drain_takes_packet_and_report()
     ensures next { entered_number (after no_lanes (Enter ∷ Leave 1 ∷ [])) ≡ Some 2 }
 {}
 
-fn bytes(alloc: Global, count: usize, byte: u8) -> Result<Vec<u8>, Fail> {
-    let mut bytes = Vec::new(alloc);
-    bytes.resize(count, byte)?;
-    Ok(bytes)
+fn bytes(rt: &impl Abort, alloc: Global, count: usize, byte: u8) -> Vec<u8> {
+    vec![in alloc; byte; count].expect(rt, "out of memory")
 }
 
 fn to(ip: u32, port: u16) -> Address {
@@ -81,27 +80,24 @@ fn fills(reply: &[u8], from: usize, to: usize, byte: u8) -> bool {
     true
 }
 
-fn put(alloc: Global, lanes: &mut Lanes, step: Step) -> Result<(), Fail> {
-    match step {
-        Put(lane, port, text) => lanes.put(to(lane, port), text),
-        PutMany(lane, port, count, byte) => {
-            lanes.put(to(lane, port), &bytes(alloc, count, byte)?)
-        }
-        _ => (),
-    }
-    Ok(())
-}
-
-// Whether a call is answered so; a put isn't answered.
-fn is_answered(lanes: &mut Lanes, out: &mut Out, step: Step) -> bool {
+// Takes a step. Tells whether it is answered so; a put isn't answered.
+fn take(rt: &impl Abort, alloc: Global, lanes: &mut Lanes, out: &mut Out, step: Step) -> bool {
     match step {
         Enter(number) => lanes.enter() == number,
+        Put(lane, port, text) => {
+            lanes.put(to(lane, port), text);
+            true
+        }
+        PutMany(lane, port, count, byte) => {
+            let text = bytes(rt, alloc, count, byte);
+            lanes.put(to(lane, port), &text);
+            true
+        }
         Drain(lane, drained) => drain(lanes, lane, out) == drained,
         Leave(lane, held) => lanes.leave(lane) == held,
         Length(length) => out.reply().len() == length,
         Has(place, text) => behind(out.reply(), place).starts_with(text),
         Fills(from, to, byte) => fills(out.reply(), from, to, byte),
-        _ => true,
     }
 }
 
@@ -192,47 +188,50 @@ const ROWS: &[Row] = &[
     ),
 ];
 
-// Takes a step. Whether it is answered as it is to be.
-fn take(alloc: Global, lanes: &mut Lanes, out: &mut Out, step: Step) -> Result<bool, Fail> {
-    put(alloc, lanes, step)?;
-    Ok(is_answered(lanes, out, step))
-}
-
-// Takes steps, and stops at the first that isn't answered so.
+// Takes steps. Returns the place of the first that isn't answered so.
 fn take_each(
+    rt: &impl Abort,
     alloc: Global,
     lanes: &mut Lanes,
     out: &mut Out,
     steps: &[Step],
-) -> Result<bool, Fail> {
-    for step in steps {
-        if !take(alloc, lanes, out, *step)? {
-            return Ok(false);
+) -> Option<usize> {
+    for (place, step) in steps.iter().enumerate() {
+        if !take(rt, alloc, lanes, out, *step) {
+            return Some(place);
         }
     }
-    Ok(true)
+    None
 }
 
-// Takes all steps, each list so often, and stops at the first that isn't answered so.
-fn take_all(alloc: Global, lanes: &mut Lanes, lists: &[(u32, &[Step])]) -> Result<bool, Fail> {
-    let mut out = Out::make(alloc)?;
-    for (times, steps) in lists {
+// Takes all steps, each list so often, and asserts that each is answered so. A failure tells the
+// list, and the place in it of the first step that isn't.
+fn check_lists(
+    rt: &impl Abort,
+    alloc: Global,
+    lanes: &mut Lanes,
+    name: &str,
+    lists: &[(u32, &[Step])],
+) {
+    let mut out = Out::make(alloc).expect(rt, "out of memory");
+    for (list, (times, steps)) in lists.iter().enumerate() {
         for _ in 0..*times {
-            if !take_each(alloc, lanes, &mut out, steps)? {
-                return Ok(false);
-            }
+            let wrong = take_each(rt, alloc, lanes, &mut out, steps);
+            check(rt, name, (list, wrong), (list, None));
         }
     }
-    Ok(true)
+}
+
+fn check_rows(rt: &impl Abort, alloc: Global, rows: &[Row]) {
+    for (name, lists) in rows {
+        let mut lanes = Lanes::make(alloc).expect(rt, "out of memory");
+        check_lists(rt, alloc, &mut lanes, name, lists);
+    }
 }
 
 #[test]
-fn lanes_answer_as_their_rows_say(rt: HostRuntime) -> Result<(), Fail> {
-    for (name, lists) in ROWS {
-        let mut lanes = Lanes::make(rt.alloc())?;
-        assert!(rt; take_all(rt.alloc(), &mut lanes, lists)?, "{name}");
-    }
-    Ok(())
+fn lanes_answer_as_their_rows_say(rt: HostRuntime) {
+    check_rows(&rt, rt.alloc(), ROWS);
 }
 
 const LEFT: &[(u32, &[Step])] = &[(
@@ -251,11 +250,10 @@ const LEFT: &[(u32, &[Step])] = &[(
 )];
 
 #[test]
-fn numbers_go_on_where_lanes_are_left(rt: HostRuntime) -> Result<(), Fail> {
-    let mut lanes = Lanes::make(rt.alloc())?;
+fn numbers_go_on_where_lanes_are_left(rt: HostRuntime) {
+    let mut lanes = Lanes::make(rt.alloc()).expect(&rt, "out of memory");
     for number in 1..65 {
-        assert_eq!(rt; lanes.enter(), Some(number));
+        check(&rt, "a number", lanes.enter(), Some(number));
     }
-    assert!(rt; take_all(rt.alloc(), &mut lanes, LEFT)?);
-    Ok(())
+    check_lists(&rt, rt.alloc(), &mut lanes, "64 lanes", LEFT);
 }

@@ -4,6 +4,8 @@
 #[cfg(test)]
 mod catching;
 #[cfg(test)]
+mod checks;
+#[cfg(test)]
 mod filled;
 #[cfg(test)]
 mod flow;

@@ -8,11 +8,12 @@ ghost use Rattle.satip_rtp.specs.Cut.{cut};
 ghost use Rattle.satip_rtp.specs.Bytes.{rtp_header};
 ghost use Rattle.satip_rtp.specs.Held.{packets_in};
 
+use crate::checks::check;
 use satip_base::{Address, Out};
 use satip_rtp::Packer;
 use satip_ts::Packet;
 use std::alloc::Global;
-use std::test::Fail;
+use std::process::Abort;
 
 const TO: Address = Address {
     ip: 3232235796,
@@ -63,46 +64,38 @@ fn state(packer: &Packer) -> (u16, u32, u32) {
     (packer.next(), packer.datagrams(), packer.octets())
 }
 
-// What eight packets and two flushes come to: the packer, what it sent, and whether each flush
-// sent.
-fn send_eight(alloc: Global) -> Result<(Packer, Out, [bool; 2]), Fail> {
-    let mut out = Out::make(alloc)?;
-    let packet = Packet::of(&[0x47; 188]).ok_or("packet")?;
+// Returns what eight packets and two flushes come to: the packer, what it sent, and whether each
+// flush sent.
+fn send_eight(rt: &impl Abort, alloc: Global) -> (Packer, Out, [bool; 2]) {
+    let mut out = Out::make(alloc).expect(rt, "out of memory");
+    let packet = Packet::of(&[0x47; 188]).expect(rt, "packet");
     let mut packer = Packer::new(0x11223344, 65535);
     push_packets(&mut packer, &packet, 8, &mut out);
     let first = packer.flush(1000, TO, &mut out);
     let second = packer.flush(1000, TO, &mut out);
-    Ok((packer, out, [first, second]))
+    (packer, out, [first, second])
 }
 
 #[test]
-fn the_seventh_packet_sends_and_the_number_wraps(rt: HostRuntime) -> Result<(), Fail> {
-    let (_, out, flushed) = send_eight(rt.alloc())?;
-    assert_eq!(rt; flushed, [true, false]);
+fn the_seventh_packet_sends_and_the_number_wraps(rt: HostRuntime) {
+    let (packer, out, flushed) = send_eight(&rt, rt.alloc());
+    let counted = (flushed, out.count(), state(&packer));
+    check(&rt, "counts", counted, ([true, false], 2, (1, 2, 1504)));
     let first = b"\x80\x21\xff\xff\x00\x01\x5f\x90\x11\x22\x33\x44";
-    assert!(rt; is_sent(&out, 0, first, 1316));
     let second = b"\x80\x21\x00\x00\x00\x01\x5f\x90\x11\x22\x33\x44";
-    assert!(rt; is_sent(&out, 1, second, 188));
-    Ok(())
+    let sent = [is_sent(&out, 0, first, 1316), is_sent(&out, 1, second, 188)];
+    check(&rt, "datagrams", sent, [true, true]);
 }
 
 #[test]
-fn datagrams_and_octets_are_counted(rt: HostRuntime) -> Result<(), Fail> {
-    let (packer, out, _) = send_eight(rt.alloc())?;
-    assert_eq!(rt; out.count(), 2);
-    assert_eq!(rt; state(&packer), (1, 2, 1504));
-    Ok(())
-}
-
-#[test]
-fn six_packets_wait_for_a_flush(rt: HostRuntime) -> Result<(), Fail> {
-    let mut out = Out::make(rt.alloc())?;
-    let packet = Packet::of(&[0x47; 188]).ok_or("packet")?;
+fn six_packets_wait_for_a_flush(rt: HostRuntime) {
+    let mut out = Out::make(rt.alloc()).expect(&rt, "out of memory");
+    let packet = Packet::of(&[0x47; 188]).expect(&rt, "packet");
     let mut packer = Packer::new(0x11223344, 65535);
     push_packets(&mut packer, &packet, 6, &mut out);
-    assert_eq!(rt; out.count(), 0);
-    assert!(rt; packer.flush(1040, TO, &mut out));
+    let waiting = out.count();
+    let flushed = packer.flush(1040, TO, &mut out);
     let head = b"\x80\x21\xff\xff\x00\x01\x6d\xa0\x11\x22\x33\x44";
-    assert!(rt; is_sent(&out, 0, head, 1128));
-    Ok(())
+    let sent = is_sent(&out, 0, head, 1128);
+    check(&rt, "six", (waiting, flushed, sent), (0, true, true));
 }

@@ -2,9 +2,10 @@
 ghost use Rattle.std.specs.Prelude.{◌≡◌, [], ◌∷◌, ◌++◌, replicate};
 ghost use Rattle.satip_ts.specs.Recording.{cut_packets};
 
+use crate::checks::check;
 use crate::filled::{filled, filled_bytes};
 use satip_ts::{Cutter, Packet};
-use std::test::Fail;
+use std::process::Abort;
 
 // Bytes before a packet and a shorter rest are dropped.
 fn worked_recording()
@@ -12,11 +13,6 @@ fn worked_recording()
         ++ replicate 100 71)
         ≡ replicate 188 71 ∷ (71 ∷ replicate 187 2) ∷ [] }
 {}
-
-// Whether the cutter takes all of these bytes.
-fn takes(cutter: &mut Cutter, bytes: &[u8]) -> bool {
-    cutter.feed(bytes) == bytes.len()
-}
 
 // Whether the next packet is the one of this PID.
 fn hands_out(cutter: &mut Cutter, pid: u16) -> bool {
@@ -31,63 +27,73 @@ fn hands_out(cutter: &mut Cutter, pid: u16) -> bool {
 #[test]
 fn packets_of_a_recording(rt: HostRuntime) {
     let mut cutter = Cutter::new();
-    let first = filled_bytes(16);
-    let second = filled_bytes(17);
-    let rest = [0x47u8; 100];
-    for bytes in [b"\0\x01\x02\x03\x04".as_slice(), &first, &second, &rest] {
-        assert!(rt; takes(&mut cutter, bytes));
+    let before = cutter.feed(b"\0\x01\x02\x03\x04");
+    let first = cutter.feed(&filled_bytes(16));
+    let second = cutter.feed(&filled_bytes(17));
+    let rest = cutter.feed(&[0x47; 100]);
+    check(
+        &rt,
+        "taken",
+        [before, first, second, rest],
+        [5, 188, 188, 100],
+    );
+    let handed = [hands_out(&mut cutter, 16), hands_out(&mut cutter, 17)];
+    let over = cutter.next().is_none();
+    check(&rt, "handed out", (handed, over), ([true, true], true));
+}
+
+// Feeds the packet of a PID byte by byte, and asserts that what is handed out is this packet.
+// Returns how often one is.
+fn feed_bytes(rt: &impl Abort, cutter: &mut Cutter, pid: u16) -> u8 {
+    let mut handed = 0u8;
+    for byte in filled_bytes(pid) {
+        cutter.feed(&[byte]);
+        if let Some(packet) = cutter.next() {
+            handed = handed.saturating_add(1);
+            check(rt, "a packet", Some(packet), filled(pid));
+        }
     }
-    for pid in [16, 17] {
-        assert!(rt; hands_out(&mut cutter, pid));
-    }
-    assert!(rt; cutter.next().is_none());
+    handed
 }
 
 #[test]
-fn one_byte_at_a_time(rt: HostRuntime) -> Result<(), Fail> {
+fn one_byte_at_a_time(rt: HostRuntime) {
     let mut cutter = Cutter::new();
-    let mut handed = 0u8;
-    for pid in [1, 2, 3] {
-        for byte in filled_bytes(pid) {
-            cutter.feed(&[byte]);
-            if let Some(packet) = cutter.next() {
-                handed = handed.saturating_add(1);
-                assert!(rt; packet == filled(pid).ok_or("packet")?);
-            }
-        }
-    }
-    assert_eq!(rt; handed, 3);
-    Ok(())
+    let first = feed_bytes(&rt, &mut cutter, 1);
+    let second = feed_bytes(&rt, &mut cutter, 2);
+    let third = feed_bytes(&rt, &mut cutter, 3);
+    check(&rt, "packets", [first, second, third], [1, 1, 1]);
 }
 
 #[test]
 fn two_hundred_packets(rt: HostRuntime) {
     let mut cutter = Cutter::new();
-    let mut handed = 0u8;
     for pid in 0..200 {
-        assert_eq!(rt; cutter.feed(&filled_bytes(pid)), 188);
-        if cutter.next().is_some() {
-            handed = handed.saturating_add(1);
-        }
+        let taken = cutter.feed(&filled_bytes(pid));
+        let handed = cutter.next().is_some();
+        check(&rt, "a packet", (pid, taken, handed), (pid, 188, true));
     }
-    assert_eq!(rt; handed, 200);
 }
 
 #[test]
 fn no_more_than_4096_bytes_are_held(rt: HostRuntime) {
     let mut cutter = Cutter::new();
     let taken = [cutter.feed(&[0x47; 5000]), cutter.feed(&[0x47; 10])];
-    assert_eq!(rt; taken, [4096, 0]);
-    assert!(rt; cutter.next().is_some());
-    assert_eq!(rt; cutter.feed(&[0x47; 200]), 188);
+    let handed = cutter.next().is_some();
+    let then = cutter.feed(&[0x47; 200]);
+    check(&rt, "bytes", (taken, handed, then), ([4096, 0], true, 188));
+}
+
+fn pid_of(bytes: &[u8; 188]) -> Option<u16> {
+    let packet = Packet::of(bytes)?;
+    Some(packet.pid())
 }
 
 #[test]
-fn thirteen_bits_are_the_pid(rt: HostRuntime) -> Result<(), Fail> {
+fn thirteen_bits_are_the_pid(rt: HostRuntime) {
     let mut bytes = filled_bytes(0xfe);
     bytes[1] = 0xff;
-    assert_eq!(rt; Packet::of(&bytes).ok_or("packet")?.pid(), 8190);
+    let pid = pid_of(&bytes);
     bytes[0] = 0x48;
-    assert!(rt; Packet::of(&bytes).is_none());
-    Ok(())
+    check(&rt, "PIDs", [pid, pid_of(&bytes)], [Some(8190), None]);
 }

@@ -1,12 +1,13 @@
 //! The packer in place beside the plain one, over many calls.
 
 use super::plain::PlainPacker;
+use crate::checks::check;
 use satip_base::{Address, Out};
 use satip_fixtures::draws::next_word;
 use satip_rtp::Packer;
 use satip_ts::Packet;
 use std::alloc::Global;
-use std::test::Fail;
+use std::process::Abort;
 
 /// Both packers, each with what its last call wrote.
 #[derive(Drop)]
@@ -19,10 +20,10 @@ struct Sides {
 
 impl Sides {
     /// Both with the same source and first number.
-    fn make(alloc: Global) -> Result<Sides, Fail> {
-        Ok(Sides {
+    fn make(rt: &impl Abort, alloc: Global) -> Sides {
+        Sides {
             packer: Packer::new(0x11223344, 65000),
-            out: Out::make(alloc)?,
+            out: Out::make(alloc).expect(rt, "out of memory"),
             plain: PlainPacker {
                 ssrc: 0x11223344,
                 next: 65000,
@@ -31,8 +32,8 @@ impl Sides {
                 places: [[0; 188]; 7],
                 count: 0,
             },
-            plain_out: Out::make(alloc)?,
-        })
+            plain_out: Out::make(alloc).expect(rt, "out of memory"),
+        }
     }
 
     /// Makes the same call of both, which a word stands for: one in eight flushes, and each other
@@ -87,14 +88,14 @@ fn packet_of(word: u64) -> Option<Packet> {
 }
 
 #[test]
-fn the_packer_does_what_the_plain_one_does(rt: HostRuntime) -> Result<(), Fail> {
-    let mut sides = Sides::make(rt.alloc())?;
+fn the_packer_does_what_the_plain_one_does(rt: HostRuntime) {
+    let mut sides = Sides::make(&rt, rt.alloc());
     let mut word = 7;
     for _call in 0..10_000u32 {
         word = next_word(word);
-        assert!(rt; sides.agree_on(word));
+        check(&rt, "a call", (word, sides.agree_on(word)), (word, true));
     }
-    assert!(rt; sides.packer.datagrams() > 1000);
-    assert!(rt; sides.packer.next() < 65000);
-    Ok(())
+    let (datagrams, next) = (sides.packer.datagrams(), sides.packer.next());
+    let many = (datagrams > 1000, next < 65000);
+    check(&rt, "datagrams and numbers", many, (true, true));
 }
