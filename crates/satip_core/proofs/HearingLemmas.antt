@@ -5,15 +5,13 @@ use Rattle.satip_plain.specs.Types.{Request}
 use Rattle.satip_plain.specs.State.{Session, State}
 use Rattle.satip_plain.specs.Sending.{settle}
 use Rattle.satip_plain.specs.Steps.{accepted, hear, teardown_of}
-use Rattle.satip_state.specs.Seated.{row_of}
 use Rattle.satip_core.specs.Doing.{torn_down}
+use Rattle.satip_core.specs.RefusalRows.{party_of}
 use Rattle.satip_core.specs.Rows.{id_in}
 
--- the session of a row has the row's id
-pub id_row : (o : Option Session) → id_in (option_map row_of o) ≡ option_map (λ s. s.id) o
-unfolding row_of
-id_row None = refl
-id_row (Some s) = refl
+pub id_party : (o : Option Session) → id_in (option_map party_of o) ≡ option_map (λ s. s.id) o
+id_party None = refl
+id_party (Some s) = refl
 
 -- the session is heard of, by its id
 pub heard_as : (b : Bool) (o : Option Session) (st : State)

@@ -44,6 +44,15 @@ kind_played id own (s ∷ ss) = by (is_session own s) (kind_played id own ss)
     by true rest = kind_cons (is_session id s) _ s _ _ refl rest
     by false rest = kind_cons (is_session id s) s s _ _ refl rest
 
+pub kind_heard : (id own : SessionId) (clock : ℕ) (ss : List Session) → kind id (change_where (is_session own) (λ x. record x { heard = clock }) ss) ≡ kind id ss
+kind_heard id own clock [] = refl
+kind_heard id own clock (s ∷ ss) = by (is_session own s) (kind_heard id own clock ss)
+  where
+    by : (b : Bool) → kind id (change_where (is_session own) (λ x. record x { heard = clock }) ss) ≡ kind id ss
+        → kind id (cond b (record s { heard = clock }) s ∷ change_where (is_session own) (λ x. record x { heard = clock }) ss) ≡ kind id (s ∷ ss)
+    by true rest = kind_cons (is_session id s) _ s _ _ refl rest
+    by false rest = kind_cons (is_session id s) s s _ _ refl rest
+
 put_keeps : (c : Config) (n : ℕ) (tuning : Tuning) (now : State) (o : Option Place) → (option_map_or (put_at c n tuning now) o now).sessions ≡ now.sessions
 put_keeps c n tuning now None = refl
 put_keeps c n tuning now (Some place) = refl

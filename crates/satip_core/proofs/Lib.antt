@@ -7,3 +7,4 @@ pub mod PlayLemmas
 pub mod ServingLemmas
 pub mod HistoryLemmas
 pub mod PlaceLemmas
+pub mod FindingLemmas

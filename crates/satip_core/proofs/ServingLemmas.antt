@@ -1,7 +1,7 @@
 -- Steps of the server, by what its fields keep.
-use Rattle.std.proofs.Common.{◌≡◌, ◌∙◌, ℕ, List, [], ◌∷◌, map, Option, Some, None, refl, ap, sym, subst}
+use Rattle.std.proofs.Common.{◌≡◌, ◌∙◌, ℕ, List, [], ◌∷◌, ◌++◌, map, Option, Some, None, refl, ap, sym, subst}
 use Rattle.std.specs.Option.{option_map_or}
-use Rattle.satip_base.specs.Output.{Output, empty}
+use Rattle.satip_base.specs.Output.{Output, Wrote, empty}
 use Rattle.satip_plain.specs.declared.answers.Answer.{Answer}
 use Rattle.satip_plain.specs.declared.answers.Answer.TheVariants.{Pulled, Closed}
 use Rattle.satip_plain.specs.declared.answers.Pulled.TheVariants.{Gone as PulledGone}
@@ -9,12 +9,12 @@ use Rattle.satip_plain.specs.declared.answers.Closed.TheVariants.{Yes, Gone as C
 use Rattle.satip_plain.specs.declared.events.Event.{Event}
 use Rattle.satip_plain.specs.Types.{Config, SessionId}
 use Rattle.satip_plain.specs.State.{Session, State, held, http_session}
-use Rattle.satip_plain.specs.Sending.{settle}
+use Rattle.satip_plain.specs.Sending.{Move, settle}
 use Rattle.satip_plain.specs.Steps.{Outcome, end_where, is_session, on_close, on_pull, outcome, pull_some, step}
 use Rattle.satip_plain.specs.Laws.{Leaves}
 use Rattle.satip_plain.specs.Histories.{datagram}
 use Rattle.satip_state.specs.Kept.{Kept}
-use Rattle.satip_state.specs.Standing.{StandsFor}
+use Rattle.satip_state.specs.Standing.{Moved, StandsFor}
 use Rattle.satip_core.specs.Held.{Held}
 use Rattle.satip_core.specs.Doing.{Did}
 use Rattle.satip_core.specs.Serving.{Stands}
@@ -59,4 +59,23 @@ did_quietly c v o said done cleared stands answer quiet silent = record {
   answer = answer;
   reply = ap (λ (x : Output). x.reply) cleared ∙ sym quiet;
   datagrams = ap (λ (x : Output). x.datagrams) cleared ∙ ap (map datagram) (sym silent);
+}
+
+-- a pull and a close, after what was written before was cleared
+pub did_pull : (c : Config) (v : Kept) (o n : Output) (said : Answer) (id : SessionId) (st : State) → o ≡ empty → StandsFor c v (on_pull id st).state
+    → said ≡ (on_pull id st).answer → Wrote o (on_pull id st).reply n → Did c v said n (on_pull id st)
+did_pull c v o n said id st cleared stands answer wrote = record {
+  stands = stands;
+  answer = answer;
+  reply = wrote.reply ∙ ap (λ (x : Output). x.reply ++ (on_pull id st).reply) cleared;
+  datagrams = wrote.datagrams ∙ ap (λ (x : Output). x.datagrams) cleared ∙ ap (map datagram) (sym (pull_silent id st));
+}
+
+pub did_close : (c : Config) (v : Kept) (o n : Output) (said : Answer) (id : SessionId) (st : State) (m : Move) → o ≡ empty → Moved c v o n m
+    → m.state ≡ (on_close id st).state → m.sent ≡ (on_close id st).sent → said ≡ (on_close id st).answer → Did c v said n (on_close id st)
+did_close c v o n said id st m cleared moved state sent answer = record {
+  stands = subst (StandsFor c v) state moved.stands;
+  answer = answer;
+  reply = moved.sent.reply ∙ ap (λ (x : Output). x.reply) cleared ∙ sym (close_quiet id st);
+  datagrams = moved.sent.datagrams ∙ ap (λ (x : Output). x.datagrams ++ map datagram m.sent) cleared ∙ ap (map datagram) sent;
 }

@@ -1,11 +1,9 @@
 -- What an accepted SETUP may do, and where its session comes to be.
-use Rattle.std.proofs.Common.{◌≡◌, ◌∙◌, ℕ, ◌==◌, ◌&&◌, ◌||◌, not, nat_le, Bool, true, false, cond, List, [], ◌∷◌, length, filter, find, IfSome, Option, Some, None, is_none, is_some, option_map, unwrap_or, refl, ap, sym, subst}
+use Rattle.std.proofs.Common.{◌≡◌, ◌∙◌, ℕ, ◌==◌, ◌&&◌, ◌||◌, not, nat_le, Bool, true, false, cond, List, [], ◌∷◌, ◌++◌, length, find, IfSome, Option, Some, None, is_none, is_some, option_map, unwrap_or, refl, ap, sym, subst}
 use Rattle.std.specs.Option.{option_map_or}
-use Rattle.std.proofs.lemmas.Bool.{false≢true, or_left, or_right, eq-eqb}
+use Rattle.std.proofs.lemmas.Bool.{false≢true}
 use Rattle.std.proofs.lemmas.List.{length-map}
-use Rattle.std.proofs.lemmas.List.Folds.{list_any-append}
 use Rattle.std.proofs.lemmas.Option.{same_Some}
-use Rattle.satip_table.proofs.Listing.{find_any}
 use Rattle.satip_rtsp.specs.declared.requests.Method.{Method}
 use Rattle.satip_rtsp.specs.declared.requests.Method.TheVariants.{Setup}
 use Rattle.satip_rtsp.specs.declared.requests.SessionName.{SessionName}
@@ -19,12 +17,14 @@ use Rattle.satip_query.specs.declared.bodies.RefusalBody.TheVariants.{NotOwner, 
 use Rattle.satip_plain.specs.Streams.{asked_pids, change_by, changed_tuning, outlook_of}
 use Rattle.satip_plain.specs.Refusals.{Refused, first_given, where_true, plainly, telling, front_missing, key_missing, new_outlook, not_owner, of_change, of_pids, of_tuning, stream_of_another, of_message, of_http_message, decide, decide_get, session_missing, stream_missing, is_full, makes_session, of_query, session_named, stream_meant}
 use Rattle.satip_rtsp.specs.Methods.{is_setup, names_none, needs_session, changes, looks_at_stream, is_describe}
-use Rattle.satip_plain.specs.Steps.{accepted, change_session, found, hear, heard_by, is_session, join, least_free, next_id, no_ports, put_stream, set_up, setup, setup_number, setup_session}
+use Rattle.satip_plain.specs.Steps.{accepted, change_session, found, hear, heard_by, is_session, join, least_free, next_id, no_ports, set_up, setup, setup_number, setup_session}
+use Rattle.satip_state.specs.Asking.{IsUntuned}
 use Rattle.satip_state.specs.Kept.{Kept}
 use Rattle.satip_state.specs.Standing.{StandsFor}
 use Rattle.satip_state.proofs.Picking.{map_nothing}
+use Rattle.satip_core.specs.declared.deciding.Accepted.{Accepted as Found}
 use Rattle.satip_core.specs.Doing.{Accepted, MaySetUp, SetUpAs}
-use Rattle.satip_core.specs.Places.{of_asked, of_names, of_setup}
+use Rattle.satip_core.specs.Places.{of_asked, of_names, setup_before}
 
 -- each cause that comes first isn't there, where none is
 given_none : (o : Option Refused) (more : List (Option Refused)) → first_given (o ∷ more) ≡ None → (o ≡ None) × (first_given more ≡ None)
@@ -35,36 +35,41 @@ where_none : (b : Bool) (x : Refused) → where_true b x ≡ None → b ≡ fals
 where_none true x e = absurd (cc)
 where_none false x e = refl
 
-record Passed (c : Config) (st : State) (r : Request) : Type 0 where
+pub record Passed (c : Config) (st : State) (r : Request) : Type 0 where
   pub session : session_missing st r ≡ false
   pub stream : stream_missing st r ≡ false
+  pub another : stream_of_another st r ≡ false
   pub placed : (is_setup r.method && not (names_none r.session) && is_none r.stream) ≡ false
   pub asked : first_given (of_asked c st r) ≡ None
 
-passed : (c : Config) (st : State) (r : Request) → decide c st r ≡ None → Passed c st r
+pub passed : (c : Config) (st : State) (r : Request) → decide c st r ≡ None → Passed c st r
 passed c st r e =
     let message = given_none (option_map of_message r.refusal) (of_names c st r) e in
     let session = given_none (where_true (session_missing st r) (plainly 454))
     (where_true (stream_missing st r) (plainly 404) ∷ where_true (stream_of_another st r) (plainly 454) ∷ where_true (not_owner st r) (telling 403 NotOwner)
-    ∷ of_setup c st r) message.1 in
+    ∷ (setup_before r ++ of_asked c st r)) message.1 in
     let stream = given_none (where_true (stream_missing st r) (plainly 404))
-    (where_true (stream_of_another st r) (plainly 454) ∷ where_true (not_owner st r) (telling 403 NotOwner) ∷ of_setup c st r) session.1 in
+    (where_true (stream_of_another st r) (plainly 454) ∷ where_true (not_owner st r) (telling 403 NotOwner) ∷ (setup_before r ++ of_asked c st r)) session.1 in
     let another = given_none (where_true (stream_of_another st r) (plainly 454))
-    (where_true (not_owner st r) (telling 403 NotOwner) ∷ of_setup c st r) stream.1 in
-    let owner = given_none (where_true (not_owner st r) (telling 403 NotOwner)) (of_setup c st r) another.1 in
+    (where_true (not_owner st r) (telling 403 NotOwner) ∷ (setup_before r ++ of_asked c st r)) stream.1 in
+    let owner = given_none (where_true (not_owner st r) (telling 403 NotOwner)) ((setup_before r ++ of_asked c st r)) another.1 in
     let placed = given_none (where_true (is_setup r.method && not (names_none r.session) && is_none r.stream) (plainly 455))
     (where_true (is_setup r.method && is_none r.ports) (plainly 461) ∷ of_asked c st r) owner.1 in
     let ports = given_none (where_true (is_setup r.method && is_none r.ports) (plainly 461)) (of_asked c st r) placed.1 in
     record {
       session = where_none (session_missing st r) (plainly 454) session.0;
       stream = where_none (stream_missing st r) (plainly 404) stream.0;
+      another = where_none (stream_of_another st r) (plainly 454) another.0;
       placed = where_none (is_setup r.method && not (names_none r.session) && is_none r.stream) (plainly 455) placed.0;
       asked = ports.1;
     }
 
+pub unrefused : (c : Config) (st : State) (r : Request) → decide c st r ≡ None → is_none r.refusal ≡ true
+unrefused c st r e = ap is_none (map_nothing of_message r.refusal (given_none (option_map of_message r.refusal) (of_names c st r) e).0)
+
 -- what a session that is heard of leaves
 
-heard_streams : (r : Request) (st : State) → (heard_by r st).streams ≡ st.streams
+pub heard_streams : (r : Request) (st : State) → (heard_by r st).streams ≡ st.streams
 heard_streams r st = by (session_named st r.session) (is_none r.refusal)
   where
     by : (o : Option Session) (b : Bool) → (option_map_or (λ (s : Session). cond b (hear s.id st) st) o st).streams ≡ st.streams
@@ -166,8 +171,8 @@ may_heard c st r p m =
           heard_full r st ∙ sym (ap (λ (k : Method). (is_setup k && names_none r.session) && is_full st) m ∙ ap (λ (n : Bool). n && is_full st) names) ∙ asked;
     }
 
-pub may_set_up : (c : Config) (st : State) (r : Request) → Accepted c st r → r.method ≡ Setup → MaySetUp st r
-may_set_up c st r a m = subst (λ (s : State). MaySetUp s r) (sym a.heard) (may_heard c a.before r (passed c a.before r a.accepted) m)
+pub may_set_up : (c : Config) (st : State) (r : Request) (found : Found) (pids : Pids) → Accepted c st r found pids → r.method ≡ Setup → MaySetUp st r
+may_set_up c st r found pids a m = subst (λ (s : State). MaySetUp s r) (sym a.heard) (may_heard c a.before r (passed c a.before r a.accepted) m)
 
 -- a GET that isn't refused
 pub get_room : (c : Config) (st : State) (r : HttpRequest) → decide_get c st r ≡ None → is_full st ≡ false
@@ -179,34 +184,9 @@ get_room c st r e =
 
 -- where the session comes to be
 
-none_some : {X : Type 0} (o : Option X) → is_none o ≡ false → is_some o ≡ true
+pub none_some : {X : Type 0} (o : Option X) → is_none o ≡ false → is_some o ≡ true
 none_some None e = absurd (false≢true (sym e))
 none_some (Some x) e = refl
-
-pub founded_lives : (http : Bool) (peer : Peer) (draw : Draw) (ports : Ports) (st : State)
-    → is_some (stream_of (found http peer draw ports st) (least_free st.streams)) ≡ true
-founded_lives http peer draw ports st =
-    let number : ℕ = least_free st.streams in
-    let is : Stream → Bool = λ t. t.number == number in
-    let new : Stream = record { number = number; tuning = None; front = None; pids = Only [] } in
-    find_any is (put_stream new st.streams)
-    ∙ list_any-append is (filter (λ t. nat_le t.number number) st.streams) (new ∷ filter (λ t. not (nat_le t.number number)) st.streams)
-    ∙ or_right _ _ (or_left _ _ (eq-eqb number number refl))
-
-pub set_up_lives : (peer : Peer) (draw : Draw) (ports : Ports) (r : Request) (st : State) → MaySetUp st r
-    → is_some (stream_of (set_up peer draw ports r st) (setup_number r st)) ≡ true
-set_up_lives peer draw ports r st may = by (session_named st r.session) r.stream refl refl
-  where
-    lives : (n : ℕ) → r.stream ≡ Some n → is_some (stream_of st n) ≡ true
-    lives n e = none_some (stream_of st n) (subst (λ (o : Option ℕ). IfSome o (λ k. is_none (stream_of st k) ≡ false)) e may.lives)
-
-    by : (o : Option Session) (q : Option ℕ) → session_named st r.session ≡ o → r.stream ≡ q
-        → is_some (stream_of (option_map_or (λ (s : Session). change_session s.id (λ x. record x { peer = peer; ports = ports }) st) o
-        (option_map_or (λ number. join false peer draw ports number st) q (found false peer draw ports st))) (unwrap_or q (least_free st.streams))) ≡ true
-    by (Some s) (Some n) e f = lives n f
-    by (Some s) None e f = absurd (false≢true (sym (may.moves s e) ∙ ap is_none f))
-    by None (Some n) e f = lives n f
-    by None None e f = founded_lives false peer draw ports st
 
 id_is : (o : Option Session) (id d : SessionId) → Some id ≡ option_map (λ (s : Session). s.id) o → id ≡ option_map_or (λ (s : Session). s.id) o d
 id_is None id d e = absurd (cc)
@@ -229,6 +209,10 @@ moved_is : (o : Option Session) (id : SessionId) (f : Session → Session) (st d
 moved_is None id f st d e = absurd (cc)
 moved_is (Some s) id f st d e = ap (λ (i : SessionId). change_session i f st) (same_Some id s.id e)
 
+some_id : (o : Option Session) (id : SessionId) → Some id ≡ option_map (λ (s : Session). s.id) o → o ≡ None → ⊥
+some_id None id named none = absurd (cc)
+some_id (Some s) id named none = absurd (cc)
+
 -- a session moves
 pub placed_moved : (c : Config) (v : Kept) (peer : Peer) (draw : Draw) (ports : Ports) (r : Request) (st : State) (id : SessionId)
     (given : Option (SessionId × ℕ)) → MaySetUp st r
@@ -240,6 +224,7 @@ placed_moved c v peer draw ports r st id given may named is stands =
       made = is ∙ number_is r.stream id (least_free st.streams) placed
           ∙ ap (λ (i : SessionId). Some (pair i (setup_number r st))) (id_is (session_named st r.session) id (next_id st draw) named);
       stands = subst (StandsFor c v) (moved_is (session_named st r.session) id (λ x. record x { peer = peer; ports = ports }) st _ named) stands;
+      untuned = λ none _. absurd (some_id (session_named st r.session) id named none);
     }
 
 -- a session is made
@@ -247,8 +232,9 @@ pub placed_made : (c : Config) (v : Kept) (peer : Peer) (draw : Draw) (ports : P
     → None ≡ option_map (λ (s : Session). s.id) (session_named st r.session)
     → given ≡ Some (pair (next_id st draw) (unwrap_or r.stream (least_free st.streams)))
     → StandsFor c v (option_map_or (λ number. join false peer draw ports number st) r.stream (found false peer draw ports st))
+    → (r.stream ≡ None → IsUntuned (found false peer draw ports st) (least_free st.streams))
     → SetUpAs c v peer draw ports r st given
-placed_made c v peer draw ports r st given named is stands =
+placed_made c v peer draw ports r st given named is stands new =
     let none = sym (map_nothing (λ (s : Session). s.id) (session_named st r.session) (sym named)) in
     let made : State = option_map_or (λ number. join false peer draw ports number st) r.stream (found false peer draw ports st) in
     record {
@@ -256,6 +242,7 @@ placed_made c v peer draw ports r st given named is stands =
       stands = subst (StandsFor c v)
           (ap (λ (o : Option Session). option_map_or (λ (s : Session). change_session s.id (λ x. record x { peer = peer; ports = ports }) st) o made) none)
           stands;
+      untuned = λ _ nowhere. new nowhere;
     }
 
 -- the outcome, with what it is made of

@@ -6,4 +6,5 @@ pub mod Serving
 pub mod Told
 pub mod Places
 pub mod RefusalRows
+pub mod Finding
 pub use Rattle.satip_state.specs.Standing

@@ -64,7 +64,6 @@ fn view_all(parts: &Parts, named: Option<u16>, views: &mut [StreamView]) -> usiz
     ensures views { (c : Configured) (st : State) → StandsFor c parts.now st
         → take result views.new ≡ views_of st named st.streams }
 {
-    parts.known();
     let mut count = 0;
     for place in 0..SESSIONS {
         count = put_view(views, count, named, parts.view_at(place));

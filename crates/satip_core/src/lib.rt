@@ -3,11 +3,8 @@
 //! refusal and its cause are the plain server's decision.
 #![tactic(auto)]
 
-mod changes;
 mod deciding;
 mod describing;
-mod events;
-mod gets;
 mod places;
 mod refusals;
 mod replies;
@@ -15,8 +12,8 @@ mod requests;
 mod served;
 mod server;
 
-pub use deciding::{decide, decide_get};
-pub use places::session_named;
+pub use deciding::{Accepted, decide, decide_get};
+pub use places::{Party, session_named};
 pub use refusals::{Refused, telling};
 pub use satip_plain::{
     Answer, Beat, Closed, Event, GetAnswer, Pulled, Replied, Service, Setting, Work,

@@ -1,18 +1,16 @@
-//! The replies to RTSP and HTTP requests.
+//! The replies to RTSP requests.
 
 ghost use Rattle.std.specs.Prelude.{◌≡◌, ◌≤◌};
 ghost use Rattle.satip_base.specs.Output.{Wrote};
 ghost use Rattle.satip_query.specs.Statuses.{IsStatus};
 ghost use Rattle.satip_rtsp.specs.Replies.{play_reply, setup_reply, text_reply};
 ghost use Rattle.satip_query.specs.declared.bodies.RefusalBody.TheVariants.{NoMoreSessions};
-ghost use Rattle.satip_http.specs.Heads.{http_refusal, start_head};
 ghost use Rattle.satip_plain.specs.Steps.{closes as closes_connection, is_closing as is_closing_request, message_reply, refused_reply, reply_to_refused};
 ghost use Rattle.satip_core.specs.Told.{told};
 
 use crate::refusals::Refused;
 use satip_base::{Out, Ports, SessionId};
 use satip_frame::Break;
-use satip_http::{write_refusal as write_head_of_refusal, write_start};
 use satip_query::RefusalBody;
 use satip_rtsp::{
     Refusal, Request, write_closing, write_plain, write_play, write_setup, write_text,
@@ -123,23 +121,4 @@ pub fn write_full(cseq: Option<u32>, out: &mut Out)
     ensures wrote { Wrote out.old (text_reply cseq 503 NoMoreSessions) out.new }
 {
     write_text(cseq, 503, RefusalBody::NoMoreSessions, out);
-}
-
-/// Appends the head of the refusal of an HTTP request.
-#[tactic(auto, using(satip_http::proofs::HeadLemmas::head_bounds))]
-pub fn write_http_refusal(refused: Refused, out: &mut Out)
-    requires status { IsStatus refused.status }
-    requires room { 256 ≤ out.old.reply_spare }
-    ensures wrote { Wrote out.old (http_refusal refused.status refused.body) out.new }
-{
-    write_head_of_refusal(refused.status, refused.body, out);
-}
-
-/// Appends the head that precedes an HTTP session's packets.
-#[tactic(auto, using(satip_http::proofs::HeadLemmas::head_bounds))]
-pub fn write_http_start(out: &mut Out)
-    requires room { 256 ≤ out.old.reply_spare }
-    ensures wrote { Wrote out.old start_head out.new }
-{
-    write_start(out);
 }

@@ -1,21 +1,23 @@
 //! The server and its events.
 
-ghost use Rattle.std.specs.Prelude.{◌≡◌, ◌≤◌, [], None, Some, false, length, IfOk};
+ghost use Rattle.std.specs.Prelude.{◌≡◌, ◌≤◌, [], None, Some, false, length, IfOk, if◌then◌else◌};
 ghost use Rattle.satip_fronts.specs.FrontEnds.{IsNumbered};
 ghost use Rattle.satip_plain.specs.declared.answers.Answer.TheVariants.{Replied as AnswerReplied, Get as AnswerGet, Beat as AnswerBeat, Work as AnswerWork, Pulled as AnswerPulled, Closed as AnswerClosed};
-ghost use Rattle.satip_plain.specs.declared.answers.Pulled.TheVariants.{Gone as PulledGone, Empty as PulledEmpty};
 ghost use Rattle.satip_plain.specs.declared.events.Event.TheVariants.{Request as Asked, Get as Got, Tick, Packet as PacketCame, Ended, Ask, Pull, Close, Stop};
 ghost use Rattle.satip_plain.specs.State.{Session as PlainSession, State, held, http_session};
 ghost use Rattle.satip_plain.specs.Refusals.{Refused as PlainRefused, decide as decision, decide_get as get_decision};
-ghost use Rattle.satip_plain.specs.Steps.{hear, heard_by, is_current};
+ghost use Rattle.satip_plain.specs.Steps.{hear, heard_by, is_current, on_tick};
 ghost use Rattle.satip_plain.specs.Histories.{opening};
 ghost use Rattle.satip_core.specs.Serving.{Rests, Stands, StandsAfter, Steps};
+ghost use Rattle.satip_base.specs.Output.{empty};
+ghost use Rattle.satip_plain.specs.declared.answers.Beat.TheVariants.{Going, Stopping};
+ghost use Rattle.satip_state.specs.Standing.{StandsFor};
+ghost use Rattle.satip_core.specs.Doing.{Did};
 
-use crate::events;
-use crate::gets::answer_get;
-use crate::requests::answer_request;
+use crate::requests::{answer_get, answer_request};
 use satip_base::{Draw, Out, Peer, SessionId, Want};
 use satip_http::HttpRequest;
+use satip_pids::PidSet;
 use satip_plain::{
     Answer, Beat, Closed, Event, GetAnswer, Pulled, Replied, Setting, Work, empty_only_hears,
     gone_changes_nothing, known_setting, refused_changes_nothing, refused_get_changes_nothing,
@@ -34,6 +36,8 @@ use std::marker::Model;
 pub struct Server {
     setting: Setting,
     parts: Parts,
+    // The PIDs that the request at hand asks for: a set is large, and kept to be used again.
+    asked: PidSet,
 }
 
 impl Model for Server {
@@ -69,7 +73,11 @@ impl Server {
         let parts = Parts::make(alloc, fronts, muxes, config.timeout, start)?;
         let setting = Setting { config, start };
         known_setting(&setting);
-        Ok(Server { setting, parts })
+        Ok(Server {
+            setting,
+            parts,
+            asked: PidSet::new(),
+        })
     }
 
     /// Answers an RTSP request. Clears `out` first, and then writes the reply and the datagrams to
@@ -91,6 +99,7 @@ impl Server {
             peer,
             draw,
             request,
+            &mut self.asked,
             out,
         )
     }
@@ -113,6 +122,7 @@ impl Server {
             peer,
             draw,
             request,
+            &mut self.asked,
             out,
         )
     }
@@ -124,7 +134,7 @@ impl Server {
         ensures steps { Steps self.old (Tick now) self.new (AnswerBeat result) out.new }
     {
         out.clear();
-        events::tick(&self.setting.config, &mut self.parts, now, out)
+        tick(&self.setting.config, &mut self.parts, now, out)
     }
 
     /// Delivers a packet of a front end's tune number; returns the next work of its pump. Clears
@@ -138,7 +148,8 @@ impl Server {
     {
         stale_changes_nothing();
         out.clear();
-        events::packet(&mut self.parts, front, tune, packet, out)
+        self.parts.packet(front, tune, packet, out);
+        self.parts.work(front)
     }
 
     /// Marks a tune number's recording as ended; returns the pump's next work. Clears `out`.
@@ -147,7 +158,8 @@ impl Server {
         ensures steps { Steps self.old (Ended front tune) self.new (AnswerWork result) out.new }
     {
         out.clear();
-        events::ended(&mut self.parts, front, tune)
+        self.parts.ended(front, tune);
+        self.parts.work(front)
     }
 
     /// Returns the next work of a front end's pump. Clears `out`.
@@ -174,7 +186,7 @@ impl Server {
         gone_changes_nothing();
         empty_only_hears();
         out.clear();
-        events::pull(&mut self.parts, session, out)
+        self.parts.pull(session, out)
     }
 
     /// Ends an HTTP session. Clears `out`. Changes nothing if there is no such HTTP session.
@@ -186,7 +198,7 @@ impl Server {
     {
         gone_changes_nothing();
         out.clear();
-        events::close(&mut self.parts, session, out)
+        self.parts.close(session, out)
     }
 
     /// Stops the server. Clears `out`.
@@ -228,4 +240,22 @@ impl Server {
             Event::Stop => Answer::Beat(self.stop(out)),
         }
     }
+}
+
+// Returns whether the server goes on.
+fn beat_of(stopped: bool) -> Beat
+    ensures beat { result ≡ (if stopped then Stopping else Going) }
+{
+    if stopped { Beat::Stopping } else { Beat::Going }
+}
+
+// Advances the clock: held packets leave, sessions without activity end, and reports leave.
+fn tick(config: &Config, parts: &mut Parts, now: u64, out: &mut Out) -> Beat
+    requires cleared { out.old ≡ empty }
+    ensures did { (st : State) → StandsFor config.now parts.old st
+        → Did config.now parts.new (AnswerBeat result) out.new (on_tick config.now now st) }
+{
+    let stopped = parts.is_stopped();
+    parts.tick(now, config.address, out);
+    beat_of(stopped)
 }

@@ -6,9 +6,9 @@ use crate::checks::check;
 use crate::given::output;
 use satip_base::{Draw, Out, Peer, Ports, SessionId};
 use satip_fixtures::{DRAW, FIRST_MUX, PORTS, SECOND_MUX, config_with};
-use satip_pids::PidList;
+use satip_pids::{PidList, PidSet};
 use satip_query::{PidsGiven, Query};
-use satip_state::Parts;
+use satip_state::{Parts, ask_pids, to_set};
 use satip_tune::{Mux, Tuning};
 use std::alloc::Global;
 use std::process::Abort;
@@ -60,10 +60,20 @@ pub(crate) fn query(mux: Mux) -> Query {
     query
 }
 
-/// Changes a stream by a query. `out` has what is sent.
+/// Changes a stream by a query; a refused one changes nothing. `out` has what is sent.
 pub(crate) fn change(parts: &mut Parts, out: &mut Out, number: u16, query: &Query) {
     out.clear();
-    parts.change_by(number, query, out);
+    let mut pids = PidSet::new();
+    let Some(stream) = parts.stream(number) else {
+        return;
+    };
+    let Ok(tuning) = to_set(stream.tuning, &query.change) else {
+        return;
+    };
+    if ask_pids(&mut pids, &stream.pids, query).is_some() {
+        return;
+    }
+    parts.change_by(number, query, tuning, &pids, out);
 }
 
 // Returns the front end and the frequency of a stream.

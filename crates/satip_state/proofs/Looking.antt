@@ -16,7 +16,7 @@ use Rattle.satip_table.specs.Streams.{has_number, is_live}
 use Rattle.satip_table.specs.Living.{Sound, CountsRise, Owned, is_full}
 use Rattle.satip_table.proofs.Listing.{find_any}
 use Rattle.satip_plain.specs.Types.{Config}
-use Rattle.satip_plain.specs.State.{Session, Stream, State, same_id, rtsp_session, stream_of}
+use Rattle.satip_plain.specs.State.{Session, State, same_id, rtsp_session, stream_of}
 use Rattle.satip_plain.specs.Refusals.{is_full as is_full_state}
 use Rattle.satip_plain.specs.Steps.{is_session}
 use Rattle.satip_state.specs.Kept.{Kept}

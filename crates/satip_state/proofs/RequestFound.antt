@@ -46,7 +46,7 @@ use Rattle.satip_state.proofs.RequestPlay.{none_of_it, stream_is, sub_quiet, sub
 
 -- one stream more
 
-abbrev founded_stream : ℕ → Stream
+abbrev pub founded_stream : ℕ → Stream
 founded_stream number = record { number = number; tuning = None; front = None; pids = Only [] }
 
 pub rows_put : (number : ℕ) (id : SessionId) (rows : List StreamRow) → is_live rows number ≡ false

@@ -4,7 +4,6 @@ use Rattle.std.proofs.Common.{slice_get, slice_set, refl, ap, sym, zero, suc}
 use Rattle.std.specs.List.{list_any, cons_option}
 use Rattle.std.specs.Option.{option_map}
 use Rattle.std.proofs.lemmas.Bool.{true≢false}
-use Rattle.std.proofs.lemmas.Option.{same_Some}
 use Rattle.satip_base.specs.Lists.{Each}
 
 -- two facts of each element

@@ -25,20 +25,21 @@ use Rattle.satip_fronts.proofs.Soundness.{taken_some}
 use Rattle.satip_flow.specs.Subscription.{Subscription, changed}
 use Rattle.satip_flow.proofs.Sends.{nothing_sent}
 use Rattle.satip_flow.specs.Subscriptions.{IsFrontOrNone}
-use Rattle.satip_plain.specs.Types.{Change, Config, Query}
+use Rattle.satip_plain.specs.Types.{Config, Query}
 use Rattle.satip_plain.specs.State.{Row, State, Stream, change_where, is_at, stream_of}
-use Rattle.satip_plain.specs.Sending.{each_of, let_go, settle}
+use Rattle.satip_plain.specs.Sending.{each_of, let_go, settle, then_move}
 use Rattle.satip_plain.specs.Streams.{asked_pids, change_by, change_stream, freed, new_pids, outlook_of, pids_or, put_at, retune, to_set, tuned}
 use Rattle.satip_plain.specs.Histories.{datagram}
+use Rattle.satip_state.specs.Asking.{HasPids}
 use Rattle.satip_state.specs.Kept.{Kept}
 use Rattle.satip_state.specs.Placing.{placed_in}
 use Rattle.satip_state.specs.Standing.{Moved, StandsFor, row_in, stream_in}
 use Rattle.satip_state.proofs.Outlooks.{outlook_same}
 use Rattle.satip_state.proofs.Swept.{Rising, freed_same, get_within, rising_of, served_same}
 use Rattle.satip_state.proofs.Ended.{swept_same}
-use Rattle.satip_state.proofs.RequestLists.{get-set_other, get-set_same, none_some}
-use Rattle.satip_state.proofs.RequestStreams.{change_sets, changed_found, found_each, found_number, rows_changed, set_stream}
-use Rattle.satip_state.proofs.RequestFlow.{Rise}
+use Rattle.satip_state.proofs.RequestLists.{each_weaker, get-set_other, get-set_same, none_some}
+use Rattle.satip_state.proofs.RequestStreams.{change_sets, changed_found, found_each, found_number, rise_above, rows_changed, set_stream}
+use Rattle.satip_state.proofs.RequestFlow.{Rise, each_filter}
 use Rattle.satip_state.proofs.RequestPlay.{front_or_none, stream_is}
 use Rattle.satip_state.proofs.RequestPids.{rise_of, stream_changed}
 
@@ -306,34 +307,64 @@ retuned_moves c v w o n st number tuning flushed placed = record {
 pub stays : (c : Config) (v : Kept) (o : Output) (st : State) → StandsFor c v st → Moved c v o o (settle st)
 stays c v o st s = record { stands = s; sent = nothing_sent o }
 
-pub tuning_is : (c : Config) (v : Kept) (st : State) → StandsFor c v st → (number : ℕ) (row : StreamRow) → find (has_number number) v.table.streams ≡ Some row
-    → option_and_then (λ (t : Stream). t.tuning) (stream_of st number) ≡ row.tuning
-unfolding stream_in
-tuning_is c v st s number row found = ap (option_and_then (λ (t : Stream). t.tuning)) (stream_is c v st s number ∙ ap (option_map stream_in) found)
+-- each stream of a number has the PIDs of the one that is found
+pub found_pids : (number above : ℕ) (at : Stream) (streams : List Stream) → Rise above streams → find (λ t. t.number == number) streams ≡ Some at
+    → HasPids number at.pids streams
+found_pids number above at [] rise found = tt
+found_pids number above at (t ∷ ts) rise found = by (t.number == number) refl found (found_pids number t.number at ts rise.1)
+  where
+    by : (b : Bool) → (t.number == number) ≡ b → cond b (Some t) (find (λ s. s.number == number) ts) ≡ Some at
+        → (find (λ s. s.number == number) ts ≡ Some at → HasPids number at.pids ts) → HasPids number at.pids (t ∷ ts)
+    by true is found rest = (λ _. ap (λ (s : Stream). s.pids) (same_Some t at found), each_weaker _ _ other ts (rise_above t.number ts rise.1))
+      where
+        other : (s : Stream) → t.number < s.number → (s.number == number) ≡ true → s.pids ≡ at.pids
+        other s more same = absurd (omega (arith, more, eqb-true s.number number same, eqb-true t.number number is))
+    by false is found rest = (λ same. absurd (true≢false (sym same ∙ is)), rest found)
 
-pub tuned_by : (c : Config) (v w : Kept) (o n : Output) (st : State) → StandsFor c v st
-    → (number : ℕ) (row : StreamRow) (change : Change) (tuning : Option Tuning) → find (has_number number) v.table.streams ≡ Some row
-    → tuning ≡ to_set row.tuning change
-    → Moved c w o n (option_map_or (retune c number st) tuning (settle st))
-    → Moved c w o n (option_map_or (retune c number st) (to_set (option_and_then (λ (t : Stream). t.tuning) (stream_of st number)) change) (settle st))
-tuned_by c v w o n st s number row change tuning found is moves =
-    subst (λ x. Moved c w o n (option_map_or (retune c number st) x (settle st))) (is
-    ∙ ap (λ old. to_set old change) (sym (tuning_is c v st s number row found))) moves
+-- a stream keeps its PIDs as it is tuned
 
-pub selected_by : (c : Config) (v w : Kept) (st : State) → StandsFor c v st → (number : ℕ) (row : StreamRow) (pids : Pids) (query : Query) → Sound v.table
-    → find (has_number number) v.table.streams ≡ Some row → pids ≡ new_pids row.pids query
+placed_pids : (number front : ℕ) (tuning : Tuning) (own : Pids) (streams : List Stream) → HasPids number own streams
+    → HasPids number own (change_where (λ t. t.number == number) (λ t. record t { tuning = Some tuning; front = Some front }) streams)
+placed_pids number front tuning own [] has = tt
+placed_pids number front tuning own (t ∷ ts) has = (by (t.number == number) has.0, placed_pids number front tuning own ts has.1)
+  where
+    by : (b : Bool) → ((t.number == number) ≡ true → t.pids ≡ own)
+        → ((cond b (record t { tuning = Some tuning; front = Some front }) t).number == number) ≡ true
+        → (cond b (record t { tuning = Some tuning; front = Some front }) t).pids ≡ own
+    by true same = same
+    by false same = same
+
+put_pids : (c : Config) (number : ℕ) (tuning : Tuning) (own : Pids) (now : State) (o : Option Place) → HasPids number own now.streams
+    → HasPids number own (option_map_or (put_at c number tuning now) o now).streams
+put_pids c number tuning own now None has = has
+put_pids c number tuning own now (Some place) has =
+    each_filter _ _ (change_where (λ t. t.number == number) (λ t. record t { tuning = Some tuning; front = Some place.front }) now.streams)
+    (placed_pids number place.front tuning own now.streams has)
+
+pub tuned_pids : (c : Config) (number : ℕ) (st : State) (own : Pids) (tuning : Option Tuning) → HasPids number own st.streams
+    → HasPids number own (option_map_or (retune c number st) tuning (settle st)).state.streams
+tuned_pids c number st own None has = has
+tuned_pids c number st own (Some tuning) has =
+    let now : State = (each_of (λ s. s.stream == number && not s.http) (let_go true st.clock) st).state in
+    put_pids c number tuning own now (choose (outlook_of c now number) (mux_for c.muxes tuning) tuning) has
+
+-- a query sets the PIDs that it makes of a stream's own
+pub selected_by : (c : Config) (w : Kept) (st : State) (number : ℕ) (own pids : Pids) (query : Query) → HasPids number own st.streams
+    → pids ≡ new_pids own query
     → StandsFor c w (change_stream number (λ t. record t { pids = pids }) st)
     → StandsFor c w (change_stream number (λ t. record t { pids = new_pids t.pids query }) st)
-unfolding stream_in
-selected_by c v w st s number row pids query sound found is stands =
-    let at : stream_of st number ≡ Some (stream_in row) = stream_is c v st s number ∙ ap (option_map stream_in) found in
-    let rise = rise_of c v st s sound in
-    let same : change_where (λ (t : Stream). t.number == number) (λ t. record t { pids = pids }) st.streams ≡ change_where
-    (λ (t : Stream). t.number == number) (λ t. record t { pids = new_pids t.pids query }) st.streams =
-    change_sets number 0 (λ t. record t { pids = pids }) (stream_in row) row.tuning row.front pids st.streams rise at refl
-    ∙ sym (change_sets number 0 (λ t. record t { pids = new_pids t.pids query })
-    (stream_in row) row.tuning row.front pids st.streams rise at (ap (λ p. set_stream row.tuning row.front p (stream_in row)) (sym is))) in
-    subst (λ ts. StandsFor c w (record st { streams = ts })) same stands
+selected_by c w st number own pids query has is stands = subst (λ ts. StandsFor c w (record st { streams = ts })) (same st.streams has) stands
+  where
+    one : (t : Stream) (b : Bool) → (b ≡ true → t.pids ≡ own) → cond b (record t { pids = pids }) t ≡ cond b (record t { pids = new_pids t.pids query }) t
+    one t true its = ap (λ (p : Pids). record t { pids = p }) (is ∙ ap (λ (p : Pids). new_pids p query) (sym (its refl)))
+    one t false its = refl
+
+    same : (ts : List Stream) → HasPids number own ts → change_where (λ (t : Stream). t.number == number) (λ t. record t { pids = pids }) ts ≡ change_where
+        (λ (t : Stream). t.number == number) (λ t. record t { pids = new_pids t.pids query }) ts
+    same [] all = refl
+    same (t ∷ ts) all = ap (λ (x : Stream). x ∷ change_where (λ (t : Stream). t.number == number) (λ t. record t { pids = pids }) ts)
+        (one t (t.number == number) all.0)
+        ∙ ap (λ (xs : List Stream). cond (t.number == number) (record t { pids = new_pids t.pids query }) t ∷ xs) (same ts all.1)
 
 -- a query that says nothing of PIDs leaves each stream's as they are
 pub unasked_stays : (c : Config) (v : Kept) (st : State) → StandsFor c v st → (number : ℕ) (query : Query) → ((old : Pids) → asked_pids old query ≡ Ok old)
@@ -353,12 +384,16 @@ unasked_stays c v st s number query stay = subst (λ ts. StandsFor c v (record s
         (chosen (t.number == number) t) ∙ ap (λ (xs : List Stream). t ∷ xs) (same ts)
 
 -- tuning first, then PIDs
-pub changed_moves : (c : Config) (v w : Kept) (o n : Output) (st : State) (number : ℕ) (query : Query)
-    → Moved c v o n (option_map_or (retune c number st) (to_set (option_and_then (λ (t : Stream). t.tuning) (stream_of st number)) query.change) (settle st))
-    → StandsFor c w (change_stream number (λ t. record t { pids = new_pids t.pids query })
-    (option_map_or (retune c number st) (to_set (option_and_then (λ (t : Stream). t.tuning) (stream_of st number)) query.change) (settle st)).state)
+pub changed_moves : (c : Config) (v w : Kept) (o n : Output) (st : State) (number : ℕ) (query : Query) (t : Stream) (tuning : Option Tuning)
+    → stream_of st number ≡ Some t → tuning ≡ to_set t.tuning query.change
+    → Moved c v o n (option_map_or (retune c number st) tuning (settle st))
+    → StandsFor c w (change_stream number (λ t. record t { pids = new_pids t.pids query }) (option_map_or (retune c number st) tuning (settle st)).state)
     → Moved c w o n (change_by c number query st)
-changed_moves c v w o n st number query tuned_first selected = record {
-  stands = selected;
-  sent = subst (λ ds. SendsAll o (map datagram ds) n) (sym (append-nil _)) tuned_first.sent;
-}
+changed_moves c v w o n st number query t tuning there is tuned_first selected =
+    subst (λ (x : Option Tuning). Moved c w o n (then_move (option_map_or (retune c number st) x (settle st))
+    (λ now. settle (change_stream number (λ t. record t { pids = new_pids t.pids query }) now))))
+    (is ∙ ap (λ (o : Option Stream). to_set (option_and_then (λ (t : Stream). t.tuning) o) query.change) (sym there))
+    (record {
+      stands = selected;
+      sent = subst (λ ds. SendsAll o (map datagram ds) n) (sym (append-nil _)) tuned_first.sent;
+    })

@@ -6,6 +6,7 @@ pub mod Subscribing
 pub mod Turns
 pub mod Views
 pub mod Looks
+pub mod Asking
 pub mod Beginning
 pub mod Ending
 pub mod Working

@@ -1,11 +1,11 @@
 //! The changes that a query makes to a stream's tuning and PIDs.
 
-ghost use Rattle.std.specs.Prelude.{◌≡◌, ◌||◌, false, Ok, Err, MatchOption};
+ghost use Rattle.std.specs.Prelude.{◌≡◌, false, true, Ok, Err, IfOk, MatchOption, None, if◌then◌else◌};
 ghost use Rattle.std.specs.Result.{result_err};
 ghost use Rattle.satip_pids.specs.Pids.{Pids, add_pids, choose_pids, if_given, remove_pids};
-ghost use Rattle.satip_query.specs.Queries.{is_given};
-ghost use Rattle.satip_tune.specs.declared.keys.Key.TheVariants.{Addpids, Delpids, Pids as PidsKey};
+ghost use Rattle.satip_tune.specs.Tunings.{gives_any};
 ghost use Rattle.satip_plain.specs.Streams.{asked_pids as pids_asked, changed_tuning as tuning_changed, choice_of, other_than as tuning_other_than, to_set as tuning_to_set};
+ghost use Rattle.satip_state.specs.Asking.{gives_pids};
 
 use satip_pids::{PidFault, PidList, PidSet};
 use satip_query::{PidsGiven, Query};
@@ -22,16 +22,19 @@ pub fn changed_tuning(old: Option<Tuning>, change: &Change) -> Result<Tuning, Ke
     }
 }
 
-/// Returns the tuning to set: one that is asked for, and differs from the old one.
-pub fn to_set(old: Option<Tuning>, change: &Change) -> Option<Tuning>
-    ensures to_set { result ≡ tuning_to_set old change.now }
+/// Returns the tuning to set: one that is asked for, and differs from the old one. Returns the first
+/// missing key if a change without an old tuning lacks a needed one.
+pub fn to_set(old: Option<Tuning>, change: &Change) -> Result<Option<Tuning>, Key>
+    ensures to_set { IfOk result (λ tuning. tuning ≡ tuning_to_set old change.now) }
+    ensures missing { result_err result
+        ≡ (if gives_any change.now then result_err (tuning_changed old change.now) else None) }
 {
     if !change.any() {
-        return None;
+        return Ok(None);
     }
     match changed_tuning(old, change) {
-        Ok(tuning) => other_than(old, tuning),
-        Err(_) => None,
+        Ok(tuning) => Ok(other_than(old, tuning)),
+        Err(key) => Err(key),
     }
 }
 
@@ -47,7 +50,7 @@ fn other_than(old: Option<Tuning>, new: Tuning) -> Option<Tuning>
 
 /// Changes a set of PIDs by a query: first the whole list, then the added, then the removed PIDs.
 /// Returns the first fault; the caller then drops the set.
-pub fn asked_pids(pids: &mut PidSet, query: &Query) -> Option<PidFault>
+fn asked_pids(pids: &mut PidSet, query: &Query) -> Option<PidFault>
     ensures asked { MatchOption result (pids_asked pids.old query.now ≡ Ok pids.new)
         (λ fault. pids_asked pids.old query.now ≡ Err fault) }
 {
@@ -60,21 +63,25 @@ pub fn asked_pids(pids: &mut PidSet, query: &Query) -> Option<PidFault>
     remove(pids, &query.delpids)
 }
 
-/// Returns the first fault of a query's PIDs for a stream with these, and changes nothing.
-pub fn pids_fault(pids: &PidSet, query: &Query) -> Option<PidFault>
-    ensures fault { result ≡ result_err (pids_asked pids.now query.now) }
+/// Sets `pids` to those that a query makes of a stream's own. Returns the first fault, and `pids` is
+/// then of no use. Without a list `pids` stays: a set is large.
+pub fn ask_pids(pids: &mut PidSet, own: &PidSet, query: &Query) -> Option<PidFault>
+    ensures asked { gives_pids query.now ≡ true → result ≡ None
+        → pids_asked own.now query.now ≡ Ok pids.new }
+    ensures fault { result ≡ result_err (pids_asked own.now query.now) }
 {
     if !asks_pids(query) {
         return None;
     }
-    let mut set = pids.copy();
-    asked_pids(&mut set, query)
+    if !query.pids.are_given() {
+        pids.copy_from(own);
+    }
+    asked_pids(pids, query)
 }
 
 /// Returns whether a query gives a list of PIDs; without one the PIDs stay as they are.
 pub fn asks_pids(query: &Query) -> bool
-    ensures asks { result ≡ (is_given query.now PidsKey || is_given query.now Addpids
-        || is_given query.now Delpids) }
+    ensures asks { result ≡ gives_pids query.now }
     ensures stay { result ≡ false → (old : Pids) → pids_asked old query.now ≡ Ok old }
 {
     query.pids.are_given() || query.addpids.is_some() || query.delpids.is_some()

@@ -18,5 +18,5 @@ mod subscribing;
 mod ticking;
 mod views;
 
-pub use asking::{asked_pids, asks_pids, changed_tuning, pids_fault, to_set};
+pub use asking::{ask_pids, changed_tuning, to_set};
 pub use parts::Parts;

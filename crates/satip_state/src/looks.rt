@@ -1,7 +1,6 @@
 //! Queries of the parts: which sessions and streams are alive, and whether more are available.
 
-ghost use Rattle.std.specs.Prelude.{◌≡◌, ◌≤◌, ◌==◌, Some, IfSome, false, true, find, is_some, length, option_map};
-ghost use Rattle.std.specs.List.{list_all};
+ghost use Rattle.std.specs.Prelude.{◌≡◌, ◌==◌, Some, IfSome, false, true, find, is_some, length, option_map};
 ghost use Rattle.satip_fronts.specs.Openings.{IsStreamOrNone};
 ghost use Rattle.satip_plain.specs.Types.{Config};
 ghost use Rattle.satip_plain.specs.State.{State, rtsp_session, stream_of};
@@ -13,30 +12,20 @@ ghost use Rattle.satip_state.specs.Standing.{StandsFor, stream_in};
 
 use crate::parts::Parts;
 use satip_base::SessionId;
-use satip_base::limits::SESSIONS;
 use satip_flow::SenderState;
 use satip_table::{Seat, Session, Stream};
 use satip_tune::Tuning;
 
 impl Parts {
-    /// Does nothing. Gives a caller's proof that at most 64 streams are alive, and that each
-    /// session's stream is one of them.
-    pub fn known(&self)
-        ensures few { (c : Config) (st : State) → StandsFor c self.now st
-            → length st.streams ≤ SESSIONS }
-        ensures housed { (c : Config) (st : State) → StandsFor c self.now st
-            → list_all (λ s. is_some (stream_of st s.stream)) st.sessions ≡ true }
-    {
-        let _ = &self.table;
-    }
-
-    /// Returns the RTSP session with this id; None if there is none.
+    /// Returns the RTSP session with this id; None if there is none. Its stream is alive.
     pub fn rtsp_session(&self, id: SessionId) -> Option<Session>
         ensures session { (c : Config) (st : State) → StandsFor c self.now st
             → result ≡ option_map row_of (rtsp_session st id) }
         ensures rtsp { (c : Config) (st : State) → StandsFor c self.now st
             → IfSome result (λ row. option_map (λ s. s.http) (find (is_session row.id) st.sessions)
             ≡ Some false) }
+        ensures housed { (c : Config) (st : State) → StandsFor c self.now st
+            → IfSome result (λ row. is_some (stream_of st row.stream) ≡ true) }
     {
         match self.table.find(id) {
             None => None,

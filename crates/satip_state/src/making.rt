@@ -9,6 +9,7 @@ ghost use Rattle.satip_plain.specs.State.{State, stream_of};
 ghost use Rattle.satip_plain.specs.Refusals.{is_full};
 ghost use Rattle.satip_plain.specs.Steps.{capped, found as founded, join as joined, least_free, next_id};
 ghost use Rattle.satip_plain.specs.Histories.{opening};
+ghost use Rattle.satip_state.specs.Asking.{IsUntuned};
 ghost use Rattle.satip_state.specs.Beginning.{Begins, with_queue};
 ghost use Rattle.satip_state.specs.Standing.{StandsFor};
 
@@ -84,6 +85,8 @@ impl Parts {
             (next_id st draw, least_free st.streams)) }
         ensures founded { (c : Config) (st : State) → StandsFor c self.old st
             → StandsFor c self.new (if is_full st then st else founded http peer draw ports st) }
+        ensures untuned { (c : Config) (st : State) → StandsFor c self.old st → is_full st ≡ false
+            → IsUntuned (founded http peer draw ports st) (least_free st.streams) }
     {
         if self.table.full() {
             return None;

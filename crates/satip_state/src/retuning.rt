@@ -1,21 +1,22 @@
 //! Tunings of a stream, and its changes by a query.
 
-ghost use Rattle.std.specs.Prelude.{◌≡◌, ◌+◌, ◌≤◌, is_some, option_and_then, true};
+ghost use Rattle.std.specs.Prelude.{◌≡◌, ◌+◌, ◌≤◌, Some, is_some, true};
 ghost use Rattle.std.specs.Option.{option_map_or};
-ghost use Rattle.satip_plain.specs.Types.{Config};
-ghost use Rattle.satip_plain.specs.State.{State, stream_of};
+ghost use Rattle.satip_plain.specs.Types.{Config, Pids};
+ghost use Rattle.satip_plain.specs.State.{State, Stream, stream_of};
 ghost use Rattle.satip_plain.specs.Sending.{settle};
-ghost use Rattle.satip_plain.specs.Streams.{change_by as changed_by, change_stream, new_pids as pids_after, retune as retuned, to_set as tuning_to_set};
+ghost use Rattle.satip_plain.specs.Streams.{change_by as changed_by, change_stream, new_pids as pids_after, retune as retuned};
+ghost use Rattle.satip_state.specs.Asking.{Asks, HasPids, gives_pids};
 ghost use Rattle.satip_state.specs.Placing.{placed_in};
 ghost use Rattle.satip_state.specs.Standing.{Moved, StandsFor};
 
-use crate::asking::{asked_pids, asks_pids, to_set};
+use crate::asking::asks_pids;
 use crate::parts::Parts;
 use satip_base::Out;
 use satip_base::limits::{DATAGRAMS, SESSIONS};
 use satip_pids::PidSet;
 use satip_query::Query;
-use satip_tune::{Change, Tuning};
+use satip_tune::Tuning;
 
 /// The greatest number of a stream.
 const STREAMS: u16 = SESSIONS as u16;
@@ -57,67 +58,59 @@ impl Parts {
         self.flow.change(number, Some(front), &pids);
     }
 
-    /// Changes a living stream by a query: its tuning first, then its PIDs. The tuning stays if the
-    /// query gives no complete tuning or the stream's own. The PIDs stay if they are refused.
-    pub fn change_by(&mut self, number: u16, query: &Query, out: &mut Out)
+    /// Changes a living stream by a query: its tuning first, then its PIDs. `tuning` is the tuning to
+    /// set, and `pids` are the PIDs after the query if it gives a list of them.
+    pub fn change_by(
+        &mut self,
+        number: u16,
+        query: &Query,
+        tuning: Option<Tuning>,
+        pids: &PidSet,
+        out: &mut Out,
+    )
         requires bytes { DATAGRAMS ≤ out.old.datagram_spare }
         requires count { SESSIONS ≤ out.old.count_spare }
-        ensures moved { (c : Config) (st : State) → StandsFor c self.old st
-            → is_some (stream_of st number) ≡ true
+        ensures moved { (c : Config) (st : State) (t : Stream) → StandsFor c self.old st
+            → stream_of st number ≡ Some t → Asks t.tuning t.pids query.now tuning pids.now
             → Moved c self.new out.old out.new (changed_by c number query.now st) }
         ensures bytes_spare { out.old.datagram_spare ≤ out.new.datagram_spare + DATAGRAMS }
         ensures count_spare { out.old.count_spare ≤ out.new.count_spare + SESSIONS }
     {
-        self.tune_by(number, &query.change, out);
-        self.select_by(number, query);
+        let Some(_stream) = self.table.find_stream(number) else {
+            return;
+        };
+        self.tune_to(number, tuning, out);
+        self.select_by(number, query, pids);
     }
 
-    /// Sets the tuning that a change asks for, unless the living stream has it already.
-    fn tune_by(&mut self, number: u16, change: &Change, out: &mut Out)
+    /// Sets the tuning of a living stream, if one is given.
+    fn tune_to(&mut self, number: u16, tuning: Option<Tuning>, out: &mut Out)
         requires bytes { DATAGRAMS ≤ out.old.datagram_spare }
         requires count { SESSIONS ≤ out.old.count_spare }
         ensures moved { (c : Config) (st : State) → StandsFor c self.old st
             → is_some (stream_of st number) ≡ true
-            → Moved c self.new out.old out.new (option_map_or (retuned c number st)
-            (tuning_to_set (option_and_then (λ t. t.tuning) (stream_of st number)) change.now)
-            (settle st)) }
+            → Moved c self.new out.old out.new
+            (option_map_or (retuned c number st) tuning (settle st)) }
         ensures bytes_spare { out.old.datagram_spare ≤ out.new.datagram_spare + DATAGRAMS }
         ensures count_spare { out.old.count_spare ≤ out.new.count_spare + SESSIONS }
     {
-        let Some(stream) = self.table.find_stream(number) else {
-            return;
-        };
-        let Some(tuning) = to_set(stream.tuning, change) else {
+        let Some(tuning) = tuning else {
             return;
         };
         self.retune(number, &tuning, out);
     }
 
-    /// Sets the PIDs that a query makes of the stream's own. Without a list the PIDs stay, and
-    /// nothing is copied: a set is large.
-    fn select_by(&mut self, number: u16, query: &Query)
-        ensures selected { (c : Config) (st : State) → StandsFor c self.old st
+    /// Sets the PIDs of a stream, if the query gives a list of them.
+    fn select_by(&mut self, number: u16, query: &Query, pids: &PidSet)
+        ensures selected { (c : Config) (st : State) (own : Pids) → StandsFor c self.old st
+            → HasPids number own st.streams
+            → (gives_pids query.now ≡ true → pids.now ≡ pids_after own query.now)
             → StandsFor c self.new
             (change_stream number (λ t. record t { pids = pids_after t.pids query.now }) st) }
     {
         if !asks_pids(query) {
             return;
         }
-        let Some(stream) = self.table.find_stream(number) else {
-            return;
-        };
-        let mut pids = stream.pids.copy();
-        put_asked(&mut pids, &stream.pids, query);
-        self.change_pids(number, &pids);
-    }
-}
-
-/// Sets `pids` to the PIDs after a query: the old ones if it is refused.
-fn put_asked(pids: &mut PidSet, old: &PidSet, query: &Query)
-    requires old { pids.old ≡ old.now }
-    ensures pids { pids.new ≡ pids_after old.now query.now }
-{
-    if asked_pids(pids, query).is_some() {
-        pids.copy_from(old);
+        self.change_pids(number, pids);
     }
 }

@@ -1,6 +1,6 @@
 //! Views of streams, as clients see them.
 
-ghost use Rattle.std.specs.Prelude.{◌≡◌, is_some, option_and_then, option_map, slice_get, ◌==◌, ◌&&◌};
+ghost use Rattle.std.specs.Prelude.{◌≡◌, ◌≤◌, length, is_some, option_and_then, option_map, slice_get, ◌==◌, ◌&&◌};
 ghost use Rattle.std.specs.List.{list_any};
 ghost use Rattle.satip_fronts.specs.FrontEnds.{mux_at};
 ghost use Rattle.satip_plain.specs.Types.{Config};
@@ -27,10 +27,12 @@ impl Parts {
     }
 
     /// Returns the view of the stream at this place, from 0, in rising number; None if there is
-    /// none.
+    /// none. At most 64 streams are alive.
     pub fn view_at(&self, place: usize) -> Option<StreamView>
         ensures view { (c : Config) (st : State) → StandsFor c self.now st
             → result ≡ option_map (view_of st) (slice_get st.streams place) }
+        ensures few { (c : Config) (st : State) → StandsFor c self.now st
+            → length st.streams ≤ SESSIONS }
     {
         match self.table.stream(place) {
             None => None,

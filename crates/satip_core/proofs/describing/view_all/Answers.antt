@@ -8,6 +8,7 @@ pub loop-place-preserved : goal.loop-place-preserved
 loop-place-preserved c = record {
   few = omega (arith, c.put_view-count.ensures.one, c.loop-place.invariant.few);
   size = c.put_view-count.ensures.size ∙ c.loop-place.invariant.size;
+  known = λ cfg st stands _. c.view_at.ensures.few cfg st stands;
   views = λ cfg st stands.
       c.put_view-count.ensures.views
       ∙ ap (λ (views : List StreamView). views ++ if_wanted c.args.named c.view_at.result) (c.loop-place.invariant.views cfg st stands)
@@ -19,4 +20,4 @@ loop-place-preserved c = record {
 pub returns-clause-views : goal.returns-clause-views
 returns-clause-views c = λ cfg st stands.
     c.loop-place.invariant.views cfg st stands
-    ∙ ap (views_of st c.args.named) (all_views c.loop-place.place st.streams (omega (arith, c.known.ensures.few cfg st stands, c.loop-place-test.false)))
+    ∙ ap (views_of st c.args.named) (all_views c.loop-place.place st.streams (omega (arith, c.loop-place.invariant.known cfg st stands (omega (arith, c.loop-place-test.false)), c.loop-place-test.false)))

@@ -8,8 +8,8 @@ use Rattle.satip_core.proofs.places.is_absent.Goals as goal
 
 pub returns-in-Some : goal.returns-in-Some
 returns-in-Some c = record {
-  absent = λ cfg st stands.
-      none_is c.stream.result c.is_none.result c.is_none.ensures ∙ sym (none_mapped (λ (s : Bor StreamRow). stream_in s.now) c.stream.result)
-      ∙ ap is_none (c.stream.ensures.stream cfg st stands)
+  absent = λ st named.
+      none_is c.args.stream c.is_none.result c.is_none.ensures ∙ sym (none_mapped (λ (s : Bor StreamRow). stream_in s.now) c.args.stream)
+      ∙ ap is_none (named _ c.in-Some.is)
       ∙ ap (λ (stream : Option ℕ). option_map_or (λ number. is_none (stream_of st number)) stream c.args.otherwise) (sym c.in-Some.is);
 }

@@ -5,7 +5,7 @@ use Rattle.satip_core.proofs.places.number_meant.Goals as goal
 
 pub returns-in-None : goal.returns-in-None
 returns-in-None c = record {
-  number = λ cfg st stands.
+  number = λ st names.
       let own : Option ℕ = cond (needs_session c.args.request.now.method) (option_map (λ s. s.stream) (session_named st c.args.request.now.session)) None in
-      c.own_number.ensures.number cfg st stands ∙ ap (λ (stream : Option ℕ). cond (is_some stream) stream own) (sym c.in-None.is);
+      c.own_number.ensures.number st names ∙ ap (λ (stream : Option ℕ). cond (is_some stream) stream own) (sym c.in-None.is);
 }

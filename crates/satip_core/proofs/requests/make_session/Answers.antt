@@ -26,3 +26,6 @@ returns-in-Some-join-clause-given c = λ cfg st stands room lives.
     let made = c.in-Some-join.ensures.made cfg st stands ∙ ap (unless (next_id st c.args.draw)) (or_from _ _ room alive) in
     ap (λ (id : SessionId). Some (id, c.in-Some.number)) (same_Some _ _ made)
     ∙ ap (λ (q : Option ℕ). Some (next_id st c.args.draw, unwrap_or q (least_free st.streams))) (sym c.in-Some.is)
+
+pub returns-in-None-clause-untuned : goal.returns-in-None-clause-untuned
+returns-in-None-clause-untuned c = λ cfg st stands room none. c.found.ensures.untuned cfg st stands room

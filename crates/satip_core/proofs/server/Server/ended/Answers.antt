@@ -1,4 +1,5 @@
 use Rattle.std.proofs.Common.{refl, ap}
+use Rattle.satip_plain.specs.declared.answers.Answer.TheVariants.{Work}
 use Rattle.satip_plain.specs.declared.events.Event.TheVariants.{Ended}
 use Rattle.satip_plain.specs.Steps.{step}
 use Rattle.satip_core.specs.Held.{Held}
@@ -11,7 +12,7 @@ invariant_of-self c =
     record {
       few = standing.few;
       state = (step c.self.inside.setting.config standing.state (Ended c.args.front c.args.tune)).state;
-      stands = c.ended.ensures.stands c.self.inside.setting.config standing.state standing.stands;
+      stands = c.ended.ensures.ended c.self.inside.setting.config standing.state standing.stands;
     }
 
 pub returns-clause-setting : goal.returns-clause-setting
@@ -20,5 +21,5 @@ returns-clause-setting c = ap (λ (s : Held). s.setting) c.self.view_is
 pub returns-clause-steps : goal.returns-clause-steps
 returns-clause-steps c = steps_of _ c.args.self.now _ (Ended c.args.front c.args.tune) _ _ c.self.view_is
     (λ st stands. did_quietly c.self.inside.setting.config _ c.clear.new.self _ (step c.self.inside.setting.config st (Ended c.args.front c.args.tune))
-    c.clear.ensures.empty (c.ended.ensures.stands c.self.inside.setting.config st stands)
-    (c.ended.ensures.work c.self.inside.setting.config st stands) refl refl)
+    c.clear.ensures.empty (c.ended.ensures.ended c.self.inside.setting.config st stands)
+    (ap Work (c.work.ensures.work c.self.inside.setting.config (step c.self.inside.setting.config st (Ended c.args.front c.args.tune)).state (c.ended.ensures.ended c.self.inside.setting.config st stands))) refl refl)

@@ -7,10 +7,10 @@ use Rattle.satip_state.specs.Standing.{StandsFor}
 use Rattle.satip_core.specs.Held.{Held}
 use Rattle.satip_core.proofs.HistoryLemmas.{stands_first}
 use Rattle.satip_core.proofs.server.Server.make.Goals as goal
-use Rattle.satip_core.proofs.server.Server.make.Goals.{After-known_setting}
+use Rattle.satip_core.proofs.server.Server.make.Goals.{After-new}
 
 -- the parts stand for the state before any event
-opened : (c : After-known_setting) → StandsFor c.args.config c.in_ok-parts.parts (opening (record { config = c.args.config; start = c.args.start }))
+opened : (c : After-new) → StandsFor c.args.config c.in_ok-parts.parts (opening (record { config = c.args.config; start = c.args.start }))
 opened c =
     let setting : Setting = record { config = c.args.config; start = c.args.start } in
     c.in_ok-parts.ensures.opening setting

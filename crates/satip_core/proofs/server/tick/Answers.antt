@@ -4,7 +4,7 @@ use Rattle.satip_plain.specs.declared.answers.Answer.TheVariants.{Beat}
 use Rattle.satip_plain.specs.declared.answers.Beat.TheVariants.{Going, Stopping}
 use Rattle.satip_plain.specs.Steps.{beat_of, tick}
 use Rattle.satip_core.proofs.DoingLemmas.{did_move}
-use Rattle.satip_core.proofs.events.tick.Goals as goal
+use Rattle.satip_core.proofs.server.tick.Goals as goal
 
 pub returns : goal.returns
 returns c = record {
