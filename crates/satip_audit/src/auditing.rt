@@ -8,14 +8,13 @@ ghost use Rattle.satip_replay.specs.Replays.{script_limit};
 ghost use Rattle.satip_audit.specs.Printed.{verdict_text};
 ghost use Rattle.satip_audit.specs.Ends.{AuditOutcome, InputEnds, IsEndOf, WriteEnds};
 
-use crate::ends::AuditEnd;
 use crate::journals::JournalFault;
 use crate::judging::verdict;
 use crate::printing::print_verdict;
 use crate::verdicts::Verdict;
 use satip_base::limits::INPUT;
 use satip_base::{Put, Sink, Source};
-use satip_config::{ReadFault, read_configuration, read_whole};
+use satip_config::{Outcome, ReadFault, read_configuration, read_whole};
 use std::alloc::Global;
 
 /// Reads a configuration and then the whole input as journals, judges them, and writes the verdict
@@ -26,8 +25,8 @@ pub fn audit<C: Source, I: Source, O: Sink>(
     config: &mut C,
     input: &mut I,
     output: &mut O,
-) -> AuditEnd
-    // The outcome of each end.
+) -> Outcome
+    // What was done, by the outcome.
     ensures ends { AuditOutcome C.tells I.tells O.tells
         (record {
           config = C.feed config.old;
@@ -41,8 +40,8 @@ pub fn audit<C: Source, I: Source, O: Sink>(
         })
         result }
 
-    // How much is taken, and which ends the two texts allow if no source fails.
-    ensures too_long { (result ≡ AuditEnd.TooLong)
+    // How much is taken, and which outcomes the two texts allow if no source fails.
+    ensures too_long { (result ≡ Outcome.TooLong)
         ↔ (script_limit < (I.feed input.new).taken - (I.feed input.old).taken) }
     ensures configuration_taken { (C.feed config.new).taken
         ≤ (C.feed config.old).taken + configuration_limit + 1 }
@@ -54,7 +53,7 @@ pub fn audit<C: Source, I: Source, O: Sink>(
 {
     let configuration = match read_configuration(alloc, config) {
         Ok(configuration) => configuration,
-        Err(end) => return AuditEnd::from(end),
+        Err(end) => return Outcome::from(end),
     };
     let text = match read_journals(alloc, input) {
         Ok(text) => text,
@@ -62,37 +61,37 @@ pub fn audit<C: Source, I: Source, O: Sink>(
     };
     match verdict(alloc, configuration, &text) {
         Ok(verdict) => write_verdict(verdict, output),
-        Err(JournalFault::WrongLine(number)) => AuditEnd::Journal(number),
-        Err(JournalFault::OutOfMemory) => AuditEnd::OutOfMemory,
+        Err(JournalFault::WrongLine(number)) => Outcome::Journals(number),
+        Err(JournalFault::OutOfMemory) => Outcome::OutOfMemory,
     }
 }
 
 // Reads the whole input.
-fn read_journals<I: Source>(alloc: Global, source: &mut I) -> Result<Vec<u8>, AuditEnd>
+fn read_journals<I: Source>(alloc: Global, source: &mut I) -> Result<Vec<u8>, Outcome>
     ensures ok { IfOk result (λ text. EndsWhole I.tells
         (I.feed source.old) (I.feed source.new) script_limit text.items) }
     ensures fault { IfErr result (InputEnds I.tells
         (I.feed source.old) (I.feed source.new)) }
     ensures limit { (I.feed source.new).taken ≤ (I.feed source.old).taken + script_limit + 1 }
-    ensures too_long { (result ≡ Err AuditEnd.TooLong)
+    ensures too_long { (result ≡ Err Outcome.TooLong)
         ↔ (script_limit < (I.feed source.new).taken - (I.feed source.old).taken) }
 {
     match read_whole(alloc, source, INPUT) {
         Ok(text) => Ok(text),
-        Err(ReadFault::TooLong) => Err(AuditEnd::TooLong),
-        Err(ReadFault::Failed) => Err(AuditEnd::InputFault),
-        Err(ReadFault::OutOfMemory) => Err(AuditEnd::OutOfMemory),
+        Err(ReadFault::TooLong) => Err(Outcome::TooLong),
+        Err(ReadFault::Failed) => Err(Outcome::InputFault),
+        Err(ReadFault::OutOfMemory) => Err(Outcome::OutOfMemory),
     }
 }
 
 // Writes a verdict in one line.
-fn write_verdict<O: Sink>(verdict: Verdict, output: &mut O) -> AuditEnd
+fn write_verdict<O: Sink>(verdict: Verdict, output: &mut O) -> Outcome
     ensures ends { WriteEnds O.tells
         (O.drain output.old) (O.drain output.new)
         (verdict_text verdict) result }
 {
     match output.put(print_verdict(verdict).bytes()) {
-        Put::Whole => AuditEnd::Done,
-        Put::Failed => AuditEnd::OutputFault,
+        Put::Whole => Outcome::Done,
+        Put::Failed => Outcome::OutputFault,
     }
 }

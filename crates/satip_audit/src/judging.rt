@@ -17,7 +17,6 @@ use crate::cutting::same_bytes;
 use crate::index::{Spot, first_missing, first_repeated, sort_spots};
 use crate::indexing::{RECORD, index_journals};
 use crate::journals::{JournalFault, Starts};
-use crate::known::known_entry;
 use crate::lines::read_entry;
 use crate::verdicts::Verdict;
 use satip_base::{Out, Want};
@@ -141,7 +140,6 @@ fn does_so(
         return false;
     };
     let answer = server.event(&found.event, out);
-    known_entry(&found.event, &answer, out);
     write_entry(found.place, found.caller, &found.event, &answer, out, room);
     same_bytes(room.bytes(), line)
 }

@@ -8,11 +8,10 @@ ghost use Rattle.satip_audit.specs.Cuts.{is_byte, words_line};
 ghost use Rattle.satip_audit.specs.Journals.{IsPlaced, Placed as PlacedEntry, placed, placed_line};
 
 use crate::cutting::{cut, decode, same_bytes};
-use crate::known::known_entry;
 use satip_base::{Out, read_number};
 use satip_entry_reader::read_record;
 use satip_entry_writer::{LineRoom, write_entry, write_start};
-use satip_plain::{Answer, Event, known_bytes};
+use satip_plain::{Answer, Event};
 
 /// The content of an entry's line, without the reply and the datagrams.
 #[derive(Drop)]
@@ -122,8 +121,6 @@ pub fn read_entry(
     if !same_bytes(room.bytes(), line) {
         return None;
     }
-    known_bytes(bytes);
-    known_entry(&event, &answer, out);
     Some(Found {
         place,
         caller,

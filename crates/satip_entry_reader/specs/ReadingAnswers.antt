@@ -13,7 +13,7 @@ use Rattle.satip_plain.specs.declared.answers.Pulled.{Pulled}
 use Rattle.satip_plain.specs.declared.answers.Pulled.TheVariants.{Bytes, Empty, Gone as PulledGone}
 use Rattle.satip_plain.specs.declared.answers.Closed.{Closed}
 use Rattle.satip_plain.specs.declared.answers.Closed.TheVariants.{Yes, Gone}
-use Rattle.satip_plain.specs.Values.{IsId}
+pub use Rattle.satip_entry_writer.specs.Entries.{IsReplied, IsGet, IsWork, IsPulled, IsAnswer}
 use Rattle.satip_entry_reader.specs.Reading.{behind, then_read, u8_read, u16_read, u64_read, bool_read, id_read}
 
 unfoldable pub replied_read : List ℕ → Option (Replied × List ℕ)
@@ -74,29 +74,3 @@ answer_behind place rest =
 
 unfoldable pub answer_read : List ℕ → Option (Answer × List ℕ)
 answer_read bytes = then_read (u8_read bytes) answer_behind
-
--- the numbers of an answer are within their types
-abbrev pub IsReplied : Replied → Type 0
-IsReplied replied = replied.status < 2 ^ 16
-
-abbrev pub IsGet : GetAnswer → Type 0
-IsGet (Started id) = IsId id
-IsGet (Refused status) = status < 2 ^ 16
-
-abbrev pub IsWork : Work → Type 0
-IsWork (Tune mux tune) = (mux < 2 ^ 16) × (tune < 2 ^ 64)
-IsWork Nothing = Unit {0}
-IsWork Stopping = Unit {0}
-
-abbrev pub IsPulled : Pulled → Type 0
-IsPulled (Bytes count) = count < 2 ^ 64
-IsPulled Empty = Unit {0}
-IsPulled PulledGone = Unit {0}
-
-abbrev pub IsAnswer : Answer → Type 0
-IsAnswer (RepliedIs replied) = IsReplied replied
-IsAnswer (GetIs get) = IsGet get
-IsAnswer (BeatIs beat) = Unit {0}
-IsAnswer (WorkIs work) = IsWork work
-IsAnswer (PulledIs pulled) = IsPulled pulled
-IsAnswer (ClosedIs closed) = Unit {0}

@@ -6,36 +6,11 @@ use Rattle.satip_base.specs.Output.{Datagram, Output, datagram_bytes}
 use Rattle.satip_base.specs.Lists.{Each}
 use Rattle.satip_plain.specs.declared.events.Event.{Event}
 use Rattle.satip_plain.specs.declared.answers.Answer.{Answer}
-use Rattle.satip_plain.specs.Values.{IsEvent}
-use Rattle.satip_entry_writer.specs.Records.{record_text}
+pub use Rattle.satip_entry_writer.specs.Entries.{Entry, IsEntry, IsTarget, entry_text}
 use Rattle.satip_entry_reader.specs.Reading.{then_read, u16_read, u32_read}
-use Rattle.satip_entry_reader.specs.ReadingAnswers.{IsAnswer, answer_read}
+use Rattle.satip_entry_reader.specs.ReadingAnswers.{answer_read}
 use Rattle.satip_entry_reader.specs.ReadingLists.{read_bytes}
 use Rattle.satip_entry_reader.specs.ReadingEvents.{event_read}
-
--- the content of a record
-pub record Entry : Type 0 where
-  pub event : Event
-  pub answer : Answer
-  pub reply : List ℕ
-  pub datagrams : List Datagram
-
--- the bytes of an entry's record
-abbrev pub entry_text : Entry → List ℕ
-entry_text e = record_text e.event e.answer e.reply e.datagrams
-
-pub record IsTarget (datagram : Datagram) : Type 0 where
-  pub ip : datagram.to.ip < 2 ^ 32
-  pub port : datagram.to.port < 2 ^ 16
-
--- its numbers are within their types, and its reply and its datagrams fit the room of one event
-pub record IsEntry (e : Entry) : Type 0 where
-  pub event : IsEvent e.event
-  pub answer : IsAnswer e.answer
-  pub reply : length e.reply ≤ REPLY_BYTES
-  pub targets : Each IsTarget e.datagrams
-  pub count : length e.datagrams ≤ EVENT_DATAGRAMS
-  pub bytes : datagram_bytes e.datagrams ≤ EVENT_BYTES
 
 -- a count within the room, and that many bytes
 unfoldable pub read_counted : ℕ → List ℕ → Option (List ℕ × List ℕ)

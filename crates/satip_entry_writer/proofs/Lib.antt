@@ -1,3 +1,5 @@
 pub mod Writing
 pub mod Lists
 pub mod Bounds
+pub mod EachLemmas
+pub mod InBytes

@@ -1,6 +1,7 @@
 //! The small parts of a record, each appended to a line in hexadecimal digits.
 
-ghost use Rattle.std.specs.Prelude.{◌*◌, ◌≤◌, length};
+ghost use Rattle.std.specs.Prelude.{◌*◌, ◌≤◌, ◌<◌, ◌^◌, length};
+ghost use Rattle.satip_plain.specs.Values.{IsId};
 ghost use Rattle.satip_entry_writer.specs.Sheets.{WroteHex};
 ghost use Rattle.satip_entry_writer.specs.Fields.{u8_text, u16_text, u32_text, bool_text, option_text, id_text, draw_text, ports_text, address_text, pol_text, roll_off_text, system_text, modulation_text, fec_text, key_text};
 
@@ -254,6 +255,7 @@ pub fn encode_option_fec(value: Option<Fec>, line: &mut LineRoom)
 pub fn encode_id(id: SessionId, line: &mut LineRoom)
     requires room { 2 * length (id_text id) ≤ line.old.spare }
     ensures wrote { WroteHex line.old (id_text id) line.new }
+    ensures value { IsId id }
 {
     line.encode_u32(id.count);
     line.encode_u32(id.word);
@@ -300,6 +302,8 @@ pub fn encode_option_ports(ports: Option<Ports>, line: &mut LineRoom)
 pub fn encode_address(to: Address, line: &mut LineRoom)
     requires room { 2 * length (address_text to) ≤ line.old.spare }
     ensures wrote { WroteHex line.old (address_text to) line.new }
+    ensures ip { to.ip < 2 ^ 32 }
+    ensures port { to.port < 2 ^ 16 }
 {
     line.encode_u32(to.ip);
     line.encode_u16(to.port);

@@ -1,7 +1,8 @@
 //! The lines of journals.
 
-ghost use Rattle.std.specs.Prelude.{◌≡◌, ◌<◌, length};
-ghost use Rattle.satip_base.specs.Output.{IsWithinRoom};
+ghost use Rattle.std.specs.Prelude.{◌≡◌, ◌<◌, ℕ, length};
+ghost use Rattle.satip_base.specs.History.{entry};
+ghost use Rattle.satip_entry_writer.specs.Entries.{IsTyped};
 ghost use Rattle.satip_entry_writer.specs.Lines.{entry_line, start_line};
 
 use crate::records::encode_record;
@@ -23,9 +24,12 @@ pub fn write_entry(
     ensures line { line.new.text ≡ entry_line place caller event.now answer.now out.now.reply
         out.now.datagrams }
     ensures short { length line.new.text < 800000 }
+
+    // the values of the entry are of their types
+    ensures typed { (n : ℕ) → IsTyped (entry n event.now answer.now out.now) }
 {
     known_event(event);
-    known_out(out);
+    let _count = out.count();
     line.clear();
     line.write(b"entry ");
     line.write_number(place);
@@ -46,10 +50,4 @@ pub fn write_start(now: u64, line: &mut LineRoom)
     line.write(b"start ");
     line.write_number(now);
     line.end();
-}
-
-fn known_out(out: &Out)
-    ensures room { IsWithinRoom out.now }
-{
-    let _count = out.count();
 }

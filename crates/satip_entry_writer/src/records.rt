@@ -2,6 +2,9 @@
 
 ghost use Rattle.std.specs.Prelude.{◌*◌, ◌≤◌, ◌<◌, ◌^◌, length, flat_map};
 ghost use Rattle.satip_base.specs.Output.{IsWithinRoom};
+ghost use Rattle.satip_base.specs.Lists.{Each};
+ghost use Rattle.satip_plain.specs.Values.{AreBytes};
+ghost use Rattle.satip_entry_writer.specs.Entries.{IsAnswer, IsGet, IsOfBytes, IsPulled, IsReplied, IsTarget, IsWork};
 ghost use Rattle.satip_entry_writer.specs.Fields.{list_text};
 ghost use Rattle.satip_entry_writer.specs.Records.{event_text, replied_text, get_text, beat_text, work_text, pulled_text, closed_text, answer_text, bytes_text, datagram_text, record_text};
 ghost use Rattle.satip_entry_writer.specs.Sheets.{WroteHex};
@@ -78,6 +81,7 @@ pub fn encode_event(event: &Event, line: &mut LineRoom)
 fn encode_replied(replied: Replied, line: &mut LineRoom)
     requires room { 2 * length (replied_text replied) ≤ line.old.spare }
     ensures wrote { WroteHex line.old (replied_text replied) line.new }
+    ensures value { IsReplied replied }
 {
     line.encode_u16(replied.status);
     encode_bool(replied.closing, line);
@@ -87,6 +91,7 @@ fn encode_replied(replied: Replied, line: &mut LineRoom)
 fn encode_get(get: GetAnswer, line: &mut LineRoom)
     requires room { 2 * length (get_text get) ≤ line.old.spare }
     ensures wrote { WroteHex line.old (get_text get) line.new }
+    ensures value { IsGet get }
 {
     match get {
         GetAnswer::Started(id) => {
@@ -115,6 +120,7 @@ fn encode_beat(beat: Beat, line: &mut LineRoom)
 fn encode_work(work: Work, line: &mut LineRoom)
     requires room { 2 * length (work_text work) ≤ line.old.spare }
     ensures wrote { WroteHex line.old (work_text work) line.new }
+    ensures value { IsWork work }
 {
     match work {
         Work::Tune { mux, tune } => {
@@ -131,6 +137,7 @@ fn encode_work(work: Work, line: &mut LineRoom)
 fn encode_pulled(pulled: Pulled, line: &mut LineRoom)
     requires room { 2 * length (pulled_text pulled) ≤ line.old.spare }
     ensures wrote { WroteHex line.old (pulled_text pulled) line.new }
+    ensures value { IsPulled pulled }
 {
     match pulled {
         Pulled::Bytes(count) => {
@@ -158,6 +165,7 @@ fn encode_closed(closed: Closed, line: &mut LineRoom)
 pub fn encode_answer(answer: Answer, line: &mut LineRoom)
     requires room { 2 * length (answer_text answer) ≤ line.old.spare }
     ensures wrote { WroteHex line.old (answer_text answer) line.new }
+    ensures value { IsAnswer answer }
 {
     match answer {
         Answer::Replied(replied) => {
@@ -192,6 +200,7 @@ fn encode_bytes(bytes: &[u8], line: &mut LineRoom)
     requires short { length bytes.now < 2 ^ 32 }
     requires room { 2 * length (bytes_text bytes.now) ≤ line.old.spare }
     ensures wrote { WroteHex line.old (bytes_text bytes.now) line.new }
+    ensures value { AreBytes bytes.now }
 {
     line.encode_u32(bytes.len() as u32);
     line.encode(bytes);
@@ -204,6 +213,8 @@ fn encode_datagram(to: Address, bytes: &[u8], line: &mut LineRoom)
         ≤ line.old.spare }
     ensures wrote { WroteHex line.old (datagram_text (record { to = to; bytes = bytes.now }))
         line.new }
+    ensures target { IsTarget (record { to = to; bytes = bytes.now }) }
+    ensures bytes { AreBytes bytes.now }
 {
     encode_address(to, line);
     encode_bytes(bytes, line);
@@ -213,6 +224,8 @@ fn encode_datagram(to: Address, bytes: &[u8], line: &mut LineRoom)
 fn encode_datagrams(out: &Out, line: &mut LineRoom)
     requires room { 2 * length (flat_map datagram_text out.now.datagrams) ≤ line.old.spare }
     ensures wrote { WroteHex line.old (flat_map datagram_text out.now.datagrams) line.new }
+    ensures targets { Each IsTarget out.now.datagrams }
+    ensures bytes { Each IsOfBytes out.now.datagrams }
 {
     'datagrams: for place in 0..out.count() {
         match out.datagram(place) {
@@ -230,6 +243,10 @@ pub fn encode_record(event: &Event, answer: Answer, out: &Out, line: &mut LineRo
         ≤ line.old.spare }
     ensures wrote { WroteHex line.old (record_text event.now answer out.now.reply out.now.datagrams)
         line.new }
+    ensures answer { IsAnswer answer }
+    ensures reply { AreBytes out.now.reply }
+    ensures targets { Each IsTarget out.now.datagrams }
+    ensures bytes { Each IsOfBytes out.now.datagrams }
 {
     let count = out.count();
     encode_event(event, line);

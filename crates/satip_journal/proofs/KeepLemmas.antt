@@ -15,7 +15,7 @@ use Rattle.satip_plain.proofs.Growing.{adds_then, adds_no_more}
 use Rattle.satip_turn.specs.Shown.{Turned, Looked}
 use Rattle.satip_shared.specs.Calling.{ServerPass, SameCaller, known_by}
 use Rattle.satip_journal.specs.Places.{placed, own_at, line_of, lines_of}
-use Rattle.satip_journal.specs.Typed.{IsTyped}
+use Rattle.satip_entry_writer.specs.Entries.{IsTyped}
 use Rattle.satip_journal.specs.Logs.{Logs}
 use Rattle.satip_journal.specs.Owning.{KnowsOwn}
 use Rattle.satip_journal.specs.Keeping.{Kept, SameJournal}

@@ -9,7 +9,7 @@ use Rattle.satip_base.proofs.Owned.{own_of-append}
 use Rattle.satip_plain.specs.Histories.{Item}
 use Rattle.satip_shared.specs.Calling.{same_caller, same_caller_then}
 use Rattle.satip_journal.specs.Places.{Placed, placed, own_at, line_of, lines_of}
-use Rattle.satip_journal.specs.Typed.{IsTyped}
+use Rattle.satip_entry_writer.specs.Entries.{IsTyped}
 use Rattle.satip_journal.specs.Logs.{Logs}
 use Rattle.satip_journal.specs.Keeping.{Kept, SameJournal}
 

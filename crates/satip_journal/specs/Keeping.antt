@@ -8,7 +8,7 @@ use Rattle.satip_plain.specs.Histories.{Item}
 use Rattle.satip_turn.specs.Shown.{Cell}
 use Rattle.satip_shared.specs.Calling.{ServerPass, SameCaller}
 use Rattle.satip_journal.specs.Places.{own_at, lines_of}
-use Rattle.satip_journal.specs.Typed.{IsTyped}
+use Rattle.satip_entry_writer.specs.Entries.{IsTyped}
 use Rattle.satip_journal.specs.Logs.{Logs}
 
 -- a journal at one moment: its server, its caller's pass, the job's number on its lines, its sink's job and drain, and whether a put failed

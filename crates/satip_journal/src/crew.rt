@@ -11,9 +11,8 @@ use crate::journal::{Journal, fails_to_put};
 use satip_base::Out;
 use satip_desk::JobSink;
 use satip_entry_writer::{LineRoom, write_start};
-use satip_jobs::{Crew, ServeEnd};
 use satip_plain::{Answer, Event, Service};
-use satip_shared::Caller;
+use satip_shared::{Caller, Crew, ServeEnd};
 use std::sync::Wait;
 
 /// The parts of a job's journal without its caller: the job's number, the sink, the room of its

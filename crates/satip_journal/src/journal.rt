@@ -3,7 +3,6 @@ ghost use Rattle.std.specs.Prelude.{◌≡◌, false};
 ghost use Rattle.satip_journal.specs.Owning.{KnowsOwn, knows_own_prop};
 ghost use Rattle.satip_journal.specs.Logs.{Logs};
 
-use crate::typed::known_item;
 use satip_base::{Out, Put, Spent};
 use satip_desk::JobSink;
 use satip_entry_writer::{LineRoom, write_entry};
@@ -122,12 +121,11 @@ impl<'a, R: Wait + Sync, K: JobSink> Service for Journal<'a, R, K> {
         let caller = &mut self.caller;
         match caller.server.call(caller.rt, &mut caller.pass, event, out) {
             Ok(answer) => {
-                known_item(event, &answer, out);
                 let place = caller.pass.place() - 1;
+                write_entry(place, self.number, event, &answer, out, &mut self.line);
                 if self.failed {
                     return Ok(answer);
                 }
-                write_entry(place, self.number, event, &answer, out, &mut self.line);
                 self.failed = fails_to_put(&mut self.sink, self.line.bytes());
                 Ok(answer)
             }

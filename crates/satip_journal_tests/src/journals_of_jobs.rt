@@ -5,7 +5,7 @@ use crate::judging::judged;
 use crate::kits::MemoryJournal;
 use crate::serving::{Plan, journals_of};
 use satip_jobs::ServeEnd;
-use satip_journal::Verdict;
+use satip_journal_serve::Verdict;
 use std::alloc::Global;
 use std::process::Abort;
 

@@ -2,7 +2,7 @@
 
 use satip_config::Config;
 use satip_fixtures::config_with;
-use satip_journal::{Verdict, verdict};
+use satip_journal_serve::{Verdict, verdict};
 use std::alloc::Global;
 use std::process::Abort;
 

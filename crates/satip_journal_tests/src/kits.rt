@@ -2,7 +2,7 @@
 
 ghost use Rattle.std.specs.Prelude.{◌≡◌, [], length};
 
-use satip_desk::{JobJournal, Jobs, TickKit, WorkerKit};
+use satip_desk::{JobJournal, JobKits, TickKit, WorkerKit};
 use satip_fixtures::CLIENT;
 use satip_fixtures::texts::OPTIONS;
 use satip_memory::{MemoryClock, MemoryConn, MemoryDoors, MemoryOutlet, MemoryPacer, MemorySink};
@@ -67,7 +67,7 @@ pub(crate) fn make_jobs(rt: &impl Abort, alloc: Global, workers: u16) -> MemoryJ
     ensures workers { length result.workers.items ≡ workers }
     ensures pumps { result.pumps.items ≡ [] }
 {
-    Jobs {
+    JobKits {
         workers: worker_kits(rt, alloc, workers),
         pumps: Vec::new(alloc),
         tick: ticker(rt, alloc),

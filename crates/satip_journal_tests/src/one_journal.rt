@@ -3,7 +3,7 @@
 use crate::checks::{check, check_least};
 use crate::judging::judged;
 use crate::runs::{Case, Lots, Step, run_case};
-use satip_journal::Verdict;
+use satip_journal_serve::Verdict;
 use satip_plain::{Answer, Beat, Work};
 use std::alloc::Global;
 use std::process::Abort;

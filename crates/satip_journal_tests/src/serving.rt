@@ -8,7 +8,7 @@ use satip_config::Config;
 use satip_desk::{Desk, Jobs};
 use satip_fixtures::config_with;
 use satip_jobs::ServeEnd;
-use satip_journal::serve_journaled;
+use satip_journal_serve::serve_journaled;
 use satip_memory_desk::MemoryDesk;
 use std::alloc::Global;
 use std::process::Abort;
@@ -35,7 +35,7 @@ fn serve<R: Threads + Wait + Sync + Abort, K: Desk>(
     rt: &R,
     alloc: Global,
     workers: u16,
-    jobs: Jobs<K::Doors, K::Outlet, K::Pacer, K::Store, K::Clock>,
+    jobs: Jobs<K>,
     desk: &mut K,
 ) -> (Vec<K::Journal>, bool, Option<ServeEnd>)
     requires workers { length jobs.workers.items ≡ workers }

@@ -9,4 +9,5 @@ mod feeding;
 mod server;
 
 pub use caller::Caller;
+pub use satip_jobs::{Crew, ServeEnd};
 pub use server::{SharedPass, SharedServer, make};

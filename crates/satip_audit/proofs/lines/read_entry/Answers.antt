@@ -1,5 +1,6 @@
-use Rattle.std.proofs.Common.{refl, sym, ◌∙◌, arith}
+use Rattle.std.proofs.Common.{rules, refl, sym, ◌∙◌, arith}
 use Rattle.hex.specs.Hex.{encode_lower}
+use Rattle.satip_entry_writer.proofs.InBytes.{record_in_bytes}
 use Rattle.satip_entry_reader.specs.ReadingEntries.{entry_text}
 use Rattle.satip_audit.specs.Journals.{Placed, placed}
 use Rattle.satip_audit.proofs.LineLemmas.{digits_without_end}
@@ -45,3 +46,11 @@ returns-then-not-same_bytes-clause-none c = λ _ p is e.
     let q : Placed = placed c.in-Some.place c.in-Some.caller c.in-Some-read_record.event c.in-Some-read_record.answer c.read_record.new.out in
     c.if-not-same_bytes.ensures.same
     (c.bytes.ensures.bytes ∙ c.write_entry.ensures.line ∙ same_line q p words.0 words.1 (sym c.in-Some-read_record.ensures.right ∙ whole) ∙ sym e)
+
+pub returns-clause-within : goal.returns-clause-within
+returns-clause-within c = record {
+  place = search rules;
+  caller = search rules;
+  entry = (c.write_entry.ensures.typed 0).entry;
+  bytes = record_in_bytes _ (c.write_entry.ensures.typed 0);
+}

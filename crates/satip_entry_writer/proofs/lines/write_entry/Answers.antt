@@ -11,7 +11,7 @@ encode_record-requires c =
     record {
       room = omega (
         arith,
-        record_bound c.args.event.now c.args.answer.now c.args.out.now c.known_event.ensures.value c.known_out.ensures.room,
+        record_bound c.args.event.now c.args.answer.now c.args.out.now c.known_event.ensures.value c.count-count.ensures.room,
         empty,
         c.write.ensures.wrote.spare,
         c.write_number.ensures.wrote.spare,
@@ -28,7 +28,7 @@ end-requires c =
     record {
       room = omega (
         arith,
-        record_bound c.args.event.now c.args.answer.now c.args.out.now c.known_event.ensures.value c.known_out.ensures.room,
+        record_bound c.args.event.now c.args.answer.now c.args.out.now c.known_event.ensures.value c.count-count.ensures.room,
         empty,
         c.write.ensures.wrote.spare,
         c.write_number.ensures.wrote.spare,
@@ -50,4 +50,4 @@ returns-clause-short c =
     in
     subst (λ (t : List ℕ). length t < 800000) (sym line) (
     line_bound c.args.place c.args.caller c.args.event.now c.args.answer.now c.args.out.now c.ranges.place.fits c.ranges.caller.fits
-    c.known_event.ensures.value c.known_out.ensures.room)
+    c.known_event.ensures.value c.count-count.ensures.room)

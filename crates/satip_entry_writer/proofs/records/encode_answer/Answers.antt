@@ -2,38 +2,32 @@ use Rattle.satip_entry_writer.proofs.Writing.{◌then◌}
 use Rattle.satip_entry_writer.specs.Records.{answer_text}
 use Rattle.satip_entry_writer.proofs.records.encode_answer.Goals as goal
 
-pub returns-in-Replied : goal.returns-in-Replied
+pub returns-in-Replied-clause-wrote : goal.returns-in-Replied-clause-wrote
 unfolding answer_text
-returns-in-Replied c = record {
-  wrote = rw c.in-Replied.is (c.encode_u8.ensures.wrote then c.encode_replied.ensures.wrote);
-}
+returns-in-Replied-clause-wrote c =
+    rw c.in-Replied.is (c.encode_u8.ensures.wrote then c.encode_replied.ensures.wrote)
 
-pub returns-in-Get : goal.returns-in-Get
+pub returns-in-Get-clause-wrote : goal.returns-in-Get-clause-wrote
 unfolding answer_text
-returns-in-Get c = record {
-  wrote = rw c.in-Get.is (c.encode_u8-in-Get.ensures.wrote then c.encode_get.ensures.wrote);
-}
+returns-in-Get-clause-wrote c =
+    rw c.in-Get.is (c.encode_u8-in-Get.ensures.wrote then c.encode_get.ensures.wrote)
 
-pub returns-in-Beat : goal.returns-in-Beat
+pub returns-in-Beat-clause-wrote : goal.returns-in-Beat-clause-wrote
 unfolding answer_text
-returns-in-Beat c = record {
-  wrote = rw c.in-Beat.is (c.encode_u8-in-Beat.ensures.wrote then c.encode_beat.ensures.wrote);
-}
+returns-in-Beat-clause-wrote c =
+    rw c.in-Beat.is (c.encode_u8-in-Beat.ensures.wrote then c.encode_beat.ensures.wrote)
 
-pub returns-in-Work : goal.returns-in-Work
+pub returns-in-Work-clause-wrote : goal.returns-in-Work-clause-wrote
 unfolding answer_text
-returns-in-Work c = record {
-  wrote = rw c.in-Work.is (c.encode_u8-in-Work.ensures.wrote then c.encode_work.ensures.wrote);
-}
+returns-in-Work-clause-wrote c =
+    rw c.in-Work.is (c.encode_u8-in-Work.ensures.wrote then c.encode_work.ensures.wrote)
 
-pub returns-in-Pulled : goal.returns-in-Pulled
+pub returns-in-Pulled-clause-wrote : goal.returns-in-Pulled-clause-wrote
 unfolding answer_text
-returns-in-Pulled c = record {
-  wrote = rw c.in-Pulled.is (c.encode_u8-in-Pulled.ensures.wrote then c.encode_pulled.ensures.wrote);
-}
+returns-in-Pulled-clause-wrote c =
+    rw c.in-Pulled.is (c.encode_u8-in-Pulled.ensures.wrote then c.encode_pulled.ensures.wrote)
 
-pub returns-in-Closed : goal.returns-in-Closed
+pub returns-in-Closed-clause-wrote : goal.returns-in-Closed-clause-wrote
 unfolding answer_text
-returns-in-Closed c = record {
-  wrote = rw c.in-Closed.is (c.encode_u8-in-Closed.ensures.wrote then c.encode_closed.ensures.wrote);
-}
+returns-in-Closed-clause-wrote c =
+    rw c.in-Closed.is (c.encode_u8-in-Closed.ensures.wrote then c.encode_closed.ensures.wrote)

@@ -1,7 +1,6 @@
 use Rattle.satip_entry_writer.proofs.Writing.{◌then◌}
 use Rattle.satip_entry_writer.proofs.records.encode_datagram.Goals as goal
 
-pub returns : goal.returns
-returns c = record {
-  wrote = c.encode_address.ensures.wrote then c.encode_bytes.ensures.wrote;
-}
+pub returns-clause-wrote : goal.returns-clause-wrote
+returns-clause-wrote c =
+    c.encode_address.ensures.wrote then c.encode_bytes.ensures.wrote

@@ -16,7 +16,7 @@ returns-then-self-clause-same g c =
     let P : Bool → Type 0 = λ failed. Logs g.K.JobSink.tells drain drain failed failed text in
     entered g.K.JobSink.tells _ _ place c.args.event.now c.in-Ok.answer out (record { server = refl; pass = c.call.ensures.keeps }) refl refl
     c.args.self.now.own c.call.ensures.knows.own_is c.in-Ok.ensures.history refl (subst P (sym c.if-self.true) refl)
-    (c.known_item.ensures.typed c.args.self.now.caller.pass.number)
+    (c.write_entry.ensures.typed c.args.self.now.caller.pass.number)
 
 pub returns-then-self-clause-called : goal.returns-then-self-clause-called
 returns-then-self-clause-called g c =
@@ -36,7 +36,7 @@ returns-else-self-clause-same g c =
     entered g.K.JobSink.tells _ _ place c.args.event.now c.in-Ok.answer out (record { server = refl; pass = c.call.ensures.keeps }) refl
     c.fails_to_put-self.ensures.job c.args.self.now.own c.call.ensures.knows.own_is c.in-Ok.ensures.history (ap (λ (n : ℕ). n - 1) c.place-place.ensures)
     (subst P c.write_entry.ensures.line (subst P c.bytes.ensures.bytes (subst Q (sym c.if-self.false) c.fails_to_put-self.ensures.logs)))
-    (c.known_item.ensures.typed c.args.self.now.caller.pass.number)
+    (c.write_entry.ensures.typed c.args.self.now.caller.pass.number)
 
 pub returns-else-self-clause-called : goal.returns-else-self-clause-called
 returns-else-self-clause-called g c =

@@ -1,0 +1,17 @@
+pub mod Crossing
+pub mod Shuffled
+pub mod Notes
+pub mod Counting
+pub mod InOrder
+pub mod OneHistory
+pub mod OneVerdict
+pub mod OwnAtLast
+pub mod Logging
+pub mod Jobs
+pub mod Runs
+pub mod Gearing
+pub mod Judging
+pub mod Sending
+pub mod CommandRuns
+pub mod Endings
+pub mod Seen
